@@ -1,0 +1,15 @@
+-- Document 01, "Drive trace library: tree, match and sheet", as definitions: a file a heading, in the document's order. No memory and no layout.
+-- Words in quotes are the document's. What it says of one segment stands in `segment`, small words that it takes for granted in `integer`.
+-- Marks: `abbrev` for a short name of an expression; `unfoldable` for what recurs, goes by cases or is longer, so that a goal shows the document's
+-- word until a proof opens it.
+pub mod Measures
+pub mod Figures
+pub mod Node
+pub mod Adding
+pub mod Matching
+pub mod WellFormed
+pub mod Refusals
+pub mod Sheet
+pub mod Book
+pub mod Program
+pub mod Examples

@@ -1,0 +1,52 @@
+-- Document 01, the table of refusals.
+use Prim.Native.Nat.{ℕ}
+use mathlib.Core.Bool.{Bool}
+use mathlib.Core.Option.{Option, none, some}
+use mathlib.Core.List.{List, [], _∷_}
+use Rattle.integer.specs.Words.{if_then_else_}
+
+-- the table's words. A torn block has a place: "the first block at fault"
+pub data Refusal : Type 0 where
+  measure shortTable spoiled wrongTrace full empty shortTrail sheetLength : Refusal
+  tornBlock : ℕ → Refusal
+  badSheet : Refusal
+
+-- the table's numbers
+unfoldable pub numberOf : Refusal → ℕ
+numberOf measure = 1
+numberOf shortTable = 2
+numberOf spoiled = 3
+numberOf wrongTrace = 4
+numberOf full = 5
+numberOf empty = 6
+numberOf shortTrail = 7
+numberOf sheetLength = 8
+numberOf (tornBlock block) = 9
+numberOf badSheet = 10
+
+-- "a place: the first block at fault for 9, else 0"
+unfoldable pub placeOf : Refusal → ℕ
+placeOf measure = 0
+placeOf shortTable = 0
+placeOf spoiled = 0
+placeOf wrongTrace = 0
+placeOf full = 0
+placeOf empty = 0
+placeOf shortTrail = 0
+placeOf sheetLength = 0
+placeOf (tornBlock block) = block
+placeOf badSheet = 0
+
+-- a condition of the table with its refusal
+pub record Condition : Type 0 where
+  pub holds : Bool
+  pub refusal : Refusal
+
+infix 68 _refuses_
+abbrev pub _refuses_ : Bool → Refusal → Condition
+holds refuses refusal = record { holds = holds; refusal = refusal }
+
+-- the first condition that holds, in the table's order. "No condition, no refusal"
+unfoldable pub firstOf : List Condition → Option Refusal
+firstOf [] = none
+firstOf (c ∷ rest) = let later = firstOf rest in if c .holds then some (c .refusal) else later

@@ -1,0 +1,5 @@
+pub mod Order
+pub mod Ring
+pub mod Facts
+pub mod Width
+pub mod Examples

@@ -1,0 +1,1 @@
+// Whole numbers and lists for the proofs above: words in specs/, laws in proofs/. No code.

@@ -1,0 +1,4 @@
+pub mod Scatter
+pub mod Apart
+pub mod Newton
+pub mod Bound

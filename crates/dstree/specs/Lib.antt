@@ -12,4 +12,5 @@ pub mod Refusals
 pub mod Sheet
 pub mod Book
 pub mod Program
+pub mod Claims
 pub mod Examples

@@ -285,6 +285,12 @@ natAbs-mul (pos a) (negsuc b) = natAbs-neg (pos (a * suc b))
 natAbs-mul (negsuc a) (pos b) = natAbs-neg (pos (suc a * b))
 natAbs-mul (negsuc a) (negsuc b) = refl
 
+pub natAbs-add : (a b : ℤ) → natAbs (a +ℤ b) ≤ natAbs a + natAbs b
+natAbs-add a b = omega (arith, natAbs-of (a +ℤ b) (up a + up b) (down a + down b) (sum-parts a b), natAbs-parts a, natAbs-parts b)
+
+pub natAbs-sub : (a b : ℤ) → natAbs (a -ℤ b) ≤ natAbs a + natAbs b
+natAbs-sub a b = omega (arith, natAbs-diff a b, natAbs-parts a, natAbs-parts b)
+
 -- |a| ≤ n exactly where −n ≤ a ≤ n
 pub natAbs-le : {a : ℤ} {n : ℕ} → natAbs a ≤ n → (negℤ (pos n) ≤ℤ a) × (a ≤ℤ pos n)
 natAbs-le {a} {n} h = (→≤ℤ (omega (arith, natAbs-parts a, neg-parts (pos n))), →≤ℤ (omega (arith, natAbs-parts a)))
@@ -301,3 +307,12 @@ in-width (negsuc n) {H} h k = omega (arith, ≤ℤ→ h, neg-parts (pos H))
 pub of-width : (z : ℤ) {H : ℕ} → mag z < H → (negℤ (pos H) ≤ℤ z) × (z <ℤ pos H)
 of-width (pos n) {H} h = (→≤ℤ (omega (arith, neg-parts (pos H))), →<ℤ (omega arith))
 of-width (negsuc n) {H} h = (→≤ℤ (omega (arith, neg-parts (pos H))), →<ℤ (omega arith))
+
+-- the parts of a number in a width, and its size. (The other way, `mag z < H → natAbs z ≤ H`, is `natAbs-le` of `lib.Signed`)
+pub width-parts : (z : ℤ) {H : ℕ} → mag z < H → (up z < H) × (down z ≤ H)
+width-parts (pos n) h = (h, omega arith)
+width-parts (negsuc n) h = (omega arith, h)
+
+pub mag-most : (z : ℤ) → mag z ≤ natAbs z
+mag-most (pos n) = omega arith
+mag-most (negsuc n) = omega arith

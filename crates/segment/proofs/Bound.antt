@@ -2,7 +2,7 @@
 --
 -- The idea: g is at most |t − s| and h is p − q of `Apart` at the floor and the ceiling root, so g² + h² ≤ w × distance.
 -- The distance is whole, so rounding (g² + h²) / w up stays at most it; distances add up over a partition.
-use Prim.Native.Nat.{ℕ, zero, suc, _+_, _*_, _-_, _/_, _≤_, _<_, max}
+use Prim.Native.Nat.{ℕ, suc, _+_, _*_, _-_, _/_, _≤_, _<_, max}
 use mathlib.Core.Path.{_≡_, refl, sym, subst}
 use mathlib.Core.Bool.{Bool, true, false, not}
 use mathlib.Core.List.{List, [], _∷_}
@@ -20,6 +20,7 @@ use Rattle.segment.specs.Roots.{floorRoot, ceilingRoot}
 use Rattle.segment.specs.Terms.{sumGap, scatterGap, boundTerm}
 use Rattle.segment.specs.Partition.{Ranges, Holds, segmentBound, totalBound, AllHold, none-left, one-more}
 use Rattle.segment.proofs.Newton.{floor-root, ceiling-root}
+use Rattle.segment.proofs.Sums.{distance-cut}
 use Rattle.segment.proofs.Apart.{apart, apart-below}
 
 -- ---- g
@@ -72,20 +73,7 @@ module _ (r : Ranges) (xs ys : List ℤ) (same : length xs ≡ length ys) (h : H
 
 -- ---- over a partition
 
-distance-nil : (xs : List ℤ) → distance xs [] ≡ 0
-unfolding distance
-distance-nil [] = refl
-distance-nil (x ∷ xs) = refl
-
--- distances add up
-pub distance-cut : (w : ℕ) (xs ys : List ℤ) → distance (take w xs) (take w ys) + distance (drop w xs) (drop w ys) ≡ distance xs ys
-unfolding distance
-distance-cut zero xs ys = omega arith
-distance-cut (suc w) [] ys = refl
-distance-cut (suc w) (x ∷ xs) [] = omega (arith, distance-nil (drop w xs))
-distance-cut (suc w) (x ∷ xs) (y ∷ ys) = omega (arith, distance-cut w xs ys)
-
--- the total of the bounds is at most the distance
+-- the total of the bounds is at most the distance, since distances add up
 pub total-bound : (parts : List Ranges) (xs ys : List ℤ) → length xs ≡ length ys → AllHold parts ys → totalBound parts xs ≤ distance xs ys
 unfolding totalBound
 total-bound [] xs ys same none-left = omega arith

@@ -1,4 +1,7 @@
+-- Laws of the definitions that the functions' proofs and the crates above share.
 pub mod Scatter
 pub mod Apart
 pub mod Newton
+pub mod Sums
+pub mod Limits
 pub mod Bound

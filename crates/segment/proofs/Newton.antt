@@ -1,8 +1,8 @@
 -- The two roots: the definitions' roots are the largest and the least that document 01 asks for, and no other number is.
 -- The idea is Newton's: the mean of an estimate and v / estimate is never below the root (twice a product is at most the two squares),
 -- and an estimate that does not fall is not above it. So the last of the falling estimates is the floor root, whatever the first was.
-use mathlib.Core.Path.{_≡_, refl, sym, subst}
-use mathlib.Core.Bool.{Bool, true, false, not}
+use mathlib.Core.Path.{_≡_, refl}
+use mathlib.Core.Bool.{Bool, true, false}
 use mathlib.Core.List.{[], _∷_}
 use Prim.Native.Nat.{ℕ, zero, suc, _+_, _*_, _/_, _%_, _≤_, _<_}
 use native.Mathlib.Nat.{mul-le-mul, mul-le-mul-right, div-add-mod', mod-lt, div-lt-iff-lt-mul}
@@ -95,6 +95,9 @@ floor-root (suc v) = falling (suc v) (suc v) (suc v) (omega arith) (omega arith)
 pub floor-unique : {v r : ℕ} → IsFloorRoot v r → r ≡ floorRoot v
 floor-unique {v} {r} h = omega (arith, h .is-largest (floorRoot v) (floor-root v .square-at-most), floor-root v .is-largest r (h .square-at-most))
 
+pub floor-is : {v r : ℕ} → r ≡ floorRoot v → IsFloorRoot v r
+floor-is {v} e = rw e (floor-root v)
+
 pub floor-mono : {v u : ℕ} → v ≤ u → floorRoot v ≤ floorRoot u
 floor-mono {v} {u} h = floor-root u .is-largest (floorRoot v) (omega (arith, floor-root v .square-at-most))
 
@@ -102,25 +105,28 @@ floor-mono {v} {u} h = floor-root u .is-largest (floorRoot v) (omega (arith, flo
 pub floor-bound : {v k : ℕ} → v ≤ k * k → floorRoot v ≤ k
 floor-bound {v} {k} h = square-le (omega (arith, floor-root v .square-at-most))
 
--- ---- the ceiling root
--- v is above the square of one less
-ceiling-by : (v r : ℕ) → IsFloorRoot v r → (b : Bool) → eqb (r * r) v ≡ b → IsCeilingRoot v (if b then r else suc r)
-ceiling-by v r h true p =
-    let e : r * r ≡ v = eqb-true (r * r) v p in
-    record { square-at-least = omega arith; is-least = λ k l. square-le (omega arith) }
-ceiling-by v r h false p =
-    record { square-at-least = up (decLe v (suc r * suc r)); is-least = λ k l. square-lt (omega (arith, eqb-false (r * r) v p, h .square-at-most)) }
-  where
-    up : Dec (v ≤ suc r * suc r) → v ≤ suc r * suc r
-    up (yes k) = k
-    up (no f) = absurd (over (h .is-largest (suc r) (omega arith)))
-      where
-        over : suc r ≤ r → ⊥
-        over l = omega arith
+-- ---- the ceiling root: the floor root of a square, and one more than it otherwise
+module _ {v r : ℕ} (h : IsFloorRoot v r) where
+  pub exact : r * r ≡ v → IsCeilingRoot v r
+  exact e = record { square-at-least = omega arith; is-least = λ k l. square-le (omega arith) }
+
+  pub not-exact : (r * r ≡ v → ⊥) → IsCeilingRoot v (suc r)
+  not-exact f = record { square-at-least = up (decLe v (suc r * suc r)); is-least = λ k l. square-lt (omega (arith, h .square-at-most)) }
+    where
+      up : Dec (v ≤ suc r * suc r) → v ≤ suc r * suc r
+      up (yes k) = k
+      up (no g) = absurd (over (h .is-largest (suc r) (omega arith)))
+        where
+          over : suc r ≤ r → ⊥
+          over l = omega arith
+
+  ceiling-by : (b : Bool) → eqb (r * r) v ≡ b → IsCeilingRoot v (if b then r else suc r)
+  ceiling-by true p = exact (eqb-true (r * r) v p)
+  ceiling-by false p = not-exact (eqb-false (r * r) v p)
 
 pub ceiling-root : (v : ℕ) → IsCeilingRoot v (ceilingRoot v)
 unfolding ceilingRoot
-ceiling-root v = ceiling-by v (floorRoot v) (floor-root v) (eqb (floorRoot v * floorRoot v) v) refl
+ceiling-root v = ceiling-by (floor-root v) (eqb (floorRoot v * floorRoot v) v) refl
 
 pub ceiling-unique : {v r : ℕ} → IsCeilingRoot v r → r ≡ ceilingRoot v
 ceiling-unique {v} {r} h = omega (arith, h .is-least (ceilingRoot v) (ceiling-root v .square-at-least), ceiling-root v .is-least r (h .square-at-least))

@@ -1,1 +1,4 @@
-// A segment's figures.
+// A segment's figures, its roots, and its part in a node's bound and spread.
+pub mod figures;
+pub mod roots;
+pub mod terms;

@@ -1,0 +1,100 @@
+-- What is claimed of the tree that insertion makes of a list of traces, as statements: the laws behind document 01's sections "A node's record",
+-- "Adding", "Matching", "Well-formed tables" and "Demand 3, over a list of calls". `proofs/Laws` proves them for every library.
+use Prim.Native.Nat.{ℕ, suc, _+_, _*_, _-_, _≤_, _<_}
+use mathlib.Core.Path.{_≡_}
+use mathlib.Core.Bool.{Bool, true, false, not}
+use mathlib.Core.Option.{some}
+use mathlib.Core.List.{List, [], _∷_, _++_, map, flatten}
+use lib.ListN.{length, getD}
+use lib.IntN.{ℤ}
+use lib.Signed.{_≤ℤ_, ltZ}
+use lib.Dec.{T}
+use Rattle.integer.specs.Words.{leastℤ, greatestℤ, every, isEmpty, isIn, lastOf}
+use Rattle.segment.specs.Figures.{distance}
+use Rattle.dstree.specs.Measures.{Trace, Measures}
+use Rattle.dstree.specs.Figures.{Run, run, sumOn, scatterOn}
+use Rattle.dstree.specs.Node.{Segment, Test, leaf, inner, Tree, nodeAt, ends, figureOf}
+use Rattle.dstree.specs.Adding.{way, tracesOf, Candidate, candidates, splitBy, parts, insertion, treeOf}
+use Rattle.dstree.specs.Matching.{hasChild, bound, numbersIn, leaves, matchBySteps, leastDistance, Match, matchOf}
+use Rattle.dstree.specs.WellFormed.{wellFormed}
+
+-- "what is below a node": a leaf has its traces below it, an inner node what is below a child
+pub data Below (tree : Tree) (trace : ℕ) : ℕ → Type 0 where
+  held : {number : ℕ} → T (isIn trace (numbersIn (nodeAt tree number .kind))) → Below tree trace number
+  under : {parent child : ℕ} → T (hasChild child (nodeAt tree parent .kind)) → Below tree trace child → Below tree trace parent
+
+-- ---- the shape of the tree
+
+pub record ShapeOf (limit : ℕ) (m : Measures) (traces : List Trace) (tree : Tree) : Type 0 where
+  -- the well-formed rules, so that "3 never arises from these tables"
+  pub well-formed : T (wellFormed limit m (length traces) tree)
+  -- "2c − 1 node records" are enough
+  pub node-count : length tree ≤ 2 * length traces - 1
+  -- "So a leaf is over size only when no candidate parts it"
+  pub over-size : (number : ℕ) (numbers : List ℕ) → nodeAt tree number .kind ≡ leaf numbers → m .leafSize < length numbers
+      → T (every (λ c. not (parts (splitBy traces numbers c))) (candidates (ends (nodeAt tree number .segments))))
+
+-- ---- "the least and greatest sum and scatter of the traces below"
+
+-- of the traces with P, one has the figure `extreme`, and no other's is beyond it: with R for "at most" it is the least, the other way round the greatest
+pub record Extreme {A : Type 0} (R : A → A → Type 0) (P : ℕ → Type 0) (figure : ℕ → A) (extreme : A) : Type 0 where
+  pub trace : ℕ
+  pub is-one : P trace
+  pub has : extreme ≡ figure trace
+  pub none-beyond : (t : ℕ) → P t → R extreme (figure t)
+
+-- the figures that a segment on a run records are exactly those of the traces with P
+pub record ExactOn (traces : List Trace) (P : ℕ → Type 0) (on : Run) (s : Segment) : Type 0 where
+  pub least-sum : Extreme (λ a b. a ≤ℤ b) P (λ t. sumOn on (getD traces t [])) (s .leastSum)
+  pub greatest-sum : Extreme (λ a b. b ≤ℤ a) P (λ t. sumOn on (getD traces t [])) (s .greatestSum)
+  pub least-scatter : Extreme (λ a b. a ≤ b) P (λ t. scatterOn on (getD traces t [])) (s .leastScatter)
+  pub greatest-scatter : Extreme (λ a b. b ≤ a) P (λ t. scatterOn on (getD traces t [])) (s .greatestScatter)
+
+-- .. on each segment, the first from sample `first` on
+pub data AllExact (traces : List Trace) (P : ℕ → Type 0) : ℕ → List Segment → Type 0 where
+  exact-none : {first : ℕ} → AllExact traces P first []
+  exact-more : {first : ℕ} {s : Segment} {rest : List Segment} → ExactOn traces P (run first (s .end)) s → AllExact traces P (suc (s .end)) rest → AllExact traces P first (s ∷ rest)
+
+abbrev pub RangesOf : List Trace → Tree → Type 0
+RangesOf traces tree = (number : ℕ) → AllExact traces (λ t. Below tree t number) 1 (nodeAt tree number .segments)
+
+-- ---- tests
+
+pub record TestsOf (m : Measures) (traces : List Trace) (tree : Tree) : Type 0 where
+  -- "moving no threshold": an inner node keeps its test and its children when a trace is added
+  pub kept : (x : Trace) (number : ℕ) (test : Test) (left right : ℕ) → nodeAt tree number .kind ≡ inner test left right → nodeAt (insertion m traces tree x) number .kind ≡ inner test left right
+  -- "the trace goes down by the tests .. and joins a leaf": the tests still lead each stored trace to the leaf that holds it
+  pub routed : (t : ℕ) → t < length traces → T (isIn t (numbersIn (nodeAt tree (lastOf (way tree (getD traces t []))) .kind)))
+
+-- "A candidate parts the leaf if both sides receive a trace": exactly if its least figure is below its greatest
+abbrev pub Parting : Type 0
+Parting = (stored : List Trace) (numbers : List ℕ) (c : Candidate) → parts (splitBy stored numbers c) ≡ ltZ (leastℤ (map (figureOf (c .figure) (c .on)) (tracesOf stored numbers))) (greatestℤ (map (figureOf (c .figure) (c .on)) (tracesOf stored numbers)))
+
+-- ---- a query
+
+-- the numbers of the traces in some leaves
+unfoldable pub numbersAmong : Tree → List ℕ → List ℕ
+numbersAmong tree set = flatten (map (λ number. numbersIn (nodeAt tree number .kind)) set)
+
+-- a set of leaves that "leaves out only bounds above the least distance in the set". A set is a list: what is claimed of every list's length is
+-- claimed of the list without repetition
+pub record LeavesOutOnlyAbove (traces : List Trace) (tree : Tree) (query : Trace) (set : List ℕ) : Type 0 where
+  -- "one leaf or more"
+  pub one-or-more : T (not (isEmpty set))
+  pub of-leaves : T (every (λ number. isIn number (leaves tree)) set)
+  pub out-is-above : (number : ℕ) → T (isIn number (leaves tree)) → T (not (isIn number set)) → leastDistance (tracesOf traces (numbersAmong tree set)) query < bound tree query number
+
+-- "After the list, if the book has a trace, take any query of n samples", for a book with these traces and their tree
+pub record ClaimsOf (traces : List Trace) (tree : Tree) (query : Trace) : Type 0 where
+  -- "No node's bound exceeds the query's distance to a trace below it"
+  pub bound-at-most : (number trace : ℕ) → Below tree trace number → bound tree query number ≤ distance query (getD traces trace [])
+  -- "A match .. answers the lowest trace number at distance d, d, the number of leaves in R, and the number of traces in them; the trail begins with R"
+  pub steps-give-it : matchBySteps traces tree query ≡ some (matchOf traces tree query)
+  -- "The same match on tables that differ from these only in samples of traces outside R .. gives that answer and that trail"
+  pub others-do-not-bear : (other : List Trace) → tracesOf other (numbersAmong tree (matchOf traces tree query .trail)) ≡ tracesOf traces (numbersAmong tree (matchOf traces tree query .trail)) → matchBySteps other tree query ≡ some (matchOf traces tree query)
+  -- "R leaves out only bounds above d"
+  pub out-of-R : (number : ℕ) → T (isIn number (leaves tree)) → T (not (isIn number (matchOf traces tree query .trail))) → leastDistance traces query < bound tree query number
+  -- "Any set of one leaf or more that leaves out only bounds above the least distance in the set contains R"
+  pub contains-R : (set : List ℕ) → LeavesOutOnlyAbove traces tree query set → T (every (λ number. isIn number set) (matchOf traces tree query .trail))
+  -- ".. so it has at least as many leaves as the answer counts"
+  pub fewest : (set : List ℕ) → LeavesOutOnlyAbove traces tree query set → matchOf traces tree query .leaves ≤ length set

@@ -1,0 +1,89 @@
+// One segment's part in a node's bound and in a node's spread.
+ghost use mathlib.Core.Path.{_≡_};
+ghost use Prim.Native.Nat.{_-_, _^_, _<_, _≤_, max};
+ghost use lib.IntN.{natAbs};
+ghost use Rattle.segment.specs.Roots.{floorRoot, ceilingRoot};
+ghost use Rattle.segment.specs.Terms.{sumGap, scatterGap, boundTerm, spreadTerm};
+
+// a - b, or 0 where that is below 0
+fn over(a: u64, b: u64) -> u64
+    ensures { λ r. ⌜ r ≡ a - b ⌝ }
+{
+    if b < a { a - b } else { 0 }
+}
+
+// the larger of two
+fn larger(a: u64, b: u64) -> u64
+    ensures { λ r. ⌜ r ≡ max a b ⌝ }
+{
+    if a < b { b } else { a }
+}
+
+// The distance from t to the sums from `least` to `greatest`. The distance to the nearer end does not meet this where t is between them,
+// nor does one that is measured from the end on the other side.
+pub fn sum_gap(t: i64, least: i64, greatest: i64) -> u64
+    requires { ⌜ (natAbs t ≤ 2 ^ 40) × (natAbs least ≤ 2 ^ 40) × (natAbs greatest ≤ 2 ^ 40) ⌝ }
+    ensures { λ r. ⌜ r ≡ sumGap t least greatest ⌝ }
+{
+    if t < least {
+        return (least - t) as u64;
+    }
+    if greatest < t {
+        return (t - greatest) as u64;
+    }
+    0
+}
+
+// By how much the floor root of a is over the ceiling root of b. The floor root of b in its place does not meet this: for 9 and 8 it gives 1.
+// No root is taken where a is not above b.
+pub fn root_excess(a: u64, b: u64) -> u64
+    ensures { λ r. ⌜ r ≡ floorRoot a - ceilingRoot b ⌝ }
+{
+    if a <= b {
+        return 0;
+    }
+    over(crate::roots::floor_root(a), crate::roots::ceiling_root(b))
+}
+
+// How far a scatter u is from those from `least` to `greatest`, in roots that are rounded so that it is never too much.
+pub fn scatter_gap(u: u64, least: u64, greatest: u64) -> u64
+    ensures { λ r. ⌜ r ≡ scatterGap u least greatest ⌝ }
+{
+    larger(root_excess(least, u), root_excess(u, greatest))
+}
+
+// A segment's term of a node's bound, rounded up. Rounded down it does not meet this, nor with one added always.
+pub fn bound_term(w: u64, g: u64, h: u64) -> u64
+    requires { ⌜ (0 < w) × (w ≤ 256) × (g ≤ 2 ^ 30) × (h ≤ 2 ^ 30) ⌝ }
+    ensures { λ r. ⌜ r ≡ boundTerm w g h ⌝ }
+{
+    (g * g + h * h + (w - 1)) / w
+}
+
+// A segment's term of a node's bound, from the query's sum t and scatter u and the node's ranges. The ranges need not be in order.
+pub fn segment_bound(
+    w: u64,
+    t: i64,
+    u: u64,
+    least_sum: i64,
+    greatest_sum: i64,
+    least_scatter: u64,
+    greatest_scatter: u64,
+) -> u64
+    requires { ⌜ (0 < w) × (w ≤ 256) × (natAbs t ≤ 2 ^ 27) × (natAbs «least_sum» ≤ 2 ^ 27) × (natAbs «greatest_sum» ≤ 2 ^ 27) × (u ≤ 2 ^ 54) × («least_scatter» ≤ 2 ^ 54) ⌝ }
+    ensures { λ r. ⌜ r ≡ boundTerm w (sumGap t «least_sum» «greatest_sum») (scatterGap u «least_scatter» «greatest_scatter») ⌝ }
+    ensures size { λ r. ⌜ r ≤ 2 ^ 57 ⌝ }
+{
+    let g = sum_gap(t, least_sum, greatest_sum);
+    let h = scatter_gap(u, least_scatter, greatest_scatter);
+    bound_term(w, g, h)
+}
+
+// A segment's term of a node's spread, rounded down. Rounded up it does not meet this, nor with the least scatter in place of the greatest.
+pub fn spread_term(w: u64, least_sum: i64, greatest_sum: i64, greatest_scatter: u64) -> u64
+    requires { ⌜ (0 < w) × (w ≤ 256) × (natAbs «least_sum» ≤ 2 ^ 27) × (natAbs «greatest_sum» ≤ 2 ^ 27) × («greatest_scatter» ≤ 2 ^ 54) ⌝ }
+    ensures { λ r. ⌜ r ≡ spreadTerm w «least_sum» «greatest_sum» «greatest_scatter» ⌝ }
+    ensures size { λ r. ⌜ r ≤ 2 ^ 57 ⌝ }
+{
+    (crate::figures::square(greatest_sum - least_sum) + greatest_scatter) / w
+}

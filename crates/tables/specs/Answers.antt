@@ -1,0 +1,85 @@
+-- Answers and refusals of the calls, in document 01's terms; what every call that is lent made tables refuses first; what opening leaves.
+use Prim.Native.Nat.{ℕ, _*_}
+use mathlib.Core.Bool.{not}
+use mathlib.Core.Option.{Option, none, some}
+use mathlib.Core.List.{List, [], _∷_}
+use lib.IntN.{pos}
+use lib.ListN.{drop}
+use Rattle.dstree.specs.Measures.{Measures, inRange, samplesNeeded, recordsNeeded, linksNeeded, workNeeded}
+use Rattle.dstree.specs.Refusals as word
+use Rattle.dstree.specs.Refusals.{Condition, _refuses_, firstOf}
+use Rattle.dstree.specs.Book.{controlShort, tablesShort, Answer, done, refusing}
+use Rattle.tables.specs.Layout.{layout, recordPlaces, controlFields}
+use Rattle.tables.specs.Tables.{Tables, tables, lentOf, measuresOf, filled}
+use Rattle.tables.specs.View.{wellFormed}
+use Rattle.tables.specs.declared.Refusal.{Refusal}
+use Rattle.tables.specs.declared.Refusal.the-variants as r
+use Rattle.tables.specs.declared.Verdict.{Verdict}
+use Rattle.tables.specs.declared.Verdict.the-variants as v
+
+-- ---- refusals
+
+-- each case of the enum is a word of the table, which has document 01's number and place
+unfoldable pub wordOf : Refusal → word.Refusal
+wordOf r.Measure = word.measure
+wordOf r.ShortTable = word.shortTable
+wordOf r.Spoiled = word.spoiled
+wordOf r.WrongTrace = word.wrongTrace
+wordOf r.Full = word.full
+wordOf r.Empty = word.empty
+wordOf r.ShortTrail = word.shortTrail
+wordOf r.SheetLength = word.sheetLength
+wordOf (r.TornBlock block) = word.tornBlock block
+wordOf r.BadSheet = word.badSheet
+
+-- what a judge found: the first condition that holds, or none
+unfoldable pub foundBy : Verdict → Option word.Refusal
+foundBy v.Fine = none
+foundBy (v.Refused why) = some (wordOf why)
+
+-- ---- what a call answers and leaves
+
+pub record Outcome : Type 0 where
+  pub answer : Answer
+  pub after : Tables
+
+abbrev pub outcome : Answer → Tables → Outcome
+outcome a t = record { answer = a; after = t }
+
+-- a refused call leaves "all lent memory then as before the call"
+unfoldable pub unlessRefused : Option word.Refusal → Tables → Outcome → Outcome
+unlessRefused (some why) before accepted = outcome (refusing why) before
+unlessRefused none before accepted = accepted
+
+-- ---- tables that a call is lent to work on
+
+-- "control record too short (2); its measures (3); other tables (2); the rest of 3"
+unfoldable pub madeConditions : Tables → List Condition
+madeConditions t =
+    controlShort layout (lentOf t) refuses word.shortTable
+    ∷ not (inRange (measuresOf t)) refuses word.spoiled
+    ∷ tablesShort layout (lentOf t) (measuresOf t) refuses word.shortTable
+    ∷ not (wellFormed t) refuses word.spoiled
+    ∷ []
+
+-- ---- opening
+
+-- 1, then 2
+unfoldable pub openingConditions : Tables → Measures → List Condition
+openingConditions t m =
+    not (inRange m) refuses word.measure
+    ∷ controlShort layout (lentOf t) refuses word.shortTable
+    ∷ tablesShort layout (lentOf t) m refuses word.shortTable
+    ∷ []
+
+-- "Opening sets the needed parts of the tables to zero, then writes the control record (n, capacity, leaf size, counts)"
+unfoldable pub opened : Tables → Measures → Tables
+opened t m =
+    tables (m .n ∷ m .capacity ∷ m .leafSize ∷ 0 ∷ 0 ∷ drop controlFields (t .control))
+    (filled (samplesNeeded m) (pos 0) (t .samples))
+    (filled (recordsNeeded m * recordPlaces) (pos 0) (t .nodes))
+    (filled (linksNeeded m) 0 (t .links))
+    (filled (workNeeded m) 0 (t .work))
+
+unfoldable pub openOf : Tables → Measures → Outcome
+openOf t m = unlessRefused (firstOf (openingConditions t m)) t (outcome done (opened t m))

@@ -1,0 +1,5 @@
+-- The lent tables as lists, what they stand for, and what the calls answer. docs/LAYOUT.md is this in prose.
+pub mod Layout
+pub mod Tables
+pub mod View
+pub mod Answers

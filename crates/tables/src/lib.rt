@@ -1,0 +1,21 @@
+// The lent tables: refusals, the judges that calls share, access to fields and records, and the loops that zero and copy.
+
+// A word of document 01's table of refusals. A torn block has its number for a place.
+pub enum Refusal {
+    Measure,
+    ShortTable,
+    Spoiled,
+    WrongTrace,
+    Full,
+    Empty,
+    ShortTrail,
+    SheetLength,
+    TornBlock(u64),
+    BadSheet,
+}
+
+// What a judge found.
+pub enum Verdict {
+    Fine,
+    Refused(Refusal),
+}

@@ -1,5 +1,5 @@
 -- The integers of the machine's signed types (ℤ of `lib.IntN`) as an ordered commutative ring: the laws that the kit lacks.
--- Prove an equation by `ring` and an order by `from` or `linear` (the modules Ring and Nonlinear) before you look for a law here.
+-- Prove an equation by `ring` and an order by `from` or `linear` (the modules Ring and Facts) before you look for a law here.
 -- The way to ℕ: z is `up z` less `down z`, and one of the two is 0. `≤ℤ→`, `→≤ℤ`, `→≡ℤ` carry an order or an equation over, and `omega` does the rest.
 use mathlib.Core.Path.{_≡_, refl, sym, _∙_, ap, ap₂, subst}
 use mathlib.Core.Bool.{Bool, true, false, not, cond}

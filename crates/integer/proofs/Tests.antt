@@ -1,0 +1,41 @@
+-- Several tests joined by `&&` pass exactly if each of them does. The tests are listed once, and their facts come and go as one tuple:
+--
+--     let p = passed a (b ∷ c ∷ []) t in ..        with t : T (a && b && c), p .0 : T a, p .1 .0 : T b, p .1 .1 : T c
+--     passes a (b ∷ c ∷ []) (x, (y, z))            a proof of T (a && b && c)
+use mathlib.Core.Bool.{Bool, true, false, _&&_}
+use mathlib.Core.List.{List, [], _∷_}
+use Prim.Native.Nat.{ℕ}
+use mathlib.Core.Path.{_≡_, subst}
+use lib.Dec.{T, eqb, eqb-refl}
+
+-- a && b && c && ..
+abbrev pub joined : Bool → List Bool → Bool
+joined a [] = a
+joined a (b ∷ more) = joined (a && b) more
+
+-- T a × (T b × (T c × ..))
+abbrev pub Each : Bool → List Bool → Type 0
+Each a [] = T a
+Each a (b ∷ more) = T a × Each b more
+
+passed-and : (a b : Bool) (more : List Bool) → Each (a && b) more → T a × Each b more
+passed-and true b [] t = (tt, t)
+passed-and false b [] t = absurd t
+passed-and true b (c ∷ more) t = (tt, t)
+passed-and false b (c ∷ more) t = absurd (t .0)
+
+passes-and : (a b : Bool) (more : List Bool) → T a → Each b more → Each (a && b) more
+passes-and true b more t u = u
+passes-and false b more t u = absurd t
+
+pub passed : (a : Bool) (more : List Bool) → T (joined a more) → Each a more
+passed a [] t = t
+passed a (b ∷ more) t = passed-and a b more (passed (a && b) more t)
+
+pub passes : (a : Bool) (more : List Bool) → Each a more → T (joined a more)
+passes a [] t = t
+passes a (b ∷ more) t = passes (a && b) more (passes-and a b more (t .0) (t .1))
+
+-- two numbers are the same
+pub eq→eqb : {a b : ℕ} → a ≡ b → T (eqb a b)
+eq→eqb {a} e = subst (λ (x : ℕ). T (eqb a x)) e (eqb-refl a)

@@ -113,7 +113,7 @@ every-node passes number (a ∷ rest) h =
     yes-and (passes number a) (everyNode passes (suc number) rest) (h 0 number (omega arith) (omega arith)) (every-node passes (suc number) rest (λ k j e g. h (suc k) j (omega arith) (omega arith)))
 
 -- what stands past the last node: a leaf with nothing in it. What that does not have, only a node of the tree has
-abbrev nothing : Node
+abbrev pub nothing : Node
 nothing = node [] (leaf [])
 
 pub is-node : (P : Node → Type 0) (tree : Tree) (k : ℕ) → (P (node [] (leaf [])) → ⊥) → P (nodeAt tree k) → k < length tree

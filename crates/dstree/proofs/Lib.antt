@@ -1,6 +1,23 @@
+-- Laws of the definitions. The tree that adding makes: Invariant, Joins, Splits and Grown; a query: Bounds, Reading, Search and Closed; all together: Laws.
 pub mod Everything
 pub mod Examples
 pub mod Parted
 pub mod Parting
 pub mod Formed
 pub mod Nodes
+pub mod Ranges
+pub mod Change
+pub mod Cuts
+pub mod Count
+pub mod Exact
+pub mod Invariant
+pub mod Joins
+pub mod Splits
+pub mod Grown
+pub mod Bounds
+pub mod Reading
+pub mod Search
+pub mod Closed
+pub mod Routing
+pub mod Sizes
+pub mod Laws

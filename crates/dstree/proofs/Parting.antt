@@ -2,73 +2,20 @@
 -- the least figure goes left, and the greatest goes right if it is the larger one; if the two are the same, all figures are, and all go left.
 use Prim.Native.Nat.{ℕ, _<_}
 use mathlib.Core.Path.{_≡_, refl, sym, subst}
-use mathlib.Core.Logic.{_⊎_, inl, inr}
 use mathlib.Core.Bool.{Bool, true, false, not, _&&_}
 use mathlib.Core.List.{List, [], _∷_, map, map-map}
 use native.Mathlib.Omega.{arith}
 use lib.ListN.{length, getD}
 use lib.IntN.{ℤ, pos, _+ℤ_, _*ℤ_}
-use lib.Signed.{leZ, ltZ, ≤ℤ-refl, ltZ-yes, ltZ-no}
+use lib.Signed.{leZ, ltZ, ltZ-yes, ltZ-no}
 use lib.Dec.{T, T-not, not-T}
-use Rattle.integer.specs.Words.{if_then_else_, lesser, greater, leastℤ, greatestℤ, those, chosen, isEmpty}
-use Rattle.integer.proofs.Order.{_≤ℤ_, _<ℤ_, ≤ℤ-trans, <ℤ-≤ℤ}
+use Rattle.integer.specs.Words.{leastℤ, greatestℤ, those, chosen, isEmpty}
+use Rattle.integer.proofs.Order.{_≤ℤ_, _<ℤ_}
 use Rattle.integer.proofs.Facts.{reading, from, _&_}
-use Rattle.integer.proofs.Lists.{In, first, later, in-map, InMap, of, from-map, from-those, in-those, chosen-all, chosen-in}
+use Rattle.integer.proofs.Lists.{In, first, later, in-map, InMap, of, from-map, from-those, in-those, leastℤ-low, greatestℤ-high, leastℤ-in, greatestℤ-in}
 use Rattle.dstree.specs.Node.{figureOf, goesLeft}
 use Rattle.dstree.specs.Adding.{thresholdOf, testOf, splitBy, parts}
 use Rattle.dstree.specs.Claims.{Parting}
-
--- ---- the least and the greatest figure
-
--- the lesser of two is one of them, and at most either
-lesser-left : (a b : ℤ) → lesser a b ≤ℤ a
-lesser-left a b = by (ltZ b a) refl
-  where
-    by : (t : Bool) → ltZ b a ≡ t → (if t then b else a) ≤ℤ a
-    by true e = <ℤ-≤ℤ (ltZ-yes (subst T (sym e) tt))
-    by false e = ≤ℤ-refl a
-
-lesser-right : (a b : ℤ) → lesser a b ≤ℤ b
-lesser-right a b = by (ltZ b a) refl
-  where
-    by : (t : Bool) → ltZ b a ≡ t → (if t then b else a) ≤ℤ b
-    by true e = ≤ℤ-refl b
-    by false e = ltZ-no (subst (λ t. T (not t)) (sym e) tt)
-
-lesser-either : (a b : ℤ) → (lesser a b ≡ a) ⊎ (lesser a b ≡ b)
-lesser-either a b = by (ltZ b a)
-  where
-    by : (t : Bool) → ((if t then b else a) ≡ a) ⊎ ((if t then b else a) ≡ b)
-    by true = inr refl
-    by false = inl refl
-
--- the greater of two likewise
-greater-left : (a b : ℤ) → a ≤ℤ greater a b
-greater-left a b = by (ltZ a b) refl
-  where
-    by : (t : Bool) → ltZ a b ≡ t → a ≤ℤ (if t then b else a)
-    by true e = <ℤ-≤ℤ (ltZ-yes (subst T (sym e) tt))
-    by false e = ≤ℤ-refl a
-
-greater-right : (a b : ℤ) → b ≤ℤ greater a b
-greater-right a b = by (ltZ a b) refl
-  where
-    by : (t : Bool) → ltZ a b ≡ t → b ≤ℤ (if t then b else a)
-    by true e = ≤ℤ-refl b
-    by false e = ltZ-no (subst (λ t. T (not t)) (sym e) tt)
-
-greater-either : (a b : ℤ) → (greater a b ≡ a) ⊎ (greater a b ≡ b)
-greater-either a b = by (ltZ a b)
-  where
-    by : (t : Bool) → ((if t then b else a) ≡ a) ⊎ ((if t then b else a) ≡ b)
-    by true = inr refl
-    by false = inl refl
-
-least-below : {v : ℤ} {l : List ℤ} → In v l → leastℤ l ≤ℤ v
-least-below i = chosen-all (λ a b. a ≤ℤ b) (λ a b c h k. ≤ℤ-trans h k) ≤ℤ-refl lesser lesser-left lesser-right (pos 0) i
-
-greatest-above : {v : ℤ} {l : List ℤ} → In v l → v ≤ℤ greatestℤ l
-greatest-above i = chosen-all (λ a b. b ≤ℤ a) (λ a b c h k. ≤ℤ-trans k h) ≤ℤ-refl greater greater-left greater-right (pos 0) i
 
 -- ---- a side is empty exactly if nothing is in it
 
@@ -117,7 +64,7 @@ module _ (g : ℕ → ℤ) where
         all-left a b v h p q = from (a ∷ b ∷ v ∷ []) (h & p & q) (search reading depth 30) (omega arith)
 
         right : (k : ℕ) → In k numbers × T (not (goes figures k)) → ⊥
-        right k (i, t) = T-not (goes figures k) t (all-left (leastℤ figures) (greatestℤ figures) (g k) h (least-below (in-map g i)) (greatest-above (in-map g i)) .le)
+        right k (i, t) = T-not (goes figures k) t (all-left (leastℤ figures) (greatestℤ figures) (g k) h (leastℤ-low (in-map g i)) (greatestℤ-high (in-map g i)) .le)
 
     sides-of : 0 < length figures → bothSides figures numbers ≡ ltZ (leastℤ figures) (greatestℤ figures)
     sides-of some = by (ltZ (leastℤ figures) (greatestℤ figures)) refl
@@ -129,7 +76,7 @@ module _ (g : ℕ → ℤ) where
         by : (t : Bool) → ltZ (leastℤ figures) (greatestℤ figures) ≡ t → bothSides figures numbers ≡ t
         by true e =
             let h : leastℤ figures <ℤ greatestℤ figures = ltZ-yes (subst T (sym e) tt) in
-            rw (some-left (from-map g numbers (chosen-in lesser lesser-either (pos 0) figures some)) h, some-right (from-map g numbers (chosen-in greater greater-either (pos 0) figures some)) h)
+            rw (some-left (from-map g numbers (leastℤ-in figures some)) h, some-right (from-map g numbers (greatestℤ-in figures some)) h)
         by false e = rw (none-right (ltZ-no (subst (λ t. T (not t)) (sym e) tt))) (never (not (isEmpty (those (goes figures) numbers))))
 
   sides : (numbers : List ℕ) → bothSides (map g numbers) numbers ≡ ltZ (leastℤ (map g numbers)) (greatestℤ (map g numbers))

@@ -1,6 +1,6 @@
 -- Document 01, "Demand 3, over a list of calls": the calls, what the table refuses, and the book.
 use Prim.Native.Nat.{ℕ, _*_}
-use mathlib.Core.Bool.{Bool, true, not, _||_}
+use mathlib.Core.Bool.{Bool, true, false, not, _||_}
 use mathlib.Core.Option.{Option, none, some}
 use mathlib.Core.List.{List, [], _∷_, _++_}
 use lib.ListN.{length}
@@ -127,6 +127,18 @@ after layout b (call ∷ rest) = after layout (turn layout b call) rest
 -- "It starts with what that call puts": an opening or a reading that has just succeeded. What the book is before it does not matter
 unfoldable pub start : Call → Book
 start call = put (book (measures 0 0 0) []) call
+
+unfoldable pub isNone : Option Refusal → Bool
+isNone none = true
+isNone (some r) = false
+
+-- "An opening or a sheet reading has just succeeded when it starts"
+unfoldable pub canStart : Layout → Call → Bool
+canStart layout (opening lent m) = isNone (judge layout (start (opening lent m)) (opening lent m))
+canStart layout (adding lent x) = false
+canStart layout (matching lent query trail) = false
+canStart layout (writing lent sheet) = false
+canStart layout (reading lent bytes) = isNone (judge layout (start (reading lent bytes)) (reading lent bytes))
 
 -- ---- answers
 

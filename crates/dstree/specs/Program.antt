@@ -1,7 +1,7 @@
 -- Document 01, the program: what it makes of the bytes on its standard input.
-use Prim.Native.Nat.{ℕ, suc, _-_}
-use mathlib.Core.Bool.{Bool, _||_}
-use mathlib.Core.List.{List, [], _∷_}
+use Prim.Native.Nat.{ℕ, zero, suc, _+_, _-_, _/_, _%_}
+use mathlib.Core.Bool.{_||_}
+use mathlib.Core.List.{List, [], _∷_, _++_}
 use lib.ListN.{length, take, getD}
 use lib.Dec.{ltb, leb}
 use Rattle.integer.specs.Words.{if_then_else_}
@@ -39,3 +39,30 @@ unfoldable pub programLine : List ℕ → Line
 programLine bytes =
     let line = judgedLine (judgeSheet bytes) in
     if ltb 65536 (length bytes) then refusalLine sheetLength else line
+
+-- ---- the line as it is printed: "in decimal with single spaces", and a line feed behind it
+
+-- a number's digits, the last one last. It has no more of them than it is large, and one more
+unfoldable pub digitsFrom : ℕ → ℕ → List ℕ
+digitsFrom zero v = []
+digitsFrom (suc fuel) v =
+    let front = digitsFrom fuel (v / 10) in
+    (if ltb v 10 then [] else front) ++ ((48 + v % 10) ∷ [])
+
+unfoldable pub decimal : ℕ → List ℕ
+decimal v = digitsFrom (suc v) v
+
+-- words with a space between them, and the line's end
+unfoldable pub spaced : List (List ℕ) → List ℕ
+spaced [] = 10 ∷ []
+spaced (word ∷ []) = word ++ (10 ∷ [])
+spaced (word ∷ (next ∷ rest)) = word ++ (32 ∷ spaced (next ∷ rest))
+
+-- "A refusal prints `refused`, number, place"
+unfoldable pub text : Line → List ℕ
+text (found trace distance leaves traces) = spaced (decimal trace ∷ decimal distance ∷ decimal leaves ∷ decimal traces ∷ [])
+text (refusedLine number place) = spaced ((114 ∷ 101 ∷ 102 ∷ 117 ∷ 115 ∷ 101 ∷ 100 ∷ []) ∷ decimal number ∷ decimal place ∷ [])
+
+-- what the program prints
+unfoldable pub printed : List ℕ → List ℕ
+printed bytes = text (programLine bytes)

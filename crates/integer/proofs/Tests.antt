@@ -2,10 +2,10 @@
 --
 --     let p = passed a (b ∷ c ∷ []) t in ..        with t : T (a && b && c), p .0 : T a, p .1 .0 : T b, p .1 .1 : T c
 --     passes a (b ∷ c ∷ []) (x, (y, z))            a proof of T (a && b && c)
-use mathlib.Core.Bool.{Bool, true, false, _&&_}
+use mathlib.Core.Bool.{Bool, true, false, not, _&&_}
 use mathlib.Core.List.{List, [], _∷_}
 use Prim.Native.Nat.{ℕ}
-use mathlib.Core.Path.{_≡_, subst}
+use mathlib.Core.Path.{_≡_, refl, sym, subst}
 use lib.Dec.{T, eqb, eqb-refl}
 
 -- a && b && c && ..
@@ -39,3 +39,18 @@ passes a (b ∷ more) t = passes (a && b) more (passes-and a b more (t .0) (t .1
 -- two numbers are the same
 pub eq→eqb : {a b : ℕ} → a ≡ b → T (eqb a b)
 eq→eqb {a} e = subst (λ (x : ℕ). T (eqb a x)) e (eqb-refl a)
+
+-- a test's answer as a fact, and a fact as the answer. (Of `ltb`, `leb` and `eqb`: `borrow.Author.Tests`)
+pub is-true : {b : Bool} → b ≡ true → T b
+is-true e = subst T (sym e) tt
+
+pub is-false : {b : Bool} → b ≡ false → T (not b)
+is-false e = subst (λ b. T (not b)) (sym e) tt
+
+pub test-true : (b : Bool) → T b → b ≡ true
+test-true true t = refl
+test-true false t = absurd t
+
+pub test-false : (b : Bool) → (T b → ⊥) → b ≡ false
+test-false true f = absurd (f tt)
+test-false false f = refl

@@ -3,13 +3,13 @@
 use mathlib.Core.Path.{_≡_}
 use mathlib.Core.Bool.{Bool, true, false}
 use mathlib.Core.List.{List, [], _∷_}
-use Prim.Native.Nat.{ℕ, suc, _+_, _*_, _-_, _≤_, _<_}
+use Prim.Native.Nat.{ℕ, zero, suc, _+_, _*_, _-_, _≤_, _<_}
 use native.Mathlib.Nat.{mul-le-mul, mul-le-mul-left}
 use native.Mathlib.Decide.{decLt}
 use native.Mathlib.Omega.{arith}
-use lib.ListN.{length, take, drop, getD, length-take, length-drop}
+use lib.ListN.{length, take, drop, getD, replicate, length-take, length-drop}
 use lib.Seq.{getD-take, getD-drop}
-use lib.IntN.{ℤ, pos, natAbs, _-ℤ_}
+use lib.IntN.{ℤ, pos, negsuc, natAbs, _-ℤ_}
 use lib.Signed.{mag, ltZ, natAbs-le}
 use Rattle.integer.specs.Words.{if_then_else_, square}
 use Rattle.integer.proofs.Order.{natAbs-add, natAbs-sub, natAbs-diff, width-parts}
@@ -81,3 +81,11 @@ sum-gap-limit t least greatest = by-tests (ltZ t least) (ltZ greatest t) t least
 pub scatter-gap-limit : (u least greatest k : ℕ) → u ≤ k * k → least ≤ k * k → scatterGap u least greatest ≤ k
 unfolding scatterGap
 scatter-gap-limit u least greatest k h l = omega (arith, floor-bound {k = k} h, floor-bound {k = k} l)
+
+-- ".. its largest": it is reached, between the greatest and the least sample at each place
+pub distance-reached : (limit n : ℕ) → 0 < limit → distance (replicate n (pos (limit - 1))) (replicate n (negsuc (limit - 1))) ≡ largestDistance limit n
+unfolding distance largestDistance
+distance-reached limit zero h = omega arith
+distance-reached limit (suc n) h =
+    let e : limit - 1 + suc (limit - 1) ≡ 2 * limit - 1 = omega arith in
+    rw e (omega (arith, distance-reached limit n h))

@@ -1,0 +1,201 @@
+-- The order of reading: each leaf of the tree once, with its bound, by bound and then by number.
+use Prim.Native.Nat.{ℕ, suc, _≤_, _<_}
+use mathlib.Core.Path.{_≡_, refl, sym, _∙_, ap, subst}
+use mathlib.Core.Logic.{_⊎_, inl, inr}
+use mathlib.Core.Bool.{Bool, true, false, _&&_, _||_}
+use mathlib.Core.List.{List, [], _∷_, map}
+use native.Mathlib.Omega.{arith}
+use lib.ListN.{length, length-map}
+use lib.Dec.{T, ltb, eqb}
+use Rattle.integer.specs.Words.{if_then_else_, counting}
+use borrow.Author.Tests.{ltb-true, ltb-false, eqb-true}
+use Rattle.integer.proofs.Tests.{is-true}
+use Rattle.integer.proofs.Lists.{In, first, later, in-cons, in-front, in-map, InMap, of, from-map, from-those, in-those, in-counting, from-counting, All, all-none, all-more, all-mono, up-those, counting-up, Apart, apart-none, apart-more, up-apart}
+use Rattle.dstree.specs.Measures.{Trace}
+use Rattle.dstree.specs.Node.{Tree, nodeAt}
+use Rattle.dstree.specs.Matching.{bound, LeafBound, isLeaf, leaves, before, placed, sorted, readingOrder}
+
+-- ---- the leaves' numbers
+
+module _ (tree : Tree) where
+  pub from-leaves : {k : ℕ} → In k (leaves tree) → (k < length tree) × T (isLeaf (nodeAt tree k .kind))
+  unfolding leaves
+  from-leaves {k} i =
+      let h : In k (counting (length tree) 0) × T (isLeaf (nodeAt tree k .kind)) = from-those (λ number. isLeaf (nodeAt tree number .kind)) (counting (length tree) 0) i in
+      (omega (arith, from-counting (length tree) 0 (h .0)), h .1)
+
+  pub in-leaves : {k : ℕ} → k < length tree → T (isLeaf (nodeAt tree k .kind)) → In k (leaves tree)
+  unfolding leaves
+  in-leaves {k} h t = in-those (λ number. isLeaf (nodeAt tree number .kind)) (in-counting (length tree) 0 k (omega arith) (omega arith)) t
+
+-- ---- sorting keeps the leaves
+
+in-placed : (a : LeafBound) {b : LeafBound} (l : List LeafBound) → In b (placed a l) → (b ≡ a) ⊎ In b l
+unfolding placed
+in-placed a [] i = in-cons i
+in-placed a {b} (c ∷ l) i = by (before a c) i (in-placed a l)
+  where
+    on : (b ≡ a) ⊎ In b l → (b ≡ a) ⊎ In b (c ∷ l)
+    on (inl e) = inl e
+    on (inr j) = inr (later j)
+
+    at : (b ≡ c) ⊎ In b (placed a l) → (In b (placed a l) → (b ≡ a) ⊎ In b l) → (b ≡ a) ⊎ In b (c ∷ l)
+    at (inl e) ih = inr (in-front e)
+    at (inr j) ih = on (ih j)
+
+    by : (t : Bool) → In b (if t then a ∷ c ∷ l else c ∷ placed a l) → (In b (placed a l) → (b ≡ a) ⊎ In b l) → (b ≡ a) ⊎ In b (c ∷ l)
+    by true j ih = in-cons j
+    by false j ih = at (in-cons j) ih
+
+placed-here : (a : LeafBound) (l : List LeafBound) → In a (placed a l)
+unfolding placed
+placed-here a [] = first
+placed-here a (c ∷ l) = by (before a c) (placed-here a l)
+  where
+    by : (t : Bool) → In a (placed a l) → In a (if t then a ∷ c ∷ l else c ∷ placed a l)
+    by true ih = first
+    by false ih = later ih
+
+placed-other : (a : LeafBound) {b : LeafBound} {l : List LeafBound} → In b l → In b (placed a l)
+unfolding placed
+placed-other a {b} (first {rest}) = by (before a b)
+  where
+    by : (t : Bool) → In b (if t then a ∷ b ∷ rest else b ∷ placed a rest)
+    by true = later first
+    by false = first
+placed-other a {b} (later {b = c} {rest} i) = by (before a c) (placed-other a i)
+  where
+    by : (t : Bool) → In b (placed a rest) → In b (if t then a ∷ c ∷ rest else c ∷ placed a rest)
+    by true ih = later (later i)
+    by false ih = later ih
+
+pub from-sorted : {b : LeafBound} (l : List LeafBound) → In b (sorted l) → In b l
+unfolding sorted
+from-sorted [] i = i
+from-sorted {b} (a ∷ l) i = by (in-placed a (sorted l) i) (from-sorted l)
+  where
+    by : (b ≡ a) ⊎ In b (sorted l) → (In b (sorted l) → In b l) → In b (a ∷ l)
+    by (inl e) ih = in-front e
+    by (inr j) ih = later (ih j)
+
+pub in-sorted : {b : LeafBound} {l : List LeafBound} → In b l → In b (sorted l)
+unfolding sorted
+in-sorted {b} (first {rest}) = placed-here b (sorted rest)
+in-sorted (later {b = a} i) = placed-other a (in-sorted i)
+
+placed-length : (a : LeafBound) (all : List LeafBound) → length (placed a all) ≡ suc (length all)
+unfolding placed
+placed-length a [] = refl
+placed-length a (b ∷ rest) = by (before a b) (placed-length a rest)
+  where
+    by : (c : Bool) → length (placed a rest) ≡ suc (length rest) → length (if c then a ∷ b ∷ rest else b ∷ placed a rest) ≡ suc (suc (length rest))
+    by true e = refl
+    by false e = ap suc e
+
+sorted-length : (all : List LeafBound) → length (sorted all) ≡ length all
+unfolding sorted
+sorted-length [] = refl
+sorted-length (a ∷ rest) = placed-length a (sorted rest) ∙ ap suc (sorted-length rest)
+
+-- ---- no leaf twice
+
+abbrev pub ApartLeaves : List LeafBound → Type 0
+ApartLeaves = Apart (λ (a : LeafBound). a .number)
+
+placed-apart : (a : LeafBound) {l : List LeafBound} → ((b : LeafBound) → In b l → b .number ≡ a .number → ⊥) → ApartLeaves l → ApartLeaves (placed a l)
+unfolding placed
+placed-apart a h apart-none = apart-more h apart-none
+placed-apart a h (apart-more {a = c} {l} g p) = by (before a c) (placed-apart a (λ b i. h b (later i)) p)
+  where
+    at : (b : LeafBound) → (b ≡ a) ⊎ In b l → b .number ≡ c .number → ⊥
+    at b (inl e) q = h c first (sym q ∙ ap (λ (x : LeafBound). x .number) e)
+    at b (inr j) q = g b j q
+
+    by : (t : Bool) → ApartLeaves (placed a l) → ApartLeaves (if t then a ∷ c ∷ l else c ∷ placed a l)
+    by true ih = apart-more h (apart-more g p)
+    by false ih = apart-more (λ b i. at b (in-placed a l i)) ih
+
+sorted-apart : {l : List LeafBound} → ApartLeaves l → ApartLeaves (sorted l)
+unfolding sorted
+sorted-apart apart-none = apart-none
+sorted-apart (apart-more {a} {l} h p) = placed-apart a (λ b i. h b (from-sorted l i)) (sorted-apart p)
+
+-- ---- by bound
+
+-- each bound is at most those behind it
+pub data InOrder : List LeafBound → Type 0 where
+  order-none : InOrder []
+  order-more : {a : LeafBound} {rest : List LeafBound} → All (λ b. a .bound ≤ b .bound) rest → InOrder rest → InOrder (a ∷ rest)
+
+-- a leaf that comes before another has no greater bound, and one that does not has no lower bound
+before-yes : (a b : LeafBound) → before a b ≡ true → a .bound ≤ b .bound
+unfolding before
+before-yes a b e = by (ltb (a .bound) (b .bound)) (eqb (a .bound) (b .bound)) (ltb (a .number) (b .number)) refl refl e
+  where
+    by : (x y z : Bool) → ltb (a .bound) (b .bound) ≡ x → eqb (a .bound) (b .bound) ≡ y → (x || y && z) ≡ true → a .bound ≤ b .bound
+    by true y z p q r = omega (arith, ltb-true (a .bound) (b .bound) p)
+    by false true z p q r = omega (arith, eqb-true (a .bound) (b .bound) q)
+    by false false z p q r = absurd (is-true r)
+
+before-not : (a b : LeafBound) → before a b ≡ false → b .bound ≤ a .bound
+unfolding before
+before-not a b e = by (ltb (a .bound) (b .bound)) (eqb (a .bound) (b .bound)) (ltb (a .number) (b .number)) refl e
+  where
+    by : (x y z : Bool) → ltb (a .bound) (b .bound) ≡ x → (x || y && z) ≡ false → b .bound ≤ a .bound
+    by true y z p r = absurd (subst T r tt)
+    by false y z p r = ltb-false (a .bound) (b .bound) p
+
+placed-all : (k : ℕ) (a : LeafBound) {l : List LeafBound} → k ≤ a .bound → All (λ b. k ≤ b .bound) l → All (λ b. k ≤ b .bound) (placed a l)
+unfolding placed
+placed-all k a h all-none = all-more h all-none
+placed-all k a h (all-more {a = b} {rest} g gs) = by (before a b) (placed-all k a h gs)
+  where
+    by : (c : Bool) → All (λ x. k ≤ x .bound) (placed a rest) → All (λ x. k ≤ x .bound) (if c then a ∷ b ∷ rest else b ∷ placed a rest)
+    by true ih = all-more h (all-more g gs)
+    by false ih = all-more g ih
+
+placed-in-order : (a : LeafBound) {l : List LeafBound} → InOrder l → InOrder (placed a l)
+unfolding placed
+placed-in-order a order-none = order-more all-none order-none
+placed-in-order a (order-more {a = b} {rest} o os) = by (before a b) refl (placed-in-order a os)
+  where
+    by : (c : Bool) → before a b ≡ c → InOrder (placed a rest) → InOrder (if c then a ∷ b ∷ rest else b ∷ placed a rest)
+    by true p ih =
+        let h : a .bound ≤ b .bound = before-yes a b p in
+        order-more (all-more h (all-mono (λ c g. omega arith) o)) (order-more o os)
+    by false p ih = order-more (placed-all (b .bound) a (before-not a b p) o) ih
+
+sorted-in-order : (l : List LeafBound) → InOrder (sorted l)
+unfolding sorted
+sorted-in-order [] = order-none
+sorted-in-order (a ∷ rest) = placed-in-order a (sorted-in-order rest)
+
+-- ---- the order of reading
+
+module _ (tree : Tree) (query : Trace) where
+  abbrev pub with-bound : ℕ → LeafBound
+  with-bound number = record { number = number; bound = bound tree query number }
+
+  pub reading-of : {a : LeafBound} → In a (readingOrder tree query) → In (a .number) (leaves tree) × (a .bound ≡ bound tree query (a .number))
+  unfolding readingOrder
+  reading-of {a} i = by (from-map with-bound (leaves tree) (from-sorted (map with-bound (leaves tree)) i))
+    where
+      by : InMap with-bound a (leaves tree) → In (a .number) (leaves tree) × (a .bound ≡ bound tree query (a .number))
+      by (of k j e) = (rw e j, rw e refl)
+
+  pub in-reading : {k : ℕ} → In k (leaves tree) → In (with-bound k) (readingOrder tree query)
+  unfolding readingOrder
+  in-reading i = in-sorted (in-map with-bound i)
+
+  pub reading-in-order : InOrder (readingOrder tree query)
+  unfolding readingOrder
+  reading-in-order = sorted-in-order (map with-bound (leaves tree))
+
+  pub reading-apart : ApartLeaves (readingOrder tree query)
+  unfolding readingOrder leaves
+  reading-apart = sorted-apart (up-apart (λ (a : LeafBound). a .number) with-bound (λ k. refl) (up-those (λ number. isLeaf (nodeAt tree number .kind)) (counting-up (length tree) 0)))
+
+  -- as many as there are leaves
+  pub reading-length : length (readingOrder tree query) ≡ length (leaves tree)
+  unfolding readingOrder
+  reading-length = sorted-length (map with-bound (leaves tree)) ∙ length-map (leaves tree) with-bound

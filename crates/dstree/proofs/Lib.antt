@@ -20,4 +20,6 @@ pub mod Search
 pub mod Closed
 pub mod Routing
 pub mod Sizes
+pub mod Best
+pub mod OffTrail
 pub mod Laws

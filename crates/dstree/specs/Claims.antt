@@ -7,15 +7,15 @@ use mathlib.Core.Option.{some}
 use mathlib.Core.List.{List, [], _∷_, _++_, map, flatten}
 use lib.ListN.{length, getD}
 use lib.IntN.{ℤ}
-use lib.Signed.{_≤ℤ_, ltZ}
+use lib.Signed.{_≤ℤ_, ltZ, leZ}
 use lib.Dec.{T}
 use Rattle.integer.specs.Words.{leastℤ, greatestℤ, every, isEmpty, isIn, lastOf}
 use Rattle.segment.specs.Figures.{distance}
 use Rattle.dstree.specs.Measures.{Trace, Measures}
 use Rattle.dstree.specs.Figures.{Run, run, sumOn, scatterOn}
 use Rattle.dstree.specs.Node.{Segment, Test, leaf, inner, Tree, nodeAt, ends, figureOf}
-use Rattle.dstree.specs.Adding.{way, tracesOf, Candidate, candidates, splitBy, parts, insertion, treeOf}
-use Rattle.dstree.specs.Matching.{hasChild, bound, numbersIn, leaves, matchBySteps, leastDistance, Match, matchOf}
+use Rattle.dstree.specs.Adding.{way, tracesOf, Candidate, candidates, Split, splitBy, parts, bestOf, insertion, treeOf}
+use Rattle.dstree.specs.Matching.{hasChild, bound, numbersIn, leaves, Search, searched, matchBySteps, leastDistance, Match, matchOf}
 use Rattle.dstree.specs.WellFormed.{wellFormed}
 
 -- "what is below a node": a leaf has its traces below it, an inner node what is below a child
@@ -70,11 +70,28 @@ pub record TestsOf (m : Measures) (traces : List Trace) (tree : Tree) : Type 0 w
 abbrev pub Parting : Type 0
 Parting = (stored : List Trace) (numbers : List ℕ) (c : Candidate) → parts (splitBy stored numbers c) ≡ ltZ (leastℤ (map (figureOf (c .figure) (c .on)) (tracesOf stored numbers))) (greatestℤ (map (figureOf (c .figure) (c .on)) (tracesOf stored numbers)))
 
+-- "Among the candidates that part the leaf the greatest gain wins, the earliest among equals": what stands before the winner has less gain, what
+-- stands behind it no more
+pub record Wins (gainOf : Split → ℤ) (all : List Split) (winner : Split) : Type 0 where
+  pub earlier : List Split
+  pub later : List Split
+  pub among : all ≡ earlier ++ (winner ∷ later)
+  pub less-before : T (every (λ s. ltZ (gainOf s) (gainOf winner)) earlier)
+  pub no-more-behind : T (every (λ s. leZ (gainOf s) (gainOf winner)) later)
+
+abbrev pub Winning : Type 0
+Winning = (gainOf : Split → ℤ) (all : List Split) (winner : Split) → bestOf gainOf all ≡ some winner → Wins gainOf all winner
+
 -- ---- a query
 
 -- the numbers of the traces in some leaves
 unfoldable pub numbersAmong : Tree → List ℕ → List ℕ
 numbersAmong tree set = flatten (map (λ number. numbersIn (nodeAt tree number .kind)) set)
+
+-- "Samples in leaves off the trail don't bear on a search: well-formed tables that differ only there give the same answer and the same trail".
+-- It holds of any tree, whoever made it
+abbrev pub OffTrail : Type 0
+OffTrail = (traces other : List Trace) (tree : Tree) (query : Trace) → tracesOf other (numbersAmong tree (searched traces tree query .trail)) ≡ tracesOf traces (numbersAmong tree (searched traces tree query .trail)) → searched other tree query ≡ searched traces tree query
 
 -- a set of leaves that "leaves out only bounds above the least distance in the set". A set is a list: what is claimed of every list's length is
 -- claimed of the list without repetition

@@ -2,16 +2,17 @@
 use Prim.Native.Nat.{ℕ, _*_}
 use mathlib.Core.Bool.{not}
 use mathlib.Core.Option.{Option, none, some}
-use mathlib.Core.List.{List, [], _∷_}
+use mathlib.Core.List.{List, [], _∷_, _++_}
 use lib.IntN.{pos}
 use lib.ListN.{drop}
-use Rattle.dstree.specs.Measures.{Measures, inRange, samplesNeeded, recordsNeeded, linksNeeded, workNeeded}
+use Rattle.dstree.specs.Measures.{Measures, samplesNeeded, recordsNeeded, linksNeeded, workNeeded}
 use Rattle.dstree.specs.Refusals as word
 use Rattle.dstree.specs.Refusals.{Condition, _refuses_, firstOf}
-use Rattle.dstree.specs.Book.{controlShort, tablesShort, Answer, done, refusing}
-use Rattle.tables.specs.Layout.{layout, recordPlaces, controlFields}
+use Rattle.dstree.specs.Book.{Answer, done, refusing}
+use Rattle.tables.specs.Layout.{recordPlaces, controlFields}
 use Rattle.tables.specs.Tables.{Tables, tables, lentOf, measuresOf, filled}
 use Rattle.tables.specs.View.{wellFormed}
+use Rattle.tables.specs.Judge.{openingConditionsOf, lentConditionsOf}
 use Rattle.tables.specs.declared.Refusal.{Refusal}
 use Rattle.tables.specs.declared.Refusal.the-variants as r
 use Rattle.tables.specs.declared.Verdict.{Verdict}
@@ -55,22 +56,13 @@ unlessRefused none before accepted = accepted
 
 -- "control record too short (2); its measures (3); other tables (2); the rest of 3"
 unfoldable pub madeConditions : Tables → List Condition
-madeConditions t =
-    controlShort layout (lentOf t) refuses word.shortTable
-    ∷ not (inRange (measuresOf t)) refuses word.spoiled
-    ∷ tablesShort layout (lentOf t) (measuresOf t) refuses word.shortTable
-    ∷ not (wellFormed t) refuses word.spoiled
-    ∷ []
+madeConditions t = lentConditionsOf (lentOf t) (measuresOf t) ++ not (wellFormed t) refuses word.spoiled ∷ []
 
 -- ---- opening
 
 -- 1, then 2
 unfoldable pub openingConditions : Tables → Measures → List Condition
-openingConditions t m =
-    not (inRange m) refuses word.measure
-    ∷ controlShort layout (lentOf t) refuses word.shortTable
-    ∷ tablesShort layout (lentOf t) m refuses word.shortTable
-    ∷ []
+openingConditions t m = openingConditionsOf (lentOf t) m
 
 -- "Opening sets the needed parts of the tables to zero, then writes the control record (n, capacity, leaf size, counts)"
 unfoldable pub opened : Tables → Measures → Tables

@@ -2,4 +2,5 @@
 pub mod Layout
 pub mod Tables
 pub mod View
+pub mod Judge
 pub mod Answers

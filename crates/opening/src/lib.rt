@@ -1,0 +1,83 @@
+// Opening a library in lent tables.
+
+use tables::Refusal;
+use tables::Verdict;
+use tables::control::judge_opening;
+use tables::control::records_needed;
+use tables::control::samples_needed;
+use tables::loops::zero_links;
+use tables::loops::zero_nodes;
+use tables::loops::zero_samples;
+use tables::loops::zero_work;
+use tables::records::RECORD_PLACES;
+ghost use mathlib.Core.Path.{_≡_};
+ghost use mathlib.Core.List.{_∷_};
+ghost use Prim.Native.Nat.{_≤_};
+ghost use lib.ListN.{length, drop};
+ghost use Rattle.dstree.specs.Measures.{measures};
+ghost use Rattle.tables.specs.Layout.{controlFields};
+ghost use Rattle.tables.specs.Tables.{tables};
+ghost use Rattle.tables.specs.Answers.{outcome, openOf};
+ghost use Rattle.opening.specs.Opened.{answerOf};
+
+pub enum Opened {
+    Done,
+    Refused(Refusal),
+}
+
+// The control record of an empty library: its measures, and no trace and no node. Places behind its fields stay.
+fn write_control(control: &mut [u16], n: u16, capacity: u16, leaf_size: u16)
+    requires { ⌜ controlFields ≤ length (now control) ⌝ }
+    ensures { λ _. ⌜ now (control .exit) ≡ n ∷ capacity ∷ «leaf_size» ∷ 0 ∷ 0 ∷ drop controlFields (now (control .entry)) ⌝ }
+{
+    control[0] = n;
+    control[1] = capacity;
+    control[2] = leaf_size;
+    control[3] = 0;
+    control[4] = 0;
+}
+
+// Opens an empty library with these measures. Every refusal is decided before anything is written; then the needed parts are zeroed, and the control
+// record is written last. The measures come at full width, so that none wraps into its range: 65,792 for n is refused, though its low 16 bits are 256.
+//
+// Two wrong programs that the contract rules out: one that zeroes each table whole (places behind the needed ones change), and one that zeroes the
+// samples before it looks at the length of the other tables (a refused call then leaves them changed).
+pub fn open(
+    control: &mut [u16],
+    samples: &mut [i16],
+    nodes: &mut [i64],
+    links: &mut [u16],
+    work: &mut [u64],
+    n: u64,
+    capacity: u64,
+    leaf_size: u64,
+) -> Opened
+    ensures { λ r. ⌜ outcome (answerOf r)
+        (tables (now (control .exit)) (now (samples .exit)) (now (nodes .exit)) (now (links .exit)) (now (work .exit)))
+        ≡ openOf
+        (tables (now (control .entry)) (now (samples .entry)) (now (nodes .entry)) (now (links .entry)) (now (work .entry)))
+        (measures n capacity «leaf_size») ⌝ }
+{
+    let verdict = judge_opening(
+        control.len(),
+        samples.len(),
+        nodes.len(),
+        links.len(),
+        work.len(),
+        n,
+        capacity,
+        leaf_size,
+    );
+    match verdict {
+        Verdict::Refused(why) => Opened::Refused(why),
+        Verdict::Fine => {
+            let records = records_needed(capacity);
+            zero_samples(samples, samples_needed(n, capacity));
+            zero_nodes(nodes, records * RECORD_PLACES);
+            zero_links(links, capacity as usize);
+            zero_work(work, records);
+            write_control(control, n as u16, capacity as u16, leaf_size as u16);
+            Opened::Done
+        }
+    }
+}

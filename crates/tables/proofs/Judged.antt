@@ -1,0 +1,63 @@
+-- What it says of lengths and measures that nothing was refused.
+use mathlib.Core.Path.{_≡_, refl}
+use mathlib.Core.Bool.{Bool, true, false, not, _||_}
+use mathlib.Core.List.{List, _∷_}
+use mathlib.Core.Option.{Option, none, some}
+use Prim.Native.Nat.{ℕ, _*_, _≤_}
+use native.Mathlib.Omega.{arith}
+use lib.Dec.{ltb}
+use borrow.Author.Tests.{ltb-false, not-false}
+use Rattle.integer.specs.Words.{if_then_else_}
+use Rattle.dstree.specs.Measures.{Measures, inRange, samplesNeeded, recordsNeeded, linksNeeded, workNeeded}
+use Rattle.dstree.specs.Refusals.{Refusal, Condition, _refuses_, firstOf}
+use Rattle.dstree.specs.Book.{Lent, controlShort, tablesShort}
+use Rattle.tables.specs.Layout.{layout, recordPlaces, controlFields}
+use Rattle.tables.specs.Judge.{lentConditionsOf}
+use Rattle.tables.proofs.Range.{InRange, in-range}
+
+-- the tables have the places that the measures need
+pub record Room (lengths : Lent) (m : Measures) : Type 0 where
+  pub control-room : controlFields ≤ lengths .control
+  pub samples-room : samplesNeeded m ≤ lengths .samples
+  pub nodes-room : recordsNeeded m * recordPlaces ≤ lengths .nodes
+  pub links-room : linksNeeded m ≤ lengths .links
+  pub work-room : workNeeded m ≤ lengths .work
+
+pub record Accepted (lengths : Lent) (m : Measures) : Type 0 where
+  pub range : InRange m
+  pub room : Room lengths m
+
+neither : (a b : Bool) → a || b ≡ false → (a ≡ false) × (b ≡ false)
+neither true b e = let z : _≡_ {A = ℕ} 0 1 = cc in absurd (omega arith)
+neither false b e = (refl, e)
+
+past : (b : Bool) (why : Refusal) (rest : Option Refusal) → (if b then some why else rest) ≡ none → (b ≡ false) × (rest ≡ none)
+past true why rest e = let z : _≡_ {A = ℕ} 0 1 = cc in absurd (omega arith)
+past false why rest e = (refl, e)
+
+-- where no condition of a list holds, its first does not, nor any of the rest
+pub none-first : (b : Bool) (why : Refusal) (rest : List Condition) → firstOf (b refuses why ∷ rest) ≡ none → (b ≡ false) × (firstOf rest ≡ none)
+unfolding firstOf
+none-first b why rest e = past b why (firstOf rest) e
+
+pub room-of : (lengths : Lent) (m : Measures) → controlShort layout lengths ≡ false → tablesShort layout lengths m ≡ false → Room lengths m
+unfolding controlShort tablesShort
+room-of lengths m control others =
+    let three = neither (ltb (lengths .samples) (samplesNeeded m) || ltb (lengths .nodes) (recordsNeeded m * recordPlaces) || ltb (lengths .links) (linksNeeded m)) _ others in
+    let two = neither (ltb (lengths .samples) (samplesNeeded m) || ltb (lengths .nodes) (recordsNeeded m * recordPlaces)) _ (three .0) in
+    let one = neither (ltb (lengths .samples) (samplesNeeded m)) _ (two .0) in
+    record {
+      control-room = ltb-false _ _ control;
+      samples-room = ltb-false _ _ (one .0);
+      nodes-room = ltb-false _ _ (one .1);
+      links-room = ltb-false _ _ (two .1);
+      work-room = ltb-false _ _ (three .1);
+    }
+
+pub lent-accepted : (lengths : Lent) (m : Measures) → firstOf (lentConditionsOf lengths m) ≡ none → Accepted lengths m
+unfolding lentConditionsOf
+lent-accepted lengths m e =
+    let one = none-first (controlShort layout lengths) _ _ e in
+    let two = none-first (not (inRange m)) _ _ (one .1) in
+    let three = none-first (tablesShort layout lengths m) _ _ (two .1) in
+    record { range = in-range m (not-false _ (two .0)); room = room-of lengths m (one .0) (three .0) }

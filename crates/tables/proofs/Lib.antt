@@ -1,0 +1,5 @@
+pub mod Fill
+pub mod Frame
+pub mod Small
+pub mod Range
+pub mod Judged

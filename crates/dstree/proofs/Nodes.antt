@@ -109,10 +109,10 @@ module _ (limit : ℕ) (m : Measures) (count : ℕ) (tree : Tree) (t : T (wellFo
           let p = place-of (node [] (leaf [])) j in
           (omega arith, omega (arith, facts .numbers x (p .place) (in-is (subst (λ (b : Node). In x (numbersAt b)) (sym (p .is-it)) k))))
 
-  numbers-count : length (flatten (map numbersAt tree)) ≡ count
+  pub numbers-count : length (flatten (map numbersAt tree)) ≡ count
   numbers-count = once-length count 0 (flatten (map numbersAt tree)) numbers-once numbers-inside
 
-  children-count : length (flatten (map childrenAt tree)) ≡ length tree - 1
+  pub children-count : length (flatten (map childrenAt tree)) ≡ length tree - 1
   children-count = once-length (length tree - 1) 1 (flatten (map childrenAt tree)) children-once children-inside
 
   -- no more leaves than traces

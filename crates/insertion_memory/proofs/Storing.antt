@@ -1,0 +1,53 @@
+-- A trace pasted behind k stored ones is the next stored trace, the others stay, and so do the samples behind what c traces need.
+use Prim.Native.Nat.{ℕ, suc, _+_, _*_, _-_, _≤_, _<_}
+use mathlib.Core.Path.{_≡_, sym, _∙_, ap}
+use mathlib.Core.List.{List, [], _∷_, _++_, map, append-assoc}
+use native.Mathlib.Nat.{mul-le-mul-right}
+use native.Mathlib.Omega.{arith}
+use lib.ListN.{length, take, drop}
+use lib.Seq.{take-all, paste, length-paste, drop-paste, drop-drop}
+use lib.IntN.{ℤ, pos}
+use Rattle.integer.specs.Words.{counting}
+use Rattle.integer.proofs.Lists.{from-counting}
+use Rattle.dstree.specs.Measures.{Trace}
+use Rattle.tables.specs.View.{traceIn}
+use Rattle.tables.proofs.Frame.{withPart, part-same, part-other}
+use Rattle.leaf_figures.specs.Walk.{storedIn}
+use Rattle.insertion_memory.proofs.Listing.{map-same, map-append, counting-more}
+
+module _ (samples : List ℤ) (n k c : ℕ) (x : Trace) (size : length x ≡ n) (less : k < c) (room : c * n ≤ length samples) where
+  abbrev after : List ℤ
+  after = paste samples (k * n) x n
+
+  fits : (i : ℕ) → i < c → i * n + n ≤ length samples
+  fits i h = let g : suc i * n ≤ c * n = mul-le-mul-right n h in omega arith
+
+  paste-part : after ≡ withPart n samples k x
+  paste-part = rw (take-all n x (omega arith)) (append-assoc (take (k * n) samples) x (drop (k * n + n) samples))
+
+  trace-new : traceIn after n k ≡ x
+  unfolding traceIn
+  trace-new = ap (λ (l : List ℤ). take n (drop (k * n) l)) paste-part ∙ part-same (pos 0) n samples k x (fits k less) size
+
+  trace-old : (i : ℕ) → i < k → traceIn after n i ≡ traceIn samples n i
+  unfolding traceIn
+  trace-old i h = ap (λ (l : List ℤ). take n (drop (i * n) l)) paste-part ∙ part-other (pos 0) n samples k x (fits k less) size i (λ e. omega (arith, h, e)) (fits i (omega arith))
+
+  pub stored-more : storedIn after n (suc k) ≡ storedIn samples n k ++ (x ∷ [])
+  stored-more =
+      let last : traceIn after n (0 + k) ≡ x = ap (λ (i : ℕ). traceIn after n i) (let z : 0 + k ≡ k = omega arith in z) ∙ trace-new in
+      ap (λ (l : List ℕ). map (traceIn after n) l) (counting-more k 0)
+      ∙ map-append (traceIn after n) (counting k 0) ((0 + k) ∷ [])
+      ∙ rw (map-same (traceIn after n) (traceIn samples n) (counting k 0) (λ i j. trace-old i (omega (arith, from-counting k 0 j .1))), last)
+
+  pub stored-length : length after ≡ length samples
+  stored-length = length-paste samples (k * n) x n (fits k less) (omega arith)
+
+  pub stored-behind : drop (c * n) after ≡ drop (c * n) samples
+  stored-behind =
+      let g : suc k * n ≤ c * n = mul-le-mul-right n less in
+      let m : ℕ = c * n - (k * n + n) in
+      let e : c * n ≡ k * n + n + m = omega arith in
+      ap (λ (j : ℕ). drop j after) e ∙ sym (drop-drop m (k * n + n) after)
+      ∙ ap (λ (l : List ℤ). drop m l) (drop-paste samples (k * n) x n (omega (arith, fits k less)) (omega arith))
+      ∙ drop-drop m (k * n + n) samples ∙ ap (λ (j : ℕ). drop j samples) (sym e)

@@ -1,0 +1,1 @@
+// Adding a trace to tables that are known to be well formed.

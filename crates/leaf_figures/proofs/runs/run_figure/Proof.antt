@@ -1,0 +1,59 @@
+-- `leaf_figures::runs::run_figure` meets its contract: a scatter on at most 256 samples has at most 46 bits, which a signed number holds.
+use mathlib.Core.Path.{_≡_, sym, ap, _∙_}
+use Prim.Native.Nat.{ℕ, _*_, _^_, _≤_}
+use native.Mathlib.Nat.{mul-le-mul}
+use native.Mathlib.Omega.{arith}
+use borrow.Author.Needs.{needs}
+use lib.IntN.{ℤ, pos, natAbs}
+use mir.Syntax.{w64}
+use mir.Val.{SFits, toZ}
+use mir.Facts.{toZ-ofZ}
+use Rattle.integer.proofs.Width.{of-mag, small}
+use Rattle.dstree.specs.Figures.{run, width}
+use Rattle.dstree.specs.Node.{figureOf}
+use Rattle.leaf_figures.proofs.runs.run_figure.Statement.{statement}
+use Rattle.leaf_figures.proofs.runs.run_figure.Tie as tie
+use Rattle.leaf_figures.proofs.runs.run_figure.Reads as reads
+use Rattle.leaf_figures.proofs.runs.run_figure.Lts as lts
+use Rattle.leaf_figures.proofs.runs.run_scatter.Reads as run-scatter-reads
+use Rattle.leaf_figures.proofs.runs.run_sum.Reads as run-sum-reads
+
+-- src/runs.rt:46:9
+run-scatter-requires : tie.Need-run-scatter-requires
+run-scatter-requires c κs = search needs
+
+-- src/runs.rt:46:9
+scatter-most : (c : tie.After-run-scatter) → c .run-scatter .result ≤ 2 ^ 46
+scatter-most c =
+    let s = c .before .before in
+    let w : width (run (s .args .first) (s .args .last)) ≤ 256 = omega (arith, s .pre .narrow, s .pre .inside .from-1, s .pre .inside .to-n) in
+    omega (arith, c .run-scatter .ensures .1, mul-le-mul w w)
+
+scatter-fits : (c : tie.After-run-scatter) → SFits w64 (pos (c .run-scatter .result))
+scatter-fits c = small (omega (arith, scatter-most c))
+
+cast-result : tie.Need-cast-result
+cast-result c = scatter-fits c
+
+-- src/runs.rt:48:9
+run-sum-requires : tie.Need-run-sum-requires
+run-sum-requires c κs = search needs
+
+-- src/runs.rt:33:1
+returns : tie.Need-returns
+unfolding figureOf
+returns c =
+    let back : toZ w64 (c .run-scatter .result) ≡ pos (c .run-scatter .result) = toZ-ofZ (scatter-fits c) in
+    rw (back, c .before .if1 .taken) (ap pos (c .run-scatter .ensures .0), omega (arith, scatter-most c))
+
+-- src/runs.rt:33:1
+returns-2 : tie.Need-returns-2
+unfolding figureOf
+returns-2 c =
+    let s = c .before .before in
+    let w : width (run (s .args .first) (s .args .last)) ≤ 256 = omega (arith, s .pre .narrow, s .pre .inside .from-1, s .pre .inside .to-n) in
+    rw (toZ-ofZ (of-mag {w = w64} (c .run-sum .result) (c .run-sum .ok)), c .before .if1 .left) (c .run-sum .ensures .0, omega (arith, c .run-sum .ensures .1))
+
+pub run-figure-spec : {M : Type 1} → statement M
+run-figure-spec =
+    tie.close (tie.spec run-scatter-requires cast-result run-sum-requires returns returns-2)

@@ -1,0 +1,27 @@
+-- A node's right ends, as code keeps them: by value, in an array of 16 places.
+use Prim.Native.Nat.{ℕ, suc, _≤_}
+use mathlib.Core.Path.{_≡_}
+use mathlib.Core.List.{List, [], _∷_}
+use lib.ListN.{length, take}
+use lib.Dec.{ltb}
+use Rattle.integer.specs.Words.{if_then_else_}
+use Rattle.leaf_figures.specs.declared.ends.Ends.{Ends}
+
+-- the right ends
+abbrev pub endsOf : Ends → List ℕ
+endsOf e = take (e .count) (e .at)
+
+-- an array of 16 places, and no more ends than places
+pub record Room (e : Ends) : Type 0 where
+  pub places : length (e .at) ≡ 16
+  pub few : e .count ≤ 16
+
+-- right ends that rise from sample `from` on, none above n
+pub data Rise (n : ℕ) : ℕ → List ℕ → Type 0 where
+  r-none : {from : ℕ} → Rise n from []
+  r-more : {from end : ℕ} {rest : List ℕ} → from ≤ end → end ≤ n → Rise n (suc end) rest → Rise n from (end ∷ rest)
+
+-- where a new right end goes: behind those that are not above it
+unfoldable pub placeIn : ℕ → List ℕ → ℕ
+placeIn new [] = 0
+placeIn new (end ∷ rest) = let later = suc (placeIn new rest) in if ltb new end then 0 else later

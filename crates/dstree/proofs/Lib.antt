@@ -1,6 +1,9 @@
 -- Laws of the definitions. The tree that adding makes: Invariant, Joins, Splits and Grown; a query: Bounds, Reading, Search and Closed; all together: Laws.
 pub mod Everything
+pub mod Notation
 pub mod Examples
+pub mod Cases
+pub mod Exercises
 pub mod Parted
 pub mod Parting
 pub mod Formed

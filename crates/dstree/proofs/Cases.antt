@@ -1,0 +1,535 @@
+-- Small libraries with what another implementation of document 01 makes of them, as one table; and the definitions give the same, by computation.
+-- Written by `tools/cases.py` from `vectors/libraries.txt`, the libraries that `vectors/cases.txt` names.
+use Prim.Native.Nat.{ℕ}
+use mathlib.Core.Path.{_≡_, refl}
+use mathlib.Core.Bool.{Bool, true}
+use mathlib.Core.Option.{Option, some}
+use mathlib.Core.List.{List, [], _∷_, map}
+use lib.ListN.{length}
+use Rattle.integer.specs.Words.{counting}
+use Rattle.dstree.specs.Measures.{Trace, Measures, measures, sampleLimit, isLibrary}
+use Rattle.dstree.specs.Node.{bySum, byScatter, leaf, inner, node, Tree}
+use Rattle.dstree.specs.Adding.{treeOf}
+use Rattle.dstree.specs.Matching.{bound, Match, matchBySteps, matchOf}
+use Rattle.dstree.specs.WellFormed.{wellFormed}
+use Rattle.dstree.specs.Sheet.{sheetOf, Judged, holds, judgeSheet}
+use Rattle.dstree.specs.Examples.{found}
+use Rattle.dstree.proofs.Notation.{+, −, seg, test}
+use Rattle.dstree.proofs.Everything.{everything}
+
+-- ---- what is compared
+
+-- a library and a query; then what the other implementation says: the tree, the bound of every node, the match with its trail
+pub record Case : Type 0 where
+  pub measures : Measures
+  pub traces : List Trace
+  pub query : Trace
+  pub tree : Tree
+  pub bounds : List ℕ
+  pub match : Match
+
+-- what the definitions say of a library and a query
+pub record Outcome : Type 0 where
+  pub tree : Tree
+  pub bounds : List ℕ
+  pub match : Match
+  pub steps : Option Match
+  pub sound : Bool
+  pub library : Bool
+  pub sheet : Judged
+
+-- computed: the tree from the traces alone, all else on the tree that is given
+abbrev pub computed : Case → Outcome
+computed c = record {
+  tree = treeOf (c .measures) (c .traces);
+  bounds = map (bound (c .tree) (c .query)) (counting (length (c .tree)) 0);
+  match = matchOf (c .traces) (c .tree) (c .query);
+  steps = matchBySteps (c .traces) (c .tree) (c .query);
+  sound = wellFormed sampleLimit (c .measures) (length (c .traces)) (c .tree);
+  library = isLibrary sampleLimit (c .measures) (c .traces);
+  sheet = judgeSheet (sheetOf (c .measures) (c .traces));
+}
+
+-- expected: the given tree, bounds and match, the match by its steps too; well-formed tables of a library, whose sheet reads back
+abbrev pub expected : Case → Outcome
+expected c = record { tree = c .tree; bounds = c .bounds; match = c .match; steps = some (c .match); sound = true; library = true; sheet = holds (c .measures) (c .traces) }
+
+-- ---- the table
+
+abbrev pub cases : List Case
+cases =
+    -- near-identical-1: the first trace makes leaf 0 with one segment; n = 1
+    record {
+      measures = measures 1 2 2;
+      traces = (+ 4808 ∷ []) ∷ [];
+      query = + 4808 ∷ [];
+      tree =
+          node (seg 1 (+ 4808) (+ 4808) 0 0 ∷ []) (leaf (0 ∷ []))
+          ∷ [];
+      bounds = 0 ∷ [];
+      match = found 0 0 1 1 (0 ∷ []);
+    }
+    -- extremes-2: samples at both limits, one leaf below its size: every trace is read
+    ∷ record {
+      measures = measures 6 15 34;
+      traces = (− 32768 ∷ + 32767 ∷ − 32768 ∷ + 32767 ∷ − 32768 ∷ − 32768 ∷ []) ∷ (− 32768 ∷ − 32768 ∷ + 32767 ∷ + 32767 ∷ − 32768 ∷ + 32767 ∷ []) ∷ (− 32768 ∷ + 32767 ∷ + 32767 ∷ + 32767 ∷ − 32768 ∷ − 32768 ∷ []) ∷ (− 32768 ∷ − 32768 ∷ − 32768 ∷ + 32767 ∷ + 32767 ∷ + 32767 ∷ []) ∷ (− 32768 ∷ − 32768 ∷ − 32768 ∷ + 32767 ∷ − 32768 ∷ − 32768 ∷ []) ∷ (− 32768 ∷ − 32768 ∷ + 32767 ∷ + 32767 ∷ + 32767 ∷ + 32767 ∷ []) ∷ (+ 32767 ∷ − 32768 ∷ + 32767 ∷ + 32767 ∷ − 32768 ∷ − 32768 ∷ []) ∷ (− 32768 ∷ + 32767 ∷ − 32768 ∷ − 32768 ∷ + 32767 ∷ + 32767 ∷ []) ∷ (− 32768 ∷ − 32768 ∷ − 32768 ∷ + 32767 ∷ − 32768 ∷ − 32768 ∷ []) ∷ (+ 32767 ∷ + 32767 ∷ + 32767 ∷ − 32768 ∷ + 32767 ∷ − 32768 ∷ []) ∷ (− 32768 ∷ − 32768 ∷ − 32768 ∷ − 32768 ∷ − 32768 ∷ − 32768 ∷ []) ∷ (+ 32767 ∷ − 32768 ∷ + 32767 ∷ − 32768 ∷ + 32767 ∷ − 32768 ∷ []) ∷ (− 32768 ∷ − 32768 ∷ + 32767 ∷ − 32768 ∷ + 32767 ∷ + 32767 ∷ []) ∷ (+ 32767 ∷ − 32768 ∷ − 32768 ∷ − 32768 ∷ + 32767 ∷ + 32767 ∷ []) ∷ [];
+      query = − 32768 ∷ + 32767 ∷ − 32768 ∷ + 32767 ∷ − 32768 ∷ + 32767 ∷ [];
+      tree =
+          node (seg 6 (− 196608) (+ 65532) 0 38653526025 ∷ []) (leaf (0 ∷ 1 ∷ 2 ∷ 3 ∷ 4 ∷ 5 ∷ 6 ∷ 7 ∷ 8 ∷ 9 ∷ 10 ∷ 11 ∷ 12 ∷ 13 ∷ []))
+          ∷ [];
+      bounds = 0 ∷ [];
+      match = found 0 4294836225 1 14 (0 ∷ []);
+    }
+    -- identical-5: no candidate parts equal traces, so the leaf stays whole, four times its size
+    ∷ record {
+      measures = measures 3 56 2;
+      traces = (− 7528 ∷ + 18019 ∷ − 16825 ∷ []) ∷ (− 7528 ∷ + 18019 ∷ − 16825 ∷ []) ∷ (− 7528 ∷ + 18019 ∷ − 16825 ∷ []) ∷ (− 7528 ∷ + 18019 ∷ − 16825 ∷ []) ∷ (− 7528 ∷ + 18019 ∷ − 16825 ∷ []) ∷ (− 7528 ∷ + 18019 ∷ − 16825 ∷ []) ∷ (− 7528 ∷ + 18019 ∷ − 16825 ∷ []) ∷ (− 7528 ∷ + 18019 ∷ − 16825 ∷ []) ∷ [];
+      query = − 7528 ∷ + 18019 ∷ − 16825 ∷ [];
+      tree =
+          node (seg 3 (− 6334) (− 6334) 1953187754 1953187754 ∷ []) (leaf (0 ∷ 1 ∷ 2 ∷ 3 ∷ 4 ∷ 5 ∷ 6 ∷ 7 ∷ []))
+          ∷ [];
+      bounds = 0 ∷ [];
+      match = found 0 0 1 8 (0 ∷ []);
+    }
+    -- tiny-1: n = 1; twice the last trace's figure is just T, so it goes left
+    ∷ record {
+      measures = measures 1 7 2;
+      traces = (+ 2 ∷ []) ∷ (+ 0 ∷ []) ∷ (+ 2 ∷ []) ∷ (+ 1 ∷ []) ∷ [];
+      query = + 1 ∷ [];
+      tree =
+          node (seg 1 (+ 0) (+ 2) 0 0 ∷ []) (inner (test 1 1 bySum (+ 2)) 1 2)
+          ∷ node (seg 1 (+ 0) (+ 1) 0 0 ∷ []) (leaf (1 ∷ 3 ∷ []))
+          ∷ node (seg 1 (+ 2) (+ 2) 0 0 ∷ []) (leaf (0 ∷ 2 ∷ []))
+          ∷ [];
+      bounds = 0 ∷ 0 ∷ 1 ∷ [];
+      match = found 3 0 1 2 (1 ∷ []);
+    }
+    -- n1-3: n = 1; five traces in a leaf of four are parted by sum
+    ∷ record {
+      measures = measures 1 6 4;
+      traces = (− 22481 ∷ []) ∷ (+ 2727 ∷ []) ∷ (− 27636 ∷ []) ∷ (+ 26642 ∷ []) ∷ (− 5364 ∷ []) ∷ [];
+      query = + 594 ∷ [];
+      tree =
+          node (seg 1 (− 27636) (+ 26642) 0 0 ∷ []) (inner (test 1 1 bySum (− 994)) 1 2)
+          ∷ node (seg 1 (− 27636) (− 5364) 0 0 ∷ []) (leaf (0 ∷ 2 ∷ 4 ∷ []))
+          ∷ node (seg 1 (+ 2727) (+ 26642) 0 0 ∷ []) (leaf (1 ∷ 3 ∷ []))
+          ∷ [];
+      bounds = 0 ∷ 35497764 ∷ 4549689 ∷ [];
+      match = found 1 4549689 1 2 (2 ∷ []);
+    }
+    -- leaf1-7: n = 1, leaf size 1: each trace splits the leaf that it joins
+    ∷ record {
+      measures = measures 1 41 1;
+      traces = (− 1860 ∷ []) ∷ (− 800 ∷ []) ∷ (− 33 ∷ []) ∷ (+ 924 ∷ []) ∷ (− 1006 ∷ []) ∷ (− 846 ∷ []) ∷ (+ 1230 ∷ []) ∷ [];
+      query = − 748 ∷ [];
+      tree =
+          node (seg 1 (− 1860) (+ 1230) 0 0 ∷ []) (inner (test 1 1 bySum (− 2660)) 1 2)
+          ∷ node (seg 1 (− 1860) (− 1860) 0 0 ∷ []) (leaf (0 ∷ []))
+          ∷ node (seg 1 (− 1006) (+ 1230) 0 0 ∷ []) (inner (test 1 1 bySum (− 833)) 3 4)
+          ∷ node (seg 1 (− 1006) (− 800) 0 0 ∷ []) (inner (test 1 1 bySum (− 1806)) 7 8)
+          ∷ node (seg 1 (− 33) (+ 1230) 0 0 ∷ []) (inner (test 1 1 bySum (+ 891)) 5 6)
+          ∷ node (seg 1 (− 33) (− 33) 0 0 ∷ []) (leaf (2 ∷ []))
+          ∷ node (seg 1 (+ 924) (+ 1230) 0 0 ∷ []) (inner (test 1 1 bySum (+ 2154)) 11 12)
+          ∷ node (seg 1 (− 1006) (− 1006) 0 0 ∷ []) (leaf (4 ∷ []))
+          ∷ node (seg 1 (− 846) (− 800) 0 0 ∷ []) (inner (test 1 1 bySum (− 1646)) 9 10)
+          ∷ node (seg 1 (− 846) (− 846) 0 0 ∷ []) (leaf (5 ∷ []))
+          ∷ node (seg 1 (− 800) (− 800) 0 0 ∷ []) (leaf (1 ∷ []))
+          ∷ node (seg 1 (+ 924) (+ 924) 0 0 ∷ []) (leaf (3 ∷ []))
+          ∷ node (seg 1 (+ 1230) (+ 1230) 0 0 ∷ []) (leaf (6 ∷ []))
+          ∷ [];
+      bounds = 0 ∷ 1236544 ∷ 0 ∷ 2704 ∷ 511225 ∷ 511225 ∷ 2795584 ∷ 66564 ∷ 2704 ∷ 9604 ∷ 2704 ∷ 2795584 ∷ 3912484 ∷ [];
+      match = found 1 2704 1 1 (10 ∷ []);
+    }
+    -- near-identical-6: samples that differ by 1 part the leaf; of its children one is over size again, with nothing to part it
+    ∷ record {
+      measures = measures 1 46 3;
+      traces = (− 21373 ∷ []) ∷ (− 21373 ∷ []) ∷ (− 21373 ∷ []) ∷ (− 21372 ∷ []) ∷ (− 21373 ∷ []) ∷ [];
+      query = − 21373 ∷ [];
+      tree =
+          node (seg 1 (− 21373) (− 21372) 0 0 ∷ []) (inner (test 1 1 bySum (− 42745)) 1 2)
+          ∷ node (seg 1 (− 21373) (− 21373) 0 0 ∷ []) (leaf (0 ∷ 1 ∷ 2 ∷ 4 ∷ []))
+          ∷ node (seg 1 (− 21372) (− 21372) 0 0 ∷ []) (leaf (3 ∷ []))
+          ∷ [];
+      bounds = 0 ∷ 0 ∷ 1 ∷ [];
+      match = found 0 0 1 4 (1 ∷ []);
+    }
+    -- n2-10: a cut wins, the left half by sum: the children have two segments, node 0 keeps its one
+    ∷ record {
+      measures = measures 2 33 2;
+      traces = (+ 2 ∷ − 1 ∷ []) ∷ (+ 0 ∷ − 1 ∷ []) ∷ (+ 2 ∷ − 2 ∷ []) ∷ [];
+      query = − 2 ∷ + 0 ∷ [];
+      tree =
+          node (seg 2 (− 1) (+ 1) 1 16 ∷ []) (inner (test 1 1 bySum (+ 2)) 1 2)
+          ∷ node (seg 1 (+ 0) (+ 0) 0 0 ∷ seg 2 (− 1) (− 1) 0 0 ∷ []) (leaf (1 ∷ []))
+          ∷ node (seg 1 (+ 2) (+ 2) 0 0 ∷ seg 2 (− 2) (− 1) 0 0 ∷ []) (leaf (0 ∷ 2 ∷ []))
+          ∷ [];
+      bounds = 1 ∷ 5 ∷ 17 ∷ [];
+      match = found 1 5 1 1 (1 ∷ []);
+    }
+    -- n2-3: cuts into single samples; a tie in gain between left half and right half, by sum: the left half is earlier
+    ∷ record {
+      measures = measures 2 8 2;
+      traces = (+ 19 ∷ + 22 ∷ []) ∷ (+ 35 ∷ − 39 ∷ []) ∷ (+ 39 ∷ − 35 ∷ []) ∷ (− 28 ∷ + 12 ∷ []) ∷ (+ 2 ∷ + 19 ∷ []) ∷ (+ 6 ∷ − 11 ∷ []) ∷ (+ 32 ∷ − 3 ∷ []) ∷ [];
+      query = + 7 ∷ − 26 ∷ [];
+      tree =
+          node (seg 2 (− 16) (+ 41) 9 5476 ∷ []) (inner (test 1 1 bySum (+ 58)) 1 2)
+          ∷ node (seg 1 (− 28) (+ 19) 0 0 ∷ seg 2 (− 11) (+ 22) 0 0 ∷ []) (inner (test 1 1 bySum (− 9)) 3 4)
+          ∷ node (seg 1 (+ 32) (+ 39) 0 0 ∷ seg 2 (− 39) (− 3) 0 0 ∷ []) (inner (test 2 2 bySum (− 42)) 7 8)
+          ∷ node (seg 1 (− 28) (− 28) 0 0 ∷ seg 2 (+ 12) (+ 12) 0 0 ∷ []) (leaf (3 ∷ []))
+          ∷ node (seg 1 (+ 2) (+ 19) 0 0 ∷ seg 2 (− 11) (+ 22) 0 0 ∷ []) (inner (test 2 2 bySum (+ 11)) 5 6)
+          ∷ node (seg 1 (+ 6) (+ 6) 0 0 ∷ seg 2 (− 11) (− 11) 0 0 ∷ []) (leaf (5 ∷ []))
+          ∷ node (seg 1 (+ 2) (+ 19) 0 0 ∷ seg 2 (+ 19) (+ 22) 0 0 ∷ []) (leaf (0 ∷ 4 ∷ []))
+          ∷ node (seg 1 (+ 35) (+ 39) 0 0 ∷ seg 2 (− 39) (− 35) 0 0 ∷ []) (leaf (1 ∷ 2 ∷ []))
+          ∷ node (seg 1 (+ 32) (+ 32) 0 0 ∷ seg 2 (− 3) (− 3) 0 0 ∷ []) (leaf (6 ∷ []))
+          ∷ [];
+      bounds = 5 ∷ 225 ∷ 625 ∷ 2669 ∷ 225 ∷ 226 ∷ 2025 ∷ 865 ∷ 1154 ∷ [];
+      match = found 5 226 1 1 (5 ∷ []);
+    }
+    -- near-square-7: up to four segments, and a test by scatter
+    ∷ record {
+      measures = measures 5 56 3;
+      traces = (+ 0 ∷ − 6 ∷ + 3 ∷ − 6 ∷ − 6 ∷ []) ∷ (+ 3 ∷ − 8 ∷ + 1 ∷ − 8 ∷ − 5 ∷ []) ∷ (+ 4 ∷ − 2 ∷ − 1 ∷ − 3 ∷ − 5 ∷ []) ∷ (+ 2 ∷ − 8 ∷ + 3 ∷ − 9 ∷ − 5 ∷ []) ∷ (+ 0 ∷ − 3 ∷ + 3 ∷ − 9 ∷ − 7 ∷ []) ∷ (+ 4 ∷ − 8 ∷ + 1 ∷ − 7 ∷ − 6 ∷ []) ∷ (+ 0 ∷ − 6 ∷ − 1 ∷ − 4 ∷ − 4 ∷ []) ∷ (+ 1 ∷ − 2 ∷ + 0 ∷ − 7 ∷ − 1 ∷ []) ∷ (+ 3 ∷ − 4 ∷ + 1 ∷ − 4 ∷ − 6 ∷ []) ∷ (+ 4 ∷ − 5 ∷ − 1 ∷ − 7 ∷ − 1 ∷ []) ∷ (+ 3 ∷ − 8 ∷ + 0 ∷ − 6 ∷ − 4 ∷ []) ∷ [];
+      query = + 5 ∷ − 8 ∷ + 3 ∷ − 7 ∷ − 7 ∷ [];
+      tree =
+          node (seg 5 (− 17) (− 7) 120 626 ∷ []) (inner (test 1 2 bySum (− 4)) 1 2)
+          ∷ node (seg 2 (− 6) (− 3) 9 144 ∷ seg 5 (− 13) (− 9) 18 248 ∷ []) (inner (test 4 5 byScatter (+ 16)) 3 4)
+          ∷ node (seg 2 (− 1) (+ 2) 9 81 ∷ seg 5 (− 9) (− 8) 24 86 ∷ []) (inner (test 1 1 bySum (+ 5)) 7 8)
+          ∷ node (seg 2 (− 6) (− 3) 9 144 ∷ seg 3 (− 1) (+ 3) 0 0 ∷ seg 5 (− 16) (− 8) 0 4 ∷ []) (inner (test 2 2 bySum (− 11)) 5 6)
+          ∷ node (seg 2 (− 6) (− 5) 100 121 ∷ seg 3 (+ 1) (+ 3) 0 0 ∷ seg 5 (− 14) (− 13) 9 16 ∷ []) (leaf (1 ∷ 3 ∷ []))
+          ∷ node (seg 1 (+ 0) (+ 4) 0 0 ∷ seg 2 (− 8) (− 6) 0 0 ∷ seg 3 (− 1) (+ 3) 0 0 ∷ seg 5 (− 13) (− 8) 0 4 ∷ []) (inner (test 1 1 bySum (+ 4)) 9 10)
+          ∷ node (seg 1 (+ 0) (+ 0) 0 0 ∷ seg 2 (− 3) (− 3) 0 0 ∷ seg 3 (+ 3) (+ 3) 0 0 ∷ seg 5 (− 16) (− 16) 4 4 ∷ []) (leaf (4 ∷ []))
+          ∷ node (seg 1 (+ 1) (+ 1) 0 0 ∷ seg 2 (− 2) (− 2) 0 0 ∷ seg 5 (− 8) (− 8) 86 86 ∷ []) (leaf (7 ∷ []))
+          ∷ node (seg 1 (+ 3) (+ 4) 0 0 ∷ seg 2 (− 5) (− 2) 0 0 ∷ seg 5 (− 9) (− 9) 24 78 ∷ []) (leaf (2 ∷ 8 ∷ 9 ∷ []))
+          ∷ node (seg 1 (+ 0) (+ 0) 0 0 ∷ seg 2 (− 6) (− 6) 0 0 ∷ seg 3 (− 1) (+ 3) 0 0 ∷ seg 5 (− 12) (− 8) 0 0 ∷ []) (leaf (0 ∷ 6 ∷ []))
+          ∷ node (seg 1 (+ 3) (+ 4) 0 0 ∷ seg 2 (− 8) (− 8) 0 0 ∷ seg 3 (+ 0) (+ 1) 0 0 ∷ seg 5 (− 13) (− 10) 1 4 ∷ []) (leaf (5 ∷ 10 ∷ []))
+          ∷ [];
+      bounds = 1 ∷ 1 ∷ 17 ∷ 1 ∷ 9 ∷ 2 ∷ 54 ∷ 61 ∷ 20 ∷ 31 ∷ 6 ∷ [];
+      match = found 5 6 1 2 (10 ∷ []);
+    }
+    -- two-levels-6: n = 55, cut into 27 and 28, parted by the right half's scatter; its samples run on into a second block
+    ∷ record {
+      measures = measures 55 34 3;
+      traces = (+ 1081 ∷ + 1081 ∷ + 1081 ∷ + 1081 ∷ + 1081 ∷ + 1081 ∷ + 1081 ∷ + 1081 ∷ + 1081 ∷ + 1081 ∷ + 1081 ∷ + 1081 ∷ + 1081 ∷ + 1081 ∷ + 1081 ∷ + 1081 ∷ + 1081 ∷ + 1081 ∷ + 1081 ∷ + 1081 ∷ + 1081 ∷ + 1081 ∷ + 1081 ∷ + 1081 ∷ + 1081 ∷ + 1081 ∷ + 1081 ∷ + 1081 ∷ + 1081 ∷ + 1081 ∷ + 1081 ∷ + 1081 ∷ + 1081 ∷ + 1081 ∷ + 1081 ∷ + 1081 ∷ + 1081 ∷ + 1081 ∷ + 1081 ∷ + 1081 ∷ + 1081 ∷ + 1081 ∷ + 1081 ∷ + 1081 ∷ + 1081 ∷ + 1081 ∷ + 1081 ∷ + 1081 ∷ + 1081 ∷ + 28000 ∷ + 28000 ∷ + 28000 ∷ + 28000 ∷ + 28000 ∷ + 28000 ∷ []) ∷ (+ 1081 ∷ + 1081 ∷ + 1081 ∷ + 1081 ∷ + 1081 ∷ + 1081 ∷ + 1081 ∷ + 1081 ∷ + 1081 ∷ + 1081 ∷ + 1081 ∷ + 1081 ∷ + 1081 ∷ + 1081 ∷ + 1081 ∷ + 1081 ∷ + 1081 ∷ + 1081 ∷ + 1081 ∷ + 1081 ∷ + 1081 ∷ + 1081 ∷ + 1081 ∷ + 1081 ∷ + 1081 ∷ + 1081 ∷ + 1081 ∷ + 1081 ∷ + 1081 ∷ + 1081 ∷ + 1081 ∷ + 1081 ∷ + 1081 ∷ + 1081 ∷ + 1081 ∷ + 1081 ∷ + 1081 ∷ + 28000 ∷ + 28000 ∷ + 28000 ∷ + 28000 ∷ + 28000 ∷ + 28000 ∷ + 28000 ∷ + 28000 ∷ + 28000 ∷ + 28000 ∷ + 28000 ∷ + 28000 ∷ + 28000 ∷ + 28000 ∷ + 28000 ∷ + 28000 ∷ + 28000 ∷ + 28000 ∷ []) ∷ (+ 1081 ∷ + 28000 ∷ + 28000 ∷ + 28000 ∷ + 28000 ∷ + 28000 ∷ + 28000 ∷ + 28000 ∷ + 28000 ∷ + 28000 ∷ + 28000 ∷ + 28000 ∷ + 28000 ∷ + 28000 ∷ + 28000 ∷ + 28000 ∷ + 28000 ∷ + 28000 ∷ + 28000 ∷ + 28000 ∷ + 28000 ∷ + 28000 ∷ + 28000 ∷ + 28000 ∷ + 28000 ∷ + 28000 ∷ + 28000 ∷ + 28000 ∷ + 28000 ∷ + 28000 ∷ + 28000 ∷ + 28000 ∷ + 28000 ∷ + 28000 ∷ + 28000 ∷ + 28000 ∷ + 28000 ∷ + 28000 ∷ + 28000 ∷ + 28000 ∷ + 28000 ∷ + 28000 ∷ + 28000 ∷ + 28000 ∷ + 28000 ∷ + 28000 ∷ + 28000 ∷ + 28000 ∷ + 28000 ∷ + 28000 ∷ + 28000 ∷ + 28000 ∷ + 28000 ∷ + 28000 ∷ + 28000 ∷ []) ∷ (+ 1081 ∷ + 1081 ∷ + 1081 ∷ + 1081 ∷ + 1081 ∷ + 1081 ∷ + 1081 ∷ + 1081 ∷ + 1081 ∷ + 1081 ∷ + 1081 ∷ + 1081 ∷ + 1081 ∷ + 1081 ∷ + 1081 ∷ + 1081 ∷ + 1081 ∷ + 1081 ∷ + 1081 ∷ + 28000 ∷ + 28000 ∷ + 28000 ∷ + 28000 ∷ + 28000 ∷ + 28000 ∷ + 28000 ∷ + 28000 ∷ + 28000 ∷ + 28000 ∷ + 28000 ∷ + 28000 ∷ + 28000 ∷ + 28000 ∷ + 28000 ∷ + 28000 ∷ + 28000 ∷ + 28000 ∷ + 28000 ∷ + 28000 ∷ + 28000 ∷ + 28000 ∷ + 28000 ∷ + 28000 ∷ + 28000 ∷ + 28000 ∷ + 28000 ∷ + 28000 ∷ + 28000 ∷ + 28000 ∷ + 28000 ∷ + 28000 ∷ + 28000 ∷ + 28000 ∷ + 28000 ∷ + 28000 ∷ []) ∷ (+ 1081 ∷ + 1081 ∷ + 1081 ∷ + 1081 ∷ + 1081 ∷ + 1081 ∷ + 1081 ∷ + 1081 ∷ + 1081 ∷ + 1081 ∷ + 1081 ∷ + 1081 ∷ + 1081 ∷ + 1081 ∷ + 1081 ∷ + 1081 ∷ + 1081 ∷ + 1081 ∷ + 1081 ∷ + 1081 ∷ + 1081 ∷ + 1081 ∷ + 1081 ∷ + 1081 ∷ + 1081 ∷ + 1081 ∷ + 1081 ∷ + 1081 ∷ + 1081 ∷ + 1081 ∷ + 1081 ∷ + 1081 ∷ + 1081 ∷ + 1081 ∷ + 1081 ∷ + 1081 ∷ + 28000 ∷ + 28000 ∷ + 28000 ∷ + 28000 ∷ + 28000 ∷ + 28000 ∷ + 28000 ∷ + 28000 ∷ + 28000 ∷ + 28000 ∷ + 28000 ∷ + 28000 ∷ + 28000 ∷ + 28000 ∷ + 28000 ∷ + 28000 ∷ + 28000 ∷ + 28000 ∷ + 28000 ∷ []) ∷ [];
+      query = + 1081 ∷ + 1081 ∷ + 1081 ∷ + 1081 ∷ + 1081 ∷ + 1081 ∷ + 1081 ∷ + 1081 ∷ + 1081 ∷ + 1081 ∷ + 1081 ∷ + 1081 ∷ + 1081 ∷ + 1081 ∷ + 1081 ∷ + 1081 ∷ + 1081 ∷ + 1081 ∷ + 1081 ∷ + 1081 ∷ + 1081 ∷ + 1081 ∷ + 1081 ∷ + 1081 ∷ + 1081 ∷ + 1081 ∷ + 1081 ∷ + 1081 ∷ + 1081 ∷ + 1081 ∷ + 1081 ∷ + 1081 ∷ + 1081 ∷ + 1081 ∷ + 1081 ∷ + 1081 ∷ + 1081 ∷ + 1081 ∷ + 1081 ∷ + 1081 ∷ + 1081 ∷ + 1081 ∷ + 1081 ∷ + 1081 ∷ + 1081 ∷ + 28000 ∷ + 28000 ∷ + 28000 ∷ + 28000 ∷ + 28000 ∷ + 28000 ∷ + 28000 ∷ + 28000 ∷ + 28000 ∷ + 28000 ∷ [];
+      tree =
+          node (seg 55 (+ 220969) (+ 1513081) 39130158294 495648671724 ∷ []) (inner (test 28 55 byScatter (+ 130433860980)) 1 2)
+          ∷ node (seg 27 (+ 244539) (+ 729081) 18840446586 110144149272 ∷ seg 55 (+ 784000) (+ 784000) 0 0 ∷ []) (leaf (2 ∷ 3 ∷ []))
+          ∷ node (seg 27 (+ 29187) (+ 29187) 0 0 ∷ seg 55 (+ 191782) (+ 541729) 95651498052 130433860980 ∷ []) (leaf (0 ∷ 1 ∷ 4 ∷ []))
+          ∷ [];
+      bounds = 0 ∷ 15458815513 ∷ 0 ∷ [];
+      match = found 0 2898530244 1 3 (2 ∷ []);
+    }
+    -- tiny-5: a tie in gain at node 1 between the left half by scatter and the right half by sum: the earlier one wins
+    ∷ record {
+      measures = measures 5 22 2;
+      traces = (+ 1 ∷ − 2 ∷ − 2 ∷ + 2 ∷ − 1 ∷ []) ∷ (+ 1 ∷ + 0 ∷ + 2 ∷ + 2 ∷ + 0 ∷ []) ∷ (− 1 ∷ − 1 ∷ + 0 ∷ + 2 ∷ + 1 ∷ []) ∷ (+ 2 ∷ − 1 ∷ − 1 ∷ + 1 ∷ − 1 ∷ []) ∷ (− 1 ∷ + 0 ∷ + 1 ∷ − 1 ∷ + 1 ∷ []) ∷ [];
+      query = − 2 ∷ − 1 ∷ + 0 ∷ + 2 ∷ + 2 ∷ [];
+      tree =
+          node (seg 5 (− 2) (+ 5) 20 66 ∷ []) (inner (test 1 5 bySum (+ 3)) 1 2)
+          ∷ node (seg 5 (− 2) (+ 1) 20 66 ∷ []) (inner (test 1 2 byScatter (+ 9)) 3 4)
+          ∷ node (seg 5 (+ 5) (+ 5) 20 20 ∷ []) (leaf (1 ∷ []))
+          ∷ node (seg 2 (− 2) (− 1) 0 1 ∷ seg 5 (+ 1) (+ 3) 6 8 ∷ []) (leaf (2 ∷ 4 ∷ []))
+          ∷ node (seg 2 (− 1) (+ 1) 9 9 ∷ seg 5 (− 1) (− 1) 8 26 ∷ []) (leaf (0 ∷ 3 ∷ []))
+          ∷ [];
+      bounds = 0 ∷ 0 ∷ 5 ∷ 2 ∷ 13 ∷ [];
+      match = found 2 2 1 2 (3 ∷ []);
+    }
+    -- constant-5: a tie in gain at every split, whole segment and both halves by sum: the whole segment is first
+    ∷ record {
+      measures = measures 4 11 2;
+      traces = (− 5 ∷ − 5 ∷ − 5 ∷ − 5 ∷ []) ∷ (− 46 ∷ − 46 ∷ − 46 ∷ − 46 ∷ []) ∷ (+ 94 ∷ + 94 ∷ + 94 ∷ + 94 ∷ []) ∷ (+ 72 ∷ + 72 ∷ + 72 ∷ + 72 ∷ []) ∷ (+ 74 ∷ + 74 ∷ + 74 ∷ + 74 ∷ []) ∷ (− 25 ∷ − 25 ∷ − 25 ∷ − 25 ∷ []) ∷ (− 98 ∷ − 98 ∷ − 98 ∷ − 98 ∷ []) ∷ (− 86 ∷ − 86 ∷ − 86 ∷ − 86 ∷ []) ∷ (+ 86 ∷ + 86 ∷ + 86 ∷ + 86 ∷ []) ∷ (− 20 ∷ − 20 ∷ − 20 ∷ − 20 ∷ []) ∷ [];
+      query = − 44 ∷ − 44 ∷ − 44 ∷ − 44 ∷ [];
+      tree =
+          node (seg 4 (− 392) (+ 376) 0 0 ∷ []) (inner (test 1 4 bySum (+ 192)) 1 2)
+          ∷ node (seg 4 (− 392) (− 20) 0 0 ∷ []) (inner (test 1 4 bySum (− 204)) 5 6)
+          ∷ node (seg 4 (+ 288) (+ 376) 0 0 ∷ []) (inner (test 1 4 bySum (+ 664)) 3 4)
+          ∷ node (seg 4 (+ 288) (+ 296) 0 0 ∷ []) (leaf (3 ∷ 4 ∷ []))
+          ∷ node (seg 4 (+ 344) (+ 376) 0 0 ∷ []) (leaf (2 ∷ 8 ∷ []))
+          ∷ node (seg 4 (− 392) (− 184) 0 0 ∷ []) (inner (test 1 4 bySum (− 576)) 7 8)
+          ∷ node (seg 4 (− 100) (− 20) 0 0 ∷ []) (inner (test 1 4 bySum (− 120)) 9 10)
+          ∷ node (seg 4 (− 392) (− 344) 0 0 ∷ []) (leaf (6 ∷ 7 ∷ []))
+          ∷ node (seg 4 (− 184) (− 184) 0 0 ∷ []) (leaf (1 ∷ []))
+          ∷ node (seg 4 (− 100) (− 80) 0 0 ∷ []) (leaf (5 ∷ 9 ∷ []))
+          ∷ node (seg 4 (− 20) (− 20) 0 0 ∷ []) (leaf (0 ∷ []))
+          ∷ [];
+      bounds = 0 ∷ 0 ∷ 53824 ∷ 53824 ∷ 67600 ∷ 16 ∷ 1444 ∷ 7056 ∷ 16 ∷ 1444 ∷ 6084 ∷ [];
+      match = found 1 16 1 1 (8 ∷ []);
+    }
+    -- n3-small-9: a tie in gain at node 1 between the whole second segment and its right half; a candidate below zero does not win
+    ∷ record {
+      measures = measures 3 10 4;
+      traces = (+ 2 ∷ − 2 ∷ − 1 ∷ []) ∷ (+ 1 ∷ + 3 ∷ + 0 ∷ []) ∷ (+ 0 ∷ + 1 ∷ − 1 ∷ []) ∷ (+ 1 ∷ + 3 ∷ − 2 ∷ []) ∷ (+ 0 ∷ + 1 ∷ + 3 ∷ []) ∷ (+ 2 ∷ + 1 ∷ + 3 ∷ []) ∷ (+ 0 ∷ − 1 ∷ + 0 ∷ []) ∷ (+ 1 ∷ + 1 ∷ + 1 ∷ []) ∷ [];
+      query = − 2 ∷ − 1 ∷ − 3 ∷ [];
+      tree =
+          node (seg 3 (− 1) (+ 6) 0 38 ∷ []) (inner (test 1 1 bySum (+ 2)) 1 2)
+          ∷ node (seg 1 (+ 0) (+ 1) 0 0 ∷ seg 3 (− 1) (+ 4) 0 25 ∷ []) (inner (test 2 3 bySum (+ 3)) 3 4)
+          ∷ node (seg 1 (+ 2) (+ 2) 0 0 ∷ seg 3 (− 3) (+ 4) 1 4 ∷ []) (leaf (0 ∷ 5 ∷ []))
+          ∷ node (seg 1 (+ 0) (+ 1) 0 0 ∷ seg 3 (− 1) (+ 1) 1 25 ∷ []) (leaf (2 ∷ 3 ∷ 6 ∷ []))
+          ∷ node (seg 1 (+ 0) (+ 1) 0 0 ∷ seg 3 (+ 2) (+ 4) 0 9 ∷ []) (leaf (1 ∷ 4 ∷ 7 ∷ []))
+          ∷ [];
+      bounds = 9 ∷ 9 ∷ 17 ∷ 9 ∷ 22 ∷ [];
+      match = found 2 12 1 3 (3 ∷ []);
+    }
+    -- bits-8: a tie in gain at every split, the fifth time at gain 0; a whole segment of several wins, too
+    ∷ record {
+      measures = measures 6 34 3;
+      traces = (+ 0 ∷ + 1 ∷ + 0 ∷ + 1 ∷ + 1 ∷ + 0 ∷ []) ∷ (+ 1 ∷ + 0 ∷ + 0 ∷ + 0 ∷ + 1 ∷ + 0 ∷ []) ∷ (+ 0 ∷ + 0 ∷ + 1 ∷ + 1 ∷ + 0 ∷ + 0 ∷ []) ∷ (+ 0 ∷ + 1 ∷ + 1 ∷ + 1 ∷ + 1 ∷ + 0 ∷ []) ∷ (+ 0 ∷ + 1 ∷ + 0 ∷ + 0 ∷ + 0 ∷ + 0 ∷ []) ∷ (+ 0 ∷ + 0 ∷ + 0 ∷ + 1 ∷ + 1 ∷ + 0 ∷ []) ∷ (+ 0 ∷ + 0 ∷ + 1 ∷ + 0 ∷ + 0 ∷ + 0 ∷ []) ∷ (+ 1 ∷ + 1 ∷ + 1 ∷ + 1 ∷ + 0 ∷ + 0 ∷ []) ∷ (+ 0 ∷ + 0 ∷ + 1 ∷ + 0 ∷ + 0 ∷ + 1 ∷ []) ∷ (+ 0 ∷ + 1 ∷ + 0 ∷ + 0 ∷ + 1 ∷ + 1 ∷ []) ∷ (+ 1 ∷ + 1 ∷ + 0 ∷ + 1 ∷ + 0 ∷ + 1 ∷ []) ∷ (+ 0 ∷ + 1 ∷ + 1 ∷ + 1 ∷ + 1 ∷ + 0 ∷ []) ∷ (+ 0 ∷ + 1 ∷ + 0 ∷ + 1 ∷ + 0 ∷ + 0 ∷ []) ∷ (+ 0 ∷ + 1 ∷ + 0 ∷ + 0 ∷ + 1 ∷ + 1 ∷ []) ∷ (+ 0 ∷ + 0 ∷ + 0 ∷ + 1 ∷ + 1 ∷ + 1 ∷ []) ∷ (+ 0 ∷ + 0 ∷ + 0 ∷ + 1 ∷ + 1 ∷ + 0 ∷ []) ∷ [];
+      query = + 0 ∷ + 1 ∷ + 0 ∷ + 0 ∷ + 1 ∷ + 1 ∷ [];
+      tree =
+          node (seg 6 (+ 1) (+ 4) 5 9 ∷ []) (inner (test 1 3 bySum (+ 3)) 1 2)
+          ∷ node (seg 3 (+ 0) (+ 1) 0 2 ∷ seg 6 (+ 0) (+ 3) 0 2 ∷ []) (inner (test 4 6 bySum (+ 2)) 3 4)
+          ∷ node (seg 3 (+ 2) (+ 3) 0 2 ∷ seg 6 (+ 1) (+ 2) 2 2 ∷ []) (inner (test 1 3 bySum (+ 5)) 7 8)
+          ∷ node (seg 3 (+ 1) (+ 1) 2 2 ∷ seg 6 (+ 0) (+ 1) 0 2 ∷ []) (inner (test 4 6 bySum (+ 1)) 5 6)
+          ∷ node (seg 3 (+ 0) (+ 1) 0 2 ∷ seg 6 (+ 2) (+ 3) 0 2 ∷ []) (inner (test 1 3 bySum (+ 1)) 11 12)
+          ∷ node (seg 3 (+ 1) (+ 1) 2 2 ∷ seg 6 (+ 0) (+ 0) 0 0 ∷ []) (leaf (4 ∷ 6 ∷ []))
+          ∷ node (seg 3 (+ 1) (+ 1) 2 2 ∷ seg 6 (+ 1) (+ 1) 2 2 ∷ []) (inner (test 1 1 bySum (+ 1)) 9 10)
+          ∷ node (seg 3 (+ 2) (+ 2) 2 2 ∷ seg 6 (+ 2) (+ 2) 2 2 ∷ []) (leaf (3 ∷ 10 ∷ 11 ∷ []))
+          ∷ node (seg 3 (+ 3) (+ 3) 0 0 ∷ seg 6 (+ 1) (+ 1) 2 2 ∷ []) (leaf (7 ∷ []))
+          ∷ node (seg 1 (+ 0) (+ 0) 0 0 ∷ seg 3 (+ 1) (+ 1) 1 1 ∷ seg 6 (+ 1) (+ 1) 2 2 ∷ []) (leaf (2 ∷ 8 ∷ 12 ∷ []))
+          ∷ node (seg 1 (+ 1) (+ 1) 0 0 ∷ seg 3 (+ 0) (+ 0) 0 0 ∷ seg 6 (+ 1) (+ 1) 2 2 ∷ []) (leaf (1 ∷ []))
+          ∷ node (seg 3 (+ 0) (+ 0) 0 0 ∷ seg 6 (+ 2) (+ 3) 0 2 ∷ []) (leaf (5 ∷ 14 ∷ 15 ∷ []))
+          ∷ node (seg 3 (+ 1) (+ 1) 2 2 ∷ seg 6 (+ 2) (+ 2) 2 2 ∷ []) (leaf (0 ∷ 9 ∷ 13 ∷ []))
+          ∷ [];
+      bounds = 0 ∷ 0 ∷ 1 ∷ 1 ∷ 0 ∷ 2 ∷ 1 ∷ 1 ∷ 3 ∷ 1 ∷ 3 ∷ 1 ∷ 0 ∷ [];
+      match = found 9 0 1 3 (12 ∷ []);
+    }
+    -- permuted-then-parted-4: a leaf that nothing parts is parted when trace 4 joins; its larger child stays over size until trace 5 joins
+    ∷ record {
+      measures = measures 2 28 3;
+      traces = (− 259 ∷ + 62 ∷ []) ∷ (− 259 ∷ + 62 ∷ []) ∷ (− 259 ∷ + 62 ∷ []) ∷ (− 259 ∷ + 62 ∷ []) ∷ (− 259 ∷ + 4 ∷ []) ∷ (− 495 ∷ + 62 ∷ []) ∷ [];
+      query = − 259 ∷ + 62 ∷ [];
+      tree =
+          node (seg 2 (− 433) (− 197) 69169 310249 ∷ []) (inner (test 2 2 bySum (+ 66)) 1 2)
+          ∷ node (seg 1 (− 259) (− 259) 0 0 ∷ seg 2 (+ 4) (+ 4) 0 0 ∷ []) (leaf (4 ∷ []))
+          ∷ node (seg 1 (− 495) (− 259) 0 0 ∷ seg 2 (+ 62) (+ 62) 0 0 ∷ []) (inner (test 1 1 bySum (− 754)) 3 4)
+          ∷ node (seg 1 (− 495) (− 495) 0 0 ∷ seg 2 (+ 62) (+ 62) 0 0 ∷ []) (leaf (5 ∷ []))
+          ∷ node (seg 1 (− 259) (− 259) 0 0 ∷ seg 2 (+ 62) (+ 62) 0 0 ∷ []) (leaf (0 ∷ 1 ∷ 2 ∷ 3 ∷ []))
+          ∷ [];
+      bounds = 0 ∷ 3364 ∷ 0 ∷ 55696 ∷ 0 ∷ [];
+      match = found 0 0 1 4 (4 ∷ []);
+    }
+    -- permuted-then-parted-5: the same after eleven equal traces; then three segments
+    ∷ record {
+      measures = measures 4 31 3;
+      traces = (+ 199 ∷ − 143 ∷ + 32 ∷ − 15 ∷ []) ∷ (+ 199 ∷ − 143 ∷ + 32 ∷ − 15 ∷ []) ∷ (+ 199 ∷ − 143 ∷ + 32 ∷ − 15 ∷ []) ∷ (+ 199 ∷ − 143 ∷ + 32 ∷ − 15 ∷ []) ∷ (+ 199 ∷ − 143 ∷ + 32 ∷ − 15 ∷ []) ∷ (+ 199 ∷ − 143 ∷ + 32 ∷ − 15 ∷ []) ∷ (+ 199 ∷ − 143 ∷ + 32 ∷ − 15 ∷ []) ∷ (+ 199 ∷ − 143 ∷ + 32 ∷ − 15 ∷ []) ∷ (+ 199 ∷ − 143 ∷ + 32 ∷ − 15 ∷ []) ∷ (+ 199 ∷ − 143 ∷ + 32 ∷ − 15 ∷ []) ∷ (+ 199 ∷ − 143 ∷ + 32 ∷ − 15 ∷ []) ∷ (+ 199 ∷ + 269 ∷ + 32 ∷ − 15 ∷ []) ∷ (+ 199 ∷ − 143 ∷ + 32 ∷ − 15 ∷ []) ∷ (+ 199 ∷ − 143 ∷ + 32 ∷ − 15 ∷ []) ∷ (+ 199 ∷ − 143 ∷ + 32 ∷ − 15 ∷ []) ∷ (+ 199 ∷ − 143 ∷ + 32 ∷ − 15 ∷ []) ∷ (+ 199 ∷ − 143 ∷ + 32 ∷ − 15 ∷ []) ∷ (+ 199 ∷ − 143 ∷ + 32 ∷ − 15 ∷ []) ∷ (+ 199 ∷ − 143 ∷ + 32 ∷ − 15 ∷ []) ∷ (+ 199 ∷ − 143 ∷ + 32 ∷ + 222 ∷ []) ∷ [];
+      query = + 199 ∷ − 143 ∷ + 338 ∷ − 15 ∷ [];
+      tree =
+          node (seg 4 (+ 73) (+ 485) 217619 345332 ∷ []) (inner (test 1 2 bySum (+ 524)) 1 2)
+          ∷ node (seg 2 (+ 56) (+ 56) 116964 116964 ∷ seg 4 (+ 17) (+ 254) 2209 36100 ∷ []) (inner (test 4 4 bySum (+ 207)) 3 4)
+          ∷ node (seg 2 (+ 468) (+ 468) 4900 4900 ∷ seg 4 (+ 17) (+ 17) 2209 2209 ∷ []) (leaf (11 ∷ []))
+          ∷ node (seg 2 (+ 56) (+ 56) 116964 116964 ∷ seg 3 (+ 32) (+ 32) 0 0 ∷ seg 4 (− 15) (− 15) 0 0 ∷ []) (leaf (0 ∷ 1 ∷ 2 ∷ 3 ∷ 4 ∷ 5 ∷ 6 ∷ 7 ∷ 8 ∷ 9 ∷ 10 ∷ 12 ∷ 13 ∷ 14 ∷ 15 ∷ 16 ∷ 17 ∷ 18 ∷ []))
+          ∷ node (seg 2 (+ 56) (+ 56) 116964 116964 ∷ seg 3 (+ 32) (+ 32) 0 0 ∷ seg 4 (+ 222) (+ 222) 0 0 ∷ []) (leaf (19 ∷ []))
+          ∷ [];
+      bounds = 6084 ∷ 15665 ∷ 215500 ∷ 93636 ∷ 149805 ∷ [];
+      match = found 0 93636 1 18 (3 ∷ []);
+    }
+    -- extremes-4: samples at both limits, and a tie in distance between four traces: the lowest number is named
+    ∷ record {
+      measures = measures 10 15 15;
+      traces = (+ 32767 ∷ + 32767 ∷ − 32768 ∷ − 32768 ∷ − 32768 ∷ + 32767 ∷ − 32768 ∷ + 32767 ∷ + 32767 ∷ + 32767 ∷ []) ∷ (+ 32767 ∷ + 32767 ∷ − 32768 ∷ − 32768 ∷ + 32767 ∷ − 32768 ∷ − 32768 ∷ − 32768 ∷ + 32767 ∷ − 32768 ∷ []) ∷ (+ 32767 ∷ − 32768 ∷ + 32767 ∷ − 32768 ∷ − 32768 ∷ − 32768 ∷ + 32767 ∷ − 32768 ∷ + 32767 ∷ + 32767 ∷ []) ∷ (+ 32767 ∷ − 32768 ∷ + 32767 ∷ + 32767 ∷ − 32768 ∷ + 32767 ∷ − 32768 ∷ − 32768 ∷ + 32767 ∷ + 32767 ∷ []) ∷ (− 32768 ∷ + 32767 ∷ − 32768 ∷ − 32768 ∷ − 32768 ∷ − 32768 ∷ − 32768 ∷ − 32768 ∷ + 32767 ∷ − 32768 ∷ []) ∷ [];
+      query = − 32768 ∷ − 32768 ∷ − 32768 ∷ + 32767 ∷ + 32767 ∷ − 32768 ∷ − 32768 ∷ + 32767 ∷ + 32767 ∷ + 32767 ∷ [];
+      tree =
+          node (seg 10 (− 196610) (+ 65530) 68717379600 107370905625 ∷ []) (leaf (0 ∷ 1 ∷ 2 ∷ 3 ∷ 4 ∷ []))
+          ∷ [];
+      bounds = 0 ∷ [];
+      match = found 0 21474181125 1 5 (0 ∷ []);
+    }
+    -- extremes-6: samples at both limits, parted by sum and then by a half; all three leaves are read
+    ∷ record {
+      measures = measures 12 11 4;
+      traces = (+ 32767 ∷ − 32768 ∷ + 32767 ∷ + 32767 ∷ + 32767 ∷ + 32767 ∷ + 32767 ∷ + 32767 ∷ + 32767 ∷ − 32768 ∷ − 32768 ∷ − 32768 ∷ []) ∷ (+ 32767 ∷ + 32767 ∷ + 32767 ∷ − 32768 ∷ + 32767 ∷ − 32768 ∷ − 32768 ∷ − 32768 ∷ + 32767 ∷ + 32767 ∷ + 32767 ∷ + 32767 ∷ []) ∷ (− 32768 ∷ − 32768 ∷ + 32767 ∷ + 32767 ∷ − 32768 ∷ − 32768 ∷ + 32767 ∷ − 32768 ∷ − 32768 ∷ + 32767 ∷ − 32768 ∷ − 32768 ∷ []) ∷ (+ 32767 ∷ − 32768 ∷ − 32768 ∷ + 32767 ∷ + 32767 ∷ + 32767 ∷ + 32767 ∷ − 32768 ∷ + 32767 ∷ − 32768 ∷ − 32768 ∷ + 32767 ∷ []) ∷ (+ 32767 ∷ + 32767 ∷ + 32767 ∷ − 32768 ∷ + 32767 ∷ − 32768 ∷ + 32767 ∷ − 32768 ∷ + 32767 ∷ − 32768 ∷ + 32767 ∷ + 32767 ∷ []) ∷ (+ 32767 ∷ + 32767 ∷ + 32767 ∷ − 32768 ∷ + 32767 ∷ + 32767 ∷ + 32767 ∷ + 32767 ∷ − 32768 ∷ + 32767 ∷ − 32768 ∷ − 32768 ∷ []) ∷ (− 32768 ∷ − 32768 ∷ + 32767 ∷ − 32768 ∷ + 32767 ∷ − 32768 ∷ − 32768 ∷ − 32768 ∷ − 32768 ∷ − 32768 ∷ − 32768 ∷ + 32767 ∷ []) ∷ (− 32768 ∷ + 32767 ∷ + 32767 ∷ + 32767 ∷ − 32768 ∷ + 32767 ∷ − 32768 ∷ + 32767 ∷ − 32768 ∷ − 32768 ∷ − 32768 ∷ + 32767 ∷ []) ∷ (− 32768 ∷ − 32768 ∷ − 32768 ∷ + 32767 ∷ + 32767 ∷ − 32768 ∷ + 32767 ∷ − 32768 ∷ − 32768 ∷ − 32768 ∷ − 32768 ∷ − 32768 ∷ []) ∷ [];
+      query = − 32768 ∷ + 32767 ∷ + 32767 ∷ + 32767 ∷ + 32767 ∷ − 32768 ∷ + 32767 ∷ − 32768 ∷ − 32768 ∷ + 32767 ∷ − 32768 ∷ − 32768 ∷ [];
+      tree =
+          node (seg 12 (− 196611) (+ 131064) 115960578075 154614104100 ∷ []) (inner (test 1 12 bySum (− 12)) 1 2)
+          ∷ node (seg 12 (− 196611) (− 6) 115960578075 154614104100 ∷ []) (leaf (2 ∷ 6 ∷ 7 ∷ 8 ∷ []))
+          ∷ node (seg 12 (+ 65529) (+ 131064) 137434759200 150319267875 ∷ []) (inner (test 1 6 bySum (+ 196599)) 3 4)
+          ∷ node (seg 6 (+ 65532) (+ 65532) 34358689800 34358689800 ∷ seg 12 (− 3) (+ 65532) 34358689800 38653526025 ∷ []) (leaf (1 ∷ 3 ∷ 4 ∷ []))
+          ∷ node (seg 6 (+ 131067) (+ 131067) 21474181125 21474181125 ∷ seg 12 (− 3) (− 3) 38653526025 38653526025 ∷ []) (leaf (0 ∷ 5 ∷ []))
+          ∷ [];
+      bounds = 0 ∷ 0 ∷ 360422936 ∷ 715806038 ∷ 1703835792 ∷ [];
+      match = found 2 8589672450 3 9 (1 ∷ 3 ∷ 4 ∷ []);
+    }
+    -- tie-distance-2: a tie in distance in one leaf: the lower number is named
+    ∷ record {
+      measures = measures 1 7 4;
+      traces = (− 28 ∷ []) ∷ (− 12 ∷ []) ∷ [];
+      query = − 20 ∷ [];
+      tree =
+          node (seg 1 (− 28) (− 12) 0 0 ∷ []) (leaf (0 ∷ 1 ∷ []))
+          ∷ [];
+      bounds = 0 ∷ [];
+      match = found 0 64 1 2 (0 ∷ []);
+    }
+    -- tiny-4: a tie in distance in one of five leaves; two ties in bound among the leaves that are not read
+    ∷ record {
+      measures = measures 1 9 2;
+      traces = (− 1 ∷ []) ∷ (+ 2 ∷ []) ∷ (− 1 ∷ []) ∷ (+ 0 ∷ []) ∷ (− 2 ∷ []) ∷ (+ 2 ∷ []) ∷ (+ 0 ∷ []) ∷ (+ 1 ∷ []) ∷ [];
+      query = + 0 ∷ [];
+      tree =
+          node (seg 1 (− 2) (+ 2) 0 0 ∷ []) (inner (test 1 1 bySum (+ 1)) 1 2)
+          ∷ node (seg 1 (− 2) (+ 0) 0 0 ∷ []) (inner (test 1 1 bySum (− 1)) 3 4)
+          ∷ node (seg 1 (+ 1) (+ 2) 0 0 ∷ []) (inner (test 1 1 bySum (+ 3)) 7 8)
+          ∷ node (seg 1 (− 2) (− 1) 0 0 ∷ []) (inner (test 1 1 bySum (− 3)) 5 6)
+          ∷ node (seg 1 (+ 0) (+ 0) 0 0 ∷ []) (leaf (3 ∷ 6 ∷ []))
+          ∷ node (seg 1 (− 2) (− 2) 0 0 ∷ []) (leaf (4 ∷ []))
+          ∷ node (seg 1 (− 1) (− 1) 0 0 ∷ []) (leaf (0 ∷ 2 ∷ []))
+          ∷ node (seg 1 (+ 1) (+ 1) 0 0 ∷ []) (leaf (7 ∷ []))
+          ∷ node (seg 1 (+ 2) (+ 2) 0 0 ∷ []) (leaf (1 ∷ 5 ∷ []))
+          ∷ [];
+      bounds = 0 ∷ 0 ∷ 1 ∷ 1 ∷ 0 ∷ 4 ∷ 1 ∷ 1 ∷ 4 ∷ [];
+      match = found 3 0 1 2 (4 ∷ []);
+    }
+    -- tie-bound-8: a tie in bound between leaves 2 and 3, both above the best distance
+    ∷ record {
+      measures = measures 1 30 2;
+      traces = (− 6 ∷ []) ∷ (− 6 ∷ []) ∷ (− 10 ∷ []) ∷ (− 10 ∷ []) ∷ (− 12 ∷ []) ∷ [];
+      query = − 9 ∷ [];
+      tree =
+          node (seg 1 (− 12) (− 6) 0 0 ∷ []) (inner (test 1 1 bySum (− 16)) 1 2)
+          ∷ node (seg 1 (− 12) (− 10) 0 0 ∷ []) (inner (test 1 1 bySum (− 22)) 3 4)
+          ∷ node (seg 1 (− 6) (− 6) 0 0 ∷ []) (leaf (0 ∷ 1 ∷ []))
+          ∷ node (seg 1 (− 12) (− 12) 0 0 ∷ []) (leaf (4 ∷ []))
+          ∷ node (seg 1 (− 10) (− 10) 0 0 ∷ []) (leaf (2 ∷ 3 ∷ []))
+          ∷ [];
+      bounds = 0 ∷ 1 ∷ 9 ∷ 9 ∷ 1 ∷ [];
+      match = found 2 1 1 2 (4 ∷ []);
+    }
+    -- n3-small-4: the nearest trace is in the second leaf read
+    ∷ record {
+      measures = measures 3 7 2;
+      traces = (− 2 ∷ + 0 ∷ + 1 ∷ []) ∷ (+ 0 ∷ + 1 ∷ + 2 ∷ []) ∷ (+ 2 ∷ + 3 ∷ − 1 ∷ []) ∷ [];
+      query = + 1 ∷ + 2 ∷ − 3 ∷ [];
+      tree =
+          node (seg 3 (− 1) (+ 4) 6 26 ∷ []) (inner (test 1 3 bySum (+ 3)) 1 2)
+          ∷ node (seg 3 (− 1) (− 1) 14 14 ∷ []) (leaf (0 ∷ []))
+          ∷ node (seg 3 (+ 3) (+ 4) 6 26 ∷ []) (leaf (1 ∷ 2 ∷ []))
+          ∷ [];
+      bounds = 0 ∷ 2 ∷ 3 ∷ [];
+      match = found 2 6 2 3 (1 ∷ 2 ∷ []);
+    }
+    -- tie-distance-1: all distances and all bounds are equal: an equal bound is still read, so that trace 0 in the last leaf is named
+    ∷ record {
+      measures = measures 2 25 3;
+      traces = (+ 34 ∷ − 31 ∷ []) ∷ (+ 39 ∷ − 26 ∷ []) ∷ (+ 39 ∷ − 26 ∷ []) ∷ (+ 39 ∷ − 26 ∷ []) ∷ (+ 39 ∷ − 26 ∷ []) ∷ (+ 29 ∷ − 26 ∷ []) ∷ (+ 29 ∷ − 26 ∷ []) ∷ (+ 39 ∷ − 26 ∷ []) ∷ (+ 39 ∷ − 26 ∷ []) ∷ (+ 34 ∷ − 21 ∷ []) ∷ (+ 34 ∷ − 31 ∷ []) ∷ (+ 34 ∷ − 31 ∷ []) ∷ (+ 29 ∷ − 26 ∷ []) ∷ (+ 29 ∷ − 26 ∷ []) ∷ (+ 34 ∷ − 31 ∷ []) ∷ (+ 34 ∷ − 31 ∷ []) ∷ (+ 39 ∷ − 26 ∷ []) ∷ (+ 34 ∷ − 31 ∷ []) ∷ (+ 34 ∷ − 21 ∷ []) ∷ (+ 29 ∷ − 26 ∷ []) ∷ (+ 29 ∷ − 26 ∷ []) ∷ (+ 34 ∷ − 31 ∷ []) ∷ (+ 34 ∷ − 21 ∷ []) ∷ (+ 34 ∷ − 21 ∷ []) ∷ [];
+      query = + 34 ∷ − 26 ∷ [];
+      tree =
+          node (seg 2 (+ 3) (+ 13) 3025 4225 ∷ []) (inner (test 1 1 bySum (+ 73)) 1 2)
+          ∷ node (seg 1 (+ 29) (+ 34) 0 0 ∷ seg 2 (− 31) (− 21) 0 0 ∷ []) (inner (test 2 2 bySum (− 52)) 3 4)
+          ∷ node (seg 1 (+ 39) (+ 39) 0 0 ∷ seg 2 (− 26) (− 26) 0 0 ∷ []) (leaf (1 ∷ 2 ∷ 3 ∷ 4 ∷ 7 ∷ 8 ∷ 16 ∷ []))
+          ∷ node (seg 1 (+ 29) (+ 34) 0 0 ∷ seg 2 (− 31) (− 26) 0 0 ∷ []) (inner (test 1 1 bySum (+ 63)) 5 6)
+          ∷ node (seg 1 (+ 34) (+ 34) 0 0 ∷ seg 2 (− 21) (− 21) 0 0 ∷ []) (leaf (9 ∷ 18 ∷ 22 ∷ 23 ∷ []))
+          ∷ node (seg 1 (+ 29) (+ 29) 0 0 ∷ seg 2 (− 26) (− 26) 0 0 ∷ []) (leaf (5 ∷ 6 ∷ 12 ∷ 13 ∷ 19 ∷ 20 ∷ []))
+          ∷ node (seg 1 (+ 34) (+ 34) 0 0 ∷ seg 2 (− 31) (− 31) 0 0 ∷ []) (leaf (0 ∷ 10 ∷ 11 ∷ 14 ∷ 15 ∷ 17 ∷ 21 ∷ []))
+          ∷ [];
+      bounds = 0 ∷ 0 ∷ 25 ∷ 0 ∷ 25 ∷ 25 ∷ 25 ∷ [];
+      match = found 0 25 4 24 (2 ∷ 4 ∷ 5 ∷ 6 ∷ []);
+    }
+    -- near-square-5: the trail is not in the order of numbers; the leaf read last is at a bound of just the distance found there
+    ∷ record {
+      measures = measures 4 16 2;
+      traces = (+ 30 ∷ − 17 ∷ + 33 ∷ + 36 ∷ []) ∷ (+ 43 ∷ − 2 ∷ + 0 ∷ + 34 ∷ []) ∷ (+ 28 ∷ − 19 ∷ + 38 ∷ + 36 ∷ []) ∷ (+ 32 ∷ − 11 ∷ + 5 ∷ + 52 ∷ []) ∷ (+ 59 ∷ − 5 ∷ + 16 ∷ + 44 ∷ []) ∷ (+ 20 ∷ + 19 ∷ + 3 ∷ + 25 ∷ []) ∷ (+ 27 ∷ + 19 ∷ + 33 ∷ + 36 ∷ []) ∷ (+ 22 ∷ + 17 ∷ + 21 ∷ + 24 ∷ []) ∷ (+ 24 ∷ + 19 ∷ + 22 ∷ + 22 ∷ []) ∷ (+ 24 ∷ + 13 ∷ + 6 ∷ + 45 ∷ []) ∷ [];
+      query = + 25 ∷ − 7 ∷ + 13 ∷ + 37 ∷ [];
+      tree =
+          node (seg 4 (+ 67) (+ 115) 51 9796 ∷ []) (inner (test 1 2 bySum (+ 50)) 1 2)
+          ∷ node (seg 2 (+ 9) (+ 21) 1849 2209 ∷ seg 4 (+ 57) (+ 74) 4 2209 ∷ []) (inner (test 1 1 bySum (+ 60)) 3 4)
+          ∷ node (seg 2 (+ 37) (+ 54) 1 4096 ∷ seg 4 (+ 28) (+ 69) 0 1521 ∷ []) (inner (test 1 1 bySum (+ 79)) 5 6)
+          ∷ node (seg 1 (+ 28) (+ 30) 0 0 ∷ seg 2 (− 19) (− 17) 0 0 ∷ seg 4 (+ 69) (+ 74) 4 9 ∷ []) (leaf (0 ∷ 2 ∷ []))
+          ∷ node (seg 1 (+ 32) (+ 32) 0 0 ∷ seg 2 (− 11) (− 11) 0 0 ∷ seg 4 (+ 57) (+ 57) 2209 2209 ∷ []) (leaf (3 ∷ []))
+          ∷ node (seg 1 (+ 20) (+ 27) 0 0 ∷ seg 2 (+ 13) (+ 19) 0 0 ∷ seg 4 (+ 28) (+ 69) 0 1521 ∷ []) (inner (test 3 3 bySum (+ 36)) 7 8)
+          ∷ node (seg 1 (+ 43) (+ 59) 0 0 ∷ seg 2 (− 5) (− 2) 0 0 ∷ seg 4 (+ 34) (+ 60) 784 1156 ∷ []) (leaf (1 ∷ 4 ∷ []))
+          ∷ node (seg 1 (+ 20) (+ 24) 0 0 ∷ seg 2 (+ 13) (+ 19) 0 0 ∷ seg 3 (+ 3) (+ 6) 0 0 ∷ seg 4 (+ 25) (+ 45) 0 0 ∷ []) (leaf (5 ∷ 9 ∷ []))
+          ∷ node (seg 1 (+ 22) (+ 27) 0 0 ∷ seg 2 (+ 17) (+ 19) 0 0 ∷ seg 3 (+ 21) (+ 33) 0 0 ∷ seg 4 (+ 22) (+ 36) 0 0 ∷ []) (inner (test 1 1 bySum (+ 49)) 9 10)
+          ∷ node (seg 1 (+ 22) (+ 24) 0 0 ∷ seg 2 (+ 17) (+ 19) 0 0 ∷ seg 3 (+ 21) (+ 22) 0 0 ∷ seg 4 (+ 22) (+ 24) 0 0 ∷ []) (leaf (7 ∷ 8 ∷ []))
+          ∷ node (seg 1 (+ 27) (+ 27) 0 0 ∷ seg 2 (+ 19) (+ 19) 0 0 ∷ seg 3 (+ 33) (+ 33) 0 0 ∷ seg 4 (+ 36) (+ 36) 0 0 ∷ []) (leaf (6 ∷ []))
+          ∷ [];
+      bounds = 0 ∷ 86 ∷ 181 ∷ 510 ∷ 354 ∷ 400 ∷ 336 ∷ 450 ∷ 641 ∷ 810 ∷ 1081 ∷ [];
+      match = found 3 354 2 3 (6 ∷ 4 ∷ []);
+    }
+    -- near-square-6: node 3, which is cut, and node 6 below it have own bound 0, node 1 above them 1: the path's greatest counts
+    ∷ record {
+      measures = measures 3 22 2;
+      traces = (+ 2 ∷ − 3 ∷ + 6 ∷ []) ∷ (+ 1 ∷ + 2 ∷ + 5 ∷ []) ∷ (+ 1 ∷ + 1 ∷ + 6 ∷ []) ∷ (+ 1 ∷ + 1 ∷ + 6 ∷ []) ∷ (+ 2 ∷ − 1 ∷ + 3 ∷ []) ∷ (− 1 ∷ + 1 ∷ + 9 ∷ []) ∷ (+ 1 ∷ − 1 ∷ + 3 ∷ []) ∷ (+ 0 ∷ + 1 ∷ + 4 ∷ []) ∷ (+ 1 ∷ + 2 ∷ + 5 ∷ []) ∷ (+ 0 ∷ − 2 ∷ + 8 ∷ []) ∷ [];
+      query = + 1 ∷ + 1 ∷ + 3 ∷ [];
+      tree =
+          node (seg 3 (+ 3) (+ 9) 24 168 ∷ []) (inner (test 1 1 bySum (+ 3)) 1 2)
+          ∷ node (seg 1 (− 1) (+ 1) 0 0 ∷ seg 3 (+ 2) (+ 10) 9 100 ∷ []) (inner (test 2 2 bySum (+ 3)) 3 4)
+          ∷ node (seg 1 (+ 2) (+ 2) 0 0 ∷ seg 3 (+ 2) (+ 3) 16 81 ∷ []) (leaf (0 ∷ 4 ∷ []))
+          ∷ node (seg 1 (− 1) (+ 1) 0 0 ∷ seg 2 (− 2) (+ 1) 0 0 ∷ seg 3 (+ 3) (+ 9) 0 0 ∷ []) (inner (test 1 1 bySum (+ 0)) 5 6)
+          ∷ node (seg 1 (+ 1) (+ 1) 0 0 ∷ seg 2 (+ 2) (+ 2) 0 0 ∷ seg 3 (+ 5) (+ 5) 0 0 ∷ []) (leaf (1 ∷ 8 ∷ []))
+          ∷ node (seg 1 (− 1) (+ 0) 0 0 ∷ seg 2 (− 2) (+ 1) 0 0 ∷ seg 3 (+ 4) (+ 9) 0 0 ∷ []) (inner (test 3 3 bySum (+ 13)) 9 10)
+          ∷ node (seg 1 (+ 1) (+ 1) 0 0 ∷ seg 2 (− 1) (+ 1) 0 0 ∷ seg 3 (+ 3) (+ 6) 0 0 ∷ []) (inner (test 2 2 bySum (+ 0)) 7 8)
+          ∷ node (seg 1 (+ 1) (+ 1) 0 0 ∷ seg 2 (− 1) (− 1) 0 0 ∷ seg 3 (+ 3) (+ 3) 0 0 ∷ []) (leaf (6 ∷ []))
+          ∷ node (seg 1 (+ 1) (+ 1) 0 0 ∷ seg 2 (+ 1) (+ 1) 0 0 ∷ seg 3 (+ 6) (+ 6) 0 0 ∷ []) (leaf (2 ∷ 3 ∷ []))
+          ∷ node (seg 1 (+ 0) (+ 0) 0 0 ∷ seg 2 (+ 1) (+ 1) 0 0 ∷ seg 3 (+ 4) (+ 4) 0 0 ∷ []) (leaf (7 ∷ []))
+          ∷ node (seg 1 (− 1) (+ 0) 0 0 ∷ seg 2 (− 2) (+ 1) 0 0 ∷ seg 3 (+ 8) (+ 9) 0 0 ∷ []) (leaf (5 ∷ 9 ∷ []))
+          ∷ [];
+      bounds = 1 ∷ 1 ∷ 4 ∷ 1 ∷ 5 ∷ 2 ∷ 1 ∷ 4 ∷ 9 ∷ 2 ∷ 26 ∷ [];
+      match = found 7 2 1 1 (9 ∷ []);
+    }
+    -- uncut-spread: the leaf's own spread is that of its uncut segments, so the left half gains 4 and wins over the whole segment's 2
+    ∷ record {
+      measures = measures 2 4 1;
+      traces = (− 2 ∷ − 3 ∷ []) ∷ (− 1 ∷ − 3 ∷ []) ∷ [];
+      query = − 1 ∷ − 2 ∷ [];
+      tree =
+          node (seg 2 (− 5) (− 4) 1 4 ∷ []) (inner (test 1 1 bySum (− 3)) 1 2)
+          ∷ node (seg 1 (− 2) (− 2) 0 0 ∷ seg 2 (− 3) (− 3) 0 0 ∷ []) (leaf (0 ∷ []))
+          ∷ node (seg 1 (− 1) (− 1) 0 0 ∷ seg 2 (− 3) (− 3) 0 0 ∷ []) (leaf (1 ∷ []))
+          ∷ [];
+      bounds = 1 ∷ 2 ∷ 1 ∷ [];
+      match = found 1 1 1 1 (2 ∷ []);
+    }
+    -- gain-below-zero: every gain is below zero, and the leaf splits all the same, at -1
+    ∷ record {
+      measures = measures 8 4 2;
+      traces = (+ 1 ∷ + 0 ∷ + 0 ∷ + 0 ∷ + 0 ∷ + 0 ∷ − 1 ∷ + 1 ∷ []) ∷ (+ 0 ∷ + 0 ∷ − 1 ∷ + 0 ∷ + 1 ∷ + 0 ∷ + 1 ∷ + 0 ∷ []) ∷ (+ 0 ∷ + 0 ∷ − 1 ∷ + 1 ∷ + 0 ∷ + 0 ∷ + 1 ∷ + 0 ∷ []) ∷ [];
+      query = + 0 ∷ + 0 ∷ + 0 ∷ + 1 ∷ + 0 ∷ + 1 ∷ + 0 ∷ + 1 ∷ [];
+      tree =
+          node (seg 8 (+ 1) (+ 1) 23 23 ∷ []) (inner (test 1 4 bySum (+ 0)) 1 2)
+          ∷ node (seg 4 (− 1) (+ 0) 3 8 ∷ seg 8 (+ 1) (+ 2) 3 4 ∷ []) (leaf (1 ∷ 2 ∷ []))
+          ∷ node (seg 4 (+ 1) (+ 1) 3 3 ∷ seg 8 (+ 0) (+ 0) 8 8 ∷ []) (leaf (0 ∷ []))
+          ∷ [];
+      bounds = 1 ∷ 1 ∷ 1 ∷ [];
+      match = found 0 4 2 3 (1 ∷ 2 ∷ []);
+    }
+    -- greatest-below-zero: gains of -6, -2, -2, -2: the greatest wins, the earliest of three, below zero as well
+    ∷ record {
+      measures = measures 4 4 2;
+      traces = (+ 2 ∷ + 0 ∷ − 2 ∷ + 1 ∷ []) ∷ (+ 1 ∷ + 0 ∷ − 2 ∷ + 2 ∷ []) ∷ (− 2 ∷ + 2 ∷ + 1 ∷ + 0 ∷ []) ∷ [];
+      query = + 0 ∷ + 1 ∷ + 0 ∷ + 1 ∷ [];
+      tree =
+          node (seg 4 (+ 1) (+ 1) 35 35 ∷ []) (inner (test 1 2 byScatter (+ 17)) 1 2)
+          ∷ node (seg 2 (+ 1) (+ 2) 1 4 ∷ seg 4 (− 1) (+ 0) 9 16 ∷ []) (leaf (0 ∷ 1 ∷ []))
+          ∷ node (seg 2 (+ 0) (+ 0) 16 16 ∷ seg 4 (+ 1) (+ 1) 1 1 ∷ []) (leaf (2 ∷ []))
+          ∷ [];
+      bounds = 3 ∷ 3 ∷ 5 ∷ [];
+      match = found 1 7 2 3 (1 ∷ 2 ∷ []);
+    }
+    -- lowest-number-first: a leaf that five traces leave whole; at the sixth both new leaves 3 and 4 are over size, and 3, 4, 5 split in this order
+    ∷ record {
+      measures = measures 5 8 1;
+      traces = (+ 0 ∷ + 1 ∷ + 0 ∷ + 0 ∷ + 1 ∷ []) ∷ (+ 0 ∷ + 1 ∷ + 0 ∷ + 1 ∷ + 0 ∷ []) ∷ (+ 0 ∷ + 1 ∷ + 1 ∷ + 0 ∷ + 0 ∷ []) ∷ (+ 1 ∷ + 0 ∷ + 0 ∷ + 0 ∷ + 1 ∷ []) ∷ (+ 1 ∷ + 0 ∷ + 1 ∷ + 0 ∷ + 0 ∷ []) ∷ (+ 0 ∷ + 0 ∷ + 0 ∷ + 0 ∷ + 0 ∷ []) ∷ [];
+      query = + 0 ∷ + 0 ∷ + 1 ∷ + 1 ∷ + 0 ∷ [];
+      tree =
+          node (seg 5 (+ 0) (+ 2) 0 6 ∷ []) (inner (test 1 2 bySum (+ 1)) 1 2)
+          ∷ node (seg 2 (+ 0) (+ 0) 0 0 ∷ seg 5 (+ 0) (+ 0) 0 0 ∷ []) (leaf (5 ∷ []))
+          ∷ node (seg 2 (+ 1) (+ 1) 1 1 ∷ seg 5 (+ 1) (+ 1) 2 2 ∷ []) (inner (test 1 1 bySum (+ 1)) 3 4)
+          ∷ node (seg 1 (+ 0) (+ 0) 0 0 ∷ seg 2 (+ 1) (+ 1) 0 0 ∷ seg 5 (+ 1) (+ 1) 2 2 ∷ []) (inner (test 3 3 bySum (+ 1)) 5 6)
+          ∷ node (seg 1 (+ 1) (+ 1) 0 0 ∷ seg 2 (+ 0) (+ 0) 0 0 ∷ seg 5 (+ 1) (+ 1) 2 2 ∷ []) (inner (test 3 3 bySum (+ 1)) 7 8)
+          ∷ node (seg 1 (+ 0) (+ 0) 0 0 ∷ seg 2 (+ 1) (+ 1) 0 0 ∷ seg 3 (+ 0) (+ 0) 0 0 ∷ seg 5 (+ 1) (+ 1) 1 1 ∷ []) (inner (test 4 4 bySum (+ 1)) 9 10)
+          ∷ node (seg 1 (+ 0) (+ 0) 0 0 ∷ seg 2 (+ 1) (+ 1) 0 0 ∷ seg 3 (+ 1) (+ 1) 0 0 ∷ seg 5 (+ 0) (+ 0) 0 0 ∷ []) (leaf (2 ∷ []))
+          ∷ node (seg 1 (+ 1) (+ 1) 0 0 ∷ seg 2 (+ 0) (+ 0) 0 0 ∷ seg 3 (+ 0) (+ 0) 0 0 ∷ seg 5 (+ 1) (+ 1) 1 1 ∷ []) (leaf (3 ∷ []))
+          ∷ node (seg 1 (+ 1) (+ 1) 0 0 ∷ seg 2 (+ 0) (+ 0) 0 0 ∷ seg 3 (+ 1) (+ 1) 0 0 ∷ seg 5 (+ 0) (+ 0) 0 0 ∷ []) (leaf (4 ∷ []))
+          ∷ node (seg 1 (+ 0) (+ 0) 0 0 ∷ seg 2 (+ 1) (+ 1) 0 0 ∷ seg 3 (+ 0) (+ 0) 0 0 ∷ seg 4 (+ 0) (+ 0) 0 0 ∷ seg 5 (+ 1) (+ 1) 0 0 ∷ []) (leaf (0 ∷ []))
+          ∷ node (seg 1 (+ 0) (+ 0) 0 0 ∷ seg 2 (+ 1) (+ 1) 0 0 ∷ seg 3 (+ 0) (+ 0) 0 0 ∷ seg 4 (+ 1) (+ 1) 0 0 ∷ seg 5 (+ 0) (+ 0) 0 0 ∷ []) (leaf (1 ∷ []))
+          ∷ [];
+      bounds = 0 ∷ 2 ∷ 2 ∷ 2 ∷ 2 ∷ 2 ∷ 2 ∷ 2 ∷ 2 ∷ 4 ∷ 2 ∷ [];
+      match = found 1 2 5 5 (1 ∷ 6 ∷ 7 ∷ 8 ∷ 10 ∷ []);
+    }
+    ∷ []
+
+-- ---- the theorem
+
+pub cases-agree : map computed cases ≡ map expected cases
+unfolding everything
+cases-agree = refl

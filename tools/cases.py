@@ -1,0 +1,203 @@
+#!/usr/bin/env python3
+"""Write the table of compared libraries, an antt file, from a file of vectors.
+
+    tools/cases.py LIBRARIES CHOSEN > CASES
+
+LIBRARIES (vectors/libraries.txt) has small libraries with what another implementation of
+document 01 makes of them: the tree, each node's bound for one query, and the match with its
+trail. A library begins with a line `== NAME` and ends with its line `match:`.
+
+CHOSEN (vectors/cases.txt) says which of them the table holds, in which order: a line is a name,
+a colon and what that library shows, in plain words, which becomes the comment in front of its
+case. Empty lines and lines that begin with `#` are skipped.
+
+CASES (crates/dstree/proofs/Cases.antt) is the table with its one theorem: the definitions,
+computed, give the same. Nothing is computed here; figures are carried over as they stand.
+"""
+import re
+import sys
+
+HEAD = """\
+-- Small libraries with what another implementation of document 01 makes of them, as one table; and the definitions give the same, by computation.
+-- Written by `tools/cases.py` from `vectors/libraries.txt`, the libraries that `vectors/cases.txt` names.
+use Prim.Native.Nat.{ℕ}
+use mathlib.Core.Path.{_≡_, refl}
+use mathlib.Core.Bool.{Bool, true}
+use mathlib.Core.Option.{Option, some}
+use mathlib.Core.List.{List, [], _∷_, map}
+use lib.ListN.{length}
+use Rattle.integer.specs.Words.{counting}
+use Rattle.dstree.specs.Measures.{Trace, Measures, measures, sampleLimit, isLibrary}
+use Rattle.dstree.specs.Node.{bySum, byScatter, leaf, inner, node, Tree}
+use Rattle.dstree.specs.Adding.{treeOf}
+use Rattle.dstree.specs.Matching.{bound, Match, matchBySteps, matchOf}
+use Rattle.dstree.specs.WellFormed.{wellFormed}
+use Rattle.dstree.specs.Sheet.{sheetOf, Judged, holds, judgeSheet}
+use Rattle.dstree.specs.Examples.{found}
+use Rattle.dstree.proofs.Notation.{+, −, seg, test}
+use Rattle.dstree.proofs.Everything.{everything}
+
+-- ---- what is compared
+
+-- a library and a query; then what the other implementation says: the tree, the bound of every node, the match with its trail
+pub record Case : Type 0 where
+  pub measures : Measures
+  pub traces : List Trace
+  pub query : Trace
+  pub tree : Tree
+  pub bounds : List ℕ
+  pub match : Match
+
+-- what the definitions say of a library and a query
+pub record Outcome : Type 0 where
+  pub tree : Tree
+  pub bounds : List ℕ
+  pub match : Match
+  pub steps : Option Match
+  pub sound : Bool
+  pub library : Bool
+  pub sheet : Judged
+
+-- computed: the tree from the traces alone, all else on the tree that is given
+abbrev pub computed : Case → Outcome
+computed c = record {
+  tree = treeOf (c .measures) (c .traces);
+  bounds = map (bound (c .tree) (c .query)) (counting (length (c .tree)) 0);
+  match = matchOf (c .traces) (c .tree) (c .query);
+  steps = matchBySteps (c .traces) (c .tree) (c .query);
+  sound = wellFormed sampleLimit (c .measures) (length (c .traces)) (c .tree);
+  library = isLibrary sampleLimit (c .measures) (c .traces);
+  sheet = judgeSheet (sheetOf (c .measures) (c .traces));
+}
+
+-- expected: the given tree, bounds and match, the match by its steps too; well-formed tables of a library, whose sheet reads back
+abbrev pub expected : Case → Outcome
+expected c = record { tree = c .tree; bounds = c .bounds; match = c .match; steps = some (c .match); sound = true; library = true; sheet = holds (c .measures) (c .traces) }
+
+-- ---- the table
+
+abbrev pub cases : List Case
+cases =
+"""
+
+TAIL = """\
+    []
+
+-- ---- the theorem
+
+pub cases-agree : map computed cases ≡ map expected cases
+unfolding everything
+cases-agree = refl
+"""
+
+
+def libraries(text):
+    """The libraries of a vectors file, by name: the lines of each."""
+    found = {}
+    for part in re.split(r"^== ", text, flags=re.M)[1:]:
+        lines = part.rstrip().splitlines()
+        name = lines[0]
+        if name in found:
+            raise SystemExit(f"two libraries are called {name}")
+        found[name] = [line for line in lines[1:] if not line.startswith("#")]
+    return found
+
+
+def chosen(text):
+    """The chosen names with what each shows, in order."""
+    for line in text.splitlines():
+        if line.strip() and not line.startswith("#"):
+            name, colon, shows = line.partition(":")
+            if not colon:
+                raise SystemExit(f"no colon: {line}")
+            yield name.strip(), shows.strip()
+
+
+def numbers(text):
+    """The numbers of a bracketed list."""
+    return [int(x) for x in text.strip("[] ").split(",") if x.strip()]
+
+
+def listed(items):
+    return "".join(f"{item} ∷ " for item in items) + "[]"
+
+
+def signed(x):
+    return f"− {-x}" if x < 0 else f"+ {x}"
+
+
+def signed_list(xs):
+    return listed(signed(x) for x in xs)
+
+
+SEGMENT = re.compile(r"    segment \d+ to (\d+): sum (-?\d+) to (-?\d+), scatter (\d+) to (\d+);")
+LEAF = re.compile(r"node \d+ leaf(?: over size)?, made by trace \d+: traces (\[.*\])$")
+INNER = re.compile(r"node \d+ inner, made by trace \d+: (Sum|Scatter) of samples (\d+) to (\d+), twice at most T = (-?\d+): left (\d+) right (\d+)$")
+BOUND = re.compile(r"    own bound \d+ bound (\d+)$")
+MATCH = re.compile(r"match: trace (\d+) distance (\d+) leaves (\d+) traces (\d+) trail (\[.*\])$")
+HEADING = re.compile(r"n (\d+) capacity (\d+) leaf size (\d+) traces (\d+) nodes (\d+) leaves (\d+)$")
+
+
+def case(name, lines):
+    """One library as a term."""
+    n, capacity, leaf_size, trace_count, node_count, _ = map(int, HEADING.match(lines[0]).groups())
+    traces, query, kinds, segments, bounds, match = [], None, [], [], [], None
+    for line in lines[1:]:
+        if line.startswith("trace "):
+            traces.append(numbers(line[line.index("["):]))
+        elif line.startswith("query: "):
+            query = numbers(line[line.index("["):])
+        elif LEAF.match(line):
+            kinds.append(f"leaf ({listed(numbers(LEAF.match(line).group(1)))})")
+            segments.append([])
+        elif INNER.match(line):
+            figure, first, last, threshold, left, right = INNER.match(line).groups()
+            kinds.append(f"inner (test {first} {last} by{figure} ({signed(int(threshold))})) {left} {right}")
+            segments.append([])
+        elif SEGMENT.match(line):
+            end, least, greatest, low, high = SEGMENT.match(line).groups()
+            segments[-1].append(f"seg {end} ({signed(int(least))}) ({signed(int(greatest))}) {low} {high}")
+        elif BOUND.match(line):
+            bounds.append(BOUND.match(line).group(1))
+        elif MATCH.match(line):
+            match = MATCH.match(line).groups()
+        elif line.strip():
+            raise SystemExit(f"{name}: not understood: {line}")
+    if len(traces) != trace_count or not len(kinds) == len(bounds) == node_count or match is None:
+        raise SystemExit(f"{name}: traces, nodes, bounds or match missing")
+    nodes = [f"node ({listed(s)}) ({k})" for s, k in zip(segments, kinds)]
+    yield "record {"
+    yield f"  measures = measures {n} {capacity} {leaf_size};"
+    yield f"  traces = {listed(f'({signed_list(x)})' for x in traces)};"
+    yield f"  query = {signed_list(query)};"
+    yield f"  tree ="
+    yield f"      {nodes[0]}"
+    for each in nodes[1:]:
+        yield f"      ∷ {each}"
+    yield f"      ∷ [];"
+    yield f"  bounds = {listed(bounds)};"
+    yield f"  match = found {' '.join(match[:4])} ({listed(numbers(match[4]))});"
+    yield "}"
+
+
+def main(words):
+    if len(words) != 2:
+        raise SystemExit(__doc__)
+    with open(words[0], encoding="utf-8") as file:
+        known = libraries(file.read())
+    with open(words[1], encoding="utf-8") as file:
+        names = list(chosen(file.read()))
+    out = [HEAD]
+    for number, (name, shows) in enumerate(names):
+        if name not in known:
+            raise SystemExit(f"no library is called {name}")
+        lines = list(case(name, known[name]))
+        if number:
+            lines[0] = "∷ " + lines[0]
+        out.append(f"    -- {name}: {shows}\n")
+        out.extend(f"    {line}\n" for line in lines)
+    out.append(TAIL.replace("    []", "    ∷ []", 1))
+    sys.stdout.write("".join(out))
+
+
+main(sys.argv[1:])

@@ -17,3 +17,4 @@ pub mod Storing
 pub mod FromTables
 pub mod First
 pub mod Meaning
+pub mod Made

@@ -1,0 +1,8 @@
+pub mod Chain
+pub mod Lent
+pub mod Plain
+pub mod Widened
+pub mod First
+pub mod Down
+pub mod Leaf
+pub mod Ready

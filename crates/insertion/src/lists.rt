@@ -1,0 +1,39 @@
+// A leaf's list of traces by the links: its last one, and how a new one joins it.
+
+ghost use mathlib.Core.Path.{_≡_};
+ghost use Prim.Native.Nat.{_≤_, _<_};
+ghost use lib.ListN.{length};
+ghost use Rattle.integer.specs.Words.{lastOf};
+ghost use Rattle.leaf_figures.specs.Walk.{Rising, numbersOf};
+ghost use Rattle.insertion_memory.specs.Links.{joined};
+
+fn wide(x: u16) -> usize
+    ensures { λ r. ⌜ r ≡ x ⌝ }
+{
+    x as usize
+}
+
+// The last trace of the list that starts at `head`, k traces being stored.
+pub fn last_of(links: &[u16], k: usize, head: usize) -> usize
+    requires { ⌜ (head < k) × (k ≤ length (now links)) × Rising (now links) k ⌝ }
+    ensures { λ r. ⌜ r ≡ lastOf (numbersOf (now (links .entry)) k head) ⌝ }
+{
+    let mut t = head;
+    let mut next = wide(links[t]);
+    while next != 0 {
+        t = next;
+        next = wide(links[t]);
+    }
+    t
+}
+
+// Trace k joins the list that starts at `head`: behind its last, and as the new end. A link that the head gets, or an old link that stays
+// at k, does not meet this.
+pub fn join(links: &mut [u16], k: usize, head: usize)
+    requires { ⌜ (head < k) × (k < length (now links)) × (k ≤ 4096) × Rising (now links) k ⌝ }
+    ensures { λ _. ⌜ now (links .exit) ≡ joined (now (links .entry)) (numbersOf (now (links .entry)) k head) k ⌝ }
+{
+    let last = last_of(links, k, head);
+    links[last] = k as u16;
+    links[k] = 0;
+}

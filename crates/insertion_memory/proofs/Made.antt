@@ -1,0 +1,156 @@
+-- Tables that adding makes of empty ones hold exactly the tree of their traces, and are well formed: each adding stands for an insertion, and the
+-- tree that insertions make is well formed by its laws.
+use Prim.Native.Nat.{ℕ, suc, _+_, _*_, _-_, _<_, _≤_}
+use mathlib.Core.Path.{_≡_, refl, sym, _∙_, ap, ap₂, subst}
+use mathlib.Core.Bool.{true}
+use mathlib.Core.List.{List, [], _∷_, _++_, foldl, flatten, append-assoc, append-nil}
+use native.Mathlib.Omega.{arith}
+use lib.IntN.{pos}
+use lib.ListN.{length, length-map, length-append, length-replicate, length-drop}
+use lib.Signed.{mag}
+use lib.Dec.{T, leb, ltb, eqb, leb→le, le→leb, eqb→eq}
+use Rattle.integer.specs.Words.{counting, every}
+use Rattle.integer.proofs.Tests.{passed, passes}
+use Rattle.integer.proofs.Lists.{In, in-append-left, in-append-right, first, from-every, every-of}
+use Rattle.integer.proofs.Times.{counting-length}
+use Rattle.dstree.specs.Measures.{Trace, Measures, sampleLimit, inRange, isTrace, isLibrary, samplesNeeded, recordsNeeded, linksNeeded, workNeeded}
+use Rattle.dstree.specs.Node.{Tree}
+use Rattle.dstree.specs.Adding.{insertion, grown, treeOf}
+use Rattle.dstree.specs.WellFormed as abstract
+use Rattle.dstree.proofs.Laws.{shape}
+use Rattle.dstree.specs.Book.{Lent}
+use Rattle.tables.specs.Layout.{controlFields, recordPlaces}
+use Rattle.tables.specs.Tables.{Tables, lentOf, measuresOf, traceCount, filled}
+use Rattle.tables.specs.Answers.{opened}
+use Rattle.tables.proofs.Judged.{Room}
+use Rattle.tables.specs.View.{traceIn, treeIn, tracesIn, kindsNamed, wellFormed}
+use Rattle.insertion_memory.specs.Memory.{addedTo}
+use Rattle.insertion_memory.proofs.FromTables.{Long}
+use Rattle.insertion_memory.proofs.Meaning.{Added, meaning, well-formed-after}
+
+-- ---- a library with fewer traces
+
+-- one trace more is inserted last
+pub grown-more : (m : Measures) (stored : List Trace) (tree : Tree) (more : List Trace) (x : Trace) → grown m stored tree (more ++ (x ∷ [])) ≡ insertion m (stored ++ more) (grown m stored tree more) x
+unfolding grown
+grown-more m stored tree [] x = rw (append-nil stored)
+grown-more m stored tree (y ∷ more) x = grown-more m (stored ++ (y ∷ [])) (insertion m stored tree y) more x ∙ ap (λ (l : List Trace). insertion m l (grown m (stored ++ (y ∷ [])) (insertion m stored tree y) more) x) (append-assoc stored (y ∷ []) more)
+
+module _ (limit : ℕ) (m : Measures) (traces more : List Trace) (library : T (isLibrary limit m (traces ++ more))) where
+  each : T (inRange m) × (T (leb (length (traces ++ more)) (m .capacity)) × T (every (isTrace limit (m .n)) (traces ++ more)))
+  unfolding isLibrary
+  each = passed (inRange m) (leb (length (traces ++ more)) (m .capacity) ∷ every (isTrace limit (m .n)) (traces ++ more) ∷ []) library
+
+  pub room : length traces + length more ≤ m .capacity
+  room = omega (arith, leb→le (length (traces ++ more)) (m .capacity) (each .1 .0), length-append traces more)
+
+  pub is-trace : {x : Trace} → In x more → T (isTrace limit (m .n) x)
+  is-trace i = from-every (isTrace limit (m .n)) (traces ++ more) (each .1 .1) (in-append-right traces i)
+
+trace-length : (limit n : ℕ) (x : Trace) → T (isTrace limit n x) → length x ≡ n
+unfolding isTrace
+trace-length limit n x t = eqb→eq (length x) n (passed (eqb (length x) n) (every (λ sample. ltb (mag sample) limit) x ∷ []) t .0)
+
+-- ---- what made tables hold
+
+-- tables that hold these measures and traces: the tree is the one that document 01's steps make of them, and nothing is spoiled
+pub record Holds (t : Tables) (m : Measures) (traces : List Trace) : Type 0 where
+  pub formed : T (wellFormed t)
+  pub long : Long t
+  pub measures-are : measuresOf t ≡ m
+  pub traces-are : tracesIn t ≡ traces
+  -- "The tree is the one that the published DSTree insertion, in document 01's whole numbers, builds from the same traces in the same order"
+  pub tree-is : treeIn t ≡ treeOf m traces
+
+-- as many traces as the control record counts
+pub count-is : (t : Tables) → traceCount t ≡ length (tracesIn t)
+unfolding tracesIn
+count-is t = sym (length-map (counting (traceCount t) 0) (traceIn (t .samples) (measuresOf t .n)) ∙ counting-length (traceCount t) 0)
+
+module _ (m : Measures) where
+  shorter : (traces more : List Trace) → T (isLibrary sampleLimit m (traces ++ more)) → T (isLibrary sampleLimit m traces)
+  unfolding isLibrary
+  shorter traces more library =
+      let p = each sampleLimit m traces more library in
+      passes (inRange m) (leb (length traces) (m .capacity) ∷ every (isTrace sampleLimit (m .n)) traces ∷ [])
+      (p .0, (le→leb (length traces) (m .capacity) (omega (arith, room sampleLimit m traces more library)), every-of (isTrace sampleLimit (m .n)) traces (λ x i. from-every (isTrace sampleLimit (m .n)) (traces ++ more) (p .1 .1) (in-append-left more i))))
+
+  -- an adding to tables that hold some traces leaves tables that hold one more
+  pub holds-more : (t : Tables) (traces : List Trace) (x : Trace) → Holds t m traces → T (isLibrary sampleLimit m (traces ++ (x ∷ []))) → Holds (addedTo t x) m (traces ++ (x ∷ []))
+  holds-more t traces x h library = record {
+    formed = well-formed-after t x (h .formed) (h .long) size less (subst (λ (tree : Tree). T (abstract.wellFormed sampleLimit (measuresOf t) (suc (traceCount t)) tree)) (sym new-tree) new-formed);
+    long = long-after;
+    measures-are = a .measures-stay ∙ h .measures-are;
+    traces-are = a .traces ∙ ap (λ (l : List Trace). l ++ (x ∷ [])) (h .traces-are);
+    tree-is = a .tree ∙ new-tree;
+  }
+    where
+      length-is : length x ≡ m .n
+      length-is = trace-length sampleLimit (m .n) x (is-trace sampleLimit m traces (x ∷ []) library first)
+
+      size : length x ≡ measuresOf t .n
+      size = length-is ∙ ap (λ (k : Measures). k .n) (sym (h .measures-are))
+
+      counted : traceCount t ≡ length traces
+      counted = count-is t ∙ ap length (h .traces-are)
+
+      less : traceCount t < measuresOf t .capacity
+      less = omega (arith, counted, room sampleLimit m traces (x ∷ []) library, ap (λ (k : Measures). k .capacity) (h .measures-are))
+
+      a : Added t x
+      a = meaning t x (h .formed) (h .long) size less
+
+      new-tree : insertion (measuresOf t) (tracesIn t) (treeIn t) x ≡ treeOf m (traces ++ (x ∷ []))
+      new-tree = by (measuresOf t) (tracesIn t) (treeIn t) (h .measures-are) (h .traces-are) (h .tree-is)
+        where
+          by : (k : Measures) (stored : List Trace) (tree : Tree) → k ≡ m → stored ≡ traces → tree ≡ treeOf m traces → insertion k stored tree x ≡ treeOf m (traces ++ (x ∷ []))
+          by k stored tree p q r = rw (p, q, r) (sym (grown-more m [] [] traces x))
+
+      new-formed : T (abstract.wellFormed sampleLimit (measuresOf t) (suc (traceCount t)) (treeOf m (traces ++ (x ∷ []))))
+      new-formed =
+          let e : suc (traceCount t) ≡ length (traces ++ (x ∷ [])) = omega (arith, counted, length-append traces (x ∷ [])) in
+          rw (h .measures-are, e) (shape sampleLimit m (traces ++ (x ∷ [])) library .well-formed)
+
+      long-after : Long (addedTo t x)
+      long-after =
+          let lengths : lentOf (addedTo t x) ≡ lentOf t = a .lengths-stay in
+          record {
+            control-long = subst (λ (l : Lent). controlFields ≤ l .control) (sym lengths) (h .long .control-long);
+            samples-long = subst (λ (k : Measures). samplesNeeded k ≤ length (addedTo t x .samples)) (sym (a .measures-stay)) (subst (λ (l : Lent). samplesNeeded (measuresOf t) ≤ l .samples) (sym lengths) (h .long .samples-long));
+            nodes-long = subst (λ (k : Measures). recordsNeeded k * recordPlaces ≤ length (addedTo t x .nodes)) (sym (a .measures-stay)) (subst (λ (l : Lent). recordsNeeded (measuresOf t) * recordPlaces ≤ l .nodes) (sym lengths) (h .long .nodes-long));
+            links-long = subst (λ (k : Measures). linksNeeded k ≤ length (addedTo t x .links)) (sym (a .measures-stay)) (subst (λ (l : Lent). linksNeeded (measuresOf t) ≤ l .links) (sym lengths) (h .long .links-long));
+          }
+
+  -- addings in order, to tables that hold some traces
+  pub holds-all : (t : Tables) (traces more : List Trace) → Holds t m traces → T (isLibrary sampleLimit m (traces ++ more)) → Holds (foldl addedTo t more) m (traces ++ more)
+  holds-all t traces [] h library = subst (Holds t m) (sym (append-nil traces)) h
+  holds-all t traces (x ∷ more) h library =
+      let e : traces ++ (x ∷ []) ++ more ≡ traces ++ (x ∷ more) = append-assoc traces (x ∷ []) more in
+      let all : T (isLibrary sampleLimit m (traces ++ (x ∷ []) ++ more)) = subst (λ (l : List Trace). T (isLibrary sampleLimit m l)) (sym e) library in
+      subst (Holds (foldl addedTo (addedTo t x) more) m) e (holds-all (addedTo t x) (traces ++ (x ∷ [])) more (holds-more t traces x h (shorter (traces ++ (x ∷ [])) more all)) all)
+
+-- ---- from an opening on
+
+-- what opening leaves has the lengths that it was given
+fill-length : {A : Type 0} (k : ℕ) (z : A) (l : List A) → k ≤ length l → length (filled k z l) ≡ length l
+fill-length k z l h = simp (length-append, length-replicate, length-drop) (omega arith)
+
+module _ (t : Tables) (m : Measures) (range : T (inRange m)) (enough : Room (lentOf t) m) where
+  pub holds-none : Holds (opened t m) m []
+  unfolding opened wellFormed kindsNamed treeIn tracesIn counting every abstract.wellFormed abstract.everyNode abstract.childOnce abstract.inOneLeaf grown samplesNeeded recordsNeeded linksNeeded workNeeded flatten
+  holds-none = record {
+    formed = passes (inRange m) (leb 0 (m .capacity) ∷ true ∷ true ∷ true ∷ true ∷ []) (range, (le→leb 0 (m .capacity) (omega arith), (tt, (tt, (tt, tt)))));
+    long = record {
+      control-long = omega (arith, enough .control-room);
+      samples-long = subst (λ (k : ℕ). m .capacity * m .n ≤ k) (sym (fill-length (m .capacity * m .n) (pos 0) (t .samples) (enough .samples-room))) (enough .samples-room);
+      nodes-long = subst (λ (k : ℕ). (2 * m .capacity - 1) * recordPlaces ≤ k) (sym (fill-length ((2 * m .capacity - 1) * recordPlaces) (pos 0) (t .nodes) (enough .nodes-room))) (enough .nodes-room);
+      links-long = subst (λ (k : ℕ). m .capacity ≤ k) (sym (fill-length {A = ℕ} (m .capacity) 0 (t .links) (enough .links-room))) (enough .links-room);
+    };
+    measures-are = refl;
+    traces-are = refl;
+    tree-is = refl;
+  }
+
+  -- demand 2's sentence on the tree: a library made from an empty one by opening and adding
+  pub made-holds : (traces : List Trace) → T (isLibrary sampleLimit m traces) → Holds (foldl addedTo (opened t m) traces) m traces
+  made-holds traces library = holds-all m (opened t m) [] traces holds-none library

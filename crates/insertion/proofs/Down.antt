@@ -10,6 +10,8 @@ use lib.IntN.{ℤ}
 use lib.ListN.{length, getD, length-map}
 use lib.Dec.{eqb}
 use Rattle.integer.specs.Words.{if_then_else_, counting, lastOf}
+use Rattle.integer.proofs.Times.{counting-length}
+use Rattle.integer.proofs.Rows.{getD-table}
 use Rattle.dstree.specs.Measures.{Trace}
 use Rattle.dstree.specs.Node.{bySum, byScatter, Node, node, leaf, goesLeft, nodeAt}
 use Rattle.dstree.specs.Adding.{nextNode, wayFrom, way}
@@ -110,19 +112,6 @@ module _ {nodes : List ℤ} {count n : ℕ} (ok : Descendable nodes count n) (x 
       ap lastOf (way-step at c h e)
       ∙ (ap (λ (l : List ℕ). lastOf (at ∷ l)) (sym full) ∙ (last-behind nodes x count at c ∙ ap lastOf full))
 
--- ---- what is made of each number in turn
-
-pub counting-length : (k a : ℕ) → length (counting k a) ≡ k
-unfolding counting
-counting-length zero a = refl
-counting-length (suc k) a = ap suc (counting-length k (suc a))
-
-counted : {A : Type 0} (f : ℕ → A) (k a i : ℕ) (d : A) → i < k → getD (map f (counting k a)) i d ≡ f (a + i)
-unfolding counting
-counted f zero a i d h = absurd (omega arith)
-counted f (suc k) a zero d h = let e : a ≡ a + 0 = omega arith in ap f e
-counted f (suc k) a (suc i) d h = let e : suc a + i ≡ a + suc i = omega arith in counted f k (suc a) i d (omega arith) ∙ ap f e
-
 -- ---- the way by the tree that the tables stand for
 
 pub tree-count : (t : Tables) → length (treeIn t) ≡ nodeCount t
@@ -134,7 +123,7 @@ unfolding treeIn
 tree-node t at h =
     let e : 0 + at ≡ at = omega arith in
     let f : ℕ → Node = λ j. nodeIn (t .links) (traceCount t) (recordOf (t .nodes) j) in
-    counted f (nodeCount t) 0 at (node [] (leaf [])) h ∙ ap f e
+    getD-table f (nodeCount t) 0 at (node [] (leaf [])) h ∙ ap f e
 
 module _ (t : Tables) (x : Trace) {n : ℕ} (ok : Descendable (t .nodes) (nodeCount t) n) where
   next-same : (r : List ℤ) (kind : ℕ) → nextNode (kindIn (t .links) (traceCount t) r kind) x ≡ childIn r x kind

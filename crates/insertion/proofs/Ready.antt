@@ -13,6 +13,7 @@ use lib.Dec.{T, leb, leb→le}
 use mir.Facts.{and-yes}
 use Rattle.integer.specs.Words.{counting}
 use Rattle.integer.proofs.Lists.{In, first, later, in-is, from-every, in-counting}
+use Rattle.integer.proofs.Times.{counting-length}
 use Rattle.segment.specs.Limits.{scatterLimit}
 use Rattle.dstree.specs.Measures.{inRange, sampleLimit, recordsNeeded}
 use Rattle.dstree.specs.Figures.{run, width}
@@ -30,7 +31,7 @@ use Rattle.tables.proofs.Frame.{record-length}
 use Rattle.tables.proofs.Range.{InRange, in-range}
 use Rattle.insertion.specs.Widening.{endIn, startIn, SegmentReadable, Readable}
 use Rattle.insertion.specs.Way.{Passable, Descendable, LeavesHold}
-use Rattle.insertion.proofs.Down.{counting-length, tree-count, tree-node}
+use Rattle.insertion.proofs.Down.{tree-count, tree-node}
 
 -- ---- right ends that part the samples
 

@@ -7,6 +7,7 @@ use lib.ListN.{length, set, length-set}
 use lib.Seq.{getD-set-same, drop-set-lt}
 use lib.IntN.{ℤ}
 use Rattle.integer.proofs.Lists.{In, first, later, in-nil, Up, u-none, u-more}
+use Rattle.integer.proofs.Totals.{sumOver}
 use Rattle.dstree.specs.Measures.{Trace}
 use Rattle.dstree.specs.Node.{leaf, Tree, nodeAt, ends}
 use Rattle.dstree.specs.Adding.{segmentsOf, newLeaf}
@@ -15,7 +16,6 @@ use Rattle.dstree.proofs.Parted.{p-last, Fits}
 use Rattle.tables.specs.Tables.{recordOf, withRecord}
 use Rattle.insertion_memory.specs.Records.{leafRecord}
 use Rattle.insertion_memory.specs.Memory.{held}
-use Rattle.insertion_memory.proofs.Listing.{sumOver}
 use Rattle.insertion_memory.proofs.Following.{Linked, l-end}
 use Rattle.insertion_memory.proofs.Sound.{kindWeight, Sound}
 use Rattle.insertion_memory.proofs.SoundSplit.{new-ends}

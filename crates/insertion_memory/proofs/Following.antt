@@ -12,11 +12,10 @@ use lib.Seq.{getD-set-same, getD-set-other, drop-set-lt}
 use lib.Dec.{eqb}
 use borrow.Author.Tests.{eq-eqb, ne-eqb, eqb-true, eqb-false}
 use Rattle.integer.specs.Words.{if_then_else_, lastOf}
-use Rattle.integer.proofs.Lists.{In, first, later, in-nil, in-cons, in-append, Up, u-none, u-more, up-in, up-append}
+use Rattle.integer.proofs.Lists.{In, first, later, in-nil, in-cons, in-append, Up, u-none, u-more, up-in, up-append, up-from, up-length, last-in}
 use Rattle.tables.specs.View.{numbersFrom}
 use Rattle.leaf_figures.specs.Walk.{numbersOf, Rising}
 use Rattle.insertion_memory.specs.Links.{joined, linked}
-use Rattle.insertion_memory.proofs.Listing.{up-from, up-length, last-in}
 
 -- the links follow a list to its end
 pub data Linked (links : List ℕ) : List ℕ → Type 0 where

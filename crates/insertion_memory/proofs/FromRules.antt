@@ -9,13 +9,13 @@ use native.Mathlib.Decide.{decLe}
 use lib.ListN.{length, length-append}
 use lib.Dec.{T}
 use Rattle.integer.proofs.Lists.{In, is-in, in-is, Up, u-none}
+use Rattle.integer.proofs.Totals.{sumOver}
 use Rattle.dstree.specs.Measures.{Measures}
 use Rattle.dstree.specs.Node.{Kind, leaf, inner, Node, Tree, nodeAt}
 use Rattle.dstree.specs.Matching.{numbersIn}
 use Rattle.dstree.specs.WellFormed.{childrenOf, wellFormed}
 use Rattle.dstree.proofs.Formed.{Formed, formed}
 use Rattle.dstree.proofs.Nodes.{numbers-count, children-count}
-use Rattle.insertion_memory.proofs.Listing.{sumOver}
 use Rattle.insertion_memory.proofs.Sound.{kindWeight, weightOf, Full, Sound}
 
 -- ---- weights

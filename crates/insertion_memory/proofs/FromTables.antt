@@ -11,6 +11,7 @@ use mir.Facts.{and-yes}
 use Rattle.integer.specs.Words.{counting}
 use Rattle.integer.proofs.Lists.{In, from-every, in-counting, Up}
 use Rattle.integer.proofs.Times.{counting-length}
+use Rattle.integer.proofs.Rows.{getD-table}
 use Rattle.dstree.specs.Measures.{sampleLimit, inRange, samplesNeeded, recordsNeeded, linksNeeded}
 use Rattle.dstree.specs.Node.{leaf, Node, node, nodeAt}
 use Rattle.dstree.specs.Matching.{numbersIn}
@@ -24,7 +25,6 @@ use Rattle.tables.proofs.Judged.{Room}
 use Rattle.tables.proofs.Range.{InRange, in-range}
 use Rattle.leaf_figures.specs.Walk.{Rising}
 use Rattle.insertion_memory.specs.Memory.{held}
-use Rattle.insertion_memory.proofs.Listing.{getD-table}
 use Rattle.insertion_memory.proofs.Sound.{Sound, nodes-most}
 use Rattle.insertion_memory.proofs.FromRules.{sound}
 use Rattle.insertion_memory.proofs.Placing.{record-inside}

@@ -6,14 +6,13 @@ use native.Mathlib.Omega.{arith}
 use lib.ListN.{length, getD, set, length-set}
 use lib.IntN.{ℤ}
 use Rattle.integer.specs.Words.{lastOf}
-use Rattle.integer.proofs.Lists.{In, Up}
+use Rattle.integer.proofs.Lists.{In, Up, set-cases, last-in}
 use Rattle.dstree.specs.Node.{Kind, leaf, Node, node, Tree, nodeAt}
 use Rattle.dstree.specs.Adding.{joinKind, join}
 use Rattle.dstree.specs.Matching.{numbersIn}
 use Rattle.tables.specs.Tables.{recordOf}
 use Rattle.insertion_memory.specs.Links.{joined}
 use Rattle.insertion_memory.specs.Memory.{Held, held}
-use Rattle.insertion_memory.proofs.Listing.{set-cases, last-in}
 use Rattle.insertion_memory.proofs.Following.{join-at-other, joined-linked, joined-length, joined-behind}
 use Rattle.insertion_memory.proofs.Sound.{number-apart}
 use Rattle.insertion_memory.proofs.SoundJoined.{join-is, join-sound}

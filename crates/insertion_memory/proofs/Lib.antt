@@ -1,5 +1,4 @@
 pub mod Examples
-pub mod Listing
 pub mod ReadBack
 pub mod Following
 pub mod Sides

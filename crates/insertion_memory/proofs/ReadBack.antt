@@ -9,7 +9,7 @@ use lib.Seq.{length-take-le, drop-at, drop-drop, getD-take, getD-drop, getD-appe
 use lib.IntN.{ℤ, pos}
 use borrow.Author.Tests.{le-ltb}
 use Rattle.integer.specs.Words.{counting}
-use Rattle.integer.proofs.Lists.{In, first, later}
+use Rattle.integer.proofs.Lists.{In, first, later, map-agree}
 use Rattle.integer.proofs.Times.{counting-length}
 use Rattle.dstree.specs.Measures.{Trace}
 use Rattle.dstree.specs.Node.{Segment, Figure, bySum, byScatter, Test, changeAll}
@@ -17,7 +17,6 @@ use Rattle.dstree.specs.Adding.{widenSegment}
 use Rattle.tables.specs.Layout.{kindPlace, segmentsPlace, firstPlace, rightPlace, segmentAt, headPlaces, segmentPlaces, recordPlaces}
 use Rattle.tables.specs.View.{smallOf, scatterIn, placeOf, smallAt, segmentIn, segmentsIn, testIn}
 use Rattle.insertion_memory.specs.Records.{segmentFields, fieldsOf, leafRecord, widenRecord, innerKind, innerRecord}
-use Rattle.insertion_memory.proofs.Listing.{map-same}
 
 -- ---- fields
 
@@ -199,7 +198,7 @@ module _ (test : Test) (left right : ℕ) (r : List ℤ) where
   unfolding segmentsIn
   inner-segments =
       ap (λ (q : ℕ). map (segmentIn (innerRecord test left right r)) (counting q 0)) inner-count
-      ∙ map-same (segmentIn (innerRecord test left right r)) (segmentIn r) (counting (smallAt r segmentsPlace) 0) (λ i k. inner-segment i)
+      ∙ map-agree (segmentIn (innerRecord test left right r)) (segmentIn r) (counting (smallAt r segmentsPlace) 0) (λ i k. inner-segment i)
 
   pub inner-length : length r ≡ recordPlaces → length (innerRecord test left right r) ≡ recordPlaces
   unfolding innerRecord

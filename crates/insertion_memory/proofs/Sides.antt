@@ -14,13 +14,12 @@ use lib.Dec.{T, T-not, ltb, leb}
 use mir.Facts.{and-yes}
 use borrow.Author.Tests.{ltb-true, leb-true, lt-ltb, le-ltb}
 use Rattle.integer.specs.Words.{if_then_else_, those, isEmpty}
-use Rattle.integer.proofs.Lists.{In, first, later, in-cons, in-nil, in-append, from-those, in-those, Up, up-those, InMap, of, from-map, fold-in}
+use Rattle.integer.proofs.Lists.{In, first, later, in-cons, in-nil, in-append, from-those, in-those, Up, up-those, InMap, of, from-map, fold-in, those-lengths}
 use Rattle.dstree.specs.Measures.{Trace}
 use Rattle.dstree.specs.Figures.{Run, run}
 use Rattle.dstree.specs.Node.{goesLeft}
 use Rattle.dstree.proofs.Parted.{Parted, p-last, p-more, Fits}
 use Rattle.dstree.specs.Adding.{Candidate, byEither, cutAt, leftHalfEnd, halves, candidatesFrom, candidates, testOf, Split, splitBy, parts, gain, bestOf, best}
-use Rattle.insertion_memory.proofs.Listing.{those-length}
 
 -- at most 16 right ends, none behind sample n
 pub record Few (n : ℕ) (es : List ℕ) : Type 0 where
@@ -186,7 +185,7 @@ module _ {n : ℕ} {numbers : List ℕ} {s : Split} (sides : Sides n numbers s) 
   right-up u = subst (λ (l : List ℕ). Up 0 l) (sym (sides .right-is)) (up-those goesRight u)
 
   pub sides-length : length (s .left) + length (s .right) ≡ length numbers
-  sides-length = rw (sides .left-is, sides .right-is) (those-length (sides .passes) numbers)
+  sides-length = rw (sides .left-is, sides .right-is) (those-lengths (sides .passes) numbers)
 
 best-in : (gainOf : Split → ℤ) (l : List Split) (s : Split) → bestOf gainOf l ≡ some s → In s l
 unfolding bestOf

@@ -7,14 +7,14 @@ use mathlib.Core.Path.{_≡_, refl, sym, _∙_, ap, subst}
 use mathlib.Core.List.{List, [], _∷_}
 use native.Mathlib.Omega.{arith}
 use lib.ListN.{length, length-set, List·getD-eq-default}
-use Rattle.integer.proofs.Lists.{In, in-is, Up}
+use Rattle.integer.proofs.Lists.{In, in-is, Up, set-cases}
+use Rattle.integer.proofs.Totals.{sumOver, sum-same, sum-least}
 use Rattle.dstree.specs.Measures.{Trace}
 use Rattle.dstree.specs.Node.{Segment, Kind, leaf, inner, Node, node, Tree, nodeAt, changeAt, ends, changeAll}
 use Rattle.dstree.specs.Adding.{widenSegment, widen}
 use Rattle.dstree.specs.Matching.{numbersIn}
 use Rattle.dstree.proofs.Parted.{Fits}
 use Rattle.dstree.proofs.Formed.{number-node}
-use Rattle.insertion_memory.proofs.Listing.{sumOver, sum-same, sum-least, set-cases}
 
 -- what stands past the last node
 abbrev pub nothing : Node

@@ -8,12 +8,12 @@ use lib.ListN.{length, set, length-set, length-append, List·getD-eq-default}
 use lib.Dec.{eqb}
 use borrow.Author.Tests.{eq-eqb, ne-eqb}
 use Rattle.integer.specs.Words.{if_then_else_}
-use Rattle.integer.proofs.Lists.{In, first, in-cons, in-nil, in-append, in-append-left, in-append-right, same-or-not, Up, u-none, up-append}
+use Rattle.integer.proofs.Lists.{In, first, in-cons, in-nil, in-append, in-append-left, in-append-right, same-or-not, Up, u-none, up-append, set-cases}
+use Rattle.integer.proofs.Totals.{sumOver, sum-set}
 use Rattle.dstree.specs.Node.{leaf, Node, node, Tree, nodeAt, ends}
 use Rattle.dstree.specs.Adding.{joinKind, join}
 use Rattle.dstree.specs.Matching.{numbersIn}
 use Rattle.dstree.proofs.Parted.{Fits}
-use Rattle.insertion_memory.proofs.Listing.{sumOver, sum-set, set-cases}
 use Rattle.insertion_memory.proofs.Sound.{nothing, kindWeight, weightOf, Full, Sound}
 
 module _ {n k : ℕ} {tree : Tree} (s : Sound n k tree) (at : ℕ) (ns : List ℕ) (inside : at < length tree) (is : nodeAt tree at .kind ≡ leaf ns) where

@@ -10,13 +10,13 @@ use lib.ListN.{length, set, length-set, length-append}
 use lib.Dec.{T, eqb}
 use borrow.Author.Tests.{eq-eqb, ne-eqb}
 use Rattle.integer.specs.Words.{if_then_else_}
-use Rattle.integer.proofs.Lists.{In, in-nil, same-or-not, Up, u-none}
+use Rattle.integer.proofs.Lists.{In, in-nil, same-or-not, Up, u-none, set-cases, two-cases}
+use Rattle.integer.proofs.Totals.{sumOver, sum-append, sum-two, sum-set}
 use Rattle.dstree.specs.Measures.{Trace}
 use Rattle.dstree.specs.Node.{leaf, inner, Node, node, Tree, nodeAt, ends}
 use Rattle.dstree.specs.Adding.{segmentOf, segmentsFrom, newLeaf, Split, splitInto}
 use Rattle.dstree.specs.Matching.{numbersIn}
 use Rattle.dstree.proofs.Parted.{Fits}
-use Rattle.insertion_memory.proofs.Listing.{sumOver, sum-append, sum-two, sum-set, set-cases, two-cases}
 use Rattle.insertion_memory.proofs.Sides.{Sides, from-left, from-right, to-left, to-right, left-up, right-up, sides-length}
 use Rattle.insertion_memory.proofs.Sound.{nothing, kindWeight, weightOf, Full, Sound, owner-inside}
 

@@ -10,6 +10,7 @@ use lib.ListN.{length, getD, drop, length-map}
 use lib.IntN.{ℤ}
 use Rattle.integer.specs.Words.{counting}
 use Rattle.integer.proofs.Lists.{In, first, in-nil, in-map, Up}
+use Rattle.integer.proofs.Rows.{table-is}
 use Rattle.dstree.specs.Measures.{Trace}
 use Rattle.dstree.specs.Node.{Segment, Figure, bySum, byScatter, Test, Kind, leaf, inner, Node, node, Tree, nodeAt, ends, changeAll}
 use Rattle.dstree.specs.Adding.{widenSegment, widen}
@@ -21,7 +22,6 @@ use Rattle.tables.specs.View.{smallOf, placeOf, smallAt, segmentsIn, testIn, nu
 use Rattle.leaf_figures.specs.Walk.{Rising}
 use Rattle.insertion_memory.specs.Records.{leafRecord, widenRecord, innerRecord}
 use Rattle.insertion_memory.specs.Memory.{Held}
-use Rattle.insertion_memory.proofs.Listing.{table-is}
 use Rattle.insertion_memory.proofs.ReadBack.{SmallEnds, leaf-kind, leaf-first, leaf-segments, leaf-length, widen-head, widen-segments, widen-length, kindNumber, inner-kind, inner-left, inner-right, inner-test, inner-segments, inner-length}
 use Rattle.insertion_memory.proofs.Following.{Linked, leaf-follows, leaf-followed, linked-same, link-rises}
 use Rattle.insertion_memory.proofs.Sides.{Few, fits-few}

@@ -8,12 +8,12 @@ use lib.ListN.{length, take, drop}
 use lib.Seq.{take-all, paste, length-paste, drop-paste, drop-drop}
 use lib.IntN.{ℤ, pos}
 use Rattle.integer.specs.Words.{counting}
-use Rattle.integer.proofs.Lists.{from-counting}
+use Rattle.integer.proofs.Lists.{from-counting, map-agree}
+use Rattle.integer.proofs.Rows.{map-append, counting-more}
 use Rattle.dstree.specs.Measures.{Trace}
 use Rattle.tables.specs.View.{traceIn}
 use Rattle.tables.proofs.Frame.{withPart, part-same, part-other}
 use Rattle.leaf_figures.specs.Walk.{storedIn}
-use Rattle.insertion_memory.proofs.Listing.{map-same, map-append, counting-more}
 
 module _ (samples : List ℤ) (n k c : ℕ) (x : Trace) (size : length x ≡ n) (less : k < c) (room : c * n ≤ length samples) where
   abbrev after : List ℤ
@@ -38,7 +38,7 @@ module _ (samples : List ℤ) (n k c : ℕ) (x : Trace) (size : length x ≡ n) 
       let last : traceIn after n (0 + k) ≡ x = ap (λ (i : ℕ). traceIn after n i) (let z : 0 + k ≡ k = omega arith in z) ∙ trace-new in
       ap (λ (l : List ℕ). map (traceIn after n) l) (counting-more k 0)
       ∙ map-append (traceIn after n) (counting k 0) ((0 + k) ∷ [])
-      ∙ rw (map-same (traceIn after n) (traceIn samples n) (counting k 0) (λ i j. trace-old i (omega (arith, from-counting k 0 j .1))), last)
+      ∙ rw (map-agree (traceIn after n) (traceIn samples n) (counting k 0) (λ i j. trace-old i (omega (arith, from-counting k 0 j .1))), last)
 
   pub stored-length : length after ≡ length samples
   stored-length = length-paste samples (k * n) x n (fits k less) (omega arith)

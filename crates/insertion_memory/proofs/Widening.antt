@@ -5,14 +5,13 @@ use mathlib.Core.List.{List, [], _∷_, foldl}
 use native.Mathlib.Omega.{arith}
 use lib.ListN.{length, length-set, List·getD-eq-default}
 use lib.IntN.{ℤ}
-use Rattle.integer.proofs.Lists.{In, first, later}
+use Rattle.integer.proofs.Lists.{In, first, later, set-cases}
 use Rattle.dstree.specs.Measures.{Trace}
 use Rattle.dstree.specs.Node.{leaf, Node, node, Tree, nodeAt, changeAt}
 use Rattle.dstree.specs.Adding.{widen, widenAll}
 use Rattle.tables.specs.Tables.{recordOf}
 use Rattle.insertion_memory.specs.Records.{widenRecord}
 use Rattle.insertion_memory.specs.Memory.{Held, held, onRecord}
-use Rattle.insertion_memory.proofs.Listing.{set-cases}
 use Rattle.insertion_memory.proofs.Sound.{nodes-most, widen-sound}
 use Rattle.insertion_memory.proofs.Placing.{Placed, placed}
 use Rattle.insertion_memory.proofs.Stands.{Reads, reads-widen, Space, Stands}

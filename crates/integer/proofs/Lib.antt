@@ -5,4 +5,6 @@ pub mod Width
 pub mod Tests
 pub mod Lists
 pub mod Times
+pub mod Rows
+pub mod Totals
 pub mod Examples

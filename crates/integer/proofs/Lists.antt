@@ -443,6 +443,15 @@ pub up-in : {k a : ℕ} {l : List ℕ} → Up k l → In a l → k ≤ a
 up-in (u-more h u) first = h
 up-in (u-more h u) (later i) = omega (arith, up-in u i)
 
+pub up-from : {j k : ℕ} {l : List ℕ} → j < k → Up k l → Up (suc j) l
+up-from h u-none = u-none
+up-from {j} {k} h (u-more {a} g u) = u-more {k = suc j} {a = a} (omega arith) u
+
+-- numbers that rise from b on, below k, are at most k − b
+pub up-length : {b : ℕ} {l : List ℕ} (k : ℕ) → b ≤ k → Up b l → ((t : ℕ) → In t l → t < k) → b + length l ≤ k
+up-length k g u-none h = omega arith
+up-length {b} k g (u-more {a} q u) h = omega (arith, up-length k (h a first) u (λ t i. h t (later i)))
+
 pub up-append : {k : ℕ} {l : List ℕ} (number : ℕ) → k ≤ number → Up k l → ((t : ℕ) → In t l → t < number) → Up k (l ++ (number ∷ []))
 up-append {k} number h u-none low = u-more {k = k} {a = number} h u-none
 up-append {k} number h (u-more {a} g u) low = u-more {k = k} {a = a} g (up-append number (low a first) u (λ t i. low t (later i)))

@@ -1,17 +1,17 @@
 -- A walk along the links meets a leaf's numbers one after another. The links rise, so that k + 1 steps are enough, and one more changes nothing.
-use mathlib.Core.Path.{_≡_, refl, ap, _∙_}
-use mathlib.Core.Bool.{Bool, true, false}
+use mathlib.Core.Path.{_≡_, ap, _∙_}
 use mathlib.Core.Logic.{_⊎_, inl, inr}
 use mathlib.Core.List.{List, [], _∷_, map, foldl}
 use Prim.Native.Nat.{ℕ, zero, suc, _+_, _*_, _≤_, _<_}
 use native.Mathlib.Nat.{mul-le-mul-right}
 use native.Mathlib.Omega.{arith}
-use lib.ListN.{length, getD}
+use lib.ListN.{getD}
 use lib.IntN.{ℤ}
 use lib.Dec.{ltb, eqb}
 use borrow.Author.Tests.{lt-ltb, le-ltb, eq-eqb, ne-eqb}
 use Rattle.integer.specs.Words.{if_then_else_, counting}
 use Rattle.integer.proofs.Lists.{In, in-nil, in-cons}
+use Rattle.integer.proofs.Rows.{getD-table}
 use Rattle.tables.specs.View.{traceIn, numbersFrom}
 use Rattle.leaf_figures.specs.Walk.{storedIn, numbersOf, Rising, behindOf, Stored}
 use Rattle.leaf_figures.specs.Runs.{Inside, RunIn}
@@ -82,14 +82,8 @@ module _ {A : Type 0} (step : A → ℕ → A) (links : List ℕ) (k : ℕ) wher
 
 -- ---- the traces that are met
 
-pub at-counting : {B : Type 0} (f : ℕ → B) (d : B) (m a t : ℕ) → t < m → getD (map f (counting m a)) t d ≡ f (a + t)
-unfolding counting
-at-counting f d zero a t h = absurd (omega arith)
-at-counting f d (suc m) a zero h = let e : a ≡ a + 0 = omega arith in ap f e
-at-counting f d (suc m) a (suc t) h = let e : suc a + t ≡ a + suc t = omega arith in at-counting f d m (suc a) t (omega arith) ∙ ap f e
-
 pub stored-at : (samples : List ℤ) (n k t : ℕ) → t < k → getD (storedIn samples n k) t [] ≡ traceIn samples n t
-stored-at samples n k t h = let e : 0 + t ≡ t = omega arith in at-counting (traceIn samples n) [] k 0 t h ∙ ap (traceIn samples n) e
+stored-at samples n k t h = let e : 0 + t ≡ t = omega arith in getD-table (traceIn samples n) k 0 t [] h ∙ ap (traceIn samples n) e
 
 -- .. lie in the table whole
 pub run-in : {samples : List ℤ} {links : List ℕ} {n k head first last : ℕ} → Stored samples links n k head → Inside n first last → (t : ℕ) → t < k → RunIn samples n t first last

@@ -11,9 +11,9 @@ use lib.Dec.{ltb}
 use borrow.Author.Tests.{lt-ltb, le-ltb}
 use Rattle.integer.specs.Words.{if_then_else_, counting}
 use Rattle.integer.proofs.Times.{counting-length}
+use Rattle.integer.proofs.Rows.{getD-table}
 use Rattle.dstree.specs.Adding.{cutAt}
 use Rattle.leaf_figures.specs.Ends.{placeIn}
-use Rattle.leaf_figures.proofs.Listed.{at-counting}
 
 -- the first m places of an array that was filled place by place
 pub filled-is : (f : ℕ → ℕ) (at : List ℕ) (m : ℕ) → m ≤ length at → ((j : ℕ) → j < m → getD at j 0 ≡ f j) → take m at ≡ map f (counting m 0)
@@ -23,7 +23,7 @@ filled-is f at m room h =
     ext-getD 0 (take m at) (map f (counting m 0)) (la ∙ sym lb)
     (λ j q. let u : j < m = omega (arith, la, q) in
     let z : 0 + j ≡ j = omega arith in
-    getD-take m at j 0 u ∙ (h j u ∙ sym (at-counting f 0 m 0 j u ∙ ap f z)))
+    getD-take m at j 0 u ∙ (h j u ∙ sym (getD-table f m 0 j 0 u ∙ ap f z)))
 
 module _ (at : List ℕ) (count : ℕ) (room : count ≤ length at) where
   -- the ends from place i on start with what stands there

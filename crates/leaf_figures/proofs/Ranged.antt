@@ -6,13 +6,13 @@ use Prim.Native.Nat.{ℕ, zero, suc, min, max}
 use native.Mathlib.Omega.{arith}
 use lib.ListN.{getD, replicate}
 use lib.IntN.{ℤ, pos}
-use lib.Dec.{ltb, eqb}
+use lib.Dec.{ltb}
 use borrow.Author.Tests.{ltb-true, ltb-false, eq-eqb}
 use Rattle.integer.specs.Words.{if_then_else_, lesser, greater, those, chosen, leastℤ, greatestℤ, least, greatest}
 use Rattle.dstree.specs.Measures.{Trace}
-use Rattle.dstree.specs.Figures.{Run, sumOn, scatterOn}
+use Rattle.dstree.specs.Figures.{Run, scatterOn}
 use Rattle.dstree.specs.Node.{Segment, bySum, byScatter, figureOf}
-use Rattle.dstree.specs.Adding.{segmentOf, tracesOf}
+use Rattle.dstree.specs.Adding.{segmentOf}
 use Rattle.leaf_figures.specs.Sides.{marked, segmentBy}
 use Rattle.leaf_figures.specs.declared.sides.Figures.{Figures}
 

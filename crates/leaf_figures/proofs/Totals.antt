@@ -1,15 +1,14 @@
 -- A spread's total, segment by segment, and ends that rise.
 use mathlib.Core.Path.{_≡_, refl, sym, subst}
-use mathlib.Core.List.{List, [], _∷_}
-use Prim.Native.Nat.{ℕ, suc, _+_, _≤_, _<_}
-use native.Mathlib.Omega.{arith}
+use mathlib.Core.List.{List, _∷_}
+use Prim.Native.Nat.{ℕ, _+_, _≤_, _<_}
 use native.Mathlib.Numerals.{add-one}
 use lib.ListN.{length, getD, take, drop}
 use Rattle.dstree.specs.Measures.{Trace}
 use Rattle.dstree.specs.Figures.{run}
 use Rattle.dstree.specs.Node.{totalOver}
 use Rattle.dstree.specs.Adding.{segmentOf, segmentsFrom, spreadOn, spread}
-use Rattle.leaf_figures.specs.Ends.{Rise, r-none, r-more}
+use Rattle.leaf_figures.specs.Ends.{Rise, r-more}
 use Rattle.leaf_figures.proofs.Placed.{end-at, no-end}
 
 -- the spread over some ends, the first segment from sample `first` on

@@ -1,17 +1,24 @@
 -- The figures of a side's traces on a run, as they are taken one trace after another. Each trace of a leaf has a mark, and a side is the traces with one mark.
 use Prim.Native.Nat.{ℕ, _^_, _≤_, min, max}
-use mathlib.Core.Bool.{Bool, true, false}
+use mathlib.Core.Bool.{true, false}
 use mathlib.Core.List.{List}
 use lib.IntN.{ℤ, pos, natAbs}
 use lib.ListN.{getD}
 use lib.Dec.{eqb}
 use Rattle.integer.specs.Words.{if_then_else_, lesser, greater, those}
+use Rattle.dstree.specs.Measures.{Trace}
 use Rattle.dstree.specs.Node.{Segment}
+use Rattle.dstree.specs.Adding.{tracesOf}
+use Rattle.leaf_figures.specs.Walk.{storedIn, numbersOf}
 use Rattle.leaf_figures.specs.declared.sides.Figures.{Figures}
 
 -- the numbers with a mark
 abbrev pub marked : List ℕ → ℕ → List ℕ → List ℕ
 marked marks mark numbers = those (λ t. eqb (getD marks t 0) mark) numbers
+
+-- a leaf's traces with a mark
+abbrev pub sideTraces : List ℤ → List ℕ → ℕ → ℕ → ℕ → List ℕ → ℕ → List Trace
+sideTraces samples links n k first marks mark = tracesOf (storedIn samples n k) (marked marks mark (numbersOf links k first))
 
 -- no trace yet
 abbrev pub noFigures : Figures

@@ -6,8 +6,7 @@ ghost use lib.IntN.{natAbs};
 ghost use Rattle.integer.specs.Words.{leastℤ, greatestℤ};
 ghost use Rattle.dstree.specs.Figures.{run};
 ghost use Rattle.dstree.specs.Node.{figureOf};
-ghost use Rattle.dstree.specs.Adding.{tracesOf};
-ghost use Rattle.leaf_figures.specs.Walk.{storedIn, numbersOf, Stored};
+ghost use Rattle.leaf_figures.specs.Walk.{leafTraces, Stored};
 ghost use Rattle.leaf_figures.specs.Runs.{Inside, figureBy};
 
 pub struct Range {
@@ -27,8 +26,8 @@ pub fn leaf_range(
     by_scatter: bool,
 ) -> Range
     requires { ⌜ Stored (now samples) (now links) n k head × Inside n first last ⌝ }
-    ensures least { λ r. ⌜ r .least ≡ leastℤ (map (figureOf (figureBy «by_scatter») (run first last)) (tracesOf (storedIn (now (samples .entry)) n k) (numbersOf (now (links .entry)) k head))) ⌝ }
-    ensures greatest { λ r. ⌜ r .greatest ≡ greatestℤ (map (figureOf (figureBy «by_scatter») (run first last)) (tracesOf (storedIn (now (samples .entry)) n k) (numbersOf (now (links .entry)) k head))) ⌝ }
+    ensures least { λ r. ⌜ r .least ≡ leastℤ (map (figureOf (figureBy «by_scatter») (run first last)) (leafTraces (now (samples .entry)) (now (links .entry)) n k head)) ⌝ }
+    ensures greatest { λ r. ⌜ r .greatest ≡ greatestℤ (map (figureOf (figureBy «by_scatter») (run first last)) (leafTraces (now (samples .entry)) (now (links .entry)) n k head)) ⌝ }
     ensures size { λ r. ⌜ (natAbs (r .least) ≤ 2 ^ 46) × (natAbs (r .greatest) ≤ 2 ^ 46) ⌝ }
 {
     let marks = [0u8; 4096];

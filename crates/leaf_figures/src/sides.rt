@@ -1,18 +1,16 @@
 // The least and greatest figures of a leaf's traces on a run of samples, or of one side of them. Each trace has a mark, and a side is the traces
 // with one mark.
 ghost use mathlib.Core.Path.{_≡_};
-ghost use mathlib.Core.Bool.{Bool};
-ghost use Prim.Native.Nat.{_^_, _≤_, min, max};
-ghost use lib.IntN.{natAbs};
+ghost use Prim.Native.Nat.{min, max};
 ghost use lib.ListN.{length};
 ghost use Rattle.integer.specs.Words as words;
 ghost use Rattle.integer.specs.Words.{if_then_else_};
 ghost use Rattle.dstree.specs.Figures.{run, sumOn, scatterOn};
-ghost use Rattle.dstree.specs.Adding.{segmentOf, tracesOf};
+ghost use Rattle.dstree.specs.Adding.{segmentOf};
 ghost use Rattle.tables.specs.View.{traceIn};
-ghost use Rattle.leaf_figures.specs.Walk.{storedIn, numbersOf, Stored};
+ghost use Rattle.leaf_figures.specs.Walk.{Stored};
 ghost use Rattle.leaf_figures.specs.Runs.{RunIn, Inside};
-ghost use Rattle.leaf_figures.specs.Sides.{marked, withFigures, Small, segmentBy};
+ghost use Rattle.leaf_figures.specs.Sides.{sideTraces, withFigures, Small, segmentBy};
 
 // The figures of no trace are 0.
 pub struct Figures {
@@ -35,16 +33,16 @@ fn greater(a: i64, b: i64) -> i64
     if a < b { b } else { a }
 }
 
-fn smaller(a: u64, b: u64) -> u64
-    ensures { λ r. ⌜ r ≡ min a b ⌝ }
+fn smaller(u: u64, v: u64) -> u64
+    ensures { λ r. ⌜ r ≡ min u v ⌝ }
 {
-    if b < a { b } else { a }
+    if v < u { v } else { u }
 }
 
-fn larger(a: u64, b: u64) -> u64
-    ensures { λ r. ⌜ r ≡ max a b ⌝ }
+fn larger(u: u64, v: u64) -> u64
+    ensures { λ r. ⌜ r ≡ max u v ⌝ }
 {
-    if a < b { b } else { a }
+    if u < v { v } else { u }
 }
 
 // One trace's figures more.
@@ -106,7 +104,7 @@ pub fn side_figures(
     last: usize,
 ) -> Figures
     requires { ⌜ Stored (now samples) (now links) n k head × Inside n first last × (length (now marks) ≡ 4096) ⌝ }
-    ensures { λ r. ⌜ segmentBy last r ≡ segmentOf (tracesOf (storedIn (now (samples .entry)) n k) (marked (now (marks .entry)) mark (numbersOf (now (links .entry)) k head))) (run first last) ⌝ }
+    ensures { λ r. ⌜ segmentBy last r ≡ segmentOf (sideTraces (now (samples .entry)) (now (links .entry)) n k head (now (marks .entry)) mark) (run first last) ⌝ }
     ensures small { λ r. ⌜ Small r ⌝ }
 {
     let mut f = Figures {

@@ -3,10 +3,10 @@ ghost use mathlib.Core.Path.{_≡_};
 ghost use Prim.Native.Nat.{_^_, _≤_};
 ghost use lib.ListN.{length};
 ghost use Rattle.dstree.specs.Figures.{run};
-ghost use Rattle.dstree.specs.Adding.{tracesOf, segmentOf, spreadOn, spread};
-ghost use Rattle.leaf_figures.specs.Walk.{storedIn, numbersOf, Stored};
+ghost use Rattle.dstree.specs.Adding.{segmentOf, spreadOn, spread};
+ghost use Rattle.leaf_figures.specs.Walk.{leafTraces, Stored};
 ghost use Rattle.leaf_figures.specs.Runs.{Inside};
-ghost use Rattle.leaf_figures.specs.Sides.{marked};
+ghost use Rattle.leaf_figures.specs.Sides.{sideTraces};
 ghost use Rattle.leaf_figures.specs.Ends.{endsOf, Room, Rise};
 
 // One segment's term of a side's spread.
@@ -22,7 +22,7 @@ pub fn segment_spread(
     last: usize,
 ) -> u64
     requires { ⌜ Stored (now samples) (now links) n k head × Inside n first last × (length (now marks) ≡ 4096) ⌝ }
-    ensures { λ r. ⌜ r ≡ spreadOn (run first last) (segmentOf (tracesOf (storedIn (now (samples .entry)) n k) (marked (now (marks .entry)) mark (numbersOf (now (links .entry)) k head))) (run first last)) ⌝ }
+    ensures { λ r. ⌜ r ≡ spreadOn (run first last) (segmentOf (sideTraces (now (samples .entry)) (now (links .entry)) n k head (now (marks .entry)) mark) (run first last)) ⌝ }
     ensures size { λ r. ⌜ r ≤ 2 ^ 57 ⌝ }
 {
     let f = crate::sides::side_figures(samples, links, n, k, head, marks, mark, first, last);
@@ -42,7 +42,7 @@ pub fn side_spread(
     e: crate::ends::Ends,
 ) -> u64
     requires { ⌜ Stored (now samples) (now links) n k head × (length (now marks) ≡ 4096) × Room e × Rise n 1 (endsOf e) ⌝ }
-    ensures { λ r. ⌜ r ≡ spread (endsOf e) (tracesOf (storedIn (now (samples .entry)) n k) (marked (now (marks .entry)) mark (numbersOf (now (links .entry)) k head))) ⌝ }
+    ensures { λ r. ⌜ r ≡ spread (endsOf e) (sideTraces (now (samples .entry)) (now (links .entry)) n k head (now (marks .entry)) mark) ⌝ }
     ensures size { λ r. ⌜ r ≤ 2 ^ 61 ⌝ }
 {
     let at = e.at;
@@ -69,7 +69,7 @@ pub fn whole_spread(
     e: crate::ends::Ends,
 ) -> u64
     requires { ⌜ Stored (now samples) (now links) n k head × Room e × Rise n 1 (endsOf e) ⌝ }
-    ensures { λ r. ⌜ r ≡ spread (endsOf e) (tracesOf (storedIn (now (samples .entry)) n k) (numbersOf (now (links .entry)) k head)) ⌝ }
+    ensures { λ r. ⌜ r ≡ spread (endsOf e) (leafTraces (now (samples .entry)) (now (links .entry)) n k head) ⌝ }
     ensures size { λ r. ⌜ r ≤ 2 ^ 61 ⌝ }
 {
     let marks = [0u8; 4096];

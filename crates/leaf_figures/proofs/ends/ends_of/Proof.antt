@@ -1,7 +1,7 @@
 -- `leaf_figures::ends::ends_of` meets its contract: after i turns the first i places hold the first i segments' ends.
-use mathlib.Core.Path.{_≡_, sym, subst, _∙_}
-use mathlib.Core.List.{List, map, map-map}
-use Prim.Native.Nat.{ℕ, _+_, _*_, _-_, _≤_, _<_}
+use mathlib.Core.Path.{_≡_, sym, _∙_}
+use mathlib.Core.List.{map, map-map}
+use Prim.Native.Nat.{ℕ, _-_, _≤_, _<_}
 use native.Mathlib.Omega.{arith}
 use lib.ListN.{length, getD, take, length-set}
 use lib.Seq.{getD-set-same, getD-set-other}
@@ -13,9 +13,6 @@ use Rattle.tables.specs.View.{smallAt, segmentIn, segmentsIn}
 use Rattle.leaf_figures.proofs.Placed.{filled-is}
 use Rattle.leaf_figures.proofs.ends.ends_of.Statement.{statement}
 use Rattle.leaf_figures.proofs.ends.ends_of.Tie as tie
-use Rattle.leaf_figures.proofs.ends.ends_of.Reads as reads
-use Rattle.leaf_figures.proofs.ends.ends_of.Lts as lts
-use Rattle.tables.proofs.records.small_at.Reads as small-at-reads
 
 abbrev Inv-loop : tie.InvT-loop
 Inv-loop «record» count at₀ i₀ at i = (i ≤ count) × (count ≤ 16) × (length at ≡ 16) × ((j : ℕ) → j < i → getD at j 0 ≡ smallAt «record» (segmentAt j))
@@ -23,43 +20,33 @@ Inv-loop «record» count at₀ i₀ at i = (i ≤ count) × (count ≤ 16) × (
 abbrev μ-loop : tie.MeasureT-loop
 μ-loop «record» count at₀ i₀ at i = count - i
 
--- src/ends.rt:23:9
 small-at-requires : tie.Need-small-at-requires Inv-loop μ-loop
 small-at-requires c κs = (c .pre .0, omega arith)
 
--- src/ends.rt:26:5
 loop-holds : tie.Need-loop-holds Inv-loop μ-loop
 loop-holds c = (omega arith, omega (arith, c .small-at .ensures, c .before .pre .1), omega arith, λ j h. absurd (omega arith))
 
--- src/ends.rt:27:55
 mul-small-at : tie.Need-mul-small-at Inv-loop μ-loop
 mul-small-at c = omega arith
 
--- src/ends.rt:27:51
 add-small-at : tie.Need-add-small-at Inv-loop μ-loop
 add-small-at c = omega arith
 
--- src/ends.rt:27:17
 small-at-requires-2 : tie.Need-small-at-requires-2 Inv-loop μ-loop
 small-at-requires-2 c κs = (c .before .before .before .pre .0, omega arith)
 
--- src/ends.rt:27:9
 mul-at : tie.Need-mul-at Inv-loop μ-loop
 mul-at c = omega arith
 
--- src/ends.rt:27:9
 array-write-at : tie.Need-array-write-at Inv-loop μ-loop
 array-write-at c = omega arith
 
--- src/ends.rt:28:9
 add-i : tie.Need-add-i Inv-loop μ-loop
 add-i c = omega arith
 
--- src/ends.rt:26:5
 loop-less : tie.Need-loop-less Inv-loop μ-loop
 loop-less c = omega arith
 
--- src/ends.rt:26:5
 loop-again : tie.Need-loop-again Inv-loop μ-loop
 loop-again c =
     let r = c .before .before .before .before .args .«record» .now in
@@ -72,7 +59,6 @@ loop-again c =
           (getD-set-same (l .at) (l .i) (c .small-at2 .result) 0 (omega (arith, l .inv .2)) ∙ c .small-at2 .ensures),
     )
 
--- src/ends.rt:18:1
 returns : tie.Need-returns Inv-loop μ-loop
 unfolding segmentsIn segmentIn
 returns c =

@@ -1,14 +1,12 @@
 -- `leaf_figures::ends::place_of` meets its contract: the ends passed, and the place among the rest, make the place among all.
-use mathlib.Core.Path.{_≡_, ap, _∙_}
-use Prim.Native.Nat.{ℕ, _+_, _-_, _≤_, _<_}
+use mathlib.Core.Path.{_≡_}
+use Prim.Native.Nat.{_+_, _-_, _≤_}
 use native.Mathlib.Omega.{arith}
-use lib.ListN.{length, take, drop}
+use lib.ListN.{take, drop}
 use Rattle.leaf_figures.specs.Ends.{placeIn}
 use Rattle.leaf_figures.proofs.Placed.{place-here, place-later, place-end}
 use Rattle.leaf_figures.proofs.ends.place_of.Statement.{statement}
 use Rattle.leaf_figures.proofs.ends.place_of.Tie as tie
-use Rattle.leaf_figures.proofs.ends.place_of.Reads as reads
-use Rattle.leaf_figures.proofs.ends.place_of.Lts as lts
 
 abbrev Inv-loop : tie.InvT-loop
 Inv-loop middle at count i₀ i = (i ≤ count) × (i + placeIn middle (drop i (take count at)) ≡ placeIn middle (take count at))
@@ -16,19 +14,15 @@ Inv-loop middle at count i₀ i = (i ≤ count) × (i + placeIn middle (drop i (
 abbrev μ-loop : tie.MeasureT-loop
 μ-loop middle at count i₀ i = count - i
 
--- src/ends.rt:42:5
 loop-holds : tie.Need-loop-holds Inv-loop μ-loop
 loop-holds c = (omega arith, omega arith)
 
--- src/ends.rt:43:21
 mul-if1 : tie.Need-mul-if1 Inv-loop μ-loop
 mul-if1 c = omega (arith, c .before .before .before .pre .few)
 
--- src/ends.rt:43:21
 array-read-if1 : tie.Need-array-read-if1 Inv-loop μ-loop
 array-read-if1 c = omega (arith, c .before .before .before .pre .few)
 
--- src/ends.rt:44:13
 returns : tie.Need-returns Inv-loop μ-loop
 returns c =
     let s = c .before .before .before .before in
@@ -36,15 +30,12 @@ returns c =
     let here = place-here (s .args .e .at) (s .args .e .count) (omega (arith, s .pre .places, s .pre .few)) (s .args .middle) (l .i) (c .before .loop-test .taken) (c .if1 .taken) in
     (omega (arith, l .inv .1, here), omega arith)
 
--- src/ends.rt:46:9
 add-i : tie.Need-add-i Inv-loop μ-loop
 add-i c = omega (arith, c .before .before .before .before .pre .few)
 
--- src/ends.rt:42:5
 loop-less : tie.Need-loop-less Inv-loop μ-loop
 loop-less c = omega arith
 
--- src/ends.rt:42:5
 loop-again : tie.Need-loop-again Inv-loop μ-loop
 loop-again c =
     let s = c .before .before .before .before in
@@ -52,7 +43,6 @@ loop-again c =
     let later = place-later (s .args .e .at) (s .args .e .count) (omega (arith, s .pre .places, s .pre .few)) (s .args .middle) (l .i) (c .before .loop-test .taken) (c .if1 .left) in
     (omega arith, omega (arith, l .inv .1, later))
 
--- src/ends.rt:34:1
 returns-2 : tie.Need-returns-2 Inv-loop μ-loop
 returns-2 c =
     let s = c .before .before .before in

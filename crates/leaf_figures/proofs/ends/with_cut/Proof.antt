@@ -1,16 +1,13 @@
 -- `leaf_figures::ends::with_cut` meets its contract: the ends before the place stay, the new one is put there, and after each turn one more of those
 -- behind it has moved up.
 use mathlib.Core.Path.{_≡_, subst, _∙_}
-use Prim.Native.Nat.{ℕ, _+_, _-_, _≤_, _<_}
+use Prim.Native.Nat.{ℕ, _+_, _-_, _≤_}
 use native.Mathlib.Omega.{arith}
-use lib.ListN.{length, getD, set, take, length-set}
+use lib.ListN.{length, getD, take, length-set}
 use Rattle.leaf_figures.specs.Ends.{placeIn}
 use Rattle.leaf_figures.proofs.Placed.{Moved, moved-none, moved-more, moved-all}
 use Rattle.leaf_figures.proofs.ends.with_cut.Statement.{statement}
 use Rattle.leaf_figures.proofs.ends.with_cut.Tie as tie
-use Rattle.leaf_figures.proofs.ends.with_cut.Reads as reads
-use Rattle.leaf_figures.proofs.ends.with_cut.Lts as lts
-use Rattle.leaf_figures.proofs.ends.place_of.Reads as place-of-reads
 
 abbrev Inv-loop : tie.InvT-loop
 Inv-loop middle place from count at₀ i₀ at i =
@@ -19,19 +16,15 @@ Inv-loop middle place from count at₀ i₀ at i =
 abbrev μ-loop : tie.MeasureT-loop
 μ-loop middle place from count at₀ i₀ at i = count - i
 
--- src/ends.rt:57:9
 place-of-requires : tie.Need-place-of-requires Inv-loop μ-loop
 place-of-requires c κs = c .pre .0
 
--- src/ends.rt:61:5
 mul-at : tie.Need-mul-at Inv-loop μ-loop
 mul-at c = omega (arith, c .before .before .place-of .ensures .1, c .before .before .before .pre .1)
 
--- src/ends.rt:61:5
 array-write-at : tie.Need-array-write-at Inv-loop μ-loop
 array-write-at c = omega (arith, c .before .before .place-of .ensures .1, c .before .before .before .pre .1)
 
--- src/ends.rt:63:5
 loop-holds : tie.Need-loop-holds Inv-loop μ-loop
 loop-holds c =
     let s = c .before .before .before in
@@ -42,35 +35,27 @@ loop-holds c =
       moved-none (s .args .e .at) (s .args .middle) (place .result) (omega (arith, s .pre .0 .places, s .pre .1, place .ensures .1)),
     )
 
--- src/ends.rt:64:21
 mul-at-2 : tie.Need-mul-at-2 Inv-loop μ-loop
 mul-at-2 c = omega (arith, c .before .before .before .before .before .pre .1)
 
--- src/ends.rt:64:21
 array-read-at : tie.Need-array-read-at Inv-loop μ-loop
 array-read-at c = omega (arith, c .before .before .before .before .before .pre .1)
 
--- src/ends.rt:64:12
 add-at : tie.Need-add-at Inv-loop μ-loop
 add-at c = omega (arith, c .before .before .before .before .before .pre .1)
 
--- src/ends.rt:64:9
 mul-at-3 : tie.Need-mul-at-3 Inv-loop μ-loop
 mul-at-3 c = omega (arith, c .before .before .before .before .before .pre .1)
 
--- src/ends.rt:64:9
 array-write-at-2 : tie.Need-array-write-at-2 Inv-loop μ-loop
 array-write-at-2 c = omega (arith, c .before .before .before .before .before .pre .1)
 
--- src/ends.rt:65:9
 add-i : tie.Need-add-i Inv-loop μ-loop
 add-i c = omega (arith, c .before .before .before .before .before .pre .1)
 
--- src/ends.rt:63:5
 loop-less : tie.Need-loop-less Inv-loop μ-loop
 loop-less c = omega arith
 
--- src/ends.rt:63:5
 loop-again : tie.Need-loop-again Inv-loop μ-loop
 loop-again c =
     let s = c .before .before .before .before .before in
@@ -82,11 +67,9 @@ loop-again c =
       moved-more from (s .args .middle) (c .before .before .before .before .place-of .result) (l .at) (l .i) (l .inv .0) (omega (arith, s .pre .0 .places, s .pre .1)) (omega (arith, l .inv .2, s .pre .1)) (l .inv .3),
     )
 
--- src/ends.rt:67:23
 add-t8 : tie.Need-add-t8 Inv-loop μ-loop
 add-t8 c = omega (arith, c .before .before .before .before .before .pre .1)
 
--- src/ends.rt:52:1
 returns : tie.Need-returns Inv-loop μ-loop
 returns c =
     let s = c .before .before .before .before .before in

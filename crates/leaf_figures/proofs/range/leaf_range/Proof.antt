@@ -1,9 +1,9 @@
 -- `leaf_figures::range::leaf_range` meets its contract: with mark 0 everywhere the side is the whole leaf, and its figures are the range's.
-use mathlib.Core.Path.{_≡_, ap, subst, _∙_}
+use mathlib.Core.Path.{_≡_, ap, _∙_}
 use mathlib.Core.List.{List}
-use Prim.Native.Nat.{ℕ, _^_, _≤_}
+use Prim.Native.Nat.{ℕ}
 use native.Mathlib.Omega.{arith}
-use lib.IntN.{ℤ, pos, natAbs}
+use lib.IntN.{pos}
 use mir.Syntax.{w64}
 use mir.Val.{toZ}
 use mir.Facts.{toZ-ofZ}
@@ -16,23 +16,16 @@ use Rattle.leaf_figures.proofs.Ranged.{all-marked, least-sum-is, greate
 use borrow.Author.Needs.{needs}
 use Rattle.leaf_figures.proofs.range.leaf_range.Statement.{statement}
 use Rattle.leaf_figures.proofs.range.leaf_range.Tie as tie
-use Rattle.leaf_figures.proofs.range.leaf_range.Reads as reads
-use Rattle.leaf_figures.proofs.range.leaf_range.Lts as lts
-use Rattle.leaf_figures.proofs.sides.side_figures.Reads as side-figures-reads
 
--- src/range.rt:35:9
 side-figures-requires : tie.Need-side-figures-requires
 side-figures-requires c κs = search needs
 
--- src/range.rt:38:20
 cast-t14 : tie.Need-cast-t14
 cast-t14 c = search needs
 
--- src/range.rt:39:23
 cast-t15 : tie.Need-cast-t15
 cast-t15 c = search needs
 
--- src/range.rt:19:1
 -- the figures are those of all the leaf's traces
 whole : (c : tie.After-side-figures) →
     let a = c .before .before .before .args in
@@ -55,7 +48,6 @@ returns c =
     rw (least-back, greatest-back, c .before .before .if1 .taken)
     (least-scatter-is traces on (f .result) e, (greatest-scatter-is traces on (f .result) e, (omega (arith, m .least-scatter), omega (arith, m .greatest-scatter))))
 
--- src/range.rt:19:1
 returns-2 : tie.Need-returns-2
 returns-2 c =
     let s = c .before .before .before .before .before in

@@ -1,10 +1,10 @@
 -- `leaf_figures::runs::run_figure` meets its contract: a scatter on at most 256 samples has at most 46 bits, which a signed number holds.
-use mathlib.Core.Path.{_≡_, sym, ap, _∙_}
-use Prim.Native.Nat.{ℕ, _*_, _^_, _≤_}
+use mathlib.Core.Path.{_≡_, ap}
+use Prim.Native.Nat.{_^_, _≤_}
 use native.Mathlib.Nat.{mul-le-mul}
 use native.Mathlib.Omega.{arith}
 use borrow.Author.Needs.{needs}
-use lib.IntN.{ℤ, pos, natAbs}
+use lib.IntN.{pos}
 use mir.Syntax.{w64}
 use mir.Val.{SFits, toZ}
 use mir.Facts.{toZ-ofZ}
@@ -13,16 +13,10 @@ use Rattle.dstree.specs.Figures.{run, width}
 use Rattle.dstree.specs.Node.{figureOf}
 use Rattle.leaf_figures.proofs.runs.run_figure.Statement.{statement}
 use Rattle.leaf_figures.proofs.runs.run_figure.Tie as tie
-use Rattle.leaf_figures.proofs.runs.run_figure.Reads as reads
-use Rattle.leaf_figures.proofs.runs.run_figure.Lts as lts
-use Rattle.leaf_figures.proofs.runs.run_scatter.Reads as run-scatter-reads
-use Rattle.leaf_figures.proofs.runs.run_sum.Reads as run-sum-reads
 
--- src/runs.rt:46:9
 run-scatter-requires : tie.Need-run-scatter-requires
 run-scatter-requires c κs = search needs
 
--- src/runs.rt:46:9
 scatter-most : (c : tie.After-run-scatter) → c .run-scatter .result ≤ 2 ^ 46
 scatter-most c =
     let s = c .before .before in
@@ -35,18 +29,15 @@ scatter-fits c = small (omega (arith, scatter-most c))
 cast-result : tie.Need-cast-result
 cast-result c = scatter-fits c
 
--- src/runs.rt:48:9
 run-sum-requires : tie.Need-run-sum-requires
 run-sum-requires c κs = search needs
 
--- src/runs.rt:33:1
 returns : tie.Need-returns
 unfolding figureOf
 returns c =
     let back : toZ w64 (c .run-scatter .result) ≡ pos (c .run-scatter .result) = toZ-ofZ (scatter-fits c) in
     rw (back, c .before .if1 .taken) (ap pos (c .run-scatter .ensures .0), omega (arith, scatter-most c))
 
--- src/runs.rt:33:1
 returns-2 : tie.Need-returns-2
 unfolding figureOf
 returns-2 c =

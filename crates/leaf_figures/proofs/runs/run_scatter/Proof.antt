@@ -7,51 +7,37 @@ use Rattle.segment.specs.Figures.{scatter}
 use Rattle.leaf_figures.proofs.Lent.{lent, lent-is, lent-length}
 use Rattle.leaf_figures.proofs.runs.run_scatter.Statement.{statement}
 use Rattle.leaf_figures.proofs.runs.run_scatter.Tie as tie
-use Rattle.leaf_figures.proofs.runs.run_scatter.Reads as reads
-use Rattle.leaf_figures.proofs.runs.run_scatter.Lts as lts
-use Rattle.segment.proofs.figures.scatter.Reads as scatter-reads
 
--- src/runs.rt:27:13
 mul-a : tie.Need-mul-a
 mul-a c = search needs
 
--- src/runs.rt:27:22
 sub-a : tie.Need-sub-a
 sub-a c = search needs
 
--- src/runs.rt:27:13
 add-a : tie.Need-add-a
 add-a c = search needs
 
--- src/runs.rt:28:13
 mul-e : tie.Need-mul-e
 mul-e c = search needs
 
--- src/runs.rt:28:13
 add-e : tie.Need-add-e
 add-e c = search needs
 
--- src/runs.rt:29:31
 mul-scatter : tie.Need-mul-scatter
 mul-scatter c = search needs
 
--- src/runs.rt:29:31
 sub-scatter : tie.Need-sub-scatter
 sub-scatter c = search needs
 
--- src/runs.rt:29:31
 part-scatter-start : tie.Need-part-scatter-start
 part-scatter-start c = search needs
 
--- src/runs.rt:29:31
 part-scatter-end : tie.Need-part-scatter-end
 part-scatter-end c = search needs
 
--- src/runs.rt:29:5
 scatter-requires : tie.Need-scatter-requires
 scatter-requires c κs = search needs
 
--- src/runs.rt:22:1
 returns : tie.Need-returns
 returns c =
     let s = c .before .before in

@@ -12,51 +12,37 @@ use Rattle.segment.specs.Figures.{sum}
 use Rattle.leaf_figures.proofs.Lent.{lent, lent-is, lent-length}
 use Rattle.leaf_figures.proofs.runs.run_sum.Statement.{statement}
 use Rattle.leaf_figures.proofs.runs.run_sum.Tie as tie
-use Rattle.leaf_figures.proofs.runs.run_sum.Reads as reads
-use Rattle.leaf_figures.proofs.runs.run_sum.Lts as lts
-use Rattle.segment.proofs.figures.sum.Reads as sum-reads
 
--- src/runs.rt:16:13
 mul-a : tie.Need-mul-a
 mul-a c = search needs
 
--- src/runs.rt:16:22
 sub-a : tie.Need-sub-a
 sub-a c = search needs
 
--- src/runs.rt:16:13
 add-a : tie.Need-add-a
 add-a c = search needs
 
--- src/runs.rt:17:13
 mul-e : tie.Need-mul-e
 mul-e c = search needs
 
--- src/runs.rt:17:13
 add-e : tie.Need-add-e
 add-e c = search needs
 
--- src/runs.rt:18:27
 mul-sum : tie.Need-mul-sum
 mul-sum c = search needs
 
--- src/runs.rt:18:27
 sub-sum : tie.Need-sub-sum
 sub-sum c = search needs
 
--- src/runs.rt:18:27
 part-sum-start : tie.Need-part-sum-start
 part-sum-start c = search needs
 
--- src/runs.rt:18:27
 part-sum-end : tie.Need-part-sum-end
 part-sum-end c = search needs
 
--- src/runs.rt:18:5
 sum-requires : tie.Need-sum-requires
 sum-requires c κs = search needs
 
--- src/runs.rt:11:1
 returns : tie.Need-returns
 returns c =
     let s = c .before .before in

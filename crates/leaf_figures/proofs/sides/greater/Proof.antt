@@ -1,20 +1,16 @@
 -- `leaf_figures::sides::greater` meets its contract: the test is that of the definition, on the parameters themselves.
-use mathlib.Core.Path.{_≡_, sym, _∙_}
+use mathlib.Core.Path.{sym, _∙_}
 use mir.Syntax.{w64}
 use mir.Facts.{toZ-ofZ}
 use Rattle.integer.proofs.Width.{read-test}
 use Rattle.leaf_figures.proofs.sides.greater.Statement.{statement}
 use Rattle.leaf_figures.proofs.sides.greater.Tie as tie
-use Rattle.leaf_figures.proofs.sides.greater.Reads as reads
-use Rattle.leaf_figures.proofs.sides.greater.Lts as lts
 
--- src/sides.rt:32:1
 returns : tie.Need-returns
 returns c =
     let s = c .before in
     rw (toZ-ofZ (s .fits .b), sym (read-test {w = w64} (s .fits .a) (s .fits .b)) ∙ c .if1 .taken)
 
--- src/sides.rt:32:1
 returns-2 : tie.Need-returns-2
 returns-2 c =
     let s = c .before in

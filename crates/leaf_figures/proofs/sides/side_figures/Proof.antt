@@ -1,27 +1,17 @@
 -- `leaf_figures::sides::side_figures` meets its contract: what is taken, and what the rest of the walk takes, is what all of the walk takes. The links rise,
 -- and the measure is how far the walk is from k.
 use mathlib.Core.Path.{_≡_, sym, ap, ap₂, _∙_}
-use mathlib.Core.Bool.{Bool}
-use mathlib.Core.List.{List, [], _∷_, foldl}
+use mathlib.Core.List.{foldl}
 use Prim.Native.Nat.{ℕ, _-_, _<_, _≤_}
 use native.Mathlib.Omega.{arith}
-use lib.IntN.{ℤ, pos, natAbs}
-use lib.ListN.{getD}
-use lib.Dec.{eqb}
-use Rattle.integer.specs.Words.{if_then_else_}
-use Rattle.dstree.specs.Measures.{Trace}
-use Rattle.dstree.specs.Figures.{run, sumOn, scatterOn}
-use Rattle.leaf_figures.specs.Walk.{storedIn, numbersOf, behindOf}
+use Rattle.dstree.specs.Figures.{run}
+use Rattle.leaf_figures.specs.Walk.{storedIn, numbersOf}
 use Rattle.leaf_figures.specs.Sides.{noFigures, Small, segmentBy}
 use Rattle.leaf_figures.specs.declared.sides.Figures.{Figures}
 use Rattle.leaf_figures.proofs.Listed.{metFrom, met-start, behind-rises, fold-more, fold-end, stored-at, run-in}
 use Rattle.leaf_figures.proofs.Taken.{sideTaking, side-taken}
 use Rattle.leaf_figures.proofs.sides.side_figures.Statement.{statement}
 use Rattle.leaf_figures.proofs.sides.side_figures.Tie as tie
-use Rattle.leaf_figures.proofs.sides.side_figures.Reads as reads
-use Rattle.leaf_figures.proofs.sides.side_figures.Lts as lts
-use Rattle.leaf_figures.proofs.sides.with_trace.Reads as with-trace-reads
-use Rattle.leaf_figures.proofs.walk.behind.Reads as behind-reads
 
 abbrev Inv-loop : tie.InvT-loop
 Inv-loop samples links n k head marks mark first last f₀ t₀ f t =
@@ -30,7 +20,6 @@ Inv-loop samples links n k head marks mark first last f₀ t₀ f t =
 abbrev μ-loop : tie.MeasureT-loop
 μ-loop samples links n k head marks mark first last f₀ t₀ f t = k - t
 
--- src/sides.rt:120:5
 loop-holds : tie.Need-loop-holds Inv-loop μ-loop
 loop-holds c =
     let a = c .before .args in
@@ -40,29 +29,24 @@ loop-holds c =
       record { least-sum = omega arith; greatest-sum = omega arith; least-scatter = omega arith; greatest-scatter = omega arith },
     )
 
--- src/sides.rt:121:52
 element-copy-out-with-trace : tie.Need-element-copy-out-with-trace Inv-loop μ-loop
 element-copy-out-with-trace c = omega (arith, c .before .before .before .pre .0 .few)
 
--- src/sides.rt:121:9
 with-trace-requires : tie.Need-with-trace-requires Inv-loop μ-loop
 with-trace-requires c κs =
     let p = c .before .before .before .before .pre in
     let l = c .before .before .loop in
     (run-in (p .0) (p .1) (l .t) (c .before .loop-test .taken), l .inv .2)
 
--- src/sides.rt:122:9
 behind-requires : tie.Need-behind-requires Inv-loop μ-loop
 behind-requires c κs = omega (arith, c .before .before .before .before .before .pre .0 .links-room)
 
--- src/sides.rt:120:5
 loop-less : tie.Need-loop-less Inv-loop μ-loop
 loop-less c =
     let p = c .before .before .before .before .before .before .pre .0 in
     let l = c .before .before .before .before .loop in
     omega (arith, c .behind .ensures, behind-rises (c .before .before .before .before .before .before .args .links .now) (c .before .before .before .before .before .before .args .k) (p .rising) (l .t) (c .before .before .before .loop-test .taken))
 
--- src/sides.rt:120:5
 loop-again : tie.Need-loop-again Inv-loop μ-loop
 loop-again c =
     let s = c .before .before .before .before .before .before in
@@ -78,7 +62,6 @@ loop-again c =
       c .before .with-trace .ensures .1,
     )
 
--- src/sides.rt:97:1
 returns : tie.Need-returns Inv-loop μ-loop
 returns c =
     let a = c .before .before .before .args in

@@ -1,5 +1,5 @@
 -- `leaf_figures::sides::widened` meets its contract: field by field what the four calls answer, the numbers with a sign being read back.
-use mathlib.Core.Path.{_≡_, ap, ap₂, _∙_}
+use mathlib.Core.Path.{_≡_, ap₂, _∙_}
 use borrow.Author.Needs.{needs}
 use mir.Syntax.{w64}
 use mir.Facts.{toZ-ofZ}
@@ -8,30 +8,19 @@ use Rattle.integer.proofs.Width.{of-mag, read}
 use Rattle.leaf_figures.specs.Sides.{withFigures}
 use Rattle.leaf_figures.proofs.sides.widened.Statement.{statement}
 use Rattle.leaf_figures.proofs.sides.widened.Tie as tie
-use Rattle.leaf_figures.proofs.sides.widened.Reads as reads
-use Rattle.leaf_figures.proofs.sides.widened.Lts as lts
-use Rattle.leaf_figures.proofs.sides.greater.Reads as greater-reads
-use Rattle.leaf_figures.proofs.sides.larger.Reads as larger-reads
-use Rattle.leaf_figures.proofs.sides.lesser.Reads as lesser-reads
-use Rattle.leaf_figures.proofs.sides.smaller.Reads as smaller-reads
 
--- src/sides.rt:57:24
 lesser-requires : tie.Need-lesser-requires
 lesser-requires c κs = search needs
 
--- src/sides.rt:58:27
 greater-requires : tie.Need-greater-requires
 greater-requires c κs = search needs
 
--- src/sides.rt:59:28
 smaller-requires : tie.Need-smaller-requires
 smaller-requires c κs = search needs
 
--- src/sides.rt:60:31
 larger-requires : tie.Need-larger-requires
 larger-requires c κs = search needs
 
--- src/sides.rt:51:1
 returns : tie.Need-returns
 unfolding withFigures
 returns c =
@@ -46,7 +35,6 @@ returns c =
     let g : read w64 (high .result) ≡ greater (f .«greatest_sum») (s .args .sum) = toZ-ofZ (of-mag {w = w64} (high .result) (high .ok)) ∙ (high .ensures ∙ ap₂ greater greatest sum) in
     rw (e, g, c .before .smaller .ensures, c .larger .ensures, c .before .before .before .before .before .before .if1 .taken)
 
--- src/sides.rt:51:1
 returns-2 : tie.Need-returns-2
 unfolding withFigures
 returns-2 c = let s = c .before in rw (toZ-ofZ (s .fits .sum), c .if1 .left)

@@ -1,37 +1,27 @@
 -- `leaf_figures::sides::with_trace` meets its contract: the figures that it adds are those of the trace, which are small.
 use mathlib.Core.Path.{_≡_, refl, sym, ap₂, subst, _∙_}
-use Prim.Native.Nat.{ℕ, _*_, _^_, _≤_}
+use Prim.Native.Nat.{_≤_}
 use native.Mathlib.Nat.{mul-le-mul}
 use native.Mathlib.Omega.{arith}
 use borrow.Author.Needs.{needs}
-use lib.IntN.{ℤ, natAbs}
 use mir.Syntax.{w64}
 use mir.Facts.{toZ-ofZ}
-use Rattle.integer.proofs.Width.{of-mag, read}
+use Rattle.integer.proofs.Width.{of-mag}
 use Rattle.dstree.specs.Figures.{run, width}
 use Rattle.leaf_figures.specs.Sides.{withFigures, Small}
 use Rattle.leaf_figures.proofs.Taken.{with-small}
 use Rattle.leaf_figures.proofs.sides.with_trace.Statement.{statement}
 use Rattle.leaf_figures.proofs.sides.with_trace.Tie as tie
-use Rattle.leaf_figures.proofs.sides.with_trace.Reads as reads
-use Rattle.leaf_figures.proofs.sides.with_trace.Lts as lts
-use Rattle.leaf_figures.proofs.runs.run_scatter.Reads as run-scatter-reads
-use Rattle.leaf_figures.proofs.runs.run_sum.Reads as run-sum-reads
-use Rattle.leaf_figures.proofs.sides.widened.Reads as widened-reads
 
--- src/sides.rt:88:13
 run-sum-requires : tie.Need-run-sum-requires
 run-sum-requires c κs = search needs
 
--- src/sides.rt:89:13
 run-scatter-requires : tie.Need-run-scatter-requires
 run-scatter-requires c κs = search needs
 
--- src/sides.rt:90:9
 widened-requires : tie.Need-widened-requires
 widened-requires c κs = search needs
 
--- src/sides.rt:74:1
 returns : tie.Need-returns
 returns c =
     let s = c .before .before .before .before in
@@ -43,7 +33,6 @@ returns c =
     let small = with-small (s .args .f) (sums .result) (scatters .result) (s .pre .1) (omega (arith, sums .ensures .1)) (omega (arith, scatters .ensures .1, mul-le-mul w w)) in
     rw (c .before .before .before .if1 .taken) (e ∙ ap₂ (withFigures (s .args .f)) (sums .ensures .0) (scatters .ensures .0), subst Small (sym e) small)
 
--- src/sides.rt:74:1
 returns-2 : tie.Need-returns-2
 returns-2 c = rw (c .if1 .left) (refl, c .before .pre .1)
 

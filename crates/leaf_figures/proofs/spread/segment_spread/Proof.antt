@@ -1,8 +1,7 @@
 -- `leaf_figures::spread::segment_spread` meets its contract: the figures are the segment's, and small enough for its term.
-use mathlib.Core.Path.{_≡_, ap, ap₂, _∙_}
-use Prim.Native.Nat.{ℕ, suc, _+_, _-_, _^_, _≤_, _<_}
+use mathlib.Core.Path.{_≡_, ap, _∙_}
+use Prim.Native.Nat.{suc, _+_, _-_}
 use native.Mathlib.Omega.{arith}
-use lib.IntN.{ℤ, natAbs}
 use mir.Syntax.{w64}
 use mir.Facts.{toZ-ofZ}
 use Rattle.integer.proofs.Width.{small, read}
@@ -14,10 +13,6 @@ use Rattle.leaf_figures.specs.Sides.{Small}
 use borrow.Author.Needs.{needs}
 use Rattle.leaf_figures.proofs.spread.segment_spread.Statement.{statement}
 use Rattle.leaf_figures.proofs.spread.segment_spread.Tie as tie
-use Rattle.leaf_figures.proofs.spread.segment_spread.Reads as reads
-use Rattle.leaf_figures.proofs.spread.segment_spread.Lts as lts
-use Rattle.leaf_figures.proofs.sides.side_figures.Reads as side-figures-reads
-use Rattle.segment.proofs.terms.spread_term.Reads as spread-term-reads
 
 -- the sums, read back
 least-back : (f : Figures) → Small f → read w64 (f .«least_sum») ≡ f .«least_sum»
@@ -26,19 +21,15 @@ least-back f m = toZ-ofZ (small {w = w64} {z = f .«least_sum»} (omega (arith, 
 greatest-back : (f : Figures) → Small f → read w64 (f .«greatest_sum») ≡ f .«greatest_sum»
 greatest-back f m = toZ-ofZ (small {w = w64} {z = f .«greatest_sum»} (omega (arith, m .greatest-sum)))
 
--- src/spread.rt:28:9
 side-figures-requires : tie.Need-side-figures-requires
 side-figures-requires c κs = search needs
 
--- src/spread.rt:29:14
 sub-w : tie.Need-sub-w
 sub-w c = search needs
 
--- src/spread.rt:29:14
 add-w : tie.Need-add-w
 add-w c = search needs
 
--- src/spread.rt:30:5
 spread-term-requires : tie.Need-spread-term-requires
 spread-term-requires c κs =
     let s = c .before .before .before .before in
@@ -47,7 +38,6 @@ spread-term-requires c κs =
     rw (least-back f m, greatest-back f m)
     (omega arith, omega (arith, s .pre .0 .narrow, s .pre .1 .from-1, s .pre .1 .to-n), omega (arith, m .least-sum), omega (arith, m .greatest-sum), omega (arith, m .greatest-scatter))
 
--- src/spread.rt:13:1
 returns : tie.Need-returns
 unfolding spreadOn
 returns c =

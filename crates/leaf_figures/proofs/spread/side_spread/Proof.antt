@@ -1,11 +1,11 @@
 -- `leaf_figures::spread::side_spread` meets its contract: the total, and the spread over the ends that are left, make the whole spread. 16 terms of 57 bits
 -- have at most 61.
-use mathlib.Core.Path.{_≡_, ap, _∙_}
+use mathlib.Core.Path.{_≡_}
 use mathlib.Core.List.{List}
-use Prim.Native.Nat.{ℕ, _+_, _*_, _-_, _^_, _≤_, _<_}
+use Prim.Native.Nat.{ℕ, _+_, _*_, _-_, _^_, _≤_}
 use native.Mathlib.Omega.{arith}
 use lib.IntN.{ℤ}
-use lib.ListN.{length, getD, take, drop}
+use lib.ListN.{getD, take, drop}
 use Rattle.dstree.specs.Measures.{Trace}
 use Rattle.dstree.specs.Adding.{tracesOf, spread}
 use Rattle.leaf_figures.specs.Walk.{storedIn, numbersOf}
@@ -14,9 +14,6 @@ use Rattle.leaf_figures.specs.Ends.{Rise}
 use Rattle.leaf_figures.proofs.Totals.{spreadFrom, Next, next-at, spread-more, spread-end, spread-is}
 use Rattle.leaf_figures.proofs.spread.side_spread.Statement.{statement}
 use Rattle.leaf_figures.proofs.spread.side_spread.Tie as tie
-use Rattle.leaf_figures.proofs.spread.side_spread.Reads as reads
-use Rattle.leaf_figures.proofs.spread.side_spread.Lts as lts
-use Rattle.leaf_figures.proofs.spread.segment_spread.Reads as segment-spread-reads
 
 -- the side's traces
 abbrev side : List ℤ → List ℕ → ℕ → ℕ → ℕ → List ℕ → ℕ → List Trace
@@ -33,18 +30,15 @@ Inv-loop samples links n k head marks mark at count total₀ first₀ i₀ total
 abbrev μ-loop : tie.MeasureT-loop
 μ-loop samples links n k head marks mark at count total₀ first₀ i₀ total first i = count - i
 
--- src/spread.rt:53:5
 loop-holds : tie.Need-loop-holds Inv-loop μ-loop
 loop-holds c =
     let s = c .before .before in
     let a = s .args in
     (omega arith, omega arith, omega (arith, spread-is (take (a .e .count) (a .e .at)) (side (a .samples .now) (a .links .now) (a .n) (a .k) (a .head) (a .marks .now) (a .mark))), omega arith, s .pre .3)
 
--- src/spread.rt:54:20
 mul-last : tie.Need-mul-last Inv-loop μ-loop
 mul-last c = omega (arith, c .before .before .before .before .pre .2 .few)
 
--- src/spread.rt:54:20
 array-read-last : tie.Need-array-read-last Inv-loop μ-loop
 array-read-last c = omega (arith, c .before .before .before .before .pre .2 .few)
 
@@ -58,7 +52,6 @@ next c =
     let l = c .before .loop in
     next-at (s .args .e .at) (s .args .e .count) (omega (arith, s .pre .2 .places, s .pre .2 .few)) (l .i) (c .loop-test .taken) (l .inv .4)
 
--- src/spread.rt:55:18
 segment-spread-requires : tie.Need-segment-spread-requires Inv-loop μ-loop
 segment-spread-requires c κs =
     let s = c .before .before .before .before in
@@ -66,23 +59,18 @@ segment-spread-requires c κs =
     let r = next c in
     (s .pre .0, record { from-1 = l .inv .1; rises = r .rises; to-n = r .to-n }, s .pre .1)
 
--- src/spread.rt:55:9
 add-total : tie.Need-add-total Inv-loop μ-loop
 add-total c = omega (arith, c .segment-spread .ensures .1, c .before .before .loop .inv .3, c .before .before .before .before .before .pre .2 .few)
 
--- src/spread.rt:56:17
 add-first : tie.Need-add-first Inv-loop μ-loop
 add-first c = omega (arith, next (c .before) .to-n, c .before .before .before .before .before .pre .0 .narrow)
 
--- src/spread.rt:57:9
 add-i : tie.Need-add-i Inv-loop μ-loop
 add-i c = omega (arith, c .before .before .before .before .before .pre .2 .few)
 
--- src/spread.rt:53:5
 loop-less : tie.Need-loop-less Inv-loop μ-loop
 loop-less c = omega arith
 
--- src/spread.rt:53:5
 loop-again : tie.Need-loop-again Inv-loop μ-loop
 loop-again c =
     let s = c .before .before .before .before .before in
@@ -92,7 +80,6 @@ loop-again c =
     let more = spread-more (a .e .at) (a .e .count) (omega (arith, s .pre .2 .places, s .pre .2 .few)) (l .i) (c .before .loop-test .taken) (l .first) (side (a .samples .now) (a .links .now) (a .n) (a .k) (a .head) (a .marks .now) (a .mark)) in
     (omega arith, omega arith, omega (arith, l .inv .2, more, c .segment-spread .ensures .0), omega (arith, l .inv .3, c .segment-spread .ensures .1), r .on)
 
--- src/spread.rt:34:1
 returns : tie.Need-returns Inv-loop μ-loop
 returns c =
     let s = c .before .before .before .before in

@@ -1,8 +1,7 @@
 -- `leaf_figures::spread::whole_spread` meets its contract: with mark 0 everywhere the side is the whole leaf.
-use mathlib.Core.Path.{_≡_, ap, _∙_}
+use mathlib.Core.Path.{ap, _∙_}
 use mathlib.Core.List.{List}
 use Prim.Native.Nat.{ℕ}
-use lib.ListN.{take}
 use Rattle.dstree.specs.Adding.{tracesOf, spread}
 use Rattle.leaf_figures.specs.Walk.{storedIn, numbersOf}
 use Rattle.leaf_figures.specs.Ends.{endsOf}
@@ -10,15 +9,10 @@ use Rattle.leaf_figures.proofs.Ranged.{all-marked}
 use borrow.Author.Needs.{needs}
 use Rattle.leaf_figures.proofs.spread.whole_spread.Statement.{statement}
 use Rattle.leaf_figures.proofs.spread.whole_spread.Tie as tie
-use Rattle.leaf_figures.proofs.spread.whole_spread.Reads as reads
-use Rattle.leaf_figures.proofs.spread.whole_spread.Lts as lts
-use Rattle.leaf_figures.proofs.spread.side_spread.Reads as side-spread-reads
 
--- src/spread.rt:76:5
 side-spread-requires : tie.Need-side-spread-requires
 side-spread-requires c κs = search needs
 
--- src/spread.rt:63:1
 returns : tie.Need-returns
 returns c =
     let a = c .before .before .before .args in (

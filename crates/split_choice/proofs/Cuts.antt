@@ -1,0 +1,37 @@
+-- Ends that rise, with one more among them, rise still.
+use mathlib.Core.Path.{_≡_, refl, subst}
+use mathlib.Core.Bool.{Bool, true, false}
+use mathlib.Core.List.{List, _∷_}
+use Prim.Native.Nat.{ℕ, suc, _≤_}
+use native.Mathlib.Omega.{arith}
+use lib.Dec.{ltb}
+use borrow.Author.Tests.{ltb-true, ltb-false}
+use Rattle.integer.specs.Words.{if_then_else_}
+use Rattle.integer.proofs.Lists.{In, first, later}
+use Rattle.dstree.specs.Adding.{cutAt}
+use Rattle.dstree.proofs.Parted.{Parted, p-last, p-more}
+use Rattle.leaf_figures.specs.Ends.{Rise, r-none, r-more}
+
+-- ends that part 1 to n rise
+pub parted-rise : {n from : ℕ} {l : List ℕ} → Parted n from l → Rise n from l × (from ≤ n)
+parted-rise {n} {from} (p-last h) = (r-more h (omega arith) r-none, h)
+parted-rise {n} {from} (p-more {e} h p) = let r = parted-rise p in (r-more h (omega (arith, r .1)) (r .0), omega (arith, r .1))
+
+pub rise-in : {n from x : ℕ} {l : List ℕ} → Rise n from l → In x l → from ≤ x
+rise-in (r-more h k r) first = h
+rise-in (r-more h k r) (later i) = omega (arith, rise-in r i)
+
+pub rise-cut : {n from : ℕ} (m : ℕ) {l : List ℕ} → Rise n from l → from ≤ m → m ≤ n → (In m l → ⊥) → Rise n from (cutAt m l)
+unfolding cutAt
+rise-cut m r-none h k f = r-more h k r-none
+rise-cut {n} {from} m (r-more {end} {rest} a b r) h k f = by (ltb m end) refl (rise-cut m r)
+  where
+    by : (t : Bool) → ltb m end ≡ t → (suc end ≤ m → m ≤ n → (In m rest → ⊥) → Rise n (suc end) (cutAt m rest)) → Rise n from (if t then m ∷ end ∷ rest else end ∷ cutAt m rest)
+    by true e rec = r-more h k (r-more (ltb-true m end e) b r)
+    by false e rec = r-more a b (rec (strict (ltb-false m end e)) k (λ i. f (later i)))
+      where
+        strict : end ≤ m → suc end ≤ m
+        strict g = omega (arith, other)
+          where
+            other : end ≡ m → ⊥
+            other p = f (subst (λ (x : ℕ). In x (end ∷ rest)) p first)

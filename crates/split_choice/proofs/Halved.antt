@@ -1,0 +1,40 @@
+-- A segment's halves, as code finds them.
+use mathlib.Core.Path.{_≡_, refl}
+use mathlib.Core.Bool.{Bool, true, false, _&&_}
+use mathlib.Core.List.{List, [], _++_}
+use Prim.Native.Nat.{ℕ, suc, _+_, _-_, _/_, _≤_, _<_}
+use native.Mathlib.Omega.{arith}
+use native.Mathlib.Numerals.{add-one}
+use lib.ListN.{length}
+use lib.Dec.{ltb}
+use borrow.Author.Tests.{lt-ltb, le-ltb, le-leb, lt-leb, ne-eqb}
+use Rattle.dstree.specs.Figures.{run}
+use Rattle.dstree.specs.Adding.{byEither, leftHalfEnd, halves}
+use Rattle.split_choice.specs.Choosing.{childEnds}
+
+and-false : (b : Bool) → b && false ≡ false
+and-false true = refl
+and-false false = refl
+
+module _ (all : List ℕ) (first last : ℕ) where
+  pub no-room : 16 ≤ length all → halves all (run first last) ≡ []
+  unfolding halves
+  no-room h = rw (le-ltb (length all) 16 h)
+
+  pub no-width : last ≤ first → halves all (run first last) ≡ []
+  unfolding halves
+  no-width h = rw (lt-leb 2 (suc last - first) (omega arith), and-false (ltb (length all) 16))
+
+  -- the left half's last sample
+  abbrev pub middle : ℕ
+  middle = first + (last - first + 1) / 2 - 1
+
+  pub middle-in : 1 ≤ first → first < last → (first ≤ middle) × (middle < last)
+  middle-in h k = (omega arith, omega arith)
+
+  pub both-halves : 1 ≤ first → first < last → length all < 16
+      → halves all (run first last) ≡ byEither (run first middle) (childEnds middle all) ++ byEither (run (middle + 1) last) (childEnds middle all)
+  unfolding halves leftHalfEnd
+  both-halves h k room =
+      let e : suc last - first ≡ last - first + 1 = omega arith in
+      rw (lt-ltb (length all) 16 room, le-leb 2 (suc last - first) (omega arith), e, add-one middle, ne-eqb middle 0 (λ z. omega (arith, z, middle-in h k)))

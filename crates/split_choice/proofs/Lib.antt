@@ -1,0 +1,6 @@
+pub mod Marked
+pub mod Cuts
+pub mod Tried
+pub mod Halved
+pub mod Going
+pub mod Examples

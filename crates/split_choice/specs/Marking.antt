@@ -1,0 +1,22 @@
+-- The sides of a test, as marks of a leaf's traces.
+use Prim.Native.Nat.{ℕ}
+use mathlib.Core.Bool.{Bool, true, false}
+use mathlib.Core.List.{List, foldl}
+use lib.IntN.{ℤ}
+use lib.ListN.{set}
+use Rattle.dstree.specs.Figures.{run}
+use Rattle.dstree.specs.Node.{Test}
+use Rattle.leaf_figures.specs.Runs.{figureBy}
+
+-- a test by its numbers
+abbrev pub testBy : ℕ → ℕ → Bool → ℤ → Test
+testBy first last byScatter threshold = record { on = run first last; figure = figureBy byScatter; threshold = threshold }
+
+-- 1 left, 2 right
+abbrev pub codeOf : Bool → ℕ
+codeOf true = 1
+codeOf false = 2
+
+-- each number marked by its side, in order
+abbrev pub marksBy : (ℕ → Bool) → List ℕ → List ℕ → List ℕ
+marksBy goesLeft marks numbers = foldl (λ (m : List ℕ) (t : ℕ). set m t (codeOf (goesLeft t))) marks numbers

@@ -1,0 +1,4 @@
+// Which split a leaf takes: the sides of a candidate's test, its gain, and the candidate with the greatest gain.
+pub mod choice;
+pub mod gains;
+pub mod marking;

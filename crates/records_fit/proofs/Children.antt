@@ -1,0 +1,98 @@
+-- A node's record and its children's: what records that fit say of them, and that a child's ends include its parent's.
+use Prim.Native.Nat.{ℕ, _+_, _*_, _-_, _≤_, _<_}
+use mathlib.Core.Path.{_≡_, refl, sym, _∙_}
+use mathlib.Core.Bool.{Bool, true, false, _&&_}
+use mathlib.Core.List.{List, [], _∷_}
+use native.Mathlib.Omega.{arith}
+use lib.IntN.{ℤ}
+use lib.ListN.{take, drop}
+use lib.Dec.{T, leb, ltb, leb→le, ltb→lt}
+use mir.Facts.{and-yes}
+use Rattle.integer.specs.Words.{every}
+use Rattle.integer.proofs.Lists.{first, later, from-every}
+use Rattle.integer.proofs.Tests.{is-true, passed}
+use Rattle.dstree.specs.Measures.{sampleLimit}
+use Rattle.dstree.specs.WellFormed.{childrenOf, testFits}
+use Rattle.tables.specs.Layout.{kindPlace, firstPlace, rightPlace, segmentsPlace, recordPlaces}
+use Rattle.tables.specs.Tables.{recordOf}
+use Rattle.tables.specs.View.{smallAt, segmentsIn, kindIn}
+use Rattle.records_fit.specs.Fits.{kindAlone, childFits, headFits, segmentsHold, recordFits, endsIn, keptAt, recordsFit}
+use Rattle.records_fit.proofs.Limits.{passing}
+use Rattle.records_fit.proofs.Segments.{hold-few}
+use Rattle.records_fit.proofs.Heads.{kind-inner}
+use Rattle.records_fit.proofs.Loops.{each-passes}
+
+-- ---- a part of the table is a record
+
+module _ (nodes : List ℤ) (j : ℕ) where
+  pub part-is : take ((j * recordPlaces + recordPlaces) - j * recordPlaces) (drop (j * recordPlaces) nodes) ≡ recordOf nodes j
+  unfolding recordOf
+  part-is = let w : (j * recordPlaces + recordPlaces) - j * recordPlaces ≡ recordPlaces = omega arith in rw w
+
+-- ---- one record that fits
+
+module _ (n m j : ℕ) (r : List ℤ) (t : recordFits n m j r ≡ true) where
+  parts : T (headFits n m j r) × T (segmentsHold n r)
+  unfolding recordFits
+  parts = and-yes (headFits n m j r) (segmentsHold n r) (is-true t)
+
+  head : T (leb (smallAt r kindPlace) 2) × (T (every (childFits m j) (childrenOf (kindAlone r))) × T (testFits sampleLimit n (kindAlone r)))
+  unfolding headFits
+  head = passed (leb (smallAt r kindPlace) 2) (every (childFits m j) (childrenOf (kindAlone r)) ∷ testFits sampleLimit n (kindAlone r) ∷ []) (parts .0)
+
+  pub few-segments : smallAt r segmentsPlace ≤ 16
+  few-segments = hold-few n r (sym (passing (parts .1)))
+
+  pub kind-named : smallAt r kindPlace ≤ 2
+  kind-named = leb→le (smallAt r kindPlace) 2 (head .0)
+
+  module _ (f : smallAt r kindPlace ≡ 0 → ⊥) where
+    both : T (every (childFits m j) (smallAt r firstPlace ∷ smallAt r rightPlace ∷ []))
+    unfolding childrenOf
+    both = rw (kind-inner [] 0 r (smallAt r kindPlace) f kind-named) at (head .1 .0)
+
+    pub left-above : (j < smallAt r firstPlace) × (smallAt r firstPlace < m)
+    left-above =
+        let c = smallAt r firstPlace in
+        let p = and-yes (ltb j c) (ltb c m) (from-every (childFits m j) (c ∷ smallAt r rightPlace ∷ []) both first) in
+        (ltb→lt j c (p .0), ltb→lt c m (p .1))
+
+    pub right-above : (j < smallAt r rightPlace) × (smallAt r rightPlace < m)
+    right-above =
+        let c = smallAt r rightPlace in
+        let p = and-yes (ltb j c) (ltb c m) (from-every (childFits m j) (smallAt r firstPlace ∷ c ∷ []) both (later first)) in
+        (ltb→lt j c (p .0), ltb→lt c m (p .1))
+
+-- ---- of all that fit, one
+
+pub record-fits-at : (n m : ℕ) (nodes : List ℤ) → recordsFit n m nodes ≡ true → (j : ℕ) → j < m → recordFits n m j (recordOf nodes j) ≡ true
+unfolding recordsFit
+record-fits-at n m nodes e j h = each-passes (λ x. recordFits n m x (recordOf nodes x)) m 0 e j (omega arith) (omega arith)
+
+-- ---- ends that a node's children keep
+
+module _ (nodes : List ℤ) (j : ℕ) where
+  abbrev r : List ℤ
+  r = recordOf nodes j
+
+  abbrev keeps : ℕ → Bool
+  keeps child = endsIn (segmentsIn (recordOf nodes child)) (segmentsIn r)
+
+  pub leaf-keeps : smallAt r kindPlace ≡ 0 → keptAt nodes j ≡ true
+  unfolding keptAt kindIn childrenOf every
+  leaf-keeps e = rw e
+
+  module _ (f : smallAt r kindPlace ≡ 0 → ⊥) (h : smallAt r kindPlace ≤ 2) where
+    kept-is : keptAt nodes j ≡ keeps (smallAt r firstPlace) && (keeps (smallAt r rightPlace) && true)
+    unfolding keptAt childrenOf every
+    kept-is = rw (kind-inner [] 0 r (smallAt r kindPlace) f h)
+
+    pub left-loses : keeps (smallAt r firstPlace) ≡ false → keptAt nodes j ≡ false
+    left-loses e = kept-is ∙ rw e
+
+    pub right-decides : keeps (smallAt r firstPlace) ≡ true → keptAt nodes j ≡ keeps (smallAt r rightPlace)
+    right-decides e = kept-is ∙ (rw e (by (keeps (smallAt r rightPlace))))
+      where
+        by : (b : Bool) → b && true ≡ b
+        by true = refl
+        by false = refl

@@ -1,0 +1,187 @@
+// The rules on one record, which is 87 places.
+
+use crate::places::FIRST;
+use crate::places::HEAD;
+use crate::places::KIND;
+use crate::places::RIGHT;
+use crate::places::RUN_FIRST;
+use crate::places::RUN_LAST;
+use crate::places::SEGMENT;
+use crate::places::SEGMENTS;
+use crate::places::THRESHOLD;
+use tables::records::small_at;
+use tables::records::value_at;
+ghost use mathlib.Core.Path.{_≡_};
+ghost use Prim.Native.Nat.{ℕ, _+_, _≤_, _<_};
+ghost use lib.ListN.{length};
+ghost use Rattle.integer.specs.Words.{isIn};
+ghost use Rattle.dstree.specs.Measures.{sampleLimit};
+ghost use Rattle.dstree.specs.Figures.{run};
+ghost use Rattle.dstree.specs.Node.{inner, ends};
+ghost use Rattle.dstree.specs.WellFormed.{segmentFits, testFits};
+ghost use Rattle.tables.specs.Layout.{segmentsPlace, recordPlaces};
+ghost use Rattle.tables.specs.View.{smallAt, segmentIn, segmentsIn};
+ghost use Rattle.records_fit.specs.Fits.{figureNamed, childFits, headFits, segmentsHold, recordFits, segmentsFrom, restHolds, endsIn};
+
+// ---- segments
+
+// The right end of segment i, from 0.
+fn end_at(places: &[i64], i: usize) -> usize
+    requires { ⌜ (length (now places) ≡ recordPlaces) × (i < 16) ⌝ }
+    ensures { λ r. ⌜ r ≡ segmentIn (now (places .entry)) i .end ⌝ }
+{
+    small_at(places, HEAD + i * SEGMENT)
+}
+
+// The figures of segment i, which is w samples wide.
+fn segment_fits(places: &[i64], i: usize, w: u64) -> bool
+    requires { ⌜ (length (now places) ≡ recordPlaces) × (i < 16) × (w ≤ 65536) ⌝ }
+    ensures { λ r. ⌜ r ≡ segmentFits sampleLimit w (segmentIn (now (places .entry)) i) ⌝ }
+{
+    let at = HEAD + i * SEGMENT;
+    let least_sum = value_at(places, at + 1);
+    let greatest_sum = value_at(places, at + 2);
+    let least_scatter = value_at(places, at + 3);
+    let greatest_scatter = value_at(places, at + 4);
+    crate::figures::figures_fit(w, least_sum, greatest_sum, least_scatter, greatest_scatter)
+}
+
+// The first `count` segments: their ends rise to n, and their figures are in their limits.
+fn segments_run(places: &[i64], count: usize, n: usize) -> bool
+    requires { ⌜ (length (now places) ≡ recordPlaces) × (count ≤ 16) ⌝ }
+    ensures { λ r. ⌜ r ≡ restHolds n 0 (segmentsFrom (now (places .entry)) count 0) ⌝ }
+{
+    let mut before: usize = 0;
+    let mut i: usize = 0;
+    while i < count {
+        let end = end_at(places, i);
+        if end <= before {
+            return false;
+        }
+        if !segment_fits(places, i, (end - before) as u64) {
+            return false;
+        }
+        before = end;
+        i += 1;
+    }
+    before == n
+}
+
+// All segments of a record, which are 1 to 16.
+fn segments_fit(places: &[i64], n: usize) -> bool
+    requires { ⌜ length (now places) ≡ recordPlaces ⌝ }
+    ensures { λ r. ⌜ r ≡ segmentsHold n (now (places .entry)) ⌝ }
+{
+    let count = small_at(places, SEGMENTS);
+    if count < 1 {
+        return false;
+    }
+    if 16 < count {
+        return false;
+    }
+    segments_run(places, count, n)
+}
+
+// ---- the head
+
+fn child_fits(m: usize, j: usize, child: usize) -> bool
+    ensures { λ r. ⌜ r ≡ childFits m j child ⌝ }
+{
+    if child <= j {
+        return false;
+    }
+    child < m
+}
+
+// A test: its run lies inside 1 to n, and its threshold within the limits.
+fn test_fits(kind: usize, first: usize, last: usize, threshold: i64, n: usize) -> bool
+    requires { ⌜ n ≤ 256 ⌝ }
+    ensures { λ r. ⌜ ((left right : ℕ) → r ≡ testFits sampleLimit n (inner (record { on = run first last; figure = figureNamed kind; threshold = threshold }) left right)) ⌝ }
+{
+    if first < 1 {
+        return false;
+    }
+    if last < first {
+        return false;
+    }
+    if n < last {
+        return false;
+    }
+    crate::figures::threshold_fits(kind, (last + 1 - first) as u64, threshold)
+}
+
+// The kind of node j, and if it is an inner node its children and its test.
+fn head_fits(places: &[i64], j: usize, m: usize, n: usize) -> bool
+    requires { ⌜ (length (now places) ≡ recordPlaces) × (n ≤ 256) ⌝ }
+    ensures { λ r. ⌜ r ≡ headFits n m j (now (places .entry)) ⌝ }
+{
+    let kind = small_at(places, KIND);
+    if kind == 0 {
+        return true;
+    }
+    if 2 < kind {
+        return false;
+    }
+    if !child_fits(m, j, small_at(places, FIRST)) {
+        return false;
+    }
+    if !child_fits(m, j, small_at(places, RIGHT)) {
+        return false;
+    }
+    let first = small_at(places, RUN_FIRST);
+    let last = small_at(places, RUN_LAST);
+    test_fits(kind, first, last, value_at(places, THRESHOLD), n)
+}
+
+// All that the record of node j, of m, shows by itself.
+pub fn record_fits(places: &[i64], j: usize, m: usize, n: usize) -> bool
+    requires { ⌜ (length (now places) ≡ recordPlaces) × (n ≤ 256) ⌝ }
+    ensures { λ r. ⌜ r ≡ recordFits n m j (now (places .entry)) ⌝ }
+{
+    if !head_fits(places, j, m, n) {
+        return false;
+    }
+    segments_fit(places, n)
+}
+
+// ---- ends of a node and its child
+
+// One of the first `count` ends is e.
+fn has_end(places: &[i64], count: usize, e: usize) -> bool
+    requires { ⌜ (length (now places) ≡ recordPlaces) × (count ≤ 16) ⌝ }
+    ensures { λ r. ⌜ r ≡ isIn e (ends (segmentsFrom (now (places .entry)) count 0)) ⌝ }
+{
+    let mut i: usize = 0;
+    while i < count {
+        if end_at(places, i) == e {
+            return true;
+        }
+        i += 1;
+    }
+    false
+}
+
+// The first `many` ends of the parent are among the first `count` of the child.
+fn ends_in(child: &[i64], count: usize, parent: &[i64], many: usize) -> bool
+    requires { ⌜ (length (now child) ≡ recordPlaces) × (count ≤ 16) × (length (now parent) ≡ recordPlaces) × (many ≤ 16) ⌝ }
+    ensures { λ r. ⌜ r ≡ endsIn (segmentsFrom (now (child .entry)) count 0) (segmentsFrom (now (parent .entry)) many 0) ⌝ }
+{
+    let mut i: usize = 0;
+    while i < many {
+        if !has_end(child, count, end_at(parent, i)) {
+            return false;
+        }
+        i += 1;
+    }
+    true
+}
+
+// A child's ends include its parent's. Both have at most 16.
+pub fn ends_kept(child: &[i64], parent: &[i64]) -> bool
+    requires { ⌜ (length (now child) ≡ recordPlaces) × (smallAt (now child) segmentsPlace ≤ 16) × (length (now parent) ≡ recordPlaces) × (smallAt (now parent) segmentsPlace ≤ 16) ⌝ }
+    ensures { λ r. ⌜ r ≡ endsIn (segmentsIn (now (child .entry))) (segmentsIn (now (parent .entry))) ⌝ }
+{
+    let count = small_at(child, SEGMENTS);
+    let many = small_at(parent, SEGMENTS);
+    ends_in(child, count, parent, many)
+}

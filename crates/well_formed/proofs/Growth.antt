@@ -1,0 +1,116 @@
+-- Marks that grow: by one number, by the numbers of one node after another, and what it means that a number is met again.
+use Prim.Native.Nat.{ℕ, zero, suc, _+_, _-_, _≤_, _<_}
+use mathlib.Core.Path.{_≡_, refl, sym, _∙_, ap, subst}
+use mathlib.Core.Bool.{Bool, true, false}
+use mathlib.Core.List.{List, [], _∷_, _++_, map, flatten, append-assoc, append-nil}
+use native.Mathlib.Omega.{arith}
+use native.Mathlib.Nat.{add-zero}
+use native.Mathlib.Numerals.{add-one}
+use lib.ListN.{length, length-set, getD, set, replicate, getD-replicate}
+use lib.Seq.{getD-set-same, getD-set-other}
+use Rattle.integer.specs.Words.{counting, timesIn}
+use Rattle.integer.proofs.Lists.{same-or-not}
+use Rattle.integer.proofs.Times.{times-same, times-other, times-append}
+use Rattle.records_fit.proofs.Limits.{clash}
+use Rattle.well_formed.specs.Marks.{Grown, Twice, Took}
+
+times-nil : (x : ℕ) → timesIn x [] ≡ 0
+unfolding timesIn
+times-nil x = refl
+
+-- ---- no number, one number, more numbers
+
+pub grown-none : (marks : List ℕ) → length marks ≡ 8192 → Grown marks marks []
+grown-none marks h = record { size = h; at = λ x g. omega (arith, times-nil x) }
+
+module _ (marks : List ℕ) (number : ℕ) (size : length marks ≡ 8192) (h : number < 8192) where
+  pub grown-one : getD marks number 0 ≤ 0 → Grown marks (set marks number 1) (number ∷ [])
+  grown-one e = record { size = length-set marks number 1 ∙ size; at = λ x g. by x (same-or-not x number) }
+    where
+      by : (x : ℕ) → Dec (x ≡ number) → getD (set marks number 1) x 0 ≡ getD marks x 0 + timesIn x (number ∷ [])
+      by x (yes p) =
+          subst (λ (y : ℕ). getD (set marks number 1) y 0 ≡ getD marks y 0 + timesIn y (number ∷ [])) (sym p)
+          (omega (arith, getD-set-same marks number 1 0 (subst (λ (s : ℕ). number < s) (sym size) h), e, times-same number [], times-nil number))
+      by x (no f) = omega (arith, getD-set-other marks number x 1 0 f, times-other x number [] f, times-nil x)
+
+  pub met-again : 0 < getD marks number 0 → Twice marks (number ∷ [])
+  met-again f = record { number = number; inside = h; again = omega (arith, f, times-same number [], times-nil number) }
+
+module _ {a b : List ℕ} {xs : List ℕ} (g : Grown a b xs) where
+  pub grown-then : {c : List ℕ} {ys : List ℕ} → Grown b c ys → Grown a c (xs ++ ys)
+  grown-then {c} {ys} k = record { size = k .size; at = λ x h. omega (arith, k .at x h, g .at x h, times-append x xs ys) }
+
+  pub twice-then : {ys : List ℕ} → Twice b ys → Twice a (xs ++ ys)
+  twice-then {ys} t = record { number = t .number; inside = t .inside; again = omega (arith, t .again, g .at (t .number) (t .inside), times-append (t .number) xs ys) }
+
+pub twice-more : {a xs : List ℕ} (ys : List ℕ) → Twice a xs → Twice a (xs ++ ys)
+twice-more {a} {xs} ys t = record { number = t .number; inside = t .inside; again = omega (arith, t .again, times-append (t .number) xs ys) }
+
+-- ---- from no marks on
+
+pub none-at : (x : ℕ) → x < 8192 → getD (replicate {A = ℕ} 8192 0) x 0 ≡ 0
+none-at x h = getD-replicate 8192 x 0 0 h
+
+-- ---- the numbers of one node after another
+
+module _ (f : ℕ → List ℕ) where
+  abbrev firsts : ℕ → List ℕ
+  firsts m = flatten (map f (counting m 0))
+
+  one-more : (j a : ℕ) → flatten (map f (counting (suc j) a)) ≡ flatten (map f (counting j a)) ++ f (a + j)
+  unfolding counting flatten
+  one-more zero a = append-nil (f a) ∙ ap f (sym (add-zero a))
+  one-more (suc j) a =
+      let e : suc a + j ≡ a + suc j = omega arith in
+      ap (λ (l : List ℕ). f a ++ l) (one-more j (suc a) ∙ ap (λ (x : ℕ). flatten (map f (counting j (suc a))) ++ f x) e)
+      ∙ sym (append-assoc (f a) (flatten (map f (counting j (suc a)))) (f (a + suc j)))
+
+  pub firsts-more : (j : ℕ) → firsts (j + 1) ≡ firsts j ++ f j
+  firsts-more j = let e : 0 + j ≡ j = omega arith in ap (λ (x : ℕ). firsts x) (add-one j) ∙ (one-more j 0 ∙ ap (λ (x : ℕ). firsts j ++ f x) e)
+
+  times-firsts : (x j d : ℕ) → timesIn x (firsts j) ≤ timesIn x (firsts (j + d))
+  times-firsts x j zero = let e : j + 0 ≡ j = add-zero j in rw e (omega arith)
+  times-firsts x j (suc d) =
+      let e : j + suc d ≡ (j + d) + 1 = omega arith in
+      let q : timesIn x (firsts ((j + d) + 1)) ≡ timesIn x (firsts (j + d)) + timesIn x (f (j + d)) = ap (timesIn x) (firsts-more (j + d)) ∙ times-append x (firsts (j + d)) (f (j + d)) in
+      rw e (omega (arith, q, times-firsts x j d))
+
+  -- a number that is met again among the first j is so among the first m
+  pub twice-firsts : {a : List ℕ} (j m : ℕ) → j ≤ m → Twice a (firsts j) → Twice a (firsts m)
+  twice-firsts j m h t =
+      let e : j + (m - j) ≡ m = omega arith in
+      record { number = t .number; inside = t .inside; again = omega (arith, t .again, subst (λ (y : ℕ). timesIn (t .number) (firsts j) ≤ timesIn (t .number) (firsts y)) e (times-firsts (t .number) j (m - j))) }
+
+  module _ {a b : List ℕ} {j : ℕ} (g : Grown a b (firsts j)) where
+    pub grown-firsts : {c : List ℕ} → Grown b c (f j) → Grown a c (firsts (j + 1))
+    grown-firsts {c} k = subst (Grown a c) (sym (firsts-more j)) (grown-then g k)
+
+    pub again-firsts : (m : ℕ) → j < m → Twice b (f j) → Twice a (firsts m)
+    again-firsts m h t = twice-firsts (j + 1) m (omega arith) (subst (Twice a) (sym (firsts-more j)) (twice-then g t))
+
+-- ---- two numbers, one after the other
+
+pub took-none : (marks : List ℕ) → length marks ≡ 8192 → Took marks marks [] true
+took-none marks h = record { new = λ _. grown-none marks h; old = λ e. clash e }
+
+module _ {a b : List ℕ} {x : ℕ} (y : ℕ) {r : Bool} (t : Took a b (x ∷ []) r) where
+  pub took-first : r ≡ false → {after : List ℕ} → Took a after (x ∷ (y ∷ [])) false
+  took-first e = record { new = λ z. clash (sym z); old = λ _. twice-more (y ∷ []) (t .old e) }
+
+  pub took-both : r ≡ true → {c : List ℕ} {q : Bool} → Took b c (y ∷ []) q → Took a c (x ∷ (y ∷ [])) q
+  took-both e u = record { new = λ z. grown-then (t .new e) (u .new z); old = λ z. twice-then (t .new e) (u .old z) }
+
+-- numbers that all were marked, and numbers of which one was met again
+pub took-new : {a b xs : List ℕ} → Grown a b xs → Took a b xs true
+took-new g = record { new = λ _. g; old = λ e. clash e }
+
+pub took-old : {a b xs : List ℕ} → Twice a xs → Took a b xs false
+took-old t = record { new = λ e. clash (sym e); old = λ _. t }
+
+pub firsts-none : (f : ℕ → List ℕ) (marks : List ℕ) → length marks ≡ 8192 → Grown marks marks (flatten (map f (counting 0 0)))
+unfolding counting flatten
+firsts-none f marks h = grown-none marks h
+
+-- the same numbers
+pub took-as : {a b xs ys : List ℕ} {r : Bool} → xs ≡ ys → Took a b ys r → Took a b xs r
+took-as {a} {b} {r} e t = subst (λ (l : List ℕ). Took a b l r) (sym e) t

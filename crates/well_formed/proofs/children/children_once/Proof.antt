@@ -1,0 +1,38 @@
+-- `well_formed::children::children_once` meets its contract: with a child that is met again the rule fails, and else the marks tell how often each node is a child.
+use mathlib.Core.Path.{_∙_}
+use Prim.Native.Nat.{ℕ}
+use native.Mathlib.Omega.{arith}
+use lib.ListN.{length-replicate}
+use denote.Ref.{now}
+use borrow.Author.Tests.{not-true, not-false}
+use Rattle.well_formed.proofs.Once.{children-again, children-marked, no-children}
+use Rattle.well_formed.proofs.children.children_once.Statement.{statement}
+use Rattle.well_formed.proofs.children.children_once.Tie as tie
+
+mark-all-requires : tie.Need-mark-all-requires
+mark-all-requires c κs = (c .before .pre, length-replicate {A = ℕ} 8192 0)
+
+returns : tie.Need-returns
+returns c =
+    let d = c .before in
+    let s = d .before .before in
+    children-again (now (s .args .nodes)) (s .args .m) (s .pre) (d .mark-all .ensures .old (not-true (d .mark-all .result) (c .if1 .taken)))
+
+returns-2 : tie.Need-returns-2
+returns-2 c = let s = c .before .before .before .before in no-children (now (s .args .nodes)) (s .args .m) (c .if2 .taken)
+
+sub-all-marked : tie.Need-sub-all-marked
+sub-all-marked c = omega (arith, c .before .if2 .left)
+
+all-marked-requires : tie.Need-all-marked-requires
+all-marked-requires c κs = omega (arith, c .before .before .before .before .before .pre .low)
+
+returns-3 : tie.Need-returns-3
+returns-3 c =
+    let e = c .before .before .before in
+    let d = e .before in
+    let s = d .before .before in
+    c .all-marked .ensures ∙ children-marked (now (s .args .nodes)) (s .args .m) (s .pre) (d .mark-all .ensures .new (not-false (d .mark-all .result) (e .if1 .left)))
+
+pub children-once-spec : {M : Type 1} → statement M
+children-once-spec = tie.close (tie.spec mark-all-requires returns returns-2 sub-all-marked all-marked-requires returns-3)

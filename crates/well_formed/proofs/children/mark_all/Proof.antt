@@ -1,0 +1,67 @@
+-- `well_formed::children::mark_all` meets its contract. The loop's invariant: the marks have grown by the children of the nodes passed.
+use mathlib.Core.Path.{_≡_, subst}
+use Prim.Native.Nat.{ℕ, _-_, _≤_}
+use native.Mathlib.Omega.{arith}
+use denote.Ref.{now}
+use borrow.Author.Tests.{not-true, not-false}
+use Rattle.well_formed.specs.Marks.{Grown}
+use Rattle.well_formed.specs.Tests.{childrenAt, childrenOfFirst}
+use Rattle.well_formed.proofs.Growth.{grown-firsts, again-firsts, took-new, took-old, firsts-none}
+use Rattle.well_formed.proofs.children.mark_all.Statement.{statement}
+use Rattle.well_formed.proofs.children.mark_all.Tie as tie
+
+abbrev Inv-loop : tie.InvT-loop
+Inv-loop nodes m marks₀ j₀ marks j = (j ≤ m) × Grown marks₀ marks (childrenOfFirst nodes j)
+
+abbrev μ-loop : tie.MeasureT-loop
+μ-loop nodes m marks₀ j₀ marks j = m - j
+
+loop-holds : tie.Need-loop-holds Inv-loop μ-loop
+loop-holds c = (omega arith, firsts-none (childrenAt (now (c .args .nodes))) (now (c .args .marks)) (c .pre .1))
+
+mark-children-requires : tie.Need-mark-children-requires Inv-loop μ-loop
+mark-children-requires c κs =
+    let L = c .before .before .loop in
+    let s = c .before .before .before in
+    (record { m = s .args .m; all = s .pre .0; inside = c .before .loop-test .taken }, L .inv .1 .size)
+
+returns : tie.Need-returns Inv-loop μ-loop
+returns c =
+    let d = c .before in
+    let L = d .before .before .before .loop in
+    let s = d .before .before .before .before in
+    took-old (again-firsts (childrenAt (now (s .args .nodes))) (L .inv .1) (s .args .m) (d .before .before .loop-test .taken) (d .mark-children .ensures .old (not-true (d .mark-children .result) (c .if1 .taken))))
+
+add-j : tie.Need-add-j Inv-loop μ-loop
+add-j c = omega (arith, c .before .before .before .before .before .pre .0 .low)
+
+loop-less : tie.Need-loop-less Inv-loop μ-loop
+loop-less c = omega arith
+
+loop-again : tie.Need-loop-again Inv-loop μ-loop
+loop-again c =
+    let d = c .before in
+    let L = d .before .before .before .loop in
+    let s = d .before .before .before .before in
+    (omega arith, grown-firsts (childrenAt (now (s .args .nodes))) (L .inv .1) (d .mark-children .ensures .new (not-false (d .mark-children .result) (c .if1 .left))))
+
+returns-2 : tie.Need-returns-2 Inv-loop μ-loop
+returns-2 c =
+    let L = c .before .loop in
+    let s = c .before .before in
+    let e : L .j ≡ s .args .m = omega arith in
+    took-new (subst (λ (x : ℕ). Grown (now (s .args .marks)) (L .marks) (childrenOfFirst (now (s .args .nodes)) x)) e (L .inv .1))
+
+pub mark-all-spec : {M : Type 1} → statement M
+mark-all-spec =
+    tie.close
+    (tie.spec
+    Inv-loop
+    μ-loop
+    loop-holds
+    mark-children-requires
+    returns
+    add-j
+    loop-less
+    loop-again
+    returns-2)

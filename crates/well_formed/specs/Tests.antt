@@ -1,0 +1,59 @@
+-- The rules of "Well-formed tables" that records do not show one by one, over the numbers of the nodes in use.
+use Prim.Native.Nat.{ℕ, _*_, _-_}
+use mathlib.Core.Bool.{Bool, _&&_, Bool·beq}
+use mathlib.Core.List.{List, map, flatten}
+use lib.IntN.{ℤ}
+use lib.ListN.{getD}
+use lib.Dec.{leb, ltb, eqb}
+use Rattle.integer.specs.Words.{every, counting, timesIn}
+use Rattle.dstree.specs.Node.{Kind}
+use Rattle.dstree.specs.Matching.{numbersIn}
+use Rattle.dstree.specs.WellFormed.{childrenOf, leafFits}
+use Rattle.tables.specs.Layout.{kindPlace}
+use Rattle.tables.specs.Tables.{recordOf}
+use Rattle.tables.specs.View.{smallAt, kindIn}
+use Rattle.records_fit.specs.Fits.{kindAlone}
+
+-- "trace count at most capacity; no node exactly when no trace", and of k traces at most 2k − 1 nodes, which follows from the rules on children and leaves
+unfoldable pub countsFit : ℕ → ℕ → ℕ → Bool
+countsFit m k capacity = leb k capacity && Bool·beq (eqb m 0) (eqb k 0) && leb m (2 * k - 1)
+
+-- ---- children
+
+abbrev pub childrenAt : List ℤ → ℕ → List ℕ
+childrenAt nodes j = childrenOf (kindAlone (recordOf nodes j))
+
+-- the children of the first m nodes
+abbrev pub childrenOfFirst : List ℤ → ℕ → List ℕ
+childrenOfFirst nodes m = flatten (map (childrenAt nodes) (counting m 0))
+
+-- "every node but 0 a child once"
+unfoldable pub childrenOnce : ℕ → List ℤ → Bool
+childrenOnce m nodes = every (λ number. eqb (timesIn number (childrenOfFirst nodes m)) 1) (counting (m - 1) 1)
+
+-- ---- leaves
+
+abbrev pub kindAt : List ℤ → List ℕ → ℕ → ℕ → Kind
+kindAt nodes links k j = kindIn links k (recordOf nodes j) (smallAt (recordOf nodes j) kindPlace)
+
+abbrev pub leafFitsAt : List ℤ → List ℕ → ℕ → ℕ → Bool
+leafFitsAt nodes links k j = leafFits (kindAt nodes links k j)
+
+abbrev pub numbersAt : List ℤ → List ℕ → ℕ → ℕ → List ℕ
+numbersAt nodes links k j = numbersIn (kindAt nodes links k j)
+
+-- the trace numbers of the first m nodes
+abbrev pub numbersOfFirst : List ℤ → List ℕ → ℕ → ℕ → List ℕ
+numbersOfFirst nodes links k m = flatten (map (numbersAt nodes links k) (counting m 0))
+
+-- "every trace number in one leaf, rising there, no leaf empty"
+unfoldable pub leavesHold : ℕ → List ℤ → ℕ → List ℕ → Bool
+leavesHold m nodes k links =
+    every (leafFitsAt nodes links k) (counting m 0)
+    && (every (λ number. eqb (timesIn number (numbersOfFirst nodes links k m)) 1) (counting k 0) && every (λ number. ltb number k) (numbersOfFirst nodes links k m))
+
+-- ---- marks
+
+-- so many numbers from `first` on are each marked once
+abbrev pub markedOnce : List ℕ → ℕ → ℕ → Bool
+markedOnce marks first count = every (λ number. eqb (getD marks number 0) 1) (counting count first)

@@ -1,0 +1,195 @@
+-- The keys that wait, and the leaves still to come: those below the nodes whose keys wait. The least key that waits is at most the key of every leaf
+-- to come, so that a leaf with the least key is the next. A turn takes one node away from `load`, the nodes still to be taken: it is a loop's measure,
+-- and the room that the keys need.
+use Prim.Native.Nat.{ℕ, suc, _+_, _≤_, _<_, max}
+use mathlib.Core.Path.{_≡_, refl, sym, _∙_, ap}
+use mathlib.Core.Logic.{⊎-elim}
+use mathlib.Core.List.{List, [], _∷_, map}
+use native.Mathlib.Omega.{arith}
+use lib.ListN.{length, length-map}
+use Rattle.heap.specs.Keys.{insertKey, pour, sortedOf}
+use Rattle.heap.proofs.Sorting.{Above, Sorted, le-or-lt, insert-nil, insert-here, insert-past, insert-first, pour-nil, pour-cons, pour-pour, pour-append, above-less, above-pour, sorted-insert, length-pour}
+use Rattle.dstree.specs.Measures.{Trace}
+use Rattle.dstree.specs.Node.{Test, leaf, inner, Tree, nodeAt}
+use Rattle.dstree.specs.Matching.{ownBound, bound, leaves}
+use Rattle.dstree.proofs.Bounds.{root-bound}
+use Rattle.best_first.specs.BestFirst.{keyOf, boundIn, numberIn, childKey, firstKey, inStead}
+use Rattle.best_first.proofs.Branching.{Branching, left-above, right-above, left-bound, right-bound}
+use Rattle.best_first.proofs.Shape.{nodeKey, Shape, tip, fork, weight, whole, below}
+use Rattle.best_first.proofs.Gather.{bag, weighed, weighed-leaf, weighed-inner, all-nodes, bag-leaf, bag-inner, all-leaves}
+
+-- the keys of the leaves still to come, in order
+abbrev pub toCome : Tree → Trace → List ℕ → List ℕ
+toCome tree query [] = []
+toCome tree query (x ∷ xs) = pour (bag tree (nodeKey tree query) (numberIn x)) (toCome tree query xs)
+
+-- how many nodes are still to be taken
+abbrev pub load : Tree → List ℕ → ℕ
+load tree [] = 0
+load tree (x ∷ xs) = weighed tree (numberIn x) + load tree xs
+
+-- each is the key of a node
+abbrev pub Keyed : Tree → Trace → List ℕ → Type 0
+Keyed tree query [] = Unit {0}
+Keyed tree query (x ∷ xs) = (numberIn x < length tree) × (x ≡ nodeKey tree query (numberIn x)) × Keyed tree query xs
+
+-- the keys that wait: of nodes, and in order
+pub record Front (tree : Tree) (query : Trace) (xs : List ℕ) : Type 0 where
+  pub sorted : Sorted xs
+  pub keyed : Keyed tree query xs
+
+-- ---- one more key waits
+
+come-inserted : (tree : Tree) (query : Trace) (a : ℕ) (xs : List ℕ) → toCome tree query (insertKey a xs) ≡ pour (bag tree (nodeKey tree query) (numberIn a)) (toCome tree query xs)
+come-inserted tree query a [] = rw (insert-nil a)
+come-inserted tree query a (x ∷ xs) =
+    let ih = come-inserted tree query a xs in
+    let B = bag tree (nodeKey tree query) in
+    ⊎-elim
+    (λ (p : a ≤ x). rw (insert-here a x xs p))
+    (λ (p : x < a). rw (insert-past a x xs p) (ap (pour (B (numberIn x))) ih ∙ pour-pour (B (numberIn x)) (B (numberIn a)) (toCome tree query xs)))
+    (le-or-lt a x)
+
+load-inserted : (tree : Tree) (a : ℕ) (xs : List ℕ) → load tree (insertKey a xs) ≡ weighed tree (numberIn a) + load tree xs
+load-inserted tree a [] = rw (insert-nil a)
+load-inserted tree a (x ∷ xs) =
+    let ih = load-inserted tree a xs in
+    ⊎-elim (λ (p : a ≤ x). rw (insert-here a x xs p)) (λ (p : x < a). rw (insert-past a x xs p) (omega (arith, ih))) (le-or-lt a x)
+
+keyed-inserted : (tree : Tree) (query : Trace) (a : ℕ) (xs : List ℕ) → numberIn a < length tree → a ≡ nodeKey tree query (numberIn a) → Keyed tree query xs → Keyed tree query (insertKey a xs)
+keyed-inserted tree query a [] h e k = rw (insert-nil a) (h, e, tt)
+keyed-inserted tree query a (x ∷ xs) h e k =
+    let ih = keyed-inserted tree query a xs h e (k .2) in
+    ⊎-elim (λ (p : a ≤ x). rw (insert-here a x xs p) (h, e, k)) (λ (p : x < a). rw (insert-past a x xs p) (k .0, k .1, ih)) (le-or-lt a x)
+
+-- ---- no more keys wait than there are nodes to take, and no more leaves come
+
+heavy : (s : Shape) → 1 ≤ weight s
+unfolding weight
+heavy (tip i) = omega arith
+heavy (fork i a b) = omega arith
+
+pub length-load : (tree : Tree) (xs : List ℕ) → length xs ≤ load tree xs
+length-load tree [] = omega arith
+length-load tree (x ∷ xs) = omega (arith, heavy (whole tree (numberIn x)), length-load tree xs)
+
+module _ (tree : Tree) (b : Branching tree) (query : Trace) where
+  -- a key holds its bound and its number
+  pub key-number : (i : ℕ) → i < length tree → numberIn (nodeKey tree query i) ≡ i
+  key-number i h = omega (arith, b .few)
+
+  pub key-bound : (i : ℕ) → i < length tree → boundIn (nodeKey tree query i) ≡ bound tree query i
+  key-bound i h = omega (arith, b .few)
+
+  -- no leaf to come is before the least key
+  come-above : (m : ℕ) (xs : List ℕ) → Above m xs → Keyed tree query xs → Above m (toCome tree query xs)
+  come-above m [] a k = tt
+  come-above m (x ∷ xs) a k =
+      let i = numberIn x in
+      let key = nodeKey tree query in
+      let e : x ≡ key i = k .1 in
+      above-pour m (bag tree key i) (toCome tree query xs) (above-less m (key i) (bag tree key i) (omega (arith, e, a .0)) (below tree b query i)) (come-above m xs (a .1) (k .2))
+
+  -- ---- a turn: x is the least key
+
+  module _ (x : ℕ) (xs : List ℕ) (f : Front tree query (x ∷ xs)) where
+    pub number-inside : numberIn x < length tree
+    number-inside = f .keyed .0
+
+    pub bound-is : boundIn x ≡ bound tree query (numberIn x)
+    bound-is = ap boundIn (f .keyed .1) ∙ key-bound (numberIn x) (f .keyed .0)
+
+    pub come-first : Above x (toCome tree query (x ∷ xs))
+    come-first = come-above x (x ∷ xs) (omega arith, f .sorted .0) (f .keyed)
+
+    -- its node is a leaf
+    module _ {ns : List ℕ} (e : nodeAt tree (numberIn x) .kind ≡ leaf ns) where
+      pub come-leaf : toCome tree query (x ∷ xs) ≡ x ∷ toCome tree query xs
+      come-leaf =
+          rw (bag-leaf tree b (nodeKey tree query) (numberIn x) e, ← f .keyed .1)
+          (pour-cons x [] (toCome tree query xs) ∙ ap (insertKey x) (pour-nil (toCome tree query xs)) ∙ insert-first x (toCome tree query xs) (come-above x xs (f .sorted .0) (f .keyed .2)))
+
+      pub load-leaf : load tree (x ∷ xs) ≡ suc (load tree xs)
+      load-leaf = omega (arith, weighed-leaf tree b (numberIn x) e)
+
+      pub front-leaf : Front tree query xs
+      front-leaf = record { sorted = f .sorted .1; keyed = f .keyed .2 }
+
+    -- its node has two children, whose keys wait then
+    module _ {test : Test} {l r : ℕ} (e : nodeAt tree (numberIn x) .kind ≡ inner test l r) where
+      -- a child's bound is the greater of its own and its parent's, which the key holds
+      pub left-key : childKey tree query (boundIn x) l ≡ nodeKey tree query l
+      left-key = ap (λ (k : ℕ). keyOf k l) (ap (max (ownBound query (nodeAt tree l))) bound-is ∙ sym (left-bound tree b (numberIn x) e query))
+
+      pub right-key : childKey tree query (boundIn x) r ≡ nodeKey tree query r
+      right-key = ap (λ (k : ℕ). keyOf k r) (ap (max (ownBound query (nodeAt tree r))) bound-is ∙ sym (right-bound tree b (numberIn x) e query))
+
+      pub left-inside : l < length tree
+      left-inside = left-above tree b (numberIn x) e .1
+
+      pub right-inside : r < length tree
+      right-inside = right-above tree b (numberIn x) e .1
+
+      number-left : numberIn (nodeKey tree query l) ≡ l
+      number-left = key-number l left-inside
+
+      number-right : numberIn (nodeKey tree query r) ≡ r
+      number-right = key-number r right-inside
+
+      stead-is : inStead tree query x l r xs ≡ insertKey (nodeKey tree query l) (insertKey (nodeKey tree query r) xs)
+      stead-is = rw (left-key, right-key)
+
+      pub come-inner : toCome tree query (x ∷ xs) ≡ toCome tree query (inStead tree query x l r xs)
+      come-inner =
+          let key = nodeKey tree query in
+          let L = bag tree key l in
+          let R = bag tree key r in
+          let C = toCome tree query xs in
+          rw (stead-is, bag-inner tree b key (numberIn x) e)
+          (pour-append L R C ∙ sym (come-inserted tree query (key l) (insertKey (key r) xs)
+          ∙ ap (λ (i : ℕ). pour (bag tree key i) (toCome tree query (insertKey (key r) xs))) number-left
+          ∙ ap (pour L) (come-inserted tree query (key r) xs ∙ ap (λ (i : ℕ). pour (bag tree key i) C) number-right)))
+
+      pub load-inner : load tree (x ∷ xs) ≡ suc (load tree (inStead tree query x l r xs))
+      load-inner =
+          let key = nodeKey tree query in
+          omega (
+            arith,
+            ap (load tree) stead-is,
+            weighed-inner tree b (numberIn x) e,
+            load-inserted tree (key l) (insertKey (key r) xs),
+            load-inserted tree (key r) xs,
+            ap (weighed tree) number-left,
+            ap (weighed tree) number-right,
+          )
+
+      pub front-inner : Front tree query (inStead tree query x l r xs)
+      front-inner =
+          let key = nodeKey tree query in
+          rw stead-is
+          (record {
+            sorted = sorted-insert (key l) (insertKey (key r) xs) (sorted-insert (key r) xs (f .sorted .1));
+            keyed = keyed-inserted tree query (key l) (insertKey (key r) xs) (rw number-left left-inside) (rw number-left refl)
+                (keyed-inserted tree query (key r) xs (rw number-right right-inside) (rw number-right refl) (f .keyed .2));
+          })
+
+  -- ---- where the search begins: node 0 waits
+
+  first-is : firstKey tree query ≡ nodeKey tree query 0
+  first-is = let e = root-bound tree (b .child) (b .one-parent) query (b .some-node) in omega (arith, e)
+
+  number-first : numberIn (firstKey tree query) ≡ 0
+  number-first = omega arith
+
+  pub come-start : toCome tree query (firstKey tree query ∷ []) ≡ sortedOf (map (nodeKey tree query) (leaves tree))
+  come-start = ap (λ (i : ℕ). pour (bag tree (nodeKey tree query) i) []) number-first ∙ all-leaves tree b (nodeKey tree query)
+
+  pub load-start : load tree (firstKey tree query ∷ []) ≡ length tree
+  load-start = omega (arith, ap (weighed tree) number-first, all-nodes tree b)
+
+  pub front-start : Front tree query (firstKey tree query ∷ [])
+  front-start = record { sorted = (tt, tt); keyed = (rw number-first (b .some-node), first-is ∙ ap (nodeKey tree query) (sym number-first), tt) }
+
+  -- as many leaves come as there are
+  pub length-start : length (toCome tree query (firstKey tree query ∷ [])) ≡ length (leaves tree)
+  length-start = ap length come-start ∙ length-pour (map (nodeKey tree query) (leaves tree)) [] ∙ omega (arith, length-map (leaves tree) (nodeKey tree query))

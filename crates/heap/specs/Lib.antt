@@ -1,0 +1,3 @@
+-- Keys in order, and what the calls on a heap of them leave.
+pub mod Keys
+pub mod Heap

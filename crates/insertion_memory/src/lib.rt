@@ -1,1 +1,1 @@
-// Adding a trace to tables that are known to be well formed.
+// What adding does to the lent tables, place by place (specs/), and that it means document 01's insertion (proofs/). No code.

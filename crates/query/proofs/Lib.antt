@@ -1,0 +1,4 @@
+pub mod Passed
+pub mod Cut
+pub mod Own
+pub mod FromRules

@@ -1,0 +1,112 @@
+-- `query::bound::own_bound` meets its contract: the total, and the terms of the segments that are left, make the whole bound. A term is at most 2^33 for
+-- each of its samples.
+use mathlib.Core.Path.{_≡_, sym, ap, subst}
+use Prim.Native.Nat.{_+_, _*_, _-_, _^_, _≤_}
+use native.Mathlib.Omega.{arith}
+use lib.ListN.{length}
+use Rattle.dstree.specs.Node.{totalOver}
+use Rattle.dstree.specs.Matching.{boundOn}
+use Rattle.tables.specs.Layout.{segmentsPlace}
+use Rattle.tables.specs.View.{smallAt, segmentsIn}
+use Rattle.query.specs.Bounded.{AllLimited, boundBy}
+use Rattle.query.proofs.Own.{segmentsAfter, Next, next-at, bound-more, bound-end, after-start}
+use Rattle.query.proofs.bound.own_bound.Statement.{statement}
+use Rattle.query.proofs.bound.own_bound.Tie as tie
+
+abbrev Inv-loop : tie.InvT-loop
+Inv-loop «record» query sums squares count total₀ first₀ i₀ total first i =
+    (i ≤ count)
+    × (1 ≤ first)
+    × (total + totalOver (boundOn query) first (segmentsAfter «record» count i) ≡ boundBy query «record»)
+    × (total + 2 ^ 33 ≤ 2 ^ 33 * first)
+    × (first ≤ length query + 1)
+    × AllLimited (length query) first (segmentsAfter «record» count i)
+
+abbrev μ-loop : tie.MeasureT-loop
+μ-loop «record» query sums squares count total₀ first₀ i₀ total first i = count - i
+
+small-at-requires : tie.Need-small-at-requires Inv-loop μ-loop
+small-at-requires c κs = (c .pre .1 .places, omega arith)
+
+loop-holds : tie.Need-loop-holds Inv-loop μ-loop
+loop-holds c =
+    let s = c .before in
+    let r = s .args .«record» .now in
+    let e : c .small-at .result ≡ smallAt r segmentsPlace = c .small-at .ensures in
+    let a : segmentsAfter r (c .small-at .result) 0 ≡ segmentsIn r = rw e (after-start r) in
+    (omega arith, omega arith, omega (arith, ap (totalOver (boundOn (s .args .query .now)) 1) a), omega arith, omega arith, subst (AllLimited (length (s .args .query .now)) 1) (sym a) (s .pre .1 .limited))
+
+-- no more than 16 segments
+few : (c : tie.At-loop Inv-loop μ-loop) → c .before .small-at .result ≤ 16
+few c = omega (arith, c .before .small-at .ensures, c .before .before .pre .1 .few)
+
+mul-small-at : tie.Need-mul-small-at Inv-loop μ-loop
+mul-small-at c = omega (arith, few (c .before))
+
+add-small-at : tie.Need-add-small-at Inv-loop μ-loop
+add-small-at c = omega (arith, few (c .before))
+
+small-at-requires-2 : tie.Need-small-at-requires-2 Inv-loop μ-loop
+small-at-requires-2 c κs = (c .before .before .before .pre .1 .places, omega (arith, few (c .before)))
+
+-- the segment that is next, and how the rest go on
+next : (c : tie.After-small-at2 Inv-loop μ-loop) →
+    let s = c .before .before .before .before in
+    let l = c .before .before .loop in
+    Next (s .args .«record» .now) (length (s .args .query .now)) (c .before .before .before .small-at .result) (l .first) (l .i) (c .small-at2 .result)
+next c =
+    let s = c .before .before .before .before in
+    let l = c .before .before .loop in
+    next-at (s .args .«record» .now) (c .before .before .before .small-at .result) (l .i) (c .before .loop-test .taken) (c .small-at2 .result) (c .small-at2 .ensures) (l .inv .5)
+
+segment-term-requires : tie.Need-segment-term-requires Inv-loop μ-loop
+segment-term-requires c κs =
+    let s = c .before .before .before .before in
+    let x = next c in
+    (s .pre .0, record { from-1 = c .before .before .loop .inv .1; rises = x .rises; to-n = x .to-n }, s .pre .1 .places, omega (arith, few (c .before .before)), x .limited)
+
+add-total : tie.Need-add-total Inv-loop μ-loop
+add-total c = omega (arith, c .segment-term .ensures .1, c .before .before .before .loop .inv .3, next (c .before) .rises, next (c .before) .to-n, c .before .before .before .before .before .pre .0 .few)
+
+add-first : tie.Need-add-first Inv-loop μ-loop
+add-first c = omega (arith, next (c .before) .to-n, c .before .before .before .before .before .pre .0 .few)
+
+add-i : tie.Need-add-i Inv-loop μ-loop
+add-i c = omega (arith, few (c .before .before .before))
+
+loop-less : tie.Need-loop-less Inv-loop μ-loop
+loop-less c = omega arith
+
+loop-again : tie.Need-loop-again Inv-loop μ-loop
+loop-again c =
+    let s = c .before .before .before .before .before in
+    let l = c .before .before .before .loop in
+    let x = next (c .before) in
+    let more = bound-more (s .args .«record» .now) (c .before .before .before .before .small-at .result) (l .i) (c .before .before .loop-test .taken) (c .before .small-at2 .result) (c .before .small-at2 .ensures) (s .args .query .now) (l .first) in
+    (omega arith, omega arith, omega (arith, l .inv .2, more, c .segment-term .ensures .0), omega (arith, l .inv .3, c .segment-term .ensures .1, x .rises), omega (arith, x .to-n), x .on)
+
+returns : tie.Need-returns Inv-loop μ-loop
+returns c =
+    let s = c .before .before .before in
+    let l = c .before .loop in
+    let rest = bound-end (s .args .«record» .now) (c .before .before .small-at .result) (s .args .query .now) (l .first) (l .i) (c .loop-test .left) in
+    (omega (arith, l .inv .2, rest), omega (arith, l .inv .3, l .inv .4, s .pre .0 .few))
+
+pub own-bound-spec : {M : Type 1} → statement M
+own-bound-spec =
+    tie.close
+    (tie.spec
+    Inv-loop
+    μ-loop
+    small-at-requires
+    loop-holds
+    mul-small-at
+    add-small-at
+    small-at-requires-2
+    segment-term-requires
+    add-total
+    add-first
+    add-i
+    loop-less
+    loop-again
+    returns)

@@ -1,0 +1,144 @@
+-- `query::bound::segment_term` meets its contract: it is the definition's term at the query's figures and the record's fields, and these are within the
+-- limits (`Own`).
+use mathlib.Core.Path.{_≡_, ap, ap₂, _∙_}
+use Prim.Native.Nat.{ℕ, suc, _+_, _-_, _≤_}
+use native.Mathlib.Nat.{mul-le-mul}
+use native.Mathlib.Omega.{arith}
+use lib.IntN.{ℤ}
+use mir.Syntax.{w64}
+use mir.Facts.{toZ-ofZ}
+use Rattle.integer.proofs.Width.{of-mag, read}
+use Rattle.segment.specs.Terms.{sumGap, scatterGap, boundTerm}
+use Rattle.dstree.specs.Figures.{run, width}
+use Rattle.dstree.specs.Node.{Segment}
+use Rattle.dstree.specs.Matching.{boundOn}
+use Rattle.tables.specs.View.{scatterIn, segmentIn}
+use Rattle.query.proofs.Own.{gaps-size}
+use borrow.Author.Needs.{needs}
+use Rattle.query.proofs.bound.segment_term.Statement.{statement}
+use Rattle.query.proofs.bound.segment_term.Tie as tie
+
+figures-on-requires : tie.Need-figures-on-requires
+figures-on-requires c κs = search needs
+
+sub-w : tie.Need-sub-w
+sub-w c = search needs
+
+add-w : tie.Need-add-w
+add-w c = search needs
+
+mul-at : tie.Need-mul-at
+mul-at c = search needs
+
+add-at : tie.Need-add-at
+add-at c = search needs
+
+add-value-at : tie.Need-add-value-at
+add-value-at c = search needs
+
+value-at-requires : tie.Need-value-at-requires
+value-at-requires c κs = search needs
+
+add-value-at-2 : tie.Need-add-value-at-2
+add-value-at-2 c = search needs
+
+value-at-requires-2 : tie.Need-value-at-requires-2
+value-at-requires-2 c κs = search needs
+
+add-value-at-3 : tie.Need-add-value-at-3
+add-value-at-3 c = search needs
+
+value-at-requires-3 : tie.Need-value-at-requires-3
+value-at-requires-3 c κs = search needs
+
+scatter-of-requires : tie.Need-scatter-of-requires
+scatter-of-requires c κs = search needs
+
+add-value-at-4 : tie.Need-add-value-at-4
+add-value-at-4 c = search needs
+
+value-at-requires-4 : tie.Need-value-at-requires-4
+value-at-requires-4 c κs = search needs
+
+scatter-of-requires-2 : tie.Need-scatter-of-requires-2
+scatter-of-requires-2 c κs = search needs
+
+-- the figures and the fields, as they are read back
+module _ (c : tie.After-struct-told) where
+  abbrev start : tie.Start
+  start = c .before .before .before .before .before .before .before .before
+
+  abbrev segment : Segment
+  segment = segmentIn (start .args .«record» .now) (start .args .i)
+
+  abbrev sum : ℤ
+  sum = c .before .before .before .before .before .before .before .figures-on .result .sum
+
+  sum-read : read w64 sum ≡ sum
+  sum-read = toZ-ofZ (of-mag {w = w64} sum (c .struct-told .given .0 .1))
+
+  least-read : read w64 (c .before .before .before .before .before .before .value-at .result) ≡ segment .leastSum
+  unfolding segmentIn
+  least-read = let v = c .before .before .before .before .before .before .value-at in toZ-ofZ (of-mag {w = w64} (v .result) (v .ok)) ∙ v .ensures
+
+  greatest-read : read w64 (c .before .before .before .before .before .value-at2 .result) ≡ segment .greatestSum
+  unfolding segmentIn
+  greatest-read = let v = c .before .before .before .before .before .value-at2 in toZ-ofZ (of-mag {w = w64} (v .result) (v .ok)) ∙ v .ensures
+
+  least-told : c .before .before .before .scatter-of .result ≡ segment .leastScatter
+  unfolding segmentIn
+  least-told = let v = c .before .before .before .before .value-at3 in c .before .before .before .scatter-of .ensures ∙ ap scatterIn (toZ-ofZ (of-mag {w = w64} (v .result) (v .ok)) ∙ v .ensures)
+
+  greatest-told : c .before .scatter-of2 .result ≡ segment .greatestScatter
+  unfolding segmentIn
+  greatest-told = let v = c .before .before .value-at4 in c .before .scatter-of2 .ensures ∙ ap scatterIn (toZ-ofZ (of-mag {w = w64} (v .result) (v .ok)) ∙ v .ensures)
+
+segment-bound-requires : tie.Need-segment-bound-requires
+segment-bound-requires c κs =
+    let s = start c in
+    let f = c .before .before .before .before .before .before .before .figures-on in
+    let w : width (run (s .args .first) (s .args .last)) ≤ 256 = omega (arith, s .pre .1 .from-1, s .pre .1 .to-n, s .pre .0 .few) in
+    let m = s .pre .4 in
+    rw (sum-read c, least-read c, greatest-read c)
+    (omega arith, omega (arith, s .pre .1 .from-1, s .pre .1 .to-n, s .pre .0 .few), omega (arith, f .ensures .1 .1 .0), omega (arith, m .least-sum), omega (arith, m .greatest-sum), omega (arith, f .ensures .1 .1 .1, mul-le-mul w w), omega (arith, least-told c, m .least-scatter, mul-le-mul w w))
+
+returns : tie.Need-returns
+unfolding boundOn
+returns c =
+    let k = c .before in
+    let s = start k in
+    let f = k .before .before .before .before .before .before .before .figures-on in
+    let on = run (s .args .first) (s .args .last) in
+    let g = segment k in
+    let w : s .args .last - s .args .first + 1 ≡ suc (s .args .last) - s .args .first = omega (arith, s .pre .1 .rises) in
+    let low = k .before .before .before .scatter-of .result in
+    let high = k .before .scatter-of2 .result in
+    let told : c .segment-bound .result ≡ boundTerm (suc (s .args .last) - s .args .first) (sumGap (f .result .sum) (g .leastSum) (g .greatestSum)) (scatterGap (f .result .scatter) low high) =
+    rw (sum-read k, least-read k, greatest-read k, w) at (c .segment-bound .ensures .0) in
+    let e : c .segment-bound .result ≡ boundTerm (suc (s .args .last) - s .args .first) (sumGap (f .result .sum) (g .leastSum) (g .greatestSum)) (scatterGap (f .result .scatter) (g .leastScatter) (g .greatestScatter)) =
+    told ∙ ap₂ (λ (a b : ℕ). boundTerm (width on) (sumGap (f .result .sum) (g .leastSum) (g .greatestSum)) (scatterGap (f .result .scatter) a b)) (least-told k) (greatest-told k) in (
+      e ∙ ap₂ (λ (t : ℤ) (u : ℕ). boundTerm (width on) (sumGap t (g .leastSum) (g .greatestSum)) (scatterGap u (g .leastScatter) (g .greatestScatter))) (f .ensures .0) (f .ensures .1 .0),
+      omega (arith, e, gaps-size (width on) (f .result .sum) (f .result .scatter) g (omega (arith, s .pre .1 .rises)) (f .ensures .1 .1 .0) (f .ensures .1 .1 .1) (s .pre .4)),
+    )
+
+pub segment-term-spec : {M : Type 1} → statement M
+segment-term-spec =
+    tie.close
+    (tie.spec
+    figures-on-requires
+    sub-w
+    add-w
+    mul-at
+    add-at
+    add-value-at
+    value-at-requires
+    add-value-at-2
+    value-at-requires-2
+    add-value-at-3
+    value-at-requires-3
+    scatter-of-requires
+    add-value-at-4
+    value-at-requires-4
+    scatter-of-requires-2
+    segment-bound-requires
+    returns)

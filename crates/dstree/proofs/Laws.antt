@@ -29,11 +29,11 @@ use Rattle.dstree.proofs.Closed.{claims-of}
 -- ---- what a library is
 
 module _ (limit : ℕ) (n : ℕ) (x : Trace) (is-one : T (isTrace limit n x)) where
-  trace-length : length x ≡ n
+  pub trace-length : length x ≡ n
   unfolding isTrace
   trace-length = eqb→eq (length x) n (passed (eqb (length x) n) (every (λ sample. ltb (mag sample) limit) x ∷ []) is-one .0)
 
-  trace-within : Within limit x
+  pub trace-within : Within limit x
   unfolding isTrace
   trace-within i h = ltb→lt (mag (getD x i (pos 0))) limit (from-every (λ sample. ltb (mag sample) limit) x (passed (eqb (length x) n) (every (λ sample. ltb (mag sample) limit) x ∷ []) is-one .1) (in-getD x i (pos 0) h))
 

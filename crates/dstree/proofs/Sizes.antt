@@ -30,10 +30,10 @@ module _ (limit n : ℕ) (stored : List Trace) (all-n : (t : ℕ) → t < length
   unfolding samplesOn
   within-on on x h = within-take (width on) (drop (on .first - 1) x) (within-drop (on .first - 1) x h)
 
-  sum-in : (on : Run) → RunIn n on → (t : ℕ) → t < length stored → natAbs (sumOn on (getD stored t [])) ≤ sumLimit limit (width on)
+  pub sum-in : (on : Run) → RunIn n on → (t : ℕ) → t < length stored → natAbs (sumOn on (getD stored t [])) ≤ sumLimit limit (width on)
   sum-in on r t h = rw (samples-length on (getD stored t []) r (all-n t h)) at (sum-limit limit (samplesOn on (getD stored t [])) (within-on on (getD stored t []) (all-within t h)))
 
-  scatter-in : (on : Run) → RunIn n on → (t : ℕ) → t < length stored → scatterOn on (getD stored t []) ≤ scatterLimit limit (width on)
+  pub scatter-in : (on : Run) → RunIn n on → (t : ℕ) → t < length stored → scatterOn on (getD stored t []) ≤ scatterLimit limit (width on)
   scatter-in on r t h = rw (samples-length on (getD stored t []) r (all-n t h)) at (scatter-limit limit (samplesOn on (getD stored t [])) (within-on on (getD stored t []) (all-within t h)))
 
   -- ---- a node's record
@@ -48,13 +48,13 @@ module _ (limit n : ℕ) (stored : List Trace) (all-n : (t : ℕ) → t < length
       greatest-scatter = rw (e .greatest-scatter .has) (scatter-in on r (e .greatest-scatter .trace) (number (e .greatest-scatter .trace) (e .greatest-scatter .is-one)));
     }
 
-    all-limited : {from : ℕ} {l : List Segment} → 1 ≤ from → AllExact stored P from l → Rises n from (ends l) → AllLimited limit from l
+    pub all-limited : {from : ℕ} {l : List Segment} → 1 ≤ from → AllExact stored P from l → Rises n from (ends l) → AllLimited limit from l
     all-limited one exact-none rises-none = l-none
     all-limited {from} one (exact-more {s} e w) (rises-more h k r) = l-more (limited (run from (s .end)) (record { from-one = one; some-sample = h; to-n = k }) s e) (all-limited (omega arith) w r)
 
   -- ---- a test
 
-  between : (figure : Figure) (on : Run) → RunIn n on → (t u : ℕ) → t < length stored → u < length stored → Between limit figure (width on) (figureOf figure on (getD stored t []) +ℤ figureOf figure on (getD stored u []))
+  pub between : (figure : Figure) (on : Run) → RunIn n on → (t u : ℕ) → t < length stored → u < length stored → Between limit figure (width on) (figureOf figure on (getD stored t []) +ℤ figureOf figure on (getD stored u []))
   unfolding figureOf
   between bySum on r t u h k = omega (arith, natAbs-add (sumOn on (getD stored t [])) (sumOn on (getD stored u [])), sum-in on r t h, sum-in on r u k)
   between byScatter on r t u h k = (nat _, pos-mono (omega (arith, scatter-in on r t h, scatter-in on r u k)))

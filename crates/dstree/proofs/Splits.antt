@@ -335,7 +335,7 @@ module _ (n : ℕ) (stored : List Trace) (tree : Tree) (inv : Inv n stored tree)
 
 -- ---- the best split
 
-abbrev OfSome : {A : Type 0} → (A → Type 0) → Option A → Type 0
+abbrev pub OfSome : {A : Type 0} → (A → Type 0) → Option A → Type 0
 OfSome P none = Unit
 OfSome P (some a) = P a
 
@@ -387,7 +387,7 @@ module _ (n : ℕ) (stored : List Trace) (es numbers : List ℕ) where
       to-is (inl i) = inl (in-is i)
       to-is (inr i) = inr (in-is i)
 
-  best-good : Fits n es → OfSome (Good n stored es numbers) (best stored es numbers)
+  pub best-good : Fits n es → OfSome (Good n stored es numbers) (best stored es numbers)
   unfolding best
   best-good f =
       best-all (gain stored es numbers)

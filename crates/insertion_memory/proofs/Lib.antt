@@ -5,6 +5,7 @@ pub mod Sides
 pub mod Sound
 pub mod SoundJoined
 pub mod SoundSplit
+pub mod Branches
 pub mod FromRules
 pub mod Placing
 pub mod Stands
@@ -17,3 +18,4 @@ pub mod FromTables
 pub mod First
 pub mod Meaning
 pub mod Made
+pub mod Keeps

@@ -7,8 +7,7 @@ use mathlib.Core.List.{List, [], _∷_, _++_, foldl, flatten, append-assoc, appe
 use native.Mathlib.Omega.{arith}
 use lib.IntN.{pos}
 use lib.ListN.{length, length-map, length-append, length-replicate, length-drop}
-use lib.Signed.{mag}
-use lib.Dec.{T, leb, ltb, eqb, leb→le, le→leb, eqb→eq}
+use lib.Dec.{T, leb, leb→le, le→leb}
 use Rattle.integer.specs.Words.{counting, every}
 use Rattle.integer.proofs.Tests.{passed, passes}
 use Rattle.integer.proofs.Lists.{In, in-append-left, in-append-right, first, from-every, every-of}
@@ -17,7 +16,7 @@ use Rattle.dstree.specs.Measures.{Trace, Measures, sampleLimit, inRange, isTrac
 use Rattle.dstree.specs.Node.{Tree}
 use Rattle.dstree.specs.Adding.{insertion, grown, treeOf}
 use Rattle.dstree.specs.WellFormed as abstract
-use Rattle.dstree.proofs.Laws.{shape}
+use Rattle.dstree.proofs.Laws.{trace-length, shape}
 use Rattle.dstree.specs.Book.{Lent}
 use Rattle.tables.specs.Layout.{controlFields, recordPlaces}
 use Rattle.tables.specs.Tables.{Tables, lentOf, measuresOf, traceCount, filled}
@@ -47,10 +46,6 @@ module _ (limit : ℕ) (m : Measures) (traces more : List Trace) (library : T (i
   pub is-trace : {x : Trace} → In x more → T (isTrace limit (m .n) x)
   is-trace i = from-every (isTrace limit (m .n)) (traces ++ more) (each .1 .1) (in-append-right traces i)
 
-trace-length : (limit n : ℕ) (x : Trace) → T (isTrace limit n x) → length x ≡ n
-unfolding isTrace
-trace-length limit n x t = eqb→eq (length x) n (passed (eqb (length x) n) (every (λ sample. ltb (mag sample) limit) x ∷ []) t .0)
-
 -- ---- what made tables hold
 
 -- tables that hold these measures and traces: the tree is the one that document 01's steps make of them, and nothing is spoiled
@@ -67,6 +62,17 @@ pub count-is : (t : Tables) → traceCount t ≡ length (tracesIn t)
 unfolding tracesIn
 count-is t = sym (length-map (counting (traceCount t) 0) (traceIn (t .samples) (measuresOf t .n)) ∙ counting-length (traceCount t) 0)
 
+-- tables stay long enough
+pub long-after : (t : Tables) (x : Trace) → Long t → Added t x → Long (addedTo t x)
+long-after t x long a =
+    let lengths : lentOf (addedTo t x) ≡ lentOf t = a .lengths-stay in
+    record {
+      control-long = subst (λ (l : Lent). controlFields ≤ l .control) (sym lengths) (long .control-long);
+      samples-long = subst (λ (k : Measures). samplesNeeded k ≤ length (addedTo t x .samples)) (sym (a .measures-stay)) (subst (λ (l : Lent). samplesNeeded (measuresOf t) ≤ l .samples) (sym lengths) (long .samples-long));
+      nodes-long = subst (λ (k : Measures). recordsNeeded k * recordPlaces ≤ length (addedTo t x .nodes)) (sym (a .measures-stay)) (subst (λ (l : Lent). recordsNeeded (measuresOf t) * recordPlaces ≤ l .nodes) (sym lengths) (long .nodes-long));
+      links-long = subst (λ (k : Measures). linksNeeded k ≤ length (addedTo t x .links)) (sym (a .measures-stay)) (subst (λ (l : Lent). linksNeeded (measuresOf t) ≤ l .links) (sym lengths) (long .links-long));
+    }
+
 module _ (m : Measures) where
   shorter : (traces more : List Trace) → T (isLibrary sampleLimit m (traces ++ more)) → T (isLibrary sampleLimit m traces)
   unfolding isLibrary
@@ -79,7 +85,7 @@ module _ (m : Measures) where
   pub holds-more : (t : Tables) (traces : List Trace) (x : Trace) → Holds t m traces → T (isLibrary sampleLimit m (traces ++ (x ∷ []))) → Holds (addedTo t x) m (traces ++ (x ∷ []))
   holds-more t traces x h library = record {
     formed = well-formed-after t x (h .formed) (h .long) size less (subst (λ (tree : Tree). T (abstract.wellFormed sampleLimit (measuresOf t) (suc (traceCount t)) tree)) (sym new-tree) new-formed);
-    long = long-after;
+    long = long-after t x (h .long) a;
     measures-are = a .measures-stay ∙ h .measures-are;
     traces-are = a .traces ∙ ap (λ (l : List Trace). l ++ (x ∷ [])) (h .traces-are);
     tree-is = a .tree ∙ new-tree;
@@ -110,16 +116,6 @@ module _ (m : Measures) where
       new-formed =
           let e : suc (traceCount t) ≡ length (traces ++ (x ∷ [])) = omega (arith, counted, length-append traces (x ∷ [])) in
           rw (h .measures-are, e) (shape sampleLimit m (traces ++ (x ∷ [])) library .well-formed)
-
-      long-after : Long (addedTo t x)
-      long-after =
-          let lengths : lentOf (addedTo t x) ≡ lentOf t = a .lengths-stay in
-          record {
-            control-long = subst (λ (l : Lent). controlFields ≤ l .control) (sym lengths) (h .long .control-long);
-            samples-long = subst (λ (k : Measures). samplesNeeded k ≤ length (addedTo t x .samples)) (sym (a .measures-stay)) (subst (λ (l : Lent). samplesNeeded (measuresOf t) ≤ l .samples) (sym lengths) (h .long .samples-long));
-            nodes-long = subst (λ (k : Measures). recordsNeeded k * recordPlaces ≤ length (addedTo t x .nodes)) (sym (a .measures-stay)) (subst (λ (l : Lent). recordsNeeded (measuresOf t) * recordPlaces ≤ l .nodes) (sym lengths) (h .long .nodes-long));
-            links-long = subst (λ (k : Measures). linksNeeded k ≤ length (addedTo t x .links)) (sym (a .measures-stay)) (subst (λ (l : Lent). linksNeeded (measuresOf t) ≤ l .links) (sym lengths) (h .long .links-long));
-          }
 
   -- addings in order, to tables that hold some traces
   pub holds-all : (t : Tables) (traces more : List Trace) → Holds t m traces → T (isLibrary sampleLimit m (traces ++ more)) → Holds (foldl addedTo t more) m (traces ++ more)

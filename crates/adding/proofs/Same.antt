@@ -1,0 +1,187 @@
+-- A stored trace that joins nodes and links by the records does what adding does to tables.
+-- The idea: the way by the records is the tree's way, and the list that starts at the leaf's first trace is the leaf's numbers.
+use mathlib.Core.Path.{_≡_, refl, sym, ap, ap₂, subst, _∙_}
+use mathlib.Core.List.{List, foldl}
+use Prim.Native.Nat.{ℕ, zero, suc, _*_, _≤_, _<_}
+use native.Mathlib.Nat.{mul-le-mul-right}
+use native.Mathlib.Omega.{arith}
+use lib.IntN.{ℤ}
+use lib.ListN.{length}
+use lib.Seq.{paste}
+use lib.Dec.{T}
+use Rattle.integer.specs.Words.{lastOf}
+use Rattle.integer.proofs.Lists.{In, first}
+use Rattle.dstree.specs.Measures.{Trace, samplesNeeded}
+use Rattle.dstree.specs.Node.{Kind, leaf, Tree, nodeAt}
+use Rattle.dstree.specs.Adding.{way, widenAll, join}
+use Rattle.dstree.specs.Matching.{numbersIn}
+use Rattle.tables.specs.Layout.{kindPlace, firstPlace}
+use Rattle.tables.specs.Tables.{Tables, measuresOf, traceCount, nodeCount, recordOf}
+use Rattle.tables.specs.View.{smallAt, numbersFrom, kindIn, treeIn, tracesIn, wellFormed}
+use Rattle.leaf_figures.specs.Walk.{storedIn, numbersOf}
+use Rattle.insertion.specs.Way.{wayIn, Descendable}
+use Rattle.insertion.proofs.Down.{way-same}
+use Rattle.insertion_memory.specs.Records.{widenRecord}
+use Rattle.insertion_memory.specs.Links.{joined}
+use Rattle.insertion_memory.specs.Memory.{Held, held, onRecord, splitAllOf, firstHeld, joinedHeld, heldAfter}
+use Rattle.insertion_memory.proofs.Storing.{stored-more, stored-length}
+use Rattle.insertion_memory.proofs.Down.{LeafAt, way-inside, way-ends}
+use Rattle.insertion_memory.proofs.Stands.{Means, m-leaf, Stands, kind-read, links-rise}
+use Rattle.insertion_memory.proofs.Widening.{widen-length, widen-kind, widen-stands}
+use Rattle.insertion_memory.proofs.FromTables.{Long, facts, node-count, space}
+use Rattle.insertion_memory.proofs.Meaning.{joined-held}
+use Rattle.splitting.specs.Standing.{Standing}
+use Rattle.adding.specs.Inserting.{leafBy, widenedBy, headBy, linkedBy, joinedBy, insertedBy, Joins, Inserts}
+use Rattle.adding.proofs.Ready.{stands, descendable}
+
+leaf-zero : {links : List ℕ} {r : List ℤ} {ns : List ℕ} → Means links r (leaf ns) → smallAt r kindPlace ≡ 0
+leaf-zero (m-leaf e q w) = e
+
+leaf-numbers : (links : List ℕ) (k : ℕ) (r : List ℤ) (v : ℕ) (ns : List ℕ) → v ≡ 0 → kindIn links k r v ≡ leaf ns → numbersOf links k (smallAt r firstPlace) ≡ ns
+unfolding kindIn numbersIn
+leaf-numbers links k r zero ns e q = ap numbersIn q
+leaf-numbers links k r (suc v) ns e q = absurd (omega arith)
+
+starts : (links : List ℕ) (k x : ℕ) → In x (numbersOf links k x)
+unfolding numbersFrom
+starts links k x = first
+
+module _ (t : Tables) (x : Trace) (w : T (wellFormed t)) (long : Long t) (size : length x ≡ measuresOf t .n) (less : traceCount t < measuresOf t .capacity) where
+  abbrev n : ℕ
+  n = measuresOf t .n
+
+  abbrev c : ℕ
+  c = measuresOf t .capacity
+
+  abbrev k : ℕ
+  k = traceCount t
+
+  abbrev m : ℕ
+  m = nodeCount t
+
+  -- the samples with the new trace
+  abbrev stored : List ℤ
+  stored = paste (t .samples) (k * n) x n
+
+  stored-long : suc k * n ≤ length stored
+  unfolding samplesNeeded
+  stored-long = let g : suc k * n ≤ c * n = mul-le-mul-right n less in omega (arith, g, long .samples-long, stored-length (t .samples) n k c x size less (long .samples-long))
+
+  module _ (some : 0 < length (treeIn t)) where
+    abbrev met : List ℕ
+    met = way (treeIn t) x
+
+    abbrev at : ℕ
+    at = lastOf met
+
+    way-is : wayIn (t .nodes) m x 0 ≡ met
+    way-is = way-same t x (descendable t w long some)
+
+    end : LeafAt (treeIn t) at
+    end = way-ends (treeIn t) x (facts t w .child) some
+
+    abbrev wide : Tree
+    wide = widenAll x met (treeIn t)
+
+    abbrev W : List ℤ
+    W = foldl (onRecord (widenRecord x)) (t .nodes) met
+
+    widened : Stands n c (t .nodes) (t .links) k (held W (t .links) m) wide
+    widened = widen-stands (space t w long) x met (way-inside (treeIn t) x (facts t w .child) some) (stands t w long some)
+
+    inside : at < length wide
+    inside = omega (arith, widen-length x met (treeIn t), end .inside)
+
+    is-leaf : nodeAt wide at .kind ≡ leaf (end .numbers)
+    is-leaf = widen-kind x met (treeIn t) at ∙ end .is
+
+    kind-zero : smallAt (recordOf W at) kindPlace ≡ 0
+    kind-zero = leaf-zero (subst (λ (kind : Kind). Means (t .links) (recordOf W at) kind) is-leaf (widened .reads at inside .kind))
+
+    abbrev head : ℕ
+    head = smallAt (recordOf W at) firstPlace
+
+    numbers-are : numbersOf (t .links) k head ≡ numbersIn (nodeAt (treeIn t) at .kind)
+    unfolding numbersIn
+    numbers-are = leaf-numbers (t .links) k (recordOf W at) (smallAt (recordOf W at) kindPlace) (end .numbers) kind-zero (kind-read widened at inside ∙ is-leaf) ∙ sym (ap numbersIn (end .is))
+
+    head-low : head < k
+    head-low = stands t w long some .sound .owned head at (subst (λ (l : List ℕ). In head l) numbers-are (starts (t .links) k head)) .0
+
+    -- by the records as by the tree
+    leaf-is : leafBy (t .nodes) x m ≡ at
+    leaf-is = ap lastOf way-is
+
+    nodes-are : widenedBy (t .nodes) x m ≡ W
+    nodes-are = ap (foldl (onRecord (widenRecord x)) (t .nodes)) way-is
+
+    head-is : headBy (t .nodes) x m ≡ head
+    head-is = ap₂ (λ (l : List ℤ) (j : ℕ). smallAt (recordOf l j) firstPlace) nodes-are leaf-is
+
+    links-are : linkedBy (t .nodes) (t .links) k x m ≡ joined (t .links) (numbersIn (nodeAt (treeIn t) at .kind)) k
+    links-are = ap (λ (h : ℕ). joined (t .links) (numbersOf (t .links) k h) k) head-is ∙ ap (λ (l : List ℕ). joined (t .links) l k) numbers-are
+
+    joined-is : joinedBy (t .nodes) (t .links) k x m ≡ joinedHeld t x
+    unfolding joinedHeld
+    joined-is = ap₂ (λ (u : List ℤ) (v : List ℕ). held u v m) nodes-are links-are
+
+    joined-stands : Stands n c (t .nodes) (t .links) (suc k) (joinedBy (t .nodes) (t .links) k x m) (join k at wide)
+    joined-stands = subst (λ (h : Held). Stands n c (t .nodes) (t .links) (suc k) h (join k at wide)) (sym joined-is) (joined-held t x w long size less some)
+
+    standing : Standing (widenedBy (t .nodes) x m) (linkedBy (t .nodes) (t .links) k x m) stored n (suc k) m
+    standing = record {
+      capacity = c;
+      tree = join k at wide;
+      space = record {
+        wide = space t w long .wide;
+        narrow = space t w long .narrow;
+        small = space t w long .small;
+        nodes-room = omega (arith, space t w long .nodes-room, joined-stands .nodes-size);
+        links-room = omega (arith, space t w long .links-room, joined-stands .links-size);
+      };
+      stands = record {
+        few = joined-stands .few;
+        count = joined-stands .count;
+        reads = joined-stands .reads;
+        sound = joined-stands .sound;
+        nodes-size = refl;
+        nodes-behind = refl;
+        links-size = refl;
+        links-behind = refl;
+      };
+      samples-room = stored-long;
+    }
+
+    joins : Joins (t .nodes) (t .links) stored n k x m
+    joins = record {
+      down = subst (λ (j : ℕ). Descendable (t .nodes) m j) (sym size) (descendable t w long some);
+      leaf-inside = omega (arith, leaf-is, end .inside, node-count t w);
+      head-inside = omega (arith, head-is, head-low);
+      links-room = omega (arith, less, space t w long .links-room);
+      few = omega (arith, less, space t w long .small);
+      rising = links-rise (stands t w long some);
+      standing = standing;
+    }
+
+  -- it can be inserted
+  pub inserts : Inserts (t .nodes) (t .links) stored n k x m
+  inserts = record {
+    size = size;
+    narrow = space t w long .narrow;
+    node-room = omega (arith, space t w long .nodes-room, less);
+    link-room = omega (arith, space t w long .links-room, less);
+    joins = λ h. joins (omega (arith, h, node-count t w));
+  }
+
+  -- .. and that is what adding does
+  pub inserted-is : insertedBy (t .nodes) (t .links) stored n k (measuresOf t .leafSize) x m ≡ heldAfter t x m
+  unfolding insertedBy heldAfter firstHeld tracesIn samplesNeeded
+  inserted-is = by m refl
+    where
+      by : (j : ℕ) → m ≡ j → insertedBy (t .nodes) (t .links) stored n k (measuresOf t .leafSize) x j ≡ heldAfter t x j
+      by zero e = refl
+      by (suc j) e =
+          let some : 0 < length (treeIn t) = omega (arith, e, node-count t w) in
+          ap (λ (i : ℕ). splitAllOf (measuresOf t .leafSize) (storedIn stored n (suc k)) (joinedBy (t .nodes) (t .links) k x i) (leafBy (t .nodes) x i)) (sym e)
+          ∙ (ap₂ (λ (h : Held) (i : ℕ). splitAllOf (measuresOf t .leafSize) (storedIn stored n (suc k)) h i) (joined-is some) (leaf-is some)
+          ∙ ap (λ (l : List Trace). splitAllOf (measuresOf t .leafSize) l (joinedHeld t x) (at some)) (stored-more (t .samples) n k c x size less (long .samples-long)))

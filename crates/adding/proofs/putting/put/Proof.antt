@@ -1,0 +1,208 @@
+-- `adding::putting::put` meets its contract: the samples with the new trace, nodes and links after it joined (`Same`), and the counts, are the definition's.
+use mathlib.Core.Path.{_≡_, ap, ap₂, _∙_}
+use mathlib.Core.List.{List, []}
+use Prim.Native.Nat.{ℕ, suc, _+_, _*_, _≤_, _<_}
+use native.Mathlib.Nat.{mul-le-mul-right}
+use native.Mathlib.Numerals.{add-one}
+use native.Mathlib.Omega.{arith}
+use lib.IntN.{ℤ}
+use lib.ListN.{length, set}
+use lib.Seq.{paste}
+use lib.Dec.{T}
+use denote.Ref.{now}
+use borrow.Author.Needs.{needs}
+use Rattle.dstree.specs.Measures.{Trace, samplesNeeded}
+use Rattle.tables.specs.Layout.{traceCountPlace, nodeCountPlace}
+use Rattle.tables.specs.Tables.{Tables, tables, measuresOf, traceCount, nodeCount}
+use Rattle.tables.specs.View.{treeIn, kindsNamed, wellFormed}
+use Rattle.tables.proofs.Range.{samples-fit}
+use Rattle.insertion_memory.specs.Memory.{Held, held, heldAfter, addedTo}
+use Rattle.insertion_memory.proofs.Sound.{nodes-most}
+use Rattle.insertion_memory.proofs.FromTables.{Long, range}
+use Rattle.insertion_memory.proofs.Meaning.{held-stands}
+use Rattle.adding.specs.Inserting.{insertedBy, Inserts}
+use Rattle.adding.proofs.Same.{inserts, inserted-is}
+use Rattle.adding.proofs.putting.put.Statement.{statement}
+use Rattle.adding.proofs.putting.put.Tie as tie
+
+-- equations in four places at once
+four : (P : List ℤ → ℕ → ℕ → ℕ → Type 0) {s s′ : List ℤ} {a a′ b b′ c c′ : ℕ} → s ≡ s′ → a ≡ a′ → b ≡ b′ → c ≡ c′ → P s′ a′ b′ c′ → P s a b c
+four P p q r u h = rw (p, q, r, u) h
+
+same-held : (f : List ℤ → ℕ → ℕ → ℕ → ℕ → Held) {s s′ : List ℤ} {a a′ b b′ c c′ d d′ : ℕ} → s ≡ s′ → a ≡ a′ → b ≡ b′ → c ≡ c′ → d ≡ d′ → f s a b c d ≡ f s′ a′ b′ c′ d′
+same-held f p q r u v = rw (p, q, r, u, v)
+
+same-tables : (work : List ℕ) {c c′ : List ℕ} {s s′ n n′ : List ℤ} {l l′ : List ℕ} → c ≡ c′ → s ≡ s′ → n ≡ n′ → l ≡ l′ → tables c s n l work ≡ tables c′ s′ n′ l′ work
+same-tables work p q r u = rw (p, q, r, u)
+
+-- the tables that the call came with, whatever the search work holds
+abbrev lent : tie.Start → List ℕ → Tables
+lent s work = tables (now (s .args .control)) (now (s .args .samples)) (now (s .args .nodes)) (now (s .args .links)) work
+
+record Taking (t : Tables) (x : Trace) : Type 0 where
+  formed : T (wellFormed t)
+  long : Long t
+  size : length x ≡ measuresOf t .n
+  less : traceCount t < measuresOf t .capacity
+
+takesOf : (s : tie.Start) (work : List ℕ) → Taking (lent s work) (now (s .args .trace))
+unfolding wellFormed kindsNamed treeIn
+takesOf s work =
+    let p = s .pre in
+    record {
+      formed = p .formed;
+      long = record { control-long = p .long .control-long; samples-long = p .long .samples-long; nodes-long = p .long .nodes-long; links-long = p .long .links-long };
+      size = p .size;
+      less = p .less;
+    }
+
+-- what the control record holds
+module _ (a : tie.After-wide4) where
+  abbrev start : tie.Start
+  start = a .before .before .before .before .before .before .before .before .before .before .before .before .before .before
+
+  n-is : a .before .before .before .before .before .before .before .before .before .wide .result ≡ measuresOf (lent start []) .n
+  n-is = a .before .before .before .before .before .before .before .before .before .wide .ensures ∙ a .before .before .before .before .before .before .before .before .before .before .field .ensures
+
+  leaf-size-is : a .before .before .before .before .before .before .wide2 .result ≡ measuresOf (lent start []) .leafSize
+  leaf-size-is = a .before .before .before .before .before .before .wide2 .ensures ∙ a .before .before .before .before .before .before .before .field2 .ensures
+
+  k-is : a .before .before .before .wide3 .result ≡ traceCount (lent start [])
+  k-is = a .before .before .before .wide3 .ensures ∙ a .before .before .before .before .field3 .ensures
+
+  count-is : a .wide4 .result ≡ nodeCount (lent start [])
+  count-is = a .wide4 .ensures ∙ a .before .field4 .ensures
+
+  at-is : a .before .before .before .wide3 .result * a .before .before .before .before .before .before .before .before .before .wide .result ≡ traceCount (lent start []) * measuresOf (lent start []) .n
+  at-is = ap₂ _*_ k-is n-is
+
+-- the samples with the new trace
+stored-is : (b : tie.After-copy-trace) → let s = start (b .before .before) in b .copy-trace .last .0 ≡ paste (now (s .args .samples)) (traceCount (lent s []) * measuresOf (lent s []) .n) (now (s .args .trace)) (measuresOf (lent s []) .n)
+stored-is b =
+    let s = start (b .before .before) in
+    b .copy-trace .ensures ∙ ap₂ (λ (p q : ℕ). paste (now (s .args .samples)) p (now (s .args .trace)) q) (at-is (b .before .before)) (takesOf s [] .size)
+
+-- nodes and links with the new trace
+module _ (i : tie.After-insert) where
+  abbrev copyOf : tie.After-copy-trace
+  copyOf = i .before .before .before .before .before
+
+  abbrev wideOf : tie.After-wide4
+  wideOf = copyOf .before .before
+
+  after-is : (work : List ℕ) → held (i .insert .last .0) (i .insert .last .1 .0) (i .insert .result) ≡ heldAfter (lent (start wideOf) work) (now (start wideOf .args .trace)) (nodeCount (lent (start wideOf) work))
+  after-is work =
+      let g = start wideOf .args in
+      let p = takesOf (start wideOf) work in
+      i .insert .ensures
+      ∙ (same-held (λ (s : List ℤ) (u v l w : ℕ). insertedBy (now (g .nodes)) (now (g .links)) s u v l (now (g .trace)) w) (stored-is copyOf) (n-is wideOf) (k-is wideOf) (leaf-size-is wideOf) (count-is wideOf)
+      ∙ inserted-is (lent (start wideOf) work) (now (g .trace)) (p .formed) (p .long) (p .size) (p .less))
+
+field-requires : tie.Need-field-requires
+field-requires c κs = search needs
+
+wide-requires : tie.Need-wide-requires
+wide-requires c κs = search needs
+
+field-requires-2 : tie.Need-field-requires-2
+field-requires-2 c κs = search needs
+
+wide-requires-2 : tie.Need-wide-requires-2
+wide-requires-2 c κs = search needs
+
+field-requires-3 : tie.Need-field-requires-3
+field-requires-3 c κs = search needs
+
+wide-requires-3 : tie.Need-wide-requires-3
+wide-requires-3 c κs = search needs
+
+field-requires-4 : tie.Need-field-requires-4
+field-requires-4 c κs = search needs
+
+wide-requires-4 : tie.Need-wide-requires-4
+wide-requires-4 c κs = search needs
+
+mul-at : tie.Need-mul-at
+mul-at c = let p = takesOf (start c) [] in
+    record { fits = samples-fit (c .before .before .before .wide3 .result) (c .before .before .before .before .before .before .before .before .before .wide .result) (omega (arith, k-is c, p .less, range (lent (start c) []) (p .formed) .capacity-high)) (omega (arith, n-is c, range (lent (start c) []) (p .formed) .n-high)) }
+
+copy-trace-requires : tie.Need-copy-trace-requires
+unfolding samplesNeeded
+copy-trace-requires c κs =
+    let a = c .before in
+    let p = takesOf (start a) [] in
+    let t = lent (start a) [] in
+    let g : suc (traceCount t) * measuresOf t .n ≤ measuresOf t .capacity * measuresOf t .n = mul-le-mul-right (measuresOf t .n) (p .less) in
+    omega (arith, at-is a, g, p .long .samples-long, p .size)
+
+insert-requires : tie.Need-insert-requires
+insert-requires c κs =
+    let b = c .before .before .before .before in
+    let a = b .before .before in
+    let p = takesOf (start a) [] in
+    four (λ (s : List ℤ) (u v w : ℕ). Inserts (now (start a .args .nodes)) (now (start a .args .links)) s u v (now (start a .args .trace)) w) (stored-is b) (n-is a) (k-is a) (count-is a) (inserts (lent (start a) []) (now (start a .args .trace)) (p .formed) (p .long) (p .size) (p .less))
+
+add-next : tie.Need-add-next
+add-next c = search needs
+
+write-counts-requires : tie.Need-write-counts-requires
+write-counts-requires c κs =
+    let i = c .before .before .before .before in
+    let a = wideOf i in
+    let t = lent (start a) [] in
+    let x = now (start a .args .trace) in
+    let p = takesOf (start a) [] in
+    let after = held-stands t x (p .formed) (p .long) (p .size) (p .less) in
+    let few = range t (p .formed) .capacity-high in
+    let count : i .insert .result ≡ heldAfter t x (nodeCount t) .count = ap (λ (h : Held). h .count) (after-is i []) in
+    (p .long .control-long, omega (arith, k-is a, p .less, few), omega (arith, count, after .count, nodes-most (after .sound), p .less, few))
+
+same-length : tie.Need-same-length
+same-length c = search needs
+
+same-length-2 : tie.Need-same-length-2
+same-length-2 c = search needs
+
+same-length-3 : tie.Need-same-length-3
+same-length-3 c = search needs
+
+same-length-4 : tie.Need-same-length-4
+same-length-4 c = search needs
+
+returns : tie.Need-returns
+unfolding addedTo
+returns c =
+    λ work.
+    let u = c .before .before in
+    let i = u .before .before .before .before .before in
+    let a = wideOf i in
+    let t = lent (start a) work in
+    let g = start a .args in
+    let h = heldAfter t (now (g .trace)) (nodeCount t) in
+    let next : a .before .before .before .wide3 .result + 1 ≡ suc (traceCount t) = add-one (a .before .before .before .wide3 .result) ∙ ap suc (k-is a) in
+    let control : u .write-counts .last .0 ≡ set (set (t .control) traceCountPlace (suc (traceCount t))) nodeCountPlace (h .count) =
+    u .write-counts .ensures ∙ ap₂ (λ (v w : ℕ). set (set (t .control) traceCountPlace v) nodeCountPlace w) next (ap (λ (q : Held). q .count) (after-is i work)) in
+    same-tables work control (stored-is (copyOf i)) (ap (λ (q : Held). q .nodes) (after-is i work)) (ap (λ (q : Held). q .links) (after-is i work))
+
+pub put-spec : {M : Type 1} → statement M
+put-spec =
+    tie.close
+    (tie.spec
+    field-requires
+    wide-requires
+    field-requires-2
+    wide-requires-2
+    field-requires-3
+    wide-requires-3
+    field-requires-4
+    wide-requires-4
+    mul-at
+    copy-trace-requires
+    insert-requires
+    add-next
+    write-counts-requires
+    same-length
+    same-length-2
+    same-length-3
+    same-length-4
+    returns)

@@ -1,0 +1,17 @@
+-- Tables that refuse nothing of a trace.
+use Prim.Native.Nat.{ℕ, _<_}
+use mathlib.Core.Path.{_≡_}
+use mathlib.Core.List.{List, []}
+use lib.IntN.{ℤ}
+use lib.ListN.{length}
+use lib.Dec.{T}
+use Rattle.dstree.specs.Measures.{Trace}
+use Rattle.tables.specs.Tables.{tables, measuresOf, traceCount}
+use Rattle.tables.specs.View.{wellFormed}
+use Rattle.insertion_memory.proofs.FromTables.{Long}
+
+pub record Takes (control : List ℕ) (samples nodes : List ℤ) (links : List ℕ) (x : Trace) : Type 0 where
+  pub formed : T (wellFormed (tables control samples nodes links []))
+  pub long : Long (tables control samples nodes links [])
+  pub size : length x ≡ measuresOf (tables control samples nodes links []) .n
+  pub less : traceCount (tables control samples nodes links []) < measuresOf (tables control samples nodes links []) .capacity

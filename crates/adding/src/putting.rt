@@ -1,0 +1,37 @@
+// A trace put into tables that refuse nothing: its samples are stored, it joins the tree, and the counts are written last.
+
+use tables::control::field;
+ghost use mathlib.Core.Path.{_≡_};
+ghost use mathlib.Core.List.{List};
+ghost use Prim.Native.Nat.{ℕ};
+ghost use Rattle.tables.specs.Tables.{tables};
+ghost use Rattle.insertion_memory.specs.Memory.{addedTo};
+ghost use Rattle.adding.specs.Putting.{Takes};
+
+fn wide(x: u16) -> usize
+    ensures { λ r. ⌜ r ≡ x ⌝ }
+{
+    x as usize
+}
+
+// Search work is not lent: it stays as it was, whatever it holds.
+pub fn put(
+    control: &mut [u16],
+    samples: &mut [i16],
+    nodes: &mut [i64],
+    links: &mut [u16],
+    trace: &[i16],
+)
+    requires { ⌜ Takes (now control) (now samples) (now nodes) (now links) (now trace) ⌝ }
+    ensures { λ _. ⌜ ((work : List ℕ) → tables (now (control .exit)) (now (samples .exit)) (now (nodes .exit)) (now (links .exit)) work ≡ addedTo (tables (now (control .entry)) (now (samples .entry)) (now (nodes .entry)) (now (links .entry)) work) (now (trace .entry))) ⌝ }
+{
+    let n = wide(field(control, 0));
+    let leaf_size = wide(field(control, 2));
+    let k = wide(field(control, 3));
+    let count = wide(field(control, 4));
+    let at = k * n;
+    tables::loops::copy_trace(samples, at, trace);
+    let more = crate::inserting::insert(nodes, links, samples, trace, n, k, leaf_size, count);
+    let next = k + 1;
+    crate::inserting::write_counts(control, next, more);
+}

@@ -1,0 +1,168 @@
+-- Nodes and links that stand for a tree: every node can be tried, and they stand for a tree after it.
+-- The idea: a split makes two nodes, and what it leaves stands for a tree over as many traces, which has less than twice as many nodes; so there is room
+-- before it.
+use mathlib.Core.Path.{_≡_, refl, sym, ap, subst, _∙_}
+use mathlib.Core.Bool.{true}
+use mathlib.Core.Option.{some}
+use mathlib.Core.List.{List}
+use Prim.Native.Nat.{ℕ, suc, _+_, _*_, _≤_, _<_}
+use native.Mathlib.Omega.{arith}
+use lib.IntN.{ℤ}
+use lib.ListN.{length, length-map}
+use lib.Dec.{ltb}
+use borrow.Author.Tests.{lt-ltb}
+use Rattle.integer.specs.Words.{counting}
+use Rattle.integer.proofs.Lists.{first}
+use Rattle.integer.proofs.Times.{counting-length}
+use Rattle.dstree.specs.Measures.{Trace}
+use Rattle.dstree.specs.Node.{Segment, Figure, bySum, byScatter, Kind, Tree, ends}
+use Rattle.dstree.specs.Adding.{Split, best, split}
+use Rattle.dstree.specs.Matching.{numbersIn}
+use Rattle.dstree.proofs.Parted.{Parted, p-last, p-more, Fits}
+use Rattle.tables.specs.Layout.{kindPlace, segmentsPlace, firstPlace}
+use Rattle.tables.specs.Tables.{recordOf}
+use Rattle.tables.specs.View.{smallAt, segmentIn, segmentsIn, numbersFrom}
+use Rattle.leaf_figures.specs.Walk.{storedIn, numbersOf, Stored}
+use Rattle.leaf_figures.specs.Ends.{Rise, r-none, r-more}
+use Rattle.insertion_memory.specs.Memory.{Held, held, splitTo, splitAt}
+use Rattle.insertion_memory.proofs.ReadBack.{kindNumber}
+use Rattle.insertion_memory.proofs.Sides.{best-sides}
+use Rattle.insertion_memory.proofs.Sound.{nodes-most}
+use Rattle.insertion_memory.proofs.Stands.{Means, m-leaf, m-inner, Low, Stands, links-rise}
+use Rattle.insertion_memory.proofs.Splitting.{split-at}
+use Rattle.splitting.specs.Splits as needs
+use Rattle.splitting.specs.Splits.{IsLeaf, Splits}
+use Rattle.splitting.specs.Standing.{Standing}
+use Rattle.splitting.proofs.Tried.{stored-count, long-splits}
+
+-- ---- ends
+
+parted-from : {n from : ℕ} {l : List ℕ} → Parted n from l → from ≤ n
+parted-from (p-last h) = h
+parted-from (p-more h p) = omega (arith, parted-from p)
+
+pub parted-rise : {n from : ℕ} {l : List ℕ} → Parted n from l → Rise n from l
+parted-rise (p-last h) = r-more h (omega arith) r-none
+parted-rise (p-more h p) = r-more h (omega (arith, parted-from p)) (parted-rise p)
+
+-- ---- a leaf's first trace
+
+leaf-first : {links : List ℕ} {r : List ℤ} {kind : Kind} (k : ℕ) → smallAt r kindPlace ≡ 0 → Means links r kind → Low k (numbersIn kind) → smallAt r firstPlace < k
+unfolding numbersIn kindNumber
+leaf-first k e (m-leaf {x} q f w) low = omega (arith, f, low x first)
+leaf-first {links} {r} k e (m-inner {test} q f p s) low = by (test .figure) q
+  where
+    by : (f : Figure) → smallAt r kindPlace ≡ kindNumber f → smallAt r firstPlace < k
+    by bySum q = absurd (omega (arith, e, q))
+    by byScatter q = absurd (omega (arith, e, q))
+
+segments-many : (r : List ℤ) → length (ends (segmentsIn r)) ≡ smallAt r segmentsPlace
+unfolding segmentsIn
+segments-many r = length-map (segmentsIn r) (λ (a : Segment). a .end) ∙ (length-map (counting (smallAt r segmentsPlace) 0) (segmentIn r) ∙ counting-length (smallAt r segmentsPlace) 0)
+
+numbers-some : (links : List ℕ) (k x : ℕ) → 0 < length (numbersOf links k x)
+unfolding numbersFrom
+numbers-some links k x = omega arith
+
+-- ---- one node
+
+module _ {nodes : List ℤ} {links : List ℕ} {samples : List ℤ} {n k count : ℕ} (s : Standing nodes links samples n k count) where
+  abbrev c : ℕ
+  c = s .capacity
+
+  abbrev tree : Tree
+  tree = s .tree
+
+  abbrev traces : List Trace
+  traces = storedIn samples n k
+
+  -- fewer nodes than twice the traces
+  pub count-most : count + 1 ≤ 2 * k
+  count-most = omega (arith, s .stands .count, nodes-most (s .stands .sound))
+
+  module _ (at : ℕ) (inside : at < count) where
+    abbrev r : List ℤ
+    r = recordOf nodes at
+
+    here : at < length tree
+    here = omega (arith, inside, s .stands .count)
+
+    fits : Fits n (ends (segmentsIn r))
+    fits = subst (λ (l : List Segment). Fits n (ends l)) (sym (s .stands .reads at here .segments)) (s .stands .sound .fits at here)
+
+    after : (leafSize : ℕ) → Stands n c nodes links k (splitAt leafSize traces (held nodes links count) at) (split leafSize traces tree at)
+    after leafSize = split-at (s .space) traces leafSize (stored-count samples n k) (s .stands) at here
+
+    module _ (is : smallAt r kindPlace ≡ 0) where
+      stored : Stored samples links n k (smallAt r firstPlace)
+      stored = record {
+        wide = s .space .wide;
+        narrow = s .space .narrow;
+        few = omega (arith, s .stands .few, s .space .small);
+        samples-room = s .samples-room;
+        links-room = omega (arith, s .stands .few, s .space .links-room);
+        rising = links-rise (s .stands);
+        inside = leaf-first k is (s .stands .reads at here .kind) (λ t i. s .stands .sound .owned t at i .0);
+      }
+
+      parted : (cut : Split) → best traces (ends (segmentsIn r)) (numbersOf links k (smallAt r firstPlace)) ≡ some cut → needs.Parted nodes count cut
+      unfolding splitTo
+      parted cut e =
+          let sides = best-sides n traces (ends (segmentsIn r)) (numbersOf links k (smallAt r firstPlace)) cut fits e in
+          let long : ltb 0 (length (numbersOf links k (smallAt r firstPlace))) ≡ true = lt-ltb 0 (length (numbersOf links k (smallAt r firstPlace))) (numbers-some links k (smallAt r firstPlace)) in
+          let made : splitAt 0 traces (held nodes links count) at ≡ splitTo traces (held nodes links count) at (some cut) = long-splits 0 traces nodes links count at k (stored-count samples n k) is long (some cut) e in
+          let two : splitAt 0 traces (held nodes links count) at .count ≡ suc (suc count) = ap (λ (h : Held). h .count) made in
+          let most : suc (suc count) + 1 ≤ 2 * k = omega (arith, two, after 0 .count, nodes-most (after 0 .sound)) in
+          record {
+            left-some = sides .left-some;
+            right-some = sides .right-some;
+            room = omega (arith, most, s .stands .few, s .space .nodes-room);
+            few = omega (arith, most, s .stands .few, s .space .small);
+          }
+
+      is-leaf : IsLeaf nodes links samples n k count at
+      is-leaf = record { stored = stored; few = omega (arith, fits .few, segments-many r); rise = parted-rise (fits .parted); parted = parted }
+
+    -- it can be tried
+    pub tries : Splits nodes links samples n k count at
+    tries = record {
+      inside = inside;
+      room = omega (arith, count-most, s .stands .few, s .space .nodes-room);
+      few = omega (arith, count-most, s .stands .few, s .space .small);
+      is-leaf = is-leaf;
+    }
+
+    -- .. and nodes and links stand for a tree then
+    module _ (leafSize : ℕ) (nodes′ : List ℤ) (links′ : List ℕ) (count′ : ℕ) (e : held nodes′ links′ count′ ≡ splitAt leafSize traces (held nodes links count) at) where
+      stands′ : Stands n c nodes links k (held nodes′ links′ count′) (split leafSize traces tree at)
+      stands′ = subst (λ (h : Held). Stands n c nodes links k h (split leafSize traces tree at)) (sym e) (after leafSize)
+
+      pub nodes-stay : length nodes′ ≡ length nodes
+      nodes-stay = stands′ .nodes-size
+
+      pub links-stay : length links′ ≡ length links
+      links-stay = stands′ .links-size
+
+      pub stands-on : Standing nodes′ links′ samples n k count′
+      stands-on = record {
+        capacity = c;
+        tree = split leafSize traces tree at;
+        space = record {
+          wide = s .space .wide;
+          narrow = s .space .narrow;
+          small = s .space .small;
+          nodes-room = omega (arith, s .space .nodes-room, nodes-stay);
+          links-room = omega (arith, s .space .links-room, links-stay);
+        };
+        stands = record {
+          few = stands′ .few;
+          count = stands′ .count;
+          reads = stands′ .reads;
+          sound = stands′ .sound;
+          nodes-size = refl;
+          nodes-behind = refl;
+          links-size = refl;
+          links-behind = refl;
+        };
+        samples-room = s .samples-room;
+      }

@@ -1,0 +1,4 @@
+pub mod Walks
+pub mod Written
+pub mod Tried
+pub mod Kept

@@ -1,0 +1,86 @@
+// What a match refuses, in the table's order: a short control record (2), its measures (3), another short table (2), spoiled tables (3), a query of
+// another length (4), no trace stored (6), a short trail (7).
+
+use tables::Refusal;
+use tables::Verdict;
+use tables::control::field;
+use tables::control::judge_lent;
+ghost use mathlib.Core.Path.{_≡_};
+ghost use mathlib.Core.List.{[]};
+ghost use Rattle.dstree.specs.Refusals.{firstOf};
+ghost use Rattle.tables.specs.Tables.{tables};
+ghost use Rattle.tables.specs.Answers.{foundBy};
+ghost use Rattle.matching.specs.Matched.{Lends, restConditions, nearestConditions};
+
+fn wide(x: u16) -> usize
+    ensures { λ r. ⌜ r ≡ x ⌝ }
+{
+    x as usize
+}
+
+fn wider(x: u16) -> u64
+    ensures { λ r. ⌜ r ≡ x ⌝ }
+{
+    x as u64
+}
+
+// What contents, the query's length and the trail's refuse, the tables being long enough.
+pub fn judge_rest(
+    control: &[u16],
+    nodes: &[i64],
+    links: &[u16],
+    size: usize,
+    trail: usize,
+) -> Verdict
+    requires { ⌜ Lends (now control) (now nodes) (now links) ⌝ }
+    ensures { λ r. ⌜ foundBy r ≡ firstOf (restConditions (tables (now (control .entry)) [] (now (nodes .entry)) (now (links .entry)) []) size trail) ⌝ }
+{
+    let n = wide(field(control, 0));
+    let k = field(control, 3);
+    let m = wide(field(control, 4));
+    let formed = well_formed::well_formed(control, nodes, links);
+    if !formed {
+        return Verdict::Refused(Refusal::Spoiled);
+    }
+    if size != n {
+        return Verdict::Refused(Refusal::WrongTrace);
+    }
+    if k == 0 {
+        return Verdict::Refused(Refusal::Empty);
+    }
+    let leaves = crate::leaves::leaf_count(nodes, m);
+    if trail < leaves {
+        return Verdict::Refused(Refusal::ShortTrail);
+    }
+    Verdict::Fine
+}
+
+pub fn judge_nearest(
+    control: &[u16],
+    samples: &[i16],
+    nodes: &[i64],
+    links: &[u16],
+    work: &[u64],
+    query: &[i16],
+    trail: usize,
+) -> Verdict
+    ensures { λ r. ⌜ foundBy r ≡ firstOf (nearestConditions (tables (now (control .entry)) (now (samples .entry)) (now (nodes .entry)) (now (links .entry)) (now (work .entry))) (now (query .entry)) trail) ⌝ }
+{
+    let n = wider(field(control, 0));
+    let capacity = wider(field(control, 1));
+    let leaf_size = wider(field(control, 2));
+    let lent = judge_lent(
+        control.len(),
+        samples.len(),
+        nodes.len(),
+        links.len(),
+        work.len(),
+        n,
+        capacity,
+        leaf_size,
+    );
+    match lent {
+        Verdict::Refused(why) => Verdict::Refused(why),
+        Verdict::Fine => judge_rest(control, nodes, links, query.len(), trail),
+    }
+}

@@ -1,0 +1,65 @@
+// The nearest stored trace of lent tables.
+
+pub mod leaves; // how many leaves there are
+pub mod judging; // what a match refuses
+
+use tables::Refusal;
+use tables::Verdict;
+ghost use mathlib.Core.Path.{_≡_};
+ghost use Rattle.tables.specs.Tables.{tables};
+ghost use Rattle.matching.specs.Matched.{outcome, nearestOf};
+ghost use Rattle.matching.specs.Answered.{answerBy};
+
+// Trace number, distance, leaves read and traces read, or a refusal.
+pub enum Found {
+    At(u64, u64, u64, u64),
+    Refused(Refusal),
+}
+
+// Finds the nearest trace. Every refusal is decided before anything is written. The trail begins with the leaves read, and search work is left zero.
+//
+// Two wrong programs that the contract rules out: one that leaves out a leaf whose bound equals the best distance, and one that writes past the trail's
+// leaves.
+pub fn nearest(
+    control: &[u16],
+    samples: &[i16],
+    nodes: &[i64],
+    links: &[u16],
+    work: &mut [u64],
+    trail: &mut [u16],
+    query: &[i16],
+) -> Found
+    ensures { λ r. ⌜ outcome (answerBy r (now (trail .exit)))
+        (tables (now (control .entry)) (now (samples .entry)) (now (nodes .entry)) (now (links .entry)) (now (work .exit)))
+        (now (trail .exit))
+        ≡ nearestOf
+        (tables (now (control .entry)) (now (samples .entry)) (now (nodes .entry)) (now (links .entry)) (now (work .entry)))
+        (now (query .entry))
+        (now (trail .entry)) ⌝ }
+{
+    let places = trail.len();
+    let verdict = judging::judge_nearest(control, samples, nodes, links, work, query, places);
+    match verdict {
+        Verdict::Refused(why) => Found::Refused(why),
+        Verdict::Fine => {
+            let seen = search::searching::search_all(
+                control,
+                samples,
+                nodes,
+                links,
+                query,
+                work,
+                trail,
+            );
+            if !seen.best.found {
+                return Found::Refused(Refusal::Empty);
+            }
+            Found::At(
+                seen.best.trace,
+                seen.best.distance,
+                seen.out as u64,
+                seen.traces as u64,
+            )
+        }
+    }
+}

@@ -1,0 +1,3 @@
+pub mod Facts
+pub mod Turns
+pub mod Cleared

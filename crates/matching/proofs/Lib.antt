@@ -1,3 +1,4 @@
 pub mod Counted
 pub mod Conditions
 pub mod Told
+pub mod Finds

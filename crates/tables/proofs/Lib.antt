@@ -3,3 +3,4 @@ pub mod Frame
 pub mod Small
 pub mod Range
 pub mod Judged
+pub mod Refused

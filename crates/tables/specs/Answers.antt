@@ -52,6 +52,19 @@ unfoldable pub unlessRefused : Option word.Refusal → Tables → Outcome → Ou
 unlessRefused (some why) before accepted = outcome (refusing why) before
 unlessRefused none before accepted = accepted
 
+-- the same of a call that is lent a trail or a sheet beside the tables: with what it leaves in that
+pub record OutcomeWith : Type 0 where
+  pub answer : Answer
+  pub after : Tables
+  pub beside : List ℕ
+
+abbrev pub outcomeWith : Answer → Tables → List ℕ → OutcomeWith
+outcomeWith a t beside = record { answer = a; after = t; beside = beside }
+
+unfoldable pub unlessRefusedWith : Option word.Refusal → Tables → List ℕ → OutcomeWith → OutcomeWith
+unlessRefusedWith (some why) before beside accepted = outcomeWith (refusing why) before beside
+unlessRefusedWith none before beside accepted = accepted
+
 -- ---- tables that a call is lent to work on
 
 -- "control record too short (2); its measures (3); other tables (2); the rest of 3"

@@ -4,3 +4,4 @@ pub mod Tables
 pub mod View
 pub mod Judge
 pub mod Answers
+pub mod Beginning

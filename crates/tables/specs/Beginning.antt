@@ -1,0 +1,33 @@
+-- The memory of a library is one, and a call is lent the first so many places of each table: "lengths of tables included" (docs/DECISIONS.md, T11).
+use Prim.Native.Nat.{ℕ}
+use mathlib.Core.Path.{_≡_}
+use mathlib.Core.List.{List, _++_}
+use lib.ListN.{length, take, drop}
+use Rattle.dstree.specs.Book.{Lent}
+use Rattle.tables.specs.Tables.{Tables, tables, lentOf}
+
+-- what a call is lent of a memory
+abbrev pub firstPlaces : Lent → Tables → Tables
+firstPlaces lent memory =
+    tables (take (lent .control) (memory .control))
+    (take (lent .samples) (memory .samples))
+    (take (lent .nodes) (memory .nodes))
+    (take (lent .links) (memory .links))
+    (take (lent .work) (memory .work))
+
+-- a list, its beginning replaced: places behind it keep their contents
+abbrev pub over : {A : Type 0} → List A → List A → List A
+over front l = front ++ drop (length front) l
+
+-- the memory after a call that left this where it was lent
+abbrev pub left : Tables → Tables → Tables
+left part memory =
+    tables (over (part .control) (memory .control))
+    (over (part .samples) (memory .samples))
+    (over (part .nodes) (memory .nodes))
+    (over (part .links) (memory .links))
+    (over (part .work) (memory .work))
+
+-- these tables are the first places of a memory
+abbrev pub Begins : Tables → Tables → Type 0
+Begins part memory = firstPlaces (lentOf part) memory ≡ part

@@ -1,51 +1,28 @@
 -- The conditions of adding, in two parts: what lengths and measures refuse, and the rest. Contents are tested only if the first part refuses nothing.
 use mathlib.Core.Path.{_≡_, refl, sym, ap, _∙_}
-use mathlib.Core.Bool.{Bool, true, false, not}
-use mathlib.Core.Option.{none, some}
+use mathlib.Core.Bool.{not}
+use mathlib.Core.Option.{none}
 use mathlib.Core.List.{List, [], _∷_, _++_, append-assoc}
 use Prim.Native.Nat.{ℕ}
-use native.Mathlib.Omega.{arith}
 use borrow.Author.Tests.{not-false, eqb-true, eqb-false}
 use lib.IntN.{ℤ}
 use lib.ListN.{length}
 use lib.Dec.{T, eqb}
-use Rattle.integer.specs.Words.{if_then_else_}
-use Rattle.dstree.specs.Measures.{Trace, inRange, recordsNeeded, linksNeeded}
+use Rattle.dstree.specs.Measures.{Trace}
 use Rattle.dstree.specs.Refusals as word
-use Rattle.dstree.specs.Refusals.{Condition, _refuses_, firstOf}
-use Rattle.dstree.specs.Book.{controlShort}
-use Rattle.tables.specs.Layout.{layout}
+use Rattle.dstree.specs.Refusals.{_refuses_, firstOf}
 use Rattle.tables.specs.Tables.{Tables, tables, lentOf, measuresOf, traceCount}
 use Rattle.tables.specs.View.{treeIn, kindsNamed, wellFormed}
 use Rattle.tables.specs.Judge.{lentConditionsOf}
 use Rattle.tables.specs.Answers.{wordOf, foundBy, madeConditions}
 use Rattle.tables.specs.declared.Refusal.{Refusal}
 use Rattle.tables.specs.declared.Verdict.the-variants as v
-use Rattle.tables.proofs.Judged.{none-first, lent-accepted}
+use Rattle.tables.proofs.Judged.{none-first, lent-accepted, first-some, first-none, none-both}
+use Rattle.integer.proofs.Tests.{is-true}
 use Rattle.integer.proofs.Lists.{strict}
 use Rattle.insertion_memory.proofs.FromTables.{facts}
-use Rattle.adding.specs.Added.{restConditions, addingConditions, Lends}
+use Rattle.adding.specs.Added.{restConditions, addingConditions}
 use Rattle.adding.specs.Putting.{Takes}
-
--- ---- the first of two lists of conditions
-
-first-some : (a b : List Condition) (why : word.Refusal) → firstOf a ≡ some why → firstOf (a ++ b) ≡ some why
-unfolding firstOf
-first-some [] b why e = let z : _≡_ {A = ℕ} 0 1 = cc in absurd (omega arith)
-first-some (c ∷ a) b why e = by (c .holds) e (first-some a b why)
-  where
-    by : (t : Bool) → (if t then some (c .refusal) else firstOf a) ≡ some why → (firstOf a ≡ some why → firstOf (a ++ b) ≡ some why) → (if t then some (c .refusal) else firstOf (a ++ b)) ≡ some why
-    by true e ih = e
-    by false e ih = ih e
-
-first-none : (a b : List Condition) → firstOf a ≡ none → firstOf (a ++ b) ≡ firstOf b
-unfolding firstOf
-first-none [] b e = refl
-first-none (c ∷ a) b e = by (c .holds) e (first-none a b)
-  where
-    by : (t : Bool) → (if t then some (c .refusal) else firstOf a) ≡ none → (firstOf a ≡ none → firstOf (a ++ b) ≡ firstOf b) → (if t then some (c .refusal) else firstOf (a ++ b)) ≡ firstOf b
-    by true e ih = let z : _≡_ {A = ℕ} 0 1 = cc in absurd (omega arith)
-    by false e ih = ih e
 
 module _ (t : Tables) (x : Trace) where
   in-two-parts : addingConditions t x ≡ lentConditionsOf (lentOf t) (measuresOf t) ++ restConditions t (length x)
@@ -66,30 +43,6 @@ pub rest-same : (control : List ℕ) (samples nodes : List ℤ) (links work : Li
 unfolding restConditions wellFormed kindsNamed treeIn
 rest-same control samples nodes links work size = refl
 
--- tables that lengths and measures do not refuse
-pub lends : (t : Tables) → firstOf (lentConditionsOf (lentOf t) (measuresOf t)) ≡ none → Lends (t .control) (t .nodes) (t .links)
-unfolding lentConditionsOf recordsNeeded linksNeeded
-lends t e =
-    let one = none-first (controlShort layout (lentOf t)) _ _ e in
-    let two = none-first (not (inRange (measuresOf t))) _ _ (one .1) in
-    let ok = lent-accepted (lentOf t) (measuresOf t) e in
-    record { control-long = ok .room .control-room; measured = not-false _ (two .0); nodes-long = ok .room .nodes-room; links-long = ok .room .links-room }
-
--- ---- nothing refused
-
-none-both : (a b : List Condition) → firstOf (a ++ b) ≡ none → (firstOf a ≡ none) × (firstOf b ≡ none)
-unfolding firstOf
-none-both [] b e = (refl, e)
-none-both (c ∷ a) b e = by (c .holds) e (none-both a b)
-  where
-    by : (t : Bool) → (if t then some (c .refusal) else firstOf (a ++ b)) ≡ none → (firstOf (a ++ b) ≡ none → (firstOf a ≡ none) × (firstOf b ≡ none)) → ((if t then some (c .refusal) else firstOf a) ≡ none) × (firstOf b ≡ none)
-    by true e ih = let z : _≡_ {A = ℕ} 0 1 = cc in absurd (omega arith)
-    by false e ih = ih e
-
-holds : (b : Bool) → b ≡ true → T b
-holds true e = tt
-holds false e = let z : _≡_ {A = ℕ} 0 1 = cc in absurd (omega arith)
-
 -- tables that refuse nothing of a trace, whatever the search work holds
 pub takes : (t : Tables) (x : Trace) → firstOf (addingConditions t x) ≡ none → Takes (t .control) (t .samples) (t .nodes) (t .links) x
 unfolding restConditions wellFormed kindsNamed treeIn
@@ -99,7 +52,7 @@ takes t x e =
     let one = none-first (not (wellFormed t)) word.spoiled _ (parts .1) in
     let two = none-first (not (eqb (length x) (measuresOf t .n))) word.wrongTrace _ (one .1) in
     let three = none-first (eqb (traceCount t) (measuresOf t .capacity)) word.full _ (two .1) in
-    let formed : T (wellFormed t) = holds (wellFormed t) (not-false _ (one .0)) in
+    let formed : T (wellFormed t) = is-true {b = wellFormed t} (not-false _ (one .0)) in
     record {
       formed = formed;
       long = record { control-long = room .control-room; samples-long = room .samples-room; nodes-long = room .nodes-room; links-long = room .links-room };

@@ -1,17 +1,14 @@
 -- What adding refuses, and what it leaves, in document 01's terms.
-use Prim.Native.Nat.{ℕ, _*_, _-_, _≤_}
-use mathlib.Core.Path.{_≡_}
-use mathlib.Core.Bool.{true, not}
+use Prim.Native.Nat.{ℕ}
+use mathlib.Core.Bool.{not}
 use mathlib.Core.List.{List, [], _∷_, _++_}
-use lib.IntN.{ℤ}
 use lib.ListN.{length}
 use lib.Dec.{eqb}
-use Rattle.dstree.specs.Measures.{Trace, inRange}
+use Rattle.dstree.specs.Measures.{Trace}
 use Rattle.dstree.specs.Refusals as word
 use Rattle.dstree.specs.Refusals.{Condition, _refuses_, firstOf}
 use Rattle.dstree.specs.Book.{added}
-use Rattle.tables.specs.Layout.{capacityPlace, controlFields, recordPlaces}
-use Rattle.tables.specs.Tables.{Tables, tables, field, measuresOf, traceCount}
+use Rattle.tables.specs.Tables.{Tables, measuresOf, traceCount}
 use Rattle.tables.specs.View.{wellFormed}
 use Rattle.tables.specs.Answers.{Outcome, outcome, unlessRefused, madeConditions}
 use Rattle.insertion_memory.specs.Memory.{addedTo}
@@ -31,10 +28,3 @@ addingConditions t x =
 
 unfoldable pub addOf : Tables → Trace → Outcome
 addOf t x = unlessRefused (firstOf (addingConditions t x)) t (outcome (added (traceCount t)) (addedTo t x))
-
--- tables with measures in range and the places that these need, as far as their contents are tested
-pub record Lends (control : List ℕ) (nodes : List ℤ) (links : List ℕ) : Type 0 where
-  pub control-long : controlFields ≤ length control
-  pub measured : inRange (measuresOf (tables control [] nodes links [])) ≡ true
-  pub nodes-long : (2 * field control capacityPlace - 1) * recordPlaces ≤ length nodes
-  pub links-long : field control capacityPlace ≤ length links

@@ -9,8 +9,8 @@ ghost use mathlib.Core.Path.{_≡_};
 ghost use mathlib.Core.List.{[]};
 ghost use Rattle.dstree.specs.Refusals.{firstOf};
 ghost use Rattle.tables.specs.Tables.{tables};
-ghost use Rattle.tables.specs.Answers.{foundBy};
-ghost use Rattle.adding.specs.Added.{Lends, restConditions, addingConditions};
+ghost use Rattle.tables.specs.Answers.{foundBy, Lends};
+ghost use Rattle.adding.specs.Added.{restConditions, addingConditions};
 
 fn wide(x: u16) -> usize
     ensures { λ r. ⌜ r ≡ x ⌝ }

@@ -18,11 +18,13 @@ use Rattle.dstree.proofs.Search.{near}
 use Rattle.dstree.proofs.Reading.{from-leaves, in-leaves, reading-of, in-reading}
 use Rattle.tables.specs.Tables.{Tables, traceCount}
 use Rattle.tables.specs.View.{treeIn, tracesIn, wellFormed}
+use Rattle.tables.specs.Answers.{outcomeWith, unlessRefusedWith}
+use Rattle.tables.specs.Beginning.{over}
 use Rattle.insertion_memory.proofs.FromTables.{facts}
 use Rattle.dstree.specs.Refusals.{Refusal, firstOf}
 use Rattle.dstree.specs.Book.{refusing}
 use Rattle.search.specs.Searched.{made}
-use Rattle.matching.specs.Matched.{nearestConditions, outcome, unlessRefused, answered, cleared, marked, nearestOf}
+use Rattle.matching.specs.Matched.{nearestConditions, answered, cleared, nearestOf}
 use Rattle.matching.proofs.Conditions.{searchable}
 
 -- something is there
@@ -112,20 +114,20 @@ found t query trail e =
     finds (made (t .control) (t .samples) (t .nodes) (t .links)) (r .formed) (r .some-trace) query
 
 -- a refused match leaves "all lent memory then as before the call"
-pub refused-leaves : (t : Tables) (query : Trace) (trail : List ℕ) (why : Refusal) → nearestOf t query trail .answer ≡ refusing why → (nearestOf t query trail .after ≡ t) × (nearestOf t query trail .trail ≡ trail)
-unfolding nearestOf unlessRefused answered
+pub refused-leaves : (t : Tables) (query : Trace) (trail : List ℕ) (why : Refusal) → nearestOf t query trail .answer ≡ refusing why → (nearestOf t query trail .after ≡ t) × (nearestOf t query trail .beside ≡ trail)
+unfolding nearestOf unlessRefusedWith answered
 refused-leaves t query trail why = by (firstOf (nearestConditions t query (length trail))) refl
   where
     marks : List ℕ
-    marks = marked (searched (tracesIn t) (treeIn t) query .trail) trail
+    marks = over (searched (tracesIn t) (treeIn t) query .trail) trail
 
     at : (o : Option Match) → Some o → answered o ≡ refusing why → (cleared t ≡ t) × (marks ≡ trail)
     at (some m) h e = let z : _≡_ {A = ℕ} 0 1 = cc in absurd (omega arith)
     at none h e = absurd h
 
     by : (o : Option Refusal) → firstOf (nearestConditions t query (length trail)) ≡ o
-        → unlessRefused o t trail (outcome (answered (matchBySteps (tracesIn t) (treeIn t) query)) (cleared t) marks) .answer ≡ refusing why
-        → (unlessRefused o t trail (outcome (answered (matchBySteps (tracesIn t) (treeIn t) query)) (cleared t) marks) .after ≡ t)
-        × (unlessRefused o t trail (outcome (answered (matchBySteps (tracesIn t) (treeIn t) query)) (cleared t) marks) .trail ≡ trail)
+        → unlessRefusedWith o t trail (outcomeWith (answered (matchBySteps (tracesIn t) (treeIn t) query)) (cleared t) marks) .answer ≡ refusing why
+        → (unlessRefusedWith o t trail (outcomeWith (answered (matchBySteps (tracesIn t) (treeIn t) query)) (cleared t) marks) .after ≡ t)
+        × (unlessRefusedWith o t trail (outcomeWith (answered (matchBySteps (tracesIn t) (treeIn t) query)) (cleared t) marks) .beside ≡ trail)
     by (some w) q e = (refl, refl)
     by none q e = at (matchBySteps (tracesIn t) (treeIn t) query) (found t query (length trail) q) e

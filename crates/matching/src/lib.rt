@@ -7,7 +7,8 @@ use tables::Refusal;
 use tables::Verdict;
 ghost use mathlib.Core.Path.{_≡_};
 ghost use Rattle.tables.specs.Tables.{tables};
-ghost use Rattle.matching.specs.Matched.{outcome, nearestOf};
+ghost use Rattle.tables.specs.Answers.{outcomeWith};
+ghost use Rattle.matching.specs.Matched.{nearestOf};
 ghost use Rattle.matching.specs.Answered.{answerBy};
 
 // Trace number, distance, leaves read and traces read, or a refusal.
@@ -29,7 +30,7 @@ pub fn nearest(
     trail: &mut [u16],
     query: &[i16],
 ) -> Found
-    ensures { λ r. ⌜ outcome (answerBy r (now (trail .exit)))
+    ensures { λ r. ⌜ outcomeWith (answerBy r (now (trail .exit)))
         (tables (now (control .entry)) (now (samples .entry)) (now (nodes .entry)) (now (links .entry)) (now (work .exit)))
         (now (trail .exit))
         ≡ nearestOf

@@ -1,7 +1,7 @@
 -- What it says of lengths and measures that nothing was refused.
 use mathlib.Core.Path.{_≡_, refl}
 use mathlib.Core.Bool.{Bool, true, false, not, _||_}
-use mathlib.Core.List.{List, _∷_}
+use mathlib.Core.List.{List, [], _∷_, _++_}
 use mathlib.Core.Option.{Option, none, some}
 use Prim.Native.Nat.{ℕ, _*_, _≤_}
 use native.Mathlib.Omega.{arith}
@@ -12,7 +12,9 @@ use Rattle.dstree.specs.Measures.{Measures, inRange, samplesNeeded, recordsNeed
 use Rattle.dstree.specs.Refusals.{Refusal, Condition, _refuses_, firstOf}
 use Rattle.dstree.specs.Book.{Lent, controlShort, tablesShort}
 use Rattle.tables.specs.Layout.{layout, recordPlaces, controlFields}
+use Rattle.tables.specs.Tables.{Tables, lentOf, measuresOf}
 use Rattle.tables.specs.Judge.{lentConditionsOf}
+use Rattle.tables.specs.Answers.{Lends}
 use Rattle.tables.proofs.Range.{InRange, in-range}
 
 -- the tables have the places that the measures need
@@ -61,3 +63,41 @@ lent-accepted lengths m e =
     let two = none-first (not (inRange m)) _ _ (one .1) in
     let three = none-first (tablesShort layout lengths m) _ _ (two .1) in
     record { range = in-range m (not-false _ (two .0)); room = room-of lengths m (one .0) (three .0) }
+
+-- tables that lengths and measures do not refuse
+pub lends : (t : Tables) → firstOf (lentConditionsOf (lentOf t) (measuresOf t)) ≡ none → Lends (t .control) (t .nodes) (t .links)
+unfolding lentConditionsOf recordsNeeded linksNeeded
+lends t e =
+    let one = none-first (controlShort layout (lentOf t)) _ _ e in
+    let two = none-first (not (inRange (measuresOf t))) _ _ (one .1) in
+    let ok = lent-accepted (lentOf t) (measuresOf t) e in
+    record { control-long = ok .room .control-room; measured = not-false _ (two .0); nodes-long = ok .room .nodes-room; links-long = ok .room .links-room }
+
+-- ---- two lists of conditions, one behind the other
+
+pub first-some : (a b : List Condition) (why : Refusal) → firstOf a ≡ some why → firstOf (a ++ b) ≡ some why
+unfolding firstOf
+first-some [] b why e = let z : _≡_ {A = ℕ} 0 1 = cc in absurd (omega arith)
+first-some (c ∷ a) b why e = by (c .holds) e (first-some a b why)
+  where
+    by : (t : Bool) → (if t then some (c .refusal) else firstOf a) ≡ some why → (firstOf a ≡ some why → firstOf (a ++ b) ≡ some why) → (if t then some (c .refusal) else firstOf (a ++ b)) ≡ some why
+    by true e ih = e
+    by false e ih = ih e
+
+pub first-none : (a b : List Condition) → firstOf a ≡ none → firstOf (a ++ b) ≡ firstOf b
+unfolding firstOf
+first-none [] b e = refl
+first-none (c ∷ a) b e = by (c .holds) e (first-none a b)
+  where
+    by : (t : Bool) → (if t then some (c .refusal) else firstOf a) ≡ none → (firstOf a ≡ none → firstOf (a ++ b) ≡ firstOf b) → (if t then some (c .refusal) else firstOf (a ++ b)) ≡ firstOf b
+    by true e ih = let z : _≡_ {A = ℕ} 0 1 = cc in absurd (omega arith)
+    by false e ih = ih e
+
+pub none-both : (a b : List Condition) → firstOf (a ++ b) ≡ none → (firstOf a ≡ none) × (firstOf b ≡ none)
+unfolding firstOf
+none-both [] b e = (refl, e)
+none-both (c ∷ a) b e = by (c .holds) e (none-both a b)
+  where
+    by : (t : Bool) → (if t then some (c .refusal) else firstOf (a ++ b)) ≡ none → (firstOf (a ++ b) ≡ none → (firstOf a ≡ none) × (firstOf b ≡ none)) → ((if t then some (c .refusal) else firstOf a) ≡ none) × (firstOf b ≡ none)
+    by true e ih = let z : _≡_ {A = ℕ} 0 1 = cc in absurd (omega arith)
+    by false e ih = ih e

@@ -1,16 +1,17 @@
 -- Answers and refusals of the calls, in document 01's terms; what every call that is lent made tables refuses first; what opening leaves.
-use Prim.Native.Nat.{ℕ, _*_}
-use mathlib.Core.Bool.{not}
+use Prim.Native.Nat.{ℕ, _*_, _-_, _≤_}
+use mathlib.Core.Path.{_≡_}
+use mathlib.Core.Bool.{true, not}
 use mathlib.Core.Option.{Option, none, some}
 use mathlib.Core.List.{List, [], _∷_, _++_}
-use lib.IntN.{pos}
-use lib.ListN.{drop}
-use Rattle.dstree.specs.Measures.{Measures, samplesNeeded, recordsNeeded, linksNeeded, workNeeded}
+use lib.IntN.{ℤ, pos}
+use lib.ListN.{length, drop}
+use Rattle.dstree.specs.Measures.{Measures, inRange, samplesNeeded, recordsNeeded, linksNeeded, workNeeded}
 use Rattle.dstree.specs.Refusals as word
 use Rattle.dstree.specs.Refusals.{Condition, _refuses_, firstOf}
 use Rattle.dstree.specs.Book.{Answer, done, refusing}
-use Rattle.tables.specs.Layout.{recordPlaces, controlFields}
-use Rattle.tables.specs.Tables.{Tables, tables, lentOf, measuresOf, filled}
+use Rattle.tables.specs.Layout.{capacityPlace, recordPlaces, controlFields}
+use Rattle.tables.specs.Tables.{Tables, tables, lentOf, field, measuresOf, filled}
 use Rattle.tables.specs.View.{wellFormed}
 use Rattle.tables.specs.Judge.{openingConditionsOf, lentConditionsOf}
 use Rattle.tables.specs.declared.Refusal.{Refusal}
@@ -70,6 +71,13 @@ unlessRefusedWith none before beside accepted = accepted
 -- "control record too short (2); its measures (3); other tables (2); the rest of 3"
 unfoldable pub madeConditions : Tables → List Condition
 madeConditions t = lentConditionsOf (lentOf t) (measuresOf t) ++ not (wellFormed t) refuses word.spoiled ∷ []
+
+-- tables with measures in range and the places that these need, as far as their contents are tested
+pub record Lends (control : List ℕ) (nodes : List ℤ) (links : List ℕ) : Type 0 where
+  pub control-long : controlFields ≤ length control
+  pub measured : inRange (measuresOf (tables control [] nodes links [])) ≡ true
+  pub nodes-long : (2 * field control capacityPlace - 1) * recordPlaces ≤ length nodes
+  pub links-long : field control capacityPlace ≤ length links
 
 -- ---- opening
 

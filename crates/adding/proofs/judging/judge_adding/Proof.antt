@@ -8,7 +8,8 @@ use Rattle.dstree.specs.Refusals.{firstOf}
 use Rattle.tables.specs.Tables.{Tables, tables, lentOf, measuresOf}
 use Rattle.tables.specs.Judge.{lentConditionsOf}
 use Rattle.tables.specs.Answers.{foundBy}
-use Rattle.adding.proofs.Conditions.{refused-first, rest-only, rest-same, lends}
+use Rattle.tables.proofs.Judged.{lends}
+use Rattle.adding.proofs.Conditions.{refused-first, rest-only, rest-same}
 use Rattle.adding.proofs.judging.judge_adding.Statement.{statement}
 use Rattle.adding.proofs.judging.judge_adding.Tie as tie
 

@@ -8,7 +8,8 @@ use Rattle.dstree.specs.Refusals.{firstOf}
 use Rattle.tables.specs.Tables.{Tables, tables, lentOf, measuresOf}
 use Rattle.tables.specs.Judge.{lentConditionsOf}
 use Rattle.tables.specs.Answers.{foundBy}
-use Rattle.matching.proofs.Conditions.{refused-first, rest-only, rest-same, lends}
+use Rattle.tables.proofs.Judged.{lends}
+use Rattle.matching.proofs.Conditions.{refused-first, rest-only, rest-same}
 use Rattle.matching.proofs.judging.judge_nearest.Statement.{statement}
 use Rattle.matching.proofs.judging.judge_nearest.Tie as tie
 

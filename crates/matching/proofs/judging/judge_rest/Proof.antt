@@ -8,6 +8,7 @@ use lib.ListN.{length}
 use denote.Ref.{now}
 use borrow.Author.Needs.{needs}
 use borrow.Author.Tests.{eq-eqb, ne-eqb, lt-ltb, le-ltb, not-true, not-false}
+use Rattle.integer.proofs.Tests.{is-true}
 use Rattle.dstree.specs.Matching.{leaves}
 use Rattle.dstree.specs.Refusals.{firstOf}
 use Rattle.tables.specs.Layout.{nPlace, traceCountPlace, nodeCountPlace}
@@ -17,7 +18,6 @@ use Rattle.tables.specs.Answers.{wordOf, foundBy}
 use Rattle.matching.specs.Leaves.{leafCount}
 use Rattle.matching.specs.Matched.{restConditions}
 use Rattle.matching.proofs.Counted.{leaves-counted, records-room, records-few}
-use Rattle.matching.proofs.Conditions.{holds}
 use Rattle.matching.proofs.judging.judge_rest.Statement.{statement}
 use Rattle.matching.proofs.judging.judge_rest.Tie as tie
 
@@ -75,7 +75,7 @@ leaf-count-requires : tie.Need-leaf-count-requires
 leaf-count-requires c κs =
     let w = c .before .before .before in
     let s = start w in
-    let t = holds (wellFormed (read w)) (formed (c .before .before)) in
+    let t = is-true {b = wellFormed (read w)} (formed (c .before .before)) in
     rw (m-is w) (records-room (read w) t (s .pre .nodes-long), records-few (read w) t (s .pre .nodes-long))
 
 -- the leaves counted are the tree's

@@ -19,3 +19,4 @@ pub mod First
 pub mod Meaning
 pub mod Made
 pub mod Keeps
+pub mod Beginnings

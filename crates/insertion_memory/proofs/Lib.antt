@@ -20,3 +20,5 @@ pub mod Meaning
 pub mod Made
 pub mod Keeps
 pub mod Beginnings
+pub mod Longer
+pub mod AddedBeginnings

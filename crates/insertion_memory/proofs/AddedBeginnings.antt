@@ -1,0 +1,172 @@
+-- Adding to a memory is adding to its first places, where they are long enough: what is behind them stays.
+use Prim.Native.Nat.{ℕ, zero, suc, _+_, _*_, _-_, _≤_, _<_}
+use mathlib.Core.Path.{_≡_, refl, sym, _∙_, ap, ap₂, subst}
+use mathlib.Core.List.{List, [], _∷_, _++_, foldl}
+use native.Mathlib.Nat.{mul-le-mul-right}
+use native.Mathlib.Omega.{arith}
+use lib.IntN.{ℤ}
+use lib.ListN.{length, set, length-append, length-set}
+use lib.Seq.{set-append-left, paste}
+use lib.Dec.{T}
+use Rattle.integer.specs.Words.{lastOf}
+use Rattle.integer.proofs.Lists.{In, last-in}
+use Rattle.dstree.specs.Measures.{Trace, Measures, samplesNeeded}
+use Rattle.dstree.specs.Node.{leaf, Tree, nodeAt}
+use Rattle.dstree.specs.Adding.{way, widenAll, join, segmentsOf}
+use Rattle.dstree.specs.Matching.{numbersIn}
+use Rattle.tables.specs.Layout.{traceCountPlace, nodeCountPlace, recordPlaces}
+use Rattle.tables.specs.Tables.{Tables, lentOf, measuresOf, traceCount, nodeCount, withRecord}
+use Rattle.tables.specs.View.{treeIn, tracesIn, wellFormed}
+use Rattle.tables.specs.Beginning.{left, Begins}
+use Rattle.tables.proofs.Beginning.{extended, behindOf, begins-is, tables-same, left-begins, left-extended}
+use Rattle.insertion_memory.specs.Records.{leafRecord, widenRecord}
+use Rattle.insertion_memory.specs.Links.{joined}
+use Rattle.insertion_memory.specs.Memory.{Held, held, onRecord, splitAllOf, firstHeld, joinedHeld, heldAfter, addedTo}
+use Rattle.insertion_memory.proofs.Placing.{record-inside}
+use Rattle.insertion_memory.proofs.Stands.{Space, Stands}
+use Rattle.insertion_memory.proofs.Down.{LeafAt, way-inside, way-ends}
+use Rattle.insertion_memory.proofs.Widening.{widen-length}
+use Rattle.insertion_memory.proofs.Joining.{join-length}
+use Rattle.insertion_memory.proofs.FromTables.{Long, facts, range, node-count, space, tables-stand}
+use Rattle.insertion_memory.proofs.Meaning.{joined-held, meaning}
+use Rattle.insertion_memory.proofs.Made.{count-is}
+use Rattle.insertion_memory.proofs.Beginnings.{Agree, measures-same, traces-counted, nodes-counted, tree-same, traces-same, extended-agree}
+use Rattle.insertion_memory.proofs.Longer.{with-more, paste-more, joined-more, longer, widen-more, split-all-more}
+
+last-inside : (k : ℕ) (l : List ℕ) → 0 < length l → ((t : ℕ) → In t l → t < k) → lastOf l < k
+last-inside k [] some low = absurd (omega arith)
+last-inside k (x ∷ l) some low = low _ (last-in x l)
+
+-- what the joined nodes and links are, by what the tables are read as
+abbrev joinedBy : Trace → Tree → ℕ → ℕ → List ℤ → List ℕ → Held
+joinedBy x tree k count nodes links =
+    held (foldl (onRecord (widenRecord x)) nodes (way tree x)) (joined links (numbersIn (nodeAt tree (lastOf (way tree x)) .kind)) k) count
+
+module _ (part more : Tables) (x : Trace) (w : T (wellFormed part)) (long : Long part) (size : length x ≡ measuresOf part .n) (less : traceCount part < measuresOf part .capacity) where
+  abbrev n : ℕ
+  n = measuresOf part .n
+
+  abbrev c : ℕ
+  c = measuresOf part .capacity
+
+  abbrev k : ℕ
+  k = traceCount part
+
+  abbrev whole : Tables
+  whole = extended part more
+
+  -- with more places behind
+  abbrev wide : Held → Held
+  wide = longer (more .nodes) (more .links)
+
+  same : Agree part whole
+  same = extended-agree part more long
+
+  room : Space n c (part .nodes) (part .links)
+  room = space part w long
+
+  -- ---- nodes and links
+
+  first-more : firstHeld whole x ≡ wide (firstHeld part x)
+  unfolding firstHeld
+  first-more =
+      ap (λ (m : Measures). held (withRecord (part .nodes ++ more .nodes) 0 (leafRecord (segmentsOf (m .n ∷ []) (x ∷ [])) 0)) (set (part .links ++ more .links) 0 0) 1) (measures-same same)
+      ∙ ap₂ (λ (a : List ℤ) (b : List ℕ). held a b 1)
+      (with-more (part .nodes) (more .nodes) 0 (leafRecord (segmentsOf (n ∷ []) (x ∷ [])) 0) (record-inside (2 * c - 1) 0 (part .nodes) (room .nodes-room) (omega (arith, less))))
+      (set-append-left (part .links) (more .links) 0 0 (omega (arith, less, room .links-room)))
+
+  module _ (some : 0 < length (treeIn part)) where
+    abbrev tree : Tree
+    tree = treeIn part
+
+    abbrev at : ℕ
+    at = lastOf (way tree x)
+
+    end : LeafAt tree at
+    end = way-ends tree x (facts part w .child) some
+
+    abbrev numbers : List ℕ
+    numbers = numbersIn (nodeAt tree at .kind)
+
+    numbers-some : 0 < length numbers
+    unfolding numbersIn
+    numbers-some = subst (λ (l : List ℕ). 0 < length l) (sym (ap numbersIn (end .is))) (facts part w .full at (end .inside) (end .numbers) (end .is))
+
+    last-low : lastOf numbers < length (part .links)
+    last-low =
+        let g : lastOf numbers < k = last-inside k numbers numbers-some (λ t i. tables-stand part w long some .sound .owned t at i .0) in
+        omega (arith, g, less, room .links-room)
+
+    joined-more-held : joinedHeld whole x ≡ wide (joinedHeld part x)
+    unfolding joinedHeld
+    joined-more-held =
+        ap (λ (tree : Tree). joinedBy x tree (traceCount whole) (nodeCount whole) (whole .nodes) (whole .links)) (tree-same same w long)
+        ∙ ap (λ (j : ℕ). joinedBy x tree j (nodeCount whole) (whole .nodes) (whole .links)) (traces-counted same)
+        ∙ ap (λ (count : ℕ). joinedBy x tree k count (whole .nodes) (whole .links)) (nodes-counted same)
+        ∙ ap₂ (λ (a : List ℤ) (b : List ℕ). held a b (nodeCount part))
+        (widen-more room (more .nodes) (more .links) x (way tree x) (way-inside tree x (facts part w .child) some) (tables-stand part w long some))
+        (joined-more (part .links) (more .links) numbers k last-low (omega (arith, less, room .links-room)))
+
+    abbrev stored : List Trace
+    stored = tracesIn part ++ (x ∷ [])
+
+    stored-size : length stored ≡ suc k
+    stored-size = length-append (tracesIn part) (x ∷ []) ∙ (let e : length (tracesIn part) + 1 ≡ suc k = omega (arith, count-is part) in e)
+
+    split-more-held : splitAllOf (measuresOf whole .leafSize) (tracesIn whole ++ (x ∷ [])) (joinedHeld whole x) (lastOf (way (treeIn whole) x)) ≡ wide (splitAllOf (measuresOf part .leafSize) stored (joinedHeld part x) at)
+    split-more-held =
+        let there : at < length (join k at (widenAll x (way tree x) tree)) = omega (arith, end .inside, widen-length x (way tree x) tree, join-length k at (widenAll x (way tree x) tree)) in
+        ap (λ (m : Measures). splitAllOf (m .leafSize) (tracesIn whole ++ (x ∷ [])) (joinedHeld whole x) (lastOf (way (treeIn whole) x))) (measures-same same)
+        ∙ ap (λ (l : List Trace). splitAllOf (measuresOf part .leafSize) (l ++ (x ∷ [])) (joinedHeld whole x) (lastOf (way (treeIn whole) x))) (traces-same same w long)
+        ∙ ap (λ (t : Tree). splitAllOf (measuresOf part .leafSize) stored (joinedHeld whole x) (lastOf (way t x))) (tree-same same w long)
+        ∙ ap (λ (h : Held). splitAllOf (measuresOf part .leafSize) stored h at) joined-more-held
+        ∙ split-all-more room (more .nodes) (more .links) stored (measuresOf part .leafSize) stored-size (joined-held part x w long size less some) at there
+
+  held-more : heldAfter whole x (nodeCount whole) ≡ wide (heldAfter part x (nodeCount part))
+  unfolding heldAfter
+  held-more = ap (λ (m : ℕ). heldAfter whole x m) (nodes-counted same) ∙ by (nodeCount part) (node-count part w)
+    where
+      by : (m : ℕ) → m ≡ length (treeIn part) → heldAfter whole x m ≡ wide (heldAfter part x m)
+      by zero e = first-more
+      by (suc m) e = split-more-held (omega arith)
+
+  -- ---- the other tables
+
+  control-more : (count : ℕ) → set (set (whole .control) traceCountPlace (suc k)) nodeCountPlace count ≡ set (set (part .control) traceCountPlace (suc k)) nodeCountPlace count ++ more .control
+  control-more count =
+      ap (λ (l : List ℕ). set l nodeCountPlace count) (set-append-left (part .control) (more .control) traceCountPlace (suc k) (omega (arith, long .control-long)))
+      ∙ set-append-left (set (part .control) traceCountPlace (suc k)) (more .control) nodeCountPlace count (omega (arith, long .control-long, length-set (part .control) traceCountPlace (suc k)))
+
+  samples-more : paste (whole .samples) (traceCount whole * measuresOf whole .n) x (measuresOf whole .n) ≡ paste (part .samples) (k * n) x n ++ more .samples
+  unfolding samplesNeeded
+  samples-more =
+      let g : suc k * n ≤ c * n = mul-le-mul-right n less in
+      ap (λ (j : ℕ). paste (whole .samples) (j * measuresOf whole .n) x (measuresOf whole .n)) (traces-counted same)
+      ∙ ap (λ (m : Measures). paste (whole .samples) (k * m .n) x (m .n)) (measures-same same)
+      ∙ paste-more (part .samples) (more .samples) x (k * n) n (omega (arith, g, long .samples-long))
+
+  pub added-extended : addedTo (extended part more) x ≡ extended (addedTo part x) more
+  unfolding addedTo
+  added-extended = tables-same
+      (ap (λ (j : ℕ). set (set (whole .control) traceCountPlace (suc j)) nodeCountPlace (heldAfter whole x (nodeCount whole) .count)) (traces-counted same)
+      ∙ ap (λ (h : Held). set (set (whole .control) traceCountPlace (suc k)) nodeCountPlace (h .count)) held-more
+      ∙ control-more (heldAfter part x (nodeCount part) .count))
+      samples-more
+      (ap (λ (h : Held). h .nodes) held-more)
+      (ap (λ (h : Held). h .links) held-more)
+      refl
+
+-- ---- a memory and its first places
+
+-- what adding to the first places leaves in the memory is what adding to the memory does
+pub added-left : (part memory : Tables) (x : Trace) → Begins part memory → T (wellFormed part) → Long part → length x ≡ measuresOf part .n → traceCount part < measuresOf part .capacity
+    → left (addedTo part x) memory ≡ addedTo memory x
+added-left part memory x b w long size less = by memory (behindOf part memory) (begins-is part memory b)
+  where
+    by : (memory more : Tables) → memory ≡ extended part more → left (addedTo part x) memory ≡ addedTo memory x
+    by memory more e = rw e (left-extended part (addedTo part x) more (meaning part x w long size less .lengths-stay) ∙ sym (added-extended part more x w long size less))
+
+-- adding to a memory does to its first places what adding to these alone does
+pub added-begins : (part memory : Tables) (x : Trace) → Begins part memory → T (wellFormed part) → Long part → length x ≡ measuresOf part .n → traceCount part < measuresOf part .capacity
+    → Begins (addedTo part x) (addedTo memory x)
+added-begins part memory x b w long size less = subst (λ (t : Tables). Begins (addedTo part x) t) (added-left part memory x b w long size less) (left-begins (addedTo part x) memory)

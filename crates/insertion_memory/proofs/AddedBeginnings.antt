@@ -9,13 +9,12 @@ use lib.ListN.{length, set, length-append, length-set}
 use lib.Seq.{set-append-left, paste}
 use lib.Dec.{T}
 use Rattle.integer.specs.Words.{lastOf}
-use Rattle.integer.proofs.Lists.{In, last-in}
 use Rattle.dstree.specs.Measures.{Trace, Measures, samplesNeeded}
-use Rattle.dstree.specs.Node.{leaf, Tree, nodeAt}
+use Rattle.dstree.specs.Node.{Tree, nodeAt}
 use Rattle.dstree.specs.Adding.{way, widenAll, join, segmentsOf}
 use Rattle.dstree.specs.Matching.{numbersIn}
-use Rattle.tables.specs.Layout.{traceCountPlace, nodeCountPlace, recordPlaces}
-use Rattle.tables.specs.Tables.{Tables, lentOf, measuresOf, traceCount, nodeCount, withRecord}
+use Rattle.tables.specs.Layout.{traceCountPlace, nodeCountPlace}
+use Rattle.tables.specs.Tables.{Tables, measuresOf, traceCount, nodeCount, withRecord}
 use Rattle.tables.specs.View.{treeIn, tracesIn, wellFormed}
 use Rattle.tables.specs.Beginning.{left, Begins}
 use Rattle.tables.proofs.Beginning.{extended, behindOf, begins-is, tables-same, left-begins, left-extended}
@@ -23,19 +22,15 @@ use Rattle.insertion_memory.specs.Records.{leafRecord, widenRecord}
 use Rattle.insertion_memory.specs.Links.{joined}
 use Rattle.insertion_memory.specs.Memory.{Held, held, onRecord, splitAllOf, firstHeld, joinedHeld, heldAfter, addedTo}
 use Rattle.insertion_memory.proofs.Placing.{record-inside}
-use Rattle.insertion_memory.proofs.Stands.{Space, Stands}
+use Rattle.insertion_memory.proofs.Stands.{Space}
 use Rattle.insertion_memory.proofs.Down.{LeafAt, way-inside, way-ends}
 use Rattle.insertion_memory.proofs.Widening.{widen-length}
-use Rattle.insertion_memory.proofs.Joining.{join-length}
-use Rattle.insertion_memory.proofs.FromTables.{Long, facts, range, node-count, space, tables-stand}
+use Rattle.insertion_memory.proofs.Joining.{last-low, join-length}
+use Rattle.insertion_memory.proofs.FromTables.{Long, facts, node-count, space, tables-stand}
 use Rattle.insertion_memory.proofs.Meaning.{joined-held, meaning}
 use Rattle.insertion_memory.proofs.Made.{count-is}
 use Rattle.insertion_memory.proofs.Beginnings.{Agree, measures-same, traces-counted, nodes-counted, tree-same, traces-same, extended-agree}
 use Rattle.insertion_memory.proofs.Longer.{with-more, paste-more, joined-more, longer, widen-more, split-all-more}
-
-last-inside : (k : ℕ) (l : List ℕ) → 0 < length l → ((t : ℕ) → In t l → t < k) → lastOf l < k
-last-inside k [] some low = absurd (omega arith)
-last-inside k (x ∷ l) some low = low _ (last-in x l)
 
 -- what the joined nodes and links are, by what the tables are read as
 abbrev joinedBy : Trace → Tree → ℕ → ℕ → List ℤ → List ℕ → Held
@@ -92,9 +87,9 @@ module _ (part more : Tables) (x : Trace) (w : T (wellFormed part)) (long : Long
     unfolding numbersIn
     numbers-some = subst (λ (l : List ℕ). 0 < length l) (sym (ap numbersIn (end .is))) (facts part w .full at (end .inside) (end .numbers) (end .is))
 
-    last-low : lastOf numbers < length (part .links)
-    last-low =
-        let g : lastOf numbers < k = last-inside k numbers numbers-some (λ t i. tables-stand part w long some .sound .owned t at i .0) in
+    last-inside : lastOf numbers < length (part .links)
+    last-inside =
+        let g : lastOf numbers < k = last-low k numbers numbers-some (λ t i. tables-stand part w long some .sound .owned t at i .0) in
         omega (arith, g, less, room .links-room)
 
     joined-more-held : joinedHeld whole x ≡ wide (joinedHeld part x)
@@ -105,7 +100,7 @@ module _ (part more : Tables) (x : Trace) (w : T (wellFormed part)) (long : Long
         ∙ ap (λ (count : ℕ). joinedBy x tree k count (whole .nodes) (whole .links)) (nodes-counted same)
         ∙ ap₂ (λ (a : List ℤ) (b : List ℕ). held a b (nodeCount part))
         (widen-more room (more .nodes) (more .links) x (way tree x) (way-inside tree x (facts part w .child) some) (tables-stand part w long some))
-        (joined-more (part .links) (more .links) numbers k last-low (omega (arith, less, room .links-room)))
+        (joined-more (part .links) (more .links) numbers k last-inside (omega (arith, less, room .links-room)))
 
     abbrev stored : List Trace
     stored = tracesIn part ++ (x ∷ [])

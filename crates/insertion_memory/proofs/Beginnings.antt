@@ -2,7 +2,7 @@
 -- what the memory does where they are long enough.
 use Prim.Native.Nat.{ℕ, suc, _+_, _*_, _-_, _≤_, _<_}
 use mathlib.Core.Path.{_≡_, refl, sym, _∙_, ap, subst}
-use mathlib.Core.List.{List, [], _∷_, _++_, map}
+use mathlib.Core.List.{List, [], _++_, map}
 use native.Mathlib.Nat.{mul-le-mul-right}
 use native.Mathlib.Omega.{arith}
 use lib.IntN.{ℤ}
@@ -10,15 +10,14 @@ use lib.ListN.{length, getD, take, drop, length-append, length-drop, List·getD-
 use lib.Seq.{take-append-le, drop-append-le}
 use lib.Dec.{T, leb, le→leb}
 use mir.Facts.{yes-and, and-yes}
-use Rattle.integer.specs.Words.{counting, every}
+use Rattle.integer.specs.Words.{counting}
 use Rattle.integer.proofs.Lists.{every-of, from-counting, map-agree}
 use Rattle.integer.proofs.Rows.{table-is}
 use Rattle.dstree.specs.Measures.{Trace, Measures, sampleLimit, samplesNeeded, recordsNeeded, linksNeeded}
 use Rattle.dstree.specs.Node.{leaf, node, Tree, nodeAt}
-use Rattle.dstree.specs.Adding.{treeOf}
 use Rattle.dstree.specs.WellFormed as abstract
 use Rattle.tables.specs.Layout.{nPlace, capacityPlace, leafSizePlace, traceCountPlace, nodeCountPlace, controlFields, kindPlace, recordPlaces}
-use Rattle.tables.specs.Tables.{Tables, lentOf, field, measuresOf, traceCount, nodeCount, recordOf}
+use Rattle.tables.specs.Tables.{Tables, field, measuresOf, traceCount, nodeCount, recordOf}
 use Rattle.tables.specs.View.{smallAt, nodeIn, treeIn, traceIn, tracesIn, kindsNamed, wellFormed}
 use Rattle.tables.specs.Beginning.{Begins}
 use Rattle.tables.proofs.Frame.{partOf}
@@ -26,8 +25,8 @@ use Rattle.tables.proofs.Beginning.{extended, behindOf, begins-is}
 use Rattle.insertion_memory.specs.Memory.{Held, held}
 use Rattle.insertion_memory.proofs.Sound.{nodes-most}
 use Rattle.insertion_memory.proofs.Placing.{record-inside}
-use Rattle.insertion_memory.proofs.Stands.{Reads, reads-same, kind-named, Space, Stands, node-read}
-use Rattle.insertion_memory.proofs.FromTables.{Long, facts, node-count, space, tables-stand}
+use Rattle.insertion_memory.proofs.Stands.{Reads, reads-same, kind-named, Stands, node-read}
+use Rattle.insertion_memory.proofs.FromTables.{Long, facts, node-count, tables-stand}
 use Rattle.insertion_memory.proofs.Made.{Holds}
 
 -- ---- nodes and links that agree on the needed places

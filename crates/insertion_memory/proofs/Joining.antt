@@ -25,7 +25,7 @@ other-link : (links : List ℕ) (ns : List ℕ) (k s : ℕ) → 0 < length ns �
 other-link links [] k s some h f g = absurd (omega arith)
 other-link links (x ∷ l) k s some h f g = join-at-other links x l k h s f (λ e. g (subst (λ (t : ℕ). In t (x ∷ l)) (sym e) (last-in x l)))
 
-last-low : (k : ℕ) (ns : List ℕ) → 0 < length ns → Low k ns → lastOf ns < k
+pub last-low : (k : ℕ) (ns : List ℕ) → 0 < length ns → Low k ns → lastOf ns < k
 last-low k [] some low = absurd (omega arith)
 last-low k (x ∷ l) some low = low _ (last-in x l)
 

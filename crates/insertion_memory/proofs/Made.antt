@@ -6,7 +6,7 @@ use mathlib.Core.Bool.{true}
 use mathlib.Core.List.{List, [], _∷_, _++_, foldl, flatten, append-assoc, append-nil}
 use native.Mathlib.Omega.{arith}
 use lib.IntN.{pos}
-use lib.ListN.{length, length-map, length-append, length-replicate, length-drop}
+use lib.ListN.{length, length-map, length-append}
 use lib.Dec.{T, leb, leb→le, le→leb}
 use Rattle.integer.specs.Words.{counting, every}
 use Rattle.integer.proofs.Tests.{passed, passes}
@@ -19,9 +19,10 @@ use Rattle.dstree.specs.WellFormed as abstract
 use Rattle.dstree.proofs.Laws.{trace-length, shape}
 use Rattle.dstree.specs.Book.{Lent}
 use Rattle.tables.specs.Layout.{controlFields, recordPlaces}
-use Rattle.tables.specs.Tables.{Tables, lentOf, measuresOf, traceCount, filled}
+use Rattle.tables.specs.Tables.{Tables, lentOf, measuresOf, traceCount}
 use Rattle.tables.specs.Answers.{opened}
 use Rattle.tables.proofs.Judged.{Room}
+use Rattle.tables.proofs.Beginning.{fill-length}
 use Rattle.tables.specs.View.{traceIn, treeIn, tracesIn, kindsNamed, wellFormed}
 use Rattle.insertion_memory.specs.Memory.{addedTo}
 use Rattle.insertion_memory.proofs.FromTables.{Long}
@@ -126,10 +127,6 @@ module _ (m : Measures) where
       subst (Holds (foldl addedTo (addedTo t x) more) m) e (holds-all (addedTo t x) (traces ++ (x ∷ [])) more (holds-more t traces x h (shorter (traces ++ (x ∷ [])) more all)) all)
 
 -- ---- from an opening on
-
--- what opening leaves has the lengths that it was given
-fill-length : {A : Type 0} (k : ℕ) (z : A) (l : List A) → k ≤ length l → length (filled k z l) ≡ length l
-fill-length k z l h = simp (length-append, length-replicate, length-drop) (omega arith)
 
 module _ (t : Tables) (m : Measures) (range : T (inRange m)) (enough : Room (lentOf t) m) where
   pub holds-none : Holds (opened t m) m []

@@ -1,12 +1,12 @@
 -- The first places of a memory, and what is behind them. The idea: a memory that begins with some tables is those tables with more places behind each,
 -- so that what a call does to it can be said as an equation between lists that are joined.
-use Prim.Native.Nat.{ℕ, zero, suc, _+_, _*_, _-_, _≤_}
+use Prim.Native.Nat.{ℕ, zero, suc, _*_, _≤_}
 use mathlib.Core.Path.{_≡_, refl, sym, ap, subst, _∙_}
 use mathlib.Core.List.{List, [], _∷_, _++_, append-assoc}
 use native.Mathlib.Omega.{arith}
 use lib.IntN.{pos}
 use lib.ListN.{length, take, drop, replicate, take-append-drop, length-append, length-drop, length-replicate}
-use lib.Seq.{take-length, length-take-le, take-append-seam, drop-append-seam, drop-append-le, drop-at}
+use lib.Seq.{take-length, length-take-le, take-append-seam, drop-append-le, drop-at}
 use Rattle.dstree.specs.Measures.{Measures, samplesNeeded, recordsNeeded, linksNeeded, workNeeded}
 use Rattle.dstree.specs.Book.{Lent}
 use Rattle.tables.specs.Layout.{controlFields, recordPlaces}

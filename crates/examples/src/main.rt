@@ -1,6 +1,7 @@
-// The examples of document 01 that are run and not proved: what each call answers, a line an example, held to the file stdout.
+// The examples of document 01, run: what each call answers, a line an example, held to the file stdout.
 
 use adding::Added;
+use matching::Found;
 use opening::Opened;
 use tables::Refusal;
 
@@ -72,6 +73,59 @@ fn wide(x: u16) -> u64 {
     x as u64
 }
 
+fn place(trail: &[u16], i: usize) -> u16 {
+    if i < trail.len() { trail[i] } else { 0 }
+}
+
+// The leaves read, which the trail begins with.
+fn read_on(trail: &[u16], leaves: u64) {
+    let mut i: usize = 0;
+    while (i as u64) < leaves {
+        io::write_all(1, b" ");
+        number(wide(place(trail, i)));
+        i += 1;
+    }
+}
+
+fn found_at(trace: u64, distance: u64, leaves: u64, traces: u64) {
+    io::write_all(1, b"trace ");
+    number(trace);
+    io::write_all(1, b" distance ");
+    number(distance);
+    io::write_all(1, b" leaves ");
+    number(leaves);
+    io::write_all(1, b" traces ");
+    number(traces);
+}
+
+fn found(answer: Found, trail: &[u16]) {
+    match answer {
+        Found::At(trace, distance, leaves, traces) => {
+            found_at(trace, distance, leaves, traces);
+            io::write_all(1, b" trail");
+            read_on(trail, leaves);
+        }
+        Found::Refused(why) => refusal(why),
+    }
+    io::write_all(1, b"\n");
+}
+
+// A match, in a line that begins with its query. The trail holds junk, and has places behind its leaves.
+fn match_of(
+    control: &[u16],
+    samples: &[i16],
+    nodes: &[i64],
+    links: &[u16],
+    work: &mut [u64],
+    query: &[i16],
+    line: &[u8],
+) {
+    let mut trail = [7u16; 3];
+    let answer = matching::nearest(control, samples, nodes, links, work, &mut trail, query);
+    io::write_all(1, line);
+    found(answer, &trail);
+}
+
 // A trace added, and how many nodes there are then.
 fn add_to(
     control: &mut [u16],
@@ -116,8 +170,45 @@ fn traces_added(
     add_both(control, samples, nodes, links, work, &c, &short);
 }
 
+// "Query (1,1,1,1)", "Query (2,2,2,2)", "Query (4,4,4,4)"
+fn queries_matched(
+    control: &[u16],
+    samples: &[i16],
+    nodes: &[i64],
+    links: &[u16],
+    work: &mut [u64],
+) {
+    match_of(
+        control,
+        samples,
+        nodes,
+        links,
+        work,
+        &[1i16, 1, 1, 1],
+        b"match 1 1 1 1: ",
+    );
+    match_of(
+        control,
+        samples,
+        nodes,
+        links,
+        work,
+        &[2i16, 2, 2, 2],
+        b"match 2 2 2 2: ",
+    );
+    match_of(
+        control,
+        samples,
+        nodes,
+        links,
+        work,
+        &[4i16, 4, 4, 4],
+        b"match 4 4 4 4: ",
+    );
+}
+
 // "n = 4, leaf size 2, capacity 8"
-fn adding_of() {
+fn of_four() {
     let mut control = [7u16; 5];
     let mut samples = [7i16; 32];
     let mut nodes = [7i64; 1305];
@@ -135,6 +226,84 @@ fn adding_of() {
     ));
     io::write_all(1, b"\n");
     traces_added(&mut control, &mut samples, &mut nodes, &mut links, &work);
+    queries_matched(&control, &samples, &nodes, &links, &mut work);
+}
+
+// "n = 3, stored (0,0,0), query (1,0,0)"
+fn of_three() {
+    let mut control = [7u16; 5];
+    let mut samples = [7i16; 32];
+    let mut nodes = [7i64; 1305];
+    let mut links = [7u16; 8];
+    let mut work = [7u64; 15];
+    opened(opening::open(
+        &mut control,
+        &mut samples,
+        &mut nodes,
+        &mut links,
+        &mut work,
+        3,
+        8,
+        2,
+    ));
+    io::write_all(1, b"\n");
+    add_to(
+        &mut control,
+        &mut samples,
+        &mut nodes,
+        &mut links,
+        &work,
+        &[0i16, 0, 0],
+    );
+    match_of(
+        &control,
+        &samples,
+        &nodes,
+        &links,
+        &mut work,
+        &[1i16, 0, 0],
+        b"match 1 0 0: ",
+    );
+}
+
+// "Leaf size 1, (1,2,1,2) and (2,1,2,1): one leaf of two"
+fn in_ones() {
+    let mut control = [7u16; 5];
+    let mut samples = [7i16; 32];
+    let mut nodes = [7i64; 1305];
+    let mut links = [7u16; 8];
+    let mut work = [7u64; 15];
+    opened(opening::open(
+        &mut control,
+        &mut samples,
+        &mut nodes,
+        &mut links,
+        &mut work,
+        4,
+        8,
+        1,
+    ));
+    io::write_all(1, b"\n");
+    let first = [1i16, 2, 1, 2];
+    let second = [2i16, 1, 2, 1];
+    add_both(
+        &mut control,
+        &mut samples,
+        &mut nodes,
+        &mut links,
+        &work,
+        &first,
+        &second,
+    );
+    match_of(
+        &control,
+        &samples,
+        &nodes,
+        &links,
+        &mut work,
+        &second,
+        b"match 2 1 2 1: ",
+    );
 }
 
 fn main() {
@@ -152,5 +321,7 @@ fn main() {
         18446744073709551615,
         18446744073709551615,
     );
-    adding_of();
+    of_four();
+    of_three();
+    in_ones();
 }

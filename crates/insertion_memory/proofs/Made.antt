@@ -75,12 +75,19 @@ long-after t x long a =
     }
 
 module _ (m : Measures) where
-  shorter : (traces more : List Trace) → T (isLibrary sampleLimit m (traces ++ more)) → T (isLibrary sampleLimit m traces)
+  pub shorter : (traces more : List Trace) → T (isLibrary sampleLimit m (traces ++ more)) → T (isLibrary sampleLimit m traces)
   unfolding isLibrary
   shorter traces more library =
       let p = each sampleLimit m traces more library in
       passes (inRange m) (leb (length traces) (m .capacity) ∷ every (isTrace sampleLimit (m .n)) traces ∷ [])
       (p .0, (le→leb (length traces) (m .capacity) (omega (arith, room sampleLimit m traces more library)), every-of (isTrace sampleLimit (m .n)) traces (λ x i. from-every (isTrace sampleLimit (m .n)) (traces ++ more) (p .1 .1) (in-append-left more i))))
+
+  -- tables that hold all but the last of a library's traces take that one: it has n samples, and there is room
+  pub takes-more : (t : Tables) (traces : List Trace) (x : Trace) → Holds t m traces → T (isLibrary sampleLimit m (traces ++ (x ∷ []))) → (length x ≡ measuresOf t .n) × (traceCount t < measuresOf t .capacity)
+  takes-more t traces x h library =
+      let size : length x ≡ m .n = trace-length sampleLimit (m .n) x (is-trace sampleLimit m traces (x ∷ []) library first) in
+      let counted : traceCount t ≡ length traces = count-is t ∙ ap length (h .traces-are) in
+      (size ∙ ap (λ (k : Measures). k .n) (sym (h .measures-are)), omega (arith, counted, room sampleLimit m traces (x ∷ []) library, ap (λ (k : Measures). k .capacity) (h .measures-are)))
 
   -- an adding to tables that hold some traces leaves tables that hold one more
   pub holds-more : (t : Tables) (traces : List Trace) (x : Trace) → Holds t m traces → T (isLibrary sampleLimit m (traces ++ (x ∷ []))) → Holds (addedTo t x) m (traces ++ (x ∷ []))
@@ -92,17 +99,14 @@ module _ (m : Measures) where
     tree-is = a .tree ∙ new-tree;
   }
     where
-      length-is : length x ≡ m .n
-      length-is = trace-length sampleLimit (m .n) x (is-trace sampleLimit m traces (x ∷ []) library first)
-
       size : length x ≡ measuresOf t .n
-      size = length-is ∙ ap (λ (k : Measures). k .n) (sym (h .measures-are))
+      size = takes-more t traces x h library .0
 
       counted : traceCount t ≡ length traces
       counted = count-is t ∙ ap length (h .traces-are)
 
       less : traceCount t < measuresOf t .capacity
-      less = omega (arith, counted, room sampleLimit m traces (x ∷ []) library, ap (λ (k : Measures). k .capacity) (h .measures-are))
+      less = takes-more t traces x h library .1
 
       a : Added t x
       a = meaning t x (h .formed) (h .long) size less

@@ -6,7 +6,7 @@ use mathlib.Core.List.{List, [], _∷_, _++_, append-assoc}
 use native.Mathlib.Omega.{arith}
 use lib.IntN.{pos}
 use lib.ListN.{length, take, drop, replicate, take-append-drop, length-append, length-drop, length-replicate}
-use lib.Seq.{take-length, length-take-le, take-append-seam, drop-append-le, drop-at}
+use lib.Seq.{take-length, take-take, length-take-le, take-append-seam, drop-append-le, drop-at}
 use Rattle.dstree.specs.Measures.{Measures, samplesNeeded, recordsNeeded, linksNeeded, workNeeded}
 use Rattle.dstree.specs.Book.{Lent}
 use Rattle.tables.specs.Layout.{controlFields, recordPlaces}
@@ -40,6 +40,9 @@ module _ {A : Type 0} where
       let whole : l ≡ p ++ (drop (length p) q ++ drop (length q) l) =
       begin-split q l f ∙ ap (λ (k : List A). k ++ drop (length q) l) (begin-split p q e) ∙ append-assoc p (drop (length p) q) (drop (length q) l) in
       ap (λ (k : List A). take (length p) k) whole ∙ take-append-seam p (drop (length p) q ++ drop (length q) l)
+
+  begin-of : (p q l : List A) → take (length p) l ≡ p → take (length q) l ≡ q → length p ≤ length q → take (length p) q ≡ p
+  begin-of p q l e f h = ap (λ (k : List A). take (length p) k) (sym f) ∙ (take-take (length p) (length q) l h ∙ e)
 
   -- zeros over the first k places
   fill-more : (k : ℕ) (z : A) (p r : List A) → k ≤ length p → filled k z (p ++ r) ≡ filled k z p ++ r
@@ -138,6 +141,15 @@ begins-within part memory b = record {
   links-within = begin-no-longer (part .links) (memory .links) (ap (λ (t : Tables). t .links) b);
   work-within = begin-no-longer (part .work) (memory .work) (ap (λ (t : Tables). t .work) b);
 }
+
+-- of two beginnings of a memory, the one with no table longer begins the other
+pub begins-between : (short long memory : Tables) → Begins short memory → Begins long memory → Within (lentOf short) (lentOf long) → Begins short long
+begins-between short long memory b c h = tables-same
+    (begin-of (short .control) (long .control) (memory .control) (ap (λ (t : Tables). t .control) b) (ap (λ (t : Tables). t .control) c) (h .control-within))
+    (begin-of (short .samples) (long .samples) (memory .samples) (ap (λ (t : Tables). t .samples) b) (ap (λ (t : Tables). t .samples) c) (h .samples-within))
+    (begin-of (short .nodes) (long .nodes) (memory .nodes) (ap (λ (t : Tables). t .nodes) b) (ap (λ (t : Tables). t .nodes) c) (h .nodes-within))
+    (begin-of (short .links) (long .links) (memory .links) (ap (λ (t : Tables). t .links) b) (ap (λ (t : Tables). t .links) c) (h .links-within))
+    (begin-of (short .work) (long .work) (memory .work) (ap (λ (t : Tables). t .work) b) (ap (λ (t : Tables). t .work) c) (h .work-within))
 
 -- lent as many places as asked, where the memory has them
 pub first-lent : (lent : Lent) (memory : Tables) → Within lent (lentOf memory) → lentOf (firstPlaces lent memory) ≡ lent

@@ -1,0 +1,6 @@
+-- The theorem over lists of calls.
+pub mod Library
+pub mod Judging
+pub mod Steps
+pub mod Query
+pub mod Demands

@@ -34,5 +34,6 @@ pub mod SheetRead
 pub mod Libraries
 pub mod ReadBack
 pub mod WrittenAgain
+pub mod SheetTorn
 pub mod RoundTrips
 pub mod Laws

@@ -14,6 +14,7 @@ use Rattle.dstree.specs.Measures.{Trace, inRange, recordsNeeded, linksNeeded}
 use Rattle.dstree.specs.Refusals as word
 use Rattle.dstree.specs.Refusals.{Condition, _refuses_, firstOf}
 use Rattle.dstree.specs.Book.{controlShort}
+use Rattle.dstree.proofs.Conditions.{none-first, first-some, first-none}
 use Rattle.tables.specs.Layout.{layout}
 use Rattle.tables.specs.Tables.{Tables, tables, lentOf, measuresOf, traceCount}
 use Rattle.tables.specs.View.{treeIn, kindsNamed, wellFormed}
@@ -21,31 +22,11 @@ use Rattle.tables.specs.Judge.{lentConditionsOf}
 use Rattle.tables.specs.Answers.{wordOf, foundBy, madeConditions}
 use Rattle.tables.specs.declared.Refusal.{Refusal}
 use Rattle.tables.specs.declared.Verdict.the-variants as v
-use Rattle.tables.proofs.Judged.{none-first, lent-accepted}
+use Rattle.tables.proofs.Judged.{lent-accepted}
 use Rattle.integer.proofs.Lists.{strict}
 use Rattle.insertion_memory.proofs.FromTables.{facts}
 use Rattle.adding.specs.Added.{restConditions, addingConditions, Lends}
 use Rattle.adding.specs.Putting.{Takes}
-
--- ---- the first of two lists of conditions
-
-first-some : (a b : List Condition) (why : word.Refusal) → firstOf a ≡ some why → firstOf (a ++ b) ≡ some why
-unfolding firstOf
-first-some [] b why e = let z : _≡_ {A = ℕ} 0 1 = cc in absurd (omega arith)
-first-some (c ∷ a) b why e = by (c .holds) e (first-some a b why)
-  where
-    by : (t : Bool) → (if t then some (c .refusal) else firstOf a) ≡ some why → (firstOf a ≡ some why → firstOf (a ++ b) ≡ some why) → (if t then some (c .refusal) else firstOf (a ++ b)) ≡ some why
-    by true e ih = e
-    by false e ih = ih e
-
-first-none : (a b : List Condition) → firstOf a ≡ none → firstOf (a ++ b) ≡ firstOf b
-unfolding firstOf
-first-none [] b e = refl
-first-none (c ∷ a) b e = by (c .holds) e (first-none a b)
-  where
-    by : (t : Bool) → (if t then some (c .refusal) else firstOf a) ≡ none → (firstOf a ≡ none → firstOf (a ++ b) ≡ firstOf b) → (if t then some (c .refusal) else firstOf (a ++ b)) ≡ firstOf b
-    by true e ih = let z : _≡_ {A = ℕ} 0 1 = cc in absurd (omega arith)
-    by false e ih = ih e
 
 module _ (t : Tables) (x : Trace) where
   in-two-parts : addingConditions t x ≡ lentConditionsOf (lentOf t) (measuresOf t) ++ restConditions t (length x)

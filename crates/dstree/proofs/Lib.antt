@@ -1,4 +1,4 @@
--- Laws of the definitions. The tree that adding makes: Invariant, Joins, Splits and Grown; a query: Bounds, Reading, Search and Closed; all together: Laws.
+-- Laws of the definitions. The tree that adding makes: Invariant, Joins, Splits and Grown; a query: Bounds, Reading, Search and Closed; all together: Laws. Sheets: SheetWritten, SheetRead, ReadBack and WrittenAgain; all together: RoundTrips.
 pub mod Everything
 pub mod Notation
 pub mod Examples

@@ -1,21 +1,20 @@
 -- A library that is written is read back.
-use Prim.Native.Nat.{ℕ, zero, suc, _+_, _*_, _-_, _≤_, _<_}
+use Prim.Native.Nat.{ℕ, _*_, _-_, _≤_, _<_}
 use mathlib.Core.Path.{_≡_, refl, sym, _∙_, ap, subst}
-use mathlib.Core.List.{List, [], _∷_, _++_, map, flatten}
+use mathlib.Core.List.{List, _∷_, _++_, map, flatten}
 use native.Mathlib.Omega.{arith}
 use native.Mathlib.Nat.{le-trans, le-of-eq, mul-comm}
 use lib.ListN.{length, getD, drop, replicate, length-map}
 use lib.IntN.{ℤ}
-use lib.Dec.{T}
-use Rattle.integer.proofs.Lists.{All, all-none, all-more, all-flatten}
+use Rattle.integer.proofs.Lists.{all-flatten}
 use Rattle.dstree.specs.Measures.{Trace, Measures, sampleLimit}
-use Rattle.dstree.specs.Sheet.{bytesOf, numberIn, part, pieces, filledTo, carriedSize, narrow, kindOf, sealed, block, blocksFrom, letters, headOf, coded, decoded, sampleBlocksNeeded, blocksNeeded, carriedOf, blocksOf, sheetOf, measuresIn, countIn, sampleBytesIn, tracesIn, tornConditions, Judged, holds, heldBy, judgeSheet}
+use Rattle.dstree.specs.Sheet.{bytesOf, part, pieces, filledTo, carriedSize, narrow, sealed, block, blocksFrom, letters, headOf, coded, decoded, blocksNeeded, blocksOf, sheetOf, measuresIn, countIn, sampleBytesIn, tracesIn, tornConditions, holds, heldBy, judgeSheet}
 use Rattle.dstree.proofs.Conditions.{NoneOf}
 use Rattle.dstree.proofs.Libraries.{Highest, highest, Library}
 use Rattle.dstree.proofs.SheetPieces.{Sized, pieces-length, pieces-at-most, pieces-flatten, pieces-flatten-on, flatten-length, flatten-all, filled-length, fill-pieces}
-use Rattle.dstree.proofs.SheetFields.{number-bytes, run, coded-sized, decoded-all, narrow-half}
-use Rattle.dstree.proofs.SheetBlocks.{Zeros, filled-rest, Carried, block-carries, blocks-count, blocks-carry, blocks-untorn, blocks-zero}
-use Rattle.dstree.proofs.SheetWritten.{needed-room, needed-most, head-length, sampled, needed, carried-is, carried-fit, carried-count, written-count, written-sized}
+use Rattle.dstree.proofs.SheetFields.{number-bytes, coded-sized, decoded-all, narrow-half}
+use Rattle.dstree.proofs.SheetBlocks.{Zeros, filled-rest, block-carries, blocks-count, blocks-carry, blocks-untorn, blocks-zero}
+use Rattle.dstree.proofs.SheetWritten.{needed-room, needed-most, head-length, sampled, needed, carried-is, carried-fit, carried-count, written-sized}
 use Rattle.dstree.proofs.SheetRead.{sample-bytes, Good, good-none, read}
 
 -- ---- block 0

@@ -1,17 +1,16 @@
 -- Blocks of a sheet: what stands where in a block that was written, and which block that is.
-use Prim.Native.Nat.{ℕ, zero, suc, _+_, _*_, _-_, _/_, _%_, _^_, _≤_, _<_}
+use Prim.Native.Nat.{ℕ, zero, suc, _+_, _-_, _%_, _≤_, _<_}
 use mathlib.Core.Path.{_≡_, refl, sym, _∙_, ap, subst}
-use mathlib.Core.Bool.{Bool, true, false, not, _||_}
-use mathlib.Core.List.{List, [], _∷_, _++_, map, flatten}
+use mathlib.Core.Bool.{false, not, _||_}
+use mathlib.Core.List.{List, [], _∷_, _++_, map}
 use native.Mathlib.Omega.{arith}
 use native.Mathlib.Nat.{le-of-eq, le-refl}
 use lib.ListN.{length, getD, take, drop, replicate, length-append, length-drop, take-append-drop}
 use lib.Seq.{take-at, drop-at, take-append-le, take-take, take-all, length-take-le}
-use lib.Dec.{T, eqb}
+use lib.Dec.{eqb}
 use borrow.Author.Tests.{eqb-true, eq-eqb, not-false}
 use Rattle.integer.proofs.Tests.{neither}
 use Rattle.integer.proofs.Lists.{All, all-none, all-more, all-append, all-take, all-drop, all-replicate}
-use Rattle.dstree.specs.Refusals.{Condition, tornBlock}
 use Rattle.dstree.specs.Sheet.{bytesOf, numberIn, part, filledTo, carriedSize, narrow, kindOf, weighted, checkOf, sealed, block, blocksFrom, isTorn, tornConditions}
 use Rattle.dstree.proofs.SheetPieces.{Sized, filled-length}
 use Rattle.dstree.proofs.SheetFields.{Bytes, bytes-length, bytes-bytes, number-bytes, said}

@@ -1,18 +1,16 @@
 -- Fields of a sheet: numbers and samples in bytes, there and back.
 use Prim.Native.Nat.{ℕ, zero, suc, _+_, _*_, _-_, _/_, _%_, _^_, _≤_, _<_}
 use mathlib.Core.Path.{_≡_, refl, sym, _∙_, ap, subst}
-use mathlib.Core.Bool.{Bool, true, false}
-use mathlib.Core.List.{List, [], _∷_, _++_, map, flatten}
+use mathlib.Core.List.{List, [], _∷_, map, flatten}
 use native.Mathlib.Omega.{arith}
 use native.Mathlib.Decide.{decLe}
-use native.Mathlib.Nat.{pow-succ', lt-of-not-le, suc-mul}
-use lib.ListN.{length, length-append}
+use native.Mathlib.Nat.{pow-succ', lt-of-not-le}
+use lib.ListN.{length}
 use lib.IntN.{ℤ, pos, negsuc}
 use lib.Signed.{mag}
 use lib.Dec.{T, ltb, ltb→lt, lt→ltb}
 use borrow.Author.Tests.{lt-ltb, le-ltb}
-use Rattle.integer.specs.Words.{if_then_else_, every}
-use Rattle.integer.proofs.Lists.{All, all-none, all-more, all-mono, all-map, all-in, all-flatten, every-all, all-every}
+use Rattle.integer.proofs.Lists.{All, all-none, all-more, all-mono, all-flatten, every-all, all-every}
 use Rattle.dstree.specs.Measures.{sampleLimit}
 use Rattle.dstree.specs.Sheet.{areBytes, bytesOf, numberIn, Format, narrow, coded, decoded}
 use Rattle.dstree.proofs.SheetPieces.{Sized}

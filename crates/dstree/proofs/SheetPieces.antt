@@ -1,10 +1,10 @@
 -- Pieces of a list, cut and put together; bytes filled with zeros up to a size, cut and whole.
-use Prim.Native.Nat.{ℕ, zero, suc, _+_, _*_, _-_, _≤_, _<_}
+use Prim.Native.Nat.{ℕ, zero, suc, _+_, _*_, _-_, _≤_}
 use mathlib.Core.Path.{_≡_, refl, sym, _∙_, ap, subst}
-use mathlib.Core.List.{List, [], _∷_, _++_, map, flatten, append-assoc, append-nil}
+use mathlib.Core.List.{List, [], _++_, map, flatten, append-assoc, append-nil}
 use native.Mathlib.Omega.{arith}
 use native.Mathlib.Decide.{decLe}
-use native.Mathlib.Nat.{suc-mul, zero-mul, lt-of-not-le, le-of-lt, le-of-eq, sub-zero, min-le-left}
+use native.Mathlib.Nat.{suc-mul, zero-mul, lt-of-not-le, le-of-lt, sub-zero, min-le-left}
 use lib.ListN.{length, take, drop, replicate, length-append, length-take, length-drop, length-replicate, take-append-drop, replicate-append-replicate, drop-of-length-le}
 use lib.Seq.{take-at, drop-at, take-all, take-add, drop-drop, length-take-le}
 use Rattle.integer.proofs.Lists.{All, all-none, all-more, all-take, all-drop}

@@ -1,23 +1,23 @@
 -- What reading's conditions say of a sheet where none of them holds.
-use Prim.Native.Nat.{ℕ, zero, suc, _+_, _*_, _-_, _/_, _%_, _≤_, _<_}
+use Prim.Native.Nat.{ℕ, zero, _*_, _/_, _%_, _≤_, _<_}
 use mathlib.Core.Path.{_≡_, refl, sym, _∙_, ap, subst}
-use mathlib.Core.Bool.{Bool, true, false, not, _&&_, _||_}
+use mathlib.Core.Bool.{true, false, not, _||_}
 use mathlib.Core.Option.{Option, none, some}
 use mathlib.Core.List.{List, [], _∷_, _++_, map, flatten}
 use native.Mathlib.Omega.{arith}
 use native.Mathlib.Nat.{le-refl, le-of-eq, mul-mod-left}
 use lib.ListN.{length, getD, take, drop, length-take, drop-of-length-le}
-use lib.Seq.{take-take, take-all}
+use lib.Seq.{take-take}
 use lib.Dec.{T, ltb, eqb, eqb→eq}
 use mir.Facts.{and-yes}
 use borrow.Author.Tests.{ltb-false, le-ltb, eqb-true, eq-eqb, ne-eqb, not-false}
-use Rattle.integer.specs.Words.{if_then_else_, every, same}
+use Rattle.integer.specs.Words.{same}
 use Rattle.integer.proofs.Tests.{eq→eqb, is-true, test-true, neither}
 use Rattle.integer.proofs.Lists.{All, all-none, all-more, all-mono, all-append, all-parts, every-all, all-every, map-agree}
 use Rattle.dstree.specs.Measures.{Trace, Measures, inRange}
-use Rattle.dstree.specs.Refusals.{Refusal, Condition, sheetLength, badSheet, firstOf}
+use Rattle.dstree.specs.Refusals.{Refusal, firstOf}
 use Rattle.dstree.specs.Sheet.{areBytes, part, pieces, blockSize, carriedSize, narrow, letters, sampleBlocksNeeded, blocksIn, measuresIn, countIn, sampleBytesIn, tracesIn, isWrongLength, tornConditions, areZero, zerosIn, badConditions, sheetConditions, Judged, refused, holds, heldBy, judgedBy, judgeSheet}
-use Rattle.dstree.proofs.Conditions.{NoneOf, none-first, none-of}
+use Rattle.dstree.proofs.Conditions.{NoneOf, none-of, of-none}
 use Rattle.dstree.proofs.SheetPieces.{Sized, pieces-sized, pieces-all, pieces-flatten, flatten-length, flatten-all}
 use Rattle.dstree.proofs.SheetFields.{Bytes, bytes-of}
 use Rattle.dstree.proofs.SheetBlocks.{Zeros}
@@ -136,7 +136,7 @@ module _ (bs : List (List ℕ)) (s : Sized 512 bs) where
   pub read : 0 < length bs → length bs ≤ 4146 → NoneOf (tornConditions 0 bs) → NoneOf (badConditions bs) → judgeSheet (flatten bs) ≡ heldBy bs
   unfolding judgeSheet judgedBy sheetConditions
   read h k u g =
-      rw (blocks-in) (ap (λ (o : Option Refusal). judgedBy o (heldBy bs)) (none-first (all-more (right-length h k) (all-append u g))))
+      rw (blocks-in) (ap (λ (o : Option Refusal). judgedBy o (heldBy bs)) (of-none (all-more (right-length h k) (all-append u g))))
 
 -- ---- a sheet that is not refused
 

@@ -1,9 +1,9 @@
 -- A block with one byte changed is torn. The totals differ by a product of a position up to 510 and a difference up to 255, and no such product is a multiple of 65,521.
-use Prim.Native.Nat.{ℕ, zero, suc, _+_, _*_, _-_, _/_, _%_, _≤_, _<_}
+use Prim.Native.Nat.{ℕ, zero, suc, _+_, _*_, _/_, _%_, _≤_, _<_}
 use mathlib.Core.Path.{_≡_, refl, sym, _∙_, ap, subst}
 use mathlib.Core.Logic.{_≢_, _⊎_, inl, inr}
-use mathlib.Core.Bool.{Bool, true, false, not, _&&_, _||_}
-use mathlib.Core.List.{List, [], _∷_, _++_}
+use mathlib.Core.Bool.{Bool, true, false, not, _||_}
+use mathlib.Core.List.{List, [], _∷_}
 use native.Mathlib.Omega.{arith}
 use native.Mathlib.Decide.{decLe}
 use native.Mathlib.Nat.{le-of-suc-le-suc, not-suc-le-zero, lt-of-not-le, mul-le-mul, mul-mod-left, mul-div-left, le-dest, mul-pos}
@@ -12,7 +12,6 @@ use lib.Seq.{take-set-lt, take-set-le, drop-set-lt, getD-take, getD-set-same, ta
 use lib.Dec.{T, ltb, eqb, ltb→lt}
 use borrow.Author.Tests.{eq-eqb}
 use Rattle.integer.specs.Words.{every, counting}
-use Rattle.integer.proofs.Tests.{passed}
 use Rattle.integer.proofs.Lists.{strict, in-counting, from-every, all-drop, all-set, all-getD}
 use Rattle.dstree.specs.Sheet.{numberIn, weighted, checkOf, isTorn}
 use Rattle.dstree.proofs.SheetFields.{Bytes, bytes-number}

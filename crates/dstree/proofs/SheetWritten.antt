@@ -1,16 +1,15 @@
 -- A sheet that is written, of any traces: its length, its bytes, and what its blocks carry.
-use Prim.Native.Nat.{ℕ, zero, suc, _+_, _*_, _-_, _/_, _≤_, _<_}
+use Prim.Native.Nat.{ℕ, suc, _+_, _*_, _/_, _≤_}
 use mathlib.Core.Path.{_≡_, refl, sym, _∙_, ap, subst}
-use mathlib.Core.List.{List, [], _∷_, _++_, map, flatten}
+use mathlib.Core.List.{List, _∷_, flatten}
 use native.Mathlib.Omega.{arith}
 use native.Mathlib.Nat.{mul-comm, mul-le-mul}
-use lib.ListN.{length, take, drop}
-use lib.IntN.{ℤ}
+use lib.ListN.{length}
 use lib.Dec.{T}
 use Rattle.integer.specs.Words.{every, roundedUp}
-use Rattle.integer.proofs.Lists.{All, all-none, all-more, all-append, all-flatten}
+use Rattle.integer.proofs.Lists.{All, all-more, all-append, all-flatten}
 use Rattle.dstree.specs.Measures.{Trace, Measures}
-use Rattle.dstree.specs.Sheet.{areBytes, bytesOf, pieces, blockSize, narrow, letters, headOf, coded, sampleBlocksNeeded, blocksNeeded, carriedOf, blocksFrom, blocksOf, sheetOf}
+use Rattle.dstree.specs.Sheet.{areBytes, bytesOf, pieces, blockSize, narrow, letters, headOf, sampleBlocksNeeded, blocksNeeded, carriedOf, blocksOf, sheetOf}
 use Rattle.dstree.proofs.SheetPieces.{Sized, pieces-length, pieces-at-most, pieces-all, flatten-length}
 use Rattle.dstree.proofs.SheetFields.{Bytes, bytes-of, are-bytes, bytes-bytes, run, run-bytes}
 use Rattle.dstree.proofs.SheetBlocks.{Carried, blocks-count, blocks-sized, blocks-bytes}

@@ -1,15 +1,15 @@
 -- Blocks that are not refused hold a library, and are the blocks that it is written in.
-use Prim.Native.Nat.{ℕ, zero, suc, _+_, _*_, _-_, _≤_, _<_}
+use Prim.Native.Nat.{ℕ, _+_, _*_, _≤_}
 use mathlib.Core.Path.{_≡_, refl, sym, _∙_, ap, subst}
-use mathlib.Core.List.{List, [], _∷_, _++_, map, flatten}
+use mathlib.Core.List.{List, _∷_, map, flatten}
 use native.Mathlib.Omega.{arith}
 use native.Mathlib.Nat.{le-of-eq, mul-comm}
-use lib.ListN.{length, getD, take, drop, length-map, length-drop}
+use lib.ListN.{length, take, drop, length-map}
 use lib.Seq.{take-take}
 use lib.IntN.{ℤ}
 use Rattle.integer.proofs.Lists.{All, all-none, all-more, all-take, all-drop, all-flatten}
-use Rattle.dstree.specs.Measures.{Trace, Measures, sampleLimit}
-use Rattle.dstree.specs.Sheet.{bytesOf, numberIn, part, pieces, filledTo, narrow, letters, headOf, coded, decoded, sampleBlocksNeeded, carriedOf, blocksOf, sheetOf, measuresIn, countIn, sampleBytesIn, tracesIn}
+use Rattle.dstree.specs.Measures.{Measures, sampleLimit}
+use Rattle.dstree.specs.Sheet.{bytesOf, numberIn, part, pieces, filledTo, narrow, letters, headOf, decoded, sampleBlocksNeeded, carriedOf, blocksOf, sheetOf, measuresIn, countIn, tracesIn}
 use Rattle.dstree.proofs.Libraries.{Small, Library}
 use Rattle.dstree.proofs.SheetPieces.{Sized, pieces-length, pieces-sized, pieces-all, pieces-flatten, flatten-length, flatten-pieces, flatten-all, part-length, part-join, parts-sized, fill-pieces}
 use Rattle.dstree.proofs.SheetFields.{Bytes, said, run, coded-all, decoded-all-fit, narrow-half}

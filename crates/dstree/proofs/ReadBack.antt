@@ -12,7 +12,7 @@ use Rattle.dstree.specs.Sheet.{bytesOf, part, pieces, filledTo, carriedS
 use Rattle.dstree.proofs.Conditions.{NoneOf}
 use Rattle.dstree.proofs.Libraries.{Highest, highest, Library}
 use Rattle.dstree.proofs.SheetPieces.{Sized, pieces-length, pieces-at-most, pieces-flatten, pieces-flatten-on, flatten-length, flatten-all, filled-length, fill-pieces}
-use Rattle.dstree.proofs.SheetFields.{number-bytes, coded-sized, decoded-all, narrow-half}
+use Rattle.dstree.proofs.SheetFields.{number-bytes, coded-sized, run-length, decoded-all, narrow-half}
 use Rattle.dstree.proofs.SheetBlocks.{Zeros, filled-rest, block-carries, blocks-count, blocks-carry, blocks-untorn, blocks-zero}
 use Rattle.dstree.proofs.SheetWritten.{needed-room, needed-most, head-length, sampled, needed, carried-is, carried-fit, carried-count, written-sized}
 use Rattle.dstree.proofs.SheetRead.{sample-bytes, Good, good-none, read}
@@ -61,7 +61,7 @@ module _ (m : Measures) (traces : List Trace) (l : Library sampleLimit m traces)
 
   bytes-count : length bytes ≡ k * m .n * 2
   unfolding narrow
-  bytes-count = flatten-length 2 (coded-sized narrow xs) ∙ ap (λ (c : ℕ). c * 2) (length-map xs (coded narrow) ∙ count)
+  bytes-count = run-length narrow xs ∙ ap (λ (c : ℕ). c * 2) count
 
   room : length bytes ≤ s * 506
   room = omega (arith, bytes-count, needed-room k (m .n))

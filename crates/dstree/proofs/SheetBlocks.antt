@@ -189,6 +189,12 @@ unfolding blocksFrom
 blocks-count number [] = refl
 blocks-count number (c ∷ cs) = ap suc (blocks-count (suc number) cs)
 
+pub blocks-at : (number : ℕ) (cs : List (List ℕ)) (i : ℕ) → i < length cs → getD (blocksFrom number cs) i [] ≡ block (number + i) (getD cs i [])
+unfolding blocksFrom
+blocks-at number [] i h = absurd (omega arith)
+blocks-at number (c ∷ cs) zero h = let e : number ≡ number + 0 = omega arith in ap (λ (k : ℕ). block k c) e
+blocks-at number (c ∷ cs) (suc i) h = let e : suc number + i ≡ number + suc i = omega arith in blocks-at (suc number) cs i (omega arith) ∙ ap (λ (k : ℕ). block k (getD cs i [])) e
+
 pub blocks-sized : (number : ℕ) {cs : List (List ℕ)} → Carried cs → Sized 512 (blocksFrom number cs)
 unfolding blocksFrom
 blocks-sized number all-none = all-none

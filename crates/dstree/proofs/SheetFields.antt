@@ -5,15 +5,15 @@ use mathlib.Core.List.{List, [], _∷_, map, flatten}
 use native.Mathlib.Omega.{arith}
 use native.Mathlib.Decide.{decLe}
 use native.Mathlib.Nat.{pow-succ', lt-of-not-le}
-use lib.ListN.{length}
+use lib.ListN.{length, getD, length-map}
 use lib.IntN.{ℤ, pos, negsuc}
 use lib.Signed.{mag}
 use lib.Dec.{T, ltb, ltb→lt, lt→ltb}
 use borrow.Author.Tests.{lt-ltb, le-ltb}
 use Rattle.integer.proofs.Lists.{All, all-none, all-more, all-mono, all-flatten, every-all, all-every}
 use Rattle.dstree.specs.Measures.{sampleLimit}
-use Rattle.dstree.specs.Sheet.{areBytes, bytesOf, numberIn, Format, narrow, coded, decoded}
-use Rattle.dstree.proofs.SheetPieces.{Sized}
+use Rattle.dstree.specs.Sheet.{areBytes, bytesOf, numberIn, part, Format, narrow, coded, decoded}
+use Rattle.dstree.proofs.SheetPieces.{Sized, flatten-at, flatten-length}
 
 -- every number of a list is below 256
 abbrev pub Bytes : List ℕ → Type 0
@@ -87,6 +87,18 @@ run f xs = flatten (map (coded f) xs)
 pub coded-sized : (f : Format) (xs : List ℤ) → Sized (f .sampleBytes) (map (coded f) xs)
 coded-sized f [] = all-none
 coded-sized f (x ∷ xs) = all-more {a = coded f x} (coded-length f x) (coded-sized f xs)
+
+-- the sample at a place
+pub run-at : (f : Format) (xs : List ℤ) (i : ℕ) → i < length xs → part (i * f .sampleBytes) (f .sampleBytes) (run f xs) ≡ coded f (getD xs i (pos 0))
+run-at f xs i h = flatten-at (f .sampleBytes) (coded-sized f xs) i (rw (length-map xs (coded f)) h) ∙ map-at xs i h
+  where
+    map-at : (xs : List ℤ) (i : ℕ) → i < length xs → getD (map (coded f) xs) i [] ≡ coded f (getD xs i (pos 0))
+    map-at [] i h = absurd (omega arith)
+    map-at (x ∷ xs) zero h = refl
+    map-at (x ∷ xs) (suc i) h = map-at xs i (omega arith)
+
+pub run-length : (f : Format) (xs : List ℤ) → length (run f xs) ≡ length xs * f .sampleBytes
+run-length f xs = flatten-length (f .sampleBytes) (coded-sized f xs) ∙ ap (λ (k : ℕ). k * f .sampleBytes) (length-map xs (coded f))
 
 pub run-bytes : (f : Format) (xs : List ℤ) → Bytes (run f xs)
 run-bytes f xs = all-flatten (all-coded xs)

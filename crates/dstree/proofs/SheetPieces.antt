@@ -1,14 +1,17 @@
 -- Pieces of a list, cut and put together; bytes filled with zeros up to a size, cut and whole.
-use Prim.Native.Nat.{ℕ, zero, suc, _+_, _*_, _-_, _≤_}
+use Prim.Native.Nat.{ℕ, zero, suc, _+_, _*_, _-_, _≤_, _<_}
 use mathlib.Core.Path.{_≡_, refl, sym, _∙_, ap, subst}
 use mathlib.Core.List.{List, [], _++_, map, flatten, append-assoc, append-nil}
 use native.Mathlib.Omega.{arith}
 use native.Mathlib.Decide.{decLe}
 use native.Mathlib.Nat.{suc-mul, zero-mul, lt-of-not-le, le-of-lt, sub-zero, min-le-left}
-use lib.ListN.{length, take, drop, replicate, length-append, length-take, length-drop, length-replicate, take-append-drop, replicate-append-replicate, drop-of-length-le}
-use lib.Seq.{take-at, drop-at, take-all, take-add, drop-drop, length-take-le}
-use Rattle.integer.proofs.Lists.{All, all-none, all-more, all-take, all-drop}
+use lib.ListN.{length, getD, take, drop, replicate, length-append, length-take, length-drop, length-replicate, take-append-drop, replicate-append-replicate, drop-of-length-le}
+use lib.Seq.{take-at, drop-at, take-all, take-add, take-nil, drop-nil, drop-drop, length-take-le}
+use Rattle.integer.proofs.Lists.{All, all-none, all-more, all-map, all-take, all-drop}
 use Rattle.dstree.specs.Sheet.{part, pieces, filledTo}
+
+more : (count size : ℕ) → suc count * size ≡ size + count * size
+more count size = omega arith
 
 module _ {A : Type 0} where
   -- lists of one size
@@ -60,14 +63,42 @@ module _ {A : Type 0} where
   unfolding flatten pieces
   flatten-pieces size zero xs = rw (zero-mul size) refl
   flatten-pieces size (suc count) xs =
-      ap (λ (l : List A). take size xs ++ l) (flatten-pieces size count (drop size xs)) ∙ sym (take-add size (count * size) xs) ∙ ap (λ (k : ℕ). take k xs) (times count size)
-    where
-      times : (count size : ℕ) → size + count * size ≡ suc count * size
-      times count size = omega arith
+      ap (λ (l : List A). take size xs ++ l) (flatten-pieces size count (drop size xs)) ∙ sym (take-add size (count * size) xs) ∙ ap (λ (k : ℕ). take k xs) (sym (more count size))
 
   -- pieces that take all
   pub flatten-all : (size count : ℕ) (xs : List A) → length xs ≤ count * size → flatten (pieces size count xs) ≡ xs
   flatten-all size count xs h = flatten-pieces size count xs ∙ take-all (count * size) xs h
+
+  -- ---- the piece at a place
+
+  pub pieces-at : (size count : ℕ) (xs : List A) (i : ℕ) → i < count → getD (pieces size count xs) i [] ≡ part (i * size) size xs
+  unfolding pieces
+  pieces-at size zero xs i h = absurd (omega arith)
+  pieces-at size (suc count) xs zero h = ap (λ (k : ℕ). part k size xs) (sym (zero-mul size))
+  pieces-at size (suc count) xs (suc i) h =
+      pieces-at size count (drop size xs) i (omega arith) ∙ ap (take size) (drop-drop (i * size) size xs ∙ ap (λ (k : ℕ). drop k xs) (sym (more i size)))
+
+  pub flatten-drop : (size : ℕ) {xs : List (List A)} → Sized size xs → (i : ℕ) → drop (i * size) (flatten xs) ≡ flatten (drop i xs)
+  unfolding flatten
+  flatten-drop size s zero = rw (zero-mul size) refl
+  flatten-drop size all-none (suc i) = drop-nil (suc i * size)
+  flatten-drop size (all-more {a = x} {rest} e es) (suc i) =
+      ap (λ (k : ℕ). drop k (x ++ flatten rest)) (more i size) ∙ sym (drop-drop (i * size) size (x ++ flatten rest)) ∙ ap (drop (i * size)) (drop-at x (flatten rest) size e) ∙ flatten-drop size es i
+
+  pub flatten-take : (size : ℕ) {xs : List (List A)} → Sized size xs → (i : ℕ) → take (i * size) (flatten xs) ≡ flatten (take i xs)
+  unfolding flatten
+  flatten-take size s zero = rw (zero-mul size) refl
+  flatten-take size all-none (suc i) = take-nil (suc i * size)
+  flatten-take size (all-more {a = x} {rest} e es) (suc i) =
+      ap (λ (k : ℕ). take k (x ++ flatten rest)) (more i size) ∙ take-add size (i * size) (x ++ flatten rest)
+      ∙ rw (take-at x (flatten rest) size e, drop-at x (flatten rest) size e, flatten-take size es i) refl
+
+  pub flatten-at : (size : ℕ) {xs : List (List A)} → Sized size xs → (i : ℕ) → i < length xs → part (i * size) size (flatten xs) ≡ getD xs i []
+  unfolding flatten
+  flatten-at size all-none i h = absurd (omega arith)
+  flatten-at size (all-more {a = x} {rest} e es) zero h = ap (λ (k : ℕ). part k size (x ++ flatten rest)) (zero-mul size) ∙ take-at x (flatten rest) size e
+  flatten-at size (all-more {a = x} {rest} e es) (suc i) h =
+      ap (λ (k : ℕ). part k size (x ++ flatten rest)) (more i size) ∙ ap (take size) (sym (drop-drop (i * size) size (x ++ flatten rest)) ∙ ap (drop (i * size)) (drop-at x (flatten rest) size e)) ∙ flatten-at size es i (omega arith)
 
   -- ---- parts
 
@@ -78,8 +109,7 @@ module _ {A : Type 0} where
   part-join place k more xs = ap (λ (l : List A). part place k xs ++ take more l) (sym (drop-drop k place xs)) ∙ sym (take-add k more (drop place xs))
 
   pub parts-sized : (place k size : ℕ) → place + k ≤ size → {xs : List (List A)} → Sized size xs → Sized k (map (part place k) xs)
-  parts-sized place k size h all-none = all-none
-  parts-sized place k size h (all-more {a = x} {rest} e es) = all-more {a = part place k x} (part-length place k x (rw e h)) (parts-sized place k size h es)
+  parts-sized place k size h s = all-map (part place k) (λ x e. part-length place k x (rw e h)) s
 
 -- ---- zeros behind
 
@@ -122,6 +152,3 @@ fill-pieces size (suc count) xs =
     let whole : filledTo (suc count * size) xs ≡ filledTo size (take size xs) ++ filledTo (count * size) (drop size xs) = ap (λ (k : ℕ). filledTo k xs) (more count size) ∙ fill-cut size (count * size) xs in
     let front : length (filledTo size (take size xs)) ≡ size = filled-length size (take size xs) (rw (length-take size xs) (min-le-left size (length xs))) in
     rw (whole, take-at (filledTo size (take size xs)) (filledTo (count * size) (drop size xs)) size front, drop-at (filledTo size (take size xs)) (filledTo (count * size) (drop size xs)) size front, fill-pieces size count (drop size xs)) refl
-  where
-    more : (count k : ℕ) → suc count * k ≡ k + count * k
-    more count k = omega arith

@@ -18,7 +18,7 @@ use Rattle.dstree.specs.Measures.{Trace, Measures, inRange}
 use Rattle.dstree.specs.Refusals.{Refusal, firstOf}
 use Rattle.dstree.specs.Sheet.{areBytes, part, pieces, blockSize, carriedSize, narrow, letters, sampleBlocksNeeded, blocksIn, measuresIn, countIn, sampleBytesIn, tracesIn, isWrongLength, tornConditions, areZero, zerosIn, badConditions, sheetConditions, Judged, refused, holds, heldBy, judgedBy, judgeSheet}
 use Rattle.dstree.proofs.Conditions.{NoneOf, none-of, of-none}
-use Rattle.dstree.proofs.SheetPieces.{Sized, pieces-sized, pieces-all, pieces-flatten, flatten-length, flatten-all}
+use Rattle.dstree.proofs.SheetPieces.{Sized, pieces-at, pieces-sized, pieces-all, pieces-flatten, flatten-length, flatten-all}
 use Rattle.dstree.proofs.SheetFields.{Bytes, bytes-of}
 use Rattle.dstree.proofs.SheetBlocks.{Zeros}
 
@@ -42,6 +42,11 @@ none-behind : (others : List (List ℕ)) → flatten (map (λ (b : List ℕ). dr
 unfolding flatten
 none-behind [] = refl
 none-behind (b ∷ others) = rw (drop-of-length-le (part 4 506 b) {i = 506} (omega (arith, length-take 506 (drop 4 b))), none-behind others) refl
+
+-- the block at a place of any bytes
+pub block-at : (bytes : List ℕ) (i : ℕ) → i < length bytes / 512 → getD (blocksIn bytes) i [] ≡ part (i * 512) 512 bytes
+unfolding blocksIn blockSize
+block-at bytes i h = pieces-at 512 (length bytes / 512) bytes i h
 
 -- ---- 10
 

@@ -1,18 +1,18 @@
 -- A sheet that is written, of any traces: its length, its bytes, and what its blocks carry.
-use Prim.Native.Nat.{ℕ, suc, _+_, _*_, _/_, _≤_}
+use Prim.Native.Nat.{ℕ, suc, _+_, _*_, _/_, _≤_, _<_}
 use mathlib.Core.Path.{_≡_, refl, sym, _∙_, ap, subst}
-use mathlib.Core.List.{List, _∷_, flatten}
+use mathlib.Core.List.{List, [], _∷_, flatten}
 use native.Mathlib.Omega.{arith}
 use native.Mathlib.Nat.{mul-comm, mul-le-mul}
-use lib.ListN.{length}
+use lib.ListN.{length, getD}
 use lib.Dec.{T}
 use Rattle.integer.specs.Words.{every, roundedUp}
 use Rattle.integer.proofs.Lists.{All, all-more, all-append, all-flatten}
 use Rattle.dstree.specs.Measures.{Trace, Measures}
-use Rattle.dstree.specs.Sheet.{areBytes, bytesOf, pieces, blockSize, narrow, letters, headOf, sampleBlocksNeeded, blocksNeeded, carriedOf, blocksOf, sheetOf}
-use Rattle.dstree.proofs.SheetPieces.{Sized, pieces-length, pieces-at-most, pieces-all, flatten-length}
+use Rattle.dstree.specs.Sheet.{areBytes, bytesOf, part, pieces, blockSize, narrow, block, letters, headOf, sampleBlocksNeeded, blocksNeeded, carriedOf, blocksOf, sheetOf}
+use Rattle.dstree.proofs.SheetPieces.{Sized, pieces-length, pieces-at, pieces-at-most, pieces-all, flatten-length, flatten-at}
 use Rattle.dstree.proofs.SheetFields.{Bytes, bytes-of, are-bytes, bytes-bytes, run, run-bytes}
-use Rattle.dstree.proofs.SheetBlocks.{Carried, blocks-count, blocks-sized, blocks-bytes}
+use Rattle.dstree.proofs.SheetBlocks.{Carried, blocks-count, blocks-at, blocks-sized, blocks-bytes}
 
 -- ---- how many blocks
 
@@ -83,3 +83,16 @@ module _ (m : Measures) (traces : List Trace) where
   pub written-bytes : T (areBytes (sheetOf m traces))
   unfolding sheetOf blocksOf
   written-bytes = are-bytes (all-flatten (blocks-bytes 0 carried-bytes))
+
+  -- ---- the block at a place
+
+  -- block 0 carries the head, block i + 1 the bytes of samples from 506 × i on
+  pub carried-first : getD (carriedOf m traces) 0 [] ≡ headOf m (length traces)
+  carried-first = ap (λ (cs : List (List ℕ)). getD cs 0 []) carried-is
+
+  pub carried-at : (i : ℕ) → i < needed → getD (carriedOf m traces) (suc i) [] ≡ part (i * 506) 506 sampled
+  carried-at i h = ap (λ (cs : List (List ℕ)). getD cs (suc i) []) carried-is ∙ pieces-at 506 needed sampled i h
+
+  pub written-at : (i : ℕ) → i < blocksNeeded (length traces) (m .n) → part (i * 512) 512 (sheetOf m traces) ≡ block i (getD (carriedOf m traces) i [])
+  unfolding sheetOf blocksOf
+  written-at i h = flatten-at 512 written-sized i (rw written-count h) ∙ blocks-at 0 (carriedOf m traces) i (rw carried-count h) ∙ ap (λ (k : ℕ). block k (getD (carriedOf m traces) i [])) (let e : 0 + i ≡ i = omega arith in e)

@@ -7,7 +7,7 @@ use native.Mathlib.Nat.{le-of-eq, mul-comm}
 use lib.ListN.{length, take, drop, length-map}
 use lib.Seq.{take-take}
 use lib.IntN.{ℤ}
-use Rattle.integer.proofs.Lists.{All, all-none, all-more, all-take, all-drop, all-flatten}
+use Rattle.integer.proofs.Lists.{All, all-more, all-map, all-take, all-drop, all-flatten}
 use Rattle.dstree.specs.Measures.{Measures, sampleLimit}
 use Rattle.dstree.specs.Sheet.{bytesOf, numberIn, part, pieces, filledTo, narrow, letters, headOf, decoded, sampleBlocksNeeded, carriedOf, blocksOf, sheetOf, measuresIn, countIn, tracesIn}
 use Rattle.dstree.proofs.Libraries.{Small, Library}
@@ -32,10 +32,6 @@ module _ (first : List ℕ) (l : length first ≡ 512) (h : Bytes first) where
   head-back : part 4 4 first ≡ letters → Zeros (drop 12 (part 4 506 first)) → filledTo 506 (headOf (measuresIn first) (countIn first)) ≡ part 4 506 first
   head-back e z =
       ap (filledTo 506) (head-is e ∙ sym (take-take 12 506 (drop 4 first) (omega arith))) ∙ filled-back 506 12 (part 4 506 first) (part-length 4 506 first (rw l (omega arith))) (omega arith) z
-
-parts-bytes : (place k : ℕ) {bs : List (List ℕ)} → All Bytes bs → All Bytes (map (part place k) bs)
-parts-bytes place k all-none = all-none
-parts-bytes place k (all-more h hs) = all-more (all-take k (all-drop place h)) (parts-bytes place k hs)
 
 -- ---- the samples
 
@@ -69,7 +65,7 @@ module _ (first : List ℕ) (others : List (List ℕ)) (ls : Sized 512 others) (
   bytes-count = flatten-length 506 carried-sized ∙ ap (λ (c : ℕ). c * 506) carried-count
 
   all-bytes : Bytes bytes
-  all-bytes = all-flatten (parts-bytes 4 506 hs)
+  all-bytes = all-flatten (all-map (part 4 506) (λ b h. all-take 506 (all-drop 4 h)) hs)
 
   enough : q * 2 ≤ length bytes
   enough = omega (arith, bytes-count, needed-room k (m .n))

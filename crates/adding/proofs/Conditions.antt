@@ -11,13 +11,14 @@ use lib.Dec.{T, eqb}
 use Rattle.dstree.specs.Measures.{Trace}
 use Rattle.dstree.specs.Refusals as word
 use Rattle.dstree.specs.Refusals.{_refuses_, firstOf}
+use Rattle.dstree.proofs.Conditions.{none-first, first-some, first-none, none-both}
 use Rattle.tables.specs.Tables.{Tables, tables, lentOf, measuresOf, traceCount}
 use Rattle.tables.specs.View.{treeIn, kindsNamed, wellFormed}
 use Rattle.tables.specs.Judge.{lentConditionsOf}
 use Rattle.tables.specs.Answers.{wordOf, foundBy, madeConditions}
 use Rattle.tables.specs.declared.Refusal.{Refusal}
 use Rattle.tables.specs.declared.Verdict.the-variants as v
-use Rattle.tables.proofs.Judged.{none-first, lent-accepted, first-some, first-none, none-both}
+use Rattle.tables.proofs.Judged.{lent-accepted}
 use Rattle.integer.proofs.Tests.{is-true}
 use Rattle.integer.proofs.Lists.{strict}
 use Rattle.insertion_memory.proofs.FromTables.{facts}

@@ -23,13 +23,14 @@ use Rattle.dstree.specs.Refusals as word
 use Rattle.dstree.specs.Refusals.{Refusal, Condition, _refuses_, firstOf}
 use Rattle.dstree.specs.Book as book
 use Rattle.dstree.specs.Book.{Lent, Call, Book, bookTree, Answer, done, added, matched, refusing, controlShort, tablesShort, shortConditions, conditions, judge, put, putUnless, turn, accepted, acceptedUnless, answer, start}
+use Rattle.dstree.proofs.Conditions.{none-first, none-both}
 use Rattle.dstree.proofs.Laws.{claims}
 use Rattle.tables.specs.Layout.{layout}
 use Rattle.tables.specs.Tables.{Tables, tables, lentOf, measuresOf, traceCount, filled}
 use Rattle.tables.specs.View.{treeIn, tracesIn}
 use Rattle.tables.specs.Beginning.{firstPlaces, over, left, Begins}
 use Rattle.tables.specs.Answers.{Outcome, outcome, unlessRefused, OutcomeWith, outcomeWith, unlessRefusedWith, openingConditions, opened, openOf}
-use Rattle.tables.proofs.Judged.{Room, room-of, none-first, none-both}
+use Rattle.tables.proofs.Judged.{Room, room-of}
 use Rattle.tables.proofs.Beginning.{tables-same, left-same, left-begins, begins-on, begins-all}
 use Rattle.insertion_memory.specs.Memory.{addedTo}
 use Rattle.insertion_memory.proofs.Made.{Holds, count-is, takes-more}

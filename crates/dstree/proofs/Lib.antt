@@ -1,4 +1,4 @@
--- Laws of the definitions. The tree that adding makes: Invariant, Joins, Splits and Grown; a query: Bounds, Reading, Search and Closed; all together: Laws.
+-- Laws of the definitions. The tree that adding makes: Invariant, Joins, Splits and Grown; a query: Bounds, Reading, Search and Closed; all together: Laws. Sheets: SheetWritten, SheetRead, ReadBack and WrittenAgain; all together: RoundTrips.
 pub mod Everything
 pub mod Notation
 pub mod Examples
@@ -25,4 +25,15 @@ pub mod Routing
 pub mod Sizes
 pub mod Best
 pub mod OffTrail
+pub mod SheetPieces
+pub mod SheetFields
+pub mod Conditions
+pub mod SheetBlocks
+pub mod SheetWritten
+pub mod SheetRead
+pub mod Libraries
+pub mod ReadBack
+pub mod WrittenAgain
+pub mod SheetTorn
+pub mod RoundTrips
 pub mod Laws

@@ -14,13 +14,14 @@ use Rattle.dstree.specs.Measures.{Trace, workNeeded}
 use Rattle.dstree.specs.Matching.{leaves}
 use Rattle.dstree.specs.Refusals as word
 use Rattle.dstree.specs.Refusals.{_refuses_, firstOf}
+use Rattle.dstree.proofs.Conditions.{none-first, first-some, first-none, none-both}
 use Rattle.tables.specs.Tables.{Tables, tables, lentOf, measuresOf, traceCount}
 use Rattle.tables.specs.View.{treeIn, kindsNamed, wellFormed}
 use Rattle.tables.specs.Judge.{lentConditionsOf}
 use Rattle.tables.specs.Answers.{wordOf, foundBy, madeConditions}
 use Rattle.tables.specs.declared.Refusal.{Refusal}
 use Rattle.tables.specs.declared.Verdict.the-variants as v
-use Rattle.tables.proofs.Judged.{none-first, lent-accepted, first-some, first-none, none-both}
+use Rattle.tables.proofs.Judged.{lent-accepted}
 use Rattle.search.specs.Searched.{made, Ready}
 use Rattle.matching.specs.Matched.{restConditions, nearestConditions}
 

@@ -12,13 +12,14 @@ use lib.ListN.{length, drop, set}
 use Rattle.dstree.specs.Measures.{Measures, inRange, samplesNeeded, recordsNeeded, linksNeeded, workNeeded}
 use Rattle.dstree.specs.Refusals.{firstOf}
 use Rattle.dstree.specs.Book.{Lent, controlShort, tablesShort}
+use Rattle.dstree.proofs.Conditions.{none-first}
 use Rattle.tables.specs.Layout.{layout, recordPlaces, controlFields}
 use Rattle.tables.specs.Tables.{Tables, tables, lentOf, filled}
 use Rattle.tables.specs.Judge.{openingConditionsOf}
 use Rattle.tables.specs.Answers.{wordOf, outcome, unlessRefused, openingConditions, opened, openOf}
 use Rattle.tables.specs.declared.Refusal.{Refusal}
 use Rattle.tables.proofs.Range.{in-range}
-use Rattle.tables.proofs.Judged.{Accepted, none-first, room-of}
+use Rattle.tables.proofs.Judged.{Accepted, room-of}
 use Rattle.opening.specs.Opened.{answerOf}
 use Rattle.opening.specs.declared.Opened.the-variants as o
 

@@ -1,16 +1,15 @@
 -- What it says of lengths and measures that nothing was refused.
-use mathlib.Core.Path.{_≡_, refl}
-use mathlib.Core.Bool.{Bool, true, false, not, _||_}
-use mathlib.Core.List.{List, [], _∷_, _++_}
-use mathlib.Core.Option.{Option, none, some}
-use Prim.Native.Nat.{ℕ, _*_, _≤_}
-use native.Mathlib.Omega.{arith}
+use mathlib.Core.Path.{_≡_}
+use mathlib.Core.Bool.{false, not, _||_}
+use mathlib.Core.Option.{none}
+use Prim.Native.Nat.{_*_, _≤_}
 use lib.Dec.{ltb}
 use borrow.Author.Tests.{ltb-false, not-false}
-use Rattle.integer.specs.Words.{if_then_else_}
+use Rattle.integer.proofs.Tests.{neither}
 use Rattle.dstree.specs.Measures.{Measures, inRange, samplesNeeded, recordsNeeded, linksNeeded, workNeeded}
-use Rattle.dstree.specs.Refusals.{Refusal, Condition, _refuses_, firstOf}
+use Rattle.dstree.specs.Refusals.{firstOf}
 use Rattle.dstree.specs.Book.{Lent, controlShort, tablesShort}
+use Rattle.dstree.proofs.Conditions.{none-first}
 use Rattle.tables.specs.Layout.{layout, recordPlaces, controlFields}
 use Rattle.tables.specs.Tables.{Tables, lentOf, measuresOf}
 use Rattle.tables.specs.Judge.{lentConditionsOf}
@@ -28,19 +27,6 @@ pub record Room (lengths : Lent) (m : Measures) : Type 0 where
 pub record Accepted (lengths : Lent) (m : Measures) : Type 0 where
   pub range : InRange m
   pub room : Room lengths m
-
-neither : (a b : Bool) → a || b ≡ false → (a ≡ false) × (b ≡ false)
-neither true b e = let z : _≡_ {A = ℕ} 0 1 = cc in absurd (omega arith)
-neither false b e = (refl, e)
-
-past : (b : Bool) (why : Refusal) (rest : Option Refusal) → (if b then some why else rest) ≡ none → (b ≡ false) × (rest ≡ none)
-past true why rest e = let z : _≡_ {A = ℕ} 0 1 = cc in absurd (omega arith)
-past false why rest e = (refl, e)
-
--- where no condition of a list holds, its first does not, nor any of the rest
-pub none-first : (b : Bool) (why : Refusal) (rest : List Condition) → firstOf (b refuses why ∷ rest) ≡ none → (b ≡ false) × (firstOf rest ≡ none)
-unfolding firstOf
-none-first b why rest e = past b why (firstOf rest) e
 
 pub room-of : (lengths : Lent) (m : Measures) → controlShort layout lengths ≡ false → tablesShort layout lengths m ≡ false → Room lengths m
 unfolding controlShort tablesShort
@@ -72,32 +58,3 @@ lends t e =
     let two = none-first (not (inRange (measuresOf t))) _ _ (one .1) in
     let ok = lent-accepted (lentOf t) (measuresOf t) e in
     record { control-long = ok .room .control-room; measured = not-false _ (two .0); nodes-long = ok .room .nodes-room; links-long = ok .room .links-room }
-
--- ---- two lists of conditions, one behind the other
-
-pub first-some : (a b : List Condition) (why : Refusal) → firstOf a ≡ some why → firstOf (a ++ b) ≡ some why
-unfolding firstOf
-first-some [] b why e = let z : _≡_ {A = ℕ} 0 1 = cc in absurd (omega arith)
-first-some (c ∷ a) b why e = by (c .holds) e (first-some a b why)
-  where
-    by : (t : Bool) → (if t then some (c .refusal) else firstOf a) ≡ some why → (firstOf a ≡ some why → firstOf (a ++ b) ≡ some why) → (if t then some (c .refusal) else firstOf (a ++ b)) ≡ some why
-    by true e ih = e
-    by false e ih = ih e
-
-pub first-none : (a b : List Condition) → firstOf a ≡ none → firstOf (a ++ b) ≡ firstOf b
-unfolding firstOf
-first-none [] b e = refl
-first-none (c ∷ a) b e = by (c .holds) e (first-none a b)
-  where
-    by : (t : Bool) → (if t then some (c .refusal) else firstOf a) ≡ none → (firstOf a ≡ none → firstOf (a ++ b) ≡ firstOf b) → (if t then some (c .refusal) else firstOf (a ++ b)) ≡ firstOf b
-    by true e ih = let z : _≡_ {A = ℕ} 0 1 = cc in absurd (omega arith)
-    by false e ih = ih e
-
-pub none-both : (a b : List Condition) → firstOf (a ++ b) ≡ none → (firstOf a ≡ none) × (firstOf b ≡ none)
-unfolding firstOf
-none-both [] b e = (refl, e)
-none-both (c ∷ a) b e = by (c .holds) e (none-both a b)
-  where
-    by : (t : Bool) → (if t then some (c .refusal) else firstOf (a ++ b)) ≡ none → (firstOf (a ++ b) ≡ none → (firstOf a ≡ none) × (firstOf b ≡ none)) → ((if t then some (c .refusal) else firstOf a) ≡ none) × (firstOf b ≡ none)
-    by true e ih = let z : _≡_ {A = ℕ} 0 1 = cc in absurd (omega arith)
-    by false e ih = ih e

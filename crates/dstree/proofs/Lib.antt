@@ -25,4 +25,6 @@ pub mod Routing
 pub mod Sizes
 pub mod Best
 pub mod OffTrail
+pub mod SheetPieces
+pub mod SheetFields
 pub mod Laws

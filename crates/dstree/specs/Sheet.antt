@@ -10,6 +10,9 @@ use Rattle.integer.specs.Words.{if_then_else_, every, same, roundedUp}
 use Rattle.dstree.specs.Measures.{Trace, Measures, measures, inRange}
 use Rattle.dstree.specs.Refusals.{Refusal, sheetLength, tornBlock, badSheet, Condition, _refuses_, firstOf}
 
+unfoldable pub areBytes : List ℕ → Bool
+areBytes = every (λ byte. ltb byte 256)
+
 -- ---- fields
 
 -- a number in k bytes, "low byte first"

@@ -8,7 +8,7 @@ use mathlib.Core.List.{List, [], _∷_, _++_, map, foldl, flatten}
 use native.Mathlib.Omega.{arith}
 use native.Mathlib.Decide.{decLe}
 use native.Mathlib.Nat.{lt-of-not-le}
-use lib.ListN.{length, getD, set}
+use lib.ListN.{length, getD, set, take, drop, replicate}
 use lib.IntN.{ℤ, pos}
 use lib.Signed.{ltZ, ≤ℤ-refl, ltZ-yes, ltZ-no}
 use lib.Dec.{T, eqb, eqb-refl}
@@ -302,6 +302,51 @@ all-mono h (all-more {a} p ps) = all-more (h a p) (all-mono h ps)
 pub all-append : {A : Type 0} {P : A → Type 0} {a b : List A} → All P a → All P b → All P (a ++ b)
 all-append all-none q = q
 all-append (all-more p ps) q = all-more p (all-append ps q)
+
+-- all of two lists, one behind the other, are all of each
+pub all-parts : {A : Type 0} {P : A → Type 0} (a : List A) {b : List A} → All P (a ++ b) → All P a × All P b
+all-parts [] q = (all-none, q)
+all-parts (x ∷ a) (all-more p ps) = let rest = all-parts a ps in (all-more p (rest .0), rest .1)
+
+module _ {A : Type 0} {P : A → Type 0} where
+  pub all-take : (k : ℕ) {l : List A} → All P l → All P (take k l)
+  all-take zero q = all-none
+  all-take (suc k) all-none = all-none
+  all-take (suc k) (all-more p ps) = all-more p (all-take k ps)
+
+  pub all-drop : (k : ℕ) {l : List A} → All P l → All P (drop k l)
+  all-drop zero q = q
+  all-drop (suc k) all-none = all-none
+  all-drop (suc k) (all-more p ps) = all-drop k ps
+
+  pub all-replicate : (k : ℕ) (a : A) → P a → All P (replicate k a)
+  all-replicate zero a p = all-none
+  all-replicate (suc k) a p = all-more p (all-replicate k a p)
+
+  pub all-set : {l : List A} (i : ℕ) (a : A) → P a → All P l → All P (set l i a)
+  all-set i a p all-none = all-none
+  all-set zero a p (all-more q qs) = all-more p qs
+  all-set (suc i) a p (all-more q qs) = all-more q (all-set i a p qs)
+
+  pub all-getD : {l : List A} (i : ℕ) (d : A) → P d → All P l → P (getD l i d)
+  all-getD i d p all-none = p
+  all-getD zero d p (all-more q qs) = q
+  all-getD (suc i) d p (all-more q qs) = all-getD i d p qs
+
+  pub all-flatten : {l : List (List A)} → All (All P) l → All P (flatten l)
+  unfolding flatten
+  all-flatten all-none = all-none
+  all-flatten (all-more p ps) = all-append p (all-flatten ps)
+
+-- the test `every` says it
+module _ {A : Type 0} (passes : A → Bool) where
+  pub every-all : (l : List A) → T (every passes l) → All (λ a. T (passes a)) l
+  every-all l t = all-in l (λ a i. from-every passes l t i)
+
+  pub all-every : {l : List A} → All (λ a. T (passes a)) l → T (every passes l)
+  unfolding every
+  all-every all-none = tt
+  all-every (all-more {a} {rest} p ps) = yes-and (passes a) (every passes rest) p (all-every ps)
 
 module _ {A B : Type 0} {P : A → Type 0} {Q : B → Type 0} (f : A → B) (step : (a : A) → P a → Q (f a)) where
   pub all-map : {l : List A} → All P l → All Q (map f l)

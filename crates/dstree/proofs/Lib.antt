@@ -27,4 +27,6 @@ pub mod Best
 pub mod OffTrail
 pub mod SheetPieces
 pub mod SheetFields
+pub mod Conditions
+pub mod SheetBlocks
 pub mod Laws

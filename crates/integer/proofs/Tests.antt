@@ -2,7 +2,7 @@
 --
 --     let p = passed a (b ∷ c ∷ []) t in ..        with t : T (a && b && c), p .0 : T a, p .1 .0 : T b, p .1 .1 : T c
 --     passes a (b ∷ c ∷ []) (x, (y, z))            a proof of T (a && b && c)
-use mathlib.Core.Bool.{Bool, true, false, not, _&&_}
+use mathlib.Core.Bool.{Bool, true, false, not, _&&_, _||_}
 use mathlib.Core.List.{List, [], _∷_}
 use Prim.Native.Nat.{ℕ}
 use mathlib.Core.Path.{_≡_, refl, sym, subst}
@@ -54,3 +54,8 @@ test-true false t = absurd t
 pub test-false : (b : Bool) → (T b → ⊥) → b ≡ false
 test-false true f = absurd (f tt)
 test-false false f = refl
+
+-- neither of two tests passes
+pub neither : (a b : Bool) → a || b ≡ false → (a ≡ false) × (b ≡ false)
+neither true b e = absurd (subst T e tt)
+neither false b e = (refl, e)

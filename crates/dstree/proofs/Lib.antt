@@ -29,4 +29,6 @@ pub mod SheetPieces
 pub mod SheetFields
 pub mod Conditions
 pub mod SheetBlocks
+pub mod SheetWritten
+pub mod SheetRead
 pub mod Laws

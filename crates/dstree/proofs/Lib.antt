@@ -31,4 +31,6 @@ pub mod Conditions
 pub mod SheetBlocks
 pub mod SheetWritten
 pub mod SheetRead
+pub mod Libraries
+pub mod ReadBack
 pub mod Laws

@@ -6,7 +6,7 @@ use mathlib.Core.List.{List, [], _∷_, _++_, map, flatten}
 use native.Mathlib.Omega.{arith}
 use native.Mathlib.Nat.{le-of-eq, le-refl}
 use lib.ListN.{length, getD, take, drop, replicate, length-append, length-drop, take-append-drop}
-use lib.Seq.{take-at, drop-at, take-append-le, take-take, take-all}
+use lib.Seq.{take-at, drop-at, take-append-le, take-take, take-all, length-take-le}
 use lib.Dec.{T, eqb}
 use borrow.Author.Tests.{eqb-true, eq-eqb, not-false}
 use Rattle.integer.proofs.Tests.{neither}
@@ -20,6 +20,22 @@ use Rattle.dstree.proofs.Conditions.{NoneOf}
 -- all are 0
 abbrev pub Zeros : List ℕ → Type 0
 Zeros = All (λ (b : ℕ). b ≡ 0)
+
+pub zeros-are : {xs : List ℕ} → Zeros xs → replicate (length xs) 0 ≡ xs
+zeros-are all-none = refl
+zeros-are (all-more {a = x} e es) = rw (e, zeros-are es) refl
+
+-- zeros up to a size: they are behind the bytes, and bytes with zeros behind them are such
+pub filled-rest : (size k : ℕ) (xs : List ℕ) → length xs ≡ k → Zeros (drop k (filledTo size xs))
+unfolding filledTo
+filled-rest size k xs e = subst Zeros (sym (drop-at xs (replicate (size - length xs) 0) k e)) (all-replicate (size - length xs) 0 refl)
+
+pub filled-back : (size k : ℕ) (xs : List ℕ) → length xs ≡ size → k ≤ size → Zeros (drop k xs) → filledTo size (take k xs) ≡ xs
+unfolding filledTo
+filled-back size k xs e h z = ap (λ (l : List ℕ). take k xs ++ l) (ap (λ (n : ℕ). replicate n 0) count ∙ zeros-are z) ∙ take-append-drop k xs
+  where
+    count : size - length (take k xs) ≡ length (drop k xs)
+    count = rw (length-take-le k xs (omega arith), length-drop k xs, e) refl
 
 -- what a block can carry
 abbrev pub Carried : List (List ℕ) → Type 0

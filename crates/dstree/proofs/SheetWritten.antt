@@ -39,7 +39,7 @@ head-bytes : (m : Measures) (count : ℕ) → Bytes (headOf m count)
 unfolding headOf letters areBytes every
 head-bytes m count = all-append (all-append (all-append (all-append (bytes-of letters tt) (bytes-bytes 2 (m .n))) (bytes-bytes 2 (m .capacity))) (bytes-bytes 2 (m .leafSize))) (bytes-bytes 2 count)
 
-head-length : (m : Measures) (count : ℕ) → length (headOf m count) ≡ 12
+pub head-length : (m : Measures) (count : ℕ) → length (headOf m count) ≡ 12
 unfolding headOf letters bytesOf
 head-length m count = refl
 

@@ -33,4 +33,6 @@ pub mod SheetWritten
 pub mod SheetRead
 pub mod Libraries
 pub mod ReadBack
+pub mod WrittenAgain
+pub mod RoundTrips
 pub mod Laws

@@ -71,8 +71,8 @@ module _ (limit : ℕ) where
           small = all-mono (trace-small (m .n)) each;
         }
 
-    pub is-library : Library m traces → T (isLibrary limit m traces)
+    pub library-is : Library m traces → T (isLibrary limit m traces)
     unfolding isLibrary
-    is-library l =
+    library-is l =
         passes (inRange m) (leb (length traces) (m .capacity) ∷ every (isTrace limit (m .n)) traces ∷ [])
         (l .measured, (le→leb (length traces) (m .capacity) (l .room), traces-are (m .n) (l .even) (l .small)))

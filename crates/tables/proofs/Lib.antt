@@ -4,3 +4,4 @@ pub mod Small
 pub mod Range
 pub mod Judged
 pub mod Refused
+pub mod Firsts

@@ -5,3 +5,4 @@ pub mod View
 pub mod Judge
 pub mod Answers
 pub mod Beginning
+pub mod Lends

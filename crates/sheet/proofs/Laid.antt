@@ -1,14 +1,15 @@
 -- How a block comes about: bytes put one behind another over zeros, then the check behind 510 of them.
-use mathlib.Core.Path.{_≡_, refl, sym, ap, _∙_, subst}
+use mathlib.Core.Path.{_≡_, refl, sym, ap, _∙_}
 use mathlib.Core.List.{List, [], _∷_, _++_, append-assoc, append-nil}
-use Prim.Native.Nat.{ℕ, zero, suc, _+_, _-_, _%_, _≤_, _<_}
+use Prim.Native.Nat.{ℕ, zero, suc, _+_, _-_, _≤_, _<_}
 use native.Mathlib.Nat.{add-zero, le-refl}
 use native.Mathlib.Numerals.{add-one}
 use native.Mathlib.Omega.{arith}
 use lib.ListN.{length, getD, take, drop, set, replicate, length-append, length-replicate, replicate-append-replicate, drop-of-length-le}
-use lib.Seq.{sets, sets-eq, take-at, drop-at, take-suc, take-suc-set, take-all, take-take, drop-append-add, length-take-le}
+use lib.Seq.{sets, sets-eq, take-at, take-suc, take-suc-set, take-take, drop-append-add, length-take-le}
 use Rattle.dstree.proofs.SheetFields.{bytes-length}
-use Rattle.dstree.specs.Sheet.{bytesOf, filledTo, carriedSize, kindOf, weighted, checkOf, sealed, block, narrow, letters, headOf}
+use Rattle.dstree.proofs.SheetBlocks.{check-front}
+use Rattle.dstree.specs.Sheet.{bytesOf, filledTo, carriedSize, kindOf, checkOf, sealed, block, narrow, letters, headOf}
 use Rattle.dstree.specs.Measures.{Measures}
 use Rattle.sheet.specs.Codes.{measureBytes}
 
@@ -94,18 +95,13 @@ front-is head carried e h =
     long : length (head ++ (carried ++ zeros)) ≡ 510
     long = rw (length-append head (carried ++ zeros), length-append carried zeros, length-replicate {A = ℕ} (506 - length carried) 0) (omega arith)
 
--- the check takes nothing behind byte 509
-check-front : (l : List ℕ) → checkOf l ≡ checkOf (take 510 l)
-unfolding checkOf
-check-front l = ap (λ (f : List ℕ). weighted 0 f % 65521) (sym (take-take 510 510 l (le-refl 510)))
-
 pub sealed-is : (l : List ℕ) → length l ≡ 512 → sets l 510 (bytesOf 2 (checkOf l)) ≡ sealed (take 510 l)
 unfolding sealed
 sealed-is l e =
     sets-eq check l 510 (rw two (omega arith))
     ∙ ap (λ (x : List ℕ). take 510 l ++ check ++ x) (drop-of-length-le l {i = 510 + length check} (rw two (omega arith)))
     ∙ append-nil (take 510 l ++ check)
-    ∙ ap (λ (c : ℕ). take 510 l ++ bytesOf 2 c) (check-front l)
+    ∙ ap (λ (c : ℕ). take 510 l ++ bytesOf 2 c) (check-front l (take 510 l) (sym (take-take 510 510 l (le-refl 510))))
   where
     check : List ℕ
     check = bytesOf 2 (checkOf l)
@@ -139,7 +135,3 @@ module _ (m : Measures) (count : ℕ) where
   pub head-put : (l : List ℕ) → sets (sets l 4 letters) 8 (measureBytes m count) ≡ sets l 4 (headOf m count)
   unfolding letters headOf bytesOf
   head-put l = refl
-
-  pub head-length : length (headOf m count) ≤ 506
-  unfolding letters headOf bytesOf
-  head-length = omega arith

@@ -1,11 +1,11 @@
 -- Fields of two bytes: where they stand in a list, and what they are worth.
-use mathlib.Core.Path.{_≡_, refl}
+use mathlib.Core.Path.{_≡_}
 use mathlib.Core.List.{List, [], _∷_}
 use Prim.Native.Nat.{ℕ, zero, suc, _+_, _*_, _≤_, _<_}
 use native.Mathlib.Nat.{not-suc-le-zero, le-of-suc-le-suc}
 use native.Mathlib.Numerals.{add-one}
 use native.Mathlib.Omega.{arith}
-use lib.ListN.{length, getD, take, drop}
+use lib.ListN.{length, getD}
 use Rattle.dstree.specs.Sheet.{part, numberIn}
 
 number-suc : (l : List ℕ) (place : ℕ) → suc place < length l → numberIn (part place 2 l) ≡ getD l place 0 + 256 * getD l (suc place) 0

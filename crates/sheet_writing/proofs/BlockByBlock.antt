@@ -1,13 +1,13 @@
 -- A sheet block by block: what is filled before a block, with the block behind it; and the whole.
 use mathlib.Core.Path.{_≡_, refl, sym, ap, ap₂, _∙_}
 use mathlib.Core.List.{List, [], _∷_, _++_, flatten, append-assoc, append-nil}
-use Prim.Native.Nat.{ℕ, zero, suc, _+_, _*_, _-_, _≤_, _<_}
+use Prim.Native.Nat.{ℕ, suc, _+_, _*_, _-_, _≤_}
 use native.Mathlib.Nat.{add-zero}
 use native.Mathlib.Numerals.{add-one}
 use native.Mathlib.Omega.{arith}
 use lib.IntN.{ℤ}
 use lib.ListN.{length, take, drop, length-append, take-append-drop}
-use lib.Seq.{take-at, drop-at, drop-append-add, drop-drop, length-take-le}
+use lib.Seq.{take-at, drop-append-add, drop-drop, length-take-le}
 use Rattle.dstree.specs.Sheet.{part, pieces, block, blocksFrom}
 use Rattle.dstree.proofs.SheetPieces.{pieces-length, pieces-at-most, flatten-length}
 use Rattle.dstree.proofs.SheetBlocks.{blocks-count, blocks-sized}

@@ -1,23 +1,22 @@
 -- The conditions of writing, in two parts: what lengths and measures refuse, and the rest. Contents are tested only if the first part refuses nothing.
 use mathlib.Core.Path.{_≡_, refl, sym, ap, _∙_}
-use mathlib.Core.Bool.{Bool, true, false, not}
-use mathlib.Core.Option.{none, some}
+use mathlib.Core.Bool.{true, not}
+use mathlib.Core.Option.{none}
 use mathlib.Core.List.{List, [], _∷_, _++_, append-assoc}
 use Prim.Native.Nat.{ℕ, _*_, _≤_}
 use native.Mathlib.Nat.{mul-le-mul-right}
 use native.Mathlib.Omega.{arith}
 use borrow.Author.Tests.{not-false, ltb-false}
 use lib.IntN.{ℤ}
-use lib.ListN.{length}
 use lib.Dec.{T, ltb}
 use mir.Facts.{and-yes}
 use Rattle.integer.proofs.Tests.{is-true}
 use Rattle.dstree.specs.Measures.{sampleLimit, samplesNeeded}
 use Rattle.dstree.specs.Refusals as word
-use Rattle.dstree.specs.Refusals.{Condition, _refuses_, firstOf}
+use Rattle.dstree.specs.Refusals.{_refuses_, firstOf}
 use Rattle.dstree.specs.Sheet.{blockSize, blocksNeeded}
 use Rattle.dstree.specs.WellFormed as abstract
-use Rattle.dstree.proofs.Formed.{Formed, formed}
+use Rattle.dstree.proofs.Formed.{formed}
 use Rattle.tables.specs.Tables.{Tables, tables, lentOf, measuresOf, traceCount}
 use Rattle.tables.specs.View.{treeIn, kindsNamed, wellFormed}
 use Rattle.tables.specs.Judge.{lentConditionsOf}

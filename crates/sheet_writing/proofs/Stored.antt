@@ -1,16 +1,16 @@
 -- Stored traces stand one behind another, so that a sheet takes the samples as they stand; and the sheet of the tables' library.
-use mathlib.Core.Path.{_≡_, refl, sym, ap, ap₂, _∙_}
-use mathlib.Core.List.{List, [], _∷_, _++_, map, flatten, append-assoc}
-use Prim.Native.Nat.{ℕ, zero, suc, _+_, _*_, _≤_}
+use mathlib.Core.Path.{_≡_, sym, ap, ap₂, _∙_}
+use mathlib.Core.List.{List, _++_, map, flatten}
+use Prim.Native.Nat.{ℕ, zero, suc, _+_, _*_}
 use native.Mathlib.Nat.{zero-mul}
 use native.Mathlib.Omega.{arith}
 use lib.IntN.{ℤ}
 use lib.ListN.{length, take, drop, length-map}
-use lib.Seq.{take-add, drop-drop, take-at}
+use lib.Seq.{take-add, drop-drop}
 use Rattle.integer.specs.Words.{counting}
 use Rattle.integer.proofs.Times.{counting-length}
-use Rattle.dstree.specs.Measures.{Trace, Measures}
-use Rattle.dstree.specs.Sheet.{pieces, block, blocksFrom, blockSize, narrow, coded, headOf, carriedOf, blocksOf, sheetOf, sampleBlocksNeeded, blocksNeeded}
+use Rattle.dstree.specs.Measures.{Measures}
+use Rattle.dstree.specs.Sheet.{pieces, block, blocksFrom, blockSize, headOf, blocksOf, sheetOf, sampleBlocksNeeded, blocksNeeded}
 use Rattle.dstree.proofs.SheetBlocks.{block-length}
 use Rattle.dstree.proofs.SheetWritten.{carried-is, head-length, written-length}
 use Rattle.tables.specs.Tables.{Tables, measuresOf, traceCount}

@@ -1,5 +1,5 @@
 -- A sheet as it is filled, block by block.
-use Prim.Native.Nat.{ℕ, suc, _+_, _*_, _≤_}
+use Prim.Native.Nat.{ℕ, _+_, _*_, _≤_}
 use mathlib.Core.List.{List, _++_, flatten}
 use lib.IntN.{ℤ}
 use lib.ListN.{length, take, drop}

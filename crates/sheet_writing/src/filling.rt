@@ -9,7 +9,6 @@ ghost use mathlib.Core.Path.{_≡_};
 ghost use mathlib.Core.List.{[]};
 ghost use Prim.Native.Nat.{_+_, _*_, _≤_, _<_};
 ghost use lib.ListN.{length, take};
-ghost use Rattle.dstree.specs.Measures.{measures};
 ghost use Rattle.dstree.specs.Sheet.{block, headOf, sheetOf, blocksNeeded};
 ghost use Rattle.tables.specs.Tables.{tables, measuresOf, traceCount};
 ghost use Rattle.tables.specs.View.{tracesIn};

@@ -1,8 +1,7 @@
 -- `sheet::blocks::begin` meets its contract: the zeros, two bytes over the first of them, and one behind these.
-use mathlib.Core.Path.{refl, ap, _∙_}
+use mathlib.Core.Path.{ap, _∙_}
 use mathlib.Core.List.{List}
 use Prim.Native.Nat.{ℕ}
-use native.Mathlib.Omega.{arith}
 use lib.ListN.{set, length-set, replicate}
 use lib.Seq.{sets}
 use Rattle.dstree.specs.Sheet.{bytesOf, filledTo}

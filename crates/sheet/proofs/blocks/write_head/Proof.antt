@@ -2,12 +2,14 @@
 use mathlib.Core.Path.{ap, _∙_}
 use mathlib.Core.List.{List}
 use Prim.Native.Nat.{ℕ}
+use native.Mathlib.Omega.{arith}
 use lib.ListN.{take}
 use lib.Seq.{sets}
 use Rattle.dstree.specs.Measures.{measures}
 use Rattle.dstree.specs.Sheet.{kindOf, letters, headOf, sealed}
 use Rattle.sheet.specs.Codes.{measureBytes}
-use Rattle.sheet.proofs.Laid.{block-is, head-put, head-length}
+use Rattle.dstree.proofs.SheetWritten.{head-length}
+use Rattle.sheet.proofs.Laid.{block-is, head-put}
 use borrow.Author.Needs.{needs}
 use Rattle.sheet.proofs.blocks.write_head.Statement.{statement}
 use Rattle.sheet.proofs.blocks.write_head.Tie as tie
@@ -39,7 +41,7 @@ returns c =
     let put = c .before .before .before .before .before .before .put-measures .ensures ∙ ap (λ (l : List ℕ). sets l 8 (measureBytes m (a .count))) lettered ∙ head-put m (a .count) _ in
     c .before .before .seal .ensures
     ∙ ap (λ (l : List ℕ). sealed (take 510 l)) put
-    ∙ block-is 0 (headOf m (a .count)) (head-length m (a .count))
+    ∙ block-is 0 (headOf m (a .count)) (omega (arith, head-length m (a .count)))
 
 pub write-head-spec : {M : Type 1} → statement M
 write-head-spec =

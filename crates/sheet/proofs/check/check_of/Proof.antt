@@ -1,8 +1,8 @@
 -- `sheet::check::check_of` meets its contract: the total so far is that of the bytes passed. The measure is how many of the 510 are left.
 use mathlib.Core.Path.{_≡_, refl, ap, _∙_}
-use Prim.Native.Nat.{ℕ, _+_, _*_, _-_, _%_, _≤_, _<_}
+use Prim.Native.Nat.{ℕ, _*_, _-_, _%_, _≤_}
 use native.Mathlib.Omega.{arith}
-use lib.ListN.{length, take}
+use lib.ListN.{take}
 use denote.Ref.{now}
 use Rattle.dstree.specs.Sheet.{weighted, checkOf}
 use Rattle.sheet.proofs.Checked.{weighted-more}

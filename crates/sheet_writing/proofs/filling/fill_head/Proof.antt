@@ -1,5 +1,5 @@
 -- `sheet_writing::filling::fill_head` meets its contract: the part that is lent is block 0, and what lies behind it comes back as it was.
-use mathlib.Core.Path.{_≡_, ap, ap₂, _∙_}
+use mathlib.Core.Path.{ap₂}
 use mathlib.Core.List.{List, _++_}
 use Prim.Native.Nat.{ℕ}
 use native.Mathlib.Omega.{arith}

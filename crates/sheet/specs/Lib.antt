@@ -1,0 +1,2 @@
+-- What the writers of a block put, piece by piece.
+pub mod Codes

@@ -1,0 +1,42 @@
+// Fields of two bytes, "low byte first", and bytes as they come.
+
+ghost use mathlib.Core.Path.{_≡_};
+ghost use Prim.Native.Nat.{_+_, _≤_, _<_};
+ghost use lib.ListN.{length};
+ghost use lib.Seq.{sets};
+ghost use Rattle.dstree.specs.Sheet.{part, numberIn, bytesOf};
+
+fn wide(byte: u8) -> u64
+    ensures { λ r. ⌜ (r ≡ byte) × (r ≤ 255) ⌝ }
+{
+    byte as u64
+}
+
+// The number that two bytes from a place on hold.
+pub fn two_bytes(bytes: &[u8], place: usize) -> u64
+    requires { ⌜ place + 2 ≤ length (now bytes) ⌝ }
+    ensures { λ r. ⌜ (r ≡ numberIn (part place 2 (now (bytes .entry)))) × (r < 65536) ⌝ }
+{
+    wide(bytes[place]) + 256 * wide(bytes[place + 1])
+}
+
+// Two bytes from a place on become a number's.
+pub fn put_two(bytes: &mut [u8], place: usize, v: u16)
+    requires { ⌜ place + 2 ≤ length (now bytes) ⌝ }
+    ensures { λ _. ⌜ now (bytes .exit) ≡ sets (now (bytes .entry)) place (bytesOf 2 v) ⌝ }
+{
+    bytes[place] = (v % 256) as u8;
+    bytes[place + 1] = (v / 256 % 256) as u8;
+}
+
+// The bytes from a place on become these.
+pub fn put_bytes(bytes: &mut [u8], place: usize, new: &[u8])
+    requires { ⌜ place + length (now new) ≤ length (now bytes) ⌝ }
+    ensures { λ _. ⌜ now (bytes .exit) ≡ sets (now (bytes .entry)) place (now (new .entry)) ⌝ }
+{
+    let mut j = 0;
+    while j < new.len() {
+        bytes[place + j] = new[j];
+        j += 1;
+    }
+}

@@ -1,0 +1,6 @@
+pub mod Runs
+pub mod BlockByBlock
+pub mod Stored
+pub mod Conditions
+pub mod Needed
+pub mod Told

@@ -1,0 +1,54 @@
+-- The two ways that writing ends, as the definition has them: a refusal with everything as it was, and the sheet.
+use Prim.Native.Nat.{ℕ, _*_}
+use mathlib.Core.Path.{_≡_, refl, ap, ap₂, _∙_}
+use mathlib.Core.Option.{none}
+use mathlib.Core.List.{List, []}
+use lib.IntN.{ℤ}
+use lib.ListN.{length, take, drop}
+use lib.Seq.{take-at}
+use Rattle.dstree.specs.Refusals.{firstOf}
+use Rattle.dstree.specs.Sheet.{blockSize, blocksNeeded, sheetOf}
+use Rattle.dstree.specs.Book.{written}
+use Rattle.tables.specs.Tables.{Tables, tables, measuresOf, traceCount}
+use Rattle.tables.specs.View.{tracesIn}
+use Rattle.tables.specs.Beginning.{over}
+use Rattle.tables.specs.Answers.{foundBy, outcomeWith, unlessRefusedWith}
+use Rattle.tables.specs.declared.Refusal.{Refusal}
+use Rattle.tables.specs.declared.Verdict.the-variants as v
+use Rattle.sheet_writing.specs.Written.{writingConditions, writeOf}
+use Rattle.sheet_writing.specs.Answered.{answerBy}
+use Rattle.sheet_writing.specs.declared.Written.the-variants as w
+use Rattle.sheet_writing.proofs.Stored.{sheet-length}
+
+pub refused-answer : (t : Tables) (sheet : List ℕ) (why : Refusal) → firstOf (writingConditions t (length sheet)) ≡ foundBy (v.Refused why) → outcomeWith (answerBy (w.Refused why) sheet) t sheet ≡ writeOf t sheet
+unfolding foundBy answerBy writeOf unlessRefusedWith
+refused-answer t sheet why e = rw e
+
+module _ (control : List ℕ) (samples nodes : List ℤ) (links work sheet : List ℕ) where
+  abbrev lent : Tables
+  lent = tables control samples nodes links work
+
+  abbrev blocks : ℕ
+  blocks = blocksNeeded (traceCount lent) (measuresOf lent .n)
+
+  abbrev whole : List ℕ
+  whole = sheetOf (measuresOf lent) (tracesIn lent)
+
+  accepted : firstOf (writingConditions lent (length sheet)) ≡ none → outcomeWith (written blocks whole) lent (over whole sheet) ≡ writeOf lent sheet
+  unfolding writeOf unlessRefusedWith
+  accepted e = rw e
+
+  -- nodes, links and search work do not bear on the sheet
+  same : sheetOf (measuresOf lent) (tracesIn (tables control samples [] [] [])) ≡ whole
+  unfolding tracesIn
+  same = refl
+
+  pub written-answer : (sheet′ : List ℕ) (count : ℕ) → firstOf (writingConditions lent (length sheet)) ≡ none → count ≡ blocks
+      → sheet′ ≡ over (sheetOf (measuresOf lent) (tracesIn (tables control samples [] [] []))) sheet
+      → outcomeWith (answerBy (w.Blocks count) sheet′) lent sheet′ ≡ writeOf lent sheet
+  unfolding answerBy
+  written-answer sheet′ count e counted filled =
+      let full : take (blockSize * blocks) (over whole sheet) ≡ whole = take-at whole (drop (length whole) sheet) (blockSize * blocks) (sheet-length lent) in
+      ap₂ (λ (c : ℕ) (s : List ℕ). outcomeWith (written c (take (blockSize * c) s)) lent s) counted (filled ∙ ap (λ (s : List ℕ). over s sheet) same)
+      ∙ ap (λ (s : List ℕ). outcomeWith (written blocks s) lent (over whole sheet)) full
+      ∙ accepted e

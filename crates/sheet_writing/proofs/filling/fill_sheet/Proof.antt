@@ -1,0 +1,114 @@
+-- `sheet_writing::filling::fill_sheet` meets its contract: block 0, then the blocks of as many samples as the traces have.
+use mathlib.Core.Path.{_≡_, ap, ap₂, _∙_}
+use mathlib.Core.List.{List, []}
+use Prim.Native.Nat.{ℕ, _+_, _*_, _≤_}
+use native.Mathlib.Omega.{arith}
+use lib.ListN.{length, take}
+use denote.Ref.{now}
+use Rattle.dstree.specs.Sheet.{block, headOf, sampleBlocksNeeded, blocksNeeded}
+use Rattle.tables.specs.Layout.{nPlace, traceCountPlace}
+use Rattle.tables.specs.Tables.{tables, field, measuresOf, traceCount}
+use Rattle.sheet_writing.specs.Filled.{withBlock, withSamples}
+use Rattle.sheet_writing.proofs.Needed.{most-samples, needed-tight}
+use Rattle.sheet_writing.proofs.Stored.{filled-is}
+use borrow.Author.Needs.{needs}
+use Rattle.sheet_writing.proofs.filling.fill_sheet.Statement.{statement}
+use Rattle.sheet_writing.proofs.filling.fill_sheet.Tie as tie
+
+module _ (b : tie.After-sample-blocks) where
+  abbrev start : tie.Start
+  start = b .before .before .before .before .before .before .before
+
+  abbrev n : ℕ
+  n = field (now (start .args .control)) nPlace
+
+  abbrev k : ℕ
+  k = field (now (start .args .control)) traceCountPlace
+
+  n-is : b .before .before .before .wide .result ≡ n
+  n-is = b .before .before .before .wide .ensures ∙ b .before .before .before .before .field .ensures
+
+  k-is : b .before .wide2 .result ≡ k
+  k-is = b .before .wide2 .ensures ∙ b .before .before .field2 .ensures
+
+  total-is : b .before .wide2 .result * b .before .before .before .wide .result ≡ k * n
+  total-is = ap₂ (λ (x y : ℕ). x * y) k-is n-is
+
+  count-is : b .sample-blocks .result ≡ sampleBlocksNeeded k n
+  count-is = b .sample-blocks .ensures .0 ∙ ap₂ sampleBlocksNeeded k-is n-is
+
+  few : k * n ≤ 1048576
+  few = most-samples k n (start .pre .few) (start .pre .narrow)
+
+  long : 512 * sampleBlocksNeeded k n + 512 ≤ length (now (start .args .sheet))
+  unfolding blocksNeeded
+  long = omega (arith, start .pre .sheet-long)
+
+field-requires : tie.Need-field-requires
+field-requires c κs = search needs
+
+wide-requires : tie.Need-wide-requires
+wide-requires c κs = search needs
+
+field-requires-2 : tie.Need-field-requires-2
+field-requires-2 c κs = search needs
+
+wide-requires-2 : tie.Need-wide-requires-2
+wide-requires-2 c κs = search needs
+
+sample-blocks-requires : tie.Need-sample-blocks-requires
+sample-blocks-requires c κs = search needs
+
+fill-head-requires : tie.Need-fill-head-requires
+fill-head-requires c κs = omega (arith, long (c .before))
+
+mul-fill-blocks : tie.Need-mul-fill-blocks
+mul-fill-blocks c = let b = c .before .before .before .before .before in omega (arith, total-is b, few b)
+
+fill-blocks-requires : tie.Need-fill-blocks-requires
+fill-blocks-requires c κs =
+    let b = c .before .before .before .before .before in (
+      b .sample-blocks .ensures .1,
+      omega (arith, count-is b, total-is b, needed-tight (k b) (n b)),
+      omega (arith, total-is b, few b),
+      omega (arith, total-is b, start b .pre .samples-long),
+      omega (arith, count-is b, long b),
+    )
+
+add-result : tie.Need-add-result
+add-result c = search needs
+
+same-length : tie.Need-same-length
+same-length c = search needs
+
+returns : tie.Need-returns
+unfolding blocksNeeded
+returns c =
+    let b = c .before .before .before .before .before .before .before .before in
+    let a = start b .args in
+    let sheet = now (a .sheet) in
+    let samples = now (a .samples) in
+    let t = tables (now (a .control)) samples [] [] [] in
+    let headed = withBlock sheet 0 (block 0 (headOf (measuresOf t) (traceCount t))) in (
+      omega (arith, count-is b),
+      c .before .before .fill-blocks .ensures
+          ∙ ap (λ (x : List ℕ). withSamples x (b .sample-blocks .result) (take (b .before .wide2 .result * b .before .before .before .wide .result) samples)) (c .before .before .before .before .before .before .fill-head .ensures)
+          ∙ ap₂ (λ (count total : ℕ). withSamples headed count (take total samples)) (count-is b) (total-is b)
+          ∙ filled-is t sheet,
+    )
+
+pub fill-sheet-spec : {M : Type 1} → statement M
+fill-sheet-spec =
+    tie.close
+    (tie.spec
+    field-requires
+    wide-requires
+    field-requires-2
+    wide-requires-2
+    sample-blocks-requires
+    fill-head-requires
+    mul-fill-blocks
+    fill-blocks-requires
+    add-result
+    same-length
+    returns)

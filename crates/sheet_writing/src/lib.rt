@@ -1,0 +1,45 @@
+// Writing a library to a sheet.
+
+pub mod judging; // what writing refuses
+pub mod filling; // the blocks of a sheet
+
+use tables::Refusal;
+use tables::Verdict;
+ghost use mathlib.Core.Path.{_≡_};
+ghost use Rattle.tables.specs.Tables.{tables};
+ghost use Rattle.tables.specs.Answers.{outcomeWith};
+ghost use Rattle.sheet_writing.specs.Written.{writeOf};
+ghost use Rattle.sheet_writing.specs.Answered.{answerBy};
+
+// The number of blocks, or a refusal.
+pub enum Written {
+    Blocks(u64),
+    Refused(Refusal),
+}
+
+// Writes the library to the sheet's first blocks. Every refusal is decided before anything is written. All five tables are lent only to be read and to be
+// long enough: they stay as they were.
+//
+// Two wrong programs that the contract rules out: one that starts each trace in a block of its own, and one that zeroes the sheet behind the last block.
+pub fn write_sheet(
+    control: &[u16],
+    samples: &[i16],
+    nodes: &[i64],
+    links: &[u16],
+    work: &[u64],
+    sheet: &mut [u8],
+) -> Written
+    ensures { λ r. ⌜ outcomeWith (answerBy r (now (sheet .exit)))
+        (tables (now (control .entry)) (now (samples .entry)) (now (nodes .entry)) (now (links .entry)) (now (work .entry)))
+        (now (sheet .exit))
+        ≡ writeOf
+        (tables (now (control .entry)) (now (samples .entry)) (now (nodes .entry)) (now (links .entry)) (now (work .entry)))
+        (now (sheet .entry)) ⌝ }
+{
+    let places = sheet.len();
+    let verdict = judging::judge_writing(control, samples, nodes, links, work, places);
+    match verdict {
+        Verdict::Refused(why) => Written::Refused(why),
+        Verdict::Fine => Written::Blocks(filling::fill_sheet(control, samples, sheet)),
+    }
+}

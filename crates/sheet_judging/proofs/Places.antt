@@ -53,6 +53,11 @@ module _ (bytes : List ℕ) where
     pub blocks-are : blocksIn bytes ≡ blockAt bytes 0 ∷ blocksFrom bytes 1
     blocks-are = all-blocks bytes ∙ next-block 0 (whole .some-block)
 
+    -- block 0 is there
+    pub first-inside : 512 ≤ length bytes
+    unfolding blockSize
+    first-inside = omega (arith, whole .some-block, whole .all-whole)
+
     -- a block ends inside the sheet
     pub block-inside : (number : ℕ) → number < blockCount bytes → number * blockSize + blockSize ≤ length bytes
     unfolding blockSize

@@ -5,7 +5,6 @@ use mathlib.Core.List.{List}
 use Prim.Native.Nat.{ℕ, suc, _+_, _*_, _-_, _/_, _≤_, _<_}
 use native.Mathlib.Nat.{mul-le-mul}
 use native.Mathlib.Omega.{arith}
-use lib.ListN.{length}
 use lib.Dec.{ltb, eqb}
 use denote.Ref.{now}
 use borrow.Author.Needs.{needs}
@@ -16,17 +15,14 @@ use Rattle.dstree.specs.Refusals.{firstOf}
 use Rattle.dstree.specs.Sheet.{blockSize, narrow, part, letters, blocksIn, measuresIn, countIn, sampleBlocksNeeded, areZero, zerosIn, badConditions}
 use Rattle.tables.specs.Answers.{wordOf, foundBy}
 use Rattle.tables.proofs.Range.{InRange, in-range, samples-fit}
-use Rattle.sheet_judging.specs.Blocks.{InBlocks, blockCount, blockAt, blocksFrom}
+use Rattle.sheet_judging.specs.Blocks.{blockCount, blockAt, blocksFrom}
+use Rattle.sheet_judging.proofs.Places.{first-inside}
 use Rattle.sheet_judging.proofs.Bad.{badBy, bad-are, bad-letters, bad-measures, bad-count, bad-blocks, bad-zeros, none-bad}
 use Rattle.sheet_judging.proofs.contents.judge_contents.Statement.{statement}
 use Rattle.sheet_judging.proofs.contents.judge_contents.Tie as tie
 
-long : (bytes : List ℕ) → InBlocks bytes → 512 ≤ length bytes
-unfolding blockSize
-long bytes w = omega (arith, w .some-block, w .all-whole)
-
 letters-fit-requires : tie.Need-letters-fit-requires
-letters-fit-requires c κs = omega (arith, long (now (c .before .args .sheet)) (c .before .pre))
+letters-fit-requires c κs = omega (arith, first-inside (now (c .before .args .sheet)) (c .before .pre))
 
 returns : tie.Need-returns
 unfolding foundBy wordOf
@@ -41,7 +37,7 @@ returns c =
     ∙ ap firstOf (sym (bad-are bytes (s .pre) (measuresIn b) (countIn b) refl refl))
 
 head-of-requires : tie.Need-head-of-requires
-head-of-requires c κs = let s = c .before .before .before in long (now (s .args .sheet)) (s .pre)
+head-of-requires c κs = let s = c .before .before .before in first-inside (now (s .args .sheet)) (s .pre)
 
 -- what block 0 says
 module _ (h : tie.After-head-of) where

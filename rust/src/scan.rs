@@ -1,0 +1,47 @@
+//! The nearest trace by reading the stored samples one trace after another: what the index is compared with.
+
+/// The lowest number at the least distance, and that distance. Samples are traces of n, one behind the other.
+pub fn nearest(samples: &[i16], n: usize, query: &[i16]) -> Option<(usize, u64)> {
+    let mut best: Option<(usize, u64)> = None;
+    for (number, trace) in samples.chunks_exact(n).enumerate() {
+        let d = distance(trace, query);
+        if best.map_or(true, |(_, least)| d < least) {
+            best = Some((number, d));
+        }
+    }
+    best
+}
+
+/// The same, leaving a trace as soon as it is no longer below the best; it looks every 16 samples.
+pub fn nearest_abandoning(samples: &[i16], n: usize, query: &[i16]) -> Option<(usize, u64)> {
+    let mut best: Option<(usize, u64)> = None;
+    for (number, trace) in samples.chunks_exact(n).enumerate() {
+        let limit = best.map_or(u64::MAX, |(_, least)| least);
+        if let Some(d) = distance_below(trace, query, limit) {
+            best = Some((number, d));
+        }
+    }
+    best
+}
+
+/// The sum of squared differences.
+pub fn distance(a: &[i16], b: &[i16]) -> u64 {
+    a.iter().zip(b).map(|(&x, &y)| square(x, y)).sum()
+}
+
+fn square(x: i16, y: i16) -> u64 {
+    let apart = u64::from(x.abs_diff(y));
+    apart * apart
+}
+
+/// The distance, if it is below the limit.
+fn distance_below(a: &[i16], b: &[i16], limit: u64) -> Option<u64> {
+    let mut total = 0;
+    for (x, y) in a.chunks(16).zip(b.chunks(16)) {
+        total += distance(x, y);
+        if total >= limit {
+            return None;
+        }
+    }
+    Some(total)
+}

@@ -20,9 +20,10 @@
 //! ```
 //!
 //! [`calls`] has the calls themselves, over slices that the caller lends. [`model`] is document 01 in plain Rust, which tests hold the calls to; [`scan`]
-//! reads every trace; [`random`] makes test data.
+//! reads every trace; [`random`] makes test data, [`example`] the sheet under `examples/`.
 
 pub mod calls;
+pub mod example;
 mod library;
 pub mod model;
 pub mod random;

@@ -1,4 +1,4 @@
-//! Test data: a seeded generator, and traces of several shapes. The same seed gives the same data on every machine.
+//! Test data: a seeded generator, and traces of several shapes.
 
 use crate::model::Trace;
 

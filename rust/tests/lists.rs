@@ -69,10 +69,59 @@ fn some_measures(random: &mut Random) -> Measures {
     m
 }
 
+#[cfg(not(feature = "sheets"))]
+const SHEET_CALLS: usize = 0;
+
+#[cfg(not(feature = "sheets"))]
+fn sheet_step(_: &mut Random, _: Shape, _: &mut Tables, _: &mut Book, _: Lengths) {
+    unreachable!("no sheet call is drawn");
+}
+
+#[cfg(feature = "sheets")]
+const SHEET_CALLS: usize = 4;
+
+/// A writing, whose sheet is as the book's; or a reading of a sheet, sound or damaged.
+#[cfg(feature = "sheets")]
+fn sheet_step(random: &mut Random, shape: Shape, t: &mut Tables, book: &mut Book, l: Lengths) {
+    use silkendoz::model::sheet::{blocks_needed, read, seal, write};
+    let library = book.library().clone();
+    if random.once_in(2) {
+        let need = 512 * blocks_needed(library.traces.len() as u64, library.measures.n);
+        let mut sheet = vec![0x77; if random.once_in(4) { random.below(need) } else { need + random.below(600) }];
+        let judged = book.short(l).map(|_| ()).and_then(|()| if sheet.len() < need { Err((8, 0)) } else { Ok(()) });
+        assert_eq!(common::check_write(t, l, &mut sheet).map(|_| ()), judged);
+        if judged.is_ok() {
+            assert_eq!(sheet[..need], write(library.measures, &library.traces));
+        }
+        return;
+    }
+    let m = measures(1 + random.below(9), 1 + random.below(14), 1 + random.below(4));
+    let count = random.below(m.capacity as usize + 1);
+    let mut sheet = write(m, &traces(random, shape, m.n as usize, count));
+    if random.once_in(6) {
+        // a measure or the count, well sealed
+        let at = 8 + 2 * random.below(4);
+        sheet[at] = *random.pick(&[0, 1, 2, 65, 255]);
+        seal(&mut sheet[..512]);
+    }
+    if random.once_in(3) {
+        let at = random.below(sheet.len());
+        sheet[at] ^= 1 << random.below(8);
+        if random.once_in(2) {
+            seal(&mut sheet[at / 512 * 512..at / 512 * 512 + 512]);
+        }
+    }
+    let judged = read(&sheet).and_then(|(m, stored)| judge_opening(l, m).map(|_| Library::of(m, &stored)));
+    assert_eq!(common::check_read(t, l, &sheet), judged);
+    if let Ok(library) = judged {
+        book.0 = Some(library);
+    }
+}
+
 fn step(random: &mut Random, shape: Shape, t: &mut Tables, book: &mut Book) {
     let l = lengths(random, t);
     let n = book.library().measures.n as usize;
-    match random.below(12) {
+    match random.below(12 + SHEET_CALLS) {
         0 => {
             let m = some_measures(random);
             let judged = judge_opening(l, m);
@@ -91,6 +140,7 @@ fn step(random: &mut Random, shape: Shape, t: &mut Tables, book: &mut Book) {
                 book.library().add(&trace);
             }
         }
+        12.. => sheet_step(random, shape, t, book, l),
         _ => {
             let size = if random.once_in(10) { random.below(12) } else { n };
             let q = if size == n { query(random, shape, n, &book.library().traces.clone()) } else { uniform(random, size, -9, 9) };

@@ -170,3 +170,60 @@ pub fn check_scan(library: &Library, query: &[i16], found: &Match) {
     };
     assert_eq!(found.trail, read, "the leaves read are those with a bound at most the distance");
 }
+
+// ---- sheets
+
+#[cfg(feature = "sheets")]
+pub fn write_sheet(t: &Tables, l: Lengths, sheet: &mut [u8]) -> Result<u64, Refused> {
+    told(calls::write_sheet(
+        &t.control[..l.control],
+        &t.samples[..l.samples],
+        &t.nodes[..l.nodes],
+        &t.links[..l.links],
+        &t.work[..l.work],
+        sheet,
+    ))
+}
+
+#[cfg(feature = "sheets")]
+pub fn read_sheet(t: &mut Tables, l: Lengths, sheet: &[u8]) -> Result<(), Refused> {
+    told(calls::read_sheet(lent(t, l), sheet))
+}
+
+/// The answer, and every byte of the lent sheet: those behind the needed blocks stay, and a refusal leaves all.
+#[cfg(feature = "sheets")]
+pub fn check_write(t: &Tables, l: Lengths, sheet: &mut [u8]) -> Result<u64, Refused> {
+    let before = sheet.to_vec();
+    let answer = write_sheet(t, l, sheet);
+    match t.first(l).judge_writing(sheet.len()) {
+        Err(refused) => {
+            assert_eq!(answer, Err(refused));
+            assert_eq!(sheet, before, "a refused writing leaves the sheet");
+        }
+        Ok(library) => {
+            let written = silkendoz::model::sheet::write(library.measures, &library.traces);
+            assert_eq!(answer, Ok(written.len() as u64 / 512));
+            assert_eq!(sheet, [&written[..], &before[written.len()..]].concat());
+        }
+    }
+    answer
+}
+
+/// The answer, and every place: a reading that is not refused opens and adds.
+#[cfg(feature = "sheets")]
+pub fn check_read(t: &mut Tables, l: Lengths, sheet: &[u8]) -> Result<Library, Refused> {
+    let before = t.clone();
+    let answer = read_sheet(t, l, sheet);
+    let judged = silkendoz::model::tables::judge_reading(l, sheet);
+    match &judged {
+        Err(refused) => {
+            assert_eq!(answer, Err(*refused));
+            assert_eq!(*t, before, "a refused reading leaves everything");
+        }
+        Ok(library) => {
+            assert_eq!(answer, Ok(()));
+            assert_eq!(*t, over(&before, &Tables::of(library)));
+        }
+    }
+    judged
+}

@@ -2,7 +2,7 @@
  *
  * The functions of target/staticlib/liblibrary_c.a, which `rt staticlib library_c` writes. They are proved: for every input that the rules below allow,
  * a call stays inside the memory it is lent, never overflows and ends, and it answers and leaves exactly what document 01 says. None of them keeps
- * anything between calls, allocates, or calls anything but memcpy and memset.
+ * anything between calls, allocates, or calls anything but memcpy and memset. On x86-64 a call takes less than 32 KiB of stack (measured, not proved).
  *
  * A TRACE is n signed 16-bit samples. A library keeps up to c traces, numbered from 0 as they are added.
  *

@@ -26,57 +26,94 @@ pub struct Found {
 // A slice goes as a pointer and then its length, as include/silkendoz.h says.
 extern "C" {
     fn silkendoz_open(
-        control: *mut u16, control_len: usize,
-        samples: *mut i16, samples_len: usize,
-        nodes: *mut i64, nodes_len: usize,
-        links: *mut u16, links_len: usize,
-        work: *mut u64, work_len: usize,
-        n: u64, capacity: u64, leaf_size: u64,
-        out: *mut u64, out_len: usize,
+        control: *mut u16,
+        control_len: usize,
+        samples: *mut i16,
+        samples_len: usize,
+        nodes: *mut i64,
+        nodes_len: usize,
+        links: *mut u16,
+        links_len: usize,
+        work: *mut u64,
+        work_len: usize,
+        n: u64,
+        capacity: u64,
+        leaf_size: u64,
+        out: *mut u64,
+        out_len: usize,
     ) -> u64;
 
     fn silkendoz_add(
-        control: *mut u16, control_len: usize,
-        samples: *mut i16, samples_len: usize,
-        nodes: *mut i64, nodes_len: usize,
-        links: *mut u16, links_len: usize,
-        work: *const u64, work_len: usize,
-        trace: *const i16, trace_len: usize,
-        out: *mut u64, out_len: usize,
+        control: *mut u16,
+        control_len: usize,
+        samples: *mut i16,
+        samples_len: usize,
+        nodes: *mut i64,
+        nodes_len: usize,
+        links: *mut u16,
+        links_len: usize,
+        work: *const u64,
+        work_len: usize,
+        trace: *const i16,
+        trace_len: usize,
+        out: *mut u64,
+        out_len: usize,
     ) -> u64;
 
     fn silkendoz_nearest(
-        control: *const u16, control_len: usize,
-        samples: *const i16, samples_len: usize,
-        nodes: *const i64, nodes_len: usize,
-        links: *const u16, links_len: usize,
-        work: *mut u64, work_len: usize,
-        trail: *mut u16, trail_len: usize,
-        query: *const i16, query_len: usize,
-        out: *mut u64, out_len: usize,
+        control: *const u16,
+        control_len: usize,
+        samples: *const i16,
+        samples_len: usize,
+        nodes: *const i64,
+        nodes_len: usize,
+        links: *const u16,
+        links_len: usize,
+        work: *mut u64,
+        work_len: usize,
+        trail: *mut u16,
+        trail_len: usize,
+        query: *const i16,
+        query_len: usize,
+        out: *mut u64,
+        out_len: usize,
     ) -> u64;
 }
 
 #[cfg(feature = "sheets")]
 extern "C" {
     fn silkendoz_write_sheet(
-        control: *const u16, control_len: usize,
-        samples: *const i16, samples_len: usize,
-        nodes: *const i64, nodes_len: usize,
-        links: *const u16, links_len: usize,
-        work: *const u64, work_len: usize,
-        sheet: *mut u8, sheet_len: usize,
-        out: *mut u64, out_len: usize,
+        control: *const u16,
+        control_len: usize,
+        samples: *const i16,
+        samples_len: usize,
+        nodes: *const i64,
+        nodes_len: usize,
+        links: *const u16,
+        links_len: usize,
+        work: *const u64,
+        work_len: usize,
+        sheet: *mut u8,
+        sheet_len: usize,
+        out: *mut u64,
+        out_len: usize,
     ) -> u64;
 
     fn silkendoz_read_sheet(
-        control: *mut u16, control_len: usize,
-        samples: *mut i16, samples_len: usize,
-        nodes: *mut i64, nodes_len: usize,
-        links: *mut u16, links_len: usize,
-        work: *mut u64, work_len: usize,
-        sheet: *const u8, sheet_len: usize,
-        out: *mut u64, out_len: usize,
+        control: *mut u16,
+        control_len: usize,
+        samples: *mut i16,
+        samples_len: usize,
+        nodes: *mut i64,
+        nodes_len: usize,
+        links: *mut u16,
+        links_len: usize,
+        work: *mut u64,
+        work_len: usize,
+        sheet: *const u8,
+        sheet_len: usize,
+        out: *mut u64,
+        out_len: usize,
     ) -> u64;
 }
 
@@ -94,13 +131,21 @@ pub fn open(t: Lent<'_>, n: u64, capacity: u64, leaf_size: u64) -> Result<(), Re
     // Safety: pointers and lengths are those of slices that are borrowed for the call, and the contract has no requires.
     let code = unsafe {
         silkendoz_open(
-            t.control.as_mut_ptr(), t.control.len(),
-            t.samples.as_mut_ptr(), t.samples.len(),
-            t.nodes.as_mut_ptr(), t.nodes.len(),
-            t.links.as_mut_ptr(), t.links.len(),
-            t.work.as_mut_ptr(), t.work.len(),
-            n, capacity, leaf_size,
-            out.as_mut_ptr(), out.len(),
+            t.control.as_mut_ptr(),
+            t.control.len(),
+            t.samples.as_mut_ptr(),
+            t.samples.len(),
+            t.nodes.as_mut_ptr(),
+            t.nodes.len(),
+            t.links.as_mut_ptr(),
+            t.links.len(),
+            t.work.as_mut_ptr(),
+            t.work.len(),
+            n,
+            capacity,
+            leaf_size,
+            out.as_mut_ptr(),
+            out.len(),
         )
     };
     answer(code, out).map(|_| ())
@@ -112,32 +157,55 @@ pub fn add(control: &mut [u16], samples: &mut [i16], nodes: &mut [i64], links: &
     // Safety: as in `open`.
     let code = unsafe {
         silkendoz_add(
-            control.as_mut_ptr(), control.len(),
-            samples.as_mut_ptr(), samples.len(),
-            nodes.as_mut_ptr(), nodes.len(),
-            links.as_mut_ptr(), links.len(),
-            work.as_ptr(), work.len(),
-            trace.as_ptr(), trace.len(),
-            out.as_mut_ptr(), out.len(),
+            control.as_mut_ptr(),
+            control.len(),
+            samples.as_mut_ptr(),
+            samples.len(),
+            nodes.as_mut_ptr(),
+            nodes.len(),
+            links.as_mut_ptr(),
+            links.len(),
+            work.as_ptr(),
+            work.len(),
+            trace.as_ptr(),
+            trace.len(),
+            out.as_mut_ptr(),
+            out.len(),
         )
     };
     answer(code, out).map(|[number]| number)
 }
 
 /// Finds the nearest trace. The trail begins with the leaves read; the needed search work is left zero.
-pub fn nearest(control: &[u16], samples: &[i16], nodes: &[i64], links: &[u16], work: &mut [u64], trail: &mut [u16], query: &[i16]) -> Result<Found, Refusal> {
+pub fn nearest(
+    control: &[u16],
+    samples: &[i16],
+    nodes: &[i64],
+    links: &[u16],
+    work: &mut [u64],
+    trail: &mut [u16],
+    query: &[i16],
+) -> Result<Found, Refusal> {
     let mut out = [0; 4];
     // Safety: as in `open`.
     let code = unsafe {
         silkendoz_nearest(
-            control.as_ptr(), control.len(),
-            samples.as_ptr(), samples.len(),
-            nodes.as_ptr(), nodes.len(),
-            links.as_ptr(), links.len(),
-            work.as_mut_ptr(), work.len(),
-            trail.as_mut_ptr(), trail.len(),
-            query.as_ptr(), query.len(),
-            out.as_mut_ptr(), out.len(),
+            control.as_ptr(),
+            control.len(),
+            samples.as_ptr(),
+            samples.len(),
+            nodes.as_ptr(),
+            nodes.len(),
+            links.as_ptr(),
+            links.len(),
+            work.as_mut_ptr(),
+            work.len(),
+            trail.as_mut_ptr(),
+            trail.len(),
+            query.as_ptr(),
+            query.len(),
+            out.as_mut_ptr(),
+            out.len(),
         )
     };
     answer(code, out).map(|[trace, distance, leaves, traces]| Found { trace, distance, leaves, traces })
@@ -150,13 +218,20 @@ pub fn write_sheet(control: &[u16], samples: &[i16], nodes: &[i64], links: &[u16
     // Safety: as in `open`.
     let code = unsafe {
         silkendoz_write_sheet(
-            control.as_ptr(), control.len(),
-            samples.as_ptr(), samples.len(),
-            nodes.as_ptr(), nodes.len(),
-            links.as_ptr(), links.len(),
-            work.as_ptr(), work.len(),
-            sheet.as_mut_ptr(), sheet.len(),
-            out.as_mut_ptr(), out.len(),
+            control.as_ptr(),
+            control.len(),
+            samples.as_ptr(),
+            samples.len(),
+            nodes.as_ptr(),
+            nodes.len(),
+            links.as_ptr(),
+            links.len(),
+            work.as_ptr(),
+            work.len(),
+            sheet.as_mut_ptr(),
+            sheet.len(),
+            out.as_mut_ptr(),
+            out.len(),
         )
     };
     answer(code, out).map(|[blocks]| blocks)
@@ -169,13 +244,20 @@ pub fn read_sheet(t: Lent<'_>, sheet: &[u8]) -> Result<(), Refusal> {
     // Safety: as in `open`.
     let code = unsafe {
         silkendoz_read_sheet(
-            t.control.as_mut_ptr(), t.control.len(),
-            t.samples.as_mut_ptr(), t.samples.len(),
-            t.nodes.as_mut_ptr(), t.nodes.len(),
-            t.links.as_mut_ptr(), t.links.len(),
-            t.work.as_mut_ptr(), t.work.len(),
-            sheet.as_ptr(), sheet.len(),
-            out.as_mut_ptr(), out.len(),
+            t.control.as_mut_ptr(),
+            t.control.len(),
+            t.samples.as_mut_ptr(),
+            t.samples.len(),
+            t.nodes.as_mut_ptr(),
+            t.nodes.len(),
+            t.links.as_mut_ptr(),
+            t.links.len(),
+            t.work.as_mut_ptr(),
+            t.work.len(),
+            sheet.as_ptr(),
+            sheet.len(),
+            out.as_mut_ptr(),
+            out.len(),
         )
     };
     answer(code, out).map(|_| ())

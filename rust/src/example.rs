@@ -24,8 +24,10 @@ const FAULTS: [Fault; 12] = [
     ("cable chain caught", |x| if x > 0.62 { 2400.0 * (x - 0.62) * 2.6 } else { 0.0 }),
 ];
 
-/// How the sweeps of one fault differ: by speed and load, and by a little noise that is the same on every machine.
-const SWEEPS: [(&str, f64, f64); 3] = [("slow sweep", 0.7, 0.0), ("fast sweep", 1.0, 180.0), ("fast sweep, loaded bed", 1.25, 420.0)];
+/// How the sweeps of one fault differ: by speed and load, and by a little noise.
+type Sweep = (&'static str, f64, f64);
+
+const SWEEPS: [Sweep; 3] = [("slow sweep", 0.7, 0.0), ("fast sweep", 1.0, 180.0), ("fast sweep, loaded bed", 1.25, 420.0)];
 
 fn noise(seed: usize) -> f64 {
     let mut random = crate::random::Random::seeded(seed as u64);
@@ -50,9 +52,7 @@ fn sound(x: f64) -> f64 {
     }
 }
 
-fn trace(fault: usize, sweep: usize, seed: usize) -> Trace {
-    let (_, shape) = FAULTS[fault];
-    let (_, gain, load) = SWEEPS[sweep];
+fn trace((_, shape): Fault, (_, gain, load): Sweep, seed: usize) -> Trace {
     (0..MEASURES.n as usize)
         .map(|i| {
             let x = i as f64 / (MEASURES.n - 1) as f64;
@@ -65,13 +65,12 @@ fn trace(fault: usize, sweep: usize, seed: usize) -> Trace {
 /// The stored traces with their names, then the query: a sweep of a machine whose right rail has run dry.
 pub fn traces() -> Vec<(String, Trace)> {
     let mut list = Vec::new();
-    for fault in 0..FAULTS.len() {
-        for sweep in 0..SWEEPS.len() {
-            let name = format!("{}, {}", FAULTS[fault].0, SWEEPS[sweep].0);
-            list.push((name, trace(fault, sweep, fault * SWEEPS.len() + sweep)));
+    for fault in FAULTS {
+        for sweep in SWEEPS {
+            list.push((format!("{}, {}", fault.0, sweep.0), trace(fault, sweep, list.len())));
         }
     }
-    list.push(("the query: a sweep of today".to_string(), trace(5, 1, 999)));
+    list.push(("the query: a sweep of today".to_string(), trace(FAULTS[5], SWEEPS[1], 999)));
     list
 }
 
@@ -84,7 +83,9 @@ pub fn sheet() -> Vec<u8> {
 /// The text beside it, which names each trace.
 pub fn text() -> String {
     let Measures { n, capacity, leaf_size } = MEASURES;
-    let mut text = String::from("The traces of faults.sheet, by number. The last one is the query; the program prints the number of the nearest of the others.\n");
+    let mut text = String::from(
+        "The traces of faults.sheet, by number. The last one is the query; the program prints the number of the nearest of the others.\n",
+    );
     text.push_str("Made by `cargo run --release --bin make_example` in rust/.\n\n");
     text.push_str(&format!("n {n}, capacity {capacity}, leaf size {leaf_size}\n"));
     for (number, (name, _)) in traces().iter().enumerate() {

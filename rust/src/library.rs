@@ -93,13 +93,7 @@ impl TraceLibrary {
         let mut trail = vec![0; self.capacity()];
         let found = calls::nearest(&self.control, &self.samples, &self.nodes, &self.links, &mut self.work, &mut trail, query)?;
         trail.truncate(found.leaves as usize);
-        Ok(Nearest {
-            trace: found.trace as usize,
-            distance: found.distance,
-            leaves: found.leaves as usize,
-            traces: found.traces as usize,
-            trail,
-        })
+        Ok(Nearest { trace: found.trace as usize, distance: found.distance, leaves: found.leaves as usize, traces: found.traces as usize, trail })
     }
 
     /// The library as a sheet: blocks of 512 bytes, to be stored or sent.

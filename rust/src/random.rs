@@ -11,7 +11,8 @@ impl Random {
         Random(seed)
     }
 
-    pub fn next(&mut self) -> u64 {
+    /// 64 bits.
+    pub fn word(&mut self) -> u64 {
         self.0 = self.0.wrapping_add(0x9e37_79b9_7f4a_7c15);
         let mut z = self.0;
         z = (z ^ (z >> 30)).wrapping_mul(0xbf58_476d_1ce4_e5b9);
@@ -21,12 +22,12 @@ impl Random {
 
     /// From 0 to below `end`, which is not 0.
     pub fn below(&mut self, end: usize) -> usize {
-        (self.next() % end as u64) as usize
+        (self.word() % end as u64) as usize
     }
 
     /// From `low` to `high`, both included.
     pub fn within(&mut self, low: i64, high: i64) -> i64 {
-        low + (self.next() % (high - low + 1) as u64) as i64
+        low + (self.word() % (high - low + 1) as u64) as i64
     }
 
     /// True once in `times`.
@@ -91,17 +92,8 @@ pub enum Shape {
     Ties,
 }
 
-pub const SHAPES: [Shape; 9] = [
-    Shape::Uniform,
-    Shape::Small,
-    Shape::Walk,
-    Shape::Sine,
-    Shape::Clusters,
-    Shape::Identical,
-    Shape::Constants,
-    Shape::Extremes,
-    Shape::Ties,
-];
+pub const SHAPES: [Shape; 9] =
+    [Shape::Uniform, Shape::Small, Shape::Walk, Shape::Sine, Shape::Clusters, Shape::Identical, Shape::Constants, Shape::Extremes, Shape::Ties];
 
 /// `count` traces of n samples.
 pub fn traces(random: &mut Random, shape: Shape, n: usize, count: usize) -> Vec<Trace> {

@@ -5,7 +5,7 @@ pub fn nearest(samples: &[i16], n: usize, query: &[i16]) -> Option<(usize, u64)>
     let mut best: Option<(usize, u64)> = None;
     for (number, trace) in samples.chunks_exact(n).enumerate() {
         let d = distance(trace, query);
-        if best.map_or(true, |(_, least)| d < least) {
+        if best.is_none_or(|(_, least)| d < least) {
             best = Some((number, d));
         }
     }

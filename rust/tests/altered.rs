@@ -11,7 +11,8 @@ use silkendoz::random::{query, traces, Random, Shape, SHAPES};
 fn more_ends(random: &mut Random, ends: &[usize], n: usize) -> Vec<usize> {
     let mut more = ends.to_vec();
     more.push(n);
-    for _ in 0..random.below(5) {
+    let cuts = if random.once_in(4) { 10 + random.below(8) } else { random.below(5) };
+    for _ in 0..cuts {
         more.push(1 + random.below(n));
     }
     more.sort_unstable();
@@ -28,7 +29,7 @@ fn pair(random: &mut Random, low: i128, high: i128) -> (i128, i128) {
         0 => low,
         1 => high,
         2 => (low + high) / 2,
-        _ => low + (u128::from(random.next()) % (high - low + 1) as u128) as i128,
+        _ => low + (u128::from(random.word()) % (high - low + 1) as u128) as i128,
     };
     let (a, b) = (any(), any());
     (a.min(b), a.max(b))
@@ -43,11 +44,11 @@ fn segments(random: &mut Random, ends: &[usize], below: &[&[i16]]) -> Vec<Segmen
             (s.least_sum, s.greatest_sum) = pair(random, -w * 32_768, w * 32_768);
         }
         if random.once_in(3) {
-            (s.least_scatter, s.greatest_scatter) = pair(random, 0, w * w << 30);
+            (s.least_scatter, s.greatest_scatter) = pair(random, 0, (w * w) << 30);
         }
         if random.once_in(3) {
             s.least_sum = (s.least_sum - 3).max(-w * 32_768);
-            s.greatest_scatter = (s.greatest_scatter + 5).min(w * w << 30);
+            s.greatest_scatter = (s.greatest_scatter + 5).min((w * w) << 30);
         }
     }
     list
@@ -60,20 +61,19 @@ fn test(random: &mut Random, n: usize, below: &[&[i16]]) -> Test {
     let w = (last - first + 1) as i128;
     let (low, high) = match figure {
         Figure::Sum => (-2 * w * 32_768, 2 * w * 32_768),
-        Figure::Scatter => (0, 2 * w * w << 30),
+        Figure::Scatter => (0, (2 * w * w) << 30),
     };
-    let threshold = if random.once_in(2) {
-        2 * figure.of(&below[random.below(below.len())][first - 1..last])
-    } else {
-        pair(random, low, high).0
-    };
+    let threshold = if random.once_in(2) { 2 * figure.of(&below[random.below(below.len())][first - 1..last]) } else { pair(random, low, high).0 };
     Test { figure, first, last, threshold }
 }
+
+/// Trace numbers below a node, its ends, its children.
+type Plan = (Vec<usize>, Vec<usize>, Option<(usize, usize)>);
 
 /// A tree over all traces: any partition, any ends that the rules allow, nodes numbered anyhow with children above their parents.
 fn library(random: &mut Random, shape: Shape, n: usize, count: usize, capacity: usize, leaf_size: usize, chain: bool) -> Library {
     let stored = traces(random, shape, n, count);
-    let mut nodes: Vec<(Vec<usize>, Vec<usize>, Option<(usize, usize)>)> = Vec::new(); // numbers below, ends, children
+    let mut nodes: Vec<Plan> = Vec::new();
     let root = more_ends(random, &[], n);
     nodes.push(((0..count).collect(), root, None));
     let mut open = vec![0];
@@ -133,14 +133,14 @@ fn library(random: &mut Random, shape: Shape, n: usize, count: usize, capacity: 
 fn with_junk(random: &mut Random, library: &Library) -> Tables {
     let mut t = Tables::of(library);
     let (k, n) = (library.traces.len(), library.measures.n as usize);
-    t.samples[k * n..].iter_mut().for_each(|x| *x = random.next() as i16);
-    t.links[k..].iter_mut().for_each(|x| *x = random.next() as u16);
-    t.work.iter_mut().for_each(|x| *x = random.next());
+    t.samples[k * n..].iter_mut().for_each(|x| *x = random.word() as i16);
+    t.links[k..].iter_mut().for_each(|x| *x = random.word() as u16);
+    t.work.iter_mut().for_each(|x| *x = random.word());
     for (j, record) in t.nodes.chunks_mut(RECORD_PLACES).enumerate() {
         let used = library.nodes.get(j).map_or(0, |node| 7 + 5 * node.segments.len());
-        record[used..].iter_mut().for_each(|x| *x = random.next() as i64);
+        record[used..].iter_mut().for_each(|x| *x = random.word() as i64);
         if library.nodes.get(j).is_some_and(Node::is_leaf) {
-            record[3..7].iter_mut().for_each(|x| *x = random.next() as i64);
+            record[3..7].iter_mut().for_each(|x| *x = random.word() as i64);
         }
     }
     t
@@ -155,7 +155,7 @@ fn follow(random: &mut Random, library: &Library, shape: Shape, queries: usize, 
         let q: Trace = query(random, shape, n, &library.traces);
         let mut trail = vec![1; library.leaves().len()];
         check_nearest(&mut t, l, &mut trail, &q).expect("nothing is refused");
-        t.work.iter_mut().for_each(|x| *x = random.next());
+        t.work.iter_mut().for_each(|x| *x = random.word());
     }
     for _ in 0..more {
         let trace: Trace = query(random, shape, n, &library.traces);

@@ -57,8 +57,8 @@ fn values(was: i64, t: &Tables) -> Vec<i64> {
     let mut list: Vec<i64> = fields.flat_map(|x| [x - 1, x, x + 1]).collect();
     list.extend([-1, 0, 1, 2, 3, 16, 17, was - 1, was + 1, -was, 2 * was + 1]);
     for w in 1..=i64::from(t.control[0]) {
-        list.extend([w * 32_768, -w * 32_768, w * 32_768 + 1, -w * 32_768 - 1, w * w << 30, (w * w << 30) + 1]);
-        list.extend([2 * w * 32_768 + 1, -2 * w * 32_768, 2 * w * w << 30, (2 * w * w << 30) + 1]);
+        list.extend([w * 32_768, -w * 32_768, w * 32_768 + 1, -w * 32_768 - 1, (w * w) << 30, ((w * w) << 30) + 1]);
+        list.extend([2 * w * 32_768 + 1, -2 * w * 32_768, (2 * w * w) << 30, ((2 * w * w) << 30) + 1]);
     }
     list.extend([65_535, 65_536, 65_537, 1 << 32, i64::MAX, i64::MIN]);
     list.sort_unstable();

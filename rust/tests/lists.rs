@@ -88,7 +88,10 @@ fn sheet_step(random: &mut Random, shape: Shape, t: &mut Tables, book: &mut Book
     if random.once_in(2) {
         let need = 512 * blocks_needed(library.traces.len() as u64, library.measures.n);
         let mut sheet = vec![0x77; if random.once_in(4) { random.below(need) } else { need + random.below(600) }];
-        let judged = book.short(l).map(|_| ()).and_then(|()| if sheet.len() < need { Err((8, 0)) } else { Ok(()) });
+        let judged = match book.short(l) {
+            Ok(_) if sheet.len() < need => Err((8, 0)),
+            other => other.map(|_| ()),
+        };
         assert_eq!(common::check_write(t, l, &mut sheet).map(|_| ()), judged);
         if judged.is_ok() {
             assert_eq!(sheet[..need], write(library.measures, &library.traces));

@@ -42,7 +42,9 @@ fn the_vectors() {
 fn sheets_of_every_shape() {
     let random = &mut Random::seeded(51);
     for shape in SHAPES {
-        for (n, capacity, leaf_size, count) in [(64, 64, 64, 64), (64, 64, 1, 63), (1, 64, 2, 40), (17, 30, 4, 29), (3, 2, 1, 1), (65, 4, 1, 3), (8, 65, 1, 20)] {
+        for (n, capacity, leaf_size, count) in
+            [(64, 64, 64, 64), (64, 64, 1, 63), (1, 64, 2, 40), (17, 30, 4, 29), (3, 2, 1, 1), (65, 4, 1, 3), (8, 65, 1, 20)]
+        {
             let mut stored = traces(random, shape, n, count - 1);
             let last = query(random, shape, n, &stored);
             stored.push(last);

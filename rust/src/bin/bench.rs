@@ -118,10 +118,24 @@ fn line(data: Data, leaf_size: usize) {
     let (write, read) = sheets(&library);
     println!(
         "{:<14}{:>5} |{:>9.1}{:>7.0}{:>9.1}{:>9.1}{:>7.1}{:>7.1} |{:>9.1}{:>7.0}{:>9.1}{:>9.1}{:>7.1}{:>7.1} |{:>8.1}{:>8.1}{:>8}{:>9}",
-        data.name(), leaf_size,
-        a.index, a.read, a.plain, a.abandoning, a.plain / a.index, a.abandoning / a.index,
-        b.index, b.read, b.plain, b.abandoning, b.plain / b.index, b.abandoning / b.index,
-        tested, add, write, read,
+        data.name(),
+        leaf_size,
+        a.index,
+        a.read,
+        a.plain,
+        a.abandoning,
+        a.plain / a.index,
+        a.abandoning / a.index,
+        b.index,
+        b.read,
+        b.plain,
+        b.abandoning,
+        b.plain / b.index,
+        b.abandoning / b.index,
+        tested,
+        add,
+        write,
+        read,
     );
 }
 

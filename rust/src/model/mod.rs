@@ -355,7 +355,7 @@ impl Library {
         let mut best: Option<Split> = None;
         for candidate in candidates(&self.nodes[leaf].ends()) {
             if let Some(split) = self.try_candidate(leaf, &candidate) {
-                if best.as_ref().map_or(true, |b| split.gain > b.gain) {
+                if best.as_ref().is_none_or(|b| split.gain > b.gain) {
                     best = Some(split);
                 }
             }
@@ -424,7 +424,7 @@ impl Library {
             for &t in self.numbers(leaf) {
                 read += 1;
                 let found = (distance(&self.traces[t], query), t);
-                if best.map_or(true, |b| found < b) {
+                if best.is_none_or(|b| found < b) {
                     best = Some(found);
                 }
             }
@@ -447,7 +447,7 @@ pub fn scan(traces: &[Trace], query: &[i16]) -> Option<(usize, i128)> {
     let mut best: Option<(usize, i128)> = None;
     for (t, trace) in traces.iter().enumerate() {
         let d = distance(trace, query);
-        if best.map_or(true, |(_, b)| d < b) {
+        if best.is_none_or(|(_, b)| d < b) {
             best = Some((t, d));
         }
     }

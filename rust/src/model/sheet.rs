@@ -49,7 +49,7 @@ pub fn write(m: Measures, traces: &[Trace]) -> Vec<u8> {
 
 /// The measures and traces of a sheet, or the refusal: 8; 9 over all blocks; 10.
 pub fn read(bytes: &[u8]) -> Result<(Measures, Vec<Trace>), Refused> {
-    if bytes.is_empty() || bytes.len() % 512 != 0 || bytes.len() / 512 > 4146 {
+    if bytes.is_empty() || !bytes.len().is_multiple_of(512) || bytes.len() / 512 > 4146 {
         return Err((8, 0));
     }
     let blocks: Vec<&[u8]> = bytes.chunks(512).collect();

@@ -37,13 +37,7 @@ pub fn needs(m: Measures) -> Lengths {
 
 impl Tables {
     pub fn lengths(&self) -> Lengths {
-        Lengths {
-            control: self.control.len(),
-            samples: self.samples.len(),
-            nodes: self.nodes.len(),
-            links: self.links.len(),
-            work: self.work.len(),
-        }
+        Lengths { control: self.control.len(), samples: self.samples.len(), nodes: self.nodes.len(), links: self.links.len(), work: self.work.len() }
     }
 
     /// The first so many places of each table.
@@ -292,9 +286,7 @@ fn each_a_child_once(library: &Library) -> bool {
 fn ends_include_the_parents(library: &Library) -> bool {
     library.nodes.iter().all(|node| match node.kind {
         Kind::Leaf(_) => true,
-        Kind::Inner { left, right, .. } => {
-            [left, right].iter().all(|&child| node.ends().iter().all(|end| library.nodes[child].ends().contains(end)))
-        }
+        Kind::Inner { left, right, .. } => [left, right].iter().all(|&child| node.ends().iter().all(|end| library.nodes[child].ends().contains(end))),
     })
 }
 

@@ -175,14 +175,7 @@ pub fn check_scan(library: &Library, query: &[i16], found: &Match) {
 
 #[cfg(feature = "sheets")]
 pub fn write_sheet(t: &Tables, l: Lengths, sheet: &mut [u8]) -> Result<u64, Refused> {
-    told(calls::write_sheet(
-        &t.control[..l.control],
-        &t.samples[..l.samples],
-        &t.nodes[..l.nodes],
-        &t.links[..l.links],
-        &t.work[..l.work],
-        sheet,
-    ))
+    told(calls::write_sheet(&t.control[..l.control], &t.samples[..l.samples], &t.nodes[..l.nodes], &t.links[..l.links], &t.work[..l.work], sheet))
 }
 
 #[cfg(feature = "sheets")]

@@ -50,28 +50,36 @@ fn median(mut times: Vec<f64>) -> f64 {
     times[times.len() / 2]
 }
 
-/// Medians over a list of queries: the match, the scan, the scan that abandons, and how many traces the match read.
+/// Medians over a list of queries: the match, the scan, the scan that leaves early, both scans over the match, and how many traces the match read.
 struct Matched {
     index: f64,
     plain: f64,
-    abandoning: f64,
+    leaving: f64,
+    plain_ratio: f64,
+    leaving_ratio: f64,
     read: f64,
 }
 
+/// A query's three times are taken one after the other, and ratios are taken query by query, so that a machine that is busy for a while does not show.
 fn matched(library: &mut TraceLibrary, samples: &[i16], queries: &[Trace]) -> Matched {
-    let (mut index, mut plain, mut abandoning, mut read) = (vec![], vec![], vec![], vec![]);
+    let mut rounds: Vec<[f64; 4]> = Vec::new();
     for q in queries {
-        let (t, found) = time(|| library.nearest(black_box(q)).expect("traces are stored"));
-        let (p, nearest) = time(|| scan::nearest(samples, N, black_box(q)));
-        let (a, left) = time(|| scan::nearest_abandoning(samples, N, black_box(q)));
+        let (index, found) = time(|| library.nearest(black_box(q)).expect("traces are stored"));
+        let (plain, nearest) = time(|| scan::nearest(samples, N, black_box(q)));
+        let (leaving, left) = time(|| scan::nearest_abandoning(samples, N, black_box(q)));
         assert_eq!(nearest, Some((found.trace, found.distance)));
         assert_eq!(left, nearest);
-        index.push(t);
-        plain.push(p);
-        abandoning.push(a);
-        read.push(found.traces as f64);
+        rounds.push([index, plain, leaving, found.traces as f64]);
     }
-    Matched { index: median(index), plain: median(plain), abandoning: median(abandoning), read: median(read) }
+    let of = |figure: fn(&[f64; 4]) -> f64| median(rounds.iter().map(figure).collect());
+    Matched {
+        index: of(|r| r[0]),
+        plain: of(|r| r[1]),
+        leaving: of(|r| r[2]),
+        plain_ratio: of(|r| r[1] / r[0]),
+        leaving_ratio: of(|r| r[2] / r[0]),
+        read: of(|r| r[3]),
+    }
 }
 
 /// A match whose query has another length is refused right behind the test of the tables.
@@ -123,15 +131,15 @@ fn line(data: Data, leaf_size: usize) {
         a.index,
         a.read,
         a.plain,
-        a.abandoning,
-        a.plain / a.index,
-        a.abandoning / a.index,
+        a.leaving,
+        a.plain_ratio,
+        a.leaving_ratio,
         b.index,
         b.read,
         b.plain,
-        b.abandoning,
-        b.plain / b.index,
-        b.abandoning / b.index,
+        b.leaving,
+        b.plain_ratio,
+        b.leaving_ratio,
         tested,
         add,
         write,
@@ -141,7 +149,7 @@ fn line(data: Data, leaf_size: usize) {
 
 fn main() {
     println!("n = {N}, capacity {CAPACITY}, full; times in microseconds, medians ({QUERIES} queries, the last {ADDED} traces added)");
-    println!("scan: every trace; leaving: the same scan, leaving a trace that is no longer below the best; x: scan / match and leaving / match");
+    println!("scan: every trace; leaving: the same scan, leaving a trace that is no longer below the best; x: scan / match and leaving / match, query by query");
     println!();
     println!(
         "{:<14}{:>5} |{:>9}{:>7}{:>9}{:>9}{:>7}{:>7} |{:>9}{:>7}{:>9}{:>9}{:>7}{:>7} |{:>8}{:>8}{:>8}{:>9}",

@@ -180,3 +180,18 @@ fn short_tables_and_the_order() {
         assert_eq!(check_nearest(&mut case.tables.clone(), l, &mut [], &case.query).unwrap_err(), expected);
     }
 }
+
+/// Every node but 0 is a child once and every trace in one leaf, yet node 0 is its own child: "inner children numbered above their parent" refuses it.
+#[test]
+fn a_node_that_is_its_own_child() {
+    let stored = vec![vec![0, 0, 0, 0], vec![4, 4, 4, 4]];
+    for (left, right, kind) in [(0, 1, 1), (1, 0, 1), (0, 1, 2), (1, 0, 2)] {
+        let mut t = Tables::of(&Library::of(measures(4, 8, 2), &stored));
+        // leaf 0 becomes leaf 1
+        let (first, second) = t.nodes.split_at_mut(RECORD_PLACES);
+        second[..RECORD_PLACES].copy_from_slice(first);
+        t.nodes[..7].copy_from_slice(&[kind, 1, left, right, 1, 4, 0]);
+        t.control[4] = 2;
+        assert!(both(&t, &[1, 1, 1, 1]), "{left} {right}");
+    }
+}

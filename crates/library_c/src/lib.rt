@@ -1,0 +1,83 @@
+// The calls for C and for Rust: numbers and slices only, a slice as a pointer and then its length. Each is the call of the same name, and its contract
+// is that call's own definition. The code is 0, or the number of the refusal; the answer's values go into the lent slice `out`, in order: adding the
+// trace's number, a match the trace's number, the distance, leaves read and traces read, a refusal its place. A shorter `out` takes the first of them, and
+// places behind them stay.
+
+pub mod telling; // an answer as numbers
+
+ghost use mathlib.Core.Path.{_≡_};
+ghost use Rattle.dstree.specs.Measures.{measures};
+ghost use Rattle.tables.specs.Tables.{tables};
+ghost use Rattle.tables.specs.Answers.{openOf};
+ghost use Rattle.adding.specs.Added.{addOf};
+ghost use Rattle.matching.specs.Matched.{nearestOf};
+ghost use Rattle.library_c.specs.Told.{exported, exportedOf, exportedWith, exportedMatch};
+
+// Two wrong programs that the contract rules out: one that gives the place as its code, and one that writes the place of a refusal into a place of `out`
+// behind the first.
+#[no_mangle]
+pub extern "C" fn silkendoz_open(
+    control: &mut [u16],
+    samples: &mut [i16],
+    nodes: &mut [i64],
+    links: &mut [u16],
+    work: &mut [u64],
+    n: u64,
+    capacity: u64,
+    leaf_size: u64,
+    out: &mut [u64],
+) -> u64
+    ensures { λ r. ⌜ exported r (now (out .exit))
+        (tables (now (control .exit)) (now (samples .exit)) (now (nodes .exit)) (now (links .exit)) (now (work .exit)))
+        ≡ exportedOf (openOf
+        (tables (now (control .entry)) (now (samples .entry)) (now (nodes .entry)) (now (links .entry)) (now (work .entry)))
+        (measures n capacity «leaf_size»)) (now (out .entry)) ⌝ }
+{
+    let answer = opening::open(control, samples, nodes, links, work, n, capacity, leaf_size);
+    telling::tell_opened(answer, out)
+}
+
+// Two wrong programs that the contract rules out: one that tells the trace's number as its code, and one that clears `out` when it refuses.
+#[no_mangle]
+pub extern "C" fn silkendoz_add(
+    control: &mut [u16],
+    samples: &mut [i16],
+    nodes: &mut [i64],
+    links: &mut [u16],
+    work: &[u64],
+    trace: &[i16],
+    out: &mut [u64],
+) -> u64
+    ensures { λ r. ⌜ exported r (now (out .exit))
+        (tables (now (control .exit)) (now (samples .exit)) (now (nodes .exit)) (now (links .exit)) (now (work .entry)))
+        ≡ exportedOf (addOf
+        (tables (now (control .entry)) (now (samples .entry)) (now (nodes .entry)) (now (links .entry)) (now (work .entry)))
+        (now (trace .entry))) (now (out .entry)) ⌝ }
+{
+    let answer = adding::add(control, samples, nodes, links, work, trace);
+    telling::tell_added(answer, out)
+}
+
+// Two wrong programs that the contract rules out: one that tells leaves and traces in the other order, and one that refuses a short `out`.
+#[no_mangle]
+pub extern "C" fn silkendoz_nearest(
+    control: &[u16],
+    samples: &[i16],
+    nodes: &[i64],
+    links: &[u16],
+    work: &mut [u64],
+    trail: &mut [u16],
+    query: &[i16],
+    out: &mut [u64],
+) -> u64
+    ensures { λ r. ⌜ exportedWith r (now (out .exit))
+        (tables (now (control .entry)) (now (samples .entry)) (now (nodes .entry)) (now (links .entry)) (now (work .exit)))
+        (now (trail .exit))
+        ≡ exportedMatch (nearestOf
+        (tables (now (control .entry)) (now (samples .entry)) (now (nodes .entry)) (now (links .entry)) (now (work .entry)))
+        (now (query .entry))
+        (now (trail .entry))) (now (out .entry)) ⌝ }
+{
+    let answer = matching::nearest(control, samples, nodes, links, work, trail, query);
+    telling::tell_found(answer, out)
+}

@@ -1,0 +1,71 @@
+// An answer as numbers: its code is given back, its values go into a lent slice.
+
+use adding::Added;
+use matching::Found;
+use opening::Opened;
+use tables::Refusal;
+ghost use mathlib.Core.Path.{_≡_};
+ghost use mathlib.Core.List.{List};
+ghost use Prim.Native.Nat.{ℕ};
+ghost use lib.ListN.{set};
+ghost use Rattle.dstree.specs.Book.{refusing};
+ghost use Rattle.tables.specs.Answers.{wordOf};
+ghost use Rattle.opening.specs.Opened as opened;
+ghost use Rattle.adding.specs.Answered as added;
+ghost use Rattle.matching.specs.Answered as matched;
+ghost use Rattle.library_c.specs.Told.{told, toldOf};
+
+// A number at its place, if there is such a place.
+fn put(out: &mut [u64], at: usize, x: u64)
+    ensures { λ _. ⌜ now (out .exit) ≡ set (now (out .entry)) at x ⌝ }
+{
+    if at < out.len() {
+        out[at] = x;
+    }
+}
+
+fn tell_refusal(why: Refusal, out: &mut [u64]) -> u64
+    ensures { λ r. ⌜ told r (now (out .exit)) ≡ toldOf (refusing (wordOf why)) (now (out .entry)) ⌝ }
+{
+    let place = tables::answers::place(why);
+    let number = tables::answers::number(why);
+    put(out, 0, place);
+    number
+}
+
+pub fn tell_opened(answer: Opened, out: &mut [u64]) -> u64
+    ensures { λ r. ⌜ told r (now (out .exit)) ≡ toldOf (opened.answerOf answer) (now (out .entry)) ⌝ }
+{
+    match answer {
+        Opened::Done => 0,
+        Opened::Refused(why) => tell_refusal(why, out),
+    }
+}
+
+pub fn tell_added(answer: Added, out: &mut [u64]) -> u64
+    ensures { λ r. ⌜ told r (now (out .exit)) ≡ toldOf (added.answerOf answer) (now (out .entry)) ⌝ }
+{
+    match answer {
+        Added::At(number) => {
+            put(out, 0, number);
+            0
+        }
+        Added::Refused(why) => tell_refusal(why, out),
+    }
+}
+
+// The trail is told by the slice that the match leaves it in, so that any list may stand for it here.
+pub fn tell_found(answer: Found, out: &mut [u64]) -> u64
+    ensures { λ r. ⌜ ((trail : List ℕ) → told r (now (out .exit)) ≡ toldOf (matched.answerBy answer trail) (now (out .entry))) ⌝ }
+{
+    match answer {
+        Found::At(trace, distance, leaves, traces) => {
+            put(out, 0, trace);
+            put(out, 1, distance);
+            put(out, 2, leaves);
+            put(out, 3, traces);
+            0
+        }
+        Found::Refused(why) => tell_refusal(why, out),
+    }
+}

@@ -1,0 +1,121 @@
+/* Silkendoz: the nearest stored trace, exactly.
+ *
+ * The functions of target/staticlib/liblibrary_c.a, which `rt staticlib library_c` writes. They are proved: for every input that the rules below allow,
+ * a call stays inside the memory it is lent, never overflows and ends, and it answers and leaves exactly what document 01 says. None of them keeps
+ * anything between calls, allocates, or calls anything but memcpy and memset. On x86-64 a call takes less than 32 KiB of stack (measured, not proved).
+ *
+ * A TRACE is n signed 16-bit samples. A library keeps up to c traces, numbered from 0 as they are added.
+ *
+ * TABLES. A library lives in five tables that the caller lends to every call:
+ *
+ *   table     element    places needed for n samples, capacity c
+ *   control   uint16_t   SILKENDOZ_CONTROL
+ *   samples   int16_t    SILKENDOZ_SAMPLES(n, c)      c * n
+ *   nodes     int64_t    SILKENDOZ_NODES(c)           (2c - 1) * 87
+ *   links     uint16_t   SILKENDOZ_LINKS(c)           c
+ *   work      uint64_t   SILKENDOZ_WORK(c)            2c - 1
+ *
+ * A slice is passed as a pointer and then its length in elements (not bytes). A table may be longer than its need: places behind the need are neither
+ * read nor written. A shorter one is refused (2). What the tables hold is in docs/LAYOUT.md, in the machine's own byte order.
+ *
+ * WHAT A CALLER OWES, which C cannot test: each pointer is aligned for its element and leads to as many elements as its length says, all of them
+ * readable, and writable where the pointer is not const; no slice that a call may write overlaps another slice of the same call; nobody else
+ * writes or reads a lent slice meanwhile. With a length of 0 the pointer is not followed, but it has to be aligned and not null.
+ * There is nothing else: any contents, any lengths and any numbers are answered.
+ *
+ * ANSWERS. A call gives back 0, or the number of a refusal. It writes the values that belong to the answer into the slice `out`, from its first place
+ * on, and leaves the places behind them:
+ *
+ *   silkendoz_open         0   none
+ *   silkendoz_add          0   the new trace's number
+ *   silkendoz_nearest      0   trace number, distance, leaves read, traces read
+ *   any call        refused   the place
+ *
+ * If `out` has fewer places, the first values are written and the others are left out. SILKENDOZ_OUT places are enough for every call.
+ *
+ * REFUSALS. A refused call leaves every table, the trail and all of `out` behind its first place as they were. The place is 0, but for a
+ * torn block, where it is the first block at fault. The numbers are tested in this order: 1; a control record too short (2); its measures (3);
+ * other tables (2); the rest of 3; then 4 to 8.
+ */
+#ifndef SILKENDOZ_H
+#define SILKENDOZ_H
+
+#include <stddef.h>
+#include <stdint.h>
+
+#ifdef __cplusplus
+extern "C" {
+#endif
+
+/* Measures: n from 1 to 256, capacity 1 to 4,096, leaf size 1 to 64. */
+#define SILKENDOZ_MAX_N 256
+#define SILKENDOZ_MAX_CAPACITY 4096
+#define SILKENDOZ_MAX_LEAF_SIZE 64
+
+/* Places that the tables need. */
+#define SILKENDOZ_CONTROL 5
+#define SILKENDOZ_SAMPLES(n, c) ((size_t)(n) * (size_t)(c))
+#define SILKENDOZ_NODES(c) ((2 * (size_t)(c) - 1) * 87)
+#define SILKENDOZ_LINKS(c) ((size_t)(c))
+#define SILKENDOZ_WORK(c) (2 * (size_t)(c) - 1)
+
+/* Places of a trail that are enough for every match: there are at most as many leaves as traces. */
+#define SILKENDOZ_TRAIL(c) ((size_t)(c))
+
+/* Places of `out` that are enough for every call. */
+#define SILKENDOZ_OUT 4
+
+/* The numbers that a call gives back. */
+enum silkendoz_refusal {
+    SILKENDOZ_DONE = 0,
+    SILKENDOZ_MEASURE = 1,      /* opening: n, capacity or leaf size outside its range */
+    SILKENDOZ_SHORT_TABLE = 2,  /* a lent table below the need */
+    SILKENDOZ_SPOILED = 3,      /* tables not well formed */
+    SILKENDOZ_WRONG_TRACE = 4,  /* length not n */
+    SILKENDOZ_FULL = 5,         /* count equals capacity */
+    SILKENDOZ_EMPTY = 6,        /* a match with no trace stored */
+    SILKENDOZ_SHORT_TRAIL = 7,  /* trail shorter than the number of leaves */
+    SILKENDOZ_SHEET_LENGTH = 8, /* writing: below the need; reading: 0, not a multiple of 512, above 4,146 blocks */
+    SILKENDOZ_TORN_BLOCK = 9,   /* check, block number or kind wrong; the place is the first block at fault */
+    SILKENDOZ_BAD_SHEET = 10    /* letters, measures, count above capacity, number of blocks, or a nonzero byte that must be 0 */
+};
+
+/* Opens an empty library with these measures: the needed parts of the tables are set to zero, then the control record is written. What the tables held
+ * before does not matter. Refuses 1, 2. */
+uint64_t silkendoz_open(
+    uint16_t *control, size_t control_len,
+    int16_t *samples, size_t samples_len,
+    int64_t *nodes, size_t nodes_len,
+    uint16_t *links, size_t links_len,
+    uint64_t *work, size_t work_len,
+    uint64_t n, uint64_t capacity, uint64_t leaf_size,
+    uint64_t *out, size_t out_len);
+
+/* Adds a trace of n samples. Of `work` only the length is looked at. Refuses 2, 3, 4, 5. */
+uint64_t silkendoz_add(
+    uint16_t *control, size_t control_len,
+    int16_t *samples, size_t samples_len,
+    int64_t *nodes, size_t nodes_len,
+    uint16_t *links, size_t links_len,
+    const uint64_t *work, size_t work_len,
+    const int16_t *trace, size_t trace_len,
+    uint64_t *out, size_t out_len);
+
+/* Finds the stored trace that is nearest to a query of n samples: the least sum of squared differences, the lowest number among equals. The trail begins
+ * with the numbers of the leaves read, in order; its places behind them stay. The needed part of `work` is left zero, whatever it held.
+ * Refuses 2, 3, 4, 6, 7. */
+uint64_t silkendoz_nearest(
+    const uint16_t *control, size_t control_len,
+    const int16_t *samples, size_t samples_len,
+    const int64_t *nodes, size_t nodes_len,
+    const uint16_t *links, size_t links_len,
+    uint64_t *work, size_t work_len,
+    uint16_t *trail, size_t trail_len,
+    const int16_t *query, size_t query_len,
+    uint64_t *out, size_t out_len);
+
+#ifdef __cplusplus
+}
+#endif
+
+#endif

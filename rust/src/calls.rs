@@ -1,0 +1,264 @@
+//! The proved calls, over slices that the caller lends.
+//!
+//! Each is safe for every input: the exported functions ask for nothing, refuse what they cannot do, and stay inside the lent slices. What a table
+//! holds and how long it has to be is in `docs/LAYOUT.md`; [`crate::TraceLibrary`] takes care of both.
+
+use crate::Refusal;
+
+/// The five tables of a library, lent to a call that may write all of them.
+pub struct Lent<'a> {
+    pub control: &'a mut [u16],
+    pub samples: &'a mut [i16],
+    pub nodes: &'a mut [i64],
+    pub links: &'a mut [u16],
+    pub work: &'a mut [u64],
+}
+
+/// What a match answers: the leaves read are those at the beginning of the trail.
+#[derive(Clone, Copy, Debug, PartialEq, Eq)]
+pub struct Found {
+    pub trace: u64,
+    pub distance: u64,
+    pub leaves: u64,
+    pub traces: u64,
+}
+
+// A slice goes as a pointer and then its length, as include/silkendoz.h says.
+extern "C" {
+    fn silkendoz_open(
+        control: *mut u16,
+        control_len: usize,
+        samples: *mut i16,
+        samples_len: usize,
+        nodes: *mut i64,
+        nodes_len: usize,
+        links: *mut u16,
+        links_len: usize,
+        work: *mut u64,
+        work_len: usize,
+        n: u64,
+        capacity: u64,
+        leaf_size: u64,
+        out: *mut u64,
+        out_len: usize,
+    ) -> u64;
+
+    fn silkendoz_add(
+        control: *mut u16,
+        control_len: usize,
+        samples: *mut i16,
+        samples_len: usize,
+        nodes: *mut i64,
+        nodes_len: usize,
+        links: *mut u16,
+        links_len: usize,
+        work: *const u64,
+        work_len: usize,
+        trace: *const i16,
+        trace_len: usize,
+        out: *mut u64,
+        out_len: usize,
+    ) -> u64;
+
+    fn silkendoz_nearest(
+        control: *const u16,
+        control_len: usize,
+        samples: *const i16,
+        samples_len: usize,
+        nodes: *const i64,
+        nodes_len: usize,
+        links: *const u16,
+        links_len: usize,
+        work: *mut u64,
+        work_len: usize,
+        trail: *mut u16,
+        trail_len: usize,
+        query: *const i16,
+        query_len: usize,
+        out: *mut u64,
+        out_len: usize,
+    ) -> u64;
+}
+
+#[cfg(feature = "sheets")]
+extern "C" {
+    fn silkendoz_write_sheet(
+        control: *const u16,
+        control_len: usize,
+        samples: *const i16,
+        samples_len: usize,
+        nodes: *const i64,
+        nodes_len: usize,
+        links: *const u16,
+        links_len: usize,
+        work: *const u64,
+        work_len: usize,
+        sheet: *mut u8,
+        sheet_len: usize,
+        out: *mut u64,
+        out_len: usize,
+    ) -> u64;
+
+    fn silkendoz_read_sheet(
+        control: *mut u16,
+        control_len: usize,
+        samples: *mut i16,
+        samples_len: usize,
+        nodes: *mut i64,
+        nodes_len: usize,
+        links: *mut u16,
+        links_len: usize,
+        work: *mut u64,
+        work_len: usize,
+        sheet: *const u8,
+        sheet_len: usize,
+        out: *mut u64,
+        out_len: usize,
+    ) -> u64;
+}
+
+/// Code 0 is the answer's values; any other is the number of a refusal, whose place is the first value.
+fn answer<const K: usize>(code: u64, out: [u64; K]) -> Result<[u64; K], Refusal> {
+    match code {
+        0 => Ok(out),
+        number => Err(Refusal::from_number(number, out[0]).expect("the code is a number of the table")),
+    }
+}
+
+/// Opens an empty library in lent tables.
+pub fn open(t: Lent<'_>, n: u64, capacity: u64, leaf_size: u64) -> Result<(), Refusal> {
+    let mut out = [0; 1];
+    // Safety: pointers and lengths are those of slices that are borrowed for the call, and the contract has no requires.
+    let code = unsafe {
+        silkendoz_open(
+            t.control.as_mut_ptr(),
+            t.control.len(),
+            t.samples.as_mut_ptr(),
+            t.samples.len(),
+            t.nodes.as_mut_ptr(),
+            t.nodes.len(),
+            t.links.as_mut_ptr(),
+            t.links.len(),
+            t.work.as_mut_ptr(),
+            t.work.len(),
+            n,
+            capacity,
+            leaf_size,
+            out.as_mut_ptr(),
+            out.len(),
+        )
+    };
+    answer(code, out).map(|_| ())
+}
+
+/// Adds a trace; its number is the answer. Search work is only looked at for its length.
+pub fn add(control: &mut [u16], samples: &mut [i16], nodes: &mut [i64], links: &mut [u16], work: &[u64], trace: &[i16]) -> Result<u64, Refusal> {
+    let mut out = [0; 1];
+    // Safety: as in `open`.
+    let code = unsafe {
+        silkendoz_add(
+            control.as_mut_ptr(),
+            control.len(),
+            samples.as_mut_ptr(),
+            samples.len(),
+            nodes.as_mut_ptr(),
+            nodes.len(),
+            links.as_mut_ptr(),
+            links.len(),
+            work.as_ptr(),
+            work.len(),
+            trace.as_ptr(),
+            trace.len(),
+            out.as_mut_ptr(),
+            out.len(),
+        )
+    };
+    answer(code, out).map(|[number]| number)
+}
+
+/// Finds the nearest trace. The trail begins with the leaves read; the needed search work is left zero.
+pub fn nearest(
+    control: &[u16],
+    samples: &[i16],
+    nodes: &[i64],
+    links: &[u16],
+    work: &mut [u64],
+    trail: &mut [u16],
+    query: &[i16],
+) -> Result<Found, Refusal> {
+    let mut out = [0; 4];
+    // Safety: as in `open`.
+    let code = unsafe {
+        silkendoz_nearest(
+            control.as_ptr(),
+            control.len(),
+            samples.as_ptr(),
+            samples.len(),
+            nodes.as_ptr(),
+            nodes.len(),
+            links.as_ptr(),
+            links.len(),
+            work.as_mut_ptr(),
+            work.len(),
+            trail.as_mut_ptr(),
+            trail.len(),
+            query.as_ptr(),
+            query.len(),
+            out.as_mut_ptr(),
+            out.len(),
+        )
+    };
+    answer(code, out).map(|[trace, distance, leaves, traces]| Found { trace, distance, leaves, traces })
+}
+
+/// Writes the library as a sheet; the number of blocks is the answer.
+#[cfg(feature = "sheets")]
+pub fn write_sheet(control: &[u16], samples: &[i16], nodes: &[i64], links: &[u16], work: &[u64], sheet: &mut [u8]) -> Result<u64, Refusal> {
+    let mut out = [0; 1];
+    // Safety: as in `open`.
+    let code = unsafe {
+        silkendoz_write_sheet(
+            control.as_ptr(),
+            control.len(),
+            samples.as_ptr(),
+            samples.len(),
+            nodes.as_ptr(),
+            nodes.len(),
+            links.as_ptr(),
+            links.len(),
+            work.as_ptr(),
+            work.len(),
+            sheet.as_mut_ptr(),
+            sheet.len(),
+            out.as_mut_ptr(),
+            out.len(),
+        )
+    };
+    answer(code, out).map(|[blocks]| blocks)
+}
+
+/// Opens the library that a sheet holds, and adds its traces in order.
+#[cfg(feature = "sheets")]
+pub fn read_sheet(t: Lent<'_>, sheet: &[u8]) -> Result<(), Refusal> {
+    let mut out = [0; 1];
+    // Safety: as in `open`.
+    let code = unsafe {
+        silkendoz_read_sheet(
+            t.control.as_mut_ptr(),
+            t.control.len(),
+            t.samples.as_mut_ptr(),
+            t.samples.len(),
+            t.nodes.as_mut_ptr(),
+            t.nodes.len(),
+            t.links.as_mut_ptr(),
+            t.links.len(),
+            t.work.as_mut_ptr(),
+            t.work.len(),
+            sheet.as_ptr(),
+            sheet.len(),
+            out.as_mut_ptr(),
+            out.len(),
+        )
+    };
+    answer(code, out).map(|_| ())
+}

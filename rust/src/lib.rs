@@ -1,0 +1,34 @@
+//! The nearest stored trace, exactly.
+//!
+//! A trace is a run of 16-bit samples, such as the drive current of a machine's standard sweep. A [`TraceLibrary`] keeps traces and finds the stored one
+//! that is nearest to a new one: the least sum of squared differences, the lowest number among equals, just as reading every stored trace would find it.
+//! The work is done by a library that is proved to do exactly this (the crates beside this folder); here it gets tables of the right sizes, and its
+//! refusals a type.
+//!
+//! ```
+//! use silkendoz::TraceLibrary;
+//!
+//! let mut library = TraceLibrary::open(4, 8, 2)?;
+//! library.add(&[0, 0, 0, 0])?;
+//! library.add(&[4, 4, 4, 4])?;
+//! library.add(&[0, 8, 0, 8])?;
+//! let found = library.nearest(&[1, 1, 1, 1])?;
+//! assert_eq!((found.trace, found.distance), (0, 4));
+//! assert_eq!((found.leaves, found.traces), (1, 1));
+//! assert_eq!(found.trail, [1]);
+//! # Ok::<(), silkendoz::Refusal>(())
+//! ```
+//!
+//! [`calls`] has the calls themselves, over slices that the caller lends. [`model`] is document 01 in plain Rust, which tests hold the calls to; [`scan`]
+//! reads every trace; [`random`] makes test data, [`example`] the sheet under `examples/`.
+
+pub mod calls;
+pub mod example;
+mod library;
+pub mod model;
+pub mod random;
+mod refusal;
+pub mod scan;
+
+pub use library::{Nearest, TraceLibrary};
+pub use refusal::Refusal;

@@ -1,0 +1,174 @@
+//! A library that owns its tables.
+
+use crate::calls::{self, Lent};
+use crate::Refusal;
+
+/// Fields of the control record, and places of a node's record (`docs/LAYOUT.md`).
+const CONTROL_FIELDS: usize = 5;
+const RECORD_PLACES: usize = 87;
+
+/// Stored traces, and the tree by which the nearest is found.
+///
+/// ```
+/// use silkendoz::{Refusal, TraceLibrary};
+///
+/// let mut library = TraceLibrary::open(3, 2, 1)?;
+/// assert_eq!(library.nearest(&[1, 0, 0]), Err(Refusal::Empty));
+/// assert_eq!(library.add(&[0, 0, 0])?, 0);
+/// assert_eq!(library.add(&[7, 7, 7])?, 1);
+/// assert_eq!(library.add(&[8, 8, 8]), Err(Refusal::Full));
+/// assert_eq!(library.add(&[8, 8]), Err(Refusal::WrongTrace));
+/// assert_eq!(library.nearest(&[7, 6, 7])?.trace, 1);
+/// assert_eq!(library.trace(1), Some(&[7, 7, 7][..]));
+/// # Ok::<(), Refusal>(())
+/// ```
+#[derive(Clone, Debug, PartialEq, Eq)]
+pub struct TraceLibrary {
+    control: Vec<u16>,
+    samples: Vec<i16>,
+    nodes: Vec<i64>,
+    links: Vec<u16>,
+    work: Vec<u64>,
+}
+
+/// The nearest trace, and what was read to find it.
+#[derive(Clone, Debug, PartialEq, Eq)]
+pub struct Nearest {
+    /// The trace's number: traces are numbered from 0 as added.
+    pub trace: usize,
+    /// The sum of squared differences.
+    pub distance: u64,
+    /// How many leaves were read.
+    pub leaves: usize,
+    /// How many traces those leaves hold.
+    pub traces: usize,
+    /// The leaves read, in order.
+    pub trail: Vec<u16>,
+}
+
+impl TraceLibrary {
+    /// Opens an empty library for up to `capacity` traces (1 to 4,096) of `n` samples (1 to 256), in leaves of up to `leaf_size` traces (1 to 64).
+    ///
+    /// ```
+    /// use silkendoz::{Refusal, TraceLibrary};
+    ///
+    /// assert!(TraceLibrary::open(256, 4096, 64).is_ok());
+    /// assert_eq!(TraceLibrary::open(256, 4096, 65), Err(Refusal::Measure));
+    /// ```
+    pub fn open(n: usize, capacity: usize, leaf_size: usize) -> Result<TraceLibrary, Refusal> {
+        let (n64, capacity64, leaf_size64) = (n as u64, capacity as u64, leaf_size as u64);
+        // measures are judged before lengths: with no tables at all, good ones are refused as short tables
+        let mut library = TraceLibrary::with_tables(0, 0, 0);
+        match calls::open(library.lent(), n64, capacity64, leaf_size64) {
+            Err(Refusal::ShortTable) => {}
+            other => return other.map(|()| library),
+        }
+        library = TraceLibrary::with_tables(CONTROL_FIELDS, n, capacity);
+        calls::open(library.lent(), n64, capacity64, leaf_size64)?;
+        Ok(library)
+    }
+
+    fn with_tables(fields: usize, n: usize, capacity: usize) -> TraceLibrary {
+        let records = (2 * capacity).saturating_sub(1);
+        TraceLibrary {
+            control: vec![0; fields],
+            samples: vec![0; n * capacity],
+            nodes: vec![0; records * RECORD_PLACES],
+            links: vec![0; capacity],
+            work: vec![0; records],
+        }
+    }
+
+    fn lent(&mut self) -> Lent<'_> {
+        Lent { control: &mut self.control, samples: &mut self.samples, nodes: &mut self.nodes, links: &mut self.links, work: &mut self.work }
+    }
+
+    /// Adds a trace of n samples. Its number is the answer.
+    pub fn add(&mut self, trace: &[i16]) -> Result<usize, Refusal> {
+        calls::add(&mut self.control, &mut self.samples, &mut self.nodes, &mut self.links, &self.work, trace).map(|number| number as usize)
+    }
+
+    /// Finds the stored trace that is nearest to a query of n samples: the lowest number among equals.
+    pub fn nearest(&mut self, query: &[i16]) -> Result<Nearest, Refusal> {
+        let mut trail = vec![0; self.capacity()];
+        let found = calls::nearest(&self.control, &self.samples, &self.nodes, &self.links, &mut self.work, &mut trail, query)?;
+        trail.truncate(found.leaves as usize);
+        Ok(Nearest { trace: found.trace as usize, distance: found.distance, leaves: found.leaves as usize, traces: found.traces as usize, trail })
+    }
+
+    /// The library as a sheet: blocks of 512 bytes, to be stored or sent.
+    ///
+    /// ```
+    /// use silkendoz::TraceLibrary;
+    ///
+    /// let mut library = TraceLibrary::open(1, 8, 2)?;
+    /// library.add(&[-1])?;
+    /// let sheet = library.write_sheet()?;
+    /// assert_eq!(sheet.len(), 2 * 512);
+    /// assert_eq!(&sheet[4..8], b"TRCL");
+    /// assert_eq!(TraceLibrary::read_sheet(&sheet)?, library);
+    /// # Ok::<(), silkendoz::Refusal>(())
+    /// ```
+    #[cfg(feature = "sheets")]
+    pub fn write_sheet(&self) -> Result<Vec<u8>, Refusal> {
+        let blocks = 1 + (self.len() * self.n()).div_ceil(253);
+        let mut sheet = vec![0; 512 * blocks];
+        calls::write_sheet(&self.control, &self.samples, &self.nodes, &self.links, &self.work, &mut sheet)?;
+        Ok(sheet)
+    }
+
+    /// The library that a sheet holds.
+    ///
+    /// ```
+    /// use silkendoz::{Refusal, TraceLibrary};
+    ///
+    /// let mut sheet = TraceLibrary::open(1, 8, 2)?.write_sheet()?;
+    /// sheet[8] = 2;
+    /// assert_eq!(TraceLibrary::read_sheet(&sheet), Err(Refusal::TornBlock(0)));
+    /// assert_eq!(TraceLibrary::read_sheet(&[]), Err(Refusal::SheetLength));
+    /// # Ok::<(), Refusal>(())
+    /// ```
+    #[cfg(feature = "sheets")]
+    pub fn read_sheet(sheet: &[u8]) -> Result<TraceLibrary, Refusal> {
+        // a sheet is judged before lengths: with no tables at all, a sound one is refused as short tables
+        let mut library = TraceLibrary::with_tables(0, 0, 0);
+        match calls::read_sheet(library.lent(), sheet) {
+            Err(Refusal::ShortTable) => {}
+            other => return other.map(|()| library),
+        }
+        let field = |at: usize| usize::from(u16::from_le_bytes([sheet[at], sheet[at + 1]]));
+        library = TraceLibrary::with_tables(CONTROL_FIELDS, field(8), field(10));
+        calls::read_sheet(library.lent(), sheet)?;
+        Ok(library)
+    }
+
+    /// Samples a trace.
+    pub fn n(&self) -> usize {
+        self.control[0].into()
+    }
+
+    /// How many traces there is room for.
+    pub fn capacity(&self) -> usize {
+        self.control[1].into()
+    }
+
+    /// How many traces a leaf holds before it splits.
+    pub fn leaf_size(&self) -> usize {
+        self.control[2].into()
+    }
+
+    /// How many traces are stored.
+    pub fn len(&self) -> usize {
+        self.control[3].into()
+    }
+
+    /// Whether no trace is stored.
+    pub fn is_empty(&self) -> bool {
+        self.len() == 0
+    }
+
+    /// The trace with this number.
+    pub fn trace(&self, number: usize) -> Option<&[i16]> {
+        (number < self.len()).then(|| &self.samples[number * self.n()..(number + 1) * self.n()])
+    }
+}

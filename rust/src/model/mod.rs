@@ -1,0 +1,520 @@
+//! Document 01 once more, word for word, in plain Rust: no lent table, no cleverness, numbers of 128 bits.
+//!
+//! It shares no line with the proved code. Tests compare the two; where they differ, document 01 says who is right. [`tables`] reads the lent tables by
+//! the layout of `docs/LAYOUT.md` and says what document 01's table refuses of them; [`sheet`] has sheets and the line that the program prints.
+
+pub mod sheet;
+pub mod tables;
+
+use std::collections::BTreeSet;
+
+/// A trace is n signed 16-bit samples.
+pub type Trace = Vec<i16>;
+
+/// A refusal: its number and its place.
+pub type Refused = (u64, u64);
+
+/// n, capacity and leaf size.
+#[derive(Clone, Copy, Debug, PartialEq, Eq)]
+pub struct Measures {
+    pub n: u64,
+    pub capacity: u64,
+    pub leaf_size: u64,
+}
+
+impl Measures {
+    /// "n from 1 to 256. Capacity is 1 to 4,096 traces, leaf size 1 to 64."
+    pub fn in_range(&self) -> bool {
+        (1..=256).contains(&self.n) && (1..=4096).contains(&self.capacity) && (1..=64).contains(&self.leaf_size)
+    }
+}
+
+// ---- sum, scatter, root
+
+/// "Its sum is s."
+pub fn sum(run: &[i16]) -> i128 {
+    run.iter().map(|&x| i128::from(x)).sum()
+}
+
+/// "Its scatter is V = w × (sum of squares) − s²."
+pub fn scatter(run: &[i16]) -> i128 {
+    let squares: i128 = run.iter().map(|&x| i128::from(x) * i128::from(x)).sum();
+    run.len() as i128 * squares - sum(run) * sum(run)
+}
+
+/// "The floor root of V is the largest whole r with r² ≤ V."
+pub fn floor_root(v: i128) -> i128 {
+    assert!(v >= 0);
+    let (mut low, mut high) = (0, v + 1);
+    while high - low > 1 {
+        let middle = (low + high) / 2;
+        if middle * middle <= v {
+            low = middle;
+        } else {
+            high = middle;
+        }
+    }
+    low
+}
+
+/// "The ceiling root is the least r with r² ≥ V."
+pub fn ceiling_root(v: i128) -> i128 {
+    let r = floor_root(v);
+    if r * r >= v {
+        r
+    } else {
+        r + 1
+    }
+}
+
+/// "Distance is the sum of squared differences, never its root."
+pub fn distance(a: &[i16], b: &[i16]) -> i128 {
+    assert_eq!(a.len(), b.len());
+    a.iter().zip(b).map(|(&x, &y)| (i128::from(x) - i128::from(y)).pow(2)).sum()
+}
+
+// ---- a node's record
+
+/// What a test looks at.
+#[derive(Clone, Copy, Debug, PartialEq, Eq)]
+pub enum Figure {
+    Sum,
+    Scatter,
+}
+
+impl Figure {
+    pub fn of(self, run: &[i16]) -> i128 {
+        match self {
+            Figure::Sum => sum(run),
+            Figure::Scatter => scatter(run),
+        }
+    }
+}
+
+/// "a run of samples, sum or scatter, and a threshold T". Samples are numbered from 1.
+#[derive(Clone, Debug, PartialEq, Eq)]
+pub struct Test {
+    pub figure: Figure,
+    pub first: usize,
+    pub last: usize,
+    pub threshold: i128,
+}
+
+impl Test {
+    /// "A trace goes left if twice its figure is at most T, else right."
+    pub fn goes_left(&self, trace: &[i16]) -> bool {
+        2 * self.figure.of(&trace[self.first - 1..self.last]) <= self.threshold
+    }
+}
+
+/// A segment by its right end, with "the least and greatest sum and scatter of the traces below".
+#[derive(Clone, Debug, PartialEq, Eq)]
+pub struct Segment {
+    pub end: usize,
+    pub least_sum: i128,
+    pub greatest_sum: i128,
+    pub least_scatter: i128,
+    pub greatest_scatter: i128,
+}
+
+#[derive(Clone, Debug, PartialEq, Eq)]
+pub enum Kind {
+    /// "A leaf holds trace numbers, rising."
+    Leaf(Vec<usize>),
+    /// "An inner node has two children and a test."
+    Inner { test: Test, left: usize, right: usize },
+}
+
+#[derive(Clone, Debug, PartialEq, Eq)]
+pub struct Node {
+    pub segments: Vec<Segment>,
+    pub kind: Kind,
+}
+
+impl Node {
+    pub fn ends(&self) -> Vec<usize> {
+        self.segments.iter().map(|s| s.end).collect()
+    }
+
+    pub fn is_leaf(&self) -> bool {
+        matches!(self.kind, Kind::Leaf(_))
+    }
+}
+
+/// First and last sample of each segment, from 1.
+pub fn runs(ends: &[usize]) -> Vec<(usize, usize)> {
+    let mut first = 1;
+    ends.iter()
+        .map(|&end| {
+            let run = (first, end);
+            first = end + 1;
+            run
+        })
+        .collect()
+}
+
+fn part(trace: &[i16], run: (usize, usize)) -> &[i16] {
+    &trace[run.0 - 1..run.1]
+}
+
+fn least(figures: &[i128]) -> i128 {
+    *figures.iter().min().expect("no leaf is empty")
+}
+
+fn greatest(figures: &[i128]) -> i128 {
+    *figures.iter().max().expect("no leaf is empty")
+}
+
+fn figures(figure: Figure, run: (usize, usize), traces: &[&[i16]]) -> Vec<i128> {
+    traces.iter().map(|t| figure.of(part(t, run))).collect()
+}
+
+/// The segments with these ends, of these traces.
+pub fn segments_of(ends: &[usize], traces: &[&[i16]]) -> Vec<Segment> {
+    runs(ends)
+        .into_iter()
+        .map(|run| {
+            let sums = figures(Figure::Sum, run, traces);
+            let scatters = figures(Figure::Scatter, run, traces);
+            Segment {
+                end: run.1,
+                least_sum: least(&sums),
+                greatest_sum: greatest(&sums),
+                least_scatter: least(&scatters),
+                greatest_scatter: greatest(&scatters),
+            }
+        })
+        .collect()
+}
+
+/// "A node's spread is the total over its segments of ((greatest sum − least sum)² + greatest scatter) / w, each term rounded down, from its own traces."
+pub fn spread(ends: &[usize], traces: &[&[i16]]) -> i128 {
+    runs(ends)
+        .into_iter()
+        .map(|run| {
+            let sums = figures(Figure::Sum, run, traces);
+            let scatters = figures(Figure::Scatter, run, traces);
+            let w = (run.1 - run.0 + 1) as i128;
+            let term = (greatest(&sums) - least(&sums)).pow(2) + greatest(&scatters);
+            term.div_euclid(w)
+        })
+        .sum()
+}
+
+// ---- adding
+
+/// A way to split a leaf: the children's ends, and what is tested.
+#[derive(Clone, Debug, PartialEq, Eq)]
+pub struct Candidate {
+    pub ends: Vec<usize>,
+    pub figure: Figure,
+    pub run: (usize, usize),
+}
+
+/// "Candidates for each segment, left to right, in this order"
+pub fn candidates(ends: &[usize]) -> Vec<Candidate> {
+    let mut list = Vec::new();
+    for run in runs(ends) {
+        for figure in [Figure::Sum, Figure::Scatter] {
+            list.push(Candidate { ends: ends.to_vec(), figure, run });
+        }
+        let w = run.1 - run.0 + 1;
+        if ends.len() < 16 && w >= 2 {
+            let middle = run.0 + w / 2 - 1;
+            let mut cut = ends.to_vec();
+            cut.push(middle);
+            cut.sort_unstable();
+            for half in [(run.0, middle), (middle + 1, run.1)] {
+                for figure in [Figure::Sum, Figure::Scatter] {
+                    list.push(Candidate { ends: cut.clone(), figure, run: half });
+                }
+            }
+        }
+    }
+    list
+}
+
+/// A candidate that parts the leaf.
+#[derive(Clone, Debug, PartialEq, Eq)]
+pub struct Split {
+    pub ends: Vec<usize>,
+    pub test: Test,
+    pub left: Vec<usize>,
+    pub right: Vec<usize>,
+    pub gain: i128,
+}
+
+/// Measures, traces in the order added, and the tree.
+#[derive(Clone, Debug, PartialEq, Eq)]
+pub struct Library {
+    pub measures: Measures,
+    pub traces: Vec<Trace>,
+    pub nodes: Vec<Node>,
+}
+
+/// What a match answers, with its trail.
+#[derive(Clone, Debug, PartialEq, Eq)]
+pub struct Match {
+    pub trace: usize,
+    pub distance: i128,
+    pub leaves: usize,
+    pub traces: usize,
+    pub trail: Vec<usize>,
+}
+
+impl Library {
+    /// "An empty library has no node".
+    pub fn open(measures: Measures) -> Library {
+        Library { measures, traces: Vec::new(), nodes: Vec::new() }
+    }
+
+    /// The library that these traces make, added in order.
+    pub fn of(measures: Measures, traces: &[Trace]) -> Library {
+        let mut library = Library::open(measures);
+        for trace in traces {
+            library.add(trace);
+        }
+        library
+    }
+
+    fn named(&self, numbers: &[usize]) -> Vec<&[i16]> {
+        numbers.iter().map(|&t| self.traces[t].as_slice()).collect()
+    }
+
+    fn numbers(&self, leaf: usize) -> &[usize] {
+        match &self.nodes[leaf].kind {
+            Kind::Leaf(numbers) => numbers,
+            Kind::Inner { .. } => panic!("node {leaf} is no leaf"),
+        }
+    }
+
+    /// Adds a trace that nothing refuses; its number is the answer.
+    pub fn add(&mut self, trace: &[i16]) -> usize {
+        let number = self.traces.len();
+        self.traces.push(trace.to_vec());
+        if self.nodes.is_empty() {
+            // "its first trace makes leaf 0 with one segment"
+            let segments = segments_of(&[self.measures.n as usize], &[trace]);
+            self.nodes.push(Node { segments, kind: Kind::Leaf(vec![number]) });
+            return number;
+        }
+        let joined = self.join(trace, number);
+        // "New leaves above the leaf size split likewise, lowest number first."
+        let mut waiting = BTreeSet::from([joined]);
+        while let Some(leaf) = waiting.pop_first() {
+            if self.numbers(leaf).len() as u64 > self.measures.leaf_size {
+                if let Some(split) = self.best_split(leaf) {
+                    waiting.extend(self.split(leaf, split));
+                }
+            }
+        }
+        number
+    }
+
+    /// "the trace goes down by the tests, widening least and greatest at every node it meets, the leaf too, moving no threshold, and joins a leaf"
+    fn join(&mut self, trace: &[i16], number: usize) -> usize {
+        let mut at = 0;
+        loop {
+            let node = &mut self.nodes[at];
+            for (run, segment) in runs(&node.ends()).into_iter().zip(&mut node.segments) {
+                let (s, v) = (sum(part(trace, run)), scatter(part(trace, run)));
+                segment.least_sum = segment.least_sum.min(s);
+                segment.greatest_sum = segment.greatest_sum.max(s);
+                segment.least_scatter = segment.least_scatter.min(v);
+                segment.greatest_scatter = segment.greatest_scatter.max(v);
+            }
+            match &mut node.kind {
+                Kind::Leaf(numbers) => {
+                    numbers.push(number);
+                    return at;
+                }
+                Kind::Inner { test, left, right } => at = if test.goes_left(trace) { *left } else { *right },
+            }
+        }
+    }
+
+    /// What a candidate does to a leaf, if "both sides receive a trace".
+    pub fn try_candidate(&self, leaf: usize, candidate: &Candidate) -> Option<Split> {
+        let numbers = self.numbers(leaf).to_vec();
+        let all = figures(candidate.figure, candidate.run, &self.named(&numbers));
+        // "T is the least plus the greatest figure among the leaf's traces."
+        let test = Test { figure: candidate.figure, first: candidate.run.0, last: candidate.run.1, threshold: least(&all) + greatest(&all) };
+        let (left, right): (Vec<usize>, Vec<usize>) = numbers.iter().partition(|&&t| test.goes_left(&self.traces[t]));
+        if left.is_empty() || right.is_empty() {
+            return None;
+        }
+        // "twice the leaf's spread less both children's. Children use the cut segments."
+        let gain = 2 * spread(&self.nodes[leaf].ends(), &self.named(&numbers))
+            - spread(&candidate.ends, &self.named(&left))
+            - spread(&candidate.ends, &self.named(&right));
+        Some(Split { ends: candidate.ends.clone(), test, left, right, gain })
+    }
+
+    /// "Among the candidates that part the leaf the greatest gain wins, the earliest among equals."
+    pub fn best_split(&self, leaf: usize) -> Option<Split> {
+        let mut best: Option<Split> = None;
+        for candidate in candidates(&self.nodes[leaf].ends()) {
+            if let Some(split) = self.try_candidate(leaf, &candidate) {
+                if best.as_ref().is_none_or(|b| split.gain > b.gain) {
+                    best = Some(split);
+                }
+            }
+        }
+        best
+    }
+
+    /// "The leaf keeps its number and becomes inner; left, then right child take the next two numbers."
+    fn split(&mut self, leaf: usize, split: Split) -> [usize; 2] {
+        let children = [self.nodes.len(), self.nodes.len() + 1];
+        for numbers in [split.left, split.right] {
+            let segments = segments_of(&split.ends, &self.named(&numbers));
+            self.nodes.push(Node { segments, kind: Kind::Leaf(numbers) });
+        }
+        self.nodes[leaf].kind = Kind::Inner { test: split.test, left: children[0], right: children[1] };
+        children
+    }
+
+    /// Leaf numbers, rising.
+    pub fn leaves(&self) -> Vec<usize> {
+        (0..self.nodes.len()).filter(|&j| self.nodes[j].is_leaf()).collect()
+    }
+
+    // ---- matching
+
+    /// "The node's own bound totals (g² + h²) / w, each rounded up."
+    pub fn own_bound(&self, node: usize, query: &[i16]) -> i128 {
+        let node = &self.nodes[node];
+        runs(&node.ends())
+            .into_iter()
+            .zip(&node.segments)
+            .map(|(run, segment)| {
+                let w = (run.1 - run.0 + 1) as i128;
+                let (g, h) = gaps(segment, sum(part(query, run)), scatter(part(query, run)));
+                -(-(g * g + h * h)).div_euclid(w)
+            })
+            .sum()
+    }
+
+    /// "A node's bound is the greatest own bound from node 0 down to it."
+    pub fn bounds(&self, query: &[i16]) -> Vec<i128> {
+        let mut bounds: Vec<i128> = (0..self.nodes.len()).map(|j| self.own_bound(j, query)).collect();
+        for j in 0..self.nodes.len() {
+            // children are numbered above their parent, so that a parent's bound stands when its children's are taken
+            if let Kind::Inner { left, right, .. } = self.nodes[j].kind {
+                bounds[left] = bounds[left].max(bounds[j]);
+                bounds[right] = bounds[right].max(bounds[j]);
+            }
+        }
+        bounds
+    }
+
+    /// "Leaves are read by bound, then by number, until the next bound is above the best distance found."
+    pub fn nearest(&self, query: &[i16]) -> Option<Match> {
+        let bounds = self.bounds(query);
+        let mut order = self.leaves();
+        order.sort_by_key(|&j| (bounds[j], j));
+        let mut best: Option<(i128, usize)> = None;
+        let mut trail = Vec::new();
+        let mut read = 0;
+        for leaf in order {
+            if best.is_some_and(|(d, _)| bounds[leaf] > d) {
+                break;
+            }
+            trail.push(leaf);
+            for &t in self.numbers(leaf) {
+                read += 1;
+                let found = (distance(&self.traces[t], query), t);
+                if best.is_none_or(|b| found < b) {
+                    best = Some(found);
+                }
+            }
+        }
+        best.map(|(distance, trace)| Match { trace, distance, leaves: trail.len(), traces: read, trail })
+    }
+}
+
+/// "g is the distance from t to [least sum, greatest sum]; h is the largest of 0, floor root of least scatter − ceiling root of U, and floor root of U −
+/// ceiling root of greatest scatter."
+pub fn gaps(segment: &Segment, t: i128, u: i128) -> (i128, i128) {
+    let g = (segment.least_sum - t).max(t - segment.greatest_sum).max(0);
+    let below = floor_root(segment.least_scatter) - ceiling_root(u);
+    let above = floor_root(u) - ceiling_root(segment.greatest_scatter);
+    (g, below.max(above).max(0))
+}
+
+/// The nearest trace by reading them all: the least distance, the lowest number among equals.
+pub fn scan(traces: &[Trace], query: &[i16]) -> Option<(usize, i128)> {
+    let mut best: Option<(usize, i128)> = None;
+    for (t, trace) in traces.iter().enumerate() {
+        let d = distance(trace, query);
+        if best.is_none_or(|(_, b)| d < b) {
+            best = Some((t, d));
+        }
+    }
+    best
+}
+
+#[cfg(test)]
+mod tests {
+    use super::*;
+
+    fn example() -> Library {
+        let m = Measures { n: 4, capacity: 8, leaf_size: 2 };
+        Library::of(m, &[vec![0, 0, 0, 0], vec![4, 4, 4, 4], vec![0, 8, 0, 8]])
+    }
+
+    #[test]
+    fn figures_of_the_examples() {
+        assert_eq!((sum(&[0, 8, 0, 8]), scatter(&[0, 8, 0, 8])), (16, 256));
+        let library = example();
+        assert_eq!(spread(&[4], &library.named(&[0, 1, 2])), 128);
+        let mut unsplit = Library::of(Measures { n: 4, capacity: 8, leaf_size: 3 }, &library.traces);
+        unsplit.measures.leaf_size = 2;
+        let gains: Vec<i128> = candidates(&[4]).iter().filter_map(|c| unsplit.try_candidate(0, c)).map(|s| s.gain).collect();
+        assert_eq!(gains, [192, 128, 192, 128, 192, 128]);
+        let Kind::Inner { test, left: 1, right: 2 } = &library.nodes[0].kind else { panic!() };
+        assert_eq!((test.figure, test.threshold), (Figure::Sum, 16));
+        assert_eq!((library.numbers(1), library.numbers(2)), (&[0][..], &[1, 2][..]));
+    }
+
+    #[test]
+    fn matches_of_the_examples() {
+        let library = example();
+        let found = |q: [i16; 4]| library.nearest(&q).unwrap();
+        assert_eq!(library.bounds(&[1, 1, 1, 1])[1..], [4, 36]);
+        assert_eq!(found([1, 1, 1, 1]), Match { trace: 0, distance: 4, leaves: 1, traces: 1, trail: vec![1] });
+        assert_eq!(found([2, 2, 2, 2]), Match { trace: 0, distance: 16, leaves: 2, traces: 3, trail: vec![1, 2] });
+        assert_eq!(found([4, 4, 4, 4]), Match { trace: 1, distance: 0, leaves: 1, traces: 2, trail: vec![2] });
+        let three = Library::of(Measures { n: 3, capacity: 1, leaf_size: 1 }, &[vec![0, 0, 0]]);
+        assert_eq!(three.bounds(&[1, 0, 0]), [1]);
+        let pair = Library::of(Measures { n: 4, capacity: 2, leaf_size: 1 }, &[vec![1, 2, 1, 2], vec![2, 1, 2, 1]]);
+        assert_eq!(pair.nodes.len(), 1);
+        assert_eq!(distance(&[i16::MIN; 256], &[i16::MAX; 256]), 1_099_478_073_600);
+    }
+
+    #[test]
+    fn roots() {
+        for v in 0..2000 {
+            let (f, c) = (floor_root(v), ceiling_root(v));
+            assert!(f >= 0 && f * f <= v && (f + 1) * (f + 1) > v);
+            assert!(c >= 0 && c * c >= v && (c == 0 || (c - 1) * (c - 1) < v));
+        }
+    }
+
+    #[test]
+    fn a_cut_wins_by_the_uncut_spread() {
+        // n = 2, leaf size 1: with the leaf's spread on the cut segments the whole segment would win
+        let library = Library::of(Measures { n: 2, capacity: 2, leaf_size: 1 }, &[vec![-2, -3], vec![-1, -3]]);
+        let Kind::Inner { test, .. } = &library.nodes[0].kind else { panic!() };
+        assert_eq!((test.figure, test.first, test.last), (Figure::Sum, 1, 1));
+    }
+
+    #[test]
+    fn a_gain_below_zero_splits() {
+        let traces = [vec![1, 0, 0, 0, 0, 0, -1, 1], vec![0, 0, -1, 0, 1, 0, 1, 0], vec![0, 0, -1, 1, 0, 0, 1, 0]];
+        let mut library = Library::of(Measures { n: 8, capacity: 3, leaf_size: 3 }, &traces);
+        assert_eq!(library.nodes.len(), 1);
+        library.measures.leaf_size = 2;
+        assert_eq!(library.best_split(0).unwrap().gain, -1);
+    }
+}

@@ -1,0 +1,142 @@
+//! Test data: a seeded generator, and traces of several shapes.
+
+use crate::model::Trace;
+
+/// SplitMix64.
+#[derive(Clone, Debug)]
+pub struct Random(u64);
+
+impl Random {
+    pub fn seeded(seed: u64) -> Random {
+        Random(seed)
+    }
+
+    /// 64 bits.
+    pub fn word(&mut self) -> u64 {
+        self.0 = self.0.wrapping_add(0x9e37_79b9_7f4a_7c15);
+        let mut z = self.0;
+        z = (z ^ (z >> 30)).wrapping_mul(0xbf58_476d_1ce4_e5b9);
+        z = (z ^ (z >> 27)).wrapping_mul(0x94d0_49bb_1331_11eb);
+        z ^ (z >> 31)
+    }
+
+    /// From 0 to below `end`, which is not 0.
+    pub fn below(&mut self, end: usize) -> usize {
+        (self.word() % end as u64) as usize
+    }
+
+    /// From `low` to `high`, both included.
+    pub fn within(&mut self, low: i64, high: i64) -> i64 {
+        low + (self.word() % (high - low + 1) as u64) as i64
+    }
+
+    /// True once in `times`.
+    pub fn once_in(&mut self, times: usize) -> bool {
+        self.below(times) == 0
+    }
+
+    pub fn pick<'a, T>(&mut self, from: &'a [T]) -> &'a T {
+        &from[self.below(from.len())]
+    }
+}
+
+fn sample(x: i64) -> i16 {
+    x.clamp(-32_768, 32_767) as i16
+}
+
+/// Samples anywhere in these limits, each by itself.
+pub fn uniform(random: &mut Random, n: usize, low: i64, high: i64) -> Trace {
+    (0..n).map(|_| sample(random.within(low, high))).collect()
+}
+
+/// Each sample a step from the one before.
+pub fn walk(random: &mut Random, n: usize, step: i64) -> Trace {
+    let mut at = random.within(-2000, 2000);
+    (0..n)
+        .map(|_| {
+            at += random.within(-step, step);
+            sample(at)
+        })
+        .collect()
+}
+
+/// A sine of some period, height and phase, with noise.
+pub fn noisy_sine(random: &mut Random, n: usize, noise: i64) -> Trace {
+    let turns = random.within(1, 8) as f64;
+    let height = random.within(500, 12_000) as f64;
+    let phase = random.within(0, 999) as f64 / 1000.0;
+    (0..n)
+        .map(|i| {
+            let angle = std::f64::consts::TAU * (turns * i as f64 / n as f64 + phase);
+            sample((height * angle.sin()) as i64 + random.within(-noise, noise))
+        })
+        .collect()
+}
+
+/// The trace with each sample moved by up to `by`.
+pub fn near(random: &mut Random, trace: &[i16], by: i64) -> Trace {
+    trace.iter().map(|&x| sample(i64::from(x) + random.within(-by, by))).collect()
+}
+
+/// Kinds of libraries that tests go through.
+#[derive(Clone, Copy, Debug, PartialEq, Eq)]
+pub enum Shape {
+    Uniform,
+    Small,
+    Walk,
+    Sine,
+    Clusters,
+    Identical,
+    Constants,
+    Extremes,
+    Ties,
+}
+
+pub const SHAPES: [Shape; 9] =
+    [Shape::Uniform, Shape::Small, Shape::Walk, Shape::Sine, Shape::Clusters, Shape::Identical, Shape::Constants, Shape::Extremes, Shape::Ties];
+
+/// `count` traces of n samples.
+pub fn traces(random: &mut Random, shape: Shape, n: usize, count: usize) -> Vec<Trace> {
+    let centres: Vec<Trace> = (0..4).map(|_| uniform(random, n, -20_000, 20_000)).collect();
+    (0..count).map(|_| one(random, shape, n, &centres)).collect()
+}
+
+fn one(random: &mut Random, shape: Shape, n: usize, centres: &[Trace]) -> Trace {
+    match shape {
+        Shape::Uniform => uniform(random, n, -32_768, 32_767),
+        Shape::Small => uniform(random, n, -2, 2),
+        Shape::Walk => walk(random, n, 200),
+        Shape::Sine => noisy_sine(random, n, 100),
+        Shape::Clusters => {
+            let centre = random.pick(centres).clone();
+            near(random, &centre, 5)
+        }
+        Shape::Identical => centres[0].clone(),
+        Shape::Constants => vec![sample(random.within(-3, 3) * 10_000); n],
+        Shape::Extremes => (0..n).map(|_| *random.pick(&[i16::MIN, i16::MAX])).collect(),
+        // few values, and traces that are each other turned round: many equal sums, scatters and distances
+        Shape::Ties => {
+            let mut trace: Trace = (0..n).map(|i| (i % 2) as i16).collect();
+            trace.rotate_left(random.below(2) % n);
+            let at = random.below(n);
+            trace[at] = random.within(-1, 1) as i16;
+            trace
+        }
+    }
+}
+
+/// A query: a stored trace, one near it, one between two, or a fresh one.
+pub fn query(random: &mut Random, shape: Shape, n: usize, stored: &[Trace]) -> Trace {
+    if stored.is_empty() || random.once_in(4) {
+        return traces(random, shape, n, 1).remove(0);
+    }
+    let a = random.pick(stored).clone();
+    match random.below(3) {
+        0 => a,
+        1 => near(random, &a, 3),
+        _ => {
+            let b = random.pick(stored);
+            a.iter().zip(b).map(|(&x, &y)| ((i32::from(x) + i32::from(y)) / 2) as i16).collect()
+        }
+    }
+}

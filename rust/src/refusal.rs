@@ -1,0 +1,133 @@
+//! What a call refuses.
+
+use std::fmt;
+
+/// A refusal, by document 01's word. A refused call leaves everything as it was.
+///
+/// ```
+/// use silkendoz::{Refusal, TraceLibrary};
+///
+/// let why = TraceLibrary::open(257, 8, 2).unwrap_err();
+/// assert_eq!(why, Refusal::Measure);
+/// assert_eq!((why.number(), why.place()), (1, 0));
+/// assert_eq!(why.to_string(), "measure: n, capacity or leaf size outside its range");
+/// ```
+#[derive(Clone, Copy, Debug, PartialEq, Eq, Hash)]
+pub enum Refusal {
+    /// 1: n, capacity or leaf size outside its range.
+    Measure,
+    /// 2: a lent table below the need.
+    ShortTable,
+    /// 3: tables not well formed.
+    Spoiled,
+    /// 4: length not n.
+    WrongTrace,
+    /// 5: count equals capacity.
+    Full,
+    /// 6: a match with no trace stored.
+    Empty,
+    /// 7: trail shorter than the number of leaves.
+    ShortTrail,
+    /// 8: writing: below the need; reading: 0, not a multiple of 512, above 4,146 blocks.
+    SheetLength,
+    /// 9: check, block number or kind wrong, in this block first.
+    TornBlock(u64),
+    /// 10: letters, measures, count above capacity, number of blocks, or a nonzero byte that must be 0.
+    BadSheet,
+}
+
+impl Refusal {
+    /// The refusal with this number and place. There is none with another number.
+    pub fn from_number(number: u64, place: u64) -> Option<Refusal> {
+        Some(match number {
+            1 => Refusal::Measure,
+            2 => Refusal::ShortTable,
+            3 => Refusal::Spoiled,
+            4 => Refusal::WrongTrace,
+            5 => Refusal::Full,
+            6 => Refusal::Empty,
+            7 => Refusal::ShortTrail,
+            8 => Refusal::SheetLength,
+            9 => Refusal::TornBlock(place),
+            10 => Refusal::BadSheet,
+            _ => return None,
+        })
+    }
+
+    /// The number in document 01's table.
+    pub fn number(self) -> u64 {
+        match self {
+            Refusal::Measure => 1,
+            Refusal::ShortTable => 2,
+            Refusal::Spoiled => 3,
+            Refusal::WrongTrace => 4,
+            Refusal::Full => 5,
+            Refusal::Empty => 6,
+            Refusal::ShortTrail => 7,
+            Refusal::SheetLength => 8,
+            Refusal::TornBlock(_) => 9,
+            Refusal::BadSheet => 10,
+        }
+    }
+
+    /// The first block at fault for a torn block, else 0.
+    pub fn place(self) -> u64 {
+        match self {
+            Refusal::TornBlock(block) => block,
+            _ => 0,
+        }
+    }
+
+    /// The word in document 01's table.
+    pub fn word(self) -> &'static str {
+        match self {
+            Refusal::Measure => "measure",
+            Refusal::ShortTable => "short table",
+            Refusal::Spoiled => "spoiled",
+            Refusal::WrongTrace => "wrong trace",
+            Refusal::Full => "full",
+            Refusal::Empty => "empty",
+            Refusal::ShortTrail => "short trail",
+            Refusal::SheetLength => "sheet length",
+            Refusal::TornBlock(_) => "torn block",
+            Refusal::BadSheet => "bad sheet",
+        }
+    }
+}
+
+impl fmt::Display for Refusal {
+    fn fmt(&self, f: &mut fmt::Formatter<'_>) -> fmt::Result {
+        let why = match self {
+            Refusal::Measure => "n, capacity or leaf size outside its range",
+            Refusal::ShortTable => "a lent table below the need",
+            Refusal::Spoiled => "tables not well formed",
+            Refusal::WrongTrace => "length not n",
+            Refusal::Full => "count equals capacity",
+            Refusal::Empty => "a match with no trace stored",
+            Refusal::ShortTrail => "trail shorter than the number of leaves",
+            Refusal::SheetLength => "a sheet of another length than it needs",
+            Refusal::TornBlock(block) => return write!(f, "torn block: check, block number or kind wrong in block {block}"),
+            Refusal::BadSheet => "letters, measures, counts or a byte that must be 0",
+        };
+        write!(f, "{}: {why}", self.word())
+    }
+}
+
+impl std::error::Error for Refusal {}
+
+#[cfg(test)]
+mod tests {
+    use super::*;
+
+    #[test]
+    fn numbers_go_both_ways() {
+        for number in 1..=10 {
+            let place = if number == 9 { 7 } else { 0 };
+            let why = Refusal::from_number(number, place).unwrap();
+            assert_eq!((why.number(), why.place()), (number, place));
+            assert!(why.to_string().starts_with(why.word()));
+        }
+        assert_eq!(Refusal::from_number(0, 0), None);
+        assert_eq!(Refusal::from_number(11, 0), None);
+    }
+}

@@ -1,0 +1,201 @@
+//! Well-formed tables that no call made: the calls follow what is recorded, as the model does.
+
+mod common;
+
+use common::{check_add, check_nearest, measures};
+use silkendoz::model::tables::{Tables, RECORD_PLACES};
+use silkendoz::model::{runs, segments_of, Figure, Kind, Library, Node, Segment, Test, Trace};
+use silkendoz::random::{query, traces, Random, Shape, SHAPES};
+
+/// Ends that include the given ones, the last n.
+fn more_ends(random: &mut Random, ends: &[usize], n: usize) -> Vec<usize> {
+    let mut more = ends.to_vec();
+    more.push(n);
+    let cuts = if random.once_in(4) { 10 + random.below(8) } else { random.below(5) };
+    for _ in 0..cuts {
+        more.push(1 + random.below(n));
+    }
+    more.sort_unstable();
+    more.dedup();
+    while more.len() > 16 {
+        let extra: Vec<usize> = (0..more.len()).filter(|&i| !ends.contains(&more[i]) && more[i] != n).collect();
+        more.remove(*random.pick(&extra));
+    }
+    more
+}
+
+fn pair(random: &mut Random, low: i128, high: i128) -> (i128, i128) {
+    let mut any = || match random.below(6) {
+        0 => low,
+        1 => high,
+        2 => (low + high) / 2,
+        _ => low + (u128::from(random.word()) % (high - low + 1) as u128) as i128,
+    };
+    let (a, b) = (any(), any());
+    (a.min(b), a.max(b))
+}
+
+/// Ranges as the traces have them, or any that the rules allow.
+fn segments(random: &mut Random, ends: &[usize], below: &[&[i16]]) -> Vec<Segment> {
+    let mut list = segments_of(ends, below);
+    for (run, s) in runs(ends).into_iter().zip(&mut list) {
+        let w = (run.1 - run.0 + 1) as i128;
+        if random.once_in(3) {
+            (s.least_sum, s.greatest_sum) = pair(random, -w * 32_768, w * 32_768);
+        }
+        if random.once_in(3) {
+            (s.least_scatter, s.greatest_scatter) = pair(random, 0, (w * w) << 30);
+        }
+        if random.once_in(3) {
+            s.least_sum = (s.least_sum - 3).max(-w * 32_768);
+            s.greatest_scatter = (s.greatest_scatter + 5).min((w * w) << 30);
+        }
+    }
+    list
+}
+
+fn test(random: &mut Random, n: usize, below: &[&[i16]]) -> Test {
+    let first = 1 + random.below(n);
+    let last = first + random.below(n - first + 1);
+    let figure = *random.pick(&[Figure::Sum, Figure::Scatter]);
+    let w = (last - first + 1) as i128;
+    let (low, high) = match figure {
+        Figure::Sum => (-2 * w * 32_768, 2 * w * 32_768),
+        Figure::Scatter => (0, (2 * w * w) << 30),
+    };
+    let threshold = if random.once_in(2) { 2 * figure.of(&below[random.below(below.len())][first - 1..last]) } else { pair(random, low, high).0 };
+    Test { figure, first, last, threshold }
+}
+
+/// Trace numbers below a node, its ends, its children.
+type Plan = (Vec<usize>, Vec<usize>, Option<(usize, usize)>);
+
+/// A tree over all traces: any partition, any ends that the rules allow, nodes numbered anyhow with children above their parents.
+fn library(random: &mut Random, shape: Shape, n: usize, count: usize, capacity: usize, leaf_size: usize, chain: bool) -> Library {
+    let stored = traces(random, shape, n, count);
+    let mut nodes: Vec<Plan> = Vec::new();
+    let root = more_ends(random, &[], n);
+    nodes.push(((0..count).collect(), root, None));
+    let mut open = vec![0];
+    while let Some(at) = (!open.is_empty()).then(|| open.swap_remove(random.below(open.len()))) {
+        let numbers = nodes[at].0.clone();
+        if numbers.len() < 2 || (!chain && random.once_in(5)) {
+            continue;
+        }
+        let cut = 1 + random.below(numbers.len() - 1);
+        let mut mixed = numbers.clone();
+        for i in (1..mixed.len()).rev() {
+            mixed.swap(i, random.below(i + 1));
+        }
+        let (mut left, mut right) = if chain { (mixed[..1].to_vec(), mixed[1..].to_vec()) } else { (mixed[..cut].to_vec(), mixed[cut..].to_vec()) };
+        left.sort_unstable();
+        right.sort_unstable();
+        let children = (nodes.len(), nodes.len() + 1);
+        for side in [left, right] {
+            let ends = more_ends(random, &nodes[at].1.clone(), n);
+            nodes.push((side, ends, None));
+        }
+        nodes[at].2 = Some(children);
+        open.extend([children.0, children.1]);
+    }
+    // any numbering with children above parents
+    let mut number = vec![0; nodes.len()];
+    let mut ready = vec![0];
+    let mut next = 0;
+    while !ready.is_empty() {
+        let at = ready.swap_remove(random.below(ready.len()));
+        number[at] = next;
+        next += 1;
+        if let Some((left, right)) = nodes[at].2 {
+            ready.extend([left, right]);
+        }
+    }
+    let mut made: Vec<Option<Node>> = vec![None; nodes.len()];
+    for (at, (numbers, ends, children)) in nodes.iter().enumerate() {
+        let below: Vec<&[i16]> = numbers.iter().map(|&t| stored[t].as_slice()).collect();
+        let kind = match children {
+            None => Kind::Leaf(numbers.clone()),
+            Some((left, right)) => {
+                let (mut left, mut right) = (number[*left], number[*right]);
+                if random.once_in(2) {
+                    std::mem::swap(&mut left, &mut right);
+                }
+                Kind::Inner { test: test(random, n, &below), left, right }
+            }
+        };
+        made[number[at]] = Some(Node { segments: segments(random, ends, &below), kind });
+    }
+    let nodes = made.into_iter().map(|node| node.expect("every node has a number")).collect();
+    Library { measures: measures(n, capacity, leaf_size), traces: stored, nodes }
+}
+
+/// The tables of a library, with junk in every place that no rule speaks of.
+fn with_junk(random: &mut Random, library: &Library) -> Tables {
+    let mut t = Tables::of(library);
+    let (k, n) = (library.traces.len(), library.measures.n as usize);
+    t.samples[k * n..].iter_mut().for_each(|x| *x = random.word() as i16);
+    t.links[k..].iter_mut().for_each(|x| *x = random.word() as u16);
+    t.work.iter_mut().for_each(|x| *x = random.word());
+    for (j, record) in t.nodes.chunks_mut(RECORD_PLACES).enumerate() {
+        let used = library.nodes.get(j).map_or(0, |node| 7 + 5 * node.segments.len());
+        record[used..].iter_mut().for_each(|x| *x = random.word() as i64);
+        if library.nodes.get(j).is_some_and(Node::is_leaf) {
+            record[3..7].iter_mut().for_each(|x| *x = random.word() as i64);
+        }
+    }
+    t
+}
+
+fn follow(random: &mut Random, library: &Library, shape: Shape, queries: usize, more: usize) {
+    let mut t = with_junk(random, library);
+    let l = t.lengths();
+    assert_eq!(t.library().as_ref(), Some(library), "the tables made here are well formed");
+    let n = library.measures.n as usize;
+    for _ in 0..queries {
+        let q: Trace = query(random, shape, n, &library.traces);
+        let mut trail = vec![1; library.leaves().len()];
+        check_nearest(&mut t, l, &mut trail, &q).expect("nothing is refused");
+        t.work.iter_mut().for_each(|x| *x = random.word());
+    }
+    for _ in 0..more {
+        let trace: Trace = query(random, shape, n, &library.traces);
+        if let Ok(after) = check_add(&mut t, l, &trace) {
+            let q: Trace = query(random, shape, n, &after.traces);
+            let mut trail = vec![1; after.leaves().len()];
+            check_nearest(&mut t, l, &mut trail, &q).expect("nothing is refused");
+        }
+    }
+}
+
+#[test]
+fn altered_trees() {
+    let random = &mut Random::seeded(31);
+    for _ in 0..400 {
+        let shape = *random.pick(&SHAPES);
+        let count = 1 + random.below(18);
+        let (n, spare, leaf_size) = (1 + random.below(20), random.below(6), 1 + random.below(4));
+        let chain = random.once_in(4);
+        let made = library(random, shape, n, count, count + spare, leaf_size, chain);
+        follow(random, &made, shape, 4, 5);
+    }
+}
+
+#[test]
+fn altered_wide_trees() {
+    let random = &mut Random::seeded(32);
+    for shape in SHAPES {
+        let made = library(random, shape, 256, 40, 44, 3, false);
+        follow(random, &made, shape, 2, 3);
+    }
+}
+
+/// A chain as long as it can be: 4,095 inner nodes, a leaf at each.
+#[test]
+fn the_longest_chain() {
+    let random = &mut Random::seeded(33);
+    let made = library(random, Shape::Uniform, 1, 4096, 4096, 1, true);
+    assert_eq!(made.nodes.len(), 8191);
+    follow(random, &made, Shape::Uniform, 2, 0);
+    let shorter = library(random, Shape::Small, 2, 1500, 1502, 1, true);
+    follow(random, &shorter, Shape::Small, 1, 2);
+}

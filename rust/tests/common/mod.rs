@@ -1,0 +1,222 @@
+//! What several tests use: the calls on a set of tables, held to the model.
+#![allow(dead_code)]
+
+use silkendoz::calls::{self, Found, Lent};
+use silkendoz::model::tables::{judge_opening, Lengths, Tables};
+use silkendoz::model::{Library, Match, Measures, Refused};
+use silkendoz::Refusal;
+
+pub fn measures(n: usize, capacity: usize, leaf_size: usize) -> Measures {
+    Measures { n: n as u64, capacity: capacity as u64, leaf_size: leaf_size as u64 }
+}
+
+/// Number and place.
+pub fn told<T>(answer: Result<T, Refusal>) -> Result<T, Refused> {
+    answer.map_err(|why| (why.number(), why.place()))
+}
+
+/// Tables of these lengths with junk in every place.
+pub fn junk(l: Lengths) -> Tables {
+    Tables {
+        control: vec![0xa5a5; l.control],
+        samples: vec![-0x5a5b; l.samples],
+        nodes: vec![0x5a5a_5a5a_5a5a; l.nodes],
+        links: vec![0x5a5a; l.links],
+        work: vec![0xa5a5_a5a5; l.work],
+    }
+}
+
+pub fn longer(l: Lengths, by: usize) -> Lengths {
+    Lengths { control: l.control + by, samples: l.samples + by, nodes: l.nodes + by, links: l.links + by, work: l.work + by }
+}
+
+// ---- the calls, lent the first so many places
+
+pub fn open(t: &mut Tables, l: Lengths, m: Measures) -> Result<(), Refused> {
+    told(calls::open(lent(t, l), m.n, m.capacity, m.leaf_size))
+}
+
+pub fn lent(t: &mut Tables, l: Lengths) -> Lent<'_> {
+    Lent {
+        control: &mut t.control[..l.control],
+        samples: &mut t.samples[..l.samples],
+        nodes: &mut t.nodes[..l.nodes],
+        links: &mut t.links[..l.links],
+        work: &mut t.work[..l.work],
+    }
+}
+
+pub fn add(t: &mut Tables, l: Lengths, trace: &[i16]) -> Result<u64, Refused> {
+    told(calls::add(
+        &mut t.control[..l.control],
+        &mut t.samples[..l.samples],
+        &mut t.nodes[..l.nodes],
+        &mut t.links[..l.links],
+        &t.work[..l.work],
+        trace,
+    ))
+}
+
+pub fn nearest(t: &mut Tables, l: Lengths, trail: &mut [u16], query: &[i16]) -> Result<Found, Refused> {
+    told(calls::nearest(
+        &t.control[..l.control],
+        &t.samples[..l.samples],
+        &t.nodes[..l.nodes],
+        &t.links[..l.links],
+        &mut t.work[..l.work],
+        trail,
+        query,
+    ))
+}
+
+// ---- each call held to the model: the answer, and every place
+
+/// The memory with these needed parts: places behind them stay.
+fn over(before: &Tables, needed: &Tables) -> Tables {
+    fn put<T: Clone>(before: &[T], needed: &[T]) -> Vec<T> {
+        [needed, &before[needed.len()..]].concat()
+    }
+    Tables {
+        control: put(&before.control, &needed.control),
+        samples: put(&before.samples, &needed.samples),
+        nodes: put(&before.nodes, &needed.nodes),
+        links: put(&before.links, &needed.links),
+        work: put(&before.work, &needed.work),
+    }
+}
+
+pub fn check_open(t: &mut Tables, l: Lengths, m: Measures) -> Result<(), Refused> {
+    let before = t.clone();
+    let answer = open(t, l, m);
+    match judge_opening(l, m) {
+        Err(refused) => {
+            assert_eq!(answer, Err(refused));
+            assert_eq!(*t, before, "a refused opening leaves everything");
+        }
+        Ok(empty) => {
+            assert_eq!(answer, Ok(()));
+            assert_eq!(*t, over(&before, &Tables::of(&empty)));
+        }
+    }
+    answer
+}
+
+/// The answer, and what the tables stand for then; a refusal leaves every place. The library that the tables hold then is given back.
+pub fn check_add(t: &mut Tables, l: Lengths, trace: &[i16]) -> Result<Library, Refused> {
+    let before = t.clone();
+    let answer = add(t, l, trace);
+    match before.first(l).judge_adding(trace) {
+        Err(refused) => {
+            assert_eq!(answer, Err(refused));
+            assert_eq!(*t, before, "a refused adding leaves everything");
+            Err(refused)
+        }
+        Ok(mut library) => {
+            let number = library.add(trace);
+            assert_eq!(answer, Ok(number as u64));
+            let held = t.first(l).library().expect("adding keeps well-formed tables well formed");
+            assert_eq!(held, library);
+            assert_eq!(t.work, before.work, "adding leaves search work as it was");
+            unneeded_stay(&before, t, library.measures);
+            Ok(library)
+        }
+    }
+}
+
+pub fn check_nearest(t: &mut Tables, l: Lengths, trail: &mut [u16], query: &[i16]) -> Result<Match, Refused> {
+    let (before, before_trail) = (t.clone(), trail.to_vec());
+    let answer = nearest(t, l, trail, query);
+    match before.first(l).judge_match(query, trail.len()) {
+        Err(refused) => {
+            assert_eq!(answer, Err(refused));
+            assert_eq!(*t, before, "a refused match leaves everything");
+            assert_eq!(trail, before_trail);
+            Err(refused)
+        }
+        Ok(library) => {
+            let expected = library.nearest(query).expect("a trace is stored");
+            let found = answer.expect("nothing is refused");
+            let figures = [expected.trace as i128, expected.distance, expected.leaves as i128, expected.traces as i128];
+            assert_eq!([found.trace, found.distance, found.leaves, found.traces].map(i128::from), figures);
+            let read: Vec<usize> = trail[..expected.leaves].iter().map(|&x| x.into()).collect();
+            assert_eq!(read, expected.trail);
+            assert_eq!(trail[expected.leaves..], before_trail[expected.leaves..]);
+            let mut after = before;
+            after.work[..2 * library.measures.capacity as usize - 1].fill(0);
+            assert_eq!(*t, after, "a match leaves the needed search work zero and all else as it was");
+            Ok(expected)
+        }
+    }
+}
+
+/// Places behind those that the measures need are as before.
+fn unneeded_stay(before: &Tables, after: &Tables, m: Measures) {
+    let need = silkendoz::model::tables::needs(m);
+    assert_eq!(before.control[need.control..], after.control[need.control..]);
+    assert_eq!(before.samples[need.samples..], after.samples[need.samples..]);
+    assert_eq!(before.nodes[need.nodes..], after.nodes[need.nodes..]);
+    assert_eq!(before.links[need.links..], after.links[need.links..]);
+}
+
+/// The leaves of a library that calls made, below which the nearest trace is: no bound is above the distance to a trace below it, and the answer is the
+/// scan's.
+pub fn check_scan(library: &Library, query: &[i16], found: &Match) {
+    assert_eq!(silkendoz::model::scan(&library.traces, query), Some((found.trace, found.distance)));
+    let bounds = library.bounds(query);
+    let read: Vec<usize> = {
+        let mut within: Vec<usize> = library.leaves().into_iter().filter(|&j| bounds[j] <= found.distance).collect();
+        within.sort_by_key(|&j| (bounds[j], j));
+        within
+    };
+    assert_eq!(found.trail, read, "the leaves read are those with a bound at most the distance");
+}
+
+// ---- sheets
+
+#[cfg(feature = "sheets")]
+pub fn write_sheet(t: &Tables, l: Lengths, sheet: &mut [u8]) -> Result<u64, Refused> {
+    told(calls::write_sheet(&t.control[..l.control], &t.samples[..l.samples], &t.nodes[..l.nodes], &t.links[..l.links], &t.work[..l.work], sheet))
+}
+
+#[cfg(feature = "sheets")]
+pub fn read_sheet(t: &mut Tables, l: Lengths, sheet: &[u8]) -> Result<(), Refused> {
+    told(calls::read_sheet(lent(t, l), sheet))
+}
+
+/// The answer, and every byte of the lent sheet: those behind the needed blocks stay, and a refusal leaves all.
+#[cfg(feature = "sheets")]
+pub fn check_write(t: &Tables, l: Lengths, sheet: &mut [u8]) -> Result<u64, Refused> {
+    let before = sheet.to_vec();
+    let answer = write_sheet(t, l, sheet);
+    match t.first(l).judge_writing(sheet.len()) {
+        Err(refused) => {
+            assert_eq!(answer, Err(refused));
+            assert_eq!(sheet, before, "a refused writing leaves the sheet");
+        }
+        Ok(library) => {
+            let written = silkendoz::model::sheet::write(library.measures, &library.traces);
+            assert_eq!(answer, Ok(written.len() as u64 / 512));
+            assert_eq!(sheet, [&written[..], &before[written.len()..]].concat());
+        }
+    }
+    answer
+}
+
+/// The answer, and every place: a reading that is not refused opens and adds.
+#[cfg(feature = "sheets")]
+pub fn check_read(t: &mut Tables, l: Lengths, sheet: &[u8]) -> Result<Library, Refused> {
+    let before = t.clone();
+    let answer = read_sheet(t, l, sheet);
+    let judged = silkendoz::model::tables::judge_reading(l, sheet);
+    match &judged {
+        Err(refused) => {
+            assert_eq!(answer, Err(*refused));
+            assert_eq!(*t, before, "a refused reading leaves everything");
+        }
+        Ok(library) => {
+            assert_eq!(answer, Ok(()));
+            assert_eq!(*t, over(&before, &Tables::of(library)));
+        }
+    }
+    judged
+}

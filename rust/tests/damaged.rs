@@ -1,0 +1,197 @@
+//! Tables damaged field by field: the verdict is the model's, a refusal leaves every place, and what is accepted follows what is recorded.
+
+mod common;
+
+use common::{check_add, check_nearest, measures};
+use silkendoz::model::tables::{Tables, RECORD_PLACES};
+use silkendoz::model::{Library, Trace};
+use silkendoz::random::{query, traces, Random, Shape};
+
+struct Case {
+    tables: Tables,
+    query: Trace,
+    shape: Shape,
+}
+
+fn case(random: &mut Random, shape: Shape, n: usize, capacity: usize, leaf_size: usize, count: usize) -> Case {
+    let stored = traces(random, shape, n, count);
+    let library = Library::of(measures(n, capacity, leaf_size), &stored);
+    let mut tables = Tables::of(&library);
+    // search work need not be zero, and a refusal leaves it
+    tables.work.iter_mut().enumerate().for_each(|(i, w)| *w = i as u64);
+    let query = query(random, shape, n, &stored);
+    Case { tables, query, shape }
+}
+
+fn cases(random: &mut Random) -> Vec<Case> {
+    vec![
+        case(random, Shape::Small, 5, 6, 1, 5),
+        case(random, Shape::Walk, 8, 7, 2, 6),
+        case(random, Shape::Small, 1, 5, 1, 4),
+        case(random, Shape::Ties, 6, 6, 1, 6),
+        case(random, Shape::Extremes, 3, 4, 2, 4),
+        case(random, Shape::Identical, 4, 3, 1, 2),
+        case(random, Shape::Uniform, 2, 1, 1, 1),
+        case(random, Shape::Uniform, 2, 3, 1, 0),
+    ]
+}
+
+/// Both calls on the damaged tables, each from the same contents.
+fn both(damaged: &Tables, query: &[i16]) -> bool {
+    let l = damaged.lengths();
+    let mut t = damaged.clone();
+    let added = check_add(&mut t, l, query);
+    t.clone_from(damaged);
+    let mut trail = vec![7; 16];
+    let found = check_nearest(&mut t, l, &mut trail, query);
+    if let Err((3, 0)) = found {
+        assert_eq!(added.map(|_| ()), Err((3, 0)));
+        return true;
+    }
+    false
+}
+
+/// Values that are next to a limit, a count or what stood there.
+fn values(was: i64, t: &Tables) -> Vec<i64> {
+    let fields = t.control.iter().map(|&x| i64::from(x));
+    let mut list: Vec<i64> = fields.flat_map(|x| [x - 1, x, x + 1]).collect();
+    list.extend([-1, 0, 1, 2, 3, 16, 17, was - 1, was + 1, -was, 2 * was + 1]);
+    for w in 1..=i64::from(t.control[0]) {
+        list.extend([w * 32_768, -w * 32_768, w * 32_768 + 1, -w * 32_768 - 1, (w * w) << 30, ((w * w) << 30) + 1]);
+        list.extend([2 * w * 32_768 + 1, -2 * w * 32_768, (2 * w * w) << 30, ((2 * w * w) << 30) + 1]);
+    }
+    list.extend([65_535, 65_536, 65_537, 1 << 32, i64::MAX, i64::MIN]);
+    list.sort_unstable();
+    list.dedup();
+    list
+}
+
+#[test]
+fn node_fields() {
+    let random = &mut Random::seeded(21);
+    for case in cases(random) {
+        let used = usize::from(case.tables.control[4]) * RECORD_PLACES;
+        let mut spoiled = 0;
+        for place in 0..case.tables.nodes.len().min(used + RECORD_PLACES) {
+            let was = case.tables.nodes[place];
+            for value in values(was, &case.tables) {
+                // far places of a record are free here: one value is enough
+                if place % RECORD_PLACES >= 7 + 5 * 5 && value != i64::MIN {
+                    continue;
+                }
+                let mut damaged = case.tables.clone();
+                damaged.nodes[place] = value;
+                spoiled += usize::from(both(&damaged, &case.query));
+            }
+        }
+        assert!(case.tables.control[3] == 0 || spoiled > 100, "{:?}: only {spoiled} were spoiled", case.shape);
+    }
+}
+
+#[test]
+fn control_links_and_samples() {
+    let random = &mut Random::seeded(22);
+    for case in cases(random) {
+        for place in 0..5 {
+            for value in (0..300).chain([511, 512, 4095, 4096, 4097, 8191, 8192, 32_768, 65_535]) {
+                let mut damaged = case.tables.clone();
+                damaged.control[place] = value;
+                both(&damaged, &case.query);
+            }
+        }
+        for place in 0..case.tables.links.len() {
+            for value in (0..12).chain([63, 64, 4096, 65_535]) {
+                let mut damaged = case.tables.clone();
+                damaged.links[place] = value;
+                both(&damaged, &case.query);
+            }
+        }
+        for place in 0..case.tables.samples.len() {
+            for value in [0, 1, -1, i16::MIN, i16::MAX] {
+                let mut damaged = case.tables.clone();
+                damaged.samples[place] = value;
+                assert!(!both(&damaged, &case.query), "no rule speaks of samples");
+            }
+        }
+    }
+}
+
+#[test]
+fn several_fields_at_once() {
+    let random = &mut Random::seeded(23);
+    for case in cases(random) {
+        let used = (usize::from(case.tables.control[4]) * RECORD_PLACES).max(1);
+        for _ in 0..3000 {
+            let mut damaged = case.tables.clone();
+            for _ in 0..2 + random.below(3) {
+                let mut place = random.below(used);
+                if random.once_in(2) {
+                    place = place / RECORD_PLACES * RECORD_PLACES + random.below(12);
+                }
+                let options = values(damaged.nodes[place], &damaged);
+                match random.below(8) {
+                    0 => {
+                        let at = random.below(damaged.links.len());
+                        damaged.links[at] = random.below(8) as u16;
+                    }
+                    1 => damaged.control[3 + random.below(2)] = random.below(9) as u16,
+                    _ => damaged.nodes[place] = *random.pick(&options),
+                }
+            }
+            both(&damaged, &case.query);
+        }
+    }
+}
+
+/// Every table one place too short, and the order of the refusals: 2 for the control record, 3 for its measures, 2, the rest of 3, 4, then 5, 6, 7.
+#[test]
+fn short_tables_and_the_order() {
+    let random = &mut Random::seeded(24);
+    for case in cases(random) {
+        let l = case.tables.lengths();
+        for table in 0..5 {
+            let mut short = l;
+            match table {
+                0 => short.control -= 1,
+                1 => short.samples -= 1,
+                2 => short.nodes -= 1,
+                3 => short.links -= 1,
+                _ => short.work -= 1,
+            }
+            for spoil in 0..4 {
+                let mut t = case.tables.clone();
+                match spoil {
+                    1 => t.control[2] = 65,
+                    2 => t.control[4] = 9999,
+                    3 => t.control[3] = 9999,
+                    _ => {}
+                }
+                let wrong = vec![0; case.query.len() + 1];
+                let expected = if table != 0 && spoil == 1 { (3, 0) } else { (2, 0) };
+                assert_eq!(check_add(&mut t.clone(), short, &wrong).unwrap_err(), expected);
+                assert_eq!(check_nearest(&mut t, short, &mut [], &wrong).unwrap_err(), expected);
+            }
+        }
+        // a wrong trace comes before full, empty and a short trail
+        let wrong = vec![0; case.query.len() + 1];
+        assert_eq!(check_add(&mut case.tables.clone(), l, &wrong).unwrap_err(), (4, 0));
+        assert_eq!(check_nearest(&mut case.tables.clone(), l, &mut [], &wrong).unwrap_err(), (4, 0));
+        let expected = if case.tables.control[3] == 0 { (6, 0) } else { (7, 0) };
+        assert_eq!(check_nearest(&mut case.tables.clone(), l, &mut [], &case.query).unwrap_err(), expected);
+    }
+}
+
+/// Every node but 0 is a child once and every trace in one leaf, yet node 0 is its own child: "inner children numbered above their parent" refuses it.
+#[test]
+fn a_node_that_is_its_own_child() {
+    let stored = vec![vec![0, 0, 0, 0], vec![4, 4, 4, 4]];
+    for (left, right, kind) in [(0, 1, 1), (1, 0, 1), (0, 1, 2), (1, 0, 2)] {
+        let mut t = Tables::of(&Library::of(measures(4, 8, 2), &stored));
+        // leaf 0 becomes leaf 1
+        let (first, second) = t.nodes.split_at_mut(RECORD_PLACES);
+        second[..RECORD_PLACES].copy_from_slice(first);
+        t.nodes[..7].copy_from_slice(&[kind, 1, left, right, 1, 4, 0]);
+        t.control[4] = 2;
+        assert!(both(&t, &[1, 1, 1, 1]), "{left} {right}");
+    }
+}

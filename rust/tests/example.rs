@@ -1,0 +1,28 @@
+//! The example sheet under `examples/` is the one that `make_example` makes, and the calls find in it what its text says.
+
+mod common;
+
+use silkendoz::model::Trace;
+use silkendoz::{example, TraceLibrary};
+use std::path::PathBuf;
+
+#[test]
+fn the_files_are_as_made() {
+    let folder = PathBuf::from(env!("CARGO_MANIFEST_DIR")).join("../examples");
+    assert!(std::fs::read(folder.join("faults.sheet")).unwrap() == example::sheet());
+    assert_eq!(std::fs::read_to_string(folder.join("faults.txt")).unwrap(), example::text());
+}
+
+#[test]
+fn the_dry_rail_is_found() {
+    let (names, traces): (Vec<String>, Vec<Trace>) = example::traces().into_iter().unzip();
+    let (query, stored) = traces.split_last().unwrap();
+    let m = example::MEASURES;
+    let mut library = TraceLibrary::open(m.n as usize, m.capacity as usize, m.leaf_size as usize).unwrap();
+    for trace in stored {
+        library.add(trace).unwrap();
+    }
+    let found = library.nearest(query).unwrap();
+    assert_eq!(names[found.trace], "dry rail, right, fast sweep");
+    assert!(found.traces < stored.len());
+}

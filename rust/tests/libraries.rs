@@ -1,0 +1,187 @@
+//! Random and adversarial libraries: the calls against the model and the scan, on answer, distance, counts, trail and tree.
+
+mod common;
+
+use common::{check_add, check_nearest, check_open, check_scan, junk, longer, measures};
+use silkendoz::model::tables::{needs, Tables};
+use silkendoz::model::{Library, Measures, Trace};
+use silkendoz::random::{query, traces, Random, Shape, SHAPES};
+use silkendoz::TraceLibrary;
+
+/// Opens, adds and matches; every call is held to the model, every match to the scan.
+fn run(random: &mut Random, shape: Shape, n: usize, capacity: usize, leaf_size: usize, count: usize, queries: usize) {
+    let stored = traces(random, shape, n, count);
+    run_on(random, shape, &stored, measures(n, capacity, leaf_size), queries);
+}
+
+fn run_on(random: &mut Random, shape: Shape, stored: &[Trace], m: Measures, queries: usize) {
+    let n = m.n as usize;
+    let l = longer(needs(m), random.below(3));
+    let mut t = junk(longer(l, 2));
+    assert_eq!(check_open(&mut t, l, m), Ok(()));
+    for (k, trace) in stored.iter().enumerate() {
+        let library = check_add(&mut t, l, trace).expect("there is room");
+        if k < 3 || random.once_in(8) {
+            let q = query(random, shape, n, stored);
+            ask(&mut t, l, &library, &q);
+        }
+    }
+    // every place of the needed parts, the unused ones too, is what opening and adding leave
+    let library = Library::of(m, stored);
+    let held = t.first(needs(m));
+    let laid = Tables::of(&library);
+    assert_eq!((&held.control, &held.samples, &held.links), (&laid.control, &laid.samples, &laid.links));
+    assert_eq!(held.nodes, laid.nodes);
+    for _ in 0..queries {
+        let q = query(random, shape, n, stored);
+        ask(&mut t, l, &library, &q);
+    }
+    if stored.len() as u64 == m.capacity {
+        assert_eq!(check_add(&mut t, l, &stored[0]).unwrap_err(), (5, 0));
+    }
+}
+
+fn ask(t: &mut Tables, l: silkendoz::model::tables::Lengths, library: &Library, q: &[i16]) {
+    let mut trail = vec![0xbeef; library.leaves().len() + 1];
+    let found = check_nearest(t, l, &mut trail, q).expect("a trace is stored");
+    check_scan(library, q, &found);
+}
+
+#[test]
+fn every_shape_small() {
+    let random = &mut Random::seeded(1);
+    for shape in SHAPES {
+        for n in [1, 2, 3, 5, 8, 16, 33] {
+            for leaf_size in [1, 2, 3, 64] {
+                let (count, spare) = (1 + random.below(24), random.below(3));
+                run(random, shape, n, count + spare, leaf_size, count, 6);
+            }
+        }
+    }
+}
+
+#[test]
+fn every_shape_wide() {
+    let random = &mut Random::seeded(2);
+    for shape in SHAPES {
+        for leaf_size in [1, 8, 64] {
+            run(random, shape, 256, 70, leaf_size, 70, 4);
+        }
+    }
+}
+
+#[test]
+fn capacity_one() {
+    let random = &mut Random::seeded(3);
+    for shape in SHAPES {
+        for n in [1, 256] {
+            run(random, shape, n, 1, 1, 1, 4);
+        }
+    }
+}
+
+/// Larger libraries through the wrapper: the whole tree is compared once at the end, each match with model and scan.
+#[test]
+fn larger_libraries() {
+    let random = &mut Random::seeded(4);
+    for (shape, n, count, leaf_size) in [
+        (Shape::Walk, 64, 700, 16),
+        (Shape::Small, 6, 900, 4),
+        (Shape::Clusters, 32, 500, 3),
+        (Shape::Constants, 4, 300, 2),
+        (Shape::Uniform, 20, 600, 64),
+    ] {
+        let stored: Vec<Trace> = traces(random, shape, n, count);
+        let model = Library::of(measures(n, count, leaf_size), &stored);
+        let mut library = TraceLibrary::open(n, count, leaf_size).unwrap();
+        for (k, trace) in stored.iter().enumerate() {
+            assert_eq!(library.add(trace), Ok(k));
+        }
+        for _ in 0..20 {
+            let q = query(random, shape, n, &stored);
+            let found = library.nearest(&q).unwrap();
+            let expected = model.nearest(&q).unwrap();
+            let trail: Vec<usize> = found.trail.iter().map(|&x| x.into()).collect();
+            assert_eq!((found.trace, i128::from(found.distance)), (expected.trace, expected.distance));
+            assert_eq!((found.leaves, found.traces, &trail), (expected.leaves, expected.traces, &expected.trail));
+            check_scan(&model, &q, &expected);
+        }
+    }
+}
+
+/// The largest measures, full: the whole tables, and matches beside the scan.
+#[test]
+fn the_largest_library() {
+    let random = &mut Random::seeded(5);
+    let m = measures(256, 4096, 64);
+    let stored = traces(random, Shape::Walk, 256, 4096);
+    let mut t = junk(needs(m));
+    let l = t.lengths();
+    assert_eq!(common::open(&mut t, l, m), Ok(()));
+    for (k, trace) in stored.iter().enumerate() {
+        assert_eq!(common::add(&mut t, l, trace), Ok(k as u64));
+    }
+    let library = Library::of(m, &stored);
+    assert!(t == Tables::of(&library));
+    for _ in 0..10 {
+        let q = query(random, Shape::Walk, 256, &stored);
+        ask(&mut t, l, &library, &q);
+    }
+    assert_eq!(common::add(&mut t, l, &stored[0]), Err((5, 0)));
+}
+
+/// "Samples in leaves off the trail don't bear on a search": with other samples there, the answer and the trail stay.
+#[test]
+fn samples_off_the_trail() {
+    let random = &mut Random::seeded(6);
+    let mut changed = 0;
+    for shape in SHAPES {
+        for _ in 0..20 {
+            let (n, count, leaf_size) = (1 + random.below(12), 20, 1 + random.below(3));
+            let m = measures(n, count, leaf_size);
+            let stored = traces(random, shape, n, count);
+            let library = Library::of(m, &stored);
+            let mut t = Tables::of(&library);
+            let l = t.lengths();
+            let q = query(random, shape, n, &stored);
+            let mut trail = vec![9; count];
+            let found = check_nearest(&mut t, l, &mut trail, &q).expect("traces are stored");
+            for (j, node) in library.nodes.iter().enumerate() {
+                if let (silkendoz::model::Kind::Leaf(numbers), false) = (&node.kind, found.trail.contains(&j)) {
+                    for &number in numbers {
+                        // the query itself, which would be at distance 0
+                        t.samples[number * n..(number + 1) * n].copy_from_slice(&q);
+                        changed += 1;
+                    }
+                }
+            }
+            let mut again = vec![9; count];
+            assert_eq!(check_nearest(&mut t, l, &mut again, &q), Ok(found));
+            assert_eq!(trail, again);
+        }
+    }
+    assert!(changed > 500);
+}
+
+/// A flat trace, then one spike each time, half as high as the one before: the flat trace's leaf is cut at each, up to 16 segments, and then no more.
+#[test]
+fn sixteen_segments() {
+    let random = &mut Random::seeded(7);
+    for (n, leaf_size) in [(256, 1), (64, 1), (40, 1), (256, 2)] {
+        for _ in 0..4 {
+            let mut stored = vec![vec![0; n]];
+            for sign in [1, -1] {
+                for k in 0..15 {
+                    let mut trace = vec![0; n];
+                    trace[random.below(n)] = sign << (14 - k);
+                    stored.push(trace);
+                }
+            }
+            let m = measures(n, stored.len(), leaf_size);
+            run_on(random, Shape::Small, &stored, m, 6);
+            let segments: Vec<usize> = Library::of(m, &stored).nodes.iter().map(|node| node.segments.len()).collect();
+            let full = segments.iter().filter(|&&q| q == 16).count();
+            assert!(n < 256 || leaf_size > 1 || full > 2, "{segments:?}");
+        }
+    }
+}

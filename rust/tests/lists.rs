@@ -1,0 +1,176 @@
+//! Random lists of calls on one memory, refused ones included, with the lengths that each call is lent: every answer is judged by arguments and book, and
+//! after every call the tables hold the book's library.
+
+mod common;
+
+use common::{check_add, check_nearest, check_open, junk, longer, measures};
+use silkendoz::model::tables::{judge_opening, needs, Lengths, Tables};
+use silkendoz::model::{Library, Measures, Refused};
+use silkendoz::random::{query, traces, uniform, Random, Shape, SHAPES};
+
+/// What is stored, by the calls' arguments alone.
+struct Book(Option<Library>);
+
+impl Book {
+    fn library(&mut self) -> &mut Library {
+        self.0.as_mut().expect("an opening has succeeded")
+    }
+
+    /// 2 by the book's measures: 3 never arises.
+    fn short(&self, l: Lengths) -> Result<&Library, Refused> {
+        let library = self.0.as_ref().expect("an opening has succeeded");
+        judge_opening(l, library.measures).map(|_| library)
+    }
+
+    fn judge_adding(&self, l: Lengths, size: usize) -> Result<(), Refused> {
+        let library = self.short(l)?;
+        match () {
+            _ if size as u64 != library.measures.n => Err((4, 0)),
+            _ if library.traces.len() as u64 == library.measures.capacity => Err((5, 0)),
+            _ => Ok(()),
+        }
+    }
+
+    fn judge_match(&self, l: Lengths, size: usize, trail: usize) -> Result<(), Refused> {
+        let library = self.short(l)?;
+        match () {
+            _ if size as u64 != library.measures.n => Err((4, 0)),
+            _ if library.traces.is_empty() => Err((6, 0)),
+            _ if trail < library.leaves().len() => Err((7, 0)),
+            _ => Ok(()),
+        }
+    }
+}
+
+/// All of the memory, or now and then less of one table.
+fn lengths(random: &mut Random, t: &Tables) -> Lengths {
+    let mut l = t.lengths();
+    if random.once_in(6) {
+        match random.below(5) {
+            0 => l.control = random.below(l.control + 1),
+            1 => l.samples = random.below(l.samples + 1),
+            2 => l.nodes = random.below(l.nodes + 1),
+            3 => l.links = random.below(l.links + 1),
+            _ => l.work = random.below(l.work + 1),
+        }
+    }
+    l
+}
+
+fn some_measures(random: &mut Random) -> Measures {
+    let mut m = measures(1 + random.below(9), 1 + random.below(14), 1 + random.below(4));
+    if random.once_in(8) {
+        match random.below(3) {
+            0 => m.n = *random.pick(&[0, 257, 65_536 + 4, u64::MAX]),
+            1 => m.capacity = *random.pick(&[0, 4097, 65_536 + 4, 1 << 63]),
+            _ => m.leaf_size = *random.pick(&[0, 65, 65_536 + 4, u64::MAX]),
+        }
+    }
+    m
+}
+
+#[cfg(not(feature = "sheets"))]
+const SHEET_CALLS: usize = 0;
+
+#[cfg(not(feature = "sheets"))]
+fn sheet_step(_: &mut Random, _: Shape, _: &mut Tables, _: &mut Book, _: Lengths) {
+    unreachable!("no sheet call is drawn");
+}
+
+#[cfg(feature = "sheets")]
+const SHEET_CALLS: usize = 4;
+
+/// A writing, whose sheet is as the book's; or a reading of a sheet, sound or damaged.
+#[cfg(feature = "sheets")]
+fn sheet_step(random: &mut Random, shape: Shape, t: &mut Tables, book: &mut Book, l: Lengths) {
+    use silkendoz::model::sheet::{blocks_needed, read, seal, write};
+    let library = book.library().clone();
+    if random.once_in(2) {
+        let need = 512 * blocks_needed(library.traces.len() as u64, library.measures.n);
+        let mut sheet = vec![0x77; if random.once_in(4) { random.below(need) } else { need + random.below(600) }];
+        let judged = match book.short(l) {
+            Ok(_) if sheet.len() < need => Err((8, 0)),
+            other => other.map(|_| ()),
+        };
+        assert_eq!(common::check_write(t, l, &mut sheet).map(|_| ()), judged);
+        if judged.is_ok() {
+            assert_eq!(sheet[..need], write(library.measures, &library.traces));
+        }
+        return;
+    }
+    let m = measures(1 + random.below(9), 1 + random.below(14), 1 + random.below(4));
+    let count = random.below(m.capacity as usize + 1);
+    let mut sheet = write(m, &traces(random, shape, m.n as usize, count));
+    if random.once_in(6) {
+        // a measure or the count, well sealed
+        let at = 8 + 2 * random.below(4);
+        sheet[at] = *random.pick(&[0, 1, 2, 65, 255]);
+        seal(&mut sheet[..512]);
+    }
+    if random.once_in(3) {
+        let at = random.below(sheet.len());
+        sheet[at] ^= 1 << random.below(8);
+        if random.once_in(2) {
+            seal(&mut sheet[at / 512 * 512..at / 512 * 512 + 512]);
+        }
+    }
+    let judged = read(&sheet).and_then(|(m, stored)| judge_opening(l, m).map(|_| Library::of(m, &stored)));
+    assert_eq!(common::check_read(t, l, &sheet), judged);
+    if let Ok(library) = judged {
+        book.0 = Some(library);
+    }
+}
+
+fn step(random: &mut Random, shape: Shape, t: &mut Tables, book: &mut Book) {
+    let l = lengths(random, t);
+    let n = book.library().measures.n as usize;
+    match random.below(12 + SHEET_CALLS) {
+        0 => {
+            let m = some_measures(random);
+            let judged = judge_opening(l, m);
+            assert_eq!(check_open(t, l, m), judged.clone().map(|_| ()));
+            if let Ok(empty) = judged {
+                book.0 = Some(empty);
+            }
+        }
+        1..=7 => {
+            let size = if random.once_in(10) { random.below(12) } else { n };
+            let trace = if size == n { traces(random, shape, n, 1).remove(0) } else { uniform(random, size, -9, 9) };
+            let judged = book.judge_adding(l, size);
+            let answer = check_add(t, l, &trace);
+            assert_eq!(answer.as_ref().map(|_| ()).map_err(|&e| e), judged);
+            if judged.is_ok() {
+                book.library().add(&trace);
+            }
+        }
+        12.. => sheet_step(random, shape, t, book, l),
+        _ => {
+            let size = if random.once_in(10) { random.below(12) } else { n };
+            let q = if size == n { query(random, shape, n, &book.library().traces.clone()) } else { uniform(random, size, -9, 9) };
+            let mut trail = vec![0xabcd; if random.once_in(4) { random.below(4) } else { 14 }];
+            let judged = book.judge_match(l, size, trail.len());
+            let answer = check_nearest(t, l, &mut trail, &q);
+            assert_eq!(answer.as_ref().map(|_| ()).map_err(|&e| e), judged);
+            if let Ok(found) = answer {
+                assert_eq!(Some(found), book.library().nearest(&q));
+            }
+        }
+    }
+    assert_eq!(t.library().as_ref(), book.0.as_ref(), "the tables hold the book's library");
+}
+
+#[test]
+fn random_lists() {
+    let random = &mut Random::seeded(11);
+    for round in 0..120 {
+        let shape = *random.pick(&SHAPES);
+        let mut t = junk(longer(needs(measures(9, 14, 1)), 3));
+        let l = t.lengths();
+        let first = measures(1 + random.below(9), 1 + random.below(14), 1 + random.below(4));
+        assert_eq!(check_open(&mut t, l, first), Ok(()), "round {round}");
+        let mut book = Book(Some(Library::open(first)));
+        for _ in 0..60 {
+            step(random, shape, &mut t, &mut book);
+        }
+    }
+}

@@ -29,13 +29,15 @@
  *   silkendoz_open         0   none
  *   silkendoz_add          0   the new trace's number
  *   silkendoz_nearest      0   trace number, distance, leaves read, traces read
- *   any call        refused   the place
+ *   silkendoz_write_sheet  0   the number of blocks
+ *   silkendoz_read_sheet   0   none
+ *   any call         refused   the place
  *
  * If `out` has fewer places, the first values are written and the others are left out. SILKENDOZ_OUT places are enough for every call.
  *
- * REFUSALS. A refused call leaves every table, the trail and all of `out` behind its first place as they were. The place is 0, but for a
+ * REFUSALS. A refused call leaves every table, the trail, the sheet and all of `out` behind its first place as they were. The place is 0, but for a
  * torn block, where it is the first block at fault. The numbers are tested in this order: 1; a control record too short (2); its measures (3);
- * other tables (2); the rest of 3; then 4 to 8.
+ * other tables (2); the rest of 3; then 4 to 8. Reading a sheet: 8; 9 over all blocks; 10; 2.
  */
 #ifndef SILKENDOZ_H
 #define SILKENDOZ_H
@@ -112,6 +114,31 @@ uint64_t silkendoz_nearest(
     uint64_t *work, size_t work_len,
     uint16_t *trail, size_t trail_len,
     const int16_t *query, size_t query_len,
+    uint64_t *out, size_t out_len);
+
+/* Bytes of a sheet that are enough for k traces of n samples: blocks of 512 bytes, block 0 and 253 samples in each other one. */
+#define SILKENDOZ_SHEET(k, n) (512 * (1 + ((size_t)(k) * (size_t)(n) + 252) / 253))
+
+/* Writes the library as a sheet, into the first blocks of `sheet`; bytes behind them stay. out[0] is the number of blocks. Of `work` only the length is
+ * looked at. Refuses 2, 3, 8. */
+uint64_t silkendoz_write_sheet(
+    const uint16_t *control, size_t control_len,
+    const int16_t *samples, size_t samples_len,
+    const int64_t *nodes, size_t nodes_len,
+    const uint16_t *links, size_t links_len,
+    const uint64_t *work, size_t work_len,
+    uint8_t *sheet, size_t sheet_len,
+    uint64_t *out, size_t out_len);
+
+/* Opens the library that a sheet of any bytes holds, and adds its traces in order. What the tables held before does not matter. Every refusal is decided
+ * before a table is written. A sheet's n stands in its bytes 8 and 9, its capacity in bytes 10 and 11, low byte first. Refuses 8, 9, 10, 2. */
+uint64_t silkendoz_read_sheet(
+    uint16_t *control, size_t control_len,
+    int16_t *samples, size_t samples_len,
+    int64_t *nodes, size_t nodes_len,
+    uint16_t *links, size_t links_len,
+    uint64_t *work, size_t work_len,
+    const uint8_t *sheet, size_t sheet_len,
     uint64_t *out, size_t out_len);
 
 #ifdef __cplusplus

@@ -49,6 +49,18 @@ static uint64_t nearest_in(struct tables *t, const int16_t *query, size_t size, 
         t->links, PLACES(t->links), t->work, PLACES(t->work), trail, trail_len, query, size, out, out_len);
 }
 
+static uint64_t write_from(const struct tables *t, uint8_t *sheet, size_t size, uint64_t out[SILKENDOZ_OUT])
+{
+    return silkendoz_write_sheet(t->control, PLACES(t->control), t->samples, PLACES(t->samples), t->nodes, PLACES(t->nodes),
+        t->links, PLACES(t->links), t->work, PLACES(t->work), sheet, size, out, SILKENDOZ_OUT);
+}
+
+static uint64_t read_into(struct tables *t, const uint8_t *sheet, size_t size, uint64_t out[SILKENDOZ_OUT])
+{
+    return silkendoz_read_sheet(t->control, PLACES(t->control), t->samples, PLACES(t->samples), t->nodes, PLACES(t->nodes),
+        t->links, PLACES(t->links), t->work, PLACES(t->work), sheet, size, out, SILKENDOZ_OUT);
+}
+
 /* n 256, capacity 4,096, leaf size 64 open; 257, 4,097, 65 and 0 do not: measures come before lengths. */
 static void opening(void)
 {
@@ -158,11 +170,45 @@ static void adding_and_matching(void)
     EXPECT(add_to(&t, c, N, out, SILKENDOZ_OUT) == SILKENDOZ_FULL && out[0] == 0);
 }
 
+/* n = 1, capacity 8, leaf size 2, trace (-1): checks 2,130 and 2,812. Written, read back, torn. */
+static void sheets(void)
+{
+    static struct tables t, u, before;
+    const int16_t trace[1] = {-1};
+    uint8_t sheet[SILKENDOZ_SHEET(1, 1) + 1];
+    uint64_t out[SILKENDOZ_OUT];
+
+    memset(sheet, 0xaa, sizeof sheet);
+    EXPECT(open_in(&t, 1, C, 2, out) == SILKENDOZ_DONE);
+    EXPECT(add_to(&t, trace, 1, out, SILKENDOZ_OUT) == SILKENDOZ_DONE);
+    EXPECT(write_from(&t, sheet, 1023, out) == SILKENDOZ_SHEET_LENGTH && sheet[0] == 0xaa);
+    EXPECT(write_from(&t, sheet, sizeof sheet, out) == SILKENDOZ_DONE && out[0] == 2 && sheet[1024] == 0xaa);
+    EXPECT(memcmp(sheet + 4, "TRCL", 4) == 0);
+    EXPECT(sheet[510] + 256 * sheet[511] == 2130 && sheet[1022] + 256 * sheet[1023] == 2812);
+
+    memset(&u, 0x55, sizeof u);
+    EXPECT(read_into(&u, sheet, 1024, out) == SILKENDOZ_DONE);
+    EXPECT(memcmp(u.control, t.control, SILKENDOZ_CONTROL * sizeof *t.control) == 0);
+    EXPECT(memcmp(u.samples, t.samples, SILKENDOZ_SAMPLES(1, C) * sizeof *t.samples) == 0);
+    EXPECT(memcmp(u.nodes, t.nodes, SILKENDOZ_NODES(C) * sizeof *t.nodes) == 0);
+    EXPECT(memcmp(u.links, t.links, SILKENDOZ_LINKS(C) * sizeof *t.links) == 0);
+
+    before = u;
+    EXPECT(read_into(&u, sheet, 0, out) == SILKENDOZ_SHEET_LENGTH && out[0] == 0);
+    EXPECT(read_into(&u, sheet, 1025, out) == SILKENDOZ_SHEET_LENGTH);
+    sheet[600] = 1;
+    EXPECT(read_into(&u, sheet, 1024, out) == SILKENDOZ_TORN_BLOCK && out[0] == 1);
+    sheet[5] ^= 1;
+    EXPECT(read_into(&u, sheet, 1024, out) == SILKENDOZ_TORN_BLOCK && out[0] == 0);
+    EXPECT(memcmp(&u, &before, sizeof u) == 0);
+}
+
 int main(void)
 {
     opening();
     largest();
     adding_and_matching();
+    sheets();
     printf("C: %d tests passed\n", tests);
     return 0;
 }

@@ -78,10 +78,6 @@ extern "C" {
         out: *mut u64,
         out_len: usize,
     ) -> u64;
-}
-
-#[cfg(feature = "sheets")]
-extern "C" {
     fn silkendoz_write_sheet(
         control: *const u16,
         control_len: usize,
@@ -212,7 +208,6 @@ pub fn nearest(
 }
 
 /// Writes the library as a sheet; the number of blocks is the answer.
-#[cfg(feature = "sheets")]
 pub fn write_sheet(control: &[u16], samples: &[i16], nodes: &[i64], links: &[u16], work: &[u64], sheet: &mut [u8]) -> Result<u64, Refusal> {
     let mut out = [0; 1];
     // Safety: as in `open`.
@@ -238,7 +233,6 @@ pub fn write_sheet(control: &[u16], samples: &[i16], nodes: &[i64], links: &[u16
 }
 
 /// Opens the library that a sheet holds, and adds its traces in order.
-#[cfg(feature = "sheets")]
 pub fn read_sheet(t: Lent<'_>, sheet: &[u8]) -> Result<(), Refusal> {
     let mut out = [0; 1];
     // Safety: as in `open`.

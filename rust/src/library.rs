@@ -109,7 +109,6 @@ impl TraceLibrary {
     /// assert_eq!(TraceLibrary::read_sheet(&sheet)?, library);
     /// # Ok::<(), silkendoz::Refusal>(())
     /// ```
-    #[cfg(feature = "sheets")]
     pub fn write_sheet(&self) -> Result<Vec<u8>, Refusal> {
         let blocks = 1 + (self.len() * self.n()).div_ceil(253);
         let mut sheet = vec![0; 512 * blocks];
@@ -128,7 +127,6 @@ impl TraceLibrary {
     /// assert_eq!(TraceLibrary::read_sheet(&[]), Err(Refusal::SheetLength));
     /// # Ok::<(), Refusal>(())
     /// ```
-    #[cfg(feature = "sheets")]
     pub fn read_sheet(sheet: &[u8]) -> Result<TraceLibrary, Refusal> {
         // a sheet is judged before lengths: with no tables at all, a sound one is refused as short tables
         let mut library = TraceLibrary::with_tables(0, 0, 0);

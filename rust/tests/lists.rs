@@ -69,19 +69,9 @@ fn some_measures(random: &mut Random) -> Measures {
     m
 }
 
-#[cfg(not(feature = "sheets"))]
-const SHEET_CALLS: usize = 0;
-
-#[cfg(not(feature = "sheets"))]
-fn sheet_step(_: &mut Random, _: Shape, _: &mut Tables, _: &mut Book, _: Lengths) {
-    unreachable!("no sheet call is drawn");
-}
-
-#[cfg(feature = "sheets")]
 const SHEET_CALLS: usize = 4;
 
 /// A writing, whose sheet is as the book's; or a reading of a sheet, sound or damaged.
-#[cfg(feature = "sheets")]
 fn sheet_step(random: &mut Random, shape: Shape, t: &mut Tables, book: &mut Book, l: Lengths) {
     use silkendoz::model::sheet::{blocks_needed, read, seal, write};
     let library = book.library().clone();

@@ -1,5 +1,4 @@
 //! Sheets written, read, and damaged at every byte: the calls against the model.
-#![cfg(feature = "sheets")]
 
 mod common;
 

@@ -1,11 +1,12 @@
 -- What a caller is told, answer by answer; and that a call's own equation, with what is told of its answer, is the exported call's.
-use Prim.Native.Nat.{ℕ}
+use Prim.Native.Nat.{ℕ, _*_}
 use mathlib.Core.Path.{_≡_, refl, sym, ap, ap₂, _∙_}
 use mathlib.Core.List.{List, [], _∷_}
 use lib.ListN.{set, take}
 use Rattle.dstree.specs.Refusals.{Refusal, numberOf, placeOf}
 use Rattle.dstree.specs.Matching.{Match}
-use Rattle.dstree.specs.Book.{Answer, done, added, matched, refusing}
+use Rattle.dstree.specs.Sheet.{blockSize}
+use Rattle.dstree.specs.Book.{Answer, done, added, matched, written, refusing}
 use Rattle.tables.specs.Tables.{Tables}
 use Rattle.tables.specs.Answers.{wordOf, Outcome, outcome, OutcomeWith, outcomeWith}
 use Rattle.tables.specs.declared.Refusal as r
@@ -18,7 +19,13 @@ use Rattle.adding.specs.declared.Added.the-variants as a
 use Rattle.matching.specs.Answered as found
 use Rattle.matching.specs.declared.Found.{Found}
 use Rattle.matching.specs.declared.Found.the-variants as f
-use Rattle.library_c.specs.Told.{codeOf, valuesOf, laid, Told, told, toldOf, Exported, exported, exportedOf, ExportedWith, exportedWith, exportedMatch}
+use Rattle.sheet_writing.specs.Answered as writing
+use Rattle.sheet_writing.specs.declared.Written.{Written}
+use Rattle.sheet_writing.specs.declared.Written.the-variants as w
+use Rattle.sheet_reading.specs.Answered as reading
+use Rattle.sheet_reading.specs.declared.Read.{Read}
+use Rattle.sheet_reading.specs.declared.Read.the-variants as d
+use Rattle.library_c.specs.Told.{codeOf, valuesOf, laid, Told, told, toldOf, Exported, exported, exportedOf, ExportedWith, exportedWith, exportedBeside}
 
 one-laid : (x : ℕ) (out : List ℕ) → set out 0 x ≡ laid (x ∷ []) out
 unfolding laid
@@ -45,6 +52,10 @@ pub added-told : (number : ℕ) (out out′ : List ℕ) → out′ ≡ set out 0
 unfolding toldOf codeOf valuesOf
 added-told number out out′ g = ap (λ (l : List ℕ). told 0 l) (g ∙ one-laid number out)
 
+pub written-told : (blocks : ℕ) (sheet out out′ : List ℕ) → out′ ≡ set out 0 blocks → told 0 out′ ≡ toldOf (written blocks sheet) out
+unfolding toldOf codeOf valuesOf
+written-told blocks sheet out out′ g = ap (λ (l : List ℕ). told 0 l) (g ∙ one-laid blocks out)
+
 pub matched-told : (found : Match) (out out′ : List ℕ) → out′ ≡ set (set (set (set out 0 (found .trace)) 1 (found .distance)) 2 (found .leaves)) 3 (found .traces)
     → told 0 out′ ≡ toldOf (matched found) out
 unfolding toldOf codeOf valuesOf
@@ -59,10 +70,10 @@ pub exported-call : (code : ℕ) (out out′ : List ℕ) (answer : Answer) (afte
     → exported code out′ after ≡ exportedOf o out
 exported-call code out out′ answer after o e f = ap {B = Exported} (λ (x : Told). record { told = x; after = after }) e ∙ ap (λ (x : Outcome). exportedOf x out) f
 
-pub exported-match : (code : ℕ) (out out′ : List ℕ) (answer : Answer) (after : Tables) (trail : List ℕ) (o : OutcomeWith) → told code out′ ≡ toldOf answer out
-    → outcomeWith answer after trail ≡ o → exportedWith code out′ after trail ≡ exportedMatch o out
-exported-match code out out′ answer after trail o e f =
-    ap {B = ExportedWith} (λ (x : Told). record { told = x; after = after; beside = trail }) e ∙ ap (λ (x : OutcomeWith). exportedMatch x out) f
+pub exported-beside : (code : ℕ) (out out′ : List ℕ) (answer : Answer) (after : Tables) (trail : List ℕ) (o : OutcomeWith) → told code out′ ≡ toldOf answer out
+    → outcomeWith answer after trail ≡ o → exportedWith code out′ after trail ≡ exportedBeside o out
+exported-beside code out out′ answer after trail o e f =
+    ap {B = ExportedWith} (λ (x : Told). record { told = x; after = after; beside = trail }) e ∙ ap (λ (x : OutcomeWith). exportedBeside x out) f
 
 -- ---- the answers of the calls, case by case
 
@@ -95,3 +106,19 @@ pub found-refused : (answer : Found) (trail : List ℕ) (why : r.Refusal) (out :
     → toldOf (refusing (wordOf why)) out ≡ toldOf (found.answerBy answer trail) out
 unfolding found.answerBy
 found-refused answer trail why out e = ap (λ (x : Found). toldOf (found.answerBy x trail) out) (sym e)
+
+pub written-blocks : (answer : Written) (blocks : ℕ) (sheet out out′ : List ℕ) → out′ ≡ set out 0 blocks → answer ≡ w.Blocks blocks → told 0 out′ ≡ toldOf (writing.answerBy answer sheet) out
+unfolding writing.answerBy
+written-blocks answer blocks sheet out out′ g e = written-told blocks (take (blockSize * blocks) sheet) out out′ g ∙ ap (λ (x : Written). toldOf (writing.answerBy x sheet) out) (sym e)
+
+pub written-refused : (answer : Written) (sheet : List ℕ) (why : r.Refusal) (out : List ℕ) → answer ≡ w.Refused why → toldOf (refusing (wordOf why)) out ≡ toldOf (writing.answerBy answer sheet) out
+unfolding writing.answerBy
+written-refused answer sheet why out e = ap (λ (x : Written). toldOf (writing.answerBy x sheet) out) (sym e)
+
+pub read-done : (answer : Read) (out : List ℕ) → answer ≡ d.Done → told 0 out ≡ toldOf (reading.answerOf answer) out
+unfolding reading.answerOf
+read-done answer out e = done-told out ∙ ap (λ (x : Read). toldOf (reading.answerOf x) out) (sym e)
+
+pub read-refused : (answer : Read) (why : r.Refusal) (out : List ℕ) → answer ≡ d.Refused why → toldOf (refusing (wordOf why)) out ≡ toldOf (reading.answerOf answer) out
+unfolding reading.answerOf
+read-refused answer why out e = ap (λ (x : Read). toldOf (reading.answerOf x) out) (sym e)

@@ -62,6 +62,6 @@ pub record ExportedWith : Type 0 where
 abbrev pub exportedWith : ℕ → List ℕ → Tables → List ℕ → ExportedWith
 exportedWith code out after beside = record { told = told code out; after = after; beside = beside }
 
--- of a match: with its trail
-abbrev pub exportedMatch : OutcomeWith → List ℕ → ExportedWith
-exportedMatch o out = record { told = toldOf (o .answer) out; after = o .after; beside = o .beside }
+-- of a match, with its trail, and of a writing, with its sheet
+abbrev pub exportedBeside : OutcomeWith → List ℕ → ExportedWith
+exportedBeside o out = record { told = toldOf (o .answer) out; after = o .after; beside = o .beside }

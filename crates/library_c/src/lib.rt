@@ -1,6 +1,6 @@
 // The calls for C and for Rust: numbers and slices only, a slice as a pointer and then its length. Each is the call of the same name, and its contract
 // is that call's own definition. The code is 0, or the number of the refusal; the answer's values go into the lent slice `out`, in order: adding the
-// trace's number, a match the trace's number, the distance, leaves read and traces read, a refusal its place. A shorter `out` takes the first of them, and
+// trace's number, a match the trace's number, the distance, leaves read and traces read, a writing the number of blocks, a refusal its place. A shorter `out` takes the first of them, and
 // places behind them stay.
 
 pub mod telling; // an answer as numbers
@@ -11,7 +11,9 @@ ghost use Rattle.tables.specs.Tables.{tables};
 ghost use Rattle.tables.specs.Answers.{openOf};
 ghost use Rattle.adding.specs.Added.{addOf};
 ghost use Rattle.matching.specs.Matched.{nearestOf};
-ghost use Rattle.library_c.specs.Told.{exported, exportedOf, exportedWith, exportedMatch};
+ghost use Rattle.sheet_writing.specs.Written.{writeOf};
+ghost use Rattle.sheet_reading.specs.Loaded.{readOf};
+ghost use Rattle.library_c.specs.Told.{exported, exportedOf, exportedWith, exportedBeside};
 
 // Two wrong programs that the contract rules out: one that gives the place as its code, and one that writes the place of a refusal into a place of `out`
 // behind the first.
@@ -73,11 +75,54 @@ pub extern "C" fn silkendoz_nearest(
     ensures { λ r. ⌜ exportedWith r (now (out .exit))
         (tables (now (control .entry)) (now (samples .entry)) (now (nodes .entry)) (now (links .entry)) (now (work .exit)))
         (now (trail .exit))
-        ≡ exportedMatch (nearestOf
+        ≡ exportedBeside (nearestOf
         (tables (now (control .entry)) (now (samples .entry)) (now (nodes .entry)) (now (links .entry)) (now (work .entry)))
         (now (query .entry))
         (now (trail .entry))) (now (out .entry)) ⌝ }
 {
     let answer = matching::nearest(control, samples, nodes, links, work, trail, query);
     telling::tell_found(answer, out)
+}
+
+// Two wrong programs that the contract rules out: one that tells the number of bytes, and one that tells the blocks of a sheet that it refused.
+#[no_mangle]
+pub extern "C" fn silkendoz_write_sheet(
+    control: &[u16],
+    samples: &[i16],
+    nodes: &[i64],
+    links: &[u16],
+    work: &[u64],
+    sheet: &mut [u8],
+    out: &mut [u64],
+) -> u64
+    ensures { λ r. ⌜ exportedWith r (now (out .exit))
+        (tables (now (control .entry)) (now (samples .entry)) (now (nodes .entry)) (now (links .entry)) (now (work .entry)))
+        (now (sheet .exit))
+        ≡ exportedBeside (writeOf
+        (tables (now (control .entry)) (now (samples .entry)) (now (nodes .entry)) (now (links .entry)) (now (work .entry)))
+        (now (sheet .entry))) (now (out .entry)) ⌝ }
+{
+    let answer = sheet_writing::write_sheet(control, samples, nodes, links, work, sheet);
+    telling::tell_written(answer, out)
+}
+
+// Two wrong programs that the contract rules out: one that tells place 0 for every torn sheet, and one that tells the number of traces read.
+#[no_mangle]
+pub extern "C" fn silkendoz_read_sheet(
+    control: &mut [u16],
+    samples: &mut [i16],
+    nodes: &mut [i64],
+    links: &mut [u16],
+    work: &mut [u64],
+    sheet: &[u8],
+    out: &mut [u64],
+) -> u64
+    ensures { λ r. ⌜ exported r (now (out .exit))
+        (tables (now (control .exit)) (now (samples .exit)) (now (nodes .exit)) (now (links .exit)) (now (work .exit)))
+        ≡ exportedOf (readOf
+        (tables (now (control .entry)) (now (samples .entry)) (now (nodes .entry)) (now (links .entry)) (now (work .entry)))
+        (now (sheet .entry))) (now (out .entry)) ⌝ }
+{
+    let answer = sheet_reading::read_sheet(control, samples, nodes, links, work, sheet);
+    telling::tell_read(answer, out)
 }

@@ -3,6 +3,8 @@
 use adding::Added;
 use matching::Found;
 use opening::Opened;
+use sheet_reading::Read;
+use sheet_writing::Written;
 use tables::Refusal;
 ghost use mathlib.Core.Path.{_≡_};
 ghost use mathlib.Core.List.{List};
@@ -13,6 +15,8 @@ ghost use Rattle.tables.specs.Answers.{wordOf};
 ghost use Rattle.opening.specs.Opened as opened;
 ghost use Rattle.adding.specs.Answered as added;
 ghost use Rattle.matching.specs.Answered as matched;
+ghost use Rattle.sheet_writing.specs.Answered as writing;
+ghost use Rattle.sheet_reading.specs.Answered as reading;
 ghost use Rattle.library_c.specs.Told.{told, toldOf};
 
 // A number at its place, if there is such a place.
@@ -67,5 +71,27 @@ pub fn tell_found(answer: Found, out: &mut [u64]) -> u64
             0
         }
         Found::Refused(why) => tell_refusal(why, out),
+    }
+}
+
+// The sheet is told by the slice that the writing leaves it in.
+pub fn tell_written(answer: Written, out: &mut [u64]) -> u64
+    ensures { λ r. ⌜ ((sheet : List ℕ) → told r (now (out .exit)) ≡ toldOf (writing.answerBy answer sheet) (now (out .entry))) ⌝ }
+{
+    match answer {
+        Written::Blocks(count) => {
+            put(out, 0, count);
+            0
+        }
+        Written::Refused(why) => tell_refusal(why, out),
+    }
+}
+
+pub fn tell_read(answer: Read, out: &mut [u64]) -> u64
+    ensures { λ r. ⌜ told r (now (out .exit)) ≡ toldOf (reading.answerOf answer) (now (out .entry)) ⌝ }
+{
+    match answer {
+        Read::Done => 0,
+        Read::Refused(why) => tell_refusal(why, out),
     }
 }

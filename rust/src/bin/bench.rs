@@ -88,17 +88,11 @@ fn test_of_tables(library: &mut TraceLibrary) -> f64 {
     median((0..QUERIES).map(|_| time(|| black_box(library.nearest(black_box(&wrong)))).0).collect())
 }
 
-#[cfg(feature = "sheets")]
 fn sheets(library: &TraceLibrary) -> (String, String) {
     let sheet = library.write_sheet().expect("it is sound");
     let write = median((0..21).map(|_| time(|| black_box(library.write_sheet())).0).collect());
     let read = median((0..3).map(|_| time(|| black_box(TraceLibrary::read_sheet(&sheet))).0).collect());
     (format!("{write:.0}"), format!("{read:.0}"))
-}
-
-#[cfg(not(feature = "sheets"))]
-fn sheets(_: &TraceLibrary) -> (String, String) {
-    ("-".to_string(), "-".to_string())
 }
 
 fn line(data: Data, leaf_size: usize) {

@@ -173,18 +173,15 @@ pub fn check_scan(library: &Library, query: &[i16], found: &Match) {
 
 // ---- sheets
 
-#[cfg(feature = "sheets")]
 pub fn write_sheet(t: &Tables, l: Lengths, sheet: &mut [u8]) -> Result<u64, Refused> {
     told(calls::write_sheet(&t.control[..l.control], &t.samples[..l.samples], &t.nodes[..l.nodes], &t.links[..l.links], &t.work[..l.work], sheet))
 }
 
-#[cfg(feature = "sheets")]
 pub fn read_sheet(t: &mut Tables, l: Lengths, sheet: &[u8]) -> Result<(), Refused> {
     told(calls::read_sheet(lent(t, l), sheet))
 }
 
 /// The answer, and every byte of the lent sheet: those behind the needed blocks stay, and a refusal leaves all.
-#[cfg(feature = "sheets")]
 pub fn check_write(t: &Tables, l: Lengths, sheet: &mut [u8]) -> Result<u64, Refused> {
     let before = sheet.to_vec();
     let answer = write_sheet(t, l, sheet);
@@ -203,7 +200,6 @@ pub fn check_write(t: &Tables, l: Lengths, sheet: &mut [u8]) -> Result<u64, Refu
 }
 
 /// The answer, and every place: a reading that is not refused opens and adds.
-#[cfg(feature = "sheets")]
 pub fn check_read(t: &mut Tables, l: Lengths, sheet: &[u8]) -> Result<Library, Refused> {
     let before = t.clone();
     let answer = read_sheet(t, l, sheet);

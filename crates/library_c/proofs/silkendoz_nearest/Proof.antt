@@ -1,6 +1,6 @@
 -- `silkendoz_nearest` meets its contract: the match's own equation, and what is told of its answer.
 use borrow.Author.Needs.{needs}
-use Rattle.library_c.proofs.Told.{exported-match}
+use Rattle.library_c.proofs.Told.{exported-beside}
 use Rattle.library_c.proofs.silkendoz_nearest.Statement.{statement}
 use Rattle.library_c.proofs.silkendoz_nearest.Tie as tie
 
@@ -23,7 +23,7 @@ returns : tie.Need-returns
 returns c =
     let e = c .before .before in
     let q = e .before .before .before .before .before .before in
-    exported-match _ _ _ _ _ _ _ (e .tell-found .ensures (q .nearest .last .1 .1 .1 .1 .1 .0)) (q .nearest .ensures)
+    exported-beside _ _ _ _ _ _ _ (e .tell-found .ensures (q .nearest .last .1 .1 .1 .1 .1 .0)) (q .nearest .ensures)
 
 pub silkendoz-nearest-spec : {M : Type 1} → statement M
 silkendoz-nearest-spec =

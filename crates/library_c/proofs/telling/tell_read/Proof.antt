@@ -1,0 +1,33 @@
+-- `telling::tell_read` meets its contract, arm by arm.
+use borrow.Author.Needs.{needs}
+use mathlib.Core.Path.{_∙_}
+use denote.Ref.{now}
+use Rattle.library_c.proofs.Told.{read-done, read-refused}
+use Rattle.library_c.proofs.telling.tell_read.Statement.{statement}
+use Rattle.library_c.proofs.telling.tell_read.Tie as tie
+
+enum-told : tie.Need-enum-told
+enum-told c = search needs
+
+enum-known-answer : tie.Need-enum-known-answer
+enum-known-answer c = search needs
+
+tell-refusal-requires : tie.Need-tell-refusal-requires
+tell-refusal-requires c κs = search needs
+
+returns : tie.Need-returns
+returns c = let s = c .before .before .before in read-done (s .args .answer) (now (s .args .out)) (c .enum-told .given .1)
+
+same-length : tie.Need-same-length
+same-length c = search needs
+
+returns-2 : tie.Need-returns-2
+returns-2 c =
+    let r = c .before .before in
+    let s = r .before .before .before .before .before .before in
+    r .tell-refusal .ensures ∙ read-refused (s .args .answer) _ (now (s .args .out)) (r .before .before .before .answer .given .1)
+
+pub tell-read-spec : {M : Type 1} → statement M
+tell-read-spec =
+    tie.close
+    (tie.spec enum-told enum-known-answer tell-refusal-requires returns same-length returns-2)

@@ -9,7 +9,6 @@ use borrow.Author.Tests.{not-false, eqb-true, eqb-false}
 use lib.IntN.{ℤ}
 use lib.ListN.{length}
 use lib.Dec.{T, eqb}
-use Rattle.integer.specs.Words.{if_then_else_}
 use Rattle.dstree.specs.Measures.{Trace, inRange, recordsNeeded, linksNeeded}
 use Rattle.dstree.specs.Refusals as word
 use Rattle.dstree.specs.Refusals.{Condition, _refuses_, firstOf}
@@ -22,30 +21,11 @@ use Rattle.tables.specs.Answers.{wordOf, foundBy, madeConditions}
 use Rattle.tables.specs.declared.Refusal.{Refusal}
 use Rattle.tables.specs.declared.Verdict.the-variants as v
 use Rattle.tables.proofs.Judged.{none-first, lent-accepted}
+use Rattle.tables.proofs.Firsts.{first-some, first-none, none-both}
 use Rattle.integer.proofs.Lists.{strict}
 use Rattle.insertion_memory.proofs.FromTables.{facts}
 use Rattle.adding.specs.Added.{restConditions, addingConditions, Lends}
 use Rattle.adding.specs.Putting.{Takes}
-
--- ---- the first of two lists of conditions
-
-first-some : (a b : List Condition) (why : word.Refusal) → firstOf a ≡ some why → firstOf (a ++ b) ≡ some why
-unfolding firstOf
-first-some [] b why e = let z : _≡_ {A = ℕ} 0 1 = cc in absurd (omega arith)
-first-some (c ∷ a) b why e = by (c .holds) e (first-some a b why)
-  where
-    by : (t : Bool) → (if t then some (c .refusal) else firstOf a) ≡ some why → (firstOf a ≡ some why → firstOf (a ++ b) ≡ some why) → (if t then some (c .refusal) else firstOf (a ++ b)) ≡ some why
-    by true e ih = e
-    by false e ih = ih e
-
-first-none : (a b : List Condition) → firstOf a ≡ none → firstOf (a ++ b) ≡ firstOf b
-unfolding firstOf
-first-none [] b e = refl
-first-none (c ∷ a) b e = by (c .holds) e (first-none a b)
-  where
-    by : (t : Bool) → (if t then some (c .refusal) else firstOf a) ≡ none → (firstOf a ≡ none → firstOf (a ++ b) ≡ firstOf b) → (if t then some (c .refusal) else firstOf (a ++ b)) ≡ firstOf b
-    by true e ih = let z : _≡_ {A = ℕ} 0 1 = cc in absurd (omega arith)
-    by false e ih = ih e
 
 module _ (t : Tables) (x : Trace) where
   in-two-parts : addingConditions t x ≡ lentConditionsOf (lentOf t) (measuresOf t) ++ restConditions t (length x)
@@ -76,15 +56,6 @@ lends t e =
     record { control-long = ok .room .control-room; measured = not-false _ (two .0); nodes-long = ok .room .nodes-room; links-long = ok .room .links-room }
 
 -- ---- nothing refused
-
-none-both : (a b : List Condition) → firstOf (a ++ b) ≡ none → (firstOf a ≡ none) × (firstOf b ≡ none)
-unfolding firstOf
-none-both [] b e = (refl, e)
-none-both (c ∷ a) b e = by (c .holds) e (none-both a b)
-  where
-    by : (t : Bool) → (if t then some (c .refusal) else firstOf (a ++ b)) ≡ none → (firstOf (a ++ b) ≡ none → (firstOf a ≡ none) × (firstOf b ≡ none)) → ((if t then some (c .refusal) else firstOf a) ≡ none) × (firstOf b ≡ none)
-    by true e ih = let z : _≡_ {A = ℕ} 0 1 = cc in absurd (omega arith)
-    by false e ih = ih e
 
 holds : (b : Bool) → b ≡ true → T b
 holds true e = tt

@@ -74,7 +74,7 @@ long-after t x long a =
     }
 
 module _ (m : Measures) where
-  shorter : (traces more : List Trace) → T (isLibrary sampleLimit m (traces ++ more)) → T (isLibrary sampleLimit m traces)
+  pub shorter : (traces more : List Trace) → T (isLibrary sampleLimit m (traces ++ more)) → T (isLibrary sampleLimit m traces)
   unfolding isLibrary
   shorter traces more library =
       let p = each sampleLimit m traces more library in

@@ -1,6 +1,6 @@
 -- The conditions of number 10, by their tests.
 use Prim.Native.Nat.{ℕ, _*_, _-_}
-use mathlib.Core.Path.{_≡_, refl, _∙_, ap}
+use mathlib.Core.Path.{_≡_, ap}
 use mathlib.Core.Bool.{Bool, true, false, not}
 use mathlib.Core.Option.{none, some}
 use mathlib.Core.List.{List, [], _∷_}
@@ -12,7 +12,6 @@ use Rattle.dstree.specs.Refusals.{badSheet, Condition, _refuses_, firstOf}
 use Rattle.dstree.specs.Sheet.{blockSize, part, letters, blocksIn, measuresIn, countIn, sampleBlocksNeeded, areZero, zerosIn, badConditions}
 use Rattle.dstree.proofs.SheetPieces.{pieces-length}
 use Rattle.sheet_judging.specs.Blocks.{blockCount, InBlocks, blockAt, blocksFrom}
-use Rattle.sheet_judging.specs.Heads.{Says}
 use Rattle.sheet_judging.proofs.Places.{blocks-are}
 use Rattle.sheet_judging.proofs.Heads.{first-letters}
 

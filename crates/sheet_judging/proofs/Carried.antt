@@ -1,14 +1,13 @@
 -- The bytes that samples take, through the blocks.
 use Prim.Native.Nat.{ℕ, zero, suc, _+_, _*_, _-_, _≤_, _<_}
-use mathlib.Core.Path.{_≡_, refl, sym, _∙_, ap}
-use mathlib.Core.List.{List, [], _∷_, _++_, map, flatten}
+use mathlib.Core.Path.{_≡_, _∙_, ap}
+use mathlib.Core.List.{List, _++_, map, flatten}
 use native.Mathlib.Omega.{arith}
-use native.Mathlib.Nat.{suc-mul, zero-mul}
 use lib.ListN.{length, take, drop}
 use lib.Seq.{drop-append-le, drop-append-add}
 use Rattle.dstree.specs.Sheet.{blockSize, part}
 use Rattle.dstree.proofs.SheetPieces.{part-length}
-use Rattle.sheet_judging.specs.Blocks.{blockCount, InBlocks, blockAt, blocksFrom}
+use Rattle.sheet_judging.specs.Blocks.{blockCount, InBlocks, blocksFrom}
 use Rattle.sheet_judging.proofs.Parts.{part-part}
 use Rattle.sheet_judging.proofs.Places.{next-block, block-inside}
 

@@ -1,14 +1,13 @@
 -- The number of two bytes, read as a sample: as the machine makes it, and as the definition has it.
 use mathlib.Core.Path.{_≡_, sym, ap, _∙_, subst}
 use mathlib.Core.List.{List}
-use Prim.Native.Nat.{ℕ, suc, _+_, _*_, _-_, _^_, _≤_, _<_}
+use Prim.Native.Nat.{ℕ, suc, _*_, _-_, _≤_, _<_}
 use native.Mathlib.Omega.{arith}
 use lib.IntN.{ℤ, pos, negsuc, _-ℤ_}
 use mir.Syntax.{w16, w64}
 use mir.Val.{SFits, toZ, ofZ}
 use mir.Facts.{toZ-ofZ, toZ-pos}
 use borrow.Author.Tests.{lt-ltb, le-ltb}
-use Rattle.integer.specs.Words.{if_then_else_}
 use Rattle.integer.proofs.Width.{read, of-mag}
 use Rattle.dstree.specs.Sheet.{numberIn, narrow, decoded}
 

@@ -1,19 +1,19 @@
 -- The letters one after another, and the fields of block 0.
-use Prim.Native.Nat.{ℕ, zero, suc, _+_, _-_, _≤_, _<_}
-use mathlib.Core.Path.{_≡_, refl, sym, _∙_, ap, ap₂}
+use Prim.Native.Nat.{ℕ, suc, _+_, _-_, _≤_, _<_}
+use mathlib.Core.Path.{_≡_, sym, _∙_, ap}
 use mathlib.Core.Bool.{Bool, true, false}
-use mathlib.Core.List.{List, [], _∷_}
+use mathlib.Core.List.{List, _∷_}
 use native.Mathlib.Omega.{arith}
-use lib.ListN.{length, getD, take, drop}
+use lib.ListN.{length, getD, drop}
 use lib.Seq.{drop-cons}
 use lib.Dec.{eqb}
 use borrow.Author.Tests.{eq-eqb, ne-eqb}
 use Rattle.integer.specs.Words.{same}
-use Rattle.dstree.specs.Measures.{Measures, measures}
+use Rattle.dstree.specs.Measures.{measures}
 use Rattle.dstree.specs.Sheet.{blockSize, part, numberIn, letters, measuresIn, countIn}
 use Rattle.sheet_judging.specs.Blocks.{blockAt}
 use Rattle.sheet_judging.specs.Heads.{Says}
-use Rattle.sheet_judging.proofs.Parts.{part-part, part-cons, part-none}
+use Rattle.sheet_judging.proofs.Parts.{part-part, part-cons}
 
 -- ---- letters
 

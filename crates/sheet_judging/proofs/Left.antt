@@ -1,13 +1,13 @@
 -- What is left behind the last sample: it lies in the last block.
-use Prim.Native.Nat.{ℕ, zero, suc, _+_, _*_, _-_, _/_, _≤_, _<_}
-use mathlib.Core.Path.{_≡_, refl, sym, _∙_, ap}
+use Prim.Native.Nat.{ℕ, suc, _+_, _*_, _-_, _/_, _≤_, _<_}
+use mathlib.Core.Path.{_≡_, _∙_, ap}
 use mathlib.Core.Bool.{true}
-use mathlib.Core.List.{List, [], _∷_, _++_, map, flatten, append-nil}
+use mathlib.Core.List.{List, [], _++_, map, flatten, append-nil}
 use native.Mathlib.Omega.{arith}
-use lib.ListN.{length, drop}
+use lib.ListN.{drop}
 use lib.Seq.{drop-nil}
-use Rattle.integer.specs.Words.{every, roundedUp}
-use Rattle.dstree.specs.Sheet.{narrow, part, areZero, sampleBytesIn}
+use Rattle.integer.specs.Words.{every}
+use Rattle.dstree.specs.Sheet.{part, areZero, sampleBytesIn}
 use Rattle.dstree.proofs.SheetRead.{sample-bytes}
 use Rattle.sheet_judging.specs.Blocks.{blockCount, InBlocks, blocksFrom}
 use Rattle.sheet_judging.proofs.Parts.{drop-part}

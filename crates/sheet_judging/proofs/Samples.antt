@@ -3,21 +3,21 @@ use Prim.Native.Nat.{ℕ, zero, suc, _+_, _*_, _-_, _/_, _%_, _≤_, _<_}
 use mathlib.Core.Path.{_≡_, refl, sym, _∙_, ap, ap₂, subst}
 use mathlib.Core.Bool.{true}
 use mathlib.Core.Option.{none}
-use mathlib.Core.List.{List, [], _∷_, _++_, map, flatten}
+use mathlib.Core.List.{List, [], _∷_, _++_, map}
 use native.Mathlib.Omega.{arith}
 use native.Mathlib.Nat.{suc-mul, zero-mul, mul-le-mul-right}
-use lib.IntN.{ℤ, pos}
+use lib.IntN.{ℤ}
 use lib.ListN.{length, getD, take, drop, length-drop}
-use lib.Seq.{drop-drop, drop-nil, take-nil, take-append-le, take-take}
+use lib.Seq.{drop-drop, take-append-le, take-take}
 use lib.Dec.{T}
 use Rattle.integer.proofs.Tests.{test-true}
 use Rattle.integer.proofs.Lists.{all-more, all-parts}
 use Rattle.integer.proofs.Rows.{map-append}
-use Rattle.dstree.specs.Measures.{Trace, inRange}
+use Rattle.dstree.specs.Measures.{inRange}
 use Rattle.dstree.specs.Refusals.{firstOf}
 use Rattle.dstree.specs.Sheet.{blockSize, narrow, part, pieces, decoded, blocksIn, measuresIn, sampleBytesIn, tracesIn, sampleBlocksNeeded, tornConditions, badConditions, sheetConditions}
 use Rattle.dstree.proofs.Conditions.{NoneOf, none-of}
-use Rattle.dstree.proofs.SheetPieces.{part-length, pieces-length}
+use Rattle.dstree.proofs.SheetPieces.{pieces-length}
 use Rattle.dstree.proofs.SheetRead.{Good, none-good, sample-bytes}
 use Rattle.dstree.proofs.SheetWritten.{needed-room}
 use Rattle.tables.proofs.Range.{InRange, in-range}

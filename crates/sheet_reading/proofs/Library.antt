@@ -1,8 +1,8 @@
 -- What a sheet that is not refused holds is a library, and so are its first traces.
-use mathlib.Core.Path.{_≡_, refl, sym, ap, _∙_, subst}
+use mathlib.Core.Path.{_≡_, sym, ap, _∙_, subst}
 use mathlib.Core.Option.{none}
 use mathlib.Core.List.{List, [], _∷_, _++_, foldl, foldl-append}
-use Prim.Native.Nat.{ℕ, zero, suc, _+_, _≤_, _<_}
+use Prim.Native.Nat.{ℕ, suc, _+_, _<_}
 use native.Mathlib.Omega.{arith}
 use lib.IntN.{ℤ}
 use lib.ListN.{length, getD, take, drop, take-append-drop}
@@ -10,18 +10,17 @@ use lib.Seq.{take-suc, length-take-le}
 use lib.Dec.{T, ltb, lt→ltb}
 use mir.Facts.{yes-and}
 use Rattle.integer.specs.Words.{every}
-use Rattle.integer.proofs.Lists.{in-getD, from-every}
-use Rattle.dstree.specs.Measures.{Trace, Measures, sampleLimit, isTrace, isLibrary}
+use Rattle.integer.proofs.Lists.{in-getD}
+use Rattle.dstree.specs.Measures.{Trace, Measures, sampleLimit, isLibrary}
 use Rattle.dstree.specs.Refusals.{firstOf}
-use Rattle.dstree.specs.Sheet.{areBytes, narrow, decoded, pieces, measuresIn, sampleBytesIn, tracesIn, sheetConditions}
+use Rattle.dstree.specs.Sheet.{areBytes, pieces, tracesIn, sheetConditions}
 use Rattle.dstree.proofs.Laws.{trace-length}
 use Rattle.dstree.proofs.RoundTrips.{is-library}
 use Rattle.dstree.proofs.SheetPieces.{pieces-length}
-use Rattle.tables.specs.Tables.{Tables, tables, measuresOf, traceCount}
+use Rattle.tables.specs.Tables.{Tables, tables, traceCount}
 use Rattle.insertion_memory.specs.Memory.{addedTo}
 use Rattle.insertion_memory.proofs.Made.{Holds, count-is, room, is-trace, shorter, holds-all}
 use Rattle.adding.specs.Putting.{Takes}
-use Rattle.sheet_judging.specs.Blocks.{blockAt, blocksFrom}
 use Rattle.sheet_judging.specs.Traces.{sizeOf, countOf, tracesOf}
 use Rattle.sheet_reading.proofs.Told.{said, judged-holds}
 

@@ -1,10 +1,9 @@
 -- An opened library is empty, whatever the search work holds.
-use mathlib.Core.Path.{_≡_, refl, sym, ap, _∙_, subst}
+use mathlib.Core.Path.{_≡_, sym, subst}
 use mathlib.Core.List.{List, []}
 use Prim.Native.Nat.{ℕ}
 use lib.IntN.{ℤ}
 use lib.Dec.{T}
-use Rattle.integer.proofs.Tests.{is-true}
 use Rattle.dstree.specs.Measures.{Measures, inRange}
 use Rattle.tables.specs.Tables.{Tables, tables, lentOf}
 use Rattle.tables.specs.View.{treeIn, tracesIn, kindsNamed, wellFormed}

@@ -4,7 +4,7 @@ use mathlib.Core.Option.{Option, none, some}
 use mathlib.Core.List.{List}
 use Prim.Native.Nat.{ℕ}
 use native.Mathlib.Omega.{arith}
-use Rattle.dstree.specs.Measures.{Trace, Measures}
+use Rattle.dstree.specs.Measures.{Measures}
 use Rattle.dstree.specs.Refusals as word
 use Rattle.dstree.specs.Refusals.{Condition, firstOf}
 use Rattle.dstree.specs.Sheet.{measuresIn, sheetConditions, Judged, refused, holds, heldBy, judgedBy, judgeSheet}

@@ -1,5 +1,5 @@
 -- `sheet_judging::blocks::first_torn` meets its contract. The loop's invariant: what the blocks from the cursor on show is what all blocks show.
-use mathlib.Core.Path.{_≡_, refl, sym, ap, _∙_}
+use mathlib.Core.Path.{_≡_, sym, ap, _∙_}
 use mathlib.Core.List.{List}
 use Prim.Native.Nat.{ℕ, suc, _+_, _-_, _≤_, _<_}
 use native.Mathlib.Omega.{arith}

@@ -7,7 +7,7 @@ use lib.Dec.{eqb}
 use denote.Ref.{now}
 use borrow.Author.Needs.{needs}
 use borrow.Author.Tests.{eq-eqb, ne-eqb}
-use Rattle.dstree.specs.Sheet.{blockSize, part, numberIn, checkOf, kindOf, isTorn}
+use Rattle.dstree.specs.Sheet.{blockSize, part, numberIn, checkOf, isTorn}
 use Rattle.sheet_judging.proofs.blocks.is_torn.Statement.{statement}
 use Rattle.sheet_judging.proofs.blocks.is_torn.Tie as tie
 

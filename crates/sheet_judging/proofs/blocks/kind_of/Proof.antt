@@ -1,5 +1,5 @@
 -- `sheet_judging::blocks::kind_of` meets its contract: block 0 has a kind of its own.
-use mathlib.Core.Path.{_≡_, refl, sym, ap}
+use mathlib.Core.Path.{_≡_, refl}
 use Prim.Native.Nat.{ℕ, zero, suc}
 use Rattle.dstree.specs.Sheet.{narrow, kindOf}
 use Rattle.sheet_judging.proofs.blocks.kind_of.Statement.{statement}

@@ -14,8 +14,8 @@ use mir.Facts.{toZ-ofZ}
 use denote.Ref.{now}
 use Rattle.integer.proofs.Width.{of-mag}
 use Rattle.dstree.specs.Sheet.{narrow}
-use Rattle.sheet_judging.specs.Blocks.{InBlocks, blockCount}
-use Rattle.sheet_judging.specs.Traces.{sampleIn, sizeOf, countOf}
+use Rattle.sheet_judging.specs.Blocks.{blockCount}
+use Rattle.sheet_judging.specs.Traces.{sampleIn, sizeOf}
 use Rattle.sheet_judging.proofs.Samples.{Fine, fine, samplesFrom, samples-none, samples-more, trace-is, sample-inside, number-few, size-few}
 use Rattle.sheet_judging.proofs.traces.read_trace.Statement.{statement}
 use Rattle.sheet_judging.proofs.traces.read_trace.Tie as tie

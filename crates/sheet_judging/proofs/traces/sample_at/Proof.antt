@@ -1,5 +1,5 @@
 -- `sheet_judging::traces::sample_at` meets its contract: where the two bytes of a sample stand.
-use mathlib.Core.Path.{_≡_, sym, ap, _∙_}
+use mathlib.Core.Path.{sym, ap, _∙_}
 use mathlib.Core.List.{List}
 use Prim.Native.Nat.{ℕ, _+_, _*_, _-_, _/_, _%_, _≤_, _<_}
 use native.Mathlib.Omega.{arith}
@@ -9,7 +9,7 @@ use mir.Facts.{toZ-ofZ}
 use denote.Ref.{now}
 use borrow.Author.Needs.{needs}
 use Rattle.integer.proofs.Width.{of-mag}
-use Rattle.dstree.specs.Sheet.{blockSize, narrow, part, numberIn}
+use Rattle.dstree.specs.Sheet.{narrow, part, numberIn}
 use Rattle.sheet_judging.specs.Blocks.{blockCount}
 use Rattle.sheet_judging.proofs.Samples.{place-in, stands}
 use Rattle.sheet_judging.proofs.traces.sample_at.Statement.{statement}

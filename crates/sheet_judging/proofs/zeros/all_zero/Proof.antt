@@ -1,6 +1,6 @@
 -- `sheet_judging::zeros::all_zero` meets its contract: area by area.
 use mathlib.Core.Path.{_≡_, sym, ap, _∙_}
-use mathlib.Core.Bool.{Bool, true, _&&_}
+use mathlib.Core.Bool.{true}
 use mathlib.Core.List.{List}
 use Prim.Native.Nat.{ℕ}
 use native.Mathlib.Omega.{arith}
@@ -8,7 +8,7 @@ use denote.Ref.{now}
 use borrow.Author.Needs.{needs}
 use borrow.Author.Tests.{not-true, not-false}
 use Rattle.dstree.specs.Sheet.{blockSize, part, areZero, blocksIn}
-use Rattle.sheet_judging.specs.Blocks.{InBlocks, thirdsIn}
+use Rattle.sheet_judging.specs.Blocks.{thirdsIn}
 use Rattle.sheet_judging.proofs.AllZero.{zeros-apart}
 use Rattle.sheet_judging.proofs.zeros.all_zero.Statement.{statement}
 use Rattle.sheet_judging.proofs.zeros.all_zero.Tie as tie

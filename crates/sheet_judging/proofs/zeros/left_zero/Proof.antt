@@ -1,15 +1,14 @@
 -- `sheet_judging::zeros::left_zero` meets its contract: what is left lies in the last block, behind the samples that the blocks before it do not hold.
-use mathlib.Core.Path.{_≡_, sym, ap, ap₂, _∙_}
+use mathlib.Core.Path.{_≡_, sym, ap, _∙_}
 use mathlib.Core.List.{List}
 use Prim.Native.Nat.{ℕ, suc, _+_, _*_, _-_, _/_, _≤_, _<_}
 use native.Mathlib.Omega.{arith}
 use lib.ListN.{length}
 use denote.Ref.{now}
-use borrow.Author.Needs.{needs}
 use Rattle.integer.specs.Words.{roundedUp}
 use Rattle.integer.proofs.Lists.{strict}
 use Rattle.dstree.specs.Sheet.{blockSize, narrow, part, areZero}
-use Rattle.sheet_judging.specs.Blocks.{InBlocks, blockCount}
+use Rattle.sheet_judging.specs.Blocks.{blockCount}
 use Rattle.sheet_judging.proofs.Left.{Needed, needed, left-none, left-last}
 use Rattle.sheet_judging.proofs.zeros.left_zero.Statement.{statement}
 use Rattle.sheet_judging.proofs.zeros.left_zero.Tie as tie

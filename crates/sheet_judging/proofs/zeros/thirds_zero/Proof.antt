@@ -1,5 +1,5 @@
 -- `sheet_judging::zeros::thirds_zero` meets its contract. The loop's invariant: byte 3 is 0 in all blocks exactly if it is in those from the cursor on.
-use mathlib.Core.Path.{_≡_, refl, sym, ap, _∙_}
+use mathlib.Core.Path.{_≡_, sym, ap, _∙_}
 use mathlib.Core.List.{List}
 use Prim.Native.Nat.{ℕ, suc, _+_, _*_, _-_, _≤_, _<_}
 use native.Mathlib.Omega.{arith}

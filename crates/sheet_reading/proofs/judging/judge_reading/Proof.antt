@@ -12,10 +12,10 @@ use Rattle.dstree.specs.Sheet.{sheetConditions}
 use Rattle.dstree.specs.Book.{Lent, shortConditions}
 use Rattle.tables.specs.Layout.{layout}
 use Rattle.tables.specs.Judge.{lent}
-use Rattle.tables.specs.Answers.{wordOf, foundBy}
+use Rattle.tables.specs.Answers.{foundBy}
 use Rattle.sheet_judging.proofs.Places.{first-inside}
 use Rattle.sheet_judging.proofs.Samples.{fine, range}
-use Rattle.sheet_reading.proofs.Told.{said, refused-first, short-only}
+use Rattle.sheet_reading.proofs.Told.{refused-first, short-only}
 use Rattle.sheet_reading.proofs.judging.judge_reading.Statement.{statement}
 use Rattle.sheet_reading.proofs.judging.judge_reading.Tie as tie
 

@@ -1,5 +1,5 @@
 -- `sheet_reading::judging::judge_short` meets its contract: each return answers for one condition, the ones before it being false.
-use mathlib.Core.Path.{_≡_, sym, _∙_}
+use mathlib.Core.Path.{sym, _∙_}
 use borrow.Author.Needs.{needs}
 use Rattle.dstree.specs.Refusals.{firstOf}
 use Rattle.tables.specs.Answers.{wordOf, foundBy}

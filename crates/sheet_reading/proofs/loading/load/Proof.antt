@@ -1,16 +1,13 @@
 -- `sheet_reading::loading::load` meets its contract. The loop's invariant: the tables are those that the first traces, added in order, leave.
-use mathlib.Core.Path.{_≡_, refl, sym, ap, _∙_, subst}
+use mathlib.Core.Path.{_≡_, refl, sym, ap, _∙_}
 use mathlib.Core.List.{List, [], foldl}
-use Prim.Native.Nat.{ℕ, suc, _+_, _-_, _≤_, _<_}
+use Prim.Native.Nat.{ℕ, _-_, _≤_, _<_}
 use native.Mathlib.Numerals.{add-one}
 use native.Mathlib.Omega.{arith}
-use lib.IntN.{ℤ}
 use lib.ListN.{length, getD, take}
 use lib.Seq.{take-all}
 use lib.Dec.{T}
 use denote.Ref.{now}
-use borrow.Author.Needs.{needs}
-use Rattle.dstree.specs.Measures.{Trace}
 use Rattle.dstree.specs.Sheet.{areBytes}
 use Rattle.tables.specs.Tables.{Tables, tables}
 use Rattle.insertion_memory.specs.Memory.{addedTo}

@@ -1,2 +1,4 @@
 pub mod Digits
 pub mod Texts
+pub mod Told
+pub mod Matched

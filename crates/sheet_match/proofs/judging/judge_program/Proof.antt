@@ -2,18 +2,18 @@
 use mathlib.Core.Path.{_≡_, sym, ap, ap₂, _∙_}
 use mathlib.Core.Option.{none}
 use mathlib.Core.List.{List, _++_}
-use Prim.Native.Nat.{ℕ, _≤_}
-use native.Mathlib.Omega.{arith}
+use Prim.Native.Nat.{ℕ}
 use lib.ListN.{length}
 use denote.Ref.{now}
 use borrow.Author.Needs.{needs}
 use borrow.Author.Tests.{lt-ltb, le-ltb}
 use Rattle.dstree.specs.Measures.{Measures}
 use Rattle.dstree.specs.Refusals.{firstOf}
-use Rattle.dstree.specs.Sheet.{measuresIn, countIn, blockSize, sheetConditions}
+use Rattle.dstree.specs.Sheet.{measuresIn, countIn, sheetConditions}
 use Rattle.tables.specs.Answers.{wordOf, foundBy}
 use Rattle.tables.proofs.Firsts.{first-some, first-none}
-use Rattle.sheet_judging.specs.Blocks.{InBlocks, blockAt}
+use Rattle.sheet_judging.specs.Blocks.{blockAt}
+use Rattle.sheet_judging.proofs.Places.{first-inside}
 use Rattle.sheet_judging.proofs.Samples.{fine}
 use Rattle.sheet_match.specs.Conditions.{smallConditions, programConditions}
 use Rattle.sheet_match.proofs.judging.judge_program.Statement.{statement}
@@ -51,8 +51,7 @@ module _ (t : tie.After-enum-told) where
   sound = sym (t .before .before .judge-sheet .ensures) ∙ ap foundBy (t .enum-told .given .1)
 
 head-of-requires : tie.Need-head-of-requires
-unfolding blockSize
-head-of-requires c κs = let w = fine (bytes (else c)) (sound c) .whole in omega (arith, w .some-block, w .all-whole)
+head-of-requires c κs = first-inside (bytes (else c)) (fine (bytes (else c)) (sound c) .whole)
 
 judge-small-requires : tie.Need-judge-small-requires
 judge-small-requires c κs = search needs

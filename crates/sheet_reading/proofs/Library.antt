@@ -44,18 +44,23 @@ module _ (bytes : List ℕ) (sound : firstOf (sheetConditions bytes) ≡ none) (
   two-parts : (i : ℕ) → T (isLibrary sampleLimit (said bytes) (take i traces ++ drop i traces))
   two-parts i = subst (λ (l : List Trace). T (isLibrary sampleLimit (said bytes) l)) (sym (take-append-drop i traces)) whole
 
+  pub first-library : (i : ℕ) → T (isLibrary sampleLimit (said bytes) (take i traces))
+  first-library i = shorter (said bytes) (take i traces) (drop i traces) (two-parts i)
+
+  -- each has n samples
+  pub trace-size : (i : ℕ) → i < countOf bytes → length (getD traces i []) ≡ said bytes .n
+  trace-size i h =
+      let inside : i < length traces = omega (arith, traces-count bytes) in
+      trace-length sampleLimit (said bytes .n) (getD traces i []) (is-trace sampleLimit (said bytes) [] traces whole (in-getD traces i [] inside))
+
   -- the first traces, added to an empty library
   module _ (t : Tables) (empty : Holds t (said bytes) []) (i : ℕ) where
     pub holds-first : Holds (foldl addedTo t (take i traces)) (said bytes) (take i traces)
-    holds-first = holds-all (said bytes) t [] (take i traces) empty (shorter (said bytes) (take i traces) (drop i traces) (two-parts i))
+    holds-first = holds-all (said bytes) t [] (take i traces) empty (first-library i)
 
     module _ (inside : i < countOf bytes) where
       in-traces : i < length traces
       in-traces = subst (λ (k : ℕ). i < k) (sym (traces-count bytes)) inside
-
-      -- what is known of the next trace
-      next-size : length (getD traces i []) ≡ said bytes .n
-      next-size = trace-length sampleLimit (said bytes .n) (getD traces i []) (is-trace sampleLimit (said bytes) [] traces whole (in-getD traces i [] in-traces))
 
       next-less : length (take i traces) < said bytes .capacity
       next-less = omega (arith, room sampleLimit (said bytes) [] traces whole, in-traces, length-take-le i traces (omega (arith, in-traces)))
@@ -69,7 +74,7 @@ module _ (bytes : List ℕ) (sound : firstOf (sheetConditions bytes) ≡ none) (
           record {
             formed = h .formed;
             long = h .long;
-            size = next-size ∙ ap (λ (k : Measures). k .n) (sym (h .measures-are));
+            size = trace-size i inside ∙ ap (λ (k : Measures). k .n) (sym (h .measures-are));
             less = omega (arith, counted, next-less, ap (λ (k : Measures). k .capacity) (h .measures-are));
           }
 

@@ -1,5 +1,5 @@
 -- What has to hold so that the traces of a sheet can be added.
-use Prim.Native.Nat.{ℕ, _<_}
+use Prim.Native.Nat.{ℕ, _≤_, _<_}
 use mathlib.Core.Path.{_≡_}
 use mathlib.Core.Option.{none}
 use mathlib.Core.List.{List, []}
@@ -20,9 +20,9 @@ pub record Next (control : List ℕ) (samples nodes : List ℤ) (links sheet : L
   pub inside : number < countOf sheet
   pub takes : Takes control samples nodes links (getD (tracesOf sheet) number [])
 
--- tables that hold an empty library with the measures of a sheet that is not refused
+-- tables that hold an empty library with the measures of a sheet that is not refused, which has so many traces at least
 pub record Loads (control : List ℕ) (samples nodes : List ℤ) (links sheet : List ℕ) (n count : ℕ) : Type 0 where
   pub sound : firstOf (sheetConditions sheet) ≡ none
   pub size : n ≡ sizeOf sheet
-  pub counted : count ≡ countOf sheet
+  pub counted : count ≤ countOf sheet
   pub empty : Holds (tables control samples nodes links []) (measuresIn (blockAt sheet 0)) []

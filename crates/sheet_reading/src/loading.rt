@@ -5,7 +5,7 @@ use sheet_judging::traces::read_trace;
 ghost use mathlib.Core.Path.{_≡_};
 ghost use mathlib.Core.List.{List, [], foldl};
 ghost use Prim.Native.Nat.{ℕ};
-ghost use lib.ListN.{length, getD};
+ghost use lib.ListN.{length, getD, take};
 ghost use Rattle.tables.specs.Tables.{tables};
 ghost use Rattle.insertion_memory.specs.Memory.{addedTo};
 ghost use Rattle.sheet_judging.specs.Traces.{tracesOf};
@@ -53,7 +53,7 @@ fn put_one(
     );
 }
 
-// All of them. Search work is not lent: adding leaves it as it was.
+// The first `count` of them. Search work is not lent: adding leaves it as it was.
 pub fn load(
     control: &mut [u16],
     samples: &mut [i16],
@@ -64,7 +64,7 @@ pub fn load(
     count: usize,
 )
     requires { ⌜ Loads (now control) (now samples) (now nodes) (now links) (now sheet) n count ⌝ }
-    ensures { λ _. ⌜ ((work : List ℕ) → tables (now (control .exit)) (now (samples .exit)) (now (nodes .exit)) (now (links .exit)) work ≡ foldl addedTo (tables (now (control .entry)) (now (samples .entry)) (now (nodes .entry)) (now (links .entry)) work) (tracesOf (now (sheet .entry)))) ⌝ }
+    ensures { λ _. ⌜ ((work : List ℕ) → tables (now (control .exit)) (now (samples .exit)) (now (nodes .exit)) (now (links .exit)) work ≡ foldl addedTo (tables (now (control .entry)) (now (samples .entry)) (now (nodes .entry)) (now (links .entry)) work) (take count (tracesOf (now (sheet .entry))))) ⌝ }
 {
     let mut number = 0;
     while number < count {

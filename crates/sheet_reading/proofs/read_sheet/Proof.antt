@@ -4,6 +4,9 @@ use mathlib.Core.Path.{_≡_, sym, ap, _∙_, subst}
 use mathlib.Core.Option.{none}
 use mathlib.Core.List.{List, foldl}
 use Prim.Native.Nat.{ℕ}
+use native.Mathlib.Omega.{arith}
+use lib.IntN.{ℤ}
+use lib.Seq.{take-all}
 use denote.Ref.{now}
 use borrow.Author.Needs.{needs}
 use Rattle.dstree.specs.Measures.{Measures, measures}
@@ -20,6 +23,7 @@ use Rattle.sheet_judging.proofs.Places.{first-inside}
 use Rattle.sheet_judging.proofs.Samples.{fine}
 use Rattle.sheet_reading.specs.Loaded.{loaded}
 use Rattle.sheet_reading.proofs.Told.{said, sheet-fine, accepted, refused-answer, done-answer}
+use Rattle.sheet_reading.proofs.Library.{traces-count}
 use Rattle.sheet_reading.proofs.Steps.{opened-empty}
 use Rattle.sheet_reading.proofs.read_sheet.Statement.{statement}
 use Rattle.sheet_reading.proofs.read_sheet.Tie as tie
@@ -98,7 +102,7 @@ load-requires c κs =
     record {
       sound = sound (told h);
       size = ap (λ (m : Measures). m .n) (sym (said-is h));
-      counted = sym (h .head-of .ensures .count-is);
+      counted = omega (arith, h .head-of .ensures .count-is);
       empty = opened-empty (lent (origin p)) (said b) (fine b (sound (told h)) .good .measured) (ok .room) _ _ _ _ _ (opened-is p);
     }
 
@@ -129,7 +133,10 @@ returns-2 c =
     let l = c .before .before .before .before .before .before in
     let p = l .before .before .before .before .before .before .before .before .before .before .before .before .before in
     done-answer (lent (origin p)) (bytes (origin p)) _ (nothing (told (head p)))
-    (l .load .ensures (p .put-empty .last .1 .1 .1 .1 .0) ∙ ap (λ (t : Tables). foldl addedTo t (tracesOf (bytes (origin p)))) (opened-is p))
+    (l .load .ensures (p .put-empty .last .1 .1 .1 .1 .0)
+    ∙ (ap (foldl addedTo (tables (p .put-empty .last .0) (p .put-empty .last .1 .0) (p .put-empty .last .1 .1 .0) (p .put-empty .last .1 .1 .1 .0) (p .put-empty .last .1 .1 .1 .1 .0)))
+    (take-all (head p .head-of .result .count) (tracesOf (bytes (origin p))) (omega (arith, head p .head-of .ensures .count-is, traces-count (bytes (origin p)))))
+    ∙ ap (λ (t : Tables). foldl addedTo t (tracesOf (bytes (origin p)))) (opened-is p)))
 
 pub read-sheet-spec : {M : Type 1} → statement M
 read-sheet-spec =

@@ -5,14 +5,13 @@ use Prim.Native.Nat.{ℕ, _-_, _≤_, _<_}
 use native.Mathlib.Numerals.{add-one}
 use native.Mathlib.Omega.{arith}
 use lib.ListN.{length, getD, take}
-use lib.Seq.{take-all}
 use lib.Dec.{T}
 use denote.Ref.{now}
 use Rattle.dstree.specs.Sheet.{areBytes}
 use Rattle.tables.specs.Tables.{Tables, tables}
 use Rattle.insertion_memory.specs.Memory.{addedTo}
 use Rattle.sheet_judging.specs.Traces.{countOf, tracesOf}
-use Rattle.sheet_reading.proofs.Library.{known-bytes, traces-count, takes-next, one-more}
+use Rattle.sheet_reading.proofs.Library.{known-bytes, takes-next, one-more}
 use Rattle.sheet_reading.proofs.loading.load.Statement.{statement}
 use Rattle.sheet_reading.proofs.loading.load.Tie as tie
 
@@ -106,9 +105,8 @@ returns : tie.Need-returns Inv-loop μ-loop
 returns c = λ work.
     let l = c .before in
     let k = l .before in
-    let p = start k .pre in
-    l .loop .inv .1 work
-    ∙ ap (foldl addedTo (lent k work)) (take-all (l .loop .number) (tracesOf (bytes k)) (omega (arith, c .loop-test .left, p .counted, traces-count (bytes k))))
+    let all : l .loop .number ≡ start k .args .count = omega (arith, c .loop-test .left, l .loop .inv .0) in
+    l .loop .inv .1 work ∙ ap (λ (i : ℕ). foldl addedTo (lent k work) (take i (tracesOf (bytes k)))) all
 
 pub load-spec : {M : Type 1} → statement M
 load-spec =

@@ -1,0 +1,5 @@
+pub mod Digits
+pub mod Texts
+pub mod Told
+pub mod Matched
+pub mod Room

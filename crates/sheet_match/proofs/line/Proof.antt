@@ -1,0 +1,41 @@
+-- `sheet_match::line` meets its contract: the line of the sheet's answer, where it has room.
+use mathlib.Core.Path.{_≡_, sym, ap, ap₂, _∙_}
+use mathlib.Core.List.{List}
+use Prim.Native.Nat.{ℕ}
+use lib.ListN.{length}
+use denote.Ref.{now}
+use borrow.Author.Needs.{needs}
+use borrow.Author.Tests.{lt-ltb, le-ltb}
+use Rattle.dstree.specs.Program.{Line, programLine, text, printed}
+use Rattle.tables.specs.Beginning.{over}
+use Rattle.sheet_match.specs.Lines.{put, lineIn}
+use Rattle.sheet_match.proofs.line.Statement.{statement}
+use Rattle.sheet_match.proofs.line.Tie as tie
+
+returns : tie.Need-returns
+unfolding lineIn
+returns c = rw (lt-ltb _ _ (c .if1 .taken))
+
+match-sheet-requires : tie.Need-match-sheet-requires
+match-sheet-requires c κs = search needs
+
+put-line-requires : tie.Need-put-line-requires
+put-line-requires c κs = search needs
+
+same-length : tie.Need-same-length
+same-length c = search needs
+
+returns-2 : tie.Need-returns-2
+unfolding lineIn printed
+returns-2 c =
+    let p = c .before .before .put-line in
+    let m = c .before .before .before .before in
+    let e = m .before in
+    let s = e .before .before .before in
+    let out = now (s .args .out) in
+    rw (le-ltb _ _ (e .if1 .left))
+    (ap₂ put (p .ensures .0) (p .ensures .1) ∙ ap (λ (l : Line). put (length (text l)) (over (text l) out)) (m .match-sheet .ensures))
+
+pub line-spec : {M : Type 1} → statement M
+line-spec =
+    tie.close (tie.spec returns match-sheet-requires put-line-requires same-length returns-2)

@@ -1,5 +1,4 @@
 //! The program that reads a sheet from standard input and prints the nearest trace: the vectors, the examples, and sheets at its limits.
-#![cfg(feature = "program")]
 
 use silkendoz::model::sheet::{program_line, write};
 use silkendoz::model::Measures;

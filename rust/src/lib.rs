@@ -32,3 +32,8 @@ pub mod scan;
 
 pub use library::{Nearest, TraceLibrary};
 pub use refusal::Refusal;
+
+/// The Rust program of `docs/GUIDE.md`, as a test.
+#[cfg(doctest)]
+#[doc = include_str!("../../docs/GUIDE.md")]
+struct Guide;

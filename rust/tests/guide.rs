@@ -1,0 +1,58 @@
+//! What `docs/GUIDE.md` and the README say in tables and in passing is what the library does. The programs of the guide are tests of their own: the one in
+//! Rust with the documentation (`src/lib.rs`), the one in C by `tools/guide_c`.
+
+use silkendoz::model::sheet::{blocks_needed, program_line};
+use silkendoz::Refusal;
+use std::path::PathBuf;
+
+fn file(name: &str) -> Vec<u8> {
+    std::fs::read(PathBuf::from(env!("CARGO_MANIFEST_DIR")).join("..").join(name)).unwrap()
+}
+
+fn text(name: &str) -> String {
+    String::from_utf8(file(name)).unwrap()
+}
+
+/// The rows of the table under a heading, cell by cell, without its first two lines.
+fn table(page: &str, heading: &str) -> Vec<Vec<String>> {
+    let section = page.split("\n## ").find(|s| s.starts_with(heading)).unwrap();
+    let rows = section.lines().filter(|l| l.starts_with('|')).skip(2);
+    rows.map(|l| l.trim_matches('|').split('|').map(|cell| cell.trim().to_string()).collect()).collect()
+}
+
+/// By docs/LAYOUT.md: samples, node records, links, search work; then all of it, and a full sheet.
+#[test]
+fn memory_needs() {
+    let rows = table(&text("docs/GUIDE.md"), "Memory needs");
+    assert_eq!(rows.len(), 4);
+    for row in rows {
+        let cells: Vec<usize> = row.iter().map(|cell| cell.replace(',', "").parse().unwrap()).collect();
+        let (n, c) = (cells[0], cells[1]);
+        let tables = [2 * c * n, 8 * (2 * c - 1) * 87, 2 * c, 8 * (2 * c - 1)];
+        assert_eq!(cells[2..6], tables);
+        assert_eq!(cells[6], tables.iter().sum::<usize>() + 10);
+        assert_eq!(cells[6], 2 * c * n + 1410 * c - 694);
+        assert_eq!(cells[7], 512 * blocks_needed(c as u64, n as u64));
+    }
+}
+
+#[test]
+fn refusals() {
+    let rows = table(&text("docs/GUIDE.md"), "Refusals");
+    let named: Vec<(u64, String)> = rows.iter().map(|row| (row[0].parse().unwrap(), row[1].clone())).collect();
+    let all: Vec<(u64, String)> = (1..=10).map(|number| (number, Refusal::from_number(number, 0).unwrap().word().to_string())).collect();
+    assert_eq!(named, all);
+}
+
+/// The line that both pages show for the example sheet, and the fault that they name.
+#[test]
+fn the_line_of_the_example_sheet() {
+    let line = program_line(&file("examples/faults.sheet"));
+    let trace = line.split(' ').next().unwrap();
+    let names = text("examples/faults.txt");
+    let name = names.lines().find_map(|l| l.trim_start().strip_prefix(&format!("{trace}  "))).unwrap();
+    for page in ["docs/GUIDE.md", "README.md"] {
+        assert!(text(page).contains(&format!("`{line}`")), "{page}: {line}");
+        assert!(text(page).contains(name), "{page}: {name}");
+    }
+}

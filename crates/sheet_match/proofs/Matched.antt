@@ -1,9 +1,9 @@
 -- The line of a search among the earlier traces, by the laws of the tree that adding makes of them.
-use Prim.Native.Nat.{ℕ, _+_, _*_, _-_, _≤_, _<_}
-use mathlib.Core.Path.{_≡_, refl, sym, _∙_, ap, ap₂, subst}
+use Prim.Native.Nat.{ℕ, _*_, _-_, _≤_, _<_}
+use mathlib.Core.Path.{_≡_, sym, _∙_, ap, ap₂}
 use mathlib.Core.Bool.{true, false}
 use mathlib.Core.Option.{Option, none, some}
-use mathlib.Core.List.{List, [], _∷_, _++_}
+use mathlib.Core.List.{List}
 use native.Mathlib.Omega.{arith}
 use lib.ListN.{length, take}
 use lib.Seq.{length-take-le}
@@ -13,12 +13,11 @@ use Rattle.integer.proofs.Lists.{those-lengths}
 use Rattle.integer.proofs.Times.{counting-length}
 use Rattle.dstree.specs.Measures.{Trace, Measures, sampleLimit, isLibrary}
 use Rattle.dstree.specs.Node.{Tree, nodeAt}
-use Rattle.dstree.specs.Adding.{treeOf}
-use Rattle.dstree.specs.Matching.{isLeaf, leaves, Search, Match, searched, answerOf, matchBySteps, matchOf}
+use Rattle.dstree.specs.Matching.{isLeaf, leaves, Search, Match, searched, answerOf, matchBySteps}
 use Rattle.dstree.specs.Refusals.{empty}
 use Rattle.dstree.specs.Program.{Line, found, refusalLine, matchLine, lineOf}
 use Rattle.dstree.proofs.Laws.{claims, node-count}
-use Rattle.tables.specs.Tables.{Tables, traceCount}
+use Rattle.tables.specs.Tables.{Tables}
 use Rattle.tables.specs.View.{treeIn, tracesIn}
 use Rattle.tables.specs.Answers.{wordOf}
 use Rattle.tables.specs.declared.Refusal.the-variants as r

@@ -1,6 +1,6 @@
 -- A line, word behind word.
 use Prim.Native.Nat.{ℕ, _+_, _^_, _≤_, _<_}
-use mathlib.Core.Path.{_≡_, refl, sym, _∙_, ap, ap₂}
+use mathlib.Core.Path.{_≡_, sym, _∙_, ap, ap₂}
 use mathlib.Core.List.{List, [], _∷_, _++_, append-assoc}
 use native.Mathlib.Omega.{arith}
 use native.Mathlib.Nat.{zero-add}
@@ -51,3 +51,7 @@ refusedWord = 114 ∷ 101 ∷ 102 ∷ 117 ∷ 115 ∷ 101 ∷ 100 ∷ 32 ∷ []
 pub refusal-text : (number block : ℕ) → text (refusedLine number block) ≡ refusedWord ++ (word number 32 ++ word block 10)
 unfolding text spaced
 refusal-text number block = ap (λ (l : List ℕ). refusedWord ++ l) (behind number 32 (word block 10))
+
+-- the same written, if the line is another
+pub as-line : (p : ℕ) (l′ l : List ℕ) (a b : Line) → a ≡ b → (p ≡ length (text a)) × (l′ ≡ over (text a) l) → (p ≡ length (text b)) × (l′ ≡ over (text b) l)
+as-line p l′ l a b e w = rw (sym e) w

@@ -3,7 +3,7 @@ use Prim.Native.Nat.{ℕ, _+_, _*_, _-_, _≤_}
 use mathlib.Core.Path.{_≡_, refl, sym, _∙_, ap}
 use mathlib.Core.Bool.{Bool, true, false, _||_}
 use mathlib.Core.Option.{Option, none, some}
-use mathlib.Core.List.{List, [], _∷_, _++_}
+use mathlib.Core.List.{List, [], _++_}
 use native.Mathlib.Omega.{arith}
 use native.Mathlib.Nat.{mul-le-mul}
 use lib.ListN.{length, getD, take}
@@ -16,11 +16,11 @@ use Rattle.dstree.specs.Refusals.{Refusal, Condition, firstOf, shortTable, empt
 use Rattle.dstree.specs.Sheet.{holds, judgedBy, judgeSheet, sheetConditions}
 use Rattle.dstree.specs.Program.{Line, refusalLine, lineOf, judgedLine, programLine}
 use Rattle.dstree.specs.Book.{Lent}
-use Rattle.tables.specs.Answers.{wordOf, foundBy}
+use Rattle.tables.specs.Answers.{foundBy}
 use Rattle.tables.specs.declared.Refusal.{Refusal as Word}
 use Rattle.tables.specs.declared.Verdict.the-variants as v
-use Rattle.tables.proofs.Judged.{Accepted}
-use Rattle.dstree.proofs.Conditions.{none-first, first-some, first-none, none-both}
+use Rattle.tables.proofs.Judged.{Accepted, none-first}
+use Rattle.tables.proofs.Firsts.{first-some, first-none, none-both}
 use Rattle.matching.specs.declared.Found.the-variants as f
 use Rattle.sheet_judging.specs.Traces.{countOf, tracesOf}
 use Rattle.sheet_judging.proofs.Samples.{range, fine as good}

@@ -1,12 +1,10 @@
 -- `sheet_match::line` meets its contract: the line of the sheet's answer, where it has room.
-use mathlib.Core.Path.{_≡_, sym, ap, ap₂, _∙_}
-use mathlib.Core.List.{List}
-use Prim.Native.Nat.{ℕ}
+use mathlib.Core.Path.{ap, ap₂, _∙_}
 use lib.ListN.{length}
 use denote.Ref.{now}
 use borrow.Author.Needs.{needs}
 use borrow.Author.Tests.{lt-ltb, le-ltb}
-use Rattle.dstree.specs.Program.{Line, programLine, text, printed}
+use Rattle.dstree.specs.Program.{Line, text, printed}
 use Rattle.tables.specs.Beginning.{over}
 use Rattle.sheet_match.specs.Lines.{put, lineIn}
 use Rattle.sheet_match.proofs.line.Statement.{statement}

@@ -1,5 +1,5 @@
 -- `sheet_match::match_sheet` meets its contract: what was judged says which way the call ends.
-use mathlib.Core.Path.{_≡_, sym, ap, _∙_}
+use mathlib.Core.Path.{sym, ap, _∙_}
 use denote.Ref.{now}
 use borrow.Author.Needs.{needs}
 use Rattle.tables.specs.Answers.{foundBy}

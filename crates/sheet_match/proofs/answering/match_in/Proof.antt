@@ -1,8 +1,8 @@
 -- `sheet_match::answering::match_in` meets its contract: an opened library takes the earlier traces, and holds their tree.
 use mathlib.Core.Path.{_≡_, sym, ap, subst, _∙_}
 use mathlib.Core.Option.{none}
-use mathlib.Core.List.{List, [], foldl}
-use Prim.Native.Nat.{ℕ, _+_, _-_, _≤_}
+use mathlib.Core.List.{List, []}
+use Prim.Native.Nat.{ℕ, _+_, _-_}
 use native.Mathlib.Omega.{arith}
 use lib.ListN.{length, take}
 use lib.Dec.{T}
@@ -14,7 +14,6 @@ use Rattle.dstree.specs.Sheet.{areBytes, sheetConditions}
 use Rattle.tables.specs.Tables.{Tables, tables, lentOf}
 use Rattle.tables.specs.Answers.{opened}
 use Rattle.tables.proofs.Judged.{Accepted}
-use Rattle.insertion_memory.specs.Memory.{addedTo}
 use Rattle.insertion_memory.proofs.Made.{Holds}
 use Rattle.sheet_judging.specs.Traces.{countOf, tracesOf}
 use Rattle.sheet_judging.proofs.Places.{first-inside}

@@ -1,6 +1,6 @@
 -- `sheet_match::answering::match_query` meets its contract: what is read is the sheet's last trace, and what the search finds is its match in the tree that
 -- adding makes of the earlier ones.
-use mathlib.Core.Path.{_≡_, sym, ap, subst, _∙_}
+use mathlib.Core.Path.{_≡_, ap, _∙_}
 use mathlib.Core.Option.{none}
 use mathlib.Core.List.{List, []}
 use Prim.Native.Nat.{ℕ, _*_, _-_, _≤_, _<_}
@@ -16,7 +16,6 @@ use Rattle.dstree.specs.Refusals.{firstOf}
 use Rattle.dstree.specs.Sheet.{areBytes, sheetConditions}
 use Rattle.dstree.specs.Program.{lineOf}
 use Rattle.tables.specs.Tables.{Tables, tables}
-use Rattle.search.specs.Searched.{Ready}
 use Rattle.sheet_judging.specs.Traces.{countOf, tracesOf}
 use Rattle.sheet_judging.proofs.Samples.{fine}
 use Rattle.sheet_reading.proofs.Told.{said}

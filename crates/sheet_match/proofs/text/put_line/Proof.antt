@@ -1,11 +1,10 @@
 -- `sheet_match::text::put_line` meets its contract: the line of either case.
 use mathlib.Core.Path.{sym, ap, ap₂, _∙_}
-use lib.ListN.{length}
 use denote.Ref.{now}
 use borrow.Author.Needs.{needs}
-use Rattle.dstree.specs.Program.{Line, refusedLine, refusalLine, text}
-use Rattle.tables.specs.Beginning.{over}
+use Rattle.dstree.specs.Program.{refusedLine, refusalLine}
 use Rattle.sheet_match.specs.Lines.{lineBy}
+use Rattle.sheet_match.proofs.Texts.{as-line}
 use Rattle.sheet_match.proofs.text.put_line.Statement.{statement}
 use Rattle.sheet_match.proofs.text.put_line.Tie as tie
 
@@ -36,8 +35,7 @@ returns c =
     let p = c .before .before .put-numbers in
     let t = c .before .before .before .before .before in
     let out = now (t .before .before .before .args .out) in
-    let e = ap lineBy (t .told .given .1) in
-    (p .ensures .0 ∙ ap (λ (l : Line). length (text l)) (sym e), p .ensures .1 ∙ ap (λ (l : Line). over (text l) out) (sym e))
+    as-line (p .result) (p .last .0) out _ _ (sym (ap lineBy (t .told .given .1))) (p .ensures)
 
 same-length-2 : tie.Need-same-length-2
 same-length-2 c = search needs
@@ -49,8 +47,7 @@ returns-2 c =
     let k = c .before .before .before .before in
     let t = k .before .before .before in
     let out = now (t .before .before .before .args .out) in
-    let e = ap lineBy (t .told2 .given .1) ∙ sym (ap₂ refusedLine (k .before .number .ensures) (k .place .ensures)) in
-    (p .ensures .0 ∙ ap (λ (l : Line). length (text l)) (sym e), p .ensures .1 ∙ ap (λ (l : Line). over (text l) out) (sym e))
+    as-line (p .result) (p .last .0) out _ _ (ap₂ refusedLine (k .before .number .ensures) (k .place .ensures) ∙ sym (ap lineBy (t .told2 .given .1))) (p .ensures)
 
 pub put-line-spec : {M : Type 1} → statement M
 put-line-spec =

@@ -1,6 +1,6 @@
 -- What a call on lent tables refuses is what the book refuses: tables that keep a book have its measures, are well formed where they are long enough,
 -- and count its traces, so that each condition on them is the one on arguments and book, and 3 never holds.
-use Prim.Native.Nat.{ℕ, _≤_, _<_}
+use Prim.Native.Nat.{ℕ, _*_, _≤_, _<_}
 use mathlib.Core.Path.{_≡_, refl, sym, ap, subst, _∙_}
 use mathlib.Core.Bool.{Bool, true, false, not, _||_}
 use mathlib.Core.Option.{Option, none, some}
@@ -18,6 +18,7 @@ use Rattle.dstree.specs.Adding.{treeOf}
 use Rattle.dstree.specs.Matching.{leaves}
 use Rattle.dstree.specs.Refusals as word
 use Rattle.dstree.specs.Refusals.{Refusal, Condition, _refuses_, firstOf}
+use Rattle.dstree.specs.Sheet.{blockSize, blocksNeeded}
 use Rattle.dstree.specs.Book as book
 use Rattle.dstree.specs.Book.{Lent, Book, bookTree, controlShort, tablesShort, shortConditions, conditions, judge}
 use Rattle.tables.specs.Layout.{layout, controlFields}
@@ -32,6 +33,7 @@ use Rattle.insertion_memory.proofs.Made.{Holds, count-is}
 use Rattle.insertion_memory.proofs.Beginnings.{holds-whole}
 use Rattle.adding.specs.Added.{addingConditions}
 use Rattle.matching.specs.Matched.{nearestConditions}
+use Rattle.sheet_writing.specs.Written.{writingConditions}
 use Rattle.demands.specs.Library.{libraryTables, Keeps}
 use Rattle.demands.proofs.Library.{need, room-within, library-holds, library-lent}
 
@@ -129,6 +131,13 @@ module _ {memory : Tables} {b : Book} (keeps : Keeps memory b) (part : Tables) (
       (not (eqb (length query) (measuresOf part .n)) refuses word.wrongTrace ∷ eqb (traceCount part) 0 refuses word.empty ∷ ltb trail (length (leaves (treeIn part))) refuses word.shortTrail ∷ [])
       (not (eqb (length query) (m .n)) refuses word.wrongTrace ∷ isEmpty (b .traces) refuses word.empty ∷ ltb trail (length (leaves (bookTree b))) refuses word.shortTrail ∷ [])
       (λ h. rw (ap (λ (k : Measures). k .n) (h .measures-are), counted h, empty-is (b .traces), h .tree-is))
+
+  pub writing-same : (sheet : ℕ) → firstOf (writingConditions part sheet) ≡ judge layout b (book.writing (lentOf part) sheet)
+  unfolding writingConditions conditions judge
+  writing-same sheet = made-same
+      (ltb sheet (blockSize * blocksNeeded (traceCount part) (measuresOf part .n)) refuses word.sheetLength ∷ [])
+      (ltb sheet (blockSize * blocksNeeded (length (b .traces)) (m .n)) refuses word.sheetLength ∷ [])
+      (λ h. rw (ap (λ (k : Measures). k .n) (h .measures-are), counted h))
 
 pub opening-same : (b : Book) (t : Tables) (m : Measures) → firstOf (openingConditions t m) ≡ judge layout b (book.opening (lentOf t) m)
 unfolding openingConditions openingConditionsOf conditions judge

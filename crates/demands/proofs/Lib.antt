@@ -3,4 +3,6 @@ pub mod Library
 pub mod Judging
 pub mod Steps
 pub mod Query
+pub mod RoundTrips
+pub mod OneCall
 pub mod Demands

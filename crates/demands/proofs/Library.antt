@@ -71,13 +71,17 @@ module _ (m : Measures) (traces : List Trace) (library : T (isLibrary sampleLimi
   unfolding isLibrary
   in-range = passed (inRange m) (leb (length traces) (m .capacity) ∷ every (isTrace sampleLimit (m .n)) traces ∷ []) library .0
 
+  -- .. before the first trace
+  pub empty-holds : Holds (opened (blank m) m) m []
+  empty-holds = holds-none (blank m) m in-range (blank-room m)
+
   pub library-holds : Holds (libraryTables m traces) m traces
   unfolding libraryTables
   library-holds = made-holds (blank m) m in-range (blank-room m) traces library
 
   pub library-lent : lentOf (libraryTables m traces) ≡ need m
   unfolding libraryTables
-  library-lent = lengths-stay m (opened (blank m) m) [] traces (holds-none (blank m) m in-range (blank-room m)) library ∙ (opened-lent (blank m) m (blank-room m) ∙ blank-lent m)
+  library-lent = lengths-stay m (opened (blank m) m) [] traces empty-holds library ∙ (opened-lent (blank m) m (blank-room m) ∙ blank-lent m)
 
 drop-end : {A : Type 0} (k : ℕ) (z : A) → drop k (replicate k z) ≡ []
 drop-end zero z = refl

@@ -1,11 +1,11 @@
 -- One call on a memory that keeps a book: its answer is the book's, and the memory then keeps the book after the call. A refused call leaves what it was
 -- lent; an accepted one does to the library's tables, which begin what it was lent, what the book says of the call.
 use Prim.Native.Nat.{ℕ, suc, _≤_, _<_}
-use mathlib.Core.Path.{_≡_, refl, sym, ap, subst, _∙_}
+use mathlib.Core.Path.{_≡_, refl, sym, ap, ap₂, subst, _∙_}
 use mathlib.Core.Bool.{Bool, true, false, not, _&&_}
 use mathlib.Core.Option.{Option, none, some}
 use mathlib.Core.Logic.{_⊎_, inl, inr}
-use mathlib.Core.List.{List, [], _∷_, _++_}
+use mathlib.Core.List.{List, [], _∷_, _++_, foldl, append-assoc}
 use native.Mathlib.Omega.{arith}
 use lib.ListN.{length, take, drop, replicate, length-append, length-replicate}
 use lib.Seq.{take-append-seam, take-at}
@@ -15,16 +15,18 @@ use borrow.Author.Tests.{not-false, eqb-true, eqb-false}
 use Rattle.integer.specs.Words.{every, isEmpty}
 use Rattle.integer.proofs.Tests.{passed, passes, is-true, eq→eqb}
 use Rattle.integer.proofs.Lists.{In, in-snoc, every-of, from-every, strict}
-use Rattle.dstree.specs.Measures.{Trace, Measures, sampleLimit, inRange, isTrace, isLibrary, workNeeded}
+use Rattle.dstree.specs.Measures.{Trace, Measures, measures, sampleLimit, inRange, isTrace, isLibrary, workNeeded}
 use Rattle.dstree.specs.Node.{Tree}
 use Rattle.dstree.specs.Adding.{treeOf}
 use Rattle.dstree.specs.Matching.{Search, Near, Match, answerOf, searched, matchBySteps, matchOf}
 use Rattle.dstree.specs.Refusals as word
 use Rattle.dstree.specs.Refusals.{Refusal, Condition, _refuses_, firstOf}
+use Rattle.dstree.specs.Sheet.{areBytes, blocksNeeded, sheetOf, Judged, refused, holds, judgeSheet}
 use Rattle.dstree.specs.Book as book
-use Rattle.dstree.specs.Book.{Lent, Call, Book, bookTree, Answer, done, added, matched, refusing, controlShort, tablesShort, shortConditions, conditions, judge, put, putUnless, turn, accepted, acceptedUnless, answer, start}
+use Rattle.dstree.specs.Book.{Lent, Call, Book, bookTree, Answer, done, added, matched, written, refusing, controlShort, tablesShort, shortConditions, readingConditions, conditions, judge, putRead, put, putUnless, turn, accepted, acceptedUnless, answer, start}
 use Rattle.dstree.proofs.Conditions.{none-first, none-both}
 use Rattle.dstree.proofs.Laws.{claims}
+use Rattle.dstree.proofs.RoundTrips.{is-library}
 use Rattle.tables.specs.Layout.{layout}
 use Rattle.tables.specs.Tables.{Tables, tables, lentOf, measuresOf, traceCount, filled}
 use Rattle.tables.specs.View.{treeIn, tracesIn}
@@ -33,15 +35,17 @@ use Rattle.tables.specs.Answers.{Outcome, outcome, unlessRefused, OutcomeWith, 
 use Rattle.tables.proofs.Judged.{Room, room-of}
 use Rattle.tables.proofs.Beginning.{tables-same, left-same, left-begins, begins-on, begins-all}
 use Rattle.insertion_memory.specs.Memory.{addedTo}
-use Rattle.insertion_memory.proofs.Made.{Holds, count-is, takes-more}
+use Rattle.insertion_memory.proofs.Made.{Holds, count-is, takes-more, holds-more, shorter}
 use Rattle.insertion_memory.proofs.AddedBeginnings.{added-begins}
 use Rattle.adding.specs.Added.{addingConditions, addOf}
 use Rattle.matching.specs.Matched.{nearestConditions, answered, cleared, nearestOf}
+use Rattle.sheet_writing.specs.Written.{writingConditions, writeOf}
+use Rattle.sheet_reading.specs.Loaded.{loaded, readBy, readOf}
 use Rattle.demands.specs.Library.{blank, libraryTables, Keeps, areSamples}
-use Rattle.demands.specs.Requests.{Request, opening, adding, matching, callOf, lentIn, Typed, besideOf, Reply, reply, leftBeside, replyOf, doneOn}
+use Rattle.demands.specs.Requests.{Request, opening, adding, matching, writing, reading, callOf, lentIn, Typed, besideOf, Reply, reply, leftBeside, replyOf, doneOn}
 use Rattle.demands.specs.Ran.{IsLent}
-use Rattle.demands.proofs.Library.{library-holds, library-lent, library-work, library-more, blank-begins}
-use Rattle.demands.proofs.Judging.{library-begins, part-holds, adding-same, matching-same, opening-same}
+use Rattle.demands.proofs.Library.{library-holds, library-lent, library-work, library-more, blank-begins, empty-holds}
+use Rattle.demands.proofs.Judging.{library-begins, part-holds, adding-same, matching-same, writing-same, opening-same}
 
 -- ---- the shape of every step
 
@@ -218,6 +222,99 @@ module _ (memory part : Tables) (begins : Begins part memory) (b : Book) (keeps 
         (e ∙ ap (λ (o : Option Refusal). unlessRefusedWith o part trail (outcomeWith accept (cleared part) marks)) (matching-same keeps part begins query (length trail)))
         (λ o. let s = searchable b part query (length trail) o in let f = found-in query (tracesIn part) (treeIn part) found (steps-in s) in (f .0, (ap (λ (l : List ℕ). over l trail) (f .1), clears (s .room))))
 
+-- ---- writing
+
+module _ (memory part : Tables) (begins : Begins part memory) (b : Book) (keeps : Keeps memory b) where
+  abbrev blocksIn : Tables → Answer
+  blocksIn t = written (blocksNeeded (traceCount t) (measuresOf t .n)) (sheetOf (measuresOf t) (tracesIn t))
+
+  -- the answer and the sheet are the book's, and the tables stay
+  writing-puts : (sheet : List ℕ) → judge layout b (book.writing (lentOf part) (length sheet)) ≡ none
+      → (blocksIn part ≡ written (blocksNeeded (length (b .traces)) (b .measures .n)) (sheetOf (b .measures) (b .traces)))
+      × ((over (sheetOf (measuresOf part) (tracesIn part)) sheet ≡ over (sheetOf (b .measures) (b .traces)) sheet) × Keeps (left part memory) b)
+  unfolding judge conditions
+  writing-puts sheet e =
+      let h : Holds part (b .measures) (b .traces) = part-holds keeps part begins (short-room (lentOf part) (b .measures) _ e) in
+      let same : sheetOf (measuresOf part) (tracesIn part) ≡ sheetOf (b .measures) (b .traces) = ap₂ sheetOf (h .measures-are) (h .traces-are) in
+      let count : blocksNeeded (traceCount part) (measuresOf part .n) ≡ blocksNeeded (length (b .traces)) (b .measures .n) = ap₂ blocksNeeded (count-is part ∙ ap length (h .traces-are)) (ap (λ (k : Measures). k .n) (h .measures-are)) in
+      (ap₂ written count same, (ap (λ (l : List ℕ). over l sheet) same, stays memory part begins b (book.writing (lentOf part) (length sheet)) keeps))
+
+  pub writing-step : (sheet sheet′ : List ℕ) (a : Answer) (part′ : Tables) → outcomeWith a part′ sheet′ ≡ writeOf part sheet
+      → (sheet′ ≡ leftBeside (acceptedUnless (judge layout b (book.writing (lentOf part) (length sheet))) b (book.writing (lentOf part) (length sheet))) sheet)
+      × Goes memory b (book.writing (lentOf part) (length sheet)) (judge layout b (book.writing (lentOf part) (length sheet))) a part′
+  unfolding writeOf put accepted leftBeside
+  writing-step sheet sheet′ a part′ e =
+      let call : Call = book.writing (lentOf part) (length sheet) in
+      let bytes : List ℕ = over (sheetOf (measuresOf part) (tracesIn part)) sheet in
+      goes-with memory part begins b call (judge layout b call) a (blocksIn part) part′ part sheet sheet′ bytes keeps
+      (e ∙ ap (λ (o : Option Refusal). unlessRefusedWith o part sheet (outcomeWith (blocksIn part) part bytes)) (writing-same keeps part begins (length sheet))) (writing-puts sheet)
+
+-- ---- reading
+
+-- addings to longer tables do to their beginning what addings to this alone do
+fold-begins : (m : Measures) (t u : Tables) (traces more : List Trace) → Begins t u → Holds t m traces → T (isLibrary sampleLimit m (traces ++ more)) → Begins (foldl addedTo t more) (foldl addedTo u more)
+fold-begins m t u traces [] begins h library = begins
+fold-begins m t u traces (x ∷ more) begins h library =
+    let e : traces ++ (x ∷ []) ++ more ≡ traces ++ (x ∷ more) = append-assoc traces (x ∷ []) more in
+    let all : T (isLibrary sampleLimit m (traces ++ (x ∷ []) ++ more)) = subst (λ (l : List Trace). T (isLibrary sampleLimit m l)) (sym e) library in
+    let one : T (isLibrary sampleLimit m (traces ++ (x ∷ []))) = shorter m (traces ++ (x ∷ [])) more all in
+    let takes = takes-more m t traces x h one in
+    fold-begins m (addedTo t x) (addedTo u x) (traces ++ (x ∷ [])) more (added-begins t u x begins (h .formed) (h .long) (takes .0) (takes .1)) (holds-more m t traces x h one) all
+
+module _ (memory part : Tables) (begins : Begins part memory) (m : Measures) (traces : List Trace) (library : T (isLibrary sampleLimit m traces)) where
+  -- reading puts the sheet's library, whatever the memory held before
+  pub reading-puts : firstOf (shortConditions layout (lentOf part) m) ≡ none → Keeps (left (loaded part m traces) memory) (book.book m traces)
+  unfolding loaded libraryTables
+  reading-puts e =
+      let room : Room (lentOf part) m = short-room (lentOf part) m [] e in
+      record {
+        library = library;
+        needed-places = begins-on (foldl addedTo (opened (blank m) m) traces) (foldl addedTo (opened part m) traces) (left (foldl addedTo (opened part m) traces) memory)
+        (fold-begins m (opened (blank m) m) (opened part m) [] traces (blank-begins part m room) (empty-holds m traces library) library) (left-begins (foldl addedTo (opened part m) traces) memory);
+      }
+
+-- what a reading answers and puts, by the refusal that was found
+elseDone : Option Refusal → Answer
+elseDone none = done
+elseDone (some why) = refusing why
+
+elsePut : Option Refusal → Book → Judged → Book
+elsePut none b j = putRead b j
+elsePut (some why) b j = b
+
+read-goes : (memory : Tables) (b : Book) (bytes : List ℕ) (lent : Lent) (o : Option Refusal) (a : Answer) (part′ : Tables) → (a ≡ elseDone o) × Keeps (left part′ memory) (elsePut o b (judgeSheet bytes)) → Goes memory b (book.reading lent bytes) o a part′
+unfolding elseDone elsePut acceptedUnless putUnless accepted put
+read-goes memory b bytes lent none a part′ s = s
+read-goes memory b bytes lent (some why) a part′ s = s
+
+short-goes : (memory part : Tables) → Begins part memory → (b : Book) → Keeps memory b → (m : Measures) (traces : List Trace) → T (isLibrary sampleLimit m traces) → (o : Option Refusal) → firstOf (shortConditions layout (lentOf part) m) ≡ o → (a : Answer) (part′ : Tables)
+    → outcome a part′ ≡ unlessRefused o part (outcome done (loaded part m traces)) → (a ≡ elseDone o) × Keeps (left part′ memory) (elsePut o b (holds m traces))
+unfolding unlessRefused elseDone elsePut putRead
+short-goes memory part begins b keeps m traces library none f a part′ e =
+    (ap (λ (r : Outcome). r .answer) e, subst (λ (t : Tables). Keeps (left t memory) (book.book m traces)) (sym (ap (λ (r : Outcome). r .after) e)) (reading-puts memory part begins m traces library f))
+short-goes memory part begins b keeps m traces library (some why) f a part′ e =
+    (ap (λ (r : Outcome). r .answer) e, subst (λ (t : Tables). Keeps (left t memory) b) (sym (ap (λ (r : Outcome). r .after) e)) (stays memory part begins b (book.reading (lentOf part) []) keeps))
+
+module _ (memory part : Tables) (begins : Begins part memory) (b : Book) (keeps : Keeps memory b) where
+  -- by what the sheet says
+  by-judged : (j : Judged) → ((m : Measures) (traces : List Trace) → j ≡ holds m traces → T (isLibrary sampleLimit m traces)) → (a : Answer) (part′ : Tables) → outcome a part′ ≡ readBy part j
+      → (a ≡ elseDone (firstOf (readingConditions layout (lentOf part) j))) × Keeps (left part′ memory) (elsePut (firstOf (readingConditions layout (lentOf part) j)) b j)
+  unfolding readBy readingConditions firstOf elseDone elsePut putRead
+  by-judged (refused why) is a part′ e =
+      (ap (λ (r : Outcome). r .answer) e, subst (λ (t : Tables). Keeps (left t memory) b) (sym (ap (λ (r : Outcome). r .after) e)) (stays memory part begins b (book.reading (lentOf part) []) keeps))
+  by-judged (holds m traces) is a part′ e = by-short (firstOf (shortConditions layout (lentOf part) m)) refl a part′ e
+    where
+      by-short : (o : Option Refusal) → firstOf (shortConditions layout (lentOf part) m) ≡ o → (a : Answer) (part′ : Tables) → outcome a part′ ≡ unlessRefused o part (outcome done (loaded part m traces))
+          → (a ≡ elseDone o) × Keeps (left part′ memory) (elsePut o b (holds m traces))
+      by-short o f a part′ e = short-goes memory part begins b keeps m traces (is m traces refl) o f a part′ e
+
+  pub reading-step : (bytes : List ℕ) → T (areBytes bytes) → (a : Answer) (part′ : Tables) → outcome a part′ ≡ readOf part bytes
+      → Goes memory b (book.reading (lentOf part) bytes) (judge layout b (book.reading (lentOf part) bytes)) a part′
+  unfolding readOf judge conditions
+  reading-step bytes are a part′ e =
+      let s = by-judged (judgeSheet bytes) (λ m traces f. is-library bytes m traces are f) a part′ e in
+      read-goes memory b bytes (lentOf part) (firstOf (readingConditions layout (lentOf part) (judgeSheet bytes))) a part′ s
+
 -- ---- any call
 
 -- a call by its definition: on the first so many places of a memory, which are then as it leaves them
@@ -272,14 +369,34 @@ module _ {memory : Tables} {b : Book} (keeps : Keeps memory b) {said : Reply} {m
       subst (λ (l : Lent). (said .beside ≡ leftBeside (acceptedUnless (judge layout b (book.matching l query (length trail))) b (book.matching l query (length trail))) trail) × Goes memory b (book.matching l query (length trail)) (judge layout b (book.matching l query (length trail))) (said .answer) (s .part′)) (s .is-lent .so-many) g in
       (reply-same said _ _ (g′ .1 .0) (g′ .0), subst (λ (t : Tables). Keeps t (turn layout b call)) (sym (s .leaves)) (g′ .1 .1))
 
+  writing-stepped : (lent : Lent) (sheet : List ℕ) → Steps (writing lent sheet) memory said memory′ → Stepped b (writing lent sheet) said memory′
+  unfolding doneOn lentIn callOf besideOf replyOf answer turn
+  writing-stepped lent sheet s =
+      let g = writing-step memory (s .part) (begins-lent (s .is-lent)) b keeps sheet (said .beside) (said .answer) (s .part′) (s .does) in
+      let call : Call = book.writing lent (length sheet) in
+      let g′ : (said .beside ≡ leftBeside (acceptedUnless (judge layout b call) b call) sheet) × Goes memory b call (judge layout b call) (said .answer) (s .part′) =
+      subst (λ (l : Lent). (said .beside ≡ leftBeside (acceptedUnless (judge layout b (book.writing l (length sheet))) b (book.writing l (length sheet))) sheet) × Goes memory b (book.writing l (length sheet)) (judge layout b (book.writing l (length sheet))) (said .answer) (s .part′)) (s .is-lent .so-many) g in
+      (reply-same said _ _ (g′ .1 .0) (g′ .0), subst (λ (t : Tables). Keeps t (turn layout b call)) (sym (s .leaves)) (g′ .1 .1))
+
+  reading-stepped : (lent : Lent) (bytes : List ℕ) → Steps (reading lent bytes) memory said memory′ → Stepped b (reading lent bytes) said memory′
+  unfolding doneOn lentIn callOf besideOf replyOf answer turn Typed accepted leftBeside
+  reading-stepped lent bytes s =
+      let g = reading-step memory (s .part) (begins-lent (s .is-lent)) b keeps bytes (s .typed) (said .answer) (s .part′) (ap (λ (r : OutcomeWith). outcome (r .answer) (r .after)) (s .does)) in
+      let call : Call = book.reading lent bytes in
+      let g′ : Goes memory b call (judge layout b call) (said .answer) (s .part′) = subst (λ (l : Lent). Goes memory b (book.reading l bytes) (judge layout b (book.reading l bytes)) (said .answer) (s .part′)) (s .is-lent .so-many) g in
+      let none-left : leftBeside (acceptedUnless (judge layout b call) b call) [] ≡ [] = nothing-beside b call (judge layout b call) refl in
+      (reply-same said _ _ (g′ .0) (ap (λ (r : OutcomeWith). r .beside) (s .does) ∙ sym none-left), subst (λ (t : Tables). Keeps t (turn layout b call)) (sym (s .leaves)) (g′ .1))
+
   pub stepped : (q : Request) → Steps q memory said memory′ → Stepped b q said memory′
   stepped (opening lent m) s = opening-stepped lent m s
   stepped (adding lent x) s = adding-stepped lent x s
   stepped (matching lent query trail) s = matching-stepped lent query trail s
+  stepped (writing lent sheet) s = writing-stepped lent sheet s
+  stepped (reading lent bytes) s = reading-stepped lent bytes s
 
 -- ---- the first call, "just succeeded"
 
--- only an opening answers `done`
+-- only an opening and a reading answer `done`
 not-done : (o : Option Refusal) (t after : Tables) (number : ℕ) → unlessRefused o t (outcome (added number) after) .answer ≡ done → ⊥
 unfolding unlessRefused
 not-done none t after number e = let z : _≡_ {A = ℕ} 0 1 = cc in absurd (omega arith)
@@ -295,11 +412,25 @@ unfolding unlessRefusedWith
 not-found none t after beside left′ m e = not-answered m e
 not-found (some why) t after beside left′ m e = let z : _≡_ {A = ℕ} 0 1 = cc in absurd (omega arith)
 
+not-written : (o : Option Refusal) (t after : Tables) (beside left′ bytes : List ℕ) (number : ℕ) → unlessRefusedWith o t beside (outcomeWith (written number bytes) after left′) .answer ≡ done → ⊥
+unfolding unlessRefusedWith
+not-written none t after beside left′ bytes number e = let z : _≡_ {A = ℕ} 0 1 = cc in absurd (omega arith)
+not-written (some why) t after beside left′ bytes number e = let z : _≡_ {A = ℕ} 0 1 = cc in absurd (omega arith)
+
 -- an opening that answers `done` was refused nothing
 opens-none : (o : Option Refusal) (a : Answer) (t part′ after : Tables) → outcome a part′ ≡ unlessRefused o t (outcome done after) → a ≡ done → (o ≡ none) × (part′ ≡ after)
 unfolding unlessRefused
 opens-none none a t part′ after e d = (refl, ap (λ (r : Outcome). r .after) e)
 opens-none (some why) a t part′ after e d = let q : done ≡ refusing why = sym d ∙ ap (λ (r : Outcome). r .answer) e in let z : _≡_ {A = ℕ} 0 1 = cc in absurd (omega arith)
+
+-- .. and so was a reading, whose sheet holds a library
+reading-by : (memory part part′ : Tables) (a : Answer) → a ≡ done → Begins part memory → (j : Judged) → ((m : Measures) (traces : List Trace) → j ≡ holds m traces → T (isLibrary sampleLimit m traces)) → outcome a part′ ≡ readBy part j
+    → Keeps (left part′ memory) (putRead (book.book (measures 0 0 0) []) j)
+unfolding readBy putRead
+reading-by memory part part′ a d begins (refused why) is e = let q : done ≡ refusing why = sym d ∙ ap (λ (r : Outcome). r .answer) e in let z : _≡_ {A = ℕ} 0 1 = cc in absurd (omega arith)
+reading-by memory part part′ a d begins (holds m traces) is e =
+    let o = opens-none (firstOf (shortConditions layout (lentOf part) m)) a part part′ (loaded part m traces) e d in
+    subst (λ (t : Tables). Keeps (left t memory) (book.book m traces)) (sym (o .1)) (reading-puts memory part begins m traces (is m traces refl) (o .0))
 
 -- whatever the memory held, it then keeps what the call puts
 module _ {memory memory′ : Tables} {said : Reply} (answers : said .answer ≡ done) where
@@ -320,8 +451,22 @@ module _ {memory memory′ : Tables} {said : Reply} (answers : said .answer ≡ 
       not-found (firstOf (nearestConditions (s .part) query (length trail))) (s .part) (cleared (s .part)) trail (over (searched (tracesIn (s .part)) (treeIn (s .part)) query .trail) trail) (matchBySteps (tracesIn (s .part)) (treeIn (s .part)) query)
       (sym (ap (λ (r : OutcomeWith). r .answer) (s .does)) ∙ answers)
 
+  writing-starts-not : (lent : Lent) (sheet : List ℕ) → Steps (writing lent sheet) memory said memory′ → ⊥
+  unfolding doneOn writeOf
+  writing-starts-not lent sheet s =
+      not-written (firstOf (writingConditions (s .part) (length sheet))) (s .part) (s .part) sheet (over (sheetOf (measuresOf (s .part)) (tracesIn (s .part))) sheet) (sheetOf (measuresOf (s .part)) (tracesIn (s .part))) (blocksNeeded (traceCount (s .part)) (measuresOf (s .part) .n))
+      (sym (ap (λ (r : OutcomeWith). r .answer) (s .does)) ∙ answers)
+
+  reading-started : (lent : Lent) (bytes : List ℕ) → Steps (reading lent bytes) memory said memory′ → Keeps memory′ (putRead (book.book (measures 0 0 0) []) (judgeSheet bytes))
+  unfolding doneOn lentIn readOf Typed
+  reading-started lent bytes s =
+      let k = reading-by memory (s .part) (s .part′) (said .answer) answers (begins-lent (s .is-lent)) (judgeSheet bytes) (λ m traces f. is-library bytes m traces (s .typed) f) (ap (λ (r : OutcomeWith). outcome (r .answer) (r .after)) (s .does)) in
+      subst (λ (t : Tables). Keeps t (putRead (book.book (measures 0 0 0) []) (judgeSheet bytes))) (sym (s .leaves)) k
+
   pub started : (q : Request) → Steps q memory said memory′ → Keeps memory′ (start (callOf q))
   unfolding callOf start put
   started (opening lent m) s = opening-started lent m s
   started (adding lent x) s = absurd (adding-starts-not lent x s)
   started (matching lent query trail) s = absurd (matching-starts-not lent query trail s)
+  started (writing lent sheet) s = absurd (writing-starts-not lent sheet s)
+  started (reading lent bytes) s = reading-started lent bytes s

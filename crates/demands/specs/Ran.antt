@@ -8,6 +8,7 @@ use denote.Triple.Clauses.{AtExit}
 use borrow.Fn.Kinds.{Dens, endedOf}
 use contract.Lifetimes.{Lfts}
 use Rattle.dstree.specs.Measures.{Trace, Measures, measures}
+use Rattle.dstree.specs.Sheet.{areBytes}
 use Rattle.dstree.specs.Book.{Lent}
 use Rattle.tables.specs.Tables.{Tables, tables, lentOf}
 use Rattle.tables.specs.Beginning.{firstPlaces, left}
@@ -23,8 +24,16 @@ use Rattle.matching.specs.declared.Found.{Found}
 use Rattle.matching.specs.Answered as matching-answer
 use Rattle.matching.proofs.nearest.Kinds as nearest-kinds
 use Rattle.matching.proofs.nearest.Reads as nearest-reads
+use Rattle.sheet_writing.specs.declared.Written.{Written}
+use Rattle.sheet_writing.specs.Answered as writing-answer
+use Rattle.sheet_writing.proofs.write_sheet.Kinds as write-kinds
+use Rattle.sheet_writing.proofs.write_sheet.Reads as write-reads
+use Rattle.sheet_reading.specs.declared.Read.{Read}
+use Rattle.sheet_reading.specs.Answered as reading-answer
+use Rattle.sheet_reading.proofs.read_sheet.Kinds as read-kinds
+use Rattle.sheet_reading.proofs.read_sheet.Reads as read-reads
 use Rattle.demands.specs.Library.{areSamples}
-use Rattle.demands.specs.Requests.{Request, opening, adding, matching, Reply, reply}
+use Rattle.demands.specs.Requests.{Request, opening, adding, matching, writing, reading, Reply, reply}
 
 -- "Each call gets the tables as the last one left them": it is lent the first so many places of each
 pub record IsLent (lent : Lent) (memory part : Tables) : Type 0 where
@@ -71,11 +80,39 @@ pub record Matches (lent : Lent) (query : Trace) (trail : List ℕ) (memory : Ta
   pub leaves : memory′ ≡ left (tables (now (args .0)) (now (args .1 .0)) (now (args .1 .1 .0)) (now (args .1 .1 .1 .0)) (now (exits .1 .1 .1 .1 .0))) memory
   pub says : said ≡ reply (matching-answer.answerBy result (now (exits .1 .1 .1 .1 .1 .0))) (now (exits .1 .1 .1 .1 .1 .0))
 
+-- a writing is lent all tables to read, and leaves them
+pub record Writes (lent : Lent) (sheet : List ℕ) (memory : Tables) (said : Reply) (memory′ : Tables) : Type 1 where
+  pub κs : Lfts 6
+  pub args : Dens κs write-kinds.ps
+  pub exits : AtExit (endedOf 6 write-kinds.ps write-kinds.r) κs
+  pub result : Written
+  pub is-lent : IsLent lent memory (tables (now (args .0)) (now (args .1 .0)) (now (args .1 .1 .0)) (now (args .1 .1 .1 .0)) (now (args .1 .1 .1 .1 .0)))
+  pub is-sheet : now (args .1 .1 .1 .1 .1 .0) ≡ sheet
+  pub claim : write-reads.Learnt κs args result exits
+  pub leaves : memory′ ≡ left (tables (now (args .0)) (now (args .1 .0)) (now (args .1 .1 .0)) (now (args .1 .1 .1 .0)) (now (args .1 .1 .1 .1 .0))) memory
+  pub says : said ≡ reply (writing-answer.answerBy result (now (exits .1 .1 .1 .1 .1 .0))) (now (exits .1 .1 .1 .1 .1 .0))
+
+-- a reading is lent its sheet to read
+pub record Reads (lent : Lent) (bytes : List ℕ) (memory : Tables) (said : Reply) (memory′ : Tables) : Type 1 where
+  pub κs : Lfts 6
+  pub args : Dens κs read-kinds.ps
+  pub exits : AtExit (endedOf 6 read-kinds.ps read-kinds.r) κs
+  pub result : Read
+  pub is-lent : IsLent lent memory (tables (now (args .0)) (now (args .1 .0)) (now (args .1 .1 .0)) (now (args .1 .1 .1 .0)) (now (args .1 .1 .1 .1 .0)))
+  pub is-sheet : now (args .1 .1 .1 .1 .1 .0) ≡ bytes
+  -- what the type of the lent slice says of every sheet
+  pub of-bytes : T (areBytes bytes)
+  pub claim : read-reads.Learnt κs args result exits
+  pub leaves : memory′ ≡ left (tables (now (exits .0)) (now (exits .1 .0)) (now (exits .1 .1 .0)) (now (exits .1 .1 .1 .0)) (now (exits .1 .1 .1 .1 .0))) memory
+  pub says : said ≡ reply (reading-answer.answerOf result) []
+
 -- a call on a memory, what it answered, and the memory after it
 unfoldable pub Did : Request → Tables → Reply → Tables → Type 1
 Did (opening lent m) = Opens lent m
 Did (adding lent x) = Adds lent x
 Did (matching lent query trail) = Matches lent query trail
+Did (writing lent sheet) = Writes lent sheet
+Did (reading lent bytes) = Reads lent bytes
 
 -- ---- a list of calls, "in any order, with any arguments, any of them refused"; "nobody else writes" the tables "meanwhile"
 

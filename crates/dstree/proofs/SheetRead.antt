@@ -38,7 +38,7 @@ module _ (others : List (List ℕ)) where
   unfolding sampleBytesIn narrow carriedSize
   sample-bytes = ap flatten (map-agree (λ (b : List ℕ). take 506 (part 4 506 b)) (part 4 506) others (λ b i. take-take 506 506 (drop 4 b) (le-refl 506)))
 
-none-behind : (others : List (List ℕ)) → flatten (map (λ (b : List ℕ). drop 506 (part 4 506 b)) others) ≡ []
+pub none-behind : (others : List (List ℕ)) → flatten (map (λ (b : List ℕ). drop 506 (part 4 506 b)) others) ≡ []
 unfolding flatten
 none-behind [] = refl
 none-behind (b ∷ others) = rw (drop-of-length-le (part 4 506 b) {i = 506} (omega (arith, length-take 506 (drop 4 b))), none-behind others) refl

@@ -107,7 +107,7 @@ module _ (t : Tables) (w : T (wellFormed t)) (some-trace : 0 < traceCount t) whe
       (first-read (tracesIn t) (treeIn t) query (readingOrder (treeIn t) query) (all-full query) (a-leaf query))
 
 -- the search of tables that refuse nothing finds a trace
-found : (t : Tables) (query : Trace) (trail : ℕ) → firstOf (nearestConditions t query trail) ≡ none → Some (matchBySteps (tracesIn t) (treeIn t) query)
+pub found : (t : Tables) (query : Trace) (trail : ℕ) → firstOf (nearestConditions t query trail) ≡ none → Some (matchBySteps (tracesIn t) (treeIn t) query)
 unfolding tracesIn treeIn
 found t query trail e =
     let r = searchable t query trail e in

@@ -37,15 +37,19 @@ module _ (t : Tables) (m : Measures) where
   unfolding answerOf openOf openingConditions unlessRefused
   refused-answer why e = rw e
 
-  pub done-answer : (control : List ℕ) (samples nodes : List ℤ) (links work : List ℕ) → firstOf (openingConditionsOf (lentOf t) m) ≡ none
+  pub done-answer : (after : Tables) → firstOf (openingConditionsOf (lentOf t) m) ≡ none → after ≡ opened t m → outcome (answerOf o.Done) after ≡ openOf t m
+  unfolding answerOf openOf openingConditions unlessRefused
+  done-answer after e p = rw (e, p)
+
+  pub opened-tables : (control : List ℕ) (samples nodes : List ℤ) (links work : List ℕ)
       → control ≡ m .n ∷ m .capacity ∷ m .leafSize ∷ 0 ∷ 0 ∷ drop controlFields (t .control)
       → samples ≡ filled (samplesNeeded m) (pos 0) (t .samples)
       → nodes ≡ filled (recordsNeeded m * recordPlaces) (pos 0) (t .nodes)
       → links ≡ filled (linksNeeded m) 0 (t .links)
       → work ≡ filled (workNeeded m) 0 (t .work)
-      → outcome (answerOf o.Done) (tables control samples nodes links work) ≡ openOf t m
-  unfolding answerOf openOf openingConditions unlessRefused opened
-  done-answer control samples nodes links work e c s n l w = rw (e, c, s, n, l, w)
+      → tables control samples nodes links work ≡ opened t m
+  unfolding opened
+  opened-tables control samples nodes links work c s n l w = rw (c, s, n, l, w)
 
 -- five stores from the front are five new places before the rest
 pub five-stores : (l : List ℕ) (a b c d e : ℕ) → 5 ≤ length l → set (set (set (set (set l 0 a) 1 b) 2 c) 3 d) 4 e ≡ a ∷ b ∷ c ∷ d ∷ e ∷ drop 5 l

@@ -16,8 +16,9 @@ ghost use Prim.Native.Nat.{_≤_};
 ghost use lib.ListN.{length, drop};
 ghost use Rattle.dstree.specs.Measures.{measures};
 ghost use Rattle.tables.specs.Layout.{controlFields};
-ghost use Rattle.tables.specs.Tables.{tables};
-ghost use Rattle.tables.specs.Answers.{outcome, openOf};
+ghost use Rattle.tables.specs.Tables.{tables, lentOf};
+ghost use Rattle.tables.specs.Answers.{outcome, opened, openOf};
+ghost use Rattle.tables.proofs.Judged.{Accepted};
 ghost use Rattle.opening.specs.Opened.{answerOf};
 
 pub enum Opened {
@@ -37,8 +38,34 @@ fn write_control(control: &mut [u16], n: u16, capacity: u16, leaf_size: u16)
     control[4] = 0;
 }
 
-// Opens an empty library with these measures. Every refusal is decided before anything is written; then the needed parts are zeroed, and the control
-// record is written last. The measures come at full width, so that none wraps into its range: 65,792 for n is refused, though its low 16 bits are 256.
+// The tables of an empty library with these measures, for tables that refuse nothing of them: the needed parts are zeroed, and the control record is
+// written last. Sheet reading, which has its own refusals, begins with it too.
+pub fn put_empty(
+    control: &mut [u16],
+    samples: &mut [i16],
+    nodes: &mut [i64],
+    links: &mut [u16],
+    work: &mut [u64],
+    n: u64,
+    capacity: u64,
+    leaf_size: u64,
+)
+    requires { ⌜ Accepted (lentOf (tables (now control) (now samples) (now nodes) (now links) (now work))) (measures n capacity «leaf_size») ⌝ }
+    ensures { λ _. ⌜ tables (now (control .exit)) (now (samples .exit)) (now (nodes .exit)) (now (links .exit)) (now (work .exit))
+        ≡ opened
+        (tables (now (control .entry)) (now (samples .entry)) (now (nodes .entry)) (now (links .entry)) (now (work .entry)))
+        (measures n capacity «leaf_size») ⌝ }
+{
+    let records = records_needed(capacity);
+    zero_samples(samples, samples_needed(n, capacity));
+    zero_nodes(nodes, records * RECORD_PLACES);
+    zero_links(links, capacity as usize);
+    zero_work(work, records);
+    write_control(control, n as u16, capacity as u16, leaf_size as u16);
+}
+
+// Opens an empty library with these measures. Every refusal is decided before anything is written. The measures come at full width, so that none wraps
+// into its range: 65,792 for n is refused, though its low 16 bits are 256.
 //
 // Two wrong programs that the contract rules out: one that zeroes each table whole (places behind the needed ones change), and one that zeroes the
 // samples before it looks at the length of the other tables (a refused call then leaves them changed).
@@ -71,12 +98,7 @@ pub fn open(
     match verdict {
         Verdict::Refused(why) => Opened::Refused(why),
         Verdict::Fine => {
-            let records = records_needed(capacity);
-            zero_samples(samples, samples_needed(n, capacity));
-            zero_nodes(nodes, records * RECORD_PLACES);
-            zero_links(links, capacity as usize);
-            zero_work(work, records);
-            write_control(control, n as u16, capacity as u16, leaf_size as u16);
+            put_empty(control, samples, nodes, links, work, n, capacity, leaf_size);
             Opened::Done
         }
     }

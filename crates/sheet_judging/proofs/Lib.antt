@@ -1,0 +1,10 @@
+pub mod Parts
+pub mod Places
+pub mod Torn
+pub mod AllZero
+pub mod Carried
+pub mod Heads
+pub mod Left
+pub mod Bad
+pub mod Samples
+pub mod Decoded

@@ -1,0 +1,176 @@
+-- `sheet_judging::contents::judge_contents` meets its contract: each return answers for one condition, the ones before it being false.
+use mathlib.Core.Path.{_≡_, refl, sym, ap, _∙_}
+use mathlib.Core.Bool.{Bool, true, false}
+use mathlib.Core.List.{List}
+use Prim.Native.Nat.{ℕ, suc, _+_, _*_, _-_, _/_, _≤_, _<_}
+use native.Mathlib.Nat.{mul-le-mul}
+use native.Mathlib.Omega.{arith}
+use lib.Dec.{ltb, eqb}
+use denote.Ref.{now}
+use borrow.Author.Needs.{needs}
+use borrow.Author.Tests.{lt-ltb, le-ltb, eq-eqb, ne-eqb, not-true, not-false}
+use Rattle.integer.specs.Words.{same, roundedUp}
+use Rattle.dstree.specs.Measures.{Measures, measures, inRange}
+use Rattle.dstree.specs.Refusals.{firstOf}
+use Rattle.dstree.specs.Sheet.{blockSize, narrow, part, letters, blocksIn, measuresIn, countIn, sampleBlocksNeeded, areZero, zerosIn, badConditions}
+use Rattle.tables.specs.Answers.{wordOf, foundBy}
+use Rattle.tables.proofs.Range.{InRange, in-range, samples-fit}
+use Rattle.sheet_judging.specs.Blocks.{blockCount, blockAt, blocksFrom}
+use Rattle.sheet_judging.proofs.Places.{first-inside}
+use Rattle.sheet_judging.proofs.Bad.{badBy, bad-are, bad-letters, bad-measures, bad-count, bad-blocks, bad-zeros, none-bad}
+use Rattle.sheet_judging.proofs.contents.judge_contents.Statement.{statement}
+use Rattle.sheet_judging.proofs.contents.judge_contents.Tie as tie
+
+letters-fit-requires : tie.Need-letters-fit-requires
+letters-fit-requires c κs = omega (arith, first-inside (now (c .before .args .sheet)) (c .before .pre))
+
+returns : tie.Need-returns
+unfolding foundBy wordOf
+returns c =
+    let t = c .before in
+    let s = t .before .before in
+    let bytes = now (s .args .sheet) in
+    let b = blockAt bytes 0 in
+    bad-letters (same (part 4 4 bytes) letters) (inRange (measuresIn b)) (ltb (measuresIn b .capacity) (countIn b)) (eqb (blockCount bytes - 1) (sampleBlocksNeeded (countIn b) (measuresIn b .n)))
+    (areZero (zerosIn (countIn b * measuresIn b .n) b (blocksFrom bytes 1)))
+    (sym (t .letters-fit .ensures) ∙ not-true (t .letters-fit .result) (c .if1 .taken))
+    ∙ ap firstOf (sym (bad-are bytes (s .pre) (measuresIn b) (countIn b) refl refl))
+
+head-of-requires : tie.Need-head-of-requires
+head-of-requires c κs = let s = c .before .before .before in first-inside (now (s .args .sheet)) (s .pre)
+
+-- what block 0 says
+module _ (h : tie.After-head-of) where
+  abbrev start : tie.Start
+  start = h .before .before .before .before
+
+  abbrev bytes : List ℕ
+  bytes = now (start .args .sheet)
+
+  abbrev m : Measures
+  m = measures (h .head-of .result .n) (h .head-of .result .capacity) (h .head-of .result .leaf)
+
+  abbrev count : ℕ
+  count = h .head-of .result .count
+
+  abbrev above : Bool
+  above = ltb (m .capacity) count
+
+  abbrev blocks : Bool
+  blocks = eqb (blockCount bytes - 1) (sampleBlocksNeeded count (m .n))
+
+  abbrev zero : Bool
+  zero = areZero (zerosIn (count * m .n) (blockAt bytes 0) (blocksFrom bytes 1))
+
+  tests : badConditions (blocksIn bytes) ≡ badBy (same (part 4 4 bytes) letters) (inRange m) above blocks zero
+  tests = bad-are bytes (start .pre) m count (h .head-of .ensures .measures-are) (h .head-of .ensures .count-is)
+
+  lettered : same (part 4 4 bytes) letters ≡ true
+  lettered = sym (h .before .before .letters-fit .ensures) ∙ not-false (h .before .before .letters-fit .result) (h .before .if1 .left)
+
+measures-fit-requires : tie.Need-measures-fit-requires
+measures-fit-requires c κs = search needs
+
+returns-2 : tie.Need-returns-2
+unfolding foundBy wordOf
+returns-2 c =
+    let f = c .before in
+    let h = f .before in
+    bad-measures (same (part 4 4 (bytes h)) letters) (inRange (m h)) (above h) (blocks h) (zero h) (lettered h) (sym (f .measures-fit .ensures) ∙ not-true (f .measures-fit .result) (c .if2 .taken)) ∙ ap firstOf (sym (tests h))
+
+-- measures in range
+module _ (e : tie.Else2) where
+  abbrev headOf : tie.After-head-of
+  headOf = e .before .before
+
+  measured : inRange (m headOf) ≡ true
+  measured = sym (e .before .measures-fit .ensures) ∙ not-false (e .before .measures-fit .result) (e .if2 .left)
+
+  range : InRange (m headOf)
+  range = in-range (m headOf) measured
+
+returns-3 : tie.Need-returns-3
+unfolding foundBy wordOf
+returns-3 c =
+    let h = headOf (c .before) in
+    bad-count (same (part 4 4 (bytes h)) letters) (inRange (m h)) (above h) (blocks h) (zero h) (lettered h) (measured (c .before)) (lt-ltb (m h .capacity) (count h) (c .if3 .taken)) ∙ ap firstOf (sym (tests h))
+
+-- count within capacity
+module _ (e : tie.Else3) where
+  abbrev head : tie.After-head-of
+  head = headOf (e .before)
+
+  within : ltb (m head .capacity) (count head) ≡ false
+  within = le-ltb (m head .capacity) (count head) (e .if3 .left)
+
+  few : count head ≤ 4096
+  few = omega (arith, e .if3 .left, range (e .before) .capacity-high)
+
+  samples-few : count head * m head .n ≤ 1048576
+  samples-few = mul-le-mul {n₁ = count head} {m₁ = m head .n} {n₂ = 4096} {m₂ = 256} few (range (e .before) .n-high)
+
+mul-samples : tie.Need-mul-samples
+mul-samples c = record { fits = samples-fit (count (head c)) (m (head c) .n) (few c) (range (c .before) .n-high) }
+
+sub-if4 : tie.Need-sub-if4
+unfolding blockSize
+sub-if4 c = let w = start (head c) .pre in omega (arith, w .some-block)
+
+add-if4 : tie.Need-add-if4
+add-if4 c = omega (arith, samples-few c)
+
+returns-4 : tie.Need-returns-4
+unfolding foundBy wordOf sampleBlocksNeeded roundedUp narrow blockSize
+returns-4 c =
+    let e = c .before in
+    let h = head e in
+    bad-blocks (same (part 4 4 (bytes h)) letters) (inRange (m h)) (above h) (blocks h) (zero h) (lettered h) (measured (e .before)) (within e) (ne-eqb _ _ (c .if4 .taken)) ∙ ap firstOf (sym (tests h))
+
+-- as many blocks as are needed
+module _ (e : tie.Else4) where
+  abbrev heads : tie.After-head-of
+  heads = head (e .before)
+
+  blocked : eqb (blockCount (bytes heads) - 1) (sampleBlocksNeeded (count heads) (m heads .n)) ≡ true
+  unfolding sampleBlocksNeeded roundedUp narrow blockSize
+  blocked = eq-eqb _ _ (e .if4 .left)
+
+all-zero-requires : tie.Need-all-zero-requires
+unfolding roundedUp narrow blockSize
+all-zero-requires c κs =
+    let w = start (heads c) .pre in
+    (w, omega (arith, c .if4 .left, w .some-block))
+
+returns-5 : tie.Need-returns-5
+unfolding foundBy wordOf
+returns-5 c =
+    let z = c .before in
+    let e = z .before in
+    let h = heads e in
+    bad-zeros (same (part 4 4 (bytes h)) letters) (inRange (m h)) (above h) (blocks h) (zero h) (lettered h) (measured (e .before .before)) (within (e .before)) (blocked e) (sym (z .all-zero .ensures) ∙ not-true (z .all-zero .result) (c .if5 .taken)) ∙ ap firstOf (sym (tests h))
+
+returns-6 : tie.Need-returns-6
+unfolding foundBy
+returns-6 c =
+    let z = c .before in
+    let e = z .before in
+    let h = heads e in
+    none-bad (same (part 4 4 (bytes h)) letters) (inRange (m h)) (above h) (blocks h) (zero h) (lettered h) (measured (e .before .before)) (within (e .before)) (blocked e) (sym (z .all-zero .ensures) ∙ not-false (z .all-zero .result) (c .if5 .left)) ∙ ap firstOf (sym (tests h))
+
+pub judge-contents-spec : {M : Type 1} → statement M
+judge-contents-spec =
+    tie.close
+    (tie.spec
+    letters-fit-requires
+    returns
+    head-of-requires
+    measures-fit-requires
+    returns-2
+    returns-3
+    mul-samples
+    sub-if4
+    add-if4
+    returns-4
+    all-zero-requires
+    returns-5
+    returns-6)

@@ -1,0 +1,11 @@
+-- What block 0 says.
+use Prim.Native.Nat.{ℕ, _<_}
+use mathlib.Core.Path.{_≡_}
+use mathlib.Core.List.{List}
+use Rattle.dstree.specs.Measures.{measures}
+use Rattle.dstree.specs.Sheet.{measuresIn, countIn}
+
+-- these are its measures and its count, which fit two bytes each
+pub record Says (block : List ℕ) (n capacity leafSize count : ℕ) : Type 0 where
+  pub measures-are : measuresIn block ≡ measures n capacity leafSize
+  pub count-is : countIn block ≡ count

@@ -1,0 +1,3 @@
+pub mod Told
+pub mod Library
+pub mod Steps

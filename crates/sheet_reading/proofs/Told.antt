@@ -1,0 +1,85 @@
+-- What a sheet's own conditions say of reading it, and the two ways that reading ends.
+use mathlib.Core.Path.{_≡_, refl, sym, ap, _∙_}
+use mathlib.Core.Option.{Option, none, some}
+use mathlib.Core.List.{List}
+use Prim.Native.Nat.{ℕ}
+use native.Mathlib.Omega.{arith}
+use Rattle.dstree.specs.Measures.{Trace, Measures}
+use Rattle.dstree.specs.Refusals as word
+use Rattle.dstree.specs.Refusals.{Condition, firstOf}
+use Rattle.dstree.specs.Sheet.{measuresIn, sheetConditions, Judged, refused, holds, heldBy, judgedBy, judgeSheet}
+use Rattle.dstree.specs.Book.{Lent, done, refusing, controlShort, tablesShort, shortConditions, readingConditions}
+use Rattle.tables.specs.Layout.{layout}
+use Rattle.tables.specs.Tables.{Tables, lentOf}
+use Rattle.tables.specs.Answers.{wordOf, foundBy, outcome, unlessRefused}
+use Rattle.tables.specs.declared.Refusal.{Refusal}
+use Rattle.tables.specs.declared.Verdict.the-variants as v
+use Rattle.dstree.proofs.Conditions.{none-first}
+use Rattle.tables.proofs.Judged.{Accepted, room-of}
+use Rattle.sheet_judging.specs.Blocks.{blockAt}
+use Rattle.sheet_judging.specs.Traces.{tracesOf}
+use Rattle.sheet_judging.proofs.Places.{blocks-are}
+use Rattle.sheet_judging.proofs.Samples.{fine, range}
+use Rattle.sheet_reading.specs.Loaded.{loaded, readBy, readOf}
+use Rattle.sheet_reading.specs.Answered.{answerOf}
+use Rattle.sheet_reading.specs.declared.Read.the-variants as r
+
+module _ (bytes : List ℕ) where
+  -- what block 0 says
+  abbrev pub said : Measures
+  said = measuresIn (blockAt bytes 0)
+
+  judged-refused : (why : word.Refusal) → firstOf (sheetConditions bytes) ≡ some why → judgeSheet bytes ≡ refused why
+  unfolding judgeSheet judgedBy
+  judged-refused why e = rw e
+
+  pub judged-holds : firstOf (sheetConditions bytes) ≡ none → judgeSheet bytes ≡ holds said (tracesOf bytes)
+  unfolding judgeSheet judgedBy heldBy
+  judged-holds e = rw (e, blocks-are bytes (fine bytes e .whole))
+
+  -- ---- conditions
+
+  module _ (lengths : Lent) where
+    pub refused-first : (why : word.Refusal) → firstOf (sheetConditions bytes) ≡ some why → some why ≡ firstOf (readingConditions layout lengths (judgeSheet bytes))
+    unfolding readingConditions firstOf
+    refused-first why e = rw (judged-refused why e)
+
+    pub short-only : firstOf (sheetConditions bytes) ≡ none → readingConditions layout lengths (judgeSheet bytes) ≡ shortConditions layout lengths said
+    unfolding readingConditions
+    short-only e = rw (judged-holds e)
+
+    -- nothing is refused of a sheet only if the sheet alone is not
+    pub sheet-fine : firstOf (readingConditions layout lengths (judgeSheet bytes)) ≡ none → firstOf (sheetConditions bytes) ≡ none
+    sheet-fine e = by (firstOf (sheetConditions bytes)) refl
+      where
+        by : (o : Option word.Refusal) → firstOf (sheetConditions bytes) ≡ o → firstOf (sheetConditions bytes) ≡ none
+        by none p = p
+        by (some why) p = let z : _≡_ {A = ℕ} 0 1 = cc (refused-first why p, e) in absurd (omega arith)
+
+    -- .. and the tables then have room for its measures
+    pub accepted : firstOf (readingConditions layout lengths (judgeSheet bytes)) ≡ none → Accepted lengths said
+    accepted e =
+        let sound = sheet-fine e in
+        let short : firstOf (shortConditions layout lengths said) ≡ none = ap firstOf (sym (short-only sound)) ∙ e in
+        let one = none-first (controlShort layout lengths) _ _ short in
+        let two = none-first (tablesShort layout lengths said) _ _ (one .1) in
+        record { range = range bytes (fine bytes sound); room = room-of lengths said (one .0) (two .0) }
+
+-- ---- answers
+
+refused-by : (t : Tables) (j : Judged) (why : word.Refusal) → firstOf (readingConditions layout (lentOf t) j) ≡ some why → outcome (refusing why) t ≡ readBy t j
+unfolding readingConditions firstOf readBy unlessRefused
+refused-by t (refused w) why e = let p : w ≡ why = cc in rw p
+refused-by t (holds m traces) why e = rw e
+
+module _ (t : Tables) (bytes : List ℕ) where
+  pub refused-answer : (why : Refusal) → firstOf (readingConditions layout (lentOf t) (judgeSheet bytes)) ≡ foundBy (v.Refused why) → outcome (answerOf (r.Refused why)) t ≡ readOf t bytes
+  unfolding foundBy answerOf readOf
+  refused-answer why e = refused-by t (judgeSheet bytes) (wordOf why) e
+
+  pub done-answer : (after : Tables) → firstOf (readingConditions layout (lentOf t) (judgeSheet bytes)) ≡ none → after ≡ loaded t (said bytes) (tracesOf bytes) → outcome (answerOf r.Done) after ≡ readOf t bytes
+  unfolding answerOf readOf readBy unlessRefused
+  done-answer after e p =
+      let sound = sheet-fine bytes (lentOf t) e in
+      let short : firstOf (shortConditions layout (lentOf t) (said bytes)) ≡ none = ap firstOf (sym (short-only bytes (lentOf t) sound)) ∙ e in
+      rw (judged-holds bytes sound, short, p)

@@ -1,0 +1,67 @@
+-- `sheet_reading::loading::put_next` meets its contract: what is put is the sheet's trace.
+use mathlib.Core.Path.{_≡_, sym, ap, _∙_, subst}
+use mathlib.Core.List.{List, []}
+use Prim.Native.Nat.{ℕ}
+use lib.IntN.{ℤ}
+use lib.ListN.{getD}
+use denote.Ref.{now}
+use borrow.Author.Needs.{needs}
+use Rattle.dstree.specs.Measures.{Trace}
+use Rattle.tables.specs.Tables.{tables}
+use Rattle.insertion_memory.specs.Memory.{addedTo}
+use Rattle.adding.specs.Putting.{Takes}
+use Rattle.sheet_judging.specs.Traces.{tracesOf}
+use Rattle.sheet_reading.proofs.loading.put_next.Statement.{statement}
+use Rattle.sheet_reading.proofs.loading.put_next.Tie as tie
+
+read-trace-requires : tie.Need-read-trace-requires
+read-trace-requires c κs = let p = c .before .before .before .before .pre in (p .sound, p .inside, p .size)
+
+-- once the trace is read
+module _ (r : tie.After-read-trace) where
+  abbrev start : tie.Start
+  start = r .before .before .before .before .before
+
+  trace-is : r .read-trace .last .1 .1 .0 ≡ getD (tracesOf (now (start .args .sheet))) (start .args .number) []
+  trace-is = r .read-trace .ensures
+
+put-requires : tie.Need-put-requires
+put-requires c κs =
+    let r = c .before .before .before .before .before .before in
+    let g = start r .args in
+    subst (λ (x : Trace). Takes (now (g .control)) (now (g .samples)) (now (g .nodes)) (now (g .links)) x) (sym (trace-is r)) (start r .pre .takes)
+
+same-length : tie.Need-same-length
+same-length c = search needs
+
+same-length-2 : tie.Need-same-length-2
+same-length-2 c = search needs
+
+same-length-3 : tie.Need-same-length-3
+same-length-3 c = search needs
+
+same-length-4 : tie.Need-same-length-4
+same-length-4 c = search needs
+
+same-length-5 : tie.Need-same-length-5
+same-length-5 c = search needs
+
+returns : tie.Need-returns
+returns c = λ work.
+    let p = c .before .before .before .before .before .before in
+    let r = p .before .before .before .before .before .before .before in
+    let g = start r .args in
+    p .put .ensures work ∙ ap (addedTo (tables (now (g .control)) (now (g .samples)) (now (g .nodes)) (now (g .links)) work)) (trace-is r)
+
+pub put-next-spec : {M : Type 1} → statement M
+put-next-spec =
+    tie.close
+    (tie.spec
+    read-trace-requires
+    put-requires
+    same-length
+    same-length-2
+    same-length-3
+    same-length-4
+    same-length-5
+    returns)

@@ -1,0 +1,64 @@
+-- `sheet_reading::loading::put_one` meets its contract: a trace's samples have room in 256 places.
+use mathlib.Core.Path.{_≡_, sym, ap, _∙_, subst}
+use mathlib.Core.List.{List}
+use Prim.Native.Nat.{ℕ, _≤_}
+use native.Mathlib.Omega.{arith}
+use lib.IntN.{ℤ, pos}
+use lib.ListN.{length, take, replicate}
+use lib.Seq.{length-take-le}
+use denote.Ref.{now}
+use borrow.Author.Needs.{needs}
+use Rattle.sheet_judging.proofs.Samples.{fine, size-few}
+use Rattle.sheet_reading.specs.Loads.{Next}
+use Rattle.sheet_reading.proofs.loading.put_one.Statement.{statement}
+use Rattle.sheet_reading.proofs.loading.put_one.Tie as tie
+
+module _ (a : tie.After-put-next-arg4) where
+  abbrev start : tie.Start
+  start = a .before .before .before .before .before .before .before
+
+  few : start .args .n ≤ 256
+  few = let p = start .pre in omega (arith, p .size, size-few (now (start .args .sheet)) (fine (now (start .args .sheet)) (p .sound)))
+
+  length-is : start .args .n ≡ length (take (start .args .n) (replicate 256 (pos 0)))
+  length-is = sym (length-take-le (start .args .n) (replicate 256 (pos 0)) few)
+
+array-borrow-prefix-trace : tie.Need-array-borrow-prefix-trace
+array-borrow-prefix-trace c = few c
+
+slice-aggregate-put-next : tie.Need-slice-aggregate-put-next
+slice-aggregate-put-next c = length-is (c .before)
+
+put-next-requires : tie.Need-put-next-requires
+put-next-requires c κs =
+    let a = c .before in
+    let g = start a .args in
+    subst (λ (k : ℕ). Next (now (g .control)) (now (g .samples)) (now (g .nodes)) (now (g .links)) (now (g .sheet)) k (g .number)) (length-is a) (start a .pre)
+
+same-length : tie.Need-same-length
+same-length c = search needs
+
+same-length-2 : tie.Need-same-length-2
+same-length-2 c = search needs
+
+same-length-3 : tie.Need-same-length-3
+same-length-3 c = search needs
+
+same-length-4 : tie.Need-same-length-4
+same-length-4 c = search needs
+
+returns : tie.Need-returns
+returns c = c .before .before .before .before .before .before .before .put-next .ensures
+
+pub put-one-spec : {M : Type 1} → statement M
+put-one-spec =
+    tie.close
+    (tie.spec
+    array-borrow-prefix-trace
+    slice-aggregate-put-next
+    put-next-requires
+    same-length
+    same-length-2
+    same-length-3
+    same-length-4
+    returns)

@@ -270,7 +270,7 @@ module _ (memory part : Tables) (begins : Begins part memory) (m : Measures) (tr
       record {
         library = library;
         needed-places = begins-on (foldl addedTo (opened (blank m) m) traces) (foldl addedTo (opened part m) traces) (left (foldl addedTo (opened part m) traces) memory)
-        (fold-begins m (opened (blank m) m) (opened part m) [] traces (blank-begins part m room) (empty-holds m traces library) library) (left-begins (foldl addedTo (opened part m) traces) memory);
+            (fold-begins m (opened (blank m) m) (opened part m) [] traces (blank-begins part m room) (empty-holds m traces library) library) (left-begins (foldl addedTo (opened part m) traces) memory);
       }
 
 -- what a reading answers and puts, by the refusal that was found

@@ -1,14 +1,13 @@
 -- Parts of lent slices: what comes back where a call was lent the first places of each table, or the next places of a supply.
 use Prim.Native.Nat.{ℕ, _+_, _-_, _≤_}
-use mathlib.Core.Path.{_≡_, refl, sym, ap, subst, _∙_}
-use mathlib.Core.List.{List, [], _∷_, _++_, append-assoc}
+use mathlib.Core.Path.{_≡_, sym, ap, subst, _∙_}
+use mathlib.Core.List.{List, _++_, append-assoc}
 use native.Mathlib.Omega.{arith}
-use lib.IntN.{ℤ}
-use lib.ListN.{length, take, drop, take-append-drop, length-append, length-drop}
-use lib.Seq.{length-take-le, take-at, drop-at, drop-drop}
+use lib.ListN.{length, take, drop, length-append, length-drop}
+use lib.Seq.{length-take-le, take-at, drop-at, take-add, drop-drop}
 use Rattle.dstree.specs.Book.{Lent}
 use Rattle.tables.specs.Tables.{Tables, tables, lentOf}
-use Rattle.tables.specs.Beginning.{firstPlaces, over, left}
+use Rattle.tables.specs.Beginning.{over, left}
 use Rattle.tables.proofs.Beginning.{Within, tables-same}
 use Rattle.replay.specs.Script.{supply, supplyAt}
 
@@ -68,6 +67,10 @@ supply-moved from many l beside h m e =
       ap (λ (k : List ℕ). take (from + many) k) parts ∙ take-at (take from l ++ beside) (drop (from + many) l) (from + many) n,
       ap (λ (k : List ℕ). drop (from + many) k) parts ∙ (drop-at (take from l ++ beside) (drop (from + many) l) (from + many) n ∙ ahead-moved from many l m),
     )
+
+-- what is taken to be read stays as it was
+pub supply-passed : (from many : ℕ) (l : List ℕ) → many ≤ length l - from → supplyAt (from + many) l ≡ supply (take from l ++ take many (drop from l)) (drop (length (take many (drop from l))) (drop from l))
+supply-passed from many l m = rw (take-add from many l, ahead-moved from many l m)
 
 pub still-inside : (from many all : ℕ) → from ≤ all → many ≤ all - from → from + many ≤ all
 still-inside from many all h m = omega arith

@@ -1,3 +1,4 @@
--- Scripts of calls, what a script asks for, and what holds after it.
+-- Scripts of calls, what a script asks for, what holds after it, and which lists of calls have one.
 pub mod Script
 pub mod Story
+pub mod Scripts

@@ -13,7 +13,7 @@ use Rattle.dstree.specs.Book.{Lent}
 use Rattle.tables.specs.Tables.{Tables, lentOf}
 use Rattle.tables.specs.Beginning.{firstPlaces, left}
 use Rattle.tables.specs.Answers.{OutcomeWith}
-use Rattle.demands.specs.Requests.{Request, opening, adding, matching, lentIn, doneOn, Reply, reply}
+use Rattle.demands.specs.Requests.{Request, opening, adding, matching, writing, reading, lentIn, doneOn, Reply, reply}
 use Rattle.replay.specs.declared.Op.{Op}
 use Rattle.replay.specs.declared.Cursor.{Cursor}
 
@@ -73,7 +73,10 @@ lentBy op = record { control = op .control; samples = op .samples; nodes = op .n
 unfoldable pub fitsIn : Lent → Lent → Bool
 fitsIn lent lengths =
     leb (lent .control) (lengths .control)
-    && (leb (lent .samples) (lengths .samples) && (leb (lent .nodes) (lengths .nodes) && (leb (lent .links) (lengths .links) && leb (lent .work) (lengths .work))))
+    && leb (lent .samples) (lengths .samples)
+    && leb (lent .nodes) (lengths .nodes)
+    && leb (lent .links) (lengths .links)
+    && leb (lent .work) (lengths .work)
 
 -- an opening: n, capacity and leaf size
 abbrev pub openingBy : Op → Request
@@ -90,13 +93,23 @@ matchingBy op s =
     then some (matching (lentBy op) (take (op .first) (s .samples)) (take (op .second) (s .trails .ahead)))
     else none
 
+-- a writing: a sheet of so many bytes
+unfoldable pub writingBy : Op → State → Option Request
+writingBy op s = if leb (op .first) (length (s .sheets .ahead)) then some (writing (lentBy op) (take (op .first) (s .sheets .ahead))) else none
+
+-- a reading: likewise
+unfoldable pub readingBy : Op → State → Option Request
+readingBy op s = if leb (op .first) (length (s .sheets .ahead)) then some (reading (lentBy op) (take (op .first) (s .sheets .ahead))) else none
+
 -- the call that is asked for. None, where more is asked for than is ahead, or by another first number
 unfoldable pub requestOf : Op → State → Option Request
 requestOf op s =
     if eqb (op .kind) 0 then some (openingBy op)
     else (if eqb (op .kind) 1 then addingBy op s
     else (if eqb (op .kind) 2 then matchingBy op s
-    else none))
+    else (if eqb (op .kind) 3 then writingBy op s
+    else (if eqb (op .kind) 4 then readingBy op s
+    else none))))
 
 -- .. nor where a table is lent longer than it is
 unfoldable pub asks : Lent → Op → State → Option Request
@@ -126,6 +139,9 @@ stateAfter (matching lent x trail) s =
     (drop (length x) (s .samples))
     (used (s .trails) trail (madeOn (matching lent x trail) (s .memory) .beside))
     (s .sheets)
+stateAfter (writing lent sheet) s =
+    state (memoryAfter (writing lent sheet) (s .memory)) (s .samples) (s .trails) (used (s .sheets) sheet (madeOn (writing lent sheet) (s .memory) .beside))
+stateAfter (reading lent bytes) s = state (memoryAfter (reading lent bytes) (s .memory)) (s .samples) (s .trails) (used (s .sheets) bytes bytes)
 
 unfoldable pub turned : Option Request → State → State
 turned none s = s

@@ -5,10 +5,11 @@ use crate::Op;
 ghost use mathlib.Core.Path.{_≡_};
 ghost use mathlib.Core.List.{List};
 ghost use Prim.Native.Nat.{ℕ, _+_, _*_, _≤_};
+ghost use lib.IntN.{ℤ};
 ghost use lib.ListN.{length};
 ghost use Rattle.tables.specs.Tables.{tables, lentOf};
 ghost use Rattle.tables.proofs.Beginning.{Within};
-ghost use Rattle.replay.specs.Script.{lentBy, openingBy, addingBy, matchingBy, memoryAfter, stateAt, turned, Inside};
+ghost use Rattle.replay.specs.Script.{lentBy, openingBy, addingBy, matchingBy, writingBy, readingBy, memoryAfter, stateAt, turned};
 
 // An opening.
 pub fn play_open(
@@ -143,5 +144,101 @@ pub fn play_match(
         samples: to,
         trails: end,
         sheets: at.sheets,
+    }
+}
+
+// A writing to a sheet of the next so many bytes, if there are as many.
+pub fn play_write(
+    control: &[u16],
+    samples: &[i16],
+    nodes: &[i64],
+    links: &[u16],
+    work: &[u64],
+    sheets: &mut [u8],
+    op: Op,
+    at: Cursor,
+) -> Cursor
+    requires { ⌜ Within (lentBy op) (lentOf (tables (now control) (now samples) (now nodes) (now links) (now work))) × (at .sheets ≤ length (now sheets)) ⌝ }
+    ensures { λ r. ⌜ ((pool : List ℤ) (trails : List ℕ) → stateAt
+        (tables (now (control .entry)) (now (samples .entry)) (now (nodes .entry)) (now (links .entry)) (now (work .entry)))
+        pool trails (now (sheets .exit)) r
+        ≡ turned (writingBy op (stateAt
+        (tables (now (control .entry)) (now (samples .entry)) (now (nodes .entry)) (now (links .entry)) (now (work .entry)))
+        pool trails (now (sheets .entry)) at)) (stateAt
+        (tables (now (control .entry)) (now (samples .entry)) (now (nodes .entry)) (now (links .entry)) (now (work .entry)))
+        pool trails (now (sheets .entry)) at))
+        × (r .samples ≡ at .samples) × (r .trails ≡ at .trails) × (r .sheets ≤ length (now (sheets .entry))) ⌝ }
+{
+    let many = op.first as usize;
+    let from = at.sheets;
+    if sheets.len() - from < many {
+        return at;
+    }
+    let to = from + many;
+    let c = op.control;
+    let s = op.samples;
+    let n = op.nodes;
+    let l = op.links;
+    let w = op.work;
+    sheet_writing::write_sheet(
+        &control[..c],
+        &samples[..s],
+        &nodes[..n],
+        &links[..l],
+        &work[..w],
+        &mut sheets[from..to],
+    );
+    Cursor {
+        samples: at.samples,
+        trails: at.trails,
+        sheets: to,
+    }
+}
+
+// A reading of a sheet of the next so many bytes, if there are as many.
+pub fn play_read(
+    control: &mut [u16],
+    samples: &mut [i16],
+    nodes: &mut [i64],
+    links: &mut [u16],
+    work: &mut [u64],
+    sheets: &[u8],
+    op: Op,
+    at: Cursor,
+) -> Cursor
+    requires { ⌜ Within (lentBy op) (lentOf (tables (now control) (now samples) (now nodes) (now links) (now work))) × (at .sheets ≤ length (now sheets)) ⌝ }
+    ensures { λ r. ⌜ ((pool : List ℤ) (trails : List ℕ) → stateAt
+        (tables (now (control .exit)) (now (samples .exit)) (now (nodes .exit)) (now (links .exit)) (now (work .exit)))
+        pool trails (now (sheets .entry)) r
+        ≡ turned (readingBy op (stateAt
+        (tables (now (control .entry)) (now (samples .entry)) (now (nodes .entry)) (now (links .entry)) (now (work .entry)))
+        pool trails (now (sheets .entry)) at)) (stateAt
+        (tables (now (control .entry)) (now (samples .entry)) (now (nodes .entry)) (now (links .entry)) (now (work .entry)))
+        pool trails (now (sheets .entry)) at))
+        × (r .samples ≡ at .samples) × (r .trails ≡ at .trails) × (r .sheets ≤ length (now (sheets .entry))) ⌝ }
+{
+    let many = op.first as usize;
+    let from = at.sheets;
+    if sheets.len() - from < many {
+        return at;
+    }
+    let to = from + many;
+    let c = op.control;
+    let s = op.samples;
+    let n = op.nodes;
+    let l = op.links;
+    let w = op.work;
+    sheet_reading::read_sheet(
+        &mut control[..c],
+        &mut samples[..s],
+        &mut nodes[..n],
+        &mut links[..l],
+        &mut work[..w],
+        &sheets[from..to],
+    );
+    Cursor {
+        samples: at.samples,
+        trails: at.trails,
+        sheets: to,
     }
 }

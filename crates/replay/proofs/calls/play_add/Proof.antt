@@ -1,15 +1,13 @@
 -- `replay::calls::play_add` meets its contract: what comes back in the first places of each table is what adding leaves there.
-use mathlib.Core.Path.{_≡_, refl, sym, ap, _∙_}
-use Prim.Native.Nat.{ℕ, _+_, _-_}
-use mathlib.Core.List.{List, _++_}
-use native.Mathlib.Omega.{arith}
+use mathlib.Core.Path.{refl, sym, ap, _∙_}
+use mathlib.Core.List.{List}
 use lib.IntN.{ℤ}
-use lib.ListN.{length, take, drop, take-append-drop}
+use lib.ListN.{length, take, take-append-drop}
 use lib.Seq.{length-take-le}
 use denote.Ref.{now}
 use Rattle.tables.specs.Tables.{Tables, tables}
 use Rattle.tables.specs.Beginning.{firstPlaces, left}
-use Rattle.tables.specs.Answers.{Outcome, OutcomeWith}
+use Rattle.tables.specs.Answers.{Outcome}
 use Rattle.tables.proofs.Beginning.{tables-same}
 use Rattle.demands.specs.Requests.{doneOn, lentIn}
 use Rattle.replay.specs.Script.{lentBy}
@@ -19,15 +17,10 @@ use Rattle.replay.proofs.Turns.{adds, adds-not}
 use borrow.Author.Needs.{needs}
 use Rattle.replay.proofs.calls.play_add.Statement.{statement}
 use Rattle.replay.proofs.calls.play_add.Tie as tie
-use Rattle.replay.proofs.calls.play_add.Reads as reads
-use Rattle.replay.proofs.calls.play_add.Lts as lts
-use Rattle.adding.proofs.add.Reads as add-reads
 
--- src/calls.rt:61:8
 sub-if1 : tie.Need-sub-if1
 sub-if1 c = search needs
 
--- src/calls.rt:62:9
 returns : tie.Need-returns
 returns c =
     let s = c .before .before .before .before in
@@ -35,83 +28,63 @@ returns c =
     let memory : Tables = tables (now (a .control)) (now (a .samples)) (now (a .nodes)) (now (a .links)) (now (a .work)) in
     ((λ trails sheets. adds-not (a .op) (a .at) memory memory (now (a .pool)) trails sheets (c .if1 .taken)), s .pre .1, refl, refl)
 
--- src/calls.rt:64:14
 add-to : tie.Need-add-to
 add-to c = search needs
 
--- src/calls.rt:71:9
 slice-relend-prefix-add : tie.Need-slice-relend-prefix-add
 slice-relend-prefix-add c = search needs
 
--- src/calls.rt:71:9
 slice-aggregate-add : tie.Need-slice-aggregate-add
 slice-aggregate-add c = let s = c .before .before .before .before .before in sym (length-take-le (s .args .op .control) (now (s .args .control)) (s .pre .0 .control-within))
 
--- src/calls.rt:72:9
 slice-relend-prefix-add-2 : tie.Need-slice-relend-prefix-add-2
 slice-relend-prefix-add-2 c = search needs
 
--- src/calls.rt:72:9
 slice-aggregate-add-2 : tie.Need-slice-aggregate-add-2
 slice-aggregate-add-2 c = let s = c .before .before .before .before .before .before in sym (length-take-le (s .args .op .samples) (now (s .args .samples)) (s .pre .0 .samples-within))
 
--- src/calls.rt:73:9
 slice-relend-prefix-add-3 : tie.Need-slice-relend-prefix-add-3
 slice-relend-prefix-add-3 c = search needs
 
--- src/calls.rt:73:9
 slice-aggregate-add-3 : tie.Need-slice-aggregate-add-3
 slice-aggregate-add-3 c = let s = c .before .before .before .before .before .before .before in sym (length-take-le (s .args .op .nodes) (now (s .args .nodes)) (s .pre .0 .nodes-within))
 
--- src/calls.rt:74:9
 slice-relend-prefix-add-4 : tie.Need-slice-relend-prefix-add-4
 slice-relend-prefix-add-4 c = search needs
 
--- src/calls.rt:74:9
 slice-aggregate-add-4 : tie.Need-slice-aggregate-add-4
 slice-aggregate-add-4 c = let s = c .before .before .before .before .before .before .before .before in sym (length-take-le (s .args .op .links) (now (s .args .links)) (s .pre .0 .links-within))
 
--- src/calls.rt:75:9
 slice-aggregate-add-5 : tie.Need-slice-aggregate-add-5
 slice-aggregate-add-5 c = let s = c .before .before .before .before .before .before .before .before .before in sym (length-take-le (s .args .op .work) (now (s .args .work)) (s .pre .0 .work-within))
 
--- src/calls.rt:76:9
 mul-add : tie.Need-mul-add
 mul-add c = search needs
 
--- src/calls.rt:76:9
 sub-add : tie.Need-sub-add
 sub-add c = search needs
 
--- src/calls.rt:76:9
 part-add-start : tie.Need-part-add-start
 part-add-start c = search needs
 
--- src/calls.rt:76:9
 part-add-end : tie.Need-part-add-end
 part-add-end c = search needs
 
--- src/calls.rt:70:5
 add-requires : tie.Need-add-requires
 add-requires c κs = search needs
 
--- src/calls.rt:38:1
 same-length : tie.Need-same-length
 same-length c = search needs
 
--- src/calls.rt:38:1
 same-length-2 : tie.Need-same-length-2
 same-length-2 c = search needs
 
--- src/calls.rt:38:1
 same-length-3 : tie.Need-same-length-3
 same-length-3 c = search needs
 
--- src/calls.rt:38:1
 same-length-4 : tie.Need-same-length-4
 same-length-4 c = search needs
 
--- src/calls.rt:38:1
 returns-2 : tie.Need-returns-2
 unfolding doneOn lentIn
 returns-2 c =

@@ -1,7 +1,7 @@
 -- `replay::calls::play_match` meets its contract: search work comes back as the match leaves it, and so does the trail's part.
-use mathlib.Core.Path.{_≡_, refl, sym, ap, _∙_}
+use mathlib.Core.Path.{refl, sym, ap, _∙_}
 use Prim.Native.Nat.{ℕ, _+_, _-_}
-use mathlib.Core.List.{List, _++_}
+use mathlib.Core.List.{List}
 use native.Mathlib.Omega.{arith}
 use lib.IntN.{ℤ}
 use lib.ListN.{length, take, drop, take-append-drop}
@@ -9,7 +9,7 @@ use lib.Seq.{length-take-le}
 use denote.Ref.{now}
 use Rattle.tables.specs.Tables.{Tables, tables}
 use Rattle.tables.specs.Beginning.{firstPlaces, left}
-use Rattle.tables.specs.Answers.{Outcome, OutcomeWith}
+use Rattle.tables.specs.Answers.{OutcomeWith}
 use Rattle.tables.proofs.Beginning.{tables-same}
 use Rattle.demands.specs.Requests.{doneOn, lentIn}
 use Rattle.replay.specs.Script.{lentBy}
@@ -20,15 +20,10 @@ use Rattle.replay.proofs.Turns.{matches, matches-no-query, matches-no-t
 use borrow.Author.Needs.{needs}
 use Rattle.replay.proofs.calls.play_match.Statement.{statement}
 use Rattle.replay.proofs.calls.play_match.Tie as tie
-use Rattle.replay.proofs.calls.play_match.Reads as reads
-use Rattle.replay.proofs.calls.play_match.Lts as lts
-use Rattle.matching.proofs.nearest.Reads as nearest-reads
 
--- src/calls.rt:111:8
 sub-if1 : tie.Need-sub-if1
 sub-if1 c = search needs
 
--- src/calls.rt:112:9
 returns : tie.Need-returns
 returns c =
     let s = c .before .before .before .before .before in
@@ -36,11 +31,9 @@ returns c =
     let memory : Tables = tables (now (a .control)) (now (a .samples)) (now (a .nodes)) (now (a .links)) (now (a .work)) in
     ((λ sheets. matches-no-query (a .op) (a .at) memory memory (now (a .pool)) (now (a .trails)) sheets (c .if1 .taken)), s .pre .1, s .pre .2, refl)
 
--- src/calls.rt:116:8
 sub-if2 : tie.Need-sub-if2
 sub-if2 c = search needs
 
--- src/calls.rt:117:9
 returns-2 : tie.Need-returns-2
 returns-2 c =
     let s = c .before .before .before .before .before .before in
@@ -48,83 +41,63 @@ returns-2 c =
     let memory : Tables = tables (now (a .control)) (now (a .samples)) (now (a .nodes)) (now (a .links)) (now (a .work)) in
     ((λ sheets. matches-no-trail (a .op) (a .at) memory memory (now (a .pool)) (now (a .trails)) sheets (c .before .if1 .left) (c .if2 .taken)), s .pre .1, s .pre .2, refl)
 
--- src/calls.rt:119:14
 add-to : tie.Need-add-to
 add-to c = search needs
 
--- src/calls.rt:120:15
 add-end : tie.Need-add-end
 add-end c = search needs
 
--- src/calls.rt:127:9
 slice-aggregate-nearest : tie.Need-slice-aggregate-nearest
 slice-aggregate-nearest c = let s = c .before .before .before .before .before .before .before in sym (length-take-le (s .args .op .control) (now (s .args .control)) (s .pre .0 .control-within))
 
--- src/calls.rt:128:9
 slice-aggregate-nearest-2 : tie.Need-slice-aggregate-nearest-2
 slice-aggregate-nearest-2 c = let s = c .before .before .before .before .before .before .before .before in sym (length-take-le (s .args .op .samples) (now (s .args .samples)) (s .pre .0 .samples-within))
 
--- src/calls.rt:129:9
 slice-aggregate-nearest-3 : tie.Need-slice-aggregate-nearest-3
 slice-aggregate-nearest-3 c = let s = c .before .before .before .before .before .before .before .before .before in sym (length-take-le (s .args .op .nodes) (now (s .args .nodes)) (s .pre .0 .nodes-within))
 
--- src/calls.rt:130:9
 slice-aggregate-nearest-4 : tie.Need-slice-aggregate-nearest-4
 slice-aggregate-nearest-4 c = let s = c .before .before .before .before .before .before .before .before .before .before in sym (length-take-le (s .args .op .links) (now (s .args .links)) (s .pre .0 .links-within))
 
--- src/calls.rt:131:9
 slice-relend-prefix-nearest : tie.Need-slice-relend-prefix-nearest
 slice-relend-prefix-nearest c = search needs
 
--- src/calls.rt:131:9
 slice-aggregate-nearest-5 : tie.Need-slice-aggregate-nearest-5
 slice-aggregate-nearest-5 c = let s = c .before .before .before .before .before .before .before .before .before .before .before in sym (length-take-le (s .args .op .work) (now (s .args .work)) (s .pre .0 .work-within))
 
--- src/calls.rt:132:9
 mul-nearest : tie.Need-mul-nearest
 mul-nearest c = search needs
 
--- src/calls.rt:132:9
 sub-nearest : tie.Need-sub-nearest
 sub-nearest c = search needs
 
--- src/calls.rt:132:9
 part-nearest-start : tie.Need-part-nearest-start
 part-nearest-start c = search needs
 
--- src/calls.rt:132:9
 part-nearest-end : tie.Need-part-nearest-end
 part-nearest-end c = search needs
 
--- src/calls.rt:133:9
 mul-nearest-2 : tie.Need-mul-nearest-2
 mul-nearest-2 c = search needs
 
--- src/calls.rt:133:9
 sub-nearest-2 : tie.Need-sub-nearest-2
 sub-nearest-2 c = search needs
 
--- src/calls.rt:133:9
 part-nearest-start-2 : tie.Need-part-nearest-start-2
 part-nearest-start-2 c = search needs
 
--- src/calls.rt:133:9
 part-nearest-end-2 : tie.Need-part-nearest-end-2
 part-nearest-end-2 c = search needs
 
--- src/calls.rt:126:5
 nearest-requires : tie.Need-nearest-requires
 nearest-requires c κs = search needs
 
--- src/calls.rt:86:1
 same-length : tie.Need-same-length
 same-length c = search needs
 
--- src/calls.rt:86:1
 same-length-2 : tie.Need-same-length-2
 same-length-2 c = search needs
 
--- src/calls.rt:86:1
 returns-3 : tie.Need-returns-3
 unfolding doneOn lentIn
 returns-3 c =

@@ -1,6 +1,5 @@
 -- `replay::calls::play_open` meets its contract: what comes back in the first places of each table is what opening leaves there.
-use mathlib.Core.Path.{_≡_, refl, sym, ap, _∙_}
-use lib.ListN.{length, take, drop}
+use mathlib.Core.Path.{sym, ap, _∙_}
 use lib.Seq.{length-take-le}
 use denote.Ref.{now}
 use Rattle.tables.specs.Tables.{Tables, tables}
@@ -12,75 +11,55 @@ use Rattle.replay.proofs.Lending.{back-is-left, lengths-kept}
 use borrow.Author.Needs.{needs}
 use Rattle.replay.proofs.calls.play_open.Statement.{statement}
 use Rattle.replay.proofs.calls.play_open.Tie as tie
-use Rattle.replay.proofs.calls.play_open.Reads as reads
-use Rattle.replay.proofs.calls.play_open.Lts as lts
-use Rattle.opening.proofs.open.Reads as open-reads
 
--- src/calls.rt:26:9
 slice-relend-prefix-open : tie.Need-slice-relend-prefix-open
 slice-relend-prefix-open c = search needs
 
--- src/calls.rt:26:9
 slice-aggregate-open : tie.Need-slice-aggregate-open
 slice-aggregate-open c = let s = c .before .before .before .before in sym (length-take-le (s .args .op .control) (now (s .args .control)) (s .pre .control-within))
 
--- src/calls.rt:27:9
 slice-relend-prefix-open-2 : tie.Need-slice-relend-prefix-open-2
 slice-relend-prefix-open-2 c = search needs
 
--- src/calls.rt:27:9
 slice-aggregate-open-2 : tie.Need-slice-aggregate-open-2
 slice-aggregate-open-2 c = let s = c .before .before .before .before .before in sym (length-take-le (s .args .op .samples) (now (s .args .samples)) (s .pre .samples-within))
 
--- src/calls.rt:28:9
 slice-relend-prefix-open-3 : tie.Need-slice-relend-prefix-open-3
 slice-relend-prefix-open-3 c = search needs
 
--- src/calls.rt:28:9
 slice-aggregate-open-3 : tie.Need-slice-aggregate-open-3
 slice-aggregate-open-3 c = let s = c .before .before .before .before .before .before in sym (length-take-le (s .args .op .nodes) (now (s .args .nodes)) (s .pre .nodes-within))
 
--- src/calls.rt:29:9
 slice-relend-prefix-open-4 : tie.Need-slice-relend-prefix-open-4
 slice-relend-prefix-open-4 c = search needs
 
--- src/calls.rt:29:9
 slice-aggregate-open-4 : tie.Need-slice-aggregate-open-4
 slice-aggregate-open-4 c = let s = c .before .before .before .before .before .before .before in sym (length-take-le (s .args .op .links) (now (s .args .links)) (s .pre .links-within))
 
--- src/calls.rt:30:9
 slice-relend-prefix-open-5 : tie.Need-slice-relend-prefix-open-5
 slice-relend-prefix-open-5 c = search needs
 
--- src/calls.rt:30:9
 slice-aggregate-open-5 : tie.Need-slice-aggregate-open-5
 slice-aggregate-open-5 c = let s = c .before .before .before .before .before .before .before .before in sym (length-take-le (s .args .op .work) (now (s .args .work)) (s .pre .work-within))
 
--- src/calls.rt:25:5
 open-requires : tie.Need-open-requires
 open-requires c κs = search needs
 
--- src/calls.rt:14:1
 same-length : tie.Need-same-length
 same-length c = search needs
 
--- src/calls.rt:14:1
 same-length-2 : tie.Need-same-length-2
 same-length-2 c = search needs
 
--- src/calls.rt:14:1
 same-length-3 : tie.Need-same-length-3
 same-length-3 c = search needs
 
--- src/calls.rt:14:1
 same-length-4 : tie.Need-same-length-4
 same-length-4 c = search needs
 
--- src/calls.rt:14:1
 same-length-5 : tie.Need-same-length-5
 same-length-5 c = search needs
 
--- src/calls.rt:14:1
 returns : tie.Need-returns
 unfolding doneOn lentIn
 returns c =

@@ -19,8 +19,8 @@ use Rattle.dstree.specs.Book.{Lent}
 use Rattle.tables.specs.Answers.{foundBy}
 use Rattle.tables.specs.declared.Refusal.{Refusal as Word}
 use Rattle.tables.specs.declared.Verdict.the-variants as v
-use Rattle.tables.proofs.Judged.{Accepted, none-first}
-use Rattle.tables.proofs.Firsts.{first-some, first-none, none-both}
+use Rattle.tables.proofs.Judged.{Accepted}
+use Rattle.dstree.proofs.Conditions.{none-first, first-some, first-none, none-both}
 use Rattle.matching.specs.declared.Found.the-variants as f
 use Rattle.sheet_judging.specs.Traces.{countOf, tracesOf}
 use Rattle.sheet_judging.proofs.Samples.{range, fine as good}

@@ -11,7 +11,7 @@ use Rattle.dstree.specs.Measures.{Measures}
 use Rattle.dstree.specs.Refusals.{firstOf}
 use Rattle.dstree.specs.Sheet.{measuresIn, countIn, sheetConditions}
 use Rattle.tables.specs.Answers.{wordOf, foundBy}
-use Rattle.tables.proofs.Firsts.{first-some, first-none}
+use Rattle.dstree.proofs.Conditions.{first-some, first-none}
 use Rattle.sheet_judging.specs.Blocks.{blockAt}
 use Rattle.sheet_judging.proofs.Places.{first-inside}
 use Rattle.sheet_judging.proofs.Samples.{fine}

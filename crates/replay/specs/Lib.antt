@@ -1,0 +1,4 @@
+-- Scripts of calls, what a script asks for, what holds after it, and which lists of calls have one.
+pub mod Script
+pub mod Story
+pub mod Scripts

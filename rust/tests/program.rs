@@ -13,14 +13,28 @@ fn repository() -> PathBuf {
 
 /// What the program prints of these bytes.
 fn printed(input: &[u8]) -> String {
+    printed_in_pieces(input, input.len().max(1))
+}
+
+/// .. that come in pieces of a size, each a moment after the other.
+fn printed_in_pieces(input: &[u8], size: usize) -> String {
     let mut child = Command::new(repository().join("target/bin/match_sheet"))
         .stdin(Stdio::piped())
         .stdout(Stdio::piped())
         .stderr(Stdio::piped())
         .spawn()
         .expect("rt check or rt ci builds target/bin/match_sheet");
-    // a program that has seen enough may close its input
-    let _ = child.stdin.take().expect("it is piped").write_all(input);
+    let mut pipe = child.stdin.take().expect("it is piped");
+    for piece in input.chunks(size) {
+        // a program that has seen enough may close its input
+        if pipe.write_all(piece).is_err() {
+            break;
+        }
+        if size < input.len() {
+            std::thread::sleep(std::time::Duration::from_millis(1));
+        }
+    }
+    drop(pipe);
     let output = child.wait_with_output().expect("it ends");
     assert!(output.stderr.is_empty(), "nothing on standard error");
     String::from_utf8(output.stdout).expect("digits and letters")
@@ -73,4 +87,13 @@ fn limits_of_the_input() {
 fn the_example() {
     let sheet = std::fs::read(repository().join("examples/faults.sheet")).unwrap();
     assert_eq!(printed(&sheet), format!("{}\n", program_line(&sheet)));
+}
+
+/// Input that arrives in small pieces is read to its end.
+#[test]
+fn in_small_pieces() {
+    let sheet = std::fs::read(repository().join("examples/faults.sheet")).unwrap();
+    for size in [7, 512, 4099] {
+        assert_eq!(printed_in_pieces(&sheet, size), format!("{}\n", program_line(&sheet)), "in pieces of {size}");
+    }
 }

@@ -4,5 +4,3 @@ pub mod Plain
 pub mod Widened
 pub mod First
 pub mod Down
-pub mod Leaf
-pub mod Ready

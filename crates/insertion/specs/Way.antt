@@ -67,7 +67,3 @@ pub record Descendable (nodes : List ℤ) (count n : ℕ) : Type 0 where
   pub readable : (j : ℕ) → j < count → Readable (recordOf nodes j) n
   pub kind : (j : ℕ) → j < count → smallAt (recordOf nodes j) kindPlace ≤ 2
   pub passable : (j : ℕ) → j < count → 1 ≤ smallAt (recordOf nodes j) kindPlace → Passable (recordOf nodes j) n j count
-
--- every leaf's first trace is one of k stored ones
-abbrev pub LeavesHold : List ℤ → ℕ → ℕ → Type 0
-LeavesHold nodes count k = (j : ℕ) → j < count → smallAt (recordOf nodes j) kindPlace ≡ 0 → smallAt (recordOf nodes j) firstPlace < k

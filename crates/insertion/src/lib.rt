@@ -6,4 +6,3 @@ pub mod runs; // a trace's figures on a run of its samples
 pub mod widening; // a record widened by a trace
 pub mod heads; // the heads of a leaf's and of an inner node's record, and the first leaf
 pub mod way; // the way down by the tests
-pub mod joining; // down, and into the leaf at the end

@@ -121,54 +121,35 @@ fn answer<const K: usize>(code: u64, out: [u64; K]) -> Result<[u64; K], Refusal>
     }
 }
 
+/// A call of the static library: its slices, each as a pointer (`as_ptr` or `as_mut_ptr`) and a length, its numbers, and the slice for the answer's values.
+macro_rules! call {
+    ($name:ident, [$($slice:expr => $pointer:ident),*], [$($number:expr),*], $out:expr) => {
+        // Safety: pointers and lengths are those of slices that are borrowed for the call, and the contract has no requires.
+        unsafe { $name($($slice.$pointer(), $slice.len(),)* $($number,)* $out.as_mut_ptr(), $out.len()) }
+    };
+}
+
 /// Opens an empty library in lent tables.
 pub fn open(t: Lent<'_>, n: u64, capacity: u64, leaf_size: u64) -> Result<(), Refusal> {
     let mut out = [0; 1];
-    // Safety: pointers and lengths are those of slices that are borrowed for the call, and the contract has no requires.
-    let code = unsafe {
-        silkendoz_open(
-            t.control.as_mut_ptr(),
-            t.control.len(),
-            t.samples.as_mut_ptr(),
-            t.samples.len(),
-            t.nodes.as_mut_ptr(),
-            t.nodes.len(),
-            t.links.as_mut_ptr(),
-            t.links.len(),
-            t.work.as_mut_ptr(),
-            t.work.len(),
-            n,
-            capacity,
-            leaf_size,
-            out.as_mut_ptr(),
-            out.len(),
-        )
-    };
+    let code = call!(
+        silkendoz_open,
+        [t.control => as_mut_ptr, t.samples => as_mut_ptr, t.nodes => as_mut_ptr, t.links => as_mut_ptr, t.work => as_mut_ptr],
+        [n, capacity, leaf_size],
+        out
+    );
     answer(code, out).map(|_| ())
 }
 
 /// Adds a trace; its number is the answer. Search work is only looked at for its length.
 pub fn add(control: &mut [u16], samples: &mut [i16], nodes: &mut [i64], links: &mut [u16], work: &[u64], trace: &[i16]) -> Result<u64, Refusal> {
     let mut out = [0; 1];
-    // Safety: as in `open`.
-    let code = unsafe {
-        silkendoz_add(
-            control.as_mut_ptr(),
-            control.len(),
-            samples.as_mut_ptr(),
-            samples.len(),
-            nodes.as_mut_ptr(),
-            nodes.len(),
-            links.as_mut_ptr(),
-            links.len(),
-            work.as_ptr(),
-            work.len(),
-            trace.as_ptr(),
-            trace.len(),
-            out.as_mut_ptr(),
-            out.len(),
-        )
-    };
+    let code = call!(
+        silkendoz_add,
+        [control => as_mut_ptr, samples => as_mut_ptr, nodes => as_mut_ptr, links => as_mut_ptr, work => as_ptr, trace => as_ptr],
+        [],
+        out
+    );
     answer(code, out).map(|[number]| number)
 }
 
@@ -183,76 +164,35 @@ pub fn nearest(
     query: &[i16],
 ) -> Result<Found, Refusal> {
     let mut out = [0; 4];
-    // Safety: as in `open`.
-    let code = unsafe {
-        silkendoz_nearest(
-            control.as_ptr(),
-            control.len(),
-            samples.as_ptr(),
-            samples.len(),
-            nodes.as_ptr(),
-            nodes.len(),
-            links.as_ptr(),
-            links.len(),
-            work.as_mut_ptr(),
-            work.len(),
-            trail.as_mut_ptr(),
-            trail.len(),
-            query.as_ptr(),
-            query.len(),
-            out.as_mut_ptr(),
-            out.len(),
-        )
-    };
+    let code = call!(
+        silkendoz_nearest,
+        [control => as_ptr, samples => as_ptr, nodes => as_ptr, links => as_ptr, work => as_mut_ptr, trail => as_mut_ptr, query => as_ptr],
+        [],
+        out
+    );
     answer(code, out).map(|[trace, distance, leaves, traces]| Found { trace, distance, leaves, traces })
 }
 
 /// Writes the library as a sheet; the number of blocks is the answer.
 pub fn write_sheet(control: &[u16], samples: &[i16], nodes: &[i64], links: &[u16], work: &[u64], sheet: &mut [u8]) -> Result<u64, Refusal> {
     let mut out = [0; 1];
-    // Safety: as in `open`.
-    let code = unsafe {
-        silkendoz_write_sheet(
-            control.as_ptr(),
-            control.len(),
-            samples.as_ptr(),
-            samples.len(),
-            nodes.as_ptr(),
-            nodes.len(),
-            links.as_ptr(),
-            links.len(),
-            work.as_ptr(),
-            work.len(),
-            sheet.as_mut_ptr(),
-            sheet.len(),
-            out.as_mut_ptr(),
-            out.len(),
-        )
-    };
+    let code = call!(
+        silkendoz_write_sheet,
+        [control => as_ptr, samples => as_ptr, nodes => as_ptr, links => as_ptr, work => as_ptr, sheet => as_mut_ptr],
+        [],
+        out
+    );
     answer(code, out).map(|[blocks]| blocks)
 }
 
 /// Opens the library that a sheet holds, and adds its traces in order.
 pub fn read_sheet(t: Lent<'_>, sheet: &[u8]) -> Result<(), Refusal> {
     let mut out = [0; 1];
-    // Safety: as in `open`.
-    let code = unsafe {
-        silkendoz_read_sheet(
-            t.control.as_mut_ptr(),
-            t.control.len(),
-            t.samples.as_mut_ptr(),
-            t.samples.len(),
-            t.nodes.as_mut_ptr(),
-            t.nodes.len(),
-            t.links.as_mut_ptr(),
-            t.links.len(),
-            t.work.as_mut_ptr(),
-            t.work.len(),
-            sheet.as_ptr(),
-            sheet.len(),
-            out.as_mut_ptr(),
-            out.len(),
-        )
-    };
+    let code = call!(
+        silkendoz_read_sheet,
+        [t.control => as_mut_ptr, t.samples => as_mut_ptr, t.nodes => as_mut_ptr, t.links => as_mut_ptr, t.work => as_mut_ptr, sheet => as_ptr],
+        [],
+        out
+    );
     answer(code, out).map(|_| ())
 }

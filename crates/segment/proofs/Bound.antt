@@ -2,19 +2,19 @@
 --
 -- The idea: g is at most |t − s| and h is p − q of `Apart` at the floor and the ceiling root, so g² + h² ≤ w × distance.
 -- The distance is whole, so rounding (g² + h²) / w up stays at most it; distances add up over a partition.
-use Prim.Native.Nat.{ℕ, suc, _+_, _*_, _-_, _/_, _≤_, _<_, max}
+use Prim.Native.Nat.{ℕ, suc, _+_, _*_, _-_, _≤_, _<_, max}
 use mathlib.Core.Path.{_≡_, refl, sym, subst}
-use mathlib.Core.Bool.{Bool, true, false, not}
+use mathlib.Core.Bool.{Bool, true, false}
 use mathlib.Core.List.{List, [], _∷_}
 use native.Mathlib.Omega.{arith}
 use native.Mathlib.Nat.{mul-le-mul, div-lt-iff-lt-mul, le-trans}
 use native.Mathlib.Decide.{decLe}
 use lib.ListN.{length, take, drop, length-take, length-drop}
-use lib.IntN.{ℤ, pos, natAbs, _-ℤ_}
+use lib.IntN.{ℤ, natAbs, _-ℤ_}
 use lib.Signed.{ltZ, ltZ-yes}
 use lib.Dec.{T}
 use Rattle.integer.specs.Words.{if_then_else_, square, roundedUp}
-use Rattle.integer.proofs.Order.{_≤ℤ_, _<ℤ_, ≤ℤ→, <ℤ→, natAbs-diff}
+use Rattle.integer.proofs.Order.{_≤ℤ_, ≤ℤ→, <ℤ→, natAbs-diff}
 use Rattle.segment.specs.Figures.{sum, scatter, distance}
 use Rattle.segment.specs.Roots.{floorRoot, ceilingRoot}
 use Rattle.segment.specs.Terms.{sumGap, scatterGap, boundTerm}
@@ -63,8 +63,18 @@ module _ (r : Ranges) (xs ys : List ℤ) (same : length xs ≡ length ys) (h : H
   squares-at-most =
       larger-of (λ (k : ℕ). g * g + k * k ≤ length xs * distance xs ys)
       (floorRoot (r .leastScatter) - ceilingRoot (scatter xs)) (floorRoot (scatter xs) - ceilingRoot (r .greatestScatter))
-      (omega (arith, g-squared, apart xs ys same (floorRoot (r .leastScatter)) (ceilingRoot (scatter xs)) (le-trans (floor-root (r .leastScatter) .square-at-most) (h .scatter-above)) (ceiling-root (scatter xs) .square-at-least)))
-      (omega (arith, g-squared, apart-below xs ys same (floorRoot (scatter xs)) (ceilingRoot (r .greatestScatter)) (floor-root (scatter xs) .square-at-most) (le-trans (h .scatter-below) (ceiling-root (r .greatestScatter) .square-at-least))))
+      (omega (
+        arith,
+        g-squared,
+        apart xs ys same (floorRoot (r .leastScatter)) (ceilingRoot (scatter xs))
+            (le-trans (floor-root (r .leastScatter) .square-at-most) (h .scatter-above)) (ceiling-root (scatter xs) .square-at-least),
+      ))
+      (omega (
+        arith,
+        g-squared,
+        apart-below xs ys same (floorRoot (scatter xs)) (ceilingRoot (r .greatestScatter))
+            (floor-root (scatter xs) .square-at-most) (le-trans (h .scatter-below) (ceiling-root (r .greatestScatter) .square-at-least)),
+      ))
 
   -- the segment's bound is at most the segment's distance
   pub segment-bound : 0 < r .width → segmentBound r xs ≤ distance xs ys

@@ -3,5 +3,6 @@ pub mod Scatter
 pub mod Apart
 pub mod Newton
 pub mod Sums
+pub mod Steps
 pub mod Limits
 pub mod Bound

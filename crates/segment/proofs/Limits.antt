@@ -7,7 +7,7 @@ use Prim.Native.Nat.{ℕ, zero, suc, _+_, _*_, _-_, _≤_, _<_}
 use native.Mathlib.Nat.{mul-le-mul, mul-le-mul-left}
 use native.Mathlib.Decide.{decLt}
 use native.Mathlib.Omega.{arith}
-use lib.ListN.{length, take, drop, getD, replicate, length-take, length-drop}
+use lib.ListN.{length, take, drop, getD, replicate, length-take, length-drop, length-replicate, getD-replicate}
 use lib.Seq.{getD-take, getD-drop}
 use lib.IntN.{ℤ, pos, negsuc, natAbs, _-ℤ_}
 use lib.Signed.{mag, ltZ, natAbs-le}
@@ -16,7 +16,7 @@ use Rattle.integer.proofs.Order.{natAbs-add, natAbs-sub, natAbs-diff, width-par
 use Rattle.segment.proofs.Newton.{floor-bound}
 use Rattle.segment.specs.Figures.{sum, sumOfSquares, scatter, distance}
 use Rattle.segment.specs.Terms.{sumGap, scatterGap}
-use Rattle.segment.specs.Limits.{Within, sumLimit, scatterLimit, largestDistance}
+use Rattle.segment.specs.Limits.{Within, sumLimit, scatterLimit, largestDistance, IsLargest}
 
 -- ---- parts of a segment within a limit
 pub within-tail : {limit : ℕ} (x : ℤ) (xs : List ℤ) → Within limit (x ∷ xs) → Within limit xs
@@ -82,10 +82,24 @@ pub scatter-gap-limit : (u least greatest k : ℕ) → u ≤ k * k → least ≤
 unfolding scatterGap
 scatter-gap-limit u least greatest k h l = omega (arith, floor-bound {k = k} h, floor-bound {k = k} l)
 
--- ".. its largest": it is reached, between the greatest and the least sample at each place
-pub distance-reached : (limit n : ℕ) → 0 < limit → distance (replicate n (pos (limit - 1))) (replicate n (negsuc (limit - 1))) ≡ largestDistance limit n
+-- ---- "Its largest is 1,099,478,073,600": between the greatest and the least sample at each place it is reached
+
+distance-reached : (limit n : ℕ) → 0 < limit → distance (replicate n (pos (limit - 1))) (replicate n (negsuc (limit - 1))) ≡ largestDistance limit n
 unfolding distance largestDistance
 distance-reached limit zero h = omega arith
 distance-reached limit (suc n) h =
     let e : limit - 1 + suc (limit - 1) ≡ 2 * limit - 1 = omega arith in
     rw e (omega (arith, distance-reached limit n h))
+
+within-replicate : {limit : ℕ} (n : ℕ) (z : ℤ) → mag z < limit → Within limit (replicate n z)
+within-replicate {limit} n z h i l = rw (getD-replicate n i z (pos 0) (omega (arith, length-replicate n z))) h
+
+pub is-largest : (limit n : ℕ) → 0 < limit → IsLargest limit n
+is-largest limit n h = record {
+  none-greater = λ x y e p q. rw (← e) (distance-limit limit x y p q);
+  one = replicate n (pos (limit - 1));
+  other = replicate n (negsuc (limit - 1));
+  sizes = (length-replicate n (pos (limit - 1)), length-replicate n (negsuc (limit - 1)));
+  within = (within-replicate n (pos (limit - 1)) (omega arith), within-replicate n (negsuc (limit - 1)) (omega arith));
+  reached = distance-reached limit n h;
+}

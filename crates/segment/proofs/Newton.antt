@@ -4,7 +4,7 @@
 use mathlib.Core.Path.{_≡_, refl}
 use mathlib.Core.Bool.{Bool, true, false}
 use mathlib.Core.List.{[], _∷_}
-use Prim.Native.Nat.{ℕ, zero, suc, _+_, _*_, _/_, _%_, _≤_, _<_}
+use Prim.Native.Nat.{ℕ, zero, suc, _+_, _*_, _/_, _%_, _^_, _≤_, _<_}
 use native.Mathlib.Nat.{mul-le-mul, mul-le-mul-right, div-add-mod', mod-lt, div-lt-iff-lt-mul}
 use native.Mathlib.Decide.{decLe}
 use native.Mathlib.Omega.{arith}
@@ -43,6 +43,10 @@ step-above v e q m h k =
     let k₁ : e + q + 1 ≤ 2 * (m + 1) = omega arith in
     omega (arith, mul-le-mul-right e k₁, twice-product (m + 1) e)
 
+-- not below the root, and of 32 bits, which keeps every step within 64
+abbrev pub Estimate : ℕ → ℕ → Type 0
+Estimate v e = (0 < e) × (e < 2 ^ 32) × (v < (e + 1) * (e + 1))
+
 -- the next estimate is not below the root, whatever the estimate
 pub next-above : (v e : ℕ) → 0 < e → v < ((e + v / e) / 2 + 1) * ((e + v / e) / 2 + 1)
 next-above v e h =
@@ -55,11 +59,9 @@ pub above-zero : (v e : ℕ) → 0 < v → v < (e + 1) * (e + 1) → 0 < e
 above-zero v zero h k = omega arith
 above-zero v (suc e) h k = omega arith
 
--- it is not much above the estimate
-pub quotient-small : (v e : ℕ) → 0 < e → v < (e + 1) * (e + 1) → v / e ≤ e + 2
-quotient-small v e h k =
-    let l : v / e < e + 3 = div-lt-iff-lt-mul {k = e} {x = v} {y = e + 3} h .1 (omega arith) in
-    omega arith
+-- it falls where the estimate's square is above v
+pub quotient-below : (v e : ℕ) → 0 < e → v < e * e → v / e < e
+quotient-below v e h k = div-lt-iff-lt-mul {k = e} {x = v} {y = e} h .1 k
 
 -- an estimate that does not fall is not above the root
 at-end : (v e : ℕ) → e ≤ (e + v / e) / 2 → e * e ≤ v
@@ -75,13 +77,14 @@ between {v} {r} h k = record { square-at-most = h; is-largest = λ j l. below j 
     below : (j : ℕ) → j < r + 1 → j ≤ r
     below j l = omega arith
 
-pub last-estimate : {v e : ℕ} → v < (e + 1) * (e + 1) → e ≤ (e + v / e) / 2 → IsFloorRoot v e
+last-estimate : {v e : ℕ} → v < (e + 1) * (e + 1) → e ≤ (e + v / e) / 2 → IsFloorRoot v e
 last-estimate {v} {e} h k = between (at-end v e k) h
 
 falling : (fuel v e : ℕ) → 0 < v → 0 < e → e ≤ fuel → v < (e + 1) * (e + 1) → IsFloorRoot v (fallingFrom fuel v e)
 unfolding fallingFrom
 falling zero v e hv he hf h = absurd (omega arith)
-falling (suc fuel) v e hv he hf h = by (λ l. falling fuel v ((e + v / e) / 2) hv (above-zero v ((e + v / e) / 2) hv (next-above v e he)) (omega (arith, l)) (next-above v e he)) (ltb ((e + v / e) / 2) e) refl
+falling (suc fuel) v e hv he hf h = by
+    (λ l. falling fuel v ((e + v / e) / 2) hv (above-zero v ((e + v / e) / 2) hv (next-above v e he)) (omega (arith, l)) (next-above v e he)) (ltb ((e + v / e) / 2) e) refl
   where
     by : ((e + v / e) / 2 < e → IsFloorRoot v (fallingFrom fuel v ((e + v / e) / 2))) → (b : Bool) → ltb ((e + v / e) / 2) e ≡ b → IsFloorRoot v (if b then fallingFrom fuel v ((e + v / e) / 2) else e)
     by onward true p = onward (ltb-true ((e + v / e) / 2) e p)
@@ -97,9 +100,6 @@ floor-unique {v} {r} h = omega (arith, h .is-largest (floorRoot v) (floor-root v
 
 pub floor-is : {v r : ℕ} → r ≡ floorRoot v → IsFloorRoot v r
 floor-is {v} e = rw e (floor-root v)
-
-pub floor-mono : {v u : ℕ} → v ≤ u → floorRoot v ≤ floorRoot u
-floor-mono {v} {u} h = floor-root u .is-largest (floorRoot v) (omega (arith, floor-root v .square-at-most))
 
 -- a bound of the floor root from one of v: v ≤ 2 ^ 54 has a root of at most 2 ^ 27
 pub floor-bound : {v k : ℕ} → v ≤ k * k → floorRoot v ≤ k
@@ -130,9 +130,6 @@ ceiling-root v = ceiling-by (floor-root v) (eqb (floorRoot v * floorRoot v) v) r
 
 pub ceiling-unique : {v r : ℕ} → IsCeilingRoot v r → r ≡ ceilingRoot v
 ceiling-unique {v} {r} h = omega (arith, h .is-least (ceilingRoot v) (ceiling-root v .square-at-least), ceiling-root v .is-least r (h .square-at-least))
-
-pub ceiling-mono : {v u : ℕ} → v ≤ u → ceilingRoot v ≤ ceilingRoot u
-ceiling-mono {v} {u} h = ceiling-root v .is-least (ceilingRoot u) (omega (arith, ceiling-root u .square-at-least))
 
 -- ---- the two together
 pub floor-below-ceiling : {a b : ℕ} → a ≤ b → floorRoot a ≤ ceilingRoot b

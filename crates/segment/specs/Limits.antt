@@ -1,9 +1,11 @@
 -- How large figures get, for any sample limit L: samples are from −L to L − 1. Document 01's 16 bits are L = 32,768.
-use Prim.Native.Nat.{ℕ, _*_, _-_, _<_}
+use Prim.Native.Nat.{ℕ, _*_, _-_, _≤_, _<_}
+use mathlib.Core.Path.{_≡_}
 use mathlib.Core.List.{List}
 use lib.ListN.{length, getD}
 use lib.IntN.{ℤ, pos}
 use lib.Signed.{mag}
+use Rattle.segment.specs.Figures.{distance}
 
 -- every sample is from −limit to limit − 1. (`mag` of −1 − m is m)
 abbrev pub Within : ℕ → List ℤ → Type 0
@@ -20,3 +22,12 @@ scatterLimit limit w = w * w * (limit * limit)
 -- "Its largest is 1,099,478,073,600", of n samples: the distance between −limit and limit − 1 at each
 unfoldable pub largestDistance : ℕ → ℕ → ℕ
 largestDistance limit n = n * ((2 * limit - 1) * (2 * limit - 1))
+
+-- what is claimed of it, for every n: no two traces of n samples are farther apart, and two are just so far
+pub record IsLargest (limit n : ℕ) : Type 0 where
+  pub none-greater : (x y : List ℤ) → length x ≡ n → Within limit x → Within limit y → distance x y ≤ largestDistance limit n
+  pub one : List ℤ
+  pub other : List ℤ
+  pub sizes : (length one ≡ n) × (length other ≡ n)
+  pub within : Within limit one × Within limit other
+  pub reached : distance one other ≡ largestDistance limit n

@@ -1,7 +1,7 @@
 // The figures of a segment, and the distance of two. Sizes are bounded by the number of samples, so that a caller's totals fit.
 ghost use mathlib.Core.Path.{_≡_};
-ghost use Prim.Native.Nat.{_*_, _-_, _^_, _≤_};
-ghost use lib.ListN.{length};
+ghost use Prim.Native.Nat.{_+_, _*_, _-_, _^_, _≤_};
+ghost use lib.ListN.{length, take};
 ghost use lib.IntN.{natAbs, _-ℤ_};
 ghost use Rattle.integer.specs.Words as words;
 ghost use Rattle.segment.specs.Figures as figure;
@@ -15,33 +15,51 @@ pub fn square(z: i64) -> u64
 }
 
 // A segment's sum. A sum of the samples' sizes, or one that leaves the first sample out, does not meet this.
+// The total has 32 bits, which hold that of 256 samples: the compiler then adds four at a time, and at 64 bits two.
 pub fn sum(samples: &[i16]) -> i64
     requires { do ⌜ (← ⟦samples.len()⟧) ≤ 256 ⌝ }
     ensures { λ r. ⌜ r ≡ figure.sum (now (samples .entry)) ⌝ }
     ensures size { λ r. ⌜ natAbs r ≤ 32768 * length (now (samples .entry)) ⌝ }
 {
-    let mut total: i64 = 0;
+    let mut total: i32 = 0;
     let mut i: usize = 0;
     while i < samples.len() {
-        total += samples[i] as i64;
+        total += samples[i] as i32;
+        i += 1;
+    }
+    total as i64
+}
+
+// The squares of the first 2h samples, each of the first h beside one of the next h. Of such a loop the compiler makes the machine's
+// product that adds pairs; of one that takes neighbours, or one sample a turn, it does not.
+fn squares_beside(samples: &[i16], h: usize) -> u64
+    requires { ⌜ (h + h ≤ length (now samples)) × (h ≤ 128) ⌝ }
+    ensures { λ r. ⌜ r ≡ figure.sumOfSquares (take (h + h) (now (samples .entry))) ⌝ }
+    ensures size { λ r. ⌜ r ≤ 2 ^ 31 * h ⌝ }
+{
+    let mut total: u64 = 0;
+    let mut i: usize = 0;
+    while i < h {
+        total += crate::samples::two_squares(samples[i], samples[h + i]);
         i += 1;
     }
     total
 }
 
-// The sum of the squares of a segment's samples. The square of the sum does not meet this.
+// The sum of the squares of a segment's samples: of its two halves, and of the last sample where there is an odd one.
+// The square of the sum does not meet this.
 pub fn sum_of_squares(samples: &[i16]) -> u64
     requires { do ⌜ (← ⟦samples.len()⟧) ≤ 256 ⌝ }
     ensures { λ r. ⌜ r ≡ figure.sumOfSquares (now (samples .entry)) ⌝ }
     ensures size { λ r. ⌜ r ≤ 2 ^ 30 * length (now (samples .entry)) ⌝ }
 {
-    let mut squares: u64 = 0;
-    let mut i: usize = 0;
-    while i < samples.len() {
-        squares += square(samples[i] as i64);
-        i += 1;
+    let h = samples.len() / 2;
+    let m = h + h;
+    let total = squares_beside(samples, h);
+    if m < samples.len() {
+        return total + (crate::samples::sample_square(samples[m]) as u64);
     }
-    squares
+    total
 }
 
 // The scatter of w samples with the sum s and the sum of squares q. The limits leave room for samples of 20 bits.
@@ -52,38 +70,78 @@ pub fn scatter_from(w: u64, s: i64, q: u64) -> u64
     w * q - square(s)
 }
 
+// Both figures of a segment.
+pub struct Figures {
+    pub sum: i64,
+    pub scatter: u64,
+}
+
+// A segment's sum and scatter. There is a loop for each total: of one loop with totals of two widths the compiler makes no vector code.
+pub fn figures_of(samples: &[i16]) -> Figures
+    requires { do ⌜ (← ⟦samples.len()⟧) ≤ 256 ⌝ }
+    ensures sum { λ r. ⌜ (r .sum ≡ figure.sum (now (samples .entry))) × (natAbs (r .sum) ≤ 32768 * length (now (samples .entry))) ⌝ }
+    ensures scatter { λ r. ⌜ r .scatter ≡ figure.scatter (now (samples .entry)) ⌝ }
+    ensures size { λ r. ⌜ r .scatter ≤ 2 ^ 30 * (length (now (samples .entry)) * length (now (samples .entry))) ⌝ }
+{
+    let w = samples.len() as u64;
+    let sum = sum(samples);
+    let squares = sum_of_squares(samples);
+    Figures {
+        sum,
+        scatter: scatter_from(w, sum, squares),
+    }
+}
+
 // A segment's scatter. The squared deviation times w, and the variance, do not meet this: the scatter has the factor w twice.
 pub fn scatter(samples: &[i16]) -> u64
     requires { do ⌜ (← ⟦samples.len()⟧) ≤ 256 ⌝ }
     ensures { λ r. ⌜ r ≡ figure.scatter (now (samples .entry)) ⌝ }
     ensures size { λ r. ⌜ r ≤ 2 ^ 30 * (length (now (samples .entry)) * length (now (samples .entry))) ⌝ }
 {
-    let w = samples.len() as u64;
-    let s = sum(samples);
-    let q = sum_of_squares(samples);
-    scatter_from(w, s, q)
+    figures_of(samples).scatter
 }
 
-// The square of the difference of two samples. They are widened first: at 16 bits the difference would wrap.
+// The square of the difference of two samples, taken at 32 bits, which hold it, and widened only then: at 64 bits there is no product
+// of several at a time.
 pub fn square_difference(a: i16, b: i16) -> u64
     ensures { λ r. ⌜ r ≡ words.square (a -ℤ b) ⌝ }
     ensures size { λ r. ⌜ r ≤ 2 ^ 32 ⌝ }
 {
-    square((a as i64) - (b as i64))
+    let d = crate::samples::apart(a, b) as u32;
+    (d * d) as u64
+}
+
+// What the samples from `from` to before `end` add to the distance. Where the compiler sees that they are sixteen, it takes them all
+// at once, eight to a register.
+fn stretch(x: &[i16], y: &[i16], from: usize, end: usize) -> u64
+    requires { ⌜ (length (now x) ≡ length (now y)) × (from ≤ end) × (end ≤ length (now x)) × (end ≤ 256) ⌝ }
+    ensures { λ r. ⌜ figure.distance (take from (now (x .entry))) (take from (now (y .entry))) + r
+        ≡ figure.distance (take end (now (x .entry))) (take end (now (y .entry))) ⌝ }
+    ensures size { λ r. ⌜ r ≤ 2 ^ 32 * (end - from) ⌝ }
+{
+    let mut total: u64 = 0;
+    let mut i = from;
+    while i < end {
+        total += square_difference(x[i], y[i]);
+        i += 1;
+    }
+    total
 }
 
 // The distance of two segments of one length: the sum of squared differences. Its root does not meet this, nor does a sum that stops
-// at the first difference above a limit.
+// at the first difference above a limit, or after the last sixteen samples. It goes by sixteen because a plain loop with a total of 64
+// bits takes two samples at a time at most.
 pub fn distance(x: &[i16], y: &[i16]) -> u64
     requires { do ⌜ ((← ⟦x.len()⟧) ≡ (← ⟦y.len()⟧)) × ((← ⟦x.len()⟧) ≤ 256) ⌝ }
     ensures { λ r. ⌜ r ≡ figure.distance (now (x .entry)) (now (y .entry)) ⌝ }
     ensures size { λ r. ⌜ r ≤ 2 ^ 32 * length (now (x .entry)) ⌝ }
 {
+    let n = x.len();
     let mut total: u64 = 0;
     let mut k: usize = 0;
-    while k < x.len() {
-        total += square_difference(x[k], y[k]);
-        k += 1;
+    while 16 <= n - k {
+        total += stretch(x, y, k, k + 16);
+        k += 16;
     }
-    total
+    total + stretch(x, y, k, n)
 }

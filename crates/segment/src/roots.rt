@@ -1,6 +1,17 @@
 // The roots of a scatter, in whole numbers.
 ghost use mathlib.Core.Path.{_≡_};
+ghost use Prim.Native.Nat.{_+_, _*_, _^_, _<_};
 ghost use Rattle.segment.specs.Roots.{floorRoot, ceilingRoot};
+
+// The estimate that follows 2 ^ s, where s is half of v's length in bits: a shift does the division. As every estimate that follows
+// another it is not below the root, and it is at most a sixteenth above it, so that two or three more do.
+fn first_estimate(v: u64) -> u64
+    requires { ⌜ 0 < v ⌝ }
+    ensures { λ r. ⌜ (0 < r) × (r < 2 ^ 32) × (v < (r + 1) * (r + 1)) ⌝ }
+{
+    let s = (64 - u64::leading_zeros(v)) / 2;
+    ((1 << s) + (v >> s)) / 2
+}
 
 // The floor root: the largest r whose square is at most v. Stopping one estimate late, or at the first estimate whose square is near v,
 // does not meet this.
@@ -10,14 +21,13 @@ pub fn floor_root(v: u64) -> u64
     if v == 0 {
         return 0;
     }
-    // a power of two by v's length in bits, so that its square is above v and a few estimates do
-    let mut est: u64 = 1 << ((65 - u64::leading_zeros(v)) / 2);
+    let mut est = first_estimate(v);
     let root = loop {
-        let next = (est + v / est) / 2;
-        if next >= est {
+        // it no longer falls; the product shows that sooner than the division of a next estimate would
+        if est * est <= v {
             break est;
         }
-        est = next;
+        est = (est + v / est) / 2;
     };
     root
 }

@@ -16,11 +16,8 @@ square-requires c κs = rw (toZ-ofZ (c .fits .s)) (omega arith)
 squared : (c : tie.After-square) → c .square .result ≡ square (c .before .args .s)
 squared c = c .square .ensures ∙ ap square (toZ-ofZ (c .before .fits .s))
 
-sub-result : tie.Need-sub-result
-sub-result c = omega (arith, squared c)
-
-returns : tie.Need-returns
-returns c = omega (arith, squared c)
-
 pub scatter-from-spec : {M : Type 1} → statement M
-scatter-from-spec = tie.close (tie.spec mul-result square-requires sub-result returns)
+scatter-from-spec =
+    tie.close
+    (tie.spec
+    mul-result square-requires (λ c. omega (arith, squared c)) (λ c. omega (arith, squared c)))

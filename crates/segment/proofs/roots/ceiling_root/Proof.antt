@@ -7,9 +7,6 @@ use Rattle.segment.proofs.Newton.{floor-is, floor-bound, exact, not-exa
 use Rattle.segment.proofs.roots.ceiling_root.Statement.{statement}
 use Rattle.segment.proofs.roots.ceiling_root.Tie as tie
 
-floor-root-requires : tie.Need-floor-root-requires
-floor-root-requires c κs = search needs
-
 mul-if1 : tie.Need-mul-if1
 mul-if1 c = omega (arith, floor-is (c .floor-root .ensures) .square-at-most)
 
@@ -26,4 +23,7 @@ returns-2 : tie.Need-returns-2
 returns-2 c = omega (arith, ceiling-unique (not-exact (floor-is (c .before .floor-root .ensures)) (c .if1 .left)))
 
 pub ceiling-root-spec : {M : Type 1} → statement M
-ceiling-root-spec = tie.close (tie.spec floor-root-requires mul-if1 add-result returns returns-2)
+ceiling-root-spec =
+    tie.close
+    (tie.spec
+    (λ c κs. search needs) mul-if1 add-result returns returns-2)

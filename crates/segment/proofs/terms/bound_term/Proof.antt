@@ -16,14 +16,8 @@ mul-result-2 c = omega (arith, mul-le-mul (c .pre .3) (c .pre .3))
 add-result : tie.Need-add-result
 add-result c = omega (arith, mul-le-mul (c .pre .2) (c .pre .2), mul-le-mul (c .pre .3) (c .pre .3))
 
-sub-result : tie.Need-sub-result
-sub-result c = omega arith
-
 add-result-2 : tie.Need-add-result-2
 add-result-2 c = omega (arith, mul-le-mul (c .pre .2) (c .pre .2), mul-le-mul (c .pre .3) (c .pre .3), c .pre .1)
-
-div-result : tie.Need-div-result
-div-result c = omega arith
 
 returns : tie.Need-returns
 unfolding boundTerm roundedUp
@@ -32,4 +26,5 @@ returns c = refl
 pub bound-term-spec : {M : Type 1} → statement M
 bound-term-spec =
     tie.close
-    (tie.spec mul-result mul-result-2 add-result sub-result add-result-2 div-result returns)
+    (tie.spec
+    mul-result mul-result-2 add-result (λ c. omega arith) add-result-2 (λ c. omega arith) returns)

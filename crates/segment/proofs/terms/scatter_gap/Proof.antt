@@ -6,19 +6,12 @@ use Rattle.segment.specs.Terms.{scatterGap}
 use Rattle.segment.proofs.terms.scatter_gap.Statement.{statement}
 use Rattle.segment.proofs.terms.scatter_gap.Tie as tie
 
-root-excess-requires : tie.Need-root-excess-requires
-root-excess-requires c κs = search needs
-
-root-excess-requires-2 : tie.Need-root-excess-requires-2
-root-excess-requires-2 c κs = search needs
-
-larger-requires : tie.Need-larger-requires
-larger-requires c κs = search needs
-
 returns : tie.Need-returns
 unfolding scatterGap
 returns c = c .larger .ensures ∙ ap₂ max (c .before .before .root-excess .ensures) (c .before .root-excess2 .ensures)
 
 pub scatter-gap-spec : {M : Type 1} → statement M
 scatter-gap-spec =
-    tie.close (tie.spec root-excess-requires root-excess-requires-2 larger-requires returns)
+    tie.close
+    (tie.spec
+    (λ c κs. search needs) (λ c κs. search needs) (λ c κs. search needs) returns)

@@ -40,12 +40,6 @@ most c =
     let h = bound (s .fits .greatest-sum) (s .fits .least-sum) (s .pre .3) (s .pre .2) in
     omega (arith, squared c, mul-le-mul h h)
 
-add-result : tie.Need-add-result
-add-result c = omega (arith, most c)
-
-div-result : tie.Need-div-result
-div-result c = omega arith
-
 returns : tie.Need-returns
 unfolding spreadTerm
 returns c =
@@ -53,4 +47,7 @@ returns c =
     (ap (λ (n : ℕ). (n + s .args .greatest-scatter) / s .args .w) (squared c), omega (arith, most c, div-le-self (c .square .result + s .args .greatest-scatter) (s .args .w)))
 
 pub spread-term-spec : {M : Type 1} → statement M
-spread-term-spec = tie.close (tie.spec sub-square square-requires add-result div-result returns)
+spread-term-spec =
+    tie.close
+    (tie.spec
+    sub-square square-requires (λ c. omega (arith, most c)) (λ c. omega arith) returns)

@@ -15,6 +15,8 @@
  *   links     uint16_t   SILKENDOZ_LINKS(c)           c
  *   work      uint64_t   SILKENDOZ_WORK(c)            2c - 1
  *
+ * `struct silkendoz_tables` holds them, and silkendoz_nearest_in(&tables, ..) is silkendoz_nearest with those tables; so for every call.
+ *
  * A slice is passed as a pointer and then its length in elements (not bytes). A table may be longer than its need: places behind the need are neither
  * read nor written. A shorter one is refused (2). What the tables hold is in docs/LAYOUT.md, in the machine's own byte order.
  *
@@ -140,6 +142,87 @@ uint64_t silkendoz_read_sheet(
     uint64_t *work, size_t work_len,
     const uint8_t *sheet, size_t sheet_len,
     uint64_t *out, size_t out_len);
+
+/* ---- the same calls, with the tables in a struct ---- */
+
+/* A library's tables, each with its length in elements. All of them have to be set, whichever the call. */
+struct silkendoz_tables {
+    uint16_t *control;
+    size_t control_len;
+    int16_t *samples;
+    size_t samples_len;
+    int64_t *nodes;
+    size_t nodes_len;
+    uint16_t *links;
+    size_t links_len;
+    uint64_t *work;
+    size_t work_len;
+};
+
+static inline uint64_t silkendoz_open_in(
+    const struct silkendoz_tables *t,
+    uint64_t n, uint64_t capacity, uint64_t leaf_size,
+    uint64_t *out, size_t out_len)
+{
+    return silkendoz_open(t->control, t->control_len, t->samples, t->samples_len, t->nodes, t->nodes_len,
+        t->links, t->links_len, t->work, t->work_len, n, capacity, leaf_size, out, out_len);
+}
+
+static inline uint64_t silkendoz_add_in(
+    const struct silkendoz_tables *t,
+    const int16_t *trace, size_t trace_len,
+    uint64_t *out, size_t out_len)
+{
+    return silkendoz_add(t->control, t->control_len, t->samples, t->samples_len, t->nodes, t->nodes_len,
+        t->links, t->links_len, t->work, t->work_len, trace, trace_len, out, out_len);
+}
+
+static inline uint64_t silkendoz_nearest_in(
+    const struct silkendoz_tables *t,
+    uint16_t *trail, size_t trail_len,
+    const int16_t *query, size_t query_len,
+    uint64_t *out, size_t out_len)
+{
+    return silkendoz_nearest(t->control, t->control_len, t->samples, t->samples_len, t->nodes, t->nodes_len,
+        t->links, t->links_len, t->work, t->work_len, trail, trail_len, query, query_len, out, out_len);
+}
+
+static inline uint64_t silkendoz_write_sheet_in(
+    const struct silkendoz_tables *t,
+    uint8_t *sheet, size_t sheet_len,
+    uint64_t *out, size_t out_len)
+{
+    return silkendoz_write_sheet(t->control, t->control_len, t->samples, t->samples_len, t->nodes, t->nodes_len,
+        t->links, t->links_len, t->work, t->work_len, sheet, sheet_len, out, out_len);
+}
+
+static inline uint64_t silkendoz_read_sheet_in(
+    const struct silkendoz_tables *t,
+    const uint8_t *sheet, size_t sheet_len,
+    uint64_t *out, size_t out_len)
+{
+    return silkendoz_read_sheet(t->control, t->control_len, t->samples, t->samples_len, t->nodes, t->nodes_len,
+        t->links, t->links_len, t->work, t->work_len, sheet, sheet_len, out, out_len);
+}
+
+/* The word for a number that a call gives back: document 01's, "done" for 0, "unknown" for a number that no call gives. */
+static inline const char *silkendoz_word(uint64_t number)
+{
+    switch (number) {
+    case SILKENDOZ_DONE: return "done";
+    case SILKENDOZ_MEASURE: return "measure";
+    case SILKENDOZ_SHORT_TABLE: return "short table";
+    case SILKENDOZ_SPOILED: return "spoiled";
+    case SILKENDOZ_WRONG_TRACE: return "wrong trace";
+    case SILKENDOZ_FULL: return "full";
+    case SILKENDOZ_EMPTY: return "empty";
+    case SILKENDOZ_SHORT_TRAIL: return "short trail";
+    case SILKENDOZ_SHEET_LENGTH: return "sheet length";
+    case SILKENDOZ_TORN_BLOCK: return "torn block";
+    case SILKENDOZ_BAD_SHEET: return "bad sheet";
+    default: return "unknown";
+    }
+}
 
 #ifdef __cplusplus
 }

@@ -1,4 +1,5 @@
-/* The calls from C: document 01's examples, refusals in their order, and memory that has to stay. Prints one line, and fails at the first difference. */
+/* The calls from C, over the struct of tables: document 01's examples, refusals in their order, and memory that has to stay. Prints one line, and
+ * fails at the first difference. */
 
 #include "silkendoz.h"
 
@@ -31,34 +32,44 @@ static void expect(int holds, const char *what, int line)
 
 #define PLACES(array) (sizeof(array) / sizeof *(array))
 
-static uint64_t open_in(struct tables *t, uint64_t n, uint64_t c, uint64_t leaf_size, uint64_t out[SILKENDOZ_OUT])
+/* The tables as they are lent, spare places and all. */
+static struct silkendoz_tables lent(struct tables *t)
 {
-    return silkendoz_open(t->control, PLACES(t->control), t->samples, PLACES(t->samples), t->nodes, PLACES(t->nodes),
-        t->links, PLACES(t->links), t->work, PLACES(t->work), n, c, leaf_size, out, SILKENDOZ_OUT);
+    struct silkendoz_tables l = {
+        t->control, PLACES(t->control), t->samples, PLACES(t->samples), t->nodes, PLACES(t->nodes),
+        t->links, PLACES(t->links), t->work, PLACES(t->work)};
+    return l;
+}
+
+static uint64_t open_in(struct tables *t, uint64_t n, uint64_t c, uint64_t leaf_size, uint64_t *out)
+{
+    struct silkendoz_tables l = lent(t);
+    return silkendoz_open_in(&l, n, c, leaf_size, out, SILKENDOZ_OUT);
 }
 
 static uint64_t add_to(struct tables *t, const int16_t *trace, size_t size, uint64_t *out, size_t out_len)
 {
-    return silkendoz_add(t->control, PLACES(t->control), t->samples, PLACES(t->samples), t->nodes, PLACES(t->nodes),
-        t->links, PLACES(t->links), t->work, PLACES(t->work), trace, size, out, out_len);
+    struct silkendoz_tables l = lent(t);
+    return silkendoz_add_in(&l, trace, size, out, out_len);
 }
 
-static uint64_t nearest_in(struct tables *t, const int16_t *query, size_t size, uint16_t *trail, size_t trail_len, uint64_t *out, size_t out_len)
+static uint64_t nearest_in(
+    struct tables *t, const int16_t *query, size_t size, uint16_t *trail, size_t trail_len, uint64_t *out, size_t out_len)
 {
-    return silkendoz_nearest(t->control, PLACES(t->control), t->samples, PLACES(t->samples), t->nodes, PLACES(t->nodes),
-        t->links, PLACES(t->links), t->work, PLACES(t->work), trail, trail_len, query, size, out, out_len);
+    struct silkendoz_tables l = lent(t);
+    return silkendoz_nearest_in(&l, trail, trail_len, query, size, out, out_len);
 }
 
-static uint64_t write_from(const struct tables *t, uint8_t *sheet, size_t size, uint64_t out[SILKENDOZ_OUT])
+static uint64_t write_from(struct tables *t, uint8_t *sheet, size_t size, uint64_t *out)
 {
-    return silkendoz_write_sheet(t->control, PLACES(t->control), t->samples, PLACES(t->samples), t->nodes, PLACES(t->nodes),
-        t->links, PLACES(t->links), t->work, PLACES(t->work), sheet, size, out, SILKENDOZ_OUT);
+    struct silkendoz_tables l = lent(t);
+    return silkendoz_write_sheet_in(&l, sheet, size, out, SILKENDOZ_OUT);
 }
 
-static uint64_t read_into(struct tables *t, const uint8_t *sheet, size_t size, uint64_t out[SILKENDOZ_OUT])
+static uint64_t read_into(struct tables *t, const uint8_t *sheet, size_t size, uint64_t *out)
 {
-    return silkendoz_read_sheet(t->control, PLACES(t->control), t->samples, PLACES(t->samples), t->nodes, PLACES(t->nodes),
-        t->links, PLACES(t->links), t->work, PLACES(t->work), sheet, size, out, SILKENDOZ_OUT);
+    struct silkendoz_tables l = lent(t);
+    return silkendoz_read_sheet_in(&l, sheet, size, out, SILKENDOZ_OUT);
 }
 
 /* n 256, capacity 4,096, leaf size 64 open; 257, 4,097, 65 and 0 do not: measures come before lengths. */
@@ -84,29 +95,84 @@ static void opening(void)
     EXPECT(t.control[0] == N && t.control[1] == C && t.control[2] == 2 && t.control[3] == 0 && t.control[4] == 0);
     EXPECT(t.control[5] == 0x5a5a && t.samples[N * C - 1] == 0 && t.samples[N * C] == 0x5a5a);
     EXPECT(t.nodes[SILKENDOZ_NODES(C) - 1] == 0 && t.nodes[SILKENDOZ_NODES(C)] == before.nodes[0]);
-    EXPECT(t.links[C - 1] == 0 && t.links[C] == 0x5a5a && t.work[SILKENDOZ_WORK(C) - 1] == 0 && t.work[SILKENDOZ_WORK(C)] == before.work[0]);
+    EXPECT(t.links[C - 1] == 0 && t.links[C] == 0x5a5a);
+    EXPECT(t.work[SILKENDOZ_WORK(C) - 1] == 0 && t.work[SILKENDOZ_WORK(C)] == before.work[0]);
 }
 
 /* The largest library opens in tables that are just long enough. */
 static void largest(void)
 {
-    size_t samples = SILKENDOZ_SAMPLES(256, 4096), nodes = SILKENDOZ_NODES(4096), links = SILKENDOZ_LINKS(4096), work = SILKENDOZ_WORK(4096);
     uint16_t control[SILKENDOZ_CONTROL];
-    int16_t *s = malloc(samples * sizeof *s);
-    int64_t *d = malloc(nodes * sizeof *d);
-    uint16_t *l = malloc(links * sizeof *l);
-    uint64_t *w = malloc(work * sizeof *w), out[SILKENDOZ_OUT];
-    EXPECT(s && d && l && w);
-    EXPECT(silkendoz_open(control, 5, s, samples, d, nodes, l, links, w, work, 256, 4096, 64, out, SILKENDOZ_OUT) == SILKENDOZ_DONE);
-    EXPECT(silkendoz_open(control, 5, s, samples - 1, d, nodes, l, links, w, work, 256, 4096, 64, out, SILKENDOZ_OUT) == SILKENDOZ_SHORT_TABLE);
-    EXPECT(silkendoz_open(control, 5, s, samples, d, nodes - 1, l, links, w, work, 256, 4096, 64, out, SILKENDOZ_OUT) == SILKENDOZ_SHORT_TABLE);
-    EXPECT(silkendoz_open(control, 5, s, samples, d, nodes, l, links - 1, w, work, 256, 4096, 64, out, SILKENDOZ_OUT) == SILKENDOZ_SHORT_TABLE);
-    EXPECT(silkendoz_open(control, 5, s, samples, d, nodes, l, links, w, work - 1, 256, 4096, 64, out, SILKENDOZ_OUT) == SILKENDOZ_SHORT_TABLE);
-    EXPECT(silkendoz_open(control, 4, s, samples, d, nodes, l, links, w, work, 256, 4096, 64, out, SILKENDOZ_OUT) == SILKENDOZ_SHORT_TABLE);
-    free(s);
-    free(d);
-    free(l);
-    free(w);
+    uint64_t out[SILKENDOZ_OUT];
+    struct silkendoz_tables t = {
+        control, SILKENDOZ_CONTROL, NULL, SILKENDOZ_SAMPLES(256, 4096), NULL, SILKENDOZ_NODES(4096),
+        NULL, SILKENDOZ_LINKS(4096), NULL, SILKENDOZ_WORK(4096)};
+    t.samples = malloc(t.samples_len * sizeof *t.samples);
+    t.nodes = malloc(t.nodes_len * sizeof *t.nodes);
+    t.links = malloc(t.links_len * sizeof *t.links);
+    t.work = malloc(t.work_len * sizeof *t.work);
+    EXPECT(t.samples && t.nodes && t.links && t.work);
+    EXPECT(silkendoz_open_in(&t, 256, 4096, 64, out, SILKENDOZ_OUT) == SILKENDOZ_DONE);
+    free(t.samples);
+    free(t.nodes);
+    free(t.links);
+    free(t.work);
+}
+
+/* What each call over the struct answers, in the order of the header. */
+static void answers(const struct silkendoz_tables *t, const int16_t *trace, uint8_t *sheet, size_t size, uint64_t numbers[5])
+{
+    uint16_t trail[TRAIL];
+    uint64_t out[SILKENDOZ_OUT];
+    numbers[0] = silkendoz_open_in(t, N, C, 2, out, SILKENDOZ_OUT);
+    numbers[1] = silkendoz_add_in(t, trace, N, out, SILKENDOZ_OUT);
+    numbers[2] = silkendoz_nearest_in(t, trail, TRAIL, trace, N, out, SILKENDOZ_OUT);
+    numbers[3] = silkendoz_write_sheet_in(t, sheet, size, out, SILKENDOZ_OUT);
+    numbers[4] = silkendoz_read_sheet_in(t, sheet, size, out, SILKENDOZ_OUT);
+}
+
+/* Each call over the struct passes on each length: just enough is done, one place less is a short table, whichever table it is. */
+static void lengths(void)
+{
+    static struct tables t;
+    static uint8_t sheet[SILKENDOZ_SHEET(1, N)];
+    const int16_t trace[N] = {1, -2, 3, -4};
+    struct silkendoz_tables just = lent(&t), less;
+    uint64_t numbers[5];
+    int table, call;
+
+    just.control_len = SILKENDOZ_CONTROL;
+    just.samples_len = SILKENDOZ_SAMPLES(N, C);
+    just.nodes_len = SILKENDOZ_NODES(C);
+    just.links_len = SILKENDOZ_LINKS(C);
+    just.work_len = SILKENDOZ_WORK(C);
+    answers(&just, trace, sheet, sizeof sheet, numbers);
+    for (call = 0; call < 5; call++)
+        EXPECT(numbers[call] == SILKENDOZ_DONE);
+
+    for (table = 0; table < 5; table++) {
+        less = just;
+        less.control_len -= table == 0;
+        less.samples_len -= table == 1;
+        less.nodes_len -= table == 2;
+        less.links_len -= table == 3;
+        less.work_len -= table == 4;
+        answers(&less, trace, sheet, sizeof sheet, numbers);
+        for (call = 0; call < 5; call++)
+            EXPECT(numbers[call] == SILKENDOZ_SHORT_TABLE);
+    }
+}
+
+/* The words of document 01's table, in its order. */
+static void words(void)
+{
+    static const char *const table[] = {"done", "measure", "short table", "spoiled", "wrong trace", "full", "empty", "short trail",
+        "sheet length", "torn block", "bad sheet"};
+    uint64_t number;
+    for (number = 0; number < PLACES(table); number++)
+        EXPECT(strcmp(silkendoz_word(number), table[number]) == 0);
+    EXPECT(strcmp(silkendoz_word(SILKENDOZ_BAD_SHEET + 1), "unknown") == 0);
+    EXPECT(strcmp(silkendoz_word(UINT64_MAX), "unknown") == 0);
 }
 
 static void matches(struct tables *t, int16_t level, uint64_t trace, uint64_t distance, uint64_t leaves, uint64_t traces, uint16_t first)
@@ -207,6 +273,8 @@ int main(void)
 {
     opening();
     largest();
+    lengths();
+    words();
     adding_and_matching();
     sheets();
     printf("C: %d tests passed\n", tests);

@@ -19,6 +19,8 @@ import sys
 
 HEAD = """\
 -- Small libraries with what another implementation of document 01 makes of them, as one table; and the definitions give the same, by computation.
+-- These few have each kind of split (by sum and scatter, whole and cut segments), ties in gain and in distance, a leaf over size, gains and sums below
+-- zero. The calls, which are proved equal to the definitions, are run on all of `vectors/` (`rust/tests/vectors.rs`).
 -- Written by `tools/cases.py` from `vectors/libraries.txt`, the libraries that `vectors/cases.txt` names.
 use Prim.Native.Nat.{ℕ}
 use mathlib.Core.Path.{_≡_, refl}
@@ -72,7 +74,15 @@ computed c = record {
 
 -- expected: the given tree, bounds and match, the match by its steps too; well-formed tables of a library, whose sheet reads back
 abbrev pub expected : Case → Outcome
-expected c = record { tree = c .tree; bounds = c .bounds; match = c .match; steps = some (c .match); sound = true; library = true; sheet = holds (c .measures) (c .traces) }
+expected c = record {
+  tree = c .tree;
+  bounds = c .bounds;
+  match = c .match;
+  steps = some (c .match);
+  sound = true;
+  library = true;
+  sheet = holds (c .measures) (c .traces);
+}
 
 -- ---- the table
 
@@ -122,6 +132,18 @@ def listed(items):
     return "".join(f"{item} ∷ " for item in items) + "[]"
 
 
+def broken(text, indent, most=132):
+    """A term over several lines, none longer than `most`: broken in front of a cons, each later line indented."""
+    lines, line = [], ""
+    for piece in re.split(r" (?=∷ )", text):
+        if line and len(indent) + len(line) + 1 + len(piece) > most:
+            lines.append(line)
+            line = piece
+        else:
+            line = f"{line} {piece}" if line else piece
+    return f"\n    {indent}".join(lines + [line])
+
+
 def signed(x):
     return f"− {-x}" if x < 0 else f"+ {x}"
 
@@ -136,6 +158,17 @@ INNER = re.compile(r"node \d+ inner, made by trace \d+: (Sum|Scatter) of samples
 BOUND = re.compile(r"    own bound \d+ bound (\d+)$")
 MATCH = re.compile(r"match: trace (\d+) distance (\d+) leaves (\d+) traces (\d+) trail (\[.*\])$")
 HEADING = re.compile(r"n (\d+) capacity (\d+) leaf size (\d+) traces (\d+) nodes (\d+) leaves (\d+)$")
+
+
+def broken(line, width=196):
+    """A line, broken before a `∷` where it would be longer than this; what follows is indented as an element of the list."""
+    element = line.lstrip()[0] in "(n∷"
+    indent = " " * (len(line) - len(line.lstrip()) + (0 if element else 4))
+    while len(line) > width:
+        at = line.rfind(" ∷ ", len(indent) + 1, width)
+        yield line[:at]
+        line = indent + line[at + 1:]
+    yield line
 
 
 def case(name, lines):
@@ -168,12 +201,12 @@ def case(name, lines):
     nodes = [f"node ({listed(s)}) ({k})" for s, k in zip(segments, kinds)]
     yield "record {"
     yield f"  measures = measures {n} {capacity} {leaf_size};"
-    yield f"  traces = {listed(f'({signed_list(x)})' for x in traces)};"
-    yield f"  query = {signed_list(query)};"
+    yield f"  traces = {broken(listed(f'({signed_list(x)})' for x in traces), '      ')};"
+    yield f"  query = {broken(signed_list(query), '      ')};"
     yield f"  tree ="
-    yield f"      {nodes[0]}"
+    yield f"      {broken(nodes[0], '          ')}"
     for each in nodes[1:]:
-        yield f"      ∷ {each}"
+        yield f"      {broken(f'∷ {each}', '          ')}"
     yield f"      ∷ [];"
     yield f"  bounds = {listed(bounds)};"
     yield f"  match = found {' '.join(match[:4])} ({listed(numbers(match[4]))});"
@@ -195,7 +228,7 @@ def main(words):
         if number:
             lines[0] = "∷ " + lines[0]
         out.append(f"    -- {name}: {shows}\n")
-        out.extend(f"    {line}\n" for line in lines)
+        out.extend(f"{part}\n" for line in lines for part in broken(f"    {line}"))
     out.append(TAIL.replace("    []", "    ∷ []", 1))
     sys.stdout.write("".join(out))
 

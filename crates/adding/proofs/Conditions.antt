@@ -1,62 +1,36 @@
--- The conditions of adding, in two parts: what lengths and measures refuse, and the rest. Contents are tested only if the first part refuses nothing.
-use mathlib.Core.Path.{_≡_, refl, sym, ap, _∙_}
+-- Tables that refuse nothing of a trace take it.
+use mathlib.Core.Path.{_≡_}
 use mathlib.Core.Bool.{not}
 use mathlib.Core.Option.{none}
-use mathlib.Core.List.{List, [], _∷_, _++_, append-assoc}
-use Prim.Native.Nat.{ℕ}
-use borrow.Author.Tests.{not-false, eqb-true, eqb-false}
-use lib.IntN.{ℤ}
 use lib.ListN.{length}
-use lib.Dec.{T, eqb}
+use lib.Dec.{eqb}
+use borrow.Author.Tests.{not-false, eqb-true, eqb-false}
+use Rattle.integer.proofs.Lists.{strict}
 use Rattle.dstree.specs.Measures.{Trace}
 use Rattle.dstree.specs.Refusals as word
-use Rattle.dstree.specs.Refusals.{_refuses_, firstOf}
-use Rattle.dstree.proofs.Conditions.{none-first, first-some, first-none, none-both}
-use Rattle.tables.specs.Tables.{Tables, tables, lentOf, measuresOf, traceCount}
+use Rattle.dstree.specs.Refusals.{firstOf}
+use Rattle.dstree.proofs.Conditions.{none-first, none-both}
+use Rattle.tables.specs.Tables.{Tables, measuresOf, traceCount}
 use Rattle.tables.specs.View.{treeIn, kindsNamed, wellFormed}
-use Rattle.tables.specs.Judge.{lentConditionsOf}
-use Rattle.tables.specs.Answers.{wordOf, foundBy, madeConditions}
-use Rattle.tables.specs.declared.Refusal.{Refusal}
-use Rattle.tables.specs.declared.Verdict.the-variants as v
-use Rattle.tables.proofs.Judged.{lent-accepted}
-use Rattle.integer.proofs.Tests.{is-true}
-use Rattle.integer.proofs.Lists.{strict}
-use Rattle.insertion_memory.proofs.FromTables.{facts}
-use Rattle.adding.specs.Added.{restConditions, addingConditions}
+use Rattle.tables.specs.Answers.{madeConditions}
+use Rattle.well_formed.proofs.Accepted.{accepted}
+use Rattle.tables.proofs.Views.{tree-formed}
+use Rattle.insertion_memory.proofs.FromTables.{long-of}
+use Rattle.calls.specs.Effects.{adds}
 use Rattle.adding.specs.Putting.{Takes}
 
-module _ (t : Tables) (x : Trace) where
-  in-two-parts : addingConditions t x ≡ lentConditionsOf (lentOf t) (measuresOf t) ++ restConditions t (length x)
-  unfolding addingConditions madeConditions restConditions
-  in-two-parts =
-      append-assoc (lentConditionsOf (lentOf t) (measuresOf t)) (not (wellFormed t) refuses word.spoiled ∷ []) (not (eqb (length x) (measuresOf t .n)) refuses word.wrongTrace ∷ eqb (traceCount t) (measuresOf t .capacity) refuses word.full ∷ [])
-
-  pub refused-first : (why : Refusal) → firstOf (lentConditionsOf (lentOf t) (measuresOf t)) ≡ foundBy (v.Refused why) → foundBy (v.Refused why) ≡ firstOf (addingConditions t x)
-  unfolding foundBy
-  refused-first why e = sym (ap firstOf in-two-parts ∙ first-some (lentConditionsOf (lentOf t) (measuresOf t)) (restConditions t (length x)) (wordOf why) e)
-
-  pub rest-only : firstOf (lentConditionsOf (lentOf t) (measuresOf t)) ≡ none → firstOf (addingConditions t x) ≡ firstOf (restConditions t (length x))
-  rest-only e = ap firstOf in-two-parts ∙ first-none (lentConditionsOf (lentOf t) (measuresOf t)) (restConditions t (length x)) e
-
--- neither samples nor search work bear on the rest
-pub rest-same : (control : List ℕ) (samples nodes : List ℤ) (links work : List ℕ) (size : ℕ)
-    → restConditions (tables control [] nodes links []) size ≡ restConditions (tables control samples nodes links work) size
-unfolding restConditions wellFormed kindsNamed treeIn
-rest-same control samples nodes links work size = refl
-
--- tables that refuse nothing of a trace, whatever the search work holds
-pub takes : (t : Tables) (x : Trace) → firstOf (addingConditions t x) ≡ none → Takes (t .control) (t .samples) (t .nodes) (t .links) x
-unfolding restConditions wellFormed kindsNamed treeIn
+-- whatever the search work holds
+pub takes : (t : Tables) (x : Trace) → firstOf (adds t x .conditions) ≡ none → Takes (t .control) (t .samples) (t .nodes) (t .links) x
+unfolding adds wellFormed kindsNamed treeIn
 takes t x e =
-    let parts = none-both (lentConditionsOf (lentOf t) (measuresOf t)) (restConditions t (length x)) (sym (ap firstOf (in-two-parts t x)) ∙ e) in
-    let room = lent-accepted (lentOf t) (measuresOf t) (parts .0) .room in
-    let one = none-first (not (wellFormed t)) word.spoiled _ (parts .1) in
-    let two = none-first (not (eqb (length x) (measuresOf t .n))) word.wrongTrace _ (one .1) in
+    let parts = none-both (madeConditions t) _ e in
+    let ok = accepted t (parts .0) in
+    let two = none-first (not (eqb (length x) (measuresOf t .n))) word.wrongTrace _ (parts .1) in
     let three = none-first (eqb (traceCount t) (measuresOf t .capacity)) word.full _ (two .1) in
-    let formed : T (wellFormed t) = is-true {b = wellFormed t} (not-false _ (one .0)) in
+    let long = long-of t (ok .room) in
     record {
-      formed = formed;
-      long = record { control-long = room .control-room; samples-long = room .samples-room; nodes-long = room .nodes-room; links-long = room .links-room };
+      formed = ok .formed;
+      long = record { control-long = long .control-long; samples-long = long .samples-long; nodes-long = long .nodes-long; links-long = long .links-long };
       size = eqb-true (length x) (measuresOf t .n) (not-false _ (two .0));
-      less = strict (facts t formed .room) (λ q. eqb-false (traceCount t) (measuresOf t .capacity) (three .0) q);
+      less = strict (tree-formed t (ok .formed) .room) (λ q. eqb-false (traceCount t) (measuresOf t .capacity) (three .0) q);
     }

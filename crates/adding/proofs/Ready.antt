@@ -16,7 +16,7 @@ use Rattle.dstree.specs.Measures.{sampleLimit}
 use Rattle.dstree.specs.Figures.{run, width}
 use Rattle.dstree.specs.Node.{Segment, Test, Kind, inner, Tree, nodeAt, ends}
 use Rattle.dstree.specs.WellFormed.{childrenOf}
-use Rattle.dstree.proofs.Parted.{Parted, p-last, p-more, Fits}
+use Rattle.dstree.specs.Formed.{Parted, p-last, p-more, Fits}
 use Rattle.dstree.proofs.Formed.{Limited, AllLimited, l-more, TestIn, in-child}
 use Rattle.dstree.specs.Matching.{hasChild}
 use Rattle.tables.specs.Layout.{kindPlace, segmentsPlace, runFirstPlace, runLastPlace, recordPlaces}
@@ -25,7 +25,7 @@ use Rattle.tables.specs.View.{smallAt, segmentIn, segmentsIn, testIn, treeIn, w
 use Rattle.insertion.specs.Widening.{endIn, startIn, SegmentReadable, Readable}
 use Rattle.insertion.specs.Way.{Passable, Descendable}
 use Rattle.insertion_memory.specs.Memory.{held}
-use Rattle.insertion_memory.proofs.Sound.{nodes-most}
+use Rattle.dstree.proofs.Nodes.{nodes-most}
 use Rattle.insertion_memory.proofs.Stands.{Means, m-leaf, m-inner, Stands, kind-named}
 use Rattle.insertion_memory.proofs.FromTables.{Long, facts, node-count, space, tables-stand}
 
@@ -61,12 +61,13 @@ many-ends r k a = length-map (map (segmentIn r) (counting k a)) (λ (s : Segment
 module _ (r : List ℤ) (n : ℕ) (narrow : n ≤ 256) where
   one-readable : (a begin : ℕ) → 1 ≤ begin → (begin ≤ endIn r a) × (endIn r a ≤ n) → Limited sampleLimit (width (run begin (endIn r a))) (segmentIn r a) → SegmentReadable r a begin n
   one-readable a begin low p l = record {
-    on = record { from = low; some = p .0; to = p .1; narrow = narrow };
+    on = record { narrow = narrow; inside = record { from-1 = low; rises = p .0; to-n = p .1 } };
     least-scatter = omega (arith, l .scatters, scatter-few (width (run begin (endIn r a))) (segmentIn r a .greatestScatter) (omega (arith, low, p .1)) (l .greatest-scatter));
     greatest-scatter = scatter-few (width (run begin (endIn r a))) (segmentIn r a .greatestScatter) (omega (arith, low, p .1)) (l .greatest-scatter);
   }
 
-  all-readable : (k a : ℕ) → 1 ≤ startIn r a → Parted n (startIn r a) (ends (map (segmentIn r) (counting k a))) → AllLimited sampleLimit (startIn r a) (map (segmentIn r) (counting k a)) → (i : ℕ) → i < k → SegmentReadable r (a + i) (startIn r (a + i)) n
+  all-readable : (k a : ℕ) → 1 ≤ startIn r a → Parted n (startIn r a) (ends (map (segmentIn r) (counting k a)))
+      → AllLimited sampleLimit (startIn r a) (map (segmentIn r) (counting k a)) → (i : ℕ) → i < k → SegmentReadable r (a + i) (startIn r (a + i)) n
   unfolding counting segmentIn
   all-readable zero a low p l i h = absurd (omega arith)
   all-readable (suc k) a low p l zero h =
@@ -95,7 +96,7 @@ module _ (t : Tables) (w : T (wellFormed t)) (long : Long t) (some : 0 < length 
   tree = treeIn t
 
   pub stands : Stands n (measuresOf t .capacity) (t .nodes) (t .links) (traceCount t) (held (t .nodes) (t .links) (nodeCount t)) tree
-  stands = tables-stand t w long some
+  stands = tables-stand t w long
 
   here : (j : ℕ) → j < nodeCount t → j < length tree
   here j h = omega (arith, h, node-count t w)
@@ -104,20 +105,30 @@ module _ (t : Tables) (w : T (wellFormed t)) (long : Long t) (some : 0 < length 
   readable-at j h =
       let d = stands .reads j (here j h) in
       readable (recordOf (t .nodes) j) n (space t w long .narrow) (d .size)
-      (subst (λ (l : List Segment). Fits n (ends l)) (sym (d .segments)) (facts t w .fits j (here j h)))
-      (subst (λ (l : List Segment). AllLimited sampleLimit 1 l) (sym (d .segments)) (facts t w .figures j (here j h)))
+      (subst (λ (l : List Segment). Fits n (ends l)) (sym (d .segments)) (facts t w .shape .fits j (here j h)))
+      (subst (λ (l : List Segment). AllLimited sampleLimit 1 l) (sym (d .segments)) (facts t w .limits .figures j (here j h)))
 
-  passes : (j : ℕ) → length (recordOf (t .nodes) j) ≡ recordPlaces → {kind : Kind} → Means (t .links) (recordOf (t .nodes) j) kind → nodeAt tree j .kind ≡ kind → 1 ≤ smallAt (recordOf (t .nodes) j) kindPlace → Passable (recordOf (t .nodes) j) n j (nodeCount t)
+  passes : (j : ℕ) → length (recordOf (t .nodes) j) ≡ recordPlaces → {kind : Kind} → Means (t .links) (recordOf (t .nodes) j) kind
+      → nodeAt tree j .kind ≡ kind → 1 ≤ smallAt (recordOf (t .nodes) j) kindPlace → Passable (recordOf (t .nodes) j) n j (nodeCount t)
   unfolding testIn childrenOf
   passes j size (m-leaf e q l) is h = absurd (omega (arith, e, h))
   passes j size (m-inner {test} {left} {right} e q p s) is h =
-      let ok : TestIn sampleLimit n test = facts t w .tests j test left right is in
-      let l : (j < left) × (left < length tree) = facts t w .child j left (subst (λ (kind : Kind). T (hasChild left kind)) (sym is) (in-child left (inner test left right) first)) in
-      let g : (j < right) × (right < length tree) = facts t w .child j right (subst (λ (kind : Kind). T (hasChild right kind)) (sym is) (in-child right (inner test left right) (later first))) in
+      let ok : TestIn sampleLimit n test = facts t w .limits .tests j test left right is in
+      let l : (j < left) × (left < length tree) = facts t w .shape .child j left (subst (λ (kind : Kind). T (hasChild left kind)) (sym is) (in-child left (inner test left right) first)) in
+      let g : (j < right) × (right < length tree) =
+      facts t w .shape .child j right (subst (λ (kind : Kind). T (hasChild right kind)) (sym is) (in-child right (inner test left right) (later first))) in
       let from : smallAt (recordOf (t .nodes) j) runFirstPlace ≡ test .on .first = ap (λ (u : Test). u .on .first) q in
       let to : smallAt (recordOf (t .nodes) j) runLastPlace ≡ test .on .last = ap (λ (u : Test). u .on .last) q in
       record {
-        test = record { size = size; on = record { from = omega (arith, from, ok .from-1); some = omega (arith, from, to, ok .run-rises); to = omega (arith, to, ok .to-n); narrow = space t w long .narrow } };
+        test = record {
+          size = size;
+          on =
+              record {
+                narrow = space t w long .narrow;
+                inside =
+                    record { from-1 = omega (arith, from, ok .from-1); rises = omega (arith, from, to, ok .run-rises); to-n = omega (arith, to, ok .to-n) };
+              };
+        };
         left-above = omega (arith, p, l);
         left-below = omega (arith, p, l, node-count t w);
         right-above = omega (arith, s, g);
@@ -127,8 +138,8 @@ module _ (t : Tables) (w : T (wellFormed t)) (long : Long t) (some : 0 < length 
   pub descendable : Descendable (t .nodes) (nodeCount t) n
   descendable = record {
     some-node = omega (arith, some, node-count t w);
-    few = omega (arith, node-count t w, nodes-most (stands .sound), stands .few, space t w long .small);
-    room = omega (arith, node-count t w, nodes-most (stands .sound), stands .few, space t w long .nodes-room);
+    few = omega (arith, node-count t w, nodes-most (stands .shape), stands .few, space t w long .small);
+    room = omega (arith, node-count t w, nodes-most (stands .shape), stands .few, space t w long .nodes-room);
     readable = readable-at;
     kind = λ j h. kind-named (stands .reads j (here j h) .kind);
     passable = λ j h. passes j (stands .reads j (here j h) .size) (stands .reads j (here j h) .kind) refl;

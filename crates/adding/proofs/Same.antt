@@ -10,7 +10,7 @@ use lib.ListN.{length}
 use lib.Seq.{paste}
 use lib.Dec.{T}
 use Rattle.integer.specs.Words.{lastOf}
-use Rattle.integer.proofs.Lists.{In, first}
+use Rattle.integer.proofs.Lists.{In, first, in-is}
 use Rattle.dstree.specs.Measures.{Trace, samplesNeeded}
 use Rattle.dstree.specs.Node.{Kind, leaf, Tree, nodeAt}
 use Rattle.dstree.specs.Adding.{way, widenAll, join}
@@ -18,16 +18,16 @@ use Rattle.dstree.specs.Matching.{numbersIn}
 use Rattle.tables.specs.Layout.{kindPlace, firstPlace}
 use Rattle.tables.specs.Tables.{Tables, measuresOf, traceCount, nodeCount, recordOf}
 use Rattle.tables.specs.View.{smallAt, numbersFrom, kindIn, treeIn, tracesIn, wellFormed}
-use Rattle.leaf_figures.specs.Walk.{storedIn, numbersOf}
+use Rattle.tables.specs.Walk.{storedIn, numbersOf}
 use Rattle.insertion.specs.Way.{wayIn, Descendable}
 use Rattle.insertion.proofs.Down.{way-same}
 use Rattle.insertion_memory.specs.Records.{widenRecord}
 use Rattle.insertion_memory.specs.Links.{joined}
 use Rattle.insertion_memory.specs.Memory.{Held, held, onRecord, splitAllOf, firstHeld, joinedHeld, heldAfter}
 use Rattle.insertion_memory.proofs.Storing.{stored-more, stored-length}
-use Rattle.insertion_memory.proofs.Down.{LeafAt, way-inside, way-ends}
+use Rattle.dstree.proofs.Change.{LeafAt, way-inside, way-leaf, widen-length, widen-kind}
 use Rattle.insertion_memory.proofs.Stands.{Means, m-leaf, Stands, kind-read, links-rise}
-use Rattle.insertion_memory.proofs.Widening.{widen-length, widen-kind, widen-stands}
+use Rattle.insertion_memory.proofs.Widening.{widen-stands}
 use Rattle.insertion_memory.proofs.FromTables.{Long, facts, node-count, space}
 use Rattle.insertion_memory.proofs.Meaning.{joined-held}
 use Rattle.splitting.specs.Standing.{Standing}
@@ -78,7 +78,7 @@ module _ (t : Tables) (x : Trace) (w : T (wellFormed t)) (long : Long t) (size :
     way-is = way-same t x (descendable t w long some)
 
     end : LeafAt (treeIn t) at
-    end = way-ends (treeIn t) x (facts t w .child) some
+    end = way-leaf (treeIn t) x (facts t w .shape .child) some
 
     abbrev wide : Tree
     wide = widenAll x met (treeIn t)
@@ -87,7 +87,7 @@ module _ (t : Tables) (x : Trace) (w : T (wellFormed t)) (long : Long t) (size :
     W = foldl (onRecord (widenRecord x)) (t .nodes) met
 
     widened : Stands n c (t .nodes) (t .links) k (held W (t .links) m) wide
-    widened = widen-stands (space t w long) x met (way-inside (treeIn t) x (facts t w .child) some) (stands t w long some)
+    widened = widen-stands (space t w long) x met (way-inside (treeIn t) x (facts t w .shape .child) some) (stands t w long some)
 
     inside : at < length wide
     inside = omega (arith, widen-length x met (treeIn t), end .inside)
@@ -106,7 +106,7 @@ module _ (t : Tables) (x : Trace) (w : T (wellFormed t)) (long : Long t) (size :
     numbers-are = leaf-numbers (t .links) k (recordOf W at) (smallAt (recordOf W at) kindPlace) (end .numbers) kind-zero (kind-read widened at inside ∙ is-leaf) ∙ sym (ap numbersIn (end .is))
 
     head-low : head < k
-    head-low = stands t w long some .sound .owned head at (subst (λ (l : List ℕ). In head l) numbers-are (starts (t .links) k head)) .0
+    head-low = stands t w long some .shape .numbers head at (in-is (subst (λ (l : List ℕ). In head l) numbers-are (starts (t .links) k head)))
 
     -- by the records as by the tree
     leaf-is : leafBy (t .nodes) x m ≡ at
@@ -143,7 +143,7 @@ module _ (t : Tables) (x : Trace) (w : T (wellFormed t)) (long : Long t) (size :
         few = joined-stands .few;
         count = joined-stands .count;
         reads = joined-stands .reads;
-        sound = joined-stands .sound;
+        shape = joined-stands .shape;
         nodes-size = refl;
         nodes-behind = refl;
         links-size = refl;

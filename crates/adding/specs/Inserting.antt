@@ -10,7 +10,7 @@ use Rattle.dstree.specs.Adding.{segmentsOf}
 use Rattle.tables.specs.Layout.{firstPlace, recordPlaces}
 use Rattle.tables.specs.Tables.{recordOf, withRecord}
 use Rattle.tables.specs.View.{smallAt}
-use Rattle.leaf_figures.specs.Walk.{storedIn, numbersOf, Rising}
+use Rattle.tables.specs.Walk.{storedIn, numbersOf, Rising}
 use Rattle.insertion.specs.Way.{wayIn, Descendable}
 use Rattle.insertion_memory.specs.Records.{leafRecord, widenRecord}
 use Rattle.insertion_memory.specs.Links.{joined}

@@ -1,5 +1,4 @@
--- What adding refuses, answers and does, and what a stored trace does to nodes and links.
-pub mod Added
+-- What adding answers, what a stored trace does to nodes and links, and tables that take a trace.
 pub mod Answered
 pub mod Inserting
 pub mod Putting

@@ -8,7 +8,7 @@ use lib.Dec.{T}
 use Rattle.dstree.specs.Measures.{Trace}
 use Rattle.tables.specs.Tables.{tables, measuresOf, traceCount}
 use Rattle.tables.specs.View.{wellFormed}
-use Rattle.insertion_memory.proofs.FromTables.{Long}
+use Rattle.tables.specs.Holds.{Long}
 
 pub record Takes (control : List ℕ) (samples nodes : List ℤ) (links : List ℕ) (x : Trace) : Type 0 where
   pub formed : T (wellFormed (tables control samples nodes links []))

@@ -1,10 +1,13 @@
 // A stored trace joins the tree: the first one makes leaf 0, a later one goes down, joins a leaf, and leaves above the leaf size split.
 
+use tables::places::FIRST;
+use tables::places::NODE_COUNT;
+use tables::places::TRACE_COUNT;
 ghost use mathlib.Core.Path.{_≡_};
 ghost use Prim.Native.Nat.{suc, _≤_};
 ghost use lib.ListN.{length, set};
 ghost use Rattle.tables.specs.Layout.{controlFields, traceCountPlace, nodeCountPlace};
-ghost use Rattle.leaf_figures.specs.Walk.{storedIn};
+ghost use Rattle.tables.specs.Walk.{storedIn};
 ghost use Rattle.insertion_memory.specs.Memory.{held, splitAllOf};
 ghost use Rattle.adding.specs.Inserting.{leafBy, joinedBy, insertedBy, Joins, Inserts};
 
@@ -20,10 +23,13 @@ pub fn insert_more(
     count: usize,
 ) -> usize
     requires { ⌜ Joins (now nodes) (now links) (now samples) n k (now trace) count ⌝ }
-    ensures { λ r. ⌜ held (now (nodes .exit)) (now (links .exit)) r ≡ splitAllOf «leaf_size» (storedIn (now (samples .entry)) n (suc k)) (joinedBy (now (nodes .entry)) (now (links .entry)) k (now (trace .entry)) count) (leafBy (now (nodes .entry)) (now (trace .entry)) count) ⌝ }
+    ensures { λ r. ⌜ held (now (nodes .exit)) (now (links .exit)) r
+        ≡ splitAllOf «leaf_size» (storedIn (now (samples .entry)) n (suc k))
+        (joinedBy (now (nodes .entry)) (now (links .entry)) k (now (trace .entry)) count)
+        (leafBy (now (nodes .entry)) (now (trace .entry)) count) ⌝ }
 {
     let leaf = insertion::way::descend(nodes, count, trace);
-    let head = tables::records::node_small(nodes, leaf, 2);
+    let head = tables::records::node_small(nodes, leaf, FIRST);
     insertion::lists::join(links, k, head);
     let more = k + 1;
     splitting::pass::split_all(nodes, links, samples, n, more, leaf_size, count, leaf)
@@ -41,7 +47,8 @@ pub fn insert(
     count: usize,
 ) -> usize
     requires { ⌜ Inserts (now nodes) (now links) (now samples) n k (now trace) count ⌝ }
-    ensures { λ r. ⌜ held (now (nodes .exit)) (now (links .exit)) r ≡ insertedBy (now (nodes .entry)) (now (links .entry)) (now (samples .entry)) n k «leaf_size» (now (trace .entry)) count ⌝ }
+    ensures { λ r. ⌜ held (now (nodes .exit)) (now (links .exit)) r
+        ≡ insertedBy (now (nodes .entry)) (now (links .entry)) (now (samples .entry)) n k «leaf_size» (now (trace .entry)) count ⌝ }
 {
     if count == 0 {
         insertion::heads::first_leaf(nodes, links, trace);
@@ -55,6 +62,6 @@ pub fn write_counts(control: &mut [u16], traces: usize, nodes: usize)
     requires { ⌜ (controlFields ≤ length (now control)) × (traces ≤ 65535) × (nodes ≤ 65535) ⌝ }
     ensures { λ _. ⌜ now (control .exit) ≡ set (set (now (control .entry)) traceCountPlace traces) nodeCountPlace nodes ⌝ }
 {
-    control[3] = traces as u16;
-    control[4] = nodes as u16;
+    control[TRACE_COUNT] = traces as u16;
+    control[NODE_COUNT] = nodes as u16;
 }

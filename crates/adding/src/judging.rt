@@ -1,51 +1,20 @@
-// What adding refuses, in the table's order: a short control record (2), its measures (3), another short table (2), spoiled tables (3), a trace of
-// another length (4), a full library (5).
+// What adding refuses: what every call on made tables does, then a trace of another length (4), then a full library (5).
 
 use tables::Refusal;
 use tables::Verdict;
 use tables::control::field;
-use tables::control::judge_lent;
+use tables::numbers::wide;
+use tables::places::CAPACITY;
+use tables::places::N;
+use tables::places::TRACE_COUNT;
+use well_formed::judging::judge_tables;
 ghost use mathlib.Core.Path.{_≡_};
-ghost use mathlib.Core.List.{[]};
 ghost use Rattle.dstree.specs.Refusals.{firstOf};
 ghost use Rattle.tables.specs.Tables.{tables};
-ghost use Rattle.tables.specs.Answers.{foundBy, Lends};
-ghost use Rattle.adding.specs.Added.{restConditions, addingConditions};
+ghost use Rattle.tables.specs.Answers.{foundBy};
+ghost use Rattle.calls.specs.Effects.{adds};
 
-fn wide(x: u16) -> usize
-    ensures { λ r. ⌜ r ≡ x ⌝ }
-{
-    x as usize
-}
-
-pub fn wider(x: u16) -> u64
-    ensures { λ r. ⌜ r ≡ x ⌝ }
-{
-    x as u64
-}
-
-// What contents and the trace's length refuse, the tables being long enough.
-pub fn judge_rest(control: &[u16], nodes: &[i64], links: &[u16], size: usize) -> Verdict
-    requires { ⌜ Lends (now control) (now nodes) (now links) ⌝ }
-    ensures { λ r. ⌜ foundBy r ≡ firstOf (restConditions (tables (now (control .entry)) [] (now (nodes .entry)) (now (links .entry)) []) size) ⌝ }
-{
-    let n = wide(field(control, 0));
-    let capacity = field(control, 1);
-    let k = field(control, 3);
-    let formed = well_formed::well_formed(control, nodes, links);
-    if !formed {
-        return Verdict::Refused(Refusal::Spoiled);
-    }
-    if size != n {
-        return Verdict::Refused(Refusal::WrongTrace);
-    }
-    if k == capacity {
-        return Verdict::Refused(Refusal::Full);
-    }
-    Verdict::Fine
-}
-
-pub fn judge_adding(
+pub fn judge(
     control: &[u16],
     samples: &[i16],
     nodes: &[i64],
@@ -53,23 +22,24 @@ pub fn judge_adding(
     work: &[u64],
     trace: &[i16],
 ) -> Verdict
-    ensures { λ r. ⌜ foundBy r ≡ firstOf (addingConditions (tables (now (control .entry)) (now (samples .entry)) (now (nodes .entry)) (now (links .entry)) (now (work .entry))) (now (trace .entry))) ⌝ }
+    ensures { λ r. ⌜ foundBy r ≡ firstOf (adds
+        (tables (now (control .entry)) (now (samples .entry)) (now (nodes .entry)) (now (links .entry)) (now (work .entry)))
+        (now (trace .entry)) .conditions) ⌝ }
 {
-    let n = wider(field(control, 0));
-    let capacity = wider(field(control, 1));
-    let leaf_size = wider(field(control, 2));
-    let lent = judge_lent(
-        control.len(),
-        samples.len(),
-        nodes.len(),
-        links.len(),
-        work.len(),
-        n,
-        capacity,
-        leaf_size,
-    );
-    match lent {
+    let n = wide(field(control, N));
+    let capacity = field(control, CAPACITY);
+    let k = field(control, TRACE_COUNT);
+    let made = judge_tables(control, samples, nodes, links, work);
+    match made {
         Verdict::Refused(why) => Verdict::Refused(why),
-        Verdict::Fine => judge_rest(control, nodes, links, trace.len()),
+        Verdict::Fine => {
+            if trace.len() != n {
+                return Verdict::Refused(Refusal::WrongTrace);
+            }
+            if k == capacity {
+                return Verdict::Refused(Refusal::Full);
+            }
+            Verdict::Fine
+        }
     }
 }

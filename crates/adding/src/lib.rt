@@ -6,10 +6,15 @@ pub mod putting; // a trace put into tables that refuse nothing
 
 use tables::Refusal;
 use tables::Verdict;
+use tables::control::field;
+use tables::numbers::wider;
+use tables::places::TRACE_COUNT;
 ghost use mathlib.Core.Path.{_≡_};
+ghost use mathlib.Core.List.{[]};
+ghost use Rattle.dstree.specs.Book.{adding};
 ghost use Rattle.tables.specs.Tables.{tables};
-ghost use Rattle.tables.specs.Answers.{outcome};
-ghost use Rattle.adding.specs.Added.{addOf};
+ghost use Rattle.calls.specs.Outcome.{outcome};
+ghost use Rattle.calls.specs.Effects.{outcomeOn};
 ghost use Rattle.adding.specs.Answered.{answerOf};
 
 // The number of the trace, from 0, or a refusal.
@@ -32,15 +37,15 @@ pub fn add(
 ) -> Added
     ensures { λ r. ⌜ outcome (answerOf r)
         (tables (now (control .exit)) (now (samples .exit)) (now (nodes .exit)) (now (links .exit)) (now (work .entry)))
-        ≡ addOf
-        (tables (now (control .entry)) (now (samples .entry)) (now (nodes .entry)) (now (links .entry)) (now (work .entry)))
-        (now (trace .entry)) ⌝ }
+        []
+        ≡ outcomeOn (adding (now (trace .entry)))
+        (tables (now (control .entry)) (now (samples .entry)) (now (nodes .entry)) (now (links .entry)) (now (work .entry))) ⌝ }
 {
-    let verdict = judging::judge_adding(control, samples, nodes, links, work, trace);
+    let verdict = judging::judge(control, samples, nodes, links, work, trace);
     match verdict {
         Verdict::Refused(why) => Added::Refused(why),
         Verdict::Fine => {
-            let k = judging::wider(tables::control::field(control, 3));
+            let k = wider(field(control, TRACE_COUNT));
             putting::put(control, samples, nodes, links, trace);
             Added::At(k)
         }

@@ -1,18 +1,17 @@
 // A trace put into tables that refuse nothing: its samples are stored, it joins the tree, and the counts are written last.
 
 use tables::control::field;
+use tables::numbers::wide;
+use tables::places::LEAF_SIZE;
+use tables::places::N;
+use tables::places::NODE_COUNT;
+use tables::places::TRACE_COUNT;
 ghost use mathlib.Core.Path.{_≡_};
 ghost use mathlib.Core.List.{List};
 ghost use Prim.Native.Nat.{ℕ};
 ghost use Rattle.tables.specs.Tables.{tables};
 ghost use Rattle.insertion_memory.specs.Memory.{addedTo};
 ghost use Rattle.adding.specs.Putting.{Takes};
-
-fn wide(x: u16) -> usize
-    ensures { λ r. ⌜ r ≡ x ⌝ }
-{
-    x as usize
-}
 
 // Search work is not lent: it stays as it was, whatever it holds.
 pub fn put(
@@ -23,12 +22,14 @@ pub fn put(
     trace: &[i16],
 )
     requires { ⌜ Takes (now control) (now samples) (now nodes) (now links) (now trace) ⌝ }
-    ensures { λ _. ⌜ ((work : List ℕ) → tables (now (control .exit)) (now (samples .exit)) (now (nodes .exit)) (now (links .exit)) work ≡ addedTo (tables (now (control .entry)) (now (samples .entry)) (now (nodes .entry)) (now (links .entry)) work) (now (trace .entry))) ⌝ }
+    ensures { λ _. ⌜ ((work : List ℕ) →
+        tables (now (control .exit)) (now (samples .exit)) (now (nodes .exit)) (now (links .exit)) work
+        ≡ addedTo (tables (now (control .entry)) (now (samples .entry)) (now (nodes .entry)) (now (links .entry)) work) (now (trace .entry))) ⌝ }
 {
-    let n = wide(field(control, 0));
-    let leaf_size = wide(field(control, 2));
-    let k = wide(field(control, 3));
-    let count = wide(field(control, 4));
+    let n = wide(field(control, N));
+    let leaf_size = wide(field(control, LEAF_SIZE));
+    let k = wide(field(control, TRACE_COUNT));
+    let count = wide(field(control, NODE_COUNT));
     let at = k * n;
     tables::loops::copy_trace(samples, at, trace);
     let more = crate::inserting::insert(nodes, links, samples, trace, n, k, leaf_size, count);

@@ -1,8 +1,6 @@
--- What best-first search asks of a tree: children are nodes, numbered above their parent, and every node but 0 is a child once. Well-formed tables have it.
--- From it: over all nodes, each number but 0 is once among the children, and no bound falls on the way down.
+-- Well-formed tables are `Branching`. From it: over all nodes, each number but 0 is once among the children, and no bound falls on the way down.
 use Prim.Native.Nat.{ℕ, zero, suc, _+_, _≤_, _<_, max}
 use mathlib.Core.Path.{_≡_, refl, sym, _∙_, subst}
-use mathlib.Core.Option.{Option, none, some}
 use mathlib.Core.List.{List, [], _∷_, map, flatten}
 use native.Mathlib.Omega.{arith}
 use lib.ListN.{length, getD}
@@ -14,19 +12,12 @@ use Rattle.integer.proofs.Lists.{In, first, later, in-nil, InFlat, flat, from-f
 use Rattle.integer.proofs.Times.{times-same, times-other, times-none, times-once, counting-length}
 use Rattle.dstree.specs.Measures.{Trace, Measures, within, inRange}
 use Rattle.dstree.specs.Node.{Test, Kind, leaf, inner, Tree, nodeAt}
-use Rattle.dstree.specs.Matching.{ownBound, hasChild, parentFrom, boundFrom, bound}
+use Rattle.dstree.specs.Matching.{ownBound, hasChild, bound}
 use Rattle.dstree.specs.WellFormed.{childrenOf}
 use Rattle.dstree.proofs.Formed.{Formed, Parent, well-formed, child-in, in-child, child-node}
 use Rattle.dstree.proofs.Nodes.{nodes-at-most}
-use Rattle.dstree.proofs.Bounds.{parent-has, child-bound}
-
-pub record Branching (tree : Tree) : Type 0 where
-  pub some-node : 0 < length tree
-  pub few : length tree ≤ 8192
-  pub child : (p c : ℕ) → T (hasChild c (nodeAt tree p .kind)) → (p < c) × (c < length tree)
-  pub parented : (k : ℕ) → 0 < k → k < length tree → Parent tree k
-  pub one-parent : (p q c : ℕ) → T (hasChild c (nodeAt tree p .kind)) → T (hasChild c (nodeAt tree q .kind)) → p ≡ q
-  pub children-differ : (p : ℕ) (test : Test) (left right : ℕ) → nodeAt tree p .kind ≡ inner test left right → left ≡ right → ⊥
+use Rattle.dstree.proofs.Bounds.{child-bound}
+use Rattle.best_first.specs.Branching.{Branching}
 
 -- ---- of well-formed tables
 
@@ -41,10 +32,10 @@ pub branching : {limit : ℕ} {m : Measures} {count : ℕ} {tree : Tree} → For
 branching {limit} {m} {count} {tree} f h = record {
   some-node = h;
   few = omega (arith, nodes-at-most limit m count tree (well-formed f), f .room, capacity-most m (f .measured));
-  child = f .child;
-  parented = f .parented;
-  one-parent = f .one-parent;
-  children-differ = f .children-differ;
+  child = f .shape .child;
+  parented = f .shape .parented;
+  one-parent = f .shape .one-parent;
+  children-differ = f .shape .children-differ;
 }
 
 -- ---- children
@@ -120,17 +111,3 @@ module _ (tree : Tree) (b : Branching tree) where
 
     pub right-bound : (query : Trace) → bound tree query r ≡ max (ownBound query (nodeAt tree r)) (bound tree query i)
     right-bound query = child-bound tree (b .child) (b .one-parent) query i r (has-right (nodeAt tree i .kind) e)
-
--- no bound is above every own bound, so that keys fit where own bounds do
-module _ (tree : Tree) (query : Trace) (m : ℕ) (some-room : 0 < m) (low : (k : ℕ) → k < length tree → ownBound query (nodeAt tree k) < m) where
-  from-low : (fuel k : ℕ) → k < length tree → boundFrom fuel tree query k < m
-  unfolding boundFrom
-  from-low zero k h = some-room
-  from-low (suc fuel) k h = omega (arith, low k h, by (parentFrom 0 tree k) refl (from-low fuel))
-    where
-      by : (o : Option ℕ) → parentFrom 0 tree k ≡ o → ((p : ℕ) → p < length tree → boundFrom fuel tree query p < m) → elim o [ none ↦ 0 | some parent ↦ boundFrom fuel tree query parent ] < m
-      by none e ih = some-room
-      by (some p) e ih = ih p (child-node tree p k (parent-has tree k p e))
-
-  pub bound-low : (k : ℕ) → k < length tree → bound tree query k < m
-  bound-low k h = from-low (length tree) k h

@@ -15,24 +15,20 @@ use Rattle.heap.proofs.Bags.{same-bag}
 use Rattle.dstree.specs.Node.{Test, Kind, leaf, inner, Tree, nodeAt}
 use Rattle.dstree.specs.Matching.{isLeaf, leaves}
 use Rattle.dstree.specs.WellFormed.{childrenOf}
-use Rattle.best_first.proofs.Branching.{Branching, kids, allKids, kids-once, kids-inside}
-use Rattle.best_first.proofs.Shape.{leafKeys, weight, whole, whole-leaf, whole-inner}
+use Rattle.best_first.specs.Branching.{Branching}
+use Rattle.best_first.specs.Waiting.{leafKeys, weight, keysBelow, nodesBelow}
+use Rattle.best_first.proofs.Branching.{kids, allKids, kids-once, kids-inside}
+use Rattle.best_first.proofs.Subtree.{subtree-leaf, subtree-inner}
 
--- the keys of the leaves below a node, and below some nodes
-abbrev pub bag : Tree → (ℕ → ℕ) → ℕ → List ℕ
-bag tree key i = leafKeys key (whole tree i)
-
-abbrev pub gather : Tree → (ℕ → ℕ) → List ℕ → List ℕ
+-- the keys of the leaves below some nodes
+abbrev gather : Tree → (ℕ → ℕ) → List ℕ → List ℕ
 gather tree key [] = []
-gather tree key (i ∷ is) = bag tree key i ++ gather tree key is
+gather tree key (i ∷ is) = keysBelow tree key i ++ gather tree key is
 
--- how many nodes are below a node, with it, and below some nodes
-abbrev pub weighed : Tree → ℕ → ℕ
-weighed tree i = weight (whole tree i)
-
-abbrev pub weights : Tree → List ℕ → ℕ
+-- how many nodes are below some nodes, with them
+abbrev weights : Tree → List ℕ → ℕ
 weights tree [] = 0
-weights tree (i ∷ is) = weighed tree i + weights tree is
+weights tree (i ∷ is) = nodesBelow tree i + weights tree is
 
 -- ---- neither depends on the order of the nodes
 
@@ -41,8 +37,8 @@ module _ (tree : Tree) (key : ℕ → ℕ) where
   gather-inserted a [] r = rw (insert-nil a)
   gather-inserted a (x ∷ xs) r =
       let ih = gather-inserted a xs r in
-      let A = bag tree key a in
-      let X = bag tree key x in
+      let A = keysBelow tree key a in
+      let X = keysBelow tree key x in
       let G = gather tree key xs in
       ⊎-elim
       (λ (p : a ≤ x). rw (insert-here a x xs p))
@@ -56,10 +52,10 @@ module _ (tree : Tree) (key : ℕ → ℕ) where
   gather-sorted [] r = rw (pour-nil [])
   gather-sorted (x ∷ xs) r =
       rw (pour-cons x xs [])
-      (gather-inserted x (sortedOf xs) r ∙ pour-append (bag tree key x) (gather tree key (sortedOf xs)) r ∙ ap (pour (bag tree key x)) (gather-sorted xs r)
-      ∙ sym (pour-append (bag tree key x) (gather tree key xs) r))
+      (gather-inserted x (sortedOf xs) r ∙ pour-append (keysBelow tree key x) (gather tree key (sortedOf xs)) r ∙ ap (pour (keysBelow tree key x)) (gather-sorted xs r)
+      ∙ sym (pour-append (keysBelow tree key x) (gather tree key xs) r))
 
-weights-inserted : (tree : Tree) (a : ℕ) (xs : List ℕ) → weights tree (insertKey a xs) ≡ weighed tree a + weights tree xs
+weights-inserted : (tree : Tree) (a : ℕ) (xs : List ℕ) → weights tree (insertKey a xs) ≡ nodesBelow tree a + weights tree xs
 weights-inserted tree a [] = rw (insert-nil a)
 weights-inserted tree a (x ∷ xs) =
     let ih = weights-inserted tree a xs in
@@ -113,13 +109,13 @@ module _ (tree : Tree) (b : Branching tree) where
 
   -- ---- how many nodes
 
-  pub weighed-leaf : (i : ℕ) {ns : List ℕ} → nodeAt tree i .kind ≡ leaf ns → weighed tree i ≡ 1
+  pub nodes-leaf : (i : ℕ) {ns : List ℕ} → nodeAt tree i .kind ≡ leaf ns → nodesBelow tree i ≡ 1
   unfolding weight
-  weighed-leaf i e = rw (whole-leaf tree b i e)
+  nodes-leaf i e = rw (subtree-leaf tree b i e)
 
-  pub weighed-inner : (i : ℕ) {test : Test} {l r : ℕ} → nodeAt tree i .kind ≡ inner test l r → weighed tree i ≡ suc (weighed tree l + weighed tree r)
+  pub nodes-inner : (i : ℕ) {test : Test} {l r : ℕ} → nodeAt tree i .kind ≡ inner test l r → nodesBelow tree i ≡ suc (nodesBelow tree l + nodesBelow tree r)
   unfolding weight
-  weighed-inner i e = ap weight (whole-inner tree b i e)
+  nodes-inner i e = ap weight (subtree-inner tree b i e)
 
   weights-all : (ns : List ℕ) → weights tree ns ≡ length ns + weights tree (flatten (map (kids tree) ns))
   unfolding flatten childrenOf
@@ -127,25 +123,26 @@ module _ (tree : Tree) (b : Branching tree) where
   weights-all (i ∷ ns) = by (nodeAt tree i .kind) refl (weights-all ns)
     where
       by : (kind : Kind) → nodeAt tree i .kind ≡ kind → weights tree ns ≡ length ns + weights tree (flatten (map (kids tree) ns))
-          → weighed tree i + weights tree ns ≡ suc (length ns) + weights tree (childrenOf kind ++ flatten (map (kids tree) ns))
-      by (leaf numbers) e ih = omega (arith, weighed-leaf i e)
-      by (inner test l r) e ih = omega (arith, weighed-inner i e)
+          → nodesBelow tree i + weights tree ns ≡ suc (length ns) + weights tree (childrenOf kind ++ flatten (map (kids tree) ns))
+      by (leaf numbers) e ih = omega (arith, nodes-leaf i e)
+      by (inner test l r) e ih = omega (arith, nodes-inner i e)
 
-  pub all-nodes : weighed tree 0 ≡ length tree
+  pub all-nodes : nodesBelow tree 0 ≡ length tree
   all-nodes =
-      let e : weights tree (0 ∷ sortedOf (allKids tree)) ≡ length (counting (length tree) 0) + weights tree (allKids tree) = ap (weights tree) (sym all-numbers) ∙ weights-all (counting (length tree) 0) in
+      let e : weights tree (0 ∷ sortedOf (allKids tree)) ≡ length (counting (length tree) 0) + weights tree (allKids tree) =
+      ap (weights tree) (sym all-numbers) ∙ weights-all (counting (length tree) 0) in
       omega (arith, e, weights-sorted tree (allKids tree), counting-length (length tree) 0)
 
   -- ---- which leaves
 
   module _ (key : ℕ → ℕ) where
-    pub bag-leaf : (i : ℕ) {ns : List ℕ} → nodeAt tree i .kind ≡ leaf ns → bag tree key i ≡ key i ∷ []
+    pub keys-leaf : (i : ℕ) {ns : List ℕ} → nodeAt tree i .kind ≡ leaf ns → keysBelow tree key i ≡ key i ∷ []
     unfolding leafKeys
-    bag-leaf i e = rw (whole-leaf tree b i e)
+    keys-leaf i e = rw (subtree-leaf tree b i e)
 
-    pub bag-inner : (i : ℕ) {test : Test} {l r : ℕ} → nodeAt tree i .kind ≡ inner test l r → bag tree key i ≡ bag tree key l ++ bag tree key r
+    pub keys-inner : (i : ℕ) {test : Test} {l r : ℕ} → nodeAt tree i .kind ≡ inner test l r → keysBelow tree key i ≡ keysBelow tree key l ++ keysBelow tree key r
     unfolding leafKeys
-    bag-inner i e = ap (leafKeys key) (whole-inner tree b i e)
+    keys-inner i e = ap (leafKeys key) (subtree-inner tree b i e)
 
     abbrev leavesOf : List ℕ → List ℕ
     leavesOf ns = those (λ number. isLeaf (nodeAt tree number .kind)) ns
@@ -156,27 +153,30 @@ module _ (tree : Tree) (b : Branching tree) where
     gather-all (i ∷ ns) q = by (nodeAt tree i .kind) refl (gather-all ns q)
       where
         by : (kind : Kind) → nodeAt tree i .kind ≡ kind → pour (gather tree key ns) q ≡ pour (map key (leavesOf ns)) (pour (gather tree key (flatten (map (kids tree) ns))) q)
-            → pour (bag tree key i ++ gather tree key ns) q ≡ pour (map key (if isLeaf kind then i ∷ leavesOf ns else leavesOf ns)) (pour (gather tree key (childrenOf kind ++ flatten (map (kids tree) ns))) q)
+            → pour (keysBelow tree key i ++ gather tree key ns) q
+            ≡ pour (map key (if isLeaf kind then i ∷ leavesOf ns else leavesOf ns))
+            (pour (gather tree key (childrenOf kind ++ flatten (map (kids tree) ns))) q)
         by (leaf numbers) e ih =
             let C = gather tree key (flatten (map (kids tree) ns)) in
-            rw (bag-leaf i e)
+            rw (keys-leaf i e)
             (pour-cons (key i) (gather tree key ns) q ∙ ap (insertKey (key i)) ih ∙ sym (pour-cons (key i) (map key (leavesOf ns)) (pour C q)))
         by (inner test l r) e ih =
             let C = gather tree key (flatten (map (kids tree) ns)) in
-            let X = bag tree key l in
-            let Y = bag tree key r in
+            let X = keysBelow tree key l in
+            let Y = keysBelow tree key r in
             let L = map key (leavesOf ns) in
-            rw (bag-inner i e)
+            rw (keys-inner i e)
             (pour-append (X ++ Y) (gather tree key ns) q ∙ ap (pour (X ++ Y)) ih ∙ pour-pour (X ++ Y) L (pour C q)
             ∙ ap (pour L) (pour-append X Y (pour C q) ∙ ap (pour X) (sym (pour-append Y C q)) ∙ sym (pour-append X (Y ++ C) q)))
 
-    pub all-leaves : pour (bag tree key 0) [] ≡ sortedOf (map key (leaves tree))
+    pub all-leaves : pour (keysBelow tree key 0) [] ≡ sortedOf (map key (leaves tree))
     unfolding leaves
     all-leaves =
-        let B = bag tree key 0 in
+        let B = keysBelow tree key 0 in
         let G = gather tree key (allKids tree) in
         let L = map key (leavesOf (counting (length tree) 0)) in
-        let e : pour (gather tree key (0 ∷ sortedOf (allKids tree))) [] ≡ pour L (pour G []) = ap (λ (l : List ℕ). pour (gather tree key l) []) (sym all-numbers) ∙ gather-all (counting (length tree) 0) [] in
+        let e : pour (gather tree key (0 ∷ sortedOf (allKids tree))) [] ≡ pour L (pour G []) =
+        ap (λ (l : List ℕ). pour (gather tree key l) []) (sym all-numbers) ∙ gather-all (counting (length tree) 0) [] in
         let k : pour B (pour G []) ≡ pour L (pour G []) =
         ap (pour B) (sym (gather-sorted tree key (allKids tree) [])) ∙ sym (pour-append B (gather tree key (sortedOf (allKids tree))) []) ∙ e in
         pour-cancel G (pour B []) (pour L []) (pour-pour G B [] ∙ k ∙ pour-pour L G [])

@@ -6,32 +6,19 @@ use mathlib.Core.Path.{_≡_, refl, sym, _∙_, ap}
 use mathlib.Core.Logic.{⊎-elim}
 use mathlib.Core.List.{List, [], _∷_, map}
 use native.Mathlib.Omega.{arith}
-use lib.ListN.{length, length-map}
+use lib.ListN.{length}
 use Rattle.heap.specs.Keys.{insertKey, pour, sortedOf}
-use Rattle.heap.proofs.Sorting.{Above, Sorted, le-or-lt, insert-nil, insert-here, insert-past, insert-first, pour-nil, pour-cons, pour-pour, pour-append, above-less, above-pour, sorted-insert, length-pour}
+use Rattle.heap.proofs.Sorting.{Above, Sorted, le-or-lt, insert-nil, insert-here, insert-past, insert-first, pour-nil, pour-cons, pour-pour, pour-append, above-less, above-pour, sorted-insert}
 use Rattle.dstree.specs.Measures.{Trace}
 use Rattle.dstree.specs.Node.{Test, leaf, inner, Tree, nodeAt}
 use Rattle.dstree.specs.Matching.{ownBound, bound, leaves}
 use Rattle.dstree.proofs.Bounds.{root-bound}
-use Rattle.best_first.specs.BestFirst.{keyOf, boundIn, numberIn, childKey, firstKey, inStead}
-use Rattle.best_first.proofs.Branching.{Branching, left-above, right-above, left-bound, right-bound}
-use Rattle.best_first.proofs.Shape.{nodeKey, Shape, tip, fork, weight, whole, below}
-use Rattle.best_first.proofs.Gather.{bag, weighed, weighed-leaf, weighed-inner, all-nodes, bag-leaf, bag-inner, all-leaves}
-
--- the keys of the leaves still to come, in order
-abbrev pub toCome : Tree → Trace → List ℕ → List ℕ
-toCome tree query [] = []
-toCome tree query (x ∷ xs) = pour (bag tree (nodeKey tree query) (numberIn x)) (toCome tree query xs)
-
--- how many nodes are still to be taken
-abbrev pub load : Tree → List ℕ → ℕ
-load tree [] = 0
-load tree (x ∷ xs) = weighed tree (numberIn x) + load tree xs
-
--- each is the key of a node
-abbrev pub Keyed : Tree → Trace → List ℕ → Type 0
-Keyed tree query [] = Unit {0}
-Keyed tree query (x ∷ xs) = (numberIn x < length tree) × (x ≡ nodeKey tree query (numberIn x)) × Keyed tree query xs
+use Rattle.best_first.specs.NodeKeys.{keyOf, boundIn, numberIn, nodeKey, childKey, firstKey, inStead}
+use Rattle.best_first.specs.Branching.{Branching}
+use Rattle.best_first.specs.Waiting.{Subtree, tip, fork, weight, subtree, keysBelow, nodesBelow, toCome, load, Keyed}
+use Rattle.best_first.proofs.Branching.{left-above, right-above, left-bound, right-bound}
+use Rattle.best_first.proofs.Subtree.{below}
+use Rattle.best_first.proofs.Gather.{nodes-leaf, nodes-inner, all-nodes, keys-leaf, keys-inner, all-leaves}
 
 -- the keys that wait: of nodes, and in order
 pub record Front (tree : Tree) (query : Trace) (xs : List ℕ) : Type 0 where
@@ -40,17 +27,17 @@ pub record Front (tree : Tree) (query : Trace) (xs : List ℕ) : Type 0 where
 
 -- ---- one more key waits
 
-come-inserted : (tree : Tree) (query : Trace) (a : ℕ) (xs : List ℕ) → toCome tree query (insertKey a xs) ≡ pour (bag tree (nodeKey tree query) (numberIn a)) (toCome tree query xs)
+come-inserted : (tree : Tree) (query : Trace) (a : ℕ) (xs : List ℕ) → toCome tree query (insertKey a xs) ≡ pour (keysBelow tree (nodeKey tree query) (numberIn a)) (toCome tree query xs)
 come-inserted tree query a [] = rw (insert-nil a)
 come-inserted tree query a (x ∷ xs) =
     let ih = come-inserted tree query a xs in
-    let B = bag tree (nodeKey tree query) in
+    let B = keysBelow tree (nodeKey tree query) in
     ⊎-elim
     (λ (p : a ≤ x). rw (insert-here a x xs p))
     (λ (p : x < a). rw (insert-past a x xs p) (ap (pour (B (numberIn x))) ih ∙ pour-pour (B (numberIn x)) (B (numberIn a)) (toCome tree query xs)))
     (le-or-lt a x)
 
-load-inserted : (tree : Tree) (a : ℕ) (xs : List ℕ) → load tree (insertKey a xs) ≡ weighed tree (numberIn a) + load tree xs
+load-inserted : (tree : Tree) (a : ℕ) (xs : List ℕ) → load tree (insertKey a xs) ≡ nodesBelow tree (numberIn a) + load tree xs
 load-inserted tree a [] = rw (insert-nil a)
 load-inserted tree a (x ∷ xs) =
     let ih = load-inserted tree a xs in
@@ -64,14 +51,14 @@ keyed-inserted tree query a (x ∷ xs) h e k =
 
 -- ---- no more keys wait than there are nodes to take, and no more leaves come
 
-heavy : (s : Shape) → 1 ≤ weight s
+heavy : (s : Subtree) → 1 ≤ weight s
 unfolding weight
 heavy (tip i) = omega arith
-heavy (fork i a b) = omega arith
+heavy (fork a b) = omega arith
 
 pub length-load : (tree : Tree) (xs : List ℕ) → length xs ≤ load tree xs
 length-load tree [] = omega arith
-length-load tree (x ∷ xs) = omega (arith, heavy (whole tree (numberIn x)), length-load tree xs)
+length-load tree (x ∷ xs) = omega (arith, heavy (subtree tree (numberIn x)), length-load tree xs)
 
 module _ (tree : Tree) (b : Branching tree) (query : Trace) where
   -- a key holds its bound and its number
@@ -88,7 +75,7 @@ module _ (tree : Tree) (b : Branching tree) (query : Trace) where
       let i = numberIn x in
       let key = nodeKey tree query in
       let e : x ≡ key i = k .1 in
-      above-pour m (bag tree key i) (toCome tree query xs) (above-less m (key i) (bag tree key i) (omega (arith, e, a .0)) (below tree b query i)) (come-above m xs (a .1) (k .2))
+      above-pour m (keysBelow tree key i) (toCome tree query xs) (above-less m (key i) (keysBelow tree key i) (omega (arith, e, a .0)) (below tree b query i)) (come-above m xs (a .1) (k .2))
 
   -- ---- a turn: x is the least key
 
@@ -106,11 +93,11 @@ module _ (tree : Tree) (b : Branching tree) (query : Trace) where
     module _ {ns : List ℕ} (e : nodeAt tree (numberIn x) .kind ≡ leaf ns) where
       pub come-leaf : toCome tree query (x ∷ xs) ≡ x ∷ toCome tree query xs
       come-leaf =
-          rw (bag-leaf tree b (nodeKey tree query) (numberIn x) e, ← f .keyed .1)
+          rw (keys-leaf tree b (nodeKey tree query) (numberIn x) e, ← f .keyed .1)
           (pour-cons x [] (toCome tree query xs) ∙ ap (insertKey x) (pour-nil (toCome tree query xs)) ∙ insert-first x (toCome tree query xs) (come-above x xs (f .sorted .0) (f .keyed .2)))
 
       pub load-leaf : load tree (x ∷ xs) ≡ suc (load tree xs)
-      load-leaf = omega (arith, weighed-leaf tree b (numberIn x) e)
+      load-leaf = omega (arith, nodes-leaf tree b (numberIn x) e)
 
       pub front-leaf : Front tree query xs
       front-leaf = record { sorted = f .sorted .1; keyed = f .keyed .2 }
@@ -142,13 +129,13 @@ module _ (tree : Tree) (b : Branching tree) (query : Trace) where
       pub come-inner : toCome tree query (x ∷ xs) ≡ toCome tree query (inStead tree query x l r xs)
       come-inner =
           let key = nodeKey tree query in
-          let L = bag tree key l in
-          let R = bag tree key r in
+          let L = keysBelow tree key l in
+          let R = keysBelow tree key r in
           let C = toCome tree query xs in
-          rw (stead-is, bag-inner tree b key (numberIn x) e)
+          rw (stead-is, keys-inner tree b key (numberIn x) e)
           (pour-append L R C ∙ sym (come-inserted tree query (key l) (insertKey (key r) xs)
-          ∙ ap (λ (i : ℕ). pour (bag tree key i) (toCome tree query (insertKey (key r) xs))) number-left
-          ∙ ap (pour L) (come-inserted tree query (key r) xs ∙ ap (λ (i : ℕ). pour (bag tree key i) C) number-right)))
+          ∙ ap (λ (i : ℕ). pour (keysBelow tree key i) (toCome tree query (insertKey (key r) xs))) number-left
+          ∙ ap (pour L) (come-inserted tree query (key r) xs ∙ ap (λ (i : ℕ). pour (keysBelow tree key i) C) number-right)))
 
       pub load-inner : load tree (x ∷ xs) ≡ suc (load tree (inStead tree query x l r xs))
       load-inner =
@@ -156,11 +143,11 @@ module _ (tree : Tree) (b : Branching tree) (query : Trace) where
           omega (
             arith,
             ap (load tree) stead-is,
-            weighed-inner tree b (numberIn x) e,
+            nodes-inner tree b (numberIn x) e,
             load-inserted tree (key l) (insertKey (key r) xs),
             load-inserted tree (key r) xs,
-            ap (weighed tree) number-left,
-            ap (weighed tree) number-right,
+            ap (nodesBelow tree) number-left,
+            ap (nodesBelow tree) number-right,
           )
 
       pub front-inner : Front tree query (inStead tree query x l r xs)
@@ -182,14 +169,10 @@ module _ (tree : Tree) (b : Branching tree) (query : Trace) where
   number-first = omega arith
 
   pub come-start : toCome tree query (firstKey tree query ∷ []) ≡ sortedOf (map (nodeKey tree query) (leaves tree))
-  come-start = ap (λ (i : ℕ). pour (bag tree (nodeKey tree query) i) []) number-first ∙ all-leaves tree b (nodeKey tree query)
+  come-start = ap (λ (i : ℕ). pour (keysBelow tree (nodeKey tree query) i) []) number-first ∙ all-leaves tree b (nodeKey tree query)
 
   pub load-start : load tree (firstKey tree query ∷ []) ≡ length tree
-  load-start = omega (arith, ap (weighed tree) number-first, all-nodes tree b)
+  load-start = omega (arith, ap (nodesBelow tree) number-first, all-nodes tree b)
 
   pub front-start : Front tree query (firstKey tree query ∷ [])
   front-start = record { sorted = (tt, tt); keyed = (rw number-first (b .some-node), first-is ∙ ap (nodeKey tree query) (sym number-first), tt) }
-
-  -- as many leaves come as there are
-  pub length-start : length (toCome tree query (firstKey tree query ∷ [])) ≡ length (leaves tree)
-  length-start = ap length come-start ∙ length-pour (map (nodeKey tree query) (leaves tree)) [] ∙ omega (arith, length-map (leaves tree) (nodeKey tree query))

@@ -13,10 +13,9 @@ use Rattle.heap.specs.Keys.{insertKey, sortedOf}
 use Rattle.heap.proofs.Sorting.{Sorted, sorted-pour, le-or-lt, insert-nil, insert-here, insert-past, insert-first, pour-nil, pour-cons}
 use Rattle.dstree.specs.Measures.{Trace}
 use Rattle.dstree.specs.Node.{Tree}
-use Rattle.dstree.specs.Matching.{bound, LeafBound, leaves, before, placed, sorted, readingOrder}
+use Rattle.dstree.specs.Matching.{LeafBound, leaves, before, placed, sorted, readingOrder}
 use Rattle.dstree.proofs.Reading.{with-bound, from-leaves}
-use Rattle.best_first.specs.BestFirst.{keyOf, boundIn, numberIn, readOn}
-use Rattle.best_first.proofs.Shape.{nodeKey}
+use Rattle.best_first.specs.NodeKeys.{keyOf, boundIn, numberIn, leafIn, nodeKey}
 
 abbrev keyIn : LeafBound → ℕ
 keyIn a = keyOf (a .bound) (a .number)
@@ -87,33 +86,32 @@ sorted-keys (all-more {a} {rest = l} h hs) =
     let ih = sorted-keys hs in
     placed-keys a h (small-sorted hs) (rw ih (sorted-pour (map keyIn l) [] tt)) ∙ ap (insertKey (keyIn a)) ih ∙ sym (pour-cons (keyIn a) (map keyIn l) [])
 
--- ---- one search
+-- ---- the leaves of a tree
 
-module _ {S : Type 0} (stop : S → ℕ → Bool) (read : S → ℕ → S) where
-  -- leaves are read by their keys, in order, until the next bound is one to stop at
-  unfoldable pub readKeys : List ℕ → S → S
-  readKeys [] s = s
-  readKeys (x ∷ xs) s = let onward = readKeys xs (read s (numberIn x)) in if stop s (boundIn x) then s else onward
+module _ (tree : Tree) (query : Trace) (few : length tree ≤ 8192) where
+  keys-of : (l : List ℕ) → map keyIn (map (with-bound tree query) l) ≡ map (nodeKey tree query) l
+  keys-of [] = refl
+  keys-of (i ∷ l) = ap (λ (m : List ℕ). nodeKey tree query i ∷ m) (keys-of l)
 
-  by-keys : {l : List LeafBound} (s : S) → All Small l → readKeys (map keyIn l) s ≡ readOn stop read s l
-  unfolding readKeys readOn
-  by-keys s all-none = refl
-  by-keys s (all-more {a} {rest = l} h hs) =
-      let p : numberIn (keyIn a) ≡ a .number = omega arith in
-      let q : boundIn (keyIn a) ≡ a .bound = omega arith in
-      rw (p, q, by-keys (read s (a .number)) hs)
+  small-leaves : All Small (map (with-bound tree query) (leaves tree))
+  small-leaves = all-map (with-bound tree query) (λ i h. h) (all-in {P = λ (i : ℕ). i < 8192} (leaves tree) (λ i j. omega (arith, from-leaves tree j .0)))
 
-  module _ (tree : Tree) (query : Trace) (few : length tree ≤ 8192) where
-    keys-of : (l : List ℕ) → map keyIn (map (with-bound tree query) l) ≡ map (nodeKey tree query) l
-    keys-of [] = refl
-    keys-of (i ∷ l) = ap (λ (m : List ℕ). nodeKey tree query i ∷ m) (keys-of l)
+  small-reading : All Small (readingOrder tree query)
+  unfolding readingOrder
+  small-reading = small-sorted small-leaves
 
-    small-leaves : All Small (map (with-bound tree query) (leaves tree))
-    small-leaves = all-map (with-bound tree query) (λ i h. h) (all-in {P = λ (i : ℕ). i < 8192} (leaves tree) (λ i j. omega (arith, from-leaves tree j .0)))
+  -- the leaves' keys in order are those of document 01's order of reading
+  reading-keys : map keyIn (readingOrder tree query) ≡ sortedOf (map (nodeKey tree query) (leaves tree))
+  unfolding readingOrder
+  reading-keys = sorted-keys small-leaves ∙ ap sortedOf (keys-of (leaves tree))
 
-    -- the leaves' keys in order are document 01's order of reading
-    pub in-reading-order : (s : S) → readKeys (sortedOf (map (nodeKey tree query) (leaves tree))) s ≡ readOn stop read s (readingOrder tree query)
-    unfolding readingOrder
-    in-reading-order s =
-        let L = map (with-bound tree query) (leaves tree) in
-        ap (λ (l : List ℕ). readKeys l s) (sym (sorted-keys small-leaves ∙ ap sortedOf (keys-of (leaves tree)))) ∙ by-keys s (small-sorted small-leaves)
+  -- .. and the leaves of those keys are it
+  pub leaves-in-order : map leafIn (sortedOf (map (nodeKey tree query) (leaves tree))) ≡ readingOrder tree query
+  leaves-in-order = ap (map leafIn) (sym reading-keys) ∙ back small-reading
+    where
+      back : {l : List LeafBound} → All Small l → map leafIn (map keyIn l) ≡ l
+      back all-none = refl
+      back (all-more {a} {rest = l} h hs) =
+          let p : numberIn (keyIn a) ≡ a .number = omega arith in
+          let q : boundIn (keyIn a) ≡ a .bound = omega arith in
+          rw (p, q, back hs)

@@ -1,2 +1,4 @@
--- Best-first search, and the search that goes through leaves in order.
-pub mod BestFirst
+-- The key that a node waits by, what the order of reading asks of a tree, and the leaves that waiting keys stand for.
+pub mod NodeKeys
+pub mod Branching
+pub mod Waiting

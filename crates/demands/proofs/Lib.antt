@@ -1,8 +1,4 @@
--- The theorem over lists of calls.
-pub mod Library
-pub mod Judging
-pub mod Steps
-pub mod Query
-pub mod RoundTrips
-pub mod OneCall
-pub mod Demands
+-- A call by its contract follows its definition, and the theorem.
+pub mod Follows
+pub mod Replies
+pub mod Theorem

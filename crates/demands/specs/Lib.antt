@@ -1,5 +1,3 @@
--- Lists of calls, each by its own contract, and what holds after them: document 01's demands over lists of calls.
-pub mod Library
-pub mod Requests
-pub mod Ran
-pub mod Demands
+-- What calls of the code did, by their own contracts, and the theorem: the demands hold of them.
+pub mod Did
+pub mod Theorem

@@ -2,7 +2,6 @@
 use mathlib.Core.Path.{_≡_, refl, sym, _∙_, ap, subst}
 use mathlib.Core.Logic.{_⊎_, inl, inr}
 use mathlib.Core.Bool.{Bool, true, false, not}
-use mathlib.Core.Option.{some}
 use mathlib.Core.List.{List, [], _∷_, _++_, foldl, append-assoc, append-nil}
 use Prim.Native.Nat.{ℕ}
 use native.Mathlib.Omega.{arith}
@@ -11,7 +10,7 @@ use lib.Signed.{ltZ, leZ, ltZ-yes, ltZ-no, leZ-yes}
 use lib.Dec.{T}
 use Rattle.integer.specs.Words.{if_then_else_, every}
 use Rattle.integer.proofs.Order.{_<ℤ_, _≤ℤ_, ≤ℤ→, <ℤ→, →<ℤ}
-use Rattle.integer.proofs.Lists.{In, first, later, in-cons, in-nil, in-append, every-of, from-every}
+use Rattle.integer.proofs.Lists.{In, later, in-cons, in-nil, in-append, every-of, from-every}
 use Rattle.dstree.specs.Adding.{Split, bestOf}
 use Rattle.dstree.specs.Claims.{Wins, Winning}
 
@@ -34,7 +33,8 @@ module _ (gainOf : Split → ℤ) where
       behind x (inr i) = no-more x (from-every (λ s. leZ (gainOf s) (gainOf a)) (w .later) (w .no-more-behind) i)
 
       at : (x : Split) → In x (w .earlier) ⊎ In x (a ∷ w .later) → T (ltZ (gainOf x) (gainOf b))
-      at x (inl i) = →<ℤ {a = gainOf x} {b = gainOf b} (omega (arith, <ℤ→ {a = gainOf x} {b = gainOf a} (ltZ-yes (from-every (λ s. ltZ (gainOf s) (gainOf a)) (w .earlier) (w .less-before) i)), <ℤ→ k)) .lt
+      at x (inl i) = →<ℤ {a = gainOf x} {b = gainOf b}
+          (omega (arith, <ℤ→ {a = gainOf x} {b = gainOf a} (ltZ-yes (from-every (λ s. ltZ (gainOf s) (gainOf a)) (w .earlier) (w .less-before) i)), <ℤ→ k)) .lt
       at x (inr i) = behind x (in-cons i)
 
   wins-more : (all : List Split) (a b : Split) → Wins gainOf all a → Wins gainOf (all ++ (b ∷ [])) (better a b)
@@ -64,7 +64,8 @@ module _ (gainOf : Split → ℤ) where
 
   wins-all : (all : List Split) (a : Split) → Wins gainOf all a → (more : List Split) → Wins gainOf (all ++ more) (foldl better a more)
   wins-all all a w [] = subst (λ (l : List Split). Wins gainOf l a) (sym (append-nil all)) w
-  wins-all all a w (b ∷ more) = subst (λ (l : List Split). Wins gainOf l (foldl better (better a b) more)) (append-assoc all (b ∷ []) more) (wins-all (all ++ (b ∷ [])) (better a b) (wins-more all a b w) more)
+  wins-all all a w (b ∷ more) = subst (λ (l : List Split). Wins gainOf l (foldl better (better a b) more))
+      (append-assoc all (b ∷ []) more) (wins-all (all ++ (b ∷ [])) (better a b) (wins-more all a b w) more)
 
 -- "Among the candidates that part the leaf the greatest gain wins, the earliest among equals"
 pub winning : Winning

@@ -12,7 +12,6 @@ use lib.Seq.{drop-drop}
 use lib.Dec.{T}
 use Rattle.integer.specs.Words.{if_then_else_}
 use Rattle.integer.proofs.Tests.{is-true}
-use Rattle.integer.proofs.Lists.{}
 use Rattle.segment.specs.Figures.{distance}
 use Rattle.segment.proofs.Sums.{distance-cut}
 use Rattle.segment.proofs.Bound.{segment-bound}
@@ -22,16 +21,25 @@ use Rattle.dstree.specs.Node.{Segment, Node, Tree, nodeAt, ends, totalOv
 use Rattle.dstree.specs.Matching.{boundOn, ownBound, hasChild, parentFrom, boundFrom, bound}
 use Rattle.dstree.specs.Claims.{Below, under}
 use Rattle.dstree.proofs.Ranges.{CoveredOn, Covered, covered-none, covered-more}
-use Rattle.dstree.proofs.Cuts.{Rises, rises-none, rises-more, parted-rises, RunIn}
-use Rattle.dstree.proofs.Invariant.{Inv, below-number, below-node}
+use Rattle.dstree.specs.Formed.{RunIn}
+use Rattle.dstree.proofs.Cuts.{Rises, rises-none, rises-more, parted-rises}
+use Rattle.dstree.proofs.Below.{below-stored, below-inside}
+use Rattle.dstree.proofs.Containing.{Containing}
 
 -- ---- a node's own bound
 
 -- "(g² + h²) / w, .. rounded up" is at most the distance on the segment
-term-at-most : (query y : Trace) (on : Run) (s : Segment) → CoveredOn y on s → length (samplesOn on query) ≡ width on → length (samplesOn on y) ≡ width on → 0 < width on → boundOn query on s ≤ distance (samplesOn on query) (samplesOn on y)
+term-at-most : (query y : Trace) (on : Run) (s : Segment) → CoveredOn y on s → length (samplesOn on query) ≡ width on
+    → length (samplesOn on y) ≡ width on → 0 < width on → boundOn query on s ≤ distance (samplesOn on query) (samplesOn on y)
 unfolding boundOn
 term-at-most query y on s h lq ly w =
-    segment-bound (record { width = width on; leastSum = s .leastSum; greatestSum = s .greatestSum; leastScatter = s .leastScatter; greatestScatter = s .greatestScatter }) (samplesOn on query) (samplesOn on y) (lq ∙ sym ly)
+    segment-bound (record {
+      width = width on;
+      leastSum = s .leastSum;
+      greatestSum = s .greatestSum;
+      leastScatter = s .leastScatter;
+      greatestScatter = s .greatestScatter;
+    }) (samplesOn on query) (samplesOn on y) (lq ∙ sym ly)
     (record { width-is = ly; sum-above = h .sum-low; sum-below = h .sum-high; scatter-above = h .scatter-low; scatter-below = h .scatter-high }) w
 
 samples-are : (f e : ℕ) (x : Trace) → samplesOn (run (suc f) e) x ≡ take (suc e - suc f) (drop f x)
@@ -52,7 +60,8 @@ module _ (n : ℕ) (query y : Trace) (lq : length query ≡ n) (ly : length y �
       let e : f + (suc (s .end) - suc f) ≡ s .end = omega arith in
       let d : ℕ = suc (s .end) - suc f in
       let t : boundOn query (run (suc f) (s .end)) s ≤ distance (take d (drop f query)) (take d (drop f y)) =
-      rw (samples-are f (s .end) query, samples-are f (s .end) y) at (term-at-most query y (run (suc f) (s .end)) s h (samples-length (run (suc f) (s .end)) query i lq) (samples-length (run (suc f) (s .end)) y i ly) (omega arith)) in
+      rw (samples-are f (s .end) query, samples-are f (s .end) y) at
+      (term-at-most query y (run (suc f) (s .end)) s h (samples-length (run (suc f) (s .end)) query i lq) (samples-length (run (suc f) (s .end)) y i ly) (omega arith)) in
       let o : totalOver (boundOn query) (suc (s .end)) rest ≤ distance (drop d (drop f query)) (drop d (drop f y)) =
       rw (drop-drop d f query, drop-drop d f y, e) (parts-at-most (s .end) w r) in
       omega (arith, distance-cut d (drop f query) (drop f y), t, o)
@@ -81,7 +90,8 @@ parent-from number (a ∷ rest) child = by (hasChild child (a .kind)) refl (pare
         none-has zero t = subst T e t
         none-has (suc j) t = f j t
 
-    by : (b : Bool) → hasChild child (a .kind) ≡ b → Found rest child (suc number) (parentFrom (suc number) rest child) → Found (a ∷ rest) child number (if b then some number else parentFrom (suc number) rest child)
+    by : (b : Bool) → hasChild child (a .kind) ≡ b → Found rest child (suc number) (parentFrom (suc number) rest child)
+        → Found (a ∷ rest) child number (if b then some number else parentFrom (suc number) rest child)
     by true e ih = let q : number + 0 ≡ number = omega arith in subst (λ (k : ℕ). Found (a ∷ rest) child number (some k)) q (found 0 (is-true e))
     by false e ih = on e (parentFrom (suc number) rest child) ih
 
@@ -93,7 +103,8 @@ parent-has tree child p e = by (parentFrom 0 tree child) (parent-from 0 tree chi
     by o (not-found f) q = let z : _≡_ {A = ℕ} 0 1 = cc in absurd (omega arith)
 
 -- of any tree whose children are numbered above their parent, and have one parent each, as well-formed tables have
-module _ (tree : Tree) (child-above : (p c : ℕ) → T (hasChild c (nodeAt tree p .kind)) → (p < c) × (c < length tree)) (one-parent : (p q c : ℕ) → T (hasChild c (nodeAt tree p .kind)) → T (hasChild c (nodeAt tree q .kind)) → p ≡ q) (query : Trace) where
+module _ (tree : Tree) (child-above : (p c : ℕ) → T (hasChild c (nodeAt tree p .kind)) → (p < c) × (c < length tree))
+    (one-parent : (p q c : ℕ) → T (hasChild c (nodeAt tree p .kind)) → T (hasChild c (nodeAt tree q .kind)) → p ≡ q) (query : Trace) where
   -- the only parent is found
   pub parent-is : (parent child : ℕ) → T (hasChild child (nodeAt tree parent .kind)) → parentFrom 0 tree child ≡ some parent
   parent-is parent child h = by (parentFrom 0 tree child) (parent-from 0 tree child)
@@ -118,7 +129,8 @@ module _ (tree : Tree) (child-above : (p c : ℕ) → T (hasChild c (nodeAt tree
   fuel-enough (suc fuel) (suc more) number h k = by (parentFrom 0 tree number) refl (fuel-enough fuel more)
     where
       by : (o : Option ℕ) → parentFrom 0 tree number ≡ o → ((p : ℕ) → p < fuel → p < more → boundFrom fuel tree query p ≡ boundFrom more tree query p)
-          → max (ownBound query (nodeAt tree number)) (elim o [ none ↦ 0 | some parent ↦ boundFrom fuel tree query parent ]) ≡ max (ownBound query (nodeAt tree number)) (elim o [ none ↦ 0 | some parent ↦ boundFrom more tree query parent ])
+          → max (ownBound query (nodeAt tree number)) (elim o [ none ↦ 0 | some parent ↦ boundFrom fuel tree query parent ]) ≡ max
+          (ownBound query (nodeAt tree number)) (elim o [ none ↦ 0 | some parent ↦ boundFrom more tree query parent ])
       by none e ih = refl
       by (some p) e ih =
           let l : p < number = child-above p number (parent-has tree number p e) .0 in
@@ -141,16 +153,19 @@ module _ (tree : Tree) (child-above : (p c : ℕ) → T (hasChild c (nodeAt tree
 
 -- ---- at most the distance
 
-module _ (n : ℕ) (stored : List Trace) (tree : Tree) (inv : Inv n stored tree) (query : Trace) (all-n : (t : ℕ) → t < length stored → length (getD stored t []) ≡ n) (lq : length query ≡ n) where
+module _ (n : ℕ) (stored : List Trace) (tree : Tree) (c : Containing n stored tree) (query : Trace) (all-n : (t : ℕ) → t < length stored → length (getD stored t []) ≡ n) (lq : length query ≡ n) where
   pub own-at-most : (t k : ℕ) → Below tree t k → ownBound query (nodeAt tree k) ≤ distance query (getD stored t [])
-  own-at-most t k b = own-within n query (getD stored t []) lq (all-n t (below-number n stored tree inv b)) (nodeAt tree k) (inv .ranges t k b) (parted-rises (inv .fits k (below-node n stored tree inv b) .parted))
+  own-at-most t k b = own-within n query (getD stored t []) lq (all-n t (below-stored (c .shape) b)) (nodeAt tree k) (c .ranges t k b)
+      (parted-rises (c .shape .fits k (below-inside (c .shape) b) .parted))
 
   from-at-most : (fuel t k : ℕ) → Below tree t k → boundFrom fuel tree query k ≤ distance query (getD stored t [])
   unfolding boundFrom
   from-at-most zero t k b = omega arith
-  from-at-most (suc fuel) t k b = omega (arith, own-at-most t k b, by (parentFrom 0 tree k) refl (λ (p : ℕ) (c : Below tree t p). from-at-most fuel t p c))
+  from-at-most (suc fuel) t k b = omega (arith, own-at-most t k b, by (parentFrom 0 tree k) refl (λ (p : ℕ) (a : Below tree t p). from-at-most fuel t p a))
     where
-      by : (o : Option ℕ) → parentFrom 0 tree k ≡ o → ((p : ℕ) → Below tree t p → boundFrom fuel tree query p ≤ distance query (getD stored t [])) → elim o [ none ↦ 0 | some parent ↦ boundFrom fuel tree query parent ] ≤ distance query (getD stored t [])
+      by : (o : Option ℕ) → parentFrom 0 tree k ≡ o
+          → ((p : ℕ) → Below tree t p → boundFrom fuel tree query p ≤ distance query (getD stored t []))
+          → elim o [ none ↦ 0 | some parent ↦ boundFrom fuel tree query parent ] ≤ distance query (getD stored t [])
       by none e ih = omega arith
       by (some p) e ih = ih p (under (parent-has tree k p e) b)
 

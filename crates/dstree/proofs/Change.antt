@@ -12,7 +12,7 @@ use Rattle.integer.specs.Words.{if_then_else_, lastOf}
 use Rattle.integer.proofs.Lists.{In, first, later, in-nil, in-cons, last-in, set-cases}
 use Rattle.dstree.specs.Measures.{Trace}
 use Rattle.dstree.specs.Node.{Test, Kind, leaf, inner, Node, node, Tree, nodeAt, changeAt, goesLeft}
-use Rattle.dstree.specs.Adding.{nextNode, wayFrom, widen, widenAll, joinKind, join}
+use Rattle.dstree.specs.Adding.{nextNode, wayFrom, way, widen, widenAll, joinKind, join}
 use Rattle.dstree.specs.Matching.{hasChild}
 use Rattle.dstree.specs.WellFormed.{childrenOf}
 use Rattle.dstree.proofs.Formed.{nothing, is-node, child-in, in-child}
@@ -67,7 +67,9 @@ pub way-closed : (fuel : ℕ) (tree : Tree) (x : Trace) (at : ℕ) {c : ℕ} →
 unfolding wayFrom
 way-closed (suc fuel) tree x at {c} i = by (nextNode (nodeAt tree at .kind) x) refl (in-cons i) (λ (child : ℕ) (j : In c (wayFrom fuel tree x child)). way-closed fuel tree x child j)
   where
-    by : (o : Option ℕ) → nextNode (nodeAt tree at .kind) x ≡ o → (c ≡ at) ⊎ In c (elim o [ none ↦ [] | some child ↦ wayFrom fuel tree x child ]) → ((child : ℕ) → In c (wayFrom fuel tree x child) → (c ≡ child) ⊎ ParentIn tree x c (wayFrom fuel tree x child))
+    by : (o : Option ℕ) → nextNode (nodeAt tree at .kind) x ≡ o
+        → (c ≡ at) ⊎ In c (elim o [ none ↦ [] | some child ↦ wayFrom fuel tree x child ]) →
+        ((child : ℕ) → In c (wayFrom fuel tree x child) → (c ≡ child) ⊎ ParentIn tree x c (wayFrom fuel tree x child))
         → (c ≡ at) ⊎ ParentIn tree x c (at ∷ elim o [ none ↦ [] | some child ↦ wayFrom fuel tree x child ])
     by o e (inl p) ih = inl p
     by none e (inr j) ih = absurd (in-nil j)
@@ -88,7 +90,8 @@ pub record LeafAt (tree : Tree) (k : ℕ) : Type 0 where
   pub inside : k < length tree
 
 -- the way ends at a leaf, and has what its end has if each step keeps it: Q of a node leads to Q of the node that the trace goes to
-pub way-ends : (tree : Tree) (x : Trace) (Q : ℕ → Type 0) → ((p c : ℕ) → T (hasChild c (nodeAt tree p .kind)) → (p < c) × (c < length tree)) → ((p c : ℕ) → nextNode (nodeAt tree p .kind) x ≡ some c → Q p → Q c)
+pub way-ends : (tree : Tree) (x : Trace) (Q : ℕ → Type 0)
+    → ((p c : ℕ) → T (hasChild c (nodeAt tree p .kind)) → (p < c) × (c < length tree)) → ((p c : ℕ) → nextNode (nodeAt tree p .kind) x ≡ some c → Q p → Q c)
     → (fuel at : ℕ) → at < length tree → length tree ≤ at + fuel → Q at → LeafAt tree (lastOf (wayFrom fuel tree x at)) × Q (lastOf (wayFrom fuel tree x at))
 unfolding wayFrom nextNode
 way-ends tree x Q child step zero at h f q = absurd (omega arith)
@@ -101,12 +104,26 @@ way-ends tree x Q child step (suc fuel) at h f q = by (nodeAt tree at .kind) ref
     on zero c f g ih = absurd (omega arith)
     on (suc fuel) c f g ih = ih
 
-    by : (a : Kind) → nodeAt tree at .kind ≡ a → ((c : ℕ) → c < length tree → length tree ≤ c + fuel → Q c → End (wayFrom fuel tree x c)) → End (at ∷ elim (nextNode a x) [ none ↦ [] | some child ↦ wayFrom fuel tree x child ])
+    by : (a : Kind) → nodeAt tree at .kind ≡ a → ((c : ℕ) → c < length tree → length tree ≤ c + fuel → Q c → End (wayFrom fuel tree x c))
+        → End (at ∷ elim (nextNode a x) [ none ↦ [] | some child ↦ wayFrom fuel tree x child ])
     by (leaf numbers) e ih = (record { numbers = numbers; is = e; inside = h }, q)
     by (inner test l r) e ih =
         let c : ℕ = if goesLeft test x then l else r in
         let k : (at < c) × (c < length tree) = child at c (rw e (next-child x c (inner test l r) refl)) in
         on fuel c (omega (arith, k .0)) (k .1) (ih c (k .1) (omega (arith, k .0)) (step at c (rw e refl) q))
+
+module _ (tree : Tree) (x : Trace) (child : (p c : ℕ) → T (hasChild c (nodeAt tree p .kind)) → (p < c) × (c < length tree)) (some-node : 0 < length tree) where
+  -- the way meets nodes of the tree only ..
+  pub way-inside : (j : ℕ) → In j (way tree x) → j < length tree
+  way-inside j i = by (way-closed (length tree) tree x 0 i)
+    where
+      by : (j ≡ 0) ⊎ ParentIn tree x j (way tree x) → j < length tree
+      by (inl e) = omega arith
+      by (inr q) = child (q .parent) j (next-child x j (nodeAt tree (q .parent) .kind) (q .next)) .1
+
+  -- .. and ends at a leaf
+  pub way-leaf : LeafAt tree (lastOf (way tree x))
+  way-leaf = way-ends tree x (λ k. Unit) child (λ p c e q. tt) (length tree) 0 some-node (omega arith) tt .0
 
 -- ---- widening
 
@@ -120,14 +137,16 @@ unfolding widenAll widen
 widen-kind x [] tree k = refl
 widen-kind x (at ∷ rest) tree k =
     widen-kind x rest (changeAt tree at (widen x)) k
-    ∙ set-cases nothing (λ (n : Node). n .kind ≡ nodeAt tree k .kind) tree at (widen x (nodeAt tree at)) k (λ e h. ap (λ (j : ℕ). nodeAt tree j .kind) (sym e)) (λ f h. refl) (λ h. ap (λ (n : Node). n .kind) (sym (List·getD-eq-default tree nothing h)))
+    ∙ set-cases nothing (λ (n : Node). n .kind ≡ nodeAt tree k .kind) tree at (widen x (nodeAt tree at)) k
+    (λ e h. ap (λ (j : ℕ). nodeAt tree j .kind) (sym e)) (λ f h. refl) (λ h. ap (λ (n : Node). n .kind) (sym (List·getD-eq-default tree nothing h)))
 
 pub widen-keeps : (x y : Trace) (met : List ℕ) (tree : Tree) (k : ℕ) → Covered y 1 (nodeAt tree k .segments) → Covered y 1 (nodeAt (widenAll x met tree) k .segments)
 unfolding widenAll
 widen-keeps x y [] tree k w = w
 widen-keeps x y (at ∷ rest) tree k w =
     widen-keeps x y rest (changeAt tree at (widen x)) k
-    (set-cases nothing (λ (n : Node). Covered y 1 (n .segments)) tree at (widen x (nodeAt tree at)) k (λ e h. widen-kept x y (nodeAt tree at) (subst (λ (j : ℕ). Covered y 1 (nodeAt tree j .segments)) e w)) (λ f h. w) (λ h. covered-none))
+    (set-cases nothing (λ (n : Node). Covered y 1 (n .segments)) tree at (widen x (nodeAt tree at)) k
+    (λ e h. widen-kept x y (nodeAt tree at) (subst (λ (j : ℕ). Covered y 1 (nodeAt tree j .segments)) e w)) (λ f h. w) (λ h. covered-none))
 
 pub widen-gets : (x : Trace) {met : List ℕ} (tree : Tree) {k : ℕ} → In k met → Covered x 1 (nodeAt (widenAll x met tree) k .segments)
 unfolding widenAll
@@ -147,10 +166,13 @@ module _ (number at : ℕ) (tree : Tree) where
   pub join-segments : (k : ℕ) → nodeAt (join number at tree) k .segments ≡ nodeAt tree k .segments
   unfolding join
   join-segments k =
-      set-cases nothing (λ (n : Node). n .segments ≡ nodeAt tree k .segments) tree at (node (nodeAt tree at .segments) (joinKind number (nodeAt tree at .kind))) k (λ e h. ap (λ (j : ℕ). nodeAt tree j .segments) (sym e)) (λ f h. refl) (λ h. ap (λ (n : Node). n .segments) (sym (List·getD-eq-default tree nothing h)))
+      set-cases nothing (λ (n : Node). n .segments ≡ nodeAt tree k .segments) tree at
+      (node (nodeAt tree at .segments) (joinKind number (nodeAt tree at .kind))) k
+      (λ e h. ap (λ (j : ℕ). nodeAt tree j .segments) (sym e)) (λ f h. refl) (λ h. ap (λ (n : Node). n .segments) (sym (List·getD-eq-default tree nothing h)))
 
   -- the leaf has one more number, and no other node is changed
-  pub join-kinds : (ns : List ℕ) → nodeAt tree at .kind ≡ leaf ns → (P : Kind → Type 0) (k : ℕ) → (k ≡ at → P (leaf (ns ++ (number ∷ [])))) → ((k ≡ at → ⊥) → P (nodeAt tree k .kind)) → at < length tree → P (nodeAt (join number at tree) k .kind)
+  pub join-kinds : (ns : List ℕ) → nodeAt tree at .kind ≡ leaf ns → (P : Kind → Type 0) (k : ℕ)
+      → (k ≡ at → P (leaf (ns ++ (number ∷ [])))) → ((k ≡ at → ⊥) → P (nodeAt tree k .kind)) → at < length tree → P (nodeAt (join number at tree) k .kind)
   unfolding join joinKind
   join-kinds ns is-leaf P k here other inside =
       set-cases nothing (λ (n : Node). P (n .kind)) tree at (node (nodeAt tree at .segments) (joinKind number (nodeAt tree at .kind))) k

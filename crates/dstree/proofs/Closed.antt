@@ -12,15 +12,18 @@ use native.Mathlib.Nat.{lt-of-not-le}
 use lib.ListN.{length, getD, length-map}
 use lib.Dec.{T, T-not, leb, leb→le, le→leb}
 use Rattle.integer.specs.Words.{every, isIn, isEmpty, total}
-use Rattle.integer.proofs.Lists.{In, first, in-is, is-in, some-in, in-getD, in-map, InMap, of, from-map, map-agree, InFlat, flat, from-flat, in-flat, agree-in, from-those, in-those, every-of, from-every, All, all-in, Some, some-of, least-low, least-in, those-apart, no-fewer}
+use Rattle.integer.proofs.Lists.{In, first, in-is, is-in, some-in, in-getD, in-map, InMap, of, from-map, map-agree, InFlat, flat}
+use Rattle.integer.proofs.Lists.{from-flat, in-flat, agree-in, from-those, in-those, every-of, from-every, All, all-in, Some, some-of}
+use Rattle.integer.proofs.Lists.{least-low, least-in, those-apart, no-fewer}
 use Rattle.segment.specs.Figures.{distance}
 use Rattle.dstree.specs.Measures.{Trace}
 use Rattle.dstree.specs.Node.{Kind, leaf, inner, Tree, nodeAt}
 use Rattle.dstree.specs.Adding.{tracesOf}
-use Rattle.dstree.specs.Matching.{bound, LeafBound, isLeaf, numbersIn, leaves, readingOrder, Near, Search, distancesIn, searchOn, searched, answerOf, matchBySteps, leastDistance, lowestAt, leavesR, matchOf}
-use Rattle.dstree.specs.Claims.{held, numbersAmong, LeavesOutOnlyAbove, ClaimsOf}
-use Rattle.dstree.proofs.Formed.{Kept, number-node}
-use Rattle.dstree.proofs.Invariant.{Inv}
+use Rattle.dstree.specs.Matching.{bound, LeafBound, isLeaf, numbersIn, leaves, readingOrder, Near, Search, distancesIn, searchOn}
+use Rattle.dstree.specs.Matching.{searched, answerOf, matchBySteps, leastDistance, lowestAt, leavesR, matchOf}
+use Rattle.dstree.specs.Claims.{held, numbersAmong, LeavesOutOnlyAbove, ClaimsOf, ClaimsOfExact}
+use Rattle.dstree.proofs.Formed.{Kept, number-node, formed}
+use Rattle.dstree.proofs.Containing.{Containing, of-exact}
 use Rattle.dstree.proofs.Bounds.{bound-at-most}
 use Rattle.dstree.proofs.Reading.{from-leaves, in-leaves, reading-of, in-reading, reading-in-order, reading-apart}
 use Rattle.dstree.proofs.Search.{Far, Hit, Alike, readAll, reads-R, nearsOf, read-trail, read-traces, read-best, Low, lowest, near, IsNear, is-near, winner}
@@ -33,7 +36,8 @@ module _ (stored : List Trace) (tree : Tree) (query : Trace) where
 
   pub trail-has : {k : ℕ} → In k (leaves tree) → bound tree query k ≤ leastDistance stored query → In k trail
   unfolding matchOf leavesR
-  trail-has {k} i h = in-map (λ (a : LeafBound). a .number) (in-those (λ a. leb (a .bound) (leastDistance stored query)) (in-reading tree query i) (le→leb (bound tree query k) (leastDistance stored query) h))
+  trail-has {k} i h = in-map (λ (a : LeafBound). a .number)
+      (in-those (λ a. leb (a .bound) (leastDistance stored query)) (in-reading tree query i) (le→leb (bound tree query k) (leastDistance stored query) h))
 
   pub from-trail : {k : ℕ} → In k trail → In k (leaves tree) × (bound tree query k ≤ leastDistance stored query)
   unfolding matchOf leavesR
@@ -57,11 +61,13 @@ module _ (stored : List Trace) (tree : Tree) (query : Trace) where
   unfolding leastDistance
   least-at-most t h = least-low (in-map (distance query) (in-getD stored t [] h))
 
-  module _ (n : ℕ) (inv : Inv n stored tree) where
+  module _ (n : ℕ) (c : Containing n stored tree) where
     of-numbers : (numbers : List ℕ) (t : ℕ) → In t numbers → ((u : ℕ) → In u numbers → u < length stored) → leastDistance stored query ≤ leastDistance (tracesOf stored numbers) query
     unfolding leastDistance
     of-numbers numbers t i h =
-        at (leastDistance (tracesOf stored numbers) query) (from-map (distance query) (tracesOf stored numbers) (least-in (map (distance query) (tracesOf stored numbers)) (some-in (in-map (distance query) (in-map (λ (k : ℕ). getD stored k []) i)))))
+        at (leastDistance (tracesOf stored numbers) query)
+        (from-map (distance query) (tracesOf stored numbers)
+        (least-in (map (distance query) (tracesOf stored numbers)) (some-in (in-map (distance query) (in-map (λ (k : ℕ). getD stored k []) i)))))
       where
         to : (x : Trace) → InMap (λ (k : ℕ). getD stored k []) x numbers → leastDistance stored query ≤ distance query x
         to x (of u j e) = rw e (least-at-most u (h u j))
@@ -74,7 +80,7 @@ module _ (stored : List Trace) (tree : Tree) (query : Trace) where
     among-stored set u i = by (from-flat (λ (number : ℕ). numbersIn (nodeAt tree number .kind)) set i)
       where
         by : InFlat (λ (number : ℕ). numbersIn (nodeAt tree number .kind)) u set → u < length stored
-        by (flat k j g) = inv .numbers u k (in-is g)
+        by (flat k j g) = c .shape .numbers u k (in-is g)
 
     -- a leaf has a trace
     record Has (k : ℕ) : Type 0 where
@@ -90,11 +96,12 @@ module _ (stored : List Trace) (tree : Tree) (query : Trace) where
         one (t ∷ l) e h = record { trace = t; holds = rw e first }
 
         by : (a : Kind) → nodeAt tree k .kind ≡ a → T (isLeaf a) → Has k
-        by (leaf l) e t = one l e (inv .full k (from-leaves tree i .0) l e)
+        by (leaf l) e t = one l e (c .shape .full k (from-leaves tree i .0) l e)
         by (inner test l r) e t = absurd t
 
     -- no distance in some leaves, one or more, is below d
-    set-least : (set : List ℕ) → T (not (isEmpty set)) → T (every (λ number. isIn number (leaves tree)) set) → leastDistance stored query ≤ leastDistance (tracesOf stored (numbersAmong tree set)) query
+    set-least : (set : List ℕ) → T (not (isEmpty set)) → T (every (λ number. isIn number (leaves tree)) set)
+        → leastDistance stored query ≤ leastDistance (tracesOf stored (numbersAmong tree set)) query
     unfolding numbersAmong isEmpty
     set-least [] t e = absurd t
     set-least (k ∷ set) t e =
@@ -123,11 +130,13 @@ module _ (stored : List Trace) (tree : Tree) (query : Trace) where
 
 -- ---- the search
 
-answer-is : (s : Search) (w : Near) (trail : List ℕ) (traces : ℕ) → s .best ≡ some w → s .trail ≡ trail → s .traces ≡ traces → answerOf s (s .best) ≡ some (record { trace = w .trace; distance = w .distance; leaves = length trail; traces = traces; trail = trail })
+answer-is : (s : Search) (w : Near) (trail : List ℕ) (traces : ℕ) → s .best ≡ some w → s .trail ≡ trail → s .traces ≡ traces → answerOf s
+    (s .best) ≡ some (record { trace = w .trace; distance = w .distance; leaves = length trail; traces = traces; trail = trail })
 unfolding answerOf
 answer-is s w trail traces b t n = rw (b, t, n)
 
-module _ (n : ℕ) (stored : List Trace) (tree : Tree) (inv : Inv n stored tree) (all-n : (t : ℕ) → t < length stored → length (getD stored t []) ≡ n) (query : Trace) (lq : length query ≡ n) (one : 0 < length stored) where
+module _ (n : ℕ) (stored : List Trace) (tree : Tree) (c : Containing n stored tree)
+    (all-n : (t : ℕ) → t < length stored → length (getD stored t []) ≡ n) (query : Trace) (lq : length query ≡ n) (one : 0 < length stored) where
   abbrev d : ℕ
   d = leastDistance stored query
 
@@ -150,7 +159,7 @@ module _ (n : ℕ) (stored : List Trace) (tree : Tree) (inv : Inv n stored tree)
 
   leaf-of : (t : ℕ) → t < length stored → LeafOf t
   unfolding isLeaf numbersIn isIn
-  leaf-of t h = by (inv .kept t h)
+  leaf-of t h = by (c .shape .kept t h)
     where
       leafy : (a : Kind) → T (isIn t (numbersIn a)) → T (isLeaf a)
       leafy (leaf l) i = tt
@@ -161,7 +170,7 @@ module _ (n : ℕ) (stored : List Trace) (tree : Tree) (inv : Inv n stored tree)
         at = k .at;
         is-leaf = in-leaves tree (number-node tree t (k .at) (k .holds)) (leafy (nodeAt tree (k .at) .kind) (k .holds));
         holds = is-in t (numbersIn (nodeAt tree (k .at) .kind)) (k .holds);
-        low = bound-at-most n stored tree inv query all-n lq (k .at) t (held (k .holds));
+        low = bound-at-most n stored tree c query all-n lq (k .at) t (held (k .holds));
       }
 
   in-distances : (t k : ℕ) → In t (numbersIn (nodeAt tree k .kind)) → In (near stored query t) (distancesIn stored tree query k)
@@ -173,7 +182,7 @@ module _ (n : ℕ) (stored : List Trace) (tree : Tree) (inv : Inv n stored tree)
   from-distances k {b} i = by (from-map (near stored query) (numbersIn (nodeAt tree k .kind)) i)
     where
       by : InMap (near stored query) b (numbersIn (nodeAt tree k .kind)) → IsNear stored query b
-      by (of t j e) = is-near t (inv .numbers t k (in-is j)) e
+      by (of t j e) = is-near t (c .shape .numbers t k (in-is j)) e
 
   far : All (Far stored tree query d) order
   far = all-in order (λ a i. all-in (distancesIn stored tree query (a .number)) (λ b j. by b (from-distances (a .number) j)))
@@ -203,7 +212,8 @@ module _ (n : ℕ) (stored : List Trace) (tree : Tree) (inv : Inv n stored tree)
   nears-have : (t : ℕ) → t < length stored → distance query (getD stored t []) ≡ d → In (near stored query t) (nearsOf stored tree query d R)
   unfolding leavesR
   nears-have t h e =
-      in-flat (λ (a : LeafBound). distancesIn stored tree query (a .number)) (in-those (λ a. leb (a .bound) d) (in-reading tree query (o .is-leaf)) (le→leb (bound tree query (o .at)) d (omega (arith, o .low)))) (in-distances t (o .at) (o .holds))
+      in-flat (λ (a : LeafBound). distancesIn stored tree query (a .number))
+      (in-those (λ a. leb (a .bound) d) (in-reading tree query (o .is-leaf)) (le→leb (bound tree query (o .at)) d (omega (arith, o .low)))) (in-distances t (o .at) (o .holds))
     where
       o : LeafOf t
       o = leaf-of t h
@@ -223,7 +233,8 @@ module _ (n : ℕ) (stored : List Trace) (tree : Tree) (inv : Inv n stored tree)
       (read-traces stored tree query d start R ∙ omega arith))
 
   -- other traces that agree with these in R
-  agree-alike : (other : List Trace) → tracesOf other (numbersAmong tree (trail stored tree query)) ≡ tracesOf stored (numbersAmong tree (trail stored tree query)) → (a : LeafBound) → In a order → Alike stored tree query d other a
+  agree-alike : (other : List Trace)
+      → tracesOf other (numbersAmong tree (trail stored tree query)) ≡ tracesOf stored (numbersAmong tree (trail stored tree query)) → (a : LeafBound) → In a order → Alike stored tree query d other a
   unfolding numbersAmong distancesIn
   agree-alike other e a i h =
       map-agree (near other query) (near stored query) (numbersIn (nodeAt tree (a .number) .kind))
@@ -232,10 +243,15 @@ module _ (n : ℕ) (stored : List Trace) (tree : Tree) (inv : Inv n stored tree)
 
   pub claims-of : ClaimsOf stored tree query
   claims-of = record {
-    bound-at-most = bound-at-most n stored tree inv query all-n lq;
+    bound-at-most = bound-at-most n stored tree c query all-n lq;
     steps-give-it = alike-gives stored (all-in order (λ a i h. refl));
     others-do-not-bear = λ other e. alike-gives other (all-in order (agree-alike other e));
     out-of-R = out-of-R stored tree query;
-    contains-R = contains-R stored tree query n inv;
-    fewest = fewest stored tree query n inv;
+    contains-R = contains-R stored tree query n c;
+    fewest = fewest stored tree query n c;
   }
+
+-- of any well-formed tree with exact ranges, whoever made it
+pub match-exact : ClaimsOfExact
+match-exact limit m stored tree e query one lq =
+    claims-of (m .n) stored tree (of-exact stored tree (formed limit m (length stored) tree (e .well-formed)) (e .ranges)) (e .of-n) query lq one

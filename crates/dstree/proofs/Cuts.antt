@@ -9,13 +9,13 @@ use lib.ListN.{length, List·getD-eq-default}
 use lib.Dec.{ltb, leb}
 use Rattle.integer.specs.Words.{if_then_else_}
 use borrow.Author.Tests.{ltb-true, ltb-false, leb-true}
-use Rattle.integer.proofs.Lists.{In, first, later, All, all-none, all-more, all-append, set-cases}
+use Rattle.integer.proofs.Lists.{In, first, later, in-nil, All, all-none, all-more, all-append, set-cases}
 use Rattle.dstree.specs.Measures.{Trace}
 use Rattle.dstree.specs.Figures.{Run, run}
 use Rattle.dstree.specs.Node.{Segment, Node, Tree, nodeAt, changeAt, ends, changeAll}
 use Rattle.dstree.specs.Adding.{widenSegment, widen, widenAll, segmentOf, segmentsFrom, newLeaf, Candidate, byEither, cutAt, leftHalfEnd, halves, candidatesFrom, candidates}
 use Rattle.dstree.proofs.Formed.{nothing}
-use Rattle.dstree.proofs.Parted.{Parted, p-last, p-more, Fits}
+use Rattle.dstree.specs.Formed.{Parted, p-last, p-more, Fits, RunIn}
 
 -- right ends that rise from `from` on, to n at most
 pub data Rises (n : ℕ) : ℕ → List ℕ → Type 0 where
@@ -26,15 +26,19 @@ parted-low : {n from : ℕ} {l : List ℕ} → Parted n from l → from ≤ n
 parted-low (p-last h) = h
 parted-low (p-more h p) = omega (arith, parted-low p)
 
+parted-end : {n from e : ℕ} {l : List ℕ} → Parted n from l → In e l → e ≤ n
+parted-end (p-last h) first = omega arith
+parted-end (p-last h) (later i) = absurd (in-nil i)
+parted-end (p-more h p) first = omega (arith, parted-low p)
+parted-end (p-more h p) (later i) = parted-end p i
+
+-- no end lies behind sample n
+pub ends-low : {n e : ℕ} {es : List ℕ} → Fits n es → In e es → e ≤ n
+ends-low f i = parted-end (f .parted) i
+
 pub parted-rises : {n from : ℕ} {l : List ℕ} → Parted n from l → Rises n from l
 parted-rises (p-last h) = rises-more h (omega arith) rises-none
 parted-rises (p-more h p) = rises-more h (omega (arith, parted-low p)) (parted-rises p)
-
--- "a run inside 1 to n", of one sample or more
-pub record RunIn (n : ℕ) (r : Run) : Type 0 where
-  pub from-one : 1 ≤ r .first
-  pub some-sample : r .first ≤ r .last
-  pub to-n : r .last ≤ n
 
 -- ---- a cut
 
@@ -112,7 +116,8 @@ module _ (n : ℕ) (all : List ℕ) (fits : Fits n all) where
       middle : ℕ
       middle = leftHalfEnd (run from e)
 
-      by : (b c : Bool) → ltb (length all) 16 ≡ b → leb 2 (suc e - from) ≡ c → All (FitsAs n all) (if b && c then byEither (run from middle) (cutAt middle all) ++ byEither (run (suc middle) e) (cutAt middle all) else [])
+      by : (b c : Bool) → ltb (length all) 16 ≡ b → leb 2 (suc e - from) ≡ c
+          → All (FitsAs n all) (if b && c then byEither (run from middle) (cutAt middle all) ++ byEither (run (suc middle) e) (cutAt middle all) else [])
       by true true p q =
           let k : (from ≤ middle) × (middle < e) = middle-in from e (leb-true 2 (suc e - from) q) in
           let f : Fits n (cutAt middle all) = record { parted = cut-parted (fits .parted) (inside middle (k .0) (k .1)); few = rw (cut-length middle all) (ltb-true (length all) 16 p) } in
@@ -145,7 +150,9 @@ unfolding widenAll widen
 widen-ends x [] tree k = refl
 widen-ends x (at ∷ rest) tree k =
     widen-ends x rest (changeAt tree at (widen x)) k
-    ∙ set-cases nothing (λ (n : Node). ends (n .segments) ≡ ends (nodeAt tree k .segments)) tree at (widen x (nodeAt tree at)) k (λ e h. changed-ends x 1 (nodeAt tree at .segments) ∙ ap (λ (j : ℕ). ends (nodeAt tree j .segments)) (sym e)) (λ f h. refl) (λ h. ap (λ (n : Node). ends (n .segments)) (sym (List·getD-eq-default tree nothing h)))
+    ∙ set-cases nothing (λ (n : Node). ends (n .segments) ≡ ends (nodeAt tree k .segments)) tree at (widen x (nodeAt tree at)) k
+    (λ e h. changed-ends x 1 (nodeAt tree at .segments) ∙ ap (λ (j : ℕ). ends (nodeAt tree j .segments)) (sym e)) (λ f h. refl)
+    (λ h. ap (λ (n : Node). ends (n .segments)) (sym (List·getD-eq-default tree nothing h)))
 
 from-ends : (from : ℕ) (es : List ℕ) (traces : List Trace) → ends (segmentsFrom from es traces) ≡ es
 unfolding segmentsFrom segmentOf

@@ -9,15 +9,94 @@ use Rattle.segment.specs.Limits.{sumLimit, scatterLimit, largestDistance}
 use Rattle.dstree.specs.Measures.{sampleLimit, inRange, samplesNeeded, recordsNeeded, linksNeeded, workNeeded, isTrace, isLibrary}
 use Rattle.dstree.specs.Figures.{samplesOn}
 use Rattle.dstree.specs.Node.{figureOf, goesLeft, totalOver, changeAll}
-use Rattle.dstree.specs.Adding.{nextNode, wayFrom, widenSegment, widen, widenAll, joinKind, join, segmentOf, segmentsFrom, newLeaf, byEither, cutAt, leftHalfEnd, halves, candidatesFrom, spreadOn, spread, thresholdOf, testOf, splitBy, parts, gain, bestOf, best, splitInto, splitKind, splitNew, insertion, grown}
-use Rattle.dstree.specs.Matching.{boundOn, ownBound, hasChild, parentFrom, boundFrom, isLeaf, numbersIn, leaves, before, placed, sorted, readingOrder, nearer, bestWith, distancesIn, readLeaf, isAbove, searchOn, searched, answerOf, matchBySteps, leastDistance, lowestAt, leavesR, matchOf}
-use Rattle.dstree.specs.WellFormed.{rising, everyNode, childrenOf, childrenAbove, childOnce, endsFit, endsKept, leafFits, inOneLeaf, withinℤ, segmentFits, segmentsFit, thresholdFits, testFits, nodeFits, wellFormed}
+use Rattle.dstree.specs.Adding.{nextNode, wayFrom, widenSegment, widen, widenAll, joinKind, join, segmentOf, segmentsFrom, newLeaf}
+use Rattle.dstree.specs.Adding.{byEither, cutAt, leftHalfEnd, halves, candidatesFrom, spreadOn, spread, thresholdOf, testOf}
+use Rattle.dstree.specs.Adding.{splitBy, parts, gain, bestOf, best, splitInto, splitKind, splitNew, insertion, grown}
+use Rattle.dstree.specs.Matching.{boundOn, ownBound, hasChild, parentFrom, boundFrom, isLeaf, numbersIn, leaves, before, placed}
+use Rattle.dstree.specs.Matching.{sorted, readingOrder, readOn, nearer, bestWith, distancesIn, readLeaf, isAbove, searchOn}
+use Rattle.dstree.specs.Matching.{searched, answerOf, matchBySteps, leastDistance, lowestAt, leavesR, matchOf}
+use Rattle.dstree.specs.WellFormed.{rising, everyNode, childrenOf, childrenAbove, childOnce, endsFit, endsKept, leafFits, inOneLeaf}
+use Rattle.dstree.specs.WellFormed.{withinℤ, segmentFits, segmentsFit, thresholdFits, testFits, nodeFits, wellFormed}
 use Rattle.dstree.specs.Refusals.{numberOf, placeOf, firstOf}
-use Rattle.dstree.specs.Sheet.{areBytes, bytesOf, numberIn, pieces, filledTo, blockSize, carriedSize, narrow, kindOf, weighted, checkOf, sealed, block, blocksFrom, letters, headOf, coded, sampleBlocksNeeded, blocksNeeded, carriedOf, blocksOf, sheetOf, blocksIn, measuresIn, countIn, decoded, sampleBytesIn, tracesIn, isWrongLength, isTorn, tornConditions, areZero, zerosIn, badConditions, sheetConditions, heldBy, judgedBy, judgeSheet}
-use Rattle.dstree.specs.Book.{controlShort, tablesShort, readingConditions, conditions, judge, putRead, put, putUnless, turn, after, start, isNone, canStart, accepted, acceptedUnless, answer, answers}
+use Rattle.dstree.specs.Sheet.{areBytes, bytesOf, numberIn, pieces, filledTo, kindOf, weighted, checkOf, sealed, block, blocksFrom}
+use Rattle.dstree.specs.Sheet.{letters, headOf, coded, sampleBlocksNeeded, blocksNeeded, carriedOf, blocksOf, sheetAs}
+use Rattle.dstree.specs.Sheet.{blocksIn, measuresIn, countIn, decoded, sampleBytesIn, tracesIn, isWrongLength, isTorn}
+use Rattle.dstree.specs.Sheet.{tornConditions, areZero, zerosIn, badConditions, conditionsAs, libraryIn, judgedBy, judgeAs}
+use Rattle.dstree.specs.Book.{besideOf, controlShort, tablesShort, readingConditions, putRead, openingEntry, addingEntry}
+use Rattle.dstree.specs.Book.{matchingEntry, writingEntry, readingEntry}
+use Rattle.dstree.specs.Book.{entryOf, judge, putUnless, turn, after, replyUnless, replyOf, repliesOf, start}
 use Rattle.dstree.specs.Program.{refusalLine, matchLine, lineOf, judgedLine, programLine, digitsFrom, decimal, spaced, text, printed}
 use Rattle.dstree.specs.Claims.{numbersAmong}
 
+unfoldable wordsOpen : Unit {0}
+unfolding flatten roundedUp total counting those every chosen isEmpty isIn timesIn same
+wordsOpen = tt
+
+unfoldable figuresOpen : Unit {0}
+unfolding sum sumOfSquares scatter distance fallingFrom floorRoot ceilingRoot sumGap scatterGap boundTerm spreadTerm totalBound sumLimit
+figuresOpen = tt
+
+unfoldable figuresOpen2 : Unit {0}
+unfolding scatterLimit largestDistance
+figuresOpen2 = tt
+
+unfoldable nodesOpen : Unit {0}
+unfolding sampleLimit inRange samplesNeeded recordsNeeded linksNeeded workNeeded isTrace isLibrary samplesOn figureOf goesLeft totalOver
+nodesOpen = tt
+
+unfoldable nodesOpen2 : Unit {0}
+unfolding changeAll
+nodesOpen2 = tt
+
+unfoldable addingOpen : Unit {0}
+unfolding nextNode wayFrom widenSegment widen widenAll joinKind join segmentOf segmentsFrom newLeaf byEither cutAt leftHalfEnd halves
+addingOpen = tt
+
+unfoldable addingOpen2 : Unit {0}
+unfolding candidatesFrom spreadOn spread thresholdOf testOf splitBy parts gain bestOf best splitInto splitKind splitNew insertion grown
+addingOpen2 = tt
+
+unfoldable matchingOpen : Unit {0}
+unfolding boundOn ownBound hasChild parentFrom boundFrom isLeaf numbersIn leaves before placed sorted readingOrder readOn nearer bestWith
+matchingOpen = tt
+
+unfoldable matchingOpen2 : Unit {0}
+unfolding distancesIn readLeaf isAbove searchOn searched answerOf matchBySteps leastDistance lowestAt leavesR matchOf
+matchingOpen2 = tt
+
+unfoldable rulesOpen : Unit {0}
+unfolding rising everyNode childrenOf childrenAbove childOnce endsFit endsKept leafFits inOneLeaf withinℤ segmentFits segmentsFit
+rulesOpen = tt
+
+unfoldable rulesOpen2 : Unit {0}
+unfolding thresholdFits testFits nodeFits wellFormed numberOf placeOf firstOf
+rulesOpen2 = tt
+
+unfoldable sheetsOpen : Unit {0}
+unfolding areBytes bytesOf numberIn pieces filledTo kindOf weighted checkOf sealed block blocksFrom letters headOf coded
+sheetsOpen = tt
+
+unfoldable sheetsOpen2 : Unit {0}
+unfolding sampleBlocksNeeded blocksNeeded carriedOf blocksOf sheetAs blocksIn measuresIn countIn decoded sampleBytesIn tracesIn
+sheetsOpen2 = tt
+
+unfoldable sheetTestsOpen : Unit {0}
+unfolding isWrongLength isTorn tornConditions areZero zerosIn badConditions conditionsAs libraryIn judgedBy judgeAs
+sheetTestsOpen = tt
+
+unfoldable booksOpen : Unit {0}
+unfolding besideOf controlShort tablesShort readingConditions putRead openingEntry addingEntry matchingEntry writingEntry readingEntry
+booksOpen = tt
+
+unfoldable booksOpen2 : Unit {0}
+unfolding entryOf judge putUnless turn after replyUnless replyOf repliesOf start
+booksOpen2 = tt
+
+unfoldable linesOpen : Unit {0}
+unfolding refusalLine matchLine lineOf judgedLine programLine digitsFrom decimal spaced text printed numbersAmong
+linesOpen = tt
+
 unfoldable pub everything : Unit {0}
-unfolding flatten roundedUp total counting those every chosen isEmpty isIn timesIn same sum sumOfSquares scatter distance fallingFrom floorRoot ceilingRoot sumGap scatterGap boundTerm spreadTerm totalBound sumLimit scatterLimit largestDistance sampleLimit inRange samplesNeeded recordsNeeded linksNeeded workNeeded isTrace isLibrary samplesOn figureOf goesLeft totalOver changeAll nextNode wayFrom widenSegment widen widenAll joinKind join segmentOf segmentsFrom newLeaf byEither cutAt leftHalfEnd halves candidatesFrom spreadOn spread thresholdOf testOf splitBy parts gain bestOf best splitInto splitKind splitNew insertion grown boundOn ownBound hasChild parentFrom boundFrom isLeaf numbersIn leaves before placed sorted readingOrder nearer bestWith distancesIn readLeaf isAbove searchOn searched answerOf matchBySteps leastDistance lowestAt leavesR matchOf rising everyNode childrenOf childrenAbove childOnce endsFit endsKept leafFits inOneLeaf withinℤ segmentFits segmentsFit thresholdFits testFits nodeFits wellFormed numberOf placeOf firstOf areBytes bytesOf numberIn pieces filledTo blockSize carriedSize narrow kindOf weighted checkOf sealed block blocksFrom letters headOf coded sampleBlocksNeeded blocksNeeded carriedOf blocksOf sheetOf blocksIn measuresIn countIn decoded sampleBytesIn tracesIn isWrongLength isTorn tornConditions areZero zerosIn badConditions sheetConditions heldBy judgedBy judgeSheet controlShort tablesShort readingConditions conditions judge putRead put putUnless turn after start isNone canStart accepted acceptedUnless answer answers refusalLine matchLine lineOf judgedLine programLine digitsFrom decimal spaced text printed numbersAmong
+unfolding wordsOpen figuresOpen figuresOpen2 nodesOpen nodesOpen2 addingOpen addingOpen2 matchingOpen matchingOpen2 rulesOpen rulesOpen2
+    sheetsOpen sheetsOpen2 sheetTestsOpen booksOpen booksOpen2 linesOpen
 everything = tt

@@ -71,23 +71,29 @@ module _ (stored : List Trace) (x : Trace) (number : ℕ) (at-number : getD stor
       })
       (changed-reached P p w)
 
-  pub widen-reached : (P : ℕ → ℕ → Type 0) (met : List ℕ) (tree : Tree) → ((k : ℕ) → In k met → P k number) → ((k : ℕ) → AllReached stored (P k) 1 (nodeAt tree k .segments)) → (k : ℕ) → AllReached stored (P k) 1 (nodeAt (widenAll x met tree) k .segments)
+  pub widen-reached : (P : ℕ → ℕ → Type 0) (met : List ℕ) (tree : Tree) → ((k : ℕ) → In k met → P k number)
+      → ((k : ℕ) → AllReached stored (P k) 1 (nodeAt tree k .segments)) → (k : ℕ) → AllReached stored (P k) 1 (nodeAt (widenAll x met tree) k .segments)
   unfolding widenAll widen
   widen-reached P [] tree on all k = all k
   widen-reached P (at ∷ rest) tree on all k =
       widen-reached P rest (changeAt tree at (widen x)) (λ k i. on k (later i))
-      (λ k. set-cases nothing (λ (a : Node). AllReached stored (P k) 1 (a .segments)) tree at (widen x (nodeAt tree at)) k (λ e h. changed-reached (P k) (rw e (on at first)) (subst (λ (j : ℕ). AllReached stored (P k) 1 (nodeAt tree j .segments)) e (all k))) (λ f h. all k) (λ h. reached-none)) k
+      (λ k. set-cases nothing (λ (a : Node). AllReached stored (P k) 1 (a .segments)) tree at (widen x (nodeAt tree at)) k
+      (λ e h. changed-reached (P k) (rw e (on at first)) (subst (λ (j : ℕ). AllReached stored (P k) 1 (nodeAt tree j .segments)) e (all k))) (λ f h. all k) (λ h. reached-none)) k
 
 -- ---- a new leaf
 
 module _ (stored : List Trace) (numbers : List ℕ) (one : 0 < length numbers) where
-  pub of-chosen : {A : Type 0} (f : Trace → A) (choice : A → A → A) (either : (a b : A) → (choice a b ≡ a) ⊎ (choice a b ≡ b)) (other : A) → Of (λ (t : ℕ). In t numbers) (λ (t : ℕ). f (getD stored t [])) (chosen choice other (map f (tracesOf stored numbers)))
-  of-chosen {A} f choice either other = by (from-map f (tracesOf stored numbers) (chosen-in choice either other (map f (tracesOf stored numbers)) (rw (length-map (tracesOf stored numbers) f, length-map numbers (λ (k : ℕ). getD stored k [])) one)))
+  pub of-chosen : {A : Type 0} (f : Trace → A) (choice : A → A → A) (either : (a b : A)
+      → (choice a b ≡ a) ⊎ (choice a b ≡ b)) (other : A) → Of (λ (t : ℕ). In t numbers) (λ (t : ℕ). f (getD stored t [])) (chosen choice other (map f (tracesOf stored numbers)))
+  of-chosen {A} f choice either other = by
+      (from-map f (tracesOf stored numbers)
+      (chosen-in choice either other (map f (tracesOf stored numbers)) (rw (length-map (tracesOf stored numbers) f, length-map numbers (λ (k : ℕ). getD stored k [])) one)))
     where
       to : (c : A) (y : Trace) → c ≡ f y → InMap (λ (k : ℕ). getD stored k []) y numbers → Of (λ (t : ℕ). In t numbers) (λ (t : ℕ). f (getD stored t [])) c
       to c y e (of t i p) = record { trace = t; below = i; is = e ∙ ap f p }
 
-      by : InMap f (chosen choice other (map f (tracesOf stored numbers))) (tracesOf stored numbers) → Of (λ (t : ℕ). In t numbers) (λ (t : ℕ). f (getD stored t [])) (chosen choice other (map f (tracesOf stored numbers)))
+      by : InMap f (chosen choice other (map f (tracesOf stored numbers))) (tracesOf stored numbers)
+          → Of (λ (t : ℕ). In t numbers) (λ (t : ℕ). f (getD stored t [])) (chosen choice other (map f (tracesOf stored numbers)))
       by (of y i e) = to (chosen choice other (map f (tracesOf stored numbers))) y e (from-map (λ (k : ℕ). getD stored k []) numbers i)
 
   from-reached : (from : ℕ) (es : List ℕ) → AllReached stored (λ (t : ℕ). In t numbers) from (segmentsFrom from es (tracesOf stored numbers))

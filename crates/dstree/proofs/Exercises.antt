@@ -21,10 +21,10 @@ use Rattle.dstree.specs.Matching.{ownBound, parentFrom, bound, LeafBound
 use Rattle.dstree.specs.Claims.{numbersAmong}
 use Rattle.dstree.specs.WellFormed.{wellFormed}
 use Rattle.dstree.specs.Refusals.{Refusal, measure, shortTable, spoiled, wrongTrace, full, empty, shortTrail, sheetLength, tornBlock, badSheet, numberOf, placeOf, _refuses_, firstOf}
-use Rattle.dstree.specs.Sheet.{bytesOf, numberIn, part, narrow, kindOf, weighted, checkOf, block, headOf, coded, blocksNeeded, blocksOf, sheetOf, decoded, isWrongLength, isTorn, refused, holds, judgeSheet}
-use Rattle.dstree.specs.Book.{Layout, Lent, Call, opening, adding, matching, writing, reading, Book, book, judge, after, start, canStart, Answer, done, added, matched, written, refusing, answers}
+use Rattle.dstree.specs.Sheet.{bytesOf, numberIn, part, narrow, kindOf, weighted, checkOf, block, headOf, coded, blocksNeeded}
+use Rattle.dstree.specs.Sheet.{blocksOf, sheetOf, decoded, isWrongLength, isTorn, refused, holds, judgeSheet}
 use Rattle.dstree.specs.Program as program
-use Rattle.dstree.specs.Examples.{level, C, ABC, tree, gains, found, twins}
+use Rattle.dstree.specs.Examples.{level, ABC, tree, gains, found, twins}
 use Rattle.dstree.proofs.Notation.{+, −, seg, test}
 use Rattle.dstree.proofs.Everything.{everything}
 
@@ -457,7 +457,7 @@ long = map pos (counting 254 1) ∷ []
 
 -- the bytes of a block from a place on
 abbrev inBlock : ℕ → ℕ → ℕ → List ℕ
-inBlock number place k = part place k (getD (blocksOf (measures 254 1 1) long) number [])
+inBlock number place k = part place k (getD (blocksOf narrow (measures 254 1 1) long) number [])
 
 -- n = 2, capacity 8, leaf size 2, seven traces and a query
 abbrev eight : List Trace
@@ -474,14 +474,14 @@ pub record SheetExamples : Type 0 where
   pub coded-samples : map (coded narrow) (+ 32767 ∷ + 1 ∷ + 0 ∷ − 1 ∷ − 32768 ∷ []) ≡ (255 ∷ 127 ∷ []) ∷ (1 ∷ 0 ∷ []) ∷ (0 ∷ 0 ∷ []) ∷ (255 ∷ 255 ∷ []) ∷ (0 ∷ 128 ∷ []) ∷ []
   pub decoded-samples : map (decoded narrow) ((255 ∷ 127 ∷ []) ∷ (1 ∷ 0 ∷ []) ∷ (0 ∷ 0 ∷ []) ∷ (255 ∷ 255 ∷ []) ∷ (0 ∷ 128 ∷ []) ∷ []) ≡ + 32767 ∷ + 1 ∷ + 0 ∷ − 1 ∷ − 32768 ∷ []
   -- "kind, 1 for block 0, 2 for others"
-  pub kinds : map kindOf (0 ∷ 1 ∷ 4145 ∷ []) ≡ 1 ∷ 2 ∷ 2 ∷ []
+  pub kinds : map (kindOf narrow) (0 ∷ 1 ∷ 4145 ∷ []) ≡ 1 ∷ 2 ∷ 2 ∷ []
   -- "total of (position + 1) × byte over positions 0 to 509, modulo 65,521": 1 × 5 + 2 × 6 + 3 × 7; then 255 at every position
   pub weights : weighted 0 (5 ∷ 6 ∷ 7 ∷ []) ≡ 38
   pub check-of-255 : checkOf (replicate 512 255) ≡ 8628
   -- "In block 0 bytes 4 to 7 hold the letters TRCL (ASCII), then two bytes each for n, capacity, leaf size, trace count"
   pub head : headOf (measures 256 4096 64) 513 ≡ 84 ∷ 82 ∷ 67 ∷ 76 ∷ 0 ∷ 1 ∷ 0 ∷ 16 ∷ 64 ∷ 0 ∷ 1 ∷ 2 ∷ []
   -- "Bytes 0 to 1: block number", "Byte 3: 0", "All else is 0": block 258, which carries one byte
-  pub block-258 : block 258 (9 ∷ []) ≡ 2 ∷ 1 ∷ 2 ∷ 0 ∷ 9 ∷ (replicate 505 0 ++ 55 ∷ 0 ∷ [])
+  pub block-258 : block 2 258 (9 ∷ []) ≡ 2 ∷ 1 ∷ 2 ∷ 0 ∷ 9 ∷ (replicate 505 0 ++ 55 ∷ 0 ∷ [])
   -- "253 samples each from byte 4, .. running on across blocks"
   pub sample-253 : inBlock 1 508 2 ≡ 253 ∷ 0 ∷ []
   pub sample-254 : inBlock 2 4 4 ≡ 254 ∷ 0 ∷ 0 ∷ 0 ∷ []
@@ -499,7 +499,7 @@ pub record SheetExamples : Type 0 where
   -- 8, "reading: 0, not a multiple of 512, above 4,146 blocks"
   pub lengths : map isWrongLength (0 ∷ 511 ∷ 512 ∷ 513 ∷ 2122752 ∷ 2123264 ∷ []) ≡ true ∷ true ∷ false ∷ true ∷ false ∷ true ∷ []
   -- 9, the check: one that is 0, and the same with 65,521 in its place
-  pub check-field : map (λ edits. isTorn 1 (edited ((0, 1) ∷ (2, 2) ∷ (233, 1) ∷ (509, 128) ∷ edits) (replicate 512 0))) ([] ∷ ((510, 241) ∷ (511, 255) ∷ []) ∷ []) ≡ false ∷ true ∷ []
+  pub check-field : map (λ edits. isTorn narrow 1 (edited ((0, 1) ∷ (2, 2) ∷ (233, 1) ∷ (509, 128) ∷ edits) (replicate 512 0))) ([] ∷ ((510, 241) ∷ (511, 255) ∷ []) ∷ []) ≡ false ∷ true ∷ []
   -- "9 over all blocks", the place being "the first block at fault"
   pub torn : judgeSheet (edited ((516, 20) ∷ []) sheet) ≡ refused (tornBlock 1)
 
@@ -634,138 +634,15 @@ pub record ProgramExamples : Type 0 where
   -- "A refusal prints `refused`, number, place"
   pub damaged : map (λ (d : Damage). program.programLine (take (d .size) (edited (d .edits) sheet))) damages ≡ map (λ (d : Damage). d .line) damages
   -- a block too many: it is torn, or the number of blocks is wrong
-  pub more-blocks : map (λ more. program.programLine (sheet ++ more)) (replicate 512 0 ∷ block 2 [] ∷ []) ≡ program.refusedLine 9 2 ∷ program.refusedLine 10 0 ∷ []
+  pub more-blocks : map (λ more. program.programLine (sheet ++ more)) (replicate 512 0 ∷ block 2 2 [] ∷ []) ≡ program.refusedLine 9 2 ∷ program.refusedLine 10 0 ∷ []
   -- "No earlier trace is refusal 6": one trace, none
   pub no-earlier : map (λ traces. program.programLine (sheetOf (measures 2 8 2) traces)) ((take 1 eight) ∷ [] ∷ []) ≡ program.refusedLine 6 0 ∷ program.refusedLine 6 0 ∷ []
   -- "tables for n ≤ 64 and capacity ≤ 64; .. a larger n or capacity refusal 2", and that before 6: no sheet here has a trace
-  pub too-large : map (λ m. program.programLine (sheetOf m [])) (measures 64 64 2 ∷ measures 65 64 2 ∷ measures 64 65 2 ∷ []) ≡ program.refusedLine 6 0 ∷ program.refusedLine 2 0 ∷ program.refusedLine 2 0 ∷ []
+  pub too-large : map (λ m. program.programLine (sheetOf m [])) (measures 64 64 2 ∷ measures 65 64 2 ∷ measures 64 65 2 ∷ [])
+      ≡ program.refusedLine 6 0 ∷ program.refusedLine 2 0 ∷ program.refusedLine 2 0 ∷ []
   -- "one sheet of at most 65,536 bytes ..; a longer input is refusal 8": 128 blocks of zeros are torn, 129 are too long, torn or not
   pub too-long : map (λ size. program.programLine (replicate size 0)) (65536 ∷ 66048 ∷ []) ≡ program.refusedLine 9 0 ∷ program.refusedLine 8 0 ∷ []
 
 pub program-examples : ProgramExamples
 unfolding everything
 program-examples = record { printed = refl; printed-match = refl; printed-refusal = refl; digits = refl; damaged = refl; more-blocks = refl; no-earlier = refl; too-large = refl; too-long = refl }
-
--- ---- "Demand 3, over a list of calls"
-
--- a layout: 5 control fields, 87 places a record
-abbrev layout : Layout
-layout = record { controlFields = 5; recordPlaces = 87 }
-
-abbrev lent : ℕ → ℕ → ℕ → ℕ → ℕ → Lent
-lent control samples nodes links work = record { control = control; samples = samples; nodes = nodes; links = links; work = work }
-
--- exactly what n = 4 and capacity 3 need; more than that; nothing
-abbrev exact : Lent
-exact = lent 5 12 435 3 5
-
-abbrev ample : Lent
-ample = lent 6 99 999 9 9
-
-abbrev nothing : Lent
-nothing = lent 0 0 0 0 0
-
--- one sample, where n is 4
-abbrev short : Trace
-short = + 1 ∷ []
-
--- the sheet of A, B, C for capacity 3, and for capacity 8, which needs larger tables
-abbrev sheet3 : List ℕ
-sheet3 = sheetOf (measures 4 3 2) ABC
-
-abbrev sheet8 : List ℕ
-sheet8 = sheetOf (measures 4 8 2) ABC
-
-abbrev opened : Book
-opened = start (opening exact (measures 4 3 2))
-
--- a call with its answer
-pub record Turn : Type 0 where
-  pub call : Call
-  pub answer : Answer
-
-infix 60 _gives_
-abbrev _gives_ : Call → Answer → Turn
-call gives answer = record { call = call; answer = answer }
-
--- a list of calls on the tables of an opening with n = 4, capacity 3, leaf size 2
-abbrev pub turns : List Turn
-turns =
-    -- 6, also with a trail of no place; 4 before it
-    (matching exact (level 1) 0 gives refusing empty)
-    ∷ (matching exact short 0 gives refusing wrongTrace)
-    -- a library without traces has one block
-    ∷ (writing exact 512 gives written 1 (sheetOf (measures 4 3 2) []))
-    ∷ (adding exact (level 0) gives added 0)
-    -- 2 at each table, and before 4
-    ∷ (adding (lent 4 12 435 3 5) (level 4) gives refusing shortTable)
-    ∷ (adding (lent 5 11 435 3 5) (level 4) gives refusing shortTable)
-    ∷ (adding (lent 5 12 434 3 5) (level 4) gives refusing shortTable)
-    ∷ (adding (lent 5 12 435 2 5) (level 4) gives refusing shortTable)
-    ∷ (adding (lent 5 12 435 3 4) (level 4) gives refusing shortTable)
-    ∷ (adding (lent 5 12 435 3 4) short gives refusing shortTable)
-    -- 4: too few samples, too many
-    ∷ (adding exact short gives refusing wrongTrace)
-    ∷ (adding exact (+ 1 ∷ level 4) gives refusing wrongTrace)
-    -- a table above the need is no fault
-    ∷ (adding ample (level 4) gives added 1)
-    ∷ (adding exact C gives added 2)
-    -- 5, and 4 before it
-    ∷ (adding exact (level 9) gives refusing full)
-    ∷ (adding exact short gives refusing wrongTrace)
-    -- 7: there are two leaves, though one alone is read; 2 before it
-    ∷ (matching exact (level 1) 1 gives refusing shortTrail)
-    ∷ (matching (lent 5 12 435 3 4) (level 1) 1 gives refusing shortTable)
-    ∷ (matching exact (level 1) 2 gives matched (found 0 4 1 1 (1 ∷ [])))
-    ∷ (matching ample (level 2) 9 gives matched (found 0 16 2 3 (1 ∷ 2 ∷ [])))
-    -- 8: one byte below the need; 2 before it
-    ∷ (writing exact 1023 gives refusing sheetLength)
-    ∷ (writing (lent 5 12 435 3 4) 1023 gives refusing shortTable)
-    ∷ (writing exact 1024 gives written 2 sheet3)
-    ∷ (writing exact 2000 gives written 2 sheet3)
-    -- 1, and before 2
-    ∷ (opening exact (measures 4 3 65) gives refusing measure)
-    ∷ (opening nothing (measures 0 3 2) gives refusing measure)
-    ∷ (opening exact (measures 4 4 2) gives refusing shortTable)
-    ∷ (opening (lent 4 12 435 3 5) (measures 4 3 2) gives refusing shortTable)
-    -- "Reading: 8; 9 over all blocks; 10; 2"
-    ∷ (reading nothing [] gives refusing sheetLength)
-    ∷ (reading nothing (take 1023 sheet8) gives refusing sheetLength)
-    ∷ (reading nothing (edited ((4, 85) ∷ (510, 144) ∷ (516, 1) ∷ []) sheet8) gives refusing (tornBlock 1))
-    ∷ (reading nothing (edited ((4, 85) ∷ (510, 144) ∷ []) sheet8) gives refusing badSheet)
-    ∷ (reading exact sheet8 gives refusing shortTable)
-    ∷ (reading (lent 4 12 435 3 5) sheet3 gives refusing shortTable)
-    -- "A refused call changes nothing"
-    ∷ (matching exact (level 4) 2 gives matched (found 1 0 1 2 (2 ∷ [])))
-    -- a reading puts another library, an opening again another
-    ∷ (reading exact (sheetOf (measures 4 3 1) (level 7 ∷ [])) gives done)
-    ∷ (matching exact (level 9) 1 gives matched (found 0 16 1 1 (0 ∷ [])))
-    ∷ (adding exact C gives added 1)
-    ∷ (opening exact (measures 2 2 2) gives done)
-    ∷ (matching exact (+ 1 ∷ + 2 ∷ []) 1 gives refusing empty)
-    ∷ (adding exact (+ 1 ∷ + 2 ∷ []) gives added 0)
-    ∷ []
-
-abbrev calls : List Call
-calls = map (λ (t : Turn). t .call) turns
-
-pub record BookExamples : Type 0 where
-  -- "It starts with what that call puts"
-  pub after-opening : opened ≡ book (measures 4 3 2) []
-  pub after-reading : start (reading exact sheet3) ≡ book (measures 4 3 2) ABC
-  -- "An opening or a sheet reading has just succeeded when it starts": not a refused one, nor another call
-  pub starting : map (canStart layout) (opening exact (measures 4 3 2) ∷ opening exact (measures 4 4 2) ∷ opening exact (measures 4 3 65) ∷ reading exact sheet3 ∷ reading exact sheet8 ∷ reading exact [] ∷ [])
-      ≡ true ∷ false ∷ false ∷ true ∷ false ∷ false ∷ []
-  pub not-starting : map (canStart layout) (adding exact C ∷ matching exact C 3 ∷ writing exact 512 ∷ []) ≡ false ∷ false ∷ false ∷ []
-  -- "judged by arguments and book"
-  pub judged : map (judge layout opened) (adding exact C ∷ matching exact C 3 ∷ []) ≡ none ∷ some empty ∷ []
-  -- "Refusals follow the table"; "Opening and sheet reading answer only that they succeeded, adding the new trace's number, writing the number of blocks"
-  pub answered : answers layout opened calls ≡ map (λ (t : Turn). t .answer) turns
-  -- "An opening puts its measures and no trace. Adding appends its trace. Reading puts the sheet's measures and traces, in order": the book after 4, 35, 38 calls and after all
-  pub books : map (λ k. after layout opened (take k calls)) (4 ∷ 35 ∷ 38 ∷ 41 ∷ [])
-      ≡ book (measures 4 3 2) (level 0 ∷ []) ∷ book (measures 4 3 2) ABC ∷ book (measures 4 3 1) (level 7 ∷ C ∷ []) ∷ book (measures 2 2 2) ((+ 1 ∷ + 2 ∷ []) ∷ []) ∷ []
-  pub all-of-them : length calls ≡ 41
-
-pub book-examples : BookExamples
-unfolding everything
-book-examples = record { after-opening = refl; after-reading = refl; starting = refl; not-starting = refl; judged = refl; answered = refl; books = refl; all-of-them = refl }

@@ -1,5 +1,4 @@
--- Document 01's rules for "Well-formed tables", as far as they speak of the tree, as facts: each rule says of every node, child, trace or segment
--- what the test `wellFormed` computes over lists. The test passes exactly if the facts hold.
+-- The test for well-formed tables passes exactly if the rules hold as facts: `formed` has them of a tree that passes, `well-formed` leads back.
 use Prim.Native.Nat.{ℕ, zero, suc, _+_, _*_, _-_, _≤_, _<_}
 use mathlib.Core.Path.{_≡_, refl, sym, _∙_, ap, subst}
 use mathlib.Core.Bool.{Bool, true, false, not, _&&_, _||_, Bool·beq}
@@ -15,7 +14,7 @@ use mir.Facts.{and-yes, yes-and}
 use borrow.Author.Tests.{eqb-true, eqb-false}
 use Rattle.integer.specs.Words.{every, counting, isEmpty, isIn, timesIn, lastOf}
 use Rattle.integer.proofs.Tests.{Each, passed, passes, eq→eqb}
-use Rattle.integer.proofs.Order.{_≤ℤ_, natAbs-le, le-natAbs}
+use Rattle.integer.proofs.Order.{natAbs-le, le-natAbs}
 use Rattle.integer.proofs.Lists.{In, first, later, is-in, in-is, in-nil, every-of, from-every, in-counting, from-counting, Up, u-none, u-more, InFlat, flat, from-flat, in-flat, in-getD}
 use Rattle.integer.proofs.Times.{times-same, times-other, times-none, times-in, up-once, OnceAt, once-at, times-once, place-of}
 use Rattle.segment.specs.Limits.{sumLimit, scatterLimit}
@@ -23,80 +22,10 @@ use Rattle.dstree.specs.Measures.{Measures, inRange}
 use Rattle.dstree.specs.Figures.{run, width}
 use Rattle.dstree.specs.Node.{Segment, Figure, bySum, byScatter, Test, Kind, leaf, inner, Node, node, Tree, nodeAt, ends}
 use Rattle.dstree.specs.Matching.{hasChild, numbersIn}
-use Rattle.dstree.specs.WellFormed.{rising, everyNode, childrenOf, childrenAbove, childOnce, endsFit, endsKept, leafFits, inOneLeaf, withinℤ, segmentFits, segmentsFit, thresholdFits, testFits, nodeFits, wellFormed}
-use Rattle.dstree.proofs.Parted.{Parted, p-last, p-more, Fits}
-
--- ---- the facts
-
--- a node has a parent
-pub record Parent (tree : Tree) (k : ℕ) : Type 0 where
-  pub parent : ℕ
-  pub has : T (hasChild k (nodeAt tree parent .kind))
-
--- a trace number is in a leaf
-pub record Kept (tree : Tree) (t : ℕ) : Type 0 where
-  pub at : ℕ
-  pub holds : T (isIn t (numbersIn (nodeAt tree at .kind)))
-
--- the figures of a segment that is w wide
-pub record Limited (limit w : ℕ) (s : Segment) : Type 0 where
-  -- "least ≤ greatest"
-  pub sums : s .leastSum ≤ℤ s .greatestSum
-  pub scatters : s .leastScatter ≤ s .greatestScatter
-  -- "sums within w × 32,768 either side of 0"
-  pub least-sum : natAbs (s .leastSum) ≤ sumLimit limit w
-  pub greatest-sum : natAbs (s .greatestSum) ≤ sumLimit limit w
-  -- "scatters 0 to w² × 2^30"
-  pub greatest-scatter : s .greatestScatter ≤ scatterLimit limit w
-
--- .. of each segment, the first from sample `from` on
-pub data AllLimited (limit : ℕ) : ℕ → List Segment → Type 0 where
-  l-none : {from : ℕ} → AllLimited limit from []
-  l-more : {from : ℕ} {s : Segment} {rest : List Segment} → Limited limit (width (run from (s .end))) s → AllLimited limit (suc (s .end)) rest → AllLimited limit from (s ∷ rest)
-
--- "T between twice those limits", on a run that is w wide
-abbrev pub Between : ℕ → Figure → ℕ → ℤ → Type 0
-Between limit bySum w t = natAbs t ≤ 2 * sumLimit limit w
-Between limit byScatter w t = (pos 0 ≤ℤ t) × (t ≤ℤ pos (2 * scatterLimit limit w))
-
-pub record TestIn (limit n : ℕ) (test : Test) : Type 0 where
-  -- "on a run inside 1 to n"
-  pub from-1 : 1 ≤ test .on .first
-  pub run-rises : test .on .first ≤ test .on .last
-  pub to-n : test .on .last ≤ n
-  pub threshold-in : Between limit (test .figure) (width (test .on)) (test .threshold)
-
--- the rules, in the document's order. (That "every kind field [is] a value that its layout names" is said where the layout is)
-pub record Formed (limit : ℕ) (m : Measures) (count : ℕ) (tree : Tree) : Type 0 where
-  -- "measures in range"
-  pub measured : T (inRange m)
-  -- "trace count at most capacity"
-  pub room : count ≤ m .capacity
-  -- "no node exactly when no trace"
-  pub no-trace : length tree ≡ 0 → count ≡ 0
-  pub no-node : count ≡ 0 → length tree ≡ 0
-  -- "inner children numbered above their parent", and nodes
-  pub child : (p c : ℕ) → T (hasChild c (nodeAt tree p .kind)) → (p < c) × (c < length tree)
-  -- "every node but 0 a child once": of some node, of no two, and not both children of one
-  pub parented : (k : ℕ) → 0 < k → k < length tree → Parent tree k
-  pub one-parent : (p q c : ℕ) → T (hasChild c (nodeAt tree p .kind)) → T (hasChild c (nodeAt tree q .kind)) → p ≡ q
-  pub children-differ : (p : ℕ) (test : Test) (left right : ℕ) → nodeAt tree p .kind ≡ inner test left right → left ≡ right → ⊥
-  -- "at most 16 ends, rising, last n"
-  pub fits : (k : ℕ) → k < length tree → Fits (m .n) (ends (nodeAt tree k .segments))
-  -- "a child's ends including its parent's"
-  pub ends-kept : (p c e : ℕ) → T (hasChild c (nodeAt tree p .kind)) → T (isIn e (ends (nodeAt tree p .segments))) → T (isIn e (ends (nodeAt tree c .segments)))
-  -- "every trace number in one leaf", and no other number
-  pub kept : (t : ℕ) → t < count → Kept tree t
-  pub one-leaf : (t j k : ℕ) → T (isIn t (numbersIn (nodeAt tree j .kind))) → T (isIn t (numbersIn (nodeAt tree k .kind))) → j ≡ k
-  pub numbers : (t k : ℕ) → T (isIn t (numbersIn (nodeAt tree k .kind))) → t < count
-  -- "rising there"
-  pub rises : (k : ℕ) (ns : List ℕ) → nodeAt tree k .kind ≡ leaf ns → Up 0 ns
-  -- "no leaf empty"
-  pub full : (k : ℕ) → k < length tree → (ns : List ℕ) → nodeAt tree k .kind ≡ leaf ns → 0 < length ns
-  -- "least ≤ greatest; sums within w × 32,768 either side of 0, scatters 0 to w² × 2^30"
-  pub figures : (k : ℕ) → k < length tree → AllLimited limit 1 (nodeAt tree k .segments)
-  -- "T between twice those limits, on a run inside 1 to n"
-  pub tests : (k : ℕ) (test : Test) (left right : ℕ) → nodeAt tree k .kind ≡ inner test left right → TestIn limit (m .n) test
+use Rattle.dstree.specs.WellFormed.{rising, everyNode, childrenOf, childrenAbove, childOnce, endsFit, endsKept, leafFits, inOneLeaf}
+use Rattle.dstree.specs.WellFormed.{withinℤ, segmentFits, segmentsFit, thresholdFits, testFits, nodeFits, wellFormed}
+pub use Rattle.dstree.specs.Formed.{Parent, Kept, Limited, AllLimited, l-none, l-more, Between, TestIn, Limits, Formed}
+use Rattle.dstree.specs.Formed.{Parted, p-last, p-more, Fits, Shape}
 
 -- ---- every node passes a test
 
@@ -223,7 +152,8 @@ module _ (n : ℕ) (all : List ℕ) where
 
   of-fits : Fits n all → T (endsFit n all)
   unfolding endsFit
-  of-fits f = passes (not (isEmpty all)) endTests (not-empty-some all (parted-some (f .parted)), (le→leb (length all) 16 (f .few), (up-rising 0 (parted-up (f .parted)), eq→eqb (parted-last 0 (f .parted)))))
+  of-fits f = passes (not (isEmpty all)) endTests
+      (not-empty-some all (parted-some (f .parted)), (le→leb (length all) 16 (f .few), (up-rising 0 (parted-up (f .parted)), eq→eqb (parted-last 0 (f .parted)))))
 
 -- ---- limits
 
@@ -237,7 +167,8 @@ of-within x z h = let p = natAbs-le h in yes-and (leZ (negℤ (pos x)) z) (leZ z
 
 module _ (limit w : ℕ) (s : Segment) where
   abbrev segmentTests : List Bool
-  segmentTests = leb (s .leastScatter) (s .greatestScatter) ∷ withinℤ (sumLimit limit w) (s .leastSum) ∷ withinℤ (sumLimit limit w) (s .greatestSum) ∷ leb (s .greatestScatter) (scatterLimit limit w) ∷ []
+  segmentTests = leb (s .leastScatter) (s .greatestScatter) ∷ withinℤ (sumLimit limit w) (s .leastSum) ∷ withinℤ (sumLimit limit w)
+      (s .greatestSum) ∷ leb (s .greatestScatter) (scatterLimit limit w) ∷ []
 
   limited-of : T (segmentFits limit w s) → Limited limit w s
   unfolding segmentFits
@@ -253,8 +184,16 @@ module _ (limit w : ℕ) (s : Segment) where
 
   of-limited : Limited limit w s → T (segmentFits limit w s)
   unfolding segmentFits
-  of-limited l = passes (leZ (s .leastSum) (s .greatestSum)) segmentTests
-      (l .sums .le, (le→leb (s .leastScatter) (s .greatestScatter) (l .scatters), (of-within (sumLimit limit w) (s .leastSum) (l .least-sum), (of-within (sumLimit limit w) (s .greatestSum) (l .greatest-sum), le→leb (s .greatestScatter) (scatterLimit limit w) (l .greatest-scatter)))))
+  of-limited l = passes (leZ (s .leastSum) (s .greatestSum)) segmentTests (
+    l .sums .le,
+    (
+      le→leb (s .leastScatter) (s .greatestScatter) (l .scatters),
+      (
+        of-within (sumLimit limit w) (s .leastSum) (l .least-sum),
+        (of-within (sumLimit limit w) (s .greatestSum) (l .greatest-sum), le→leb (s .greatestScatter) (scatterLimit limit w) (l .greatest-scatter)),
+      ),
+    ),
+  )
 
 all-limited-of : (limit from : ℕ) (l : List Segment) → T (segmentsFit limit from l) → AllLimited limit from l
 unfolding segmentsFit
@@ -296,8 +235,10 @@ module _ (limit n : ℕ) (test : Test) where
 
   of-test : (left right : ℕ) → TestIn limit n test → T (testFits limit n (inner test left right))
   unfolding testFits
-  of-test left right t = passes (leb 1 (test .on .first)) testTests
-      (le→leb 1 (test .on .first) (t .from-1), (le→leb (test .on .first) (test .on .last) (t .run-rises), (le→leb (test .on .last) n (t .to-n), of-between limit (test .figure) (width (test .on)) (test .threshold) (t .threshold-in))))
+  of-test left right t = passes (leb 1 (test .on .first)) testTests (
+    le→leb 1 (test .on .first) (t .from-1),
+    (le→leb (test .on .first) (test .on .last) (t .run-rises), (le→leb (test .on .last) n (t .to-n), of-between limit (test .figure) (width (test .on)) (test .threshold) (t .threshold-in))),
+  )
 
 -- ---- a node, by its kind
 
@@ -322,10 +263,14 @@ unfolding childrenOf
 children-once c (leaf ns) differ i = absurd (in-nil i)
 children-once c (inner test left right) differ i = pair-once (differ test left right refl) i
 
-numbers-up : (kind : Kind) → ((ns : List ℕ) → kind ≡ leaf ns → Up 0 ns) → Up 0 (numbersIn kind)
+-- the numbers of any node rise
+pub numbers-up : {n count : ℕ} {tree : Tree} (s : Shape n count tree) (k : ℕ) → Up 0 (numbersIn (nodeAt tree k .kind))
 unfolding numbersIn
-numbers-up (leaf ns) h = h ns refl
-numbers-up (inner test left right) h = u-none
+numbers-up {tree = tree} s k = by (nodeAt tree k .kind) (s .rises k)
+  where
+    by : (kind : Kind) → ((ns : List ℕ) → kind ≡ leaf ns → Up 0 ns) → Up 0 (numbersIn kind)
+    by (leaf ns) h = h ns refl
+    by (inner test left right) h = u-none
 
 pub number-node : (tree : Tree) (t k : ℕ) → T (isIn t (numbersIn (nodeAt tree k .kind))) → k < length tree
 unfolding numbersIn isIn
@@ -353,13 +298,53 @@ of-same-empty a b f g = by (eqb a 0) (eqb b 0) refl refl
     by false true p q = eqb-false a 0 p (g (eqb-true b 0 q))
     by false false p q = tt
 
--- ---- both directions
-
-abbrev childrenAt : Node → List ℕ
+abbrev pub childrenAt : Node → List ℕ
 childrenAt a = childrenOf (a .kind)
 
-abbrev numbersAt : Node → List ℕ
+abbrev pub numbersAt : Node → List ℕ
 numbersAt a = numbersIn (a .kind)
+
+-- ---- each child and each number once
+
+module _ {n count : ℕ} {tree : Tree} (s : Shape n count tree) where
+  pub child-times : (k : ℕ) → 0 < k → k < length tree → timesIn k (flatten (map childrenAt tree)) ≡ 1
+  child-times k low high = times-once childrenAt nothing k tree (place (s .parented k low high))
+    where
+      place : Parent tree k → OnceAt childrenAt nothing tree k
+      place p = record {
+        place = p .parent;
+        inside = child-node tree (p .parent) k (p .has);
+        once = children-once k (nodeAt tree (p .parent) .kind) (s .children-differ (p .parent)) (child-in k (nodeAt tree (p .parent) .kind) (p .has));
+        only = λ j h i. s .one-parent j (p .parent) k (in-child k (nodeAt tree j .kind) i) (p .has);
+      }
+
+  pub number-times : (t : ℕ) → t < count → timesIn t (flatten (map numbersAt tree)) ≡ 1
+  number-times t h = times-once numbersAt nothing t tree (place (s .kept t h))
+    where
+      place : Kept tree t → OnceAt numbersAt nothing tree t
+      place p = record {
+        place = p .at;
+        inside = number-node tree t (p .at) (p .holds);
+        once = up-once (numbers-up s (p .at)) (is-in t (numbersIn (nodeAt tree (p .at) .kind)) (p .holds));
+        only = λ j h i. s .one-leaf t j (p .at) (in-is i) (p .holds);
+      }
+
+  pub numbers-below : (t : ℕ) → In t (flatten (map numbersAt tree)) → t < count
+  numbers-below t i = by (from-flat numbersAt tree i)
+    where
+      by : InFlat numbersAt t tree → t < count
+      by (flat a i j) = let p = place-of nothing i in s .numbers t (p .place) (in-is (subst (λ (b : Node). In t (numbersAt b)) (sym (p .is-it)) j))
+
+  pub children-above : (c : ℕ) → In c (flatten (map childrenAt tree)) → (0 < c) × (c < length tree)
+  children-above c i = by (from-flat childrenAt tree i)
+    where
+      by : InFlat childrenAt c tree → (0 < c) × (c < length tree)
+      by (flat a i j) =
+          let p = place-of nothing i in
+          let h = s .child (p .place) c (in-child c (nodeAt tree (p .place) .kind) (subst (λ (b : Node). In c (childrenAt b)) (sym (p .is-it)) j)) in
+          (omega (arith, h .0), h .1)
+
+-- ---- both directions
 
 module _ (limit : ℕ) (m : Measures) (count : ℕ) (tree : Tree) where
   -- the tests of the tree and of a node, but for the first of each
@@ -392,19 +377,22 @@ module _ (limit : ℕ) (m : Measures) (count : ℕ) (tree : Tree) where
     child-above : (p c : ℕ) → T (hasChild c (nodeAt tree p .kind)) → (p < c) × (c < length tree)
     unfolding childrenAbove
     child-above p c h =
-        let u = and-yes (ltb p c) (ltb c (length tree)) (from-every (λ child. ltb p child && ltb child (length tree)) (childrenOf (nodeAt tree p .kind)) (at-node p (child-node tree p c h) .0) (child-in c (nodeAt tree p .kind) h)) in
+        let u = and-yes (ltb p c) (ltb c (length tree))
+        (from-every (λ child. ltb p child && ltb child (length tree)) (childrenOf (nodeAt tree p .kind)) (at-node p (child-node tree p c h) .0) (child-in c (nodeAt tree p .kind) h)) in
         (ltb→lt p c (u .0), ltb→lt c (length tree) (u .1))
 
     child-once : (k : ℕ) → 0 < k → k < length tree → OnceAt childrenAt nothing tree k
     unfolding childOnce
-    child-once k low high = once-at childrenAt nothing k tree (eqb→eq _ 1 (from-every childTest (counting (length tree - 1) 1) (rules .1 .1 .1 .1 .0) (in-counting (length tree - 1) 1 k low (omega arith))))
+    child-once k low high = once-at childrenAt nothing k tree
+        (eqb→eq _ 1 (from-every childTest (counting (length tree - 1) 1) (rules .1 .1 .1 .1 .0) (in-counting (length tree - 1) 1 k low (omega arith))))
 
     numbers-tests : T (every leafTest (counting count 0)) × T (every countTest (flatten (map numbersAt tree)))
     unfolding inOneLeaf
     numbers-tests = and-yes (every leafTest (counting count 0)) (every countTest (flatten (map numbersAt tree))) (rules .1 .1 .1 .1 .1)
 
     number-below : (t k : ℕ) → T (isIn t (numbersIn (nodeAt tree k .kind))) → t < count
-    number-below t k i = ltb→lt t count (from-every countTest (flatten (map numbersAt tree)) (numbers-tests .1) (in-flat numbersAt (in-getD tree k nothing (number-node tree t k i)) (is-in t (numbersIn (nodeAt tree k .kind)) i)))
+    number-below t k i = ltb→lt t count
+        (from-every countTest (flatten (map numbersAt tree)) (numbers-tests .1) (in-flat numbersAt (in-getD tree k nothing (number-node tree t k i)) (is-in t (numbersIn (nodeAt tree k .kind)) i)))
 
     number-once : (t : ℕ) → t < count → OnceAt numbersAt nothing tree t
     number-once t h = once-at numbersAt nothing t tree (eqb→eq _ 1 (from-every leafTest (counting count 0) (numbers-tests .0) (in-counting count 0 t (omega arith) (omega arith))))
@@ -434,12 +422,12 @@ module _ (limit : ℕ) (m : Measures) (count : ℕ) (tree : Tree) where
         let q : p ≡ o .place = o .only p (child-node tree p left h) i in
         once-differ left right (subst (λ (a : Kind). timesIn left (childrenOf a) ≡ 1) e (subst (λ (j : ℕ). timesIn left (childrenAt (nodeAt tree j)) ≡ 1) (sym q) (o .once)))
 
-    ends-of-child : (p c e : ℕ) → T (hasChild c (nodeAt tree p .kind)) → T (isIn e (ends (nodeAt tree p .segments))) → T (isIn e (ends (nodeAt tree c .segments)))
+    ends-of-child : (p c : ℕ) → T (hasChild c (nodeAt tree p .kind)) → (e : ℕ) → In e (ends (nodeAt tree p .segments)) → In e (ends (nodeAt tree c .segments))
     unfolding endsKept
-    ends-of-child p c e h i =
-        from-every (λ end. isIn end (ends (nodeAt tree c .segments))) (ends (nodeAt tree p .segments))
-        (from-every (λ child. every (λ end. isIn end (ends (nodeAt tree child .segments))) (ends (nodeAt tree p .segments))) (childrenOf (nodeAt tree p .kind)) (at-node p (child-node tree p c h) .1 .1 .0) (child-in c (nodeAt tree p .kind) h))
-        (is-in e (ends (nodeAt tree p .segments)) i)
+    ends-of-child p c h e i =
+        is-in e (ends (nodeAt tree c .segments)) (from-every (λ end. isIn end (ends (nodeAt tree c .segments))) (ends (nodeAt tree p .segments))
+        (from-every (λ child. every (λ end. isIn end (ends (nodeAt tree child .segments))) (ends (nodeAt tree p .segments))) (childrenOf (nodeAt tree p .kind))
+        (at-node p (child-node tree p c h) .1 .1 .0) (child-in c (nodeAt tree p .kind) h)) i)
 
     leaf-rises : (k : ℕ) (ns : List ℕ) → nodeAt tree k .kind ≡ leaf ns → Up 0 ns
     leaf-rises k ns e = by (decLe (length tree) k)
@@ -448,10 +436,8 @@ module _ (limit : ℕ) (m : Measures) (count : ℕ) (tree : Tree) where
         by (yes h) = let q : [] ≡ ns = cc (ap (λ (a : Node). a .kind) (List·getD-eq-default tree nothing h)) in subst (λ (l : List ℕ). Up 0 l) q u-none
         by (no f) = leaf-of ns (at-node k (lt-of-not-le f) .1 .1 .1 .0) e .0
 
-    pub formed : Formed limit m count tree
-    formed = record {
-      measured = rules .0;
-      room = leb→le count (m .capacity) (rules .1 .0);
+    shape : Shape (m .n) count tree
+    shape = record {
       no-trace = same-empty (length tree) count (rules .1 .1 .0) .0;
       no-node = same-empty (length tree) count (rules .1 .1 .0) .1;
       child = child-above;
@@ -465,62 +451,75 @@ module _ (limit : ℕ) (m : Measures) (count : ℕ) (tree : Tree) where
       numbers = number-below;
       rises = leaf-rises;
       full = λ k h ns e. leaf-of ns (at-node k h .1 .1 .1 .0) e .1;
-      figures = λ k h. all-limited-of limit 1 (nodeAt tree k .segments) (at-node k h .1 .1 .1 .1 .0);
-      tests = λ k test left right e. test-of limit (m .n) test left right (subst (λ (a : Kind). T (testFits limit (m .n) a)) e (at-node k (inner-node tree k test left right e) .1 .1 .1 .1 .1));
     }
+
+    limits : Limits limit (m .n) tree
+    limits = record {
+      figures = λ k h. all-limited-of limit 1 (nodeAt tree k .segments) (at-node k h .1 .1 .1 .1 .0);
+      tests = λ k test left right e. test-of limit (m .n) test left right
+          (subst (λ (a : Kind). T (testFits limit (m .n) a)) e (at-node k (inner-node tree k test left right e) .1 .1 .1 .1 .1));
+    }
+
+    pub formed : Formed limit m count tree
+    formed = record { measured = rules .0; room = leb→le count (m .capacity) (rules .1 .0); shape = shape; limits = limits }
 
   -- what passes the test
   module _ (f : Formed limit m count tree) where
+    abbrev s : Shape (m .n) count tree
+    s = f .shape
+
     of-above : (k : ℕ) → T (childrenAbove tree k (nodeAt tree k))
     unfolding childrenAbove
-    of-above k = every-of (λ child. ltb k child && ltb child (length tree)) (childrenOf (nodeAt tree k .kind)) (λ c i. above c (f .child k c (in-child c (nodeAt tree k .kind) i)))
+    of-above k = every-of (λ child. ltb k child && ltb child (length tree)) (childrenOf (nodeAt tree k .kind)) (λ c i. above c (s .child k c (in-child c (nodeAt tree k .kind) i)))
       where
         above : (c : ℕ) → (k < c) × (c < length tree) → T (ltb k c && ltb c (length tree))
         above c h = yes-and (ltb k c) (ltb c (length tree)) (lt→ltb k c (h .0)) (lt→ltb c (length tree) (h .1))
 
     of-kept : (k : ℕ) → T (endsKept tree (nodeAt tree k))
     unfolding endsKept
-    of-kept k = every-of (λ child. every (λ end. isIn end (ends (nodeAt tree child .segments))) (ends (nodeAt tree k .segments))) (childrenOf (nodeAt tree k .kind))
-        (λ c i. every-of (λ end. isIn end (ends (nodeAt tree c .segments))) (ends (nodeAt tree k .segments)) (λ e j. f .ends-kept k c e (in-child c (nodeAt tree k .kind) i) (in-is j)))
+    of-kept k =
+        every-of (λ child. every (λ end. isIn end (ends (nodeAt tree child .segments))) (ends (nodeAt tree k .segments))) (childrenOf (nodeAt tree k .kind))
+        (λ c i. every-of (λ end. isIn end (ends (nodeAt tree c .segments))) (ends (nodeAt tree k .segments)) (λ e j. in-is (s .ends-kept k c (in-child c (nodeAt tree k .kind) i) e j)))
 
     of-node : (k : ℕ) → k < length tree → T (nodeFits limit (m .n) tree k (nodeAt tree k))
     unfolding nodeFits
-    of-node k h = passes (childrenAbove tree k (nodeAt tree k)) (nodeTests (nodeAt tree k))
-        (of-above k, (of-fits (m .n) (ends (nodeAt tree k .segments)) (f .fits k h), (of-kept k, (of-leaf (nodeAt tree k .kind) (λ ns e. (f .rises k ns e, f .full k h ns e)), (of-all-limited (f .figures k h), of-inner limit (m .n) (nodeAt tree k .kind) (f .tests k))))))
+    of-node k h = passes (childrenAbove tree k (nodeAt tree k)) (nodeTests (nodeAt tree k)) (
+      of-above k,
+      (
+        of-fits (m .n) (ends (nodeAt tree k .segments)) (s .fits k h),
+        (
+          of-kept k,
+          (
+            of-leaf (nodeAt tree k .kind) (λ ns e. (s .rises k ns e, s .full k h ns e)),
+            (of-all-limited (f .limits .figures k h), of-inner limit (m .n) (nodeAt tree k .kind) (f .limits .tests k)),
+          ),
+        ),
+      ),
+    )
 
     of-child-once : T (childOnce tree)
     unfolding childOnce
-    of-child-once = every-of childTest (counting (length tree - 1) 1) (λ k i. eq→eqb (times-once childrenAt nothing k tree (place k (f .parented k (omega (arith, from-counting (length tree - 1) 1 i)) (omega (arith, from-counting (length tree - 1) 1 i))))))
-      where
-        place : (k : ℕ) → Parent tree k → OnceAt childrenAt nothing tree k
-        place k p = record {
-          place = p .parent;
-          inside = child-node tree (p .parent) k (p .has);
-          once = children-once k (nodeAt tree (p .parent) .kind) (f .children-differ (p .parent)) (child-in k (nodeAt tree (p .parent) .kind) (p .has));
-          only = λ j h i. f .one-parent j (p .parent) k (in-child k (nodeAt tree j .kind) i) (p .has);
-        }
+    of-child-once = every-of childTest (counting (length tree - 1) 1)
+        (λ k i. let h = from-counting (length tree - 1) 1 i in eq→eqb (child-times s k (omega (arith, h)) (omega (arith, h))))
 
     of-one-leaf : T (inOneLeaf count tree)
     unfolding inOneLeaf
     of-one-leaf = yes-and (every leafTest (counting count 0)) (every countTest (flatten (map numbersAt tree)))
-        (every-of leafTest (counting count 0) (λ t i. eq→eqb (times-once numbersAt nothing t tree (place t (f .kept t (omega (arith, from-counting count 0 i .1)))))))
-        (every-of countTest (flatten (map numbersAt tree)) (λ t i. lt→ltb t count (below t (from-flat numbersAt tree i))))
-      where
-        place : (t : ℕ) → Kept tree t → OnceAt numbersAt nothing tree t
-        place t p = record {
-          place = p .at;
-          inside = number-node tree t (p .at) (p .holds);
-          once = up-once (numbers-up (nodeAt tree (p .at) .kind) (f .rises (p .at))) (is-in t (numbersIn (nodeAt tree (p .at) .kind)) (p .holds));
-          only = λ j h i. f .one-leaf t j (p .at) (in-is i) (p .holds);
-        }
-
-        below : (t : ℕ) → InFlat numbersAt t tree → t < count
-        below t (flat a i j) = let p = place-of nothing i in f .numbers t (p .place) (in-is (subst (λ (b : Node). In t (numbersAt b)) (sym (p .is-it)) j))
+        (every-of leafTest (counting count 0) (λ t i. eq→eqb (number-times s t (omega (arith, from-counting count 0 i .1)))))
+        (every-of countTest (flatten (map numbersAt tree)) (λ t i. lt→ltb t count (numbers-below s t i)))
 
     of-rules : T (wellFormed limit m count tree)
     unfolding wellFormed
-    of-rules = passes (inRange m) ruleTests
-        (f .measured, (le→leb count (m .capacity) (f .room), (of-same-empty (length tree) count (f .no-trace) (f .no-node), (every-node (nodeFits limit (m .n) tree) 0 tree (λ k j e h. subst (λ (i : ℕ). T (nodeFits limit (m .n) tree i (nodeAt tree k))) (at-0 k j e) (of-node k h)), (of-child-once, of-one-leaf)))))
+    of-rules = passes (inRange m) ruleTests (
+      f .measured,
+      (
+        le→leb count (m .capacity) (f .room),
+        (
+          of-same-empty (length tree) count (s .no-trace) (s .no-node),
+          (every-node (nodeFits limit (m .n) tree) 0 tree (λ k j e h. subst (λ (i : ℕ). T (nodeFits limit (m .n) tree i (nodeAt tree k))) (at-0 k j e) (of-node k h)), (of-child-once, of-one-leaf)),
+        ),
+      ),
+    )
       where
         at-0 : (k j : ℕ) → j ≡ 0 + k → k ≡ j
         at-0 k j e = omega arith

@@ -9,33 +9,32 @@ use mathlib.Core.List.{List, [], _∷_, _++_, append-assoc, append-nil}
 use native.Mathlib.Omega.{arith}
 use native.Mathlib.Decide.{decLe}
 use native.Mathlib.Nat.{lt-of-not-le}
-use lib.ListN.{length, getD, set, length-set, List·getD-append, List·getD-eq-default}
+use lib.ListN.{length, getD, set, length-set, length-append, List·getD-append, List·getD-eq-default}
 use lib.Seq.{getD-set-other, getD-set-same}
-use lib.Dec.{T, eqb, ltb}
-use Rattle.integer.specs.Words.{if_then_else_, isIn, lastOf, those, every}
-use borrow.Author.Tests.{ltb-true, ltb-false, eqb-true}
-use Rattle.integer.proofs.Lists.{same-or-not, In, in-is, map-agree, those-agree, every-of, from-every, Up, u-none, u-more}
-use Rattle.dstree.specs.Measures.{Trace, Measures}
+use lib.Dec.{T, ltb}
+use Rattle.integer.specs.Words.{if_then_else_, lastOf, those, every}
+use borrow.Author.Tests.{ltb-true, ltb-false}
+use Rattle.integer.proofs.Lists.{same-or-not, In, first, in-is, in-append-left, in-append-right, map-agree, those-agree, every-of, from-every}
+use Rattle.dstree.specs.Measures.{Trace, Measures, inRange, isTrace}
 use Rattle.dstree.specs.Node.{Test, Kind, leaf, inner, Node, node, Tree, nodeAt, goesLeft, ends}
-use Rattle.dstree.specs.Adding.{way, widenAll, join, newLeaf, tracesOf, Candidate, candidates, testOf, Split, splitBy, parts, best, splitInto, splitKind, split, splitNew, insertion, grown, treeOf}
-use Rattle.dstree.specs.Matching.{hasChild, numbersIn}
-use Rattle.dstree.specs.Claims.{Below, held, under}
-use Rattle.dstree.proofs.Ranges.{Covered, covered-none, new-covered}
-use Rattle.dstree.proofs.Parted.{Fits, p-last}
+use Rattle.dstree.specs.Adding.{way, widenAll, join, newLeaf, tracesOf, Candidate, candidates, testOf, Split, splitBy, parts, best}
+use Rattle.dstree.specs.Adding.{splitInto, splitKind, split, splitNew, insertion, grown, treeOf}
+use Rattle.dstree.specs.Matching.{numbersIn}
+use Rattle.dstree.specs.Formed.{Shape}
 use Rattle.dstree.proofs.Formed.{nothing, inner-node}
-use Rattle.dstree.proofs.Change.{widen-kind, join-inner}
-use Rattle.dstree.proofs.Cuts.{new-ends}
-use Rattle.dstree.proofs.Count.{spare, slack}
-use Rattle.dstree.proofs.Exact.{AllReached, reached-none, reached-by-more, new-reached}
+use Rattle.dstree.proofs.Nodes.{nodes-most}
+use Rattle.dstree.proofs.Change.{widen-kind, join-inner, LeafAt, way-leaf}
 use Rattle.dstree.proofs.Invariant.{Inv}
-use Rattle.dstree.proofs.Joins.{joined, joined-kinds, joined-ends, old-trace, join-inv}
-use Rattle.dstree.proofs.Splits.{best-none, kind-inv}
+use Rattle.dstree.proofs.Joins.{joined-kinds, joined-ends, join-shape}
+use Rattle.dstree.proofs.Splits.{best-none, split-shape, split-keeps}
+use Rattle.dstree.proofs.Keeps.{none-inv, insertion-inv}
 
 -- ---- no leaf over size that could be parted
 
 -- the leaf of this number is not over size, or no candidate parts it
 abbrev pub Whole : ℕ → List Trace → Tree → ℕ → Type 0
-Whole leafSize stored tree k = (numbers : List ℕ) → nodeAt tree k .kind ≡ leaf numbers → leafSize < length numbers → T (every (λ c. not (parts (splitBy stored numbers c))) (candidates (ends (nodeAt tree k .segments))))
+Whole leafSize stored tree k = (numbers : List ℕ) → nodeAt tree k .kind ≡ leaf numbers → leafSize < length numbers → T
+    (every (λ c. not (parts (splitBy stored numbers c))) (candidates (ends (nodeAt tree k .segments))))
 
 past-whole : (leafSize : ℕ) (stored : List Trace) (tree : Tree) (k : ℕ) → length tree ≤ k → Whole leafSize stored tree k
 past-whole leafSize stored tree k h numbers e g =
@@ -53,11 +52,14 @@ same-split stored other numbers c h =
     let e : tracesOf other numbers ≡ tracesOf stored numbers = map-agree (λ (k : ℕ). getD other k []) (λ (k : ℕ). getD stored k []) numbers h in
     let test : Test = testOf c (tracesOf stored numbers) in
     let l : those (λ number. goesLeft test (getD other number [])) numbers ≡ those (λ number. goesLeft test (getD stored number [])) numbers = those-agree _ _ numbers (λ t i. rw (h t i)) in
-    let r : those (λ number. not (goesLeft test (getD other number []))) numbers ≡ those (λ number. not (goesLeft test (getD stored number []))) numbers = those-agree _ _ numbers (λ t i. rw (h t i)) in
+    let r : those (λ number. not (goesLeft test (getD other number []))) numbers ≡ those
+    (λ number. not (goesLeft test (getD stored number []))) numbers = those-agree _ _ numbers (λ t i. rw (h t i)) in
     rw (e, l, r)
 
-more-whole : (stored other : List Trace) (numbers : List ℕ) (cs : List Candidate) → ((t : ℕ) → In t numbers → getD other t [] ≡ getD stored t []) → T (every (λ c. not (parts (splitBy stored numbers c))) cs) → T (every (λ c. not (parts (splitBy other numbers c))) cs)
-more-whole stored other numbers cs h t = every-of (λ c. not (parts (splitBy other numbers c))) cs (λ c i. rw (same-split stored other numbers c h) (from-every (λ c. not (parts (splitBy stored numbers c))) cs t i))
+more-whole : (stored other : List Trace) (numbers : List ℕ) (cs : List Candidate)
+    → ((t : ℕ) → In t numbers → getD other t [] ≡ getD stored t []) → T (every (λ c. not (parts (splitBy stored numbers c))) cs) → T (every (λ c. not (parts (splitBy other numbers c))) cs)
+more-whole stored other numbers cs h t = every-of (λ c. not (parts (splitBy other numbers c))) cs
+    (λ c i. rw (same-split stored other numbers c h) (from-every (λ c. not (parts (splitBy stored numbers c))) cs t i))
 
 -- ---- splitting, node by node
 
@@ -94,7 +96,8 @@ module _ (leafSize : ℕ) (stored : List Trace) (tree : Tree) (at : ℕ) where
       found none p numbers q g = let r : ns ≡ numbers = cc in subst (λ (l : List ℕ). T (every (λ c. not (parts (splitBy stored l c))) (candidates es))) r (best-none stored es ns p)
       found (some s) p numbers q g =
           let turned : Node = node (nodeAt tree at .segments) (inner (s .test) (length tree) (suc (length tree))) in
-          let is : nodeAt (splitInto stored tree at (some s)) at ≡ turned = List·getD-append (set tree at turned) _ nothing at (rw (length-set tree at turned) h) ∙ getD-set-same tree at turned nothing h in
+          let is : nodeAt (splitInto stored tree at (some s)) at ≡ turned = List·getD-append (set tree at turned) _ nothing at
+          (rw (length-set tree at turned) h) ∙ getD-set-same tree at turned nothing h in
           let k : inner (s .test) (length tree) (suc (length tree)) ≡ leaf numbers = sym (ap (λ (a : Node). a .kind) is) ∙ q in
           let z : _≡_ {A = ℕ} 0 1 = cc in
           absurd (omega arith)
@@ -120,25 +123,20 @@ module _ (leafSize : ℕ) (stored : List Trace) (tree : Tree) (at : ℕ) where
 
 -- ---- the pass over the new leaves
 
-new-inv : (n fuel leafSize : ℕ) (stored : List Trace) (tree : Tree) (at : ℕ) → Inv n stored tree → Inv n stored (splitNew fuel leafSize stored tree at)
-unfolding splitNew
-new-inv n zero leafSize stored tree at inv = inv
-new-inv n (suc fuel) leafSize stored tree at inv = by (ltb at (length tree)) (new-inv n fuel leafSize stored (split leafSize stored tree at) (suc at) (kind-inv n leafSize stored tree at inv (nodeAt tree at .kind) refl))
-  where
-    by : (b : Bool) → Inv n stored (splitNew fuel leafSize stored (split leafSize stored tree at) (suc at)) → Inv n stored (if b then splitNew fuel leafSize stored (split leafSize stored tree at) (suc at) else tree)
-    by true i = i
-    by false i = inv
+split-shapes : (n leafSize : ℕ) (stored : List Trace) (tree : Tree) (at : ℕ) → Shape n (length stored) tree → Shape n (length stored) (split leafSize stored tree at)
+split-shapes n leafSize stored = split-keeps n leafSize stored (λ (tree : Tree). Shape n (length stored) tree) (λ tree s. s .fits) (λ tree s. split-shape s stored)
 
 -- whole before the position, and steps enough for all nodes: whole everywhere behind the pass
-new-whole : (n fuel leafSize : ℕ) (stored : List Trace) (tree : Tree) (at : ℕ) → Inv n stored tree → 2 * length stored ≤ at + fuel → ((k : ℕ) → k < at → Whole leafSize stored tree k) → (k : ℕ) → Whole leafSize stored (splitNew fuel leafSize stored tree at) k
+new-whole : (n fuel leafSize : ℕ) (stored : List Trace) (tree : Tree) (at : ℕ) → Shape n (length stored) tree
+    → 2 * length stored ≤ at + fuel → ((k : ℕ) → k < at → Whole leafSize stored tree k) → (k : ℕ) → Whole leafSize stored (splitNew fuel leafSize stored tree at) k
 unfolding splitNew
-new-whole n zero leafSize stored tree at inv enough whole k = by (decLe (suc k) at)
+new-whole n zero leafSize stored tree at shape enough whole k = by (decLe (suc k) at)
   where
     by : Dec (suc k ≤ at) → Whole leafSize stored tree k
     by (yes h) = whole k h
-    by (no f) = past-whole leafSize stored tree k (omega (arith, lt-of-not-le f, inv .count))
-new-whole n (suc fuel) leafSize stored tree at inv enough whole k =
-    by (ltb at (length tree)) refl (λ w. new-whole n fuel leafSize stored (split leafSize stored tree at) (suc at) (kind-inv n leafSize stored tree at inv (nodeAt tree at .kind) refl) (omega arith) w k)
+    by (no f) = past-whole leafSize stored tree k (omega (arith, lt-of-not-le f, nodes-most shape))
+new-whole n (suc fuel) leafSize stored tree at shape enough whole k =
+    by (ltb at (length tree)) refl (λ w. new-whole n fuel leafSize stored (split leafSize stored tree at) (suc at) (split-shapes n leafSize stored tree at shape) (omega arith) w k)
   where
     before : at < length tree → (j : ℕ) → j < suc at → Dec (j ≡ at) → Whole leafSize stored (split leafSize stored tree at) j
     before h j g (yes e) = rw e (split-whole leafSize stored tree at h)
@@ -157,24 +155,29 @@ new-whole n (suc fuel) leafSize stored tree at inv enough whole k =
     here h (yes l) = whole k l
     here h (no f) = past-whole leafSize stored tree k (omega (arith, lt-of-not-le f))
 
-    by : (b : Bool) → ltb at (length tree) ≡ b → (((j : ℕ) → j < suc at → Whole leafSize stored (split leafSize stored tree at) j) → Whole leafSize stored (splitNew fuel leafSize stored (split leafSize stored tree at) (suc at)) k)
+    by : (b : Bool) → ltb at (length tree) ≡ b
+        → (((j : ℕ) → j < suc at → Whole leafSize stored (split leafSize stored tree at) j) → Whole leafSize stored (splitNew fuel leafSize stored (split leafSize stored tree at) (suc at)) k)
         → Whole leafSize stored (if b then splitNew fuel leafSize stored (split leafSize stored tree at) (suc at) else tree) k
     by true p onward = onward (λ j g. before (ltb-true at (length tree) p) j g (same-or-not j at))
     by false p onward = here (ltb-false at (length tree) p) (decLe (suc k) at)
 
-new-inner : (fuel leafSize : ℕ) (stored : List Trace) (tree : Tree) (at k : ℕ) (test : Test) (l r : ℕ) → nodeAt tree k .kind ≡ inner test l r → nodeAt (splitNew fuel leafSize stored tree at) k .kind ≡ inner test l r
+new-inner : (fuel leafSize : ℕ) (stored : List Trace) (tree : Tree) (at k : ℕ) (test : Test) (l r : ℕ)
+    → nodeAt tree k .kind ≡ inner test l r → nodeAt (splitNew fuel leafSize stored tree at) k .kind ≡ inner test l r
 unfolding splitNew
 new-inner zero leafSize stored tree at k test l r e = e
-new-inner (suc fuel) leafSize stored tree at k test l r e = by (ltb at (length tree)) (new-inner fuel leafSize stored (split leafSize stored tree at) (suc at) k test l r (split-inner leafSize stored tree at k test l r e))
+new-inner (suc fuel) leafSize stored tree at k test l r e = by (ltb at (length tree))
+    (new-inner fuel leafSize stored (split leafSize stored tree at) (suc at) k test l r (split-inner leafSize stored tree at k test l r e))
   where
-    by : (b : Bool) → nodeAt (splitNew fuel leafSize stored (split leafSize stored tree at) (suc at)) k .kind ≡ inner test l r → nodeAt (if b then splitNew fuel leafSize stored (split leafSize stored tree at) (suc at) else tree) k .kind ≡ inner test l r
+    by : (b : Bool) → nodeAt (splitNew fuel leafSize stored (split leafSize stored tree at) (suc at)) k .kind ≡ inner test l r
+        → nodeAt (if b then splitNew fuel leafSize stored (split leafSize stored tree at) (suc at) else tree) k .kind ≡ inner test l r
     by true i = i
     by false i = e
 
 -- ---- one trace more
 
 -- "moving no threshold": an inner node keeps its test and its children, whatever the tree
-pub insertion-inner : (m : Measures) (stored : List Trace) (tree : Tree) (x : Trace) (k : ℕ) (test : Test) (l r : ℕ) → nodeAt tree k .kind ≡ inner test l r → nodeAt (insertion m stored tree x) k .kind ≡ inner test l r
+pub insertion-inner : (m : Measures) (stored : List Trace) (tree : Tree) (x : Trace) (k : ℕ) (test : Test) (l r : ℕ)
+    → nodeAt tree k .kind ≡ inner test l r → nodeAt (insertion m stored tree x) k .kind ≡ inner test l r
 unfolding insertion
 insertion-inner m stored [] x k test l r e = let z : _≡_ {A = ℕ} 0 1 = cc in absurd (omega arith)
 insertion-inner m stored (root ∷ rest) x k test l r e =
@@ -185,30 +188,37 @@ insertion-inner m stored (root ∷ rest) x k test l r e =
     new-inner (2 * length all) (m .leafSize) all (split (m .leafSize) all joined (lastOf met)) (length joined) k test l r
     (split-inner (m .leafSize) all joined (lastOf met) k test l r (join-inner (length stored) (lastOf met) (widenAll x met tree) k test l r (widen-kind x met tree k ∙ e)))
 
-module _ (m : Measures) (stored : List Trace) (root : Node) (rest : Tree) (x : Trace) (inv : Inv (m .n) stored (root ∷ rest)) where
+module _ (m : Measures) (stored : List Trace) (root : Node) (rest : Tree) (x : Trace) (s : Shape (m .n) (length stored) (root ∷ rest)) where
   abbrev all : List Trace
   all = stored ++ (x ∷ [])
 
+  abbrev met : List ℕ
+  met = way (root ∷ rest) x
+
   abbrev at : ℕ
-  at = lastOf (way (root ∷ rest) x)
+  at = lastOf met
 
   abbrev with-x : Tree
-  with-x = joined (m .n) stored root rest x inv
+  with-x = join (length stored) at (widenAll x met (root ∷ rest))
 
-  after-split : Inv (m .n) all (split (m .leafSize) all with-x at)
-  after-split = kind-inv (m .n) (m .leafSize) all with-x at (join-inv (m .n) stored root rest x inv) (nodeAt with-x at .kind) refl
+  ending : LeafAt (root ∷ rest) at
+  ending = way-leaf (root ∷ rest) x (s .child) (omega arith)
 
-  added-inv : Inv (m .n) all (insertion m stored (root ∷ rest) x)
-  unfolding insertion
-  added-inv = new-inv (m .n) (2 * length all) (m .leafSize) all (split (m .leafSize) all with-x at) (length with-x) after-split
+  after-split : Shape (m .n) (length all) (split (m .leafSize) all with-x at)
+  after-split =
+      let e : suc (length stored) ≡ length all = omega (arith, length-append stored (x ∷ [])) in
+      split-shapes (m .n) (m .leafSize) all with-x at (subst (λ (k : ℕ). Shape (m .n) k with-x) e (join-shape s x met at (ending .numbers) (ending .inside) (ending .is)))
 
   -- the trace joined another leaf: this one's traces are as before
   other-whole : (k : ℕ) → (k ≡ at → ⊥) → Whole (m .leafSize) stored (root ∷ rest) k → Whole (m .leafSize) all with-x k
   unfolding numbersIn
   other-whole k f w =
-      rw (joined-ends (m .n) stored root rest x inv k)
-      (joined-kinds (m .n) stored root rest x inv (λ (a : Kind). (numbers : List ℕ) → a ≡ leaf numbers → m .leafSize < length numbers → T (every (λ c. not (parts (splitBy all numbers c))) (candidates (ends (nodeAt (root ∷ rest) k .segments))))) k (λ e. absurd (f e))
-      (λ f numbers e g. more-whole stored all numbers (candidates (ends (nodeAt (root ∷ rest) k .segments))) (λ t i. old-trace (m .n) stored root rest x inv (inv .numbers t k (rw e (in-is i)))) (w numbers e g)))
+      rw (joined-ends s x met at (ending .numbers) (ending .inside) (ending .is) k)
+      (joined-kinds s x met at (ending .numbers) (ending .inside) (ending .is)
+      (λ (a : Kind). (numbers : List ℕ) → a ≡ leaf numbers → m .leafSize < length numbers → T
+      (every (λ c. not (parts (splitBy all numbers c))) (candidates (ends (nodeAt (root ∷ rest) k .segments))))) k (λ e. absurd (f e))
+      (λ f numbers e g. more-whole stored all numbers (candidates (ends (nodeAt (root ∷ rest) k .segments)))
+      (λ t i. List·getD-append stored (x ∷ []) [] t (s .numbers t k (rw e (in-is i)))) (w numbers e g)))
 
   added-whole : ((k : ℕ) → Whole (m .leafSize) stored (root ∷ rest) k) → (k : ℕ) → Whole (m .leafSize) all (insertion m stored (root ∷ rest) x) k
   unfolding insertion
@@ -219,112 +229,37 @@ module _ (m : Measures) (stored : List Trace) (root : Node) (rest : Tree) (x : T
       by k h (yes e) = rw e (split-whole (m .leafSize) all with-x at (omega arith))
       by k h (no f) = same-whole (m .leafSize) all with-x (split (m .leafSize) all with-x at) k (split-other (m .leafSize) all with-x at k h f) (other-whole k f (whole k))
 
-pub insertion-inv : (m : Measures) (stored : List Trace) (tree : Tree) (x : Trace) → Inv (m .n) stored tree → Inv (m .n) (stored ++ (x ∷ [])) (insertion m stored tree x)
-insertion-inv m stored [] x inv = absurd (omega (arith, inv .some-node))
-insertion-inv m stored (root ∷ rest) x inv = added-inv m stored root rest x inv
-
-pub insertion-whole : (m : Measures) (stored : List Trace) (tree : Tree) (x : Trace) → Inv (m .n) stored tree → ((k : ℕ) → Whole (m .leafSize) stored tree k) → (k : ℕ) → Whole (m .leafSize) (stored ++ (x ∷ [])) (insertion m stored tree x) k
-insertion-whole m stored [] x inv = absurd (omega (arith, inv .some-node))
-insertion-whole m stored (root ∷ rest) x inv = added-whole m stored root rest x inv
-
--- ---- the first trace
-
-first-inv : (m : Measures) (x : Trace) → 1 ≤ m .n → Inv (m .n) (x ∷ []) (insertion m [] [] x)
-unfolding insertion newLeaf hasChild numbersIn isIn spare slack
-first-inv m x wide = record {
-  some-node = omega arith;
-  count = refl;
-  parented = λ k h g. absurd (omega arith);
-  rises = rise;
-  one-leaf = λ t j k h i. only t j h ∙ sym (only t k i);
-  child = λ p c. no-child p c;
-  one-parent = λ p q c h. absurd (no-child p c h);
-  inner-fits = λ p test l r e. no-inner p test l r e;
-  numbers = nums;
-  full = fulls;
-  kept = λ t h. record { at = 0; holds = alone t h };
-  fits = fit;
-  ends-kept = λ p c h. no-child p c h;
-  ranges = λ t k b. within t k b;
-  reached = reach;
-}
-  where
-    no-child : {X : Type 0} (p c : ℕ) → T (hasChild c (nodeAt (insertion m [] [] x) p .kind)) → X
-    no-child zero c h = absurd h
-    no-child (suc p) c h = absurd h
-
-    no-inner : {X : Type 0} (p : ℕ) (test : Test) (l r : ℕ) → nodeAt (insertion m [] [] x) p .kind ≡ inner test l r → X
-    no-inner zero test l r e = let z : _≡_ {A = ℕ} 0 1 = cc in absurd (omega arith)
-    no-inner (suc p) test l r e = let z : _≡_ {A = ℕ} 0 1 = cc in absurd (omega arith)
-
-    nums : (t k : ℕ) → T (isIn t (numbersIn (nodeAt (insertion m [] [] x) k .kind))) → t < 1
-    nums t zero i = zero-only (eqb t 0) refl i
-      where
-        zero-only : (b : Bool) → eqb t 0 ≡ b → T (if b then true else false) → t < 1
-        zero-only true e i = omega (arith, eqb-true t 0 e)
-        zero-only false e i = absurd i
-    nums t (suc k) i = absurd i
-
-    fulls : (k : ℕ) → k < 1 → (ns : List ℕ) → nodeAt (insertion m [] [] x) k .kind ≡ leaf ns → 0 < length ns
-    fulls zero h ns e = let r : 0 ∷ [] ≡ ns = cc in rw (sym r) (omega arith)
-    fulls (suc k) h ns e = absurd (omega arith)
-
-    alone : (t : ℕ) → t < 1 → T (isIn t (0 ∷ []))
-    alone zero h = tt
-    alone (suc t) h = absurd (omega arith)
-
-    fit : (k : ℕ) → k < 1 → Fits (m .n) (ends (nodeAt (insertion m [] [] x) k .segments))
-    fit zero h = rw (new-ends (x ∷ []) (m .n ∷ []) (0 ∷ [])) (record { parted = p-last wide; few = omega arith })
-    fit (suc k) h = absurd (omega arith)
-
-    only : (t k : ℕ) → T (isIn t (numbersIn (nodeAt (insertion m [] [] x) k .kind))) → k ≡ 0
-    only t zero i = refl
-    only t (suc k) i = absurd i
-
-    rise : (k : ℕ) (ns : List ℕ) → nodeAt (insertion m [] [] x) k .kind ≡ leaf ns → Up 0 ns
-    rise zero ns e = let p : 0 ∷ [] ≡ ns = cc in subst (Up 0) p (u-more {k = 0} {a = 0} (omega arith) u-none)
-    rise (suc k) ns e = let p : [] ≡ ns = cc in subst (Up 0) p u-none
-
-    reach : (k : ℕ) → AllReached (x ∷ []) (λ (t : ℕ). Below (insertion m [] [] x) t k) 1 (nodeAt (insertion m [] [] x) k .segments)
-    reach zero = reached-by-more (x ∷ []) (x ∷ []) (λ (t : ℕ). In t (0 ∷ [])) (λ (t : ℕ). Below (insertion m [] [] x) t 0) (λ t i. held {number = 0} (in-is i)) (λ t i. refl) (new-reached (x ∷ []) (0 ∷ []) (omega arith) (m .n ∷ []))
-    reach (suc k) = reached-none
-
-    within : (t k : ℕ) → Below (insertion m [] [] x) t k → Covered (getD (x ∷ []) t []) 1 (nodeAt (insertion m [] [] x) k .segments)
-    within t zero (held h) = new-covered (x ∷ []) (m .n ∷ []) (0 ∷ []) t h
-    within t zero (under {child} h b) = no-child zero child h
-    within t (suc k) b = covered-none
-
-first-whole : (m : Measures) (x : Trace) → 1 ≤ m .leafSize → (k : ℕ) → Whole (m .leafSize) (x ∷ []) (insertion m [] [] x) k
+insertion-whole : (m : Measures) (stored : List Trace) (tree : Tree) (x : Trace) → 1 ≤ m .leafSize → Shape (m .n) (length stored) tree → ((k : ℕ) → Whole (m .leafSize) stored tree k)
+    → (k : ℕ) → Whole (m .leafSize) (stored ++ (x ∷ [])) (insertion m stored tree x) k
 unfolding insertion newLeaf
-first-whole m x size zero numbers e g = let q : 0 ∷ [] ≡ numbers = cc in absurd (omega (arith, ap length q))
-first-whole m x size (suc k) numbers e g = let q : [] ≡ numbers = cc in absurd (omega (arith, ap length q))
+insertion-whole m stored [] x size s whole zero numbers e g = let q : 0 ∷ [] ≡ numbers = cc in absurd (omega (arith, ap length q))
+insertion-whole m stored [] x size s whole (suc k) numbers e g = let q : [] ≡ numbers = cc in absurd (omega (arith, ap length q))
+insertion-whole m stored (root ∷ rest) x size s whole k numbers e g = added-whole m stored root rest x s whole k numbers e g
 
 -- ---- all traces
 
-grown-inv : (m : Measures) (stored : List Trace) (tree : Tree) (more : List Trace) → Inv (m .n) stored tree → Inv (m .n) (stored ++ more) (grown m stored tree more)
-unfolding grown
-grown-inv m stored tree [] inv = rw (append-nil stored) inv
-grown-inv m stored tree (x ∷ more) inv = rw (← append-assoc stored (x ∷ []) more) (grown-inv m (stored ++ (x ∷ [])) (insertion m stored tree x) more (insertion-inv m stored tree x inv))
+-- what adding keeps holds of every tree that it makes
+module _ (limit : ℕ) (m : Measures) (size : 1 ≤ m .leafSize) where
+  pub record Made (stored : List Trace) (tree : Tree) : Type 0 where
+    pub inv : Inv limit m stored tree
+    pub whole : (k : ℕ) → Whole (m .leafSize) stored tree k
 
-grown-whole : (m : Measures) (stored : List Trace) (tree : Tree) (more : List Trace) → Inv (m .n) stored tree → ((k : ℕ) → Whole (m .leafSize) stored tree k) → (k : ℕ) → Whole (m .leafSize) (stored ++ more) (grown m stored tree more) k
-unfolding grown
-grown-whole m stored tree [] inv whole = rw (append-nil stored) whole
-grown-whole m stored tree (x ∷ more) inv whole = rw (← append-assoc stored (x ∷ []) more) (grown-whole m (stored ++ (x ∷ [])) (insertion m stored tree x) more (insertion-inv m stored tree x inv) (insertion-whole m stored tree x inv whole))
+  grown-made : (stored : List Trace) (tree : Tree) (more : List Trace) → Made stored tree → length (stored ++ more) ≤ m .capacity
+      → T (every (isTrace limit (m .n)) (stored ++ more)) → Made (stored ++ more) (grown m stored tree more)
+  unfolding grown
+  grown-made stored tree [] v room all = rw (append-nil stored) v
+  grown-made stored tree (x ∷ more) v room all =
+      let e : stored ++ (x ∷ []) ++ more ≡ stored ++ (x ∷ more) = append-assoc stored (x ∷ []) more in
+      let each : (y : Trace) → In y (stored ++ (x ∷ more)) → T (isTrace limit (m .n) y) = λ y i. from-every (isTrace limit (m .n)) (stored ++ (x ∷ more)) all i in
+      let next : Made (stored ++ (x ∷ [])) (insertion m stored tree x) = record {
+        inv = insertion-inv limit m stored tree x (v .inv) (omega (arith, length-append stored (x ∷ more)))
+            (every-of (isTrace limit (m .n)) stored (λ y i. each y (in-append-left (x ∷ more) i))) (each x (in-append-right stored first));
+        whole = insertion-whole m stored tree x size (v .inv .formed .shape) (v .whole);
+      } in
+      rw (← e) (grown-made (stored ++ (x ∷ [])) (insertion m stored tree x) more next (rw e room) (rw e all))
 
--- the tree of some traces, one or more
-pub tree-inv : (m : Measures) → 1 ≤ m .n → (traces : List Trace) → 0 < length traces → Inv (m .n) traces (treeOf m traces)
-unfolding grown
-tree-inv m wide [] one = absurd (omega arith)
-tree-inv m wide (x ∷ more) one = grown-inv m (x ∷ []) (insertion m [] [] x) more (first-inv m x wide)
+  none-made : T (inRange m) → Made [] []
+  none-made measured = record { inv = none-inv limit m measured; whole = λ k. past-whole (m .leafSize) [] [] k (omega arith) }
 
--- the tree of any traces
-pub tree-whole : (m : Measures) → 1 ≤ m .n → 1 ≤ m .leafSize → (traces : List Trace) (k : ℕ) → Whole (m .leafSize) traces (treeOf m traces) k
-unfolding grown
-tree-whole m wide size [] k = past-whole (m .leafSize) [] [] k (omega arith)
-tree-whole m wide size (x ∷ more) k = grown-whole m (x ∷ []) (insertion m [] [] x) more (first-inv m x wide) (first-whole m x size) k
-
--- what is said of every tree: of no node, where no trace is, and of the tree of one trace or more
-pub tree-cases : (P : List Trace → Tree → Type 0) (m : Measures) (traces : List Trace) → P [] [] → (0 < length traces → P traces (treeOf m traces)) → P traces (treeOf m traces)
-unfolding grown
-tree-cases P m [] of-none of-some = of-none
-tree-cases P m (x ∷ more) of-none of-some = of-some (omega arith)
+  pub tree-made : (traces : List Trace) → T (inRange m) → length traces ≤ m .capacity → T (every (isTrace limit (m .n)) traces) → Made traces (treeOf m traces)
+  tree-made traces measured = grown-made [] [] traces (none-made measured)

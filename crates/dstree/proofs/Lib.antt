@@ -1,31 +1,35 @@
--- Laws of the definitions. The tree that adding makes: Invariant, Joins, Splits and Grown; a query: Bounds, Reading, Search and Closed; all together: Laws. Sheets: SheetWritten, SheetRead, ReadBack and WrittenAgain; all together: RoundTrips.
+-- Laws of the definitions. The tree that adding makes: Invariant, Joins, Splits and Grown; a query: Bounds, Reading, Search and Closed;
+-- all together: Laws. Sheets: SheetWritten, SheetRead, ReadBack and WrittenAgain; all together: RoundTrips.
 pub mod Everything
 pub mod Notation
 pub mod Examples
 pub mod Cases
 pub mod Exercises
-pub mod Parted
+pub mod BookExamples
 pub mod Parting
 pub mod Formed
 pub mod Nodes
 pub mod Ranges
 pub mod Change
+pub mod Below
 pub mod Cuts
-pub mod Count
 pub mod Exact
 pub mod Invariant
+pub mod Containing
 pub mod Joins
 pub mod Splits
+pub mod Keeps
 pub mod Grown
 pub mod Bounds
 pub mod Reading
 pub mod Search
 pub mod Closed
 pub mod Routing
-pub mod Sizes
+pub mod Limits
 pub mod Best
 pub mod OffTrail
 pub mod SheetPieces
+pub mod SheetFormat
 pub mod SheetFields
 pub mod Conditions
 pub mod SheetBlocks

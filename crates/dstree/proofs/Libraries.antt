@@ -55,8 +55,11 @@ module _ (limit : ℕ) where
     unfolding isTrace every
     traces-are all-none all-none = tt
     traces-are (all-more {a = x} {rest} e es) (all-more s ss) =
-        passes (eqb (length x) n && every (λ sample. ltb (mag sample) limit) x) (every (isTrace limit n) rest ∷ [])
-        (passes (eqb (length x) n) (every (λ sample. ltb (mag sample) limit) x ∷ []) (eq→eqb e, all-every (λ sample. ltb (mag sample) limit) (all-mono (λ z p. lt→ltb (mag z) limit p) s)), traces-are es ss)
+        passes (eqb (length x) n && every (λ sample. ltb (mag sample) limit) x) (every (isTrace limit n) rest ∷ []) (
+          passes (eqb (length x) n) (every (λ sample. ltb (mag sample) limit) x ∷ [])
+              (eq→eqb e, all-every (λ sample. ltb (mag sample) limit) (all-mono (λ z p. lt→ltb (mag z) limit p) s)),
+          traces-are es ss,
+        )
 
   module _ (m : Measures) (traces : List Trace) where
     pub library-of : T (isLibrary limit m traces) → Library m traces

@@ -10,7 +10,9 @@ use lib.Dec.{T, ltb, eqb}
 use Rattle.integer.specs.Words.{if_then_else_, counting}
 use borrow.Author.Tests.{ltb-true, ltb-false, eqb-true}
 use Rattle.integer.proofs.Tests.{is-true}
-use Rattle.integer.proofs.Lists.{In, first, later, in-cons, in-front, in-map, InMap, of, from-map, from-those, in-those, in-counting, from-counting, All, all-none, all-more, all-mono, up-those, counting-up, Apart, apart-none, apart-more, up-apart}
+use Rattle.integer.proofs.Lists.{In, first, later, in-cons, in-front, in-map, InMap, of, from-map, from-those, in-those, in-counting}
+use Rattle.integer.proofs.Lists.{from-counting, All, all-none, all-more, all-mono, up-those, counting-up, Apart, apart-none, apart-more}
+use Rattle.integer.proofs.Lists.{up-apart}
 use Rattle.dstree.specs.Measures.{Trace}
 use Rattle.dstree.specs.Node.{Tree, nodeAt}
 use Rattle.dstree.specs.Matching.{bound, LeafBound, isLeaf, leaves, before, placed, sorted, readingOrder}

@@ -14,11 +14,13 @@ use Rattle.dstree.specs.Measures.{Trace}
 use Rattle.dstree.specs.Node.{Kind, leaf, inner, Tree, nodeAt, goesLeft}
 use Rattle.dstree.specs.Adding.{nextNode, way}
 use Rattle.dstree.specs.Matching.{numbersIn}
+use Rattle.dstree.specs.Formed.{Shape}
 use Rattle.dstree.specs.Claims.{Below}
 use Rattle.dstree.proofs.Change.{LeafAt, way-ends}
-use Rattle.dstree.proofs.Invariant.{InnerFits, Inv, below-root, below-leaf, below-inner}
+use Rattle.dstree.proofs.Below.{below-inside, below-root, below-leaf, below-inner}
+use Rattle.dstree.proofs.Invariant.{Sends, Exact}
 
-module _ (n : ℕ) (stored : List Trace) (tree : Tree) (inv : Inv n stored tree) (t : ℕ) where
+module _ {n : ℕ} {stored : List Trace} {tree : Tree} (s : Shape n (length stored) tree) (old : Exact stored tree) (t : ℕ) where
   abbrev x : Trace
   x = getD stored t []
 
@@ -29,13 +31,13 @@ module _ (n : ℕ) (stored : List Trace) (tree : Tree) (inv : Inv n stored tree)
     where
       by : (a : Kind) → nodeAt tree p .kind ≡ a → nextNode a x ≡ some c → Below tree t c
       by (leaf ns) k q = let z : _≡_ {A = ℕ} 0 1 = cc in absurd (omega arith)
-      by (inner test l r) k q = side (below-inner n stored tree inv k b)
+      by (inner test l r) k q = side (below-inner k b)
         where
-          fit : InnerFits n stored tree test l r
-          fit = inv .inner-fits p test l r k
+          fit : Sends stored tree test l r
+          fit = old .sends p test l r k
 
-          to : (s : Bool) → goesLeft test x ≡ s → (if s then l else r) ≡ c
-          to s e = let u : some (if goesLeft test x then l else r) ≡ some c = q in let v : (if goesLeft test x then l else r) ≡ c = cc in rw e at v
+          to : (b : Bool) → goesLeft test x ≡ b → (if b then l else r) ≡ c
+          to b e = let u : some (if goesLeft test x then l else r) ≡ some c = q in let v : (if goesLeft test x then l else r) ≡ c = cc in rw e at v
 
           side : Below tree t l ⊎ Below tree t r → Below tree t c
           side (inl d) = subst (Below tree t) (to true (fit .goes-left t d)) d
@@ -43,7 +45,7 @@ module _ (n : ℕ) (stored : List Trace) (tree : Tree) (inv : Inv n stored tree)
 
   pub leads-to : t < length stored → T (isIn t (numbersIn (nodeAt tree (lastOf (way tree x)) .kind)))
   unfolding numbersIn
-  leads-to h = by (way-ends tree x (Below tree t) (inv .child) step (length tree) 0 (inv .some-node) (omega arith) (below-root n stored tree inv t h))
+  leads-to h = by (way-ends tree x (Below tree t) (s .child) step (length tree) 0 (below-inside s (below-root s t h)) (omega arith) (below-root s t h))
     where
       by : {k : ℕ} → LeafAt tree k × Below tree t k → T (isIn t (numbersIn (nodeAt tree k .kind)))
-      by (l, b) = subst (λ (a : Kind). T (isIn t (numbersIn a))) (sym (l .is)) (below-leaf n stored tree inv (l .is) b)
+      by (l, b) = subst (λ (a : Kind). T (isIn t (numbersIn a))) (sym (l .is)) (below-leaf (l .is) b)

@@ -168,16 +168,19 @@ module _ (stored : List Trace) (tree : Tree) (query : Trace) (d : ℕ) where
   abbrev pub Alike : List Trace → LeafBound → Type 0
   Alike other a = a .bound ≤ d → distancesIn other tree query (a .number) ≡ distancesIn stored tree query (a .number)
 
-  read-alike : (other : List Trace) (s : Search) (a : LeafBound) → distancesIn other tree query (a .number) ≡ distancesIn stored tree query (a .number) → readLeaf other tree query s (a .number) ≡ readLeaf stored tree query s (a .number)
+  read-alike : (other : List Trace) (s : Search) (a : LeafBound)
+      → distancesIn other tree query (a .number) ≡ distancesIn stored tree query (a .number) → readLeaf other tree query s (a .number) ≡ readLeaf stored tree query s (a .number)
   unfolding readLeaf
   read-alike other s a e = rw e
 
   -- leaves in order, no distance below d, and d already found or still to be found in a leaf of R: the leaves read from here on are those of R,
   -- also on other traces that give these leaves the same distances
-  pub reads-R : (other : List Trace) {all : List LeafBound} (s : Search) → InOrder all → All Far all → All (Alike other) all → AtLeast d (s .best) → AtMost d (s .best) ⊎ Some Hit all → searchOn other tree query s all ≡ readAll s (inR all)
+  pub reads-R : (other : List Trace) {all : List LeafBound} (s : Search) → InOrder all → All Far all → All (Alike other) all
+      → AtLeast d (s .best) → AtMost d (s .best) ⊎ Some Hit all → searchOn other tree query s all ≡ readAll s (inR all)
   unfolding searchOn those
   reads-R other s order-none fs es least found = refl
-  reads-R other s (order-more {a} {rest} o os) (all-more f fs) (all-more g gs) least found = by (reads-R other (readLeaf stored tree query s (a .number)) os fs gs (read-least s a least f) (read-found s found)) (leb (a .bound) d) refl
+  reads-R other s (order-more {a} {rest} o os) (all-more f fs) (all-more g gs) least found = by
+      (reads-R other (readLeaf stored tree query s (a .number)) os fs gs (read-least s a least f) (read-found s found)) (leb (a .bound) d) refl
     where
       by : searchOn other tree query (readLeaf stored tree query s (a .number)) rest ≡ readAll (readLeaf stored tree query s (a .number)) (inR rest) → (c : Bool) → leb (a .bound) d ≡ c
           → (if isAbove (a .bound) (s .best) then s else searchOn other tree query (readLeaf other tree query s (a .number)) rest) ≡ readAll s (if c then a ∷ inR rest else inR rest)
@@ -201,7 +204,12 @@ module _ (stored : List Trace) (tree : Tree) (query : Trace) (d : ℕ) where
   pub read-traces : (s : Search) (l : List LeafBound) → readAll s l .traces ≡ s .traces + total (map (λ number. length (numbersIn (nodeAt tree number .kind))) (map (λ (a : LeafBound). a .number) l))
   unfolding readLeaf total distancesIn
   read-traces s [] = omega arith
-  read-traces s (a ∷ l) = omega (arith, read-traces (readLeaf stored tree query s (a .number)) l, length-map {B = Near} (numbersIn (nodeAt tree (a .number) .kind)) (λ (trace : ℕ). record { trace = trace; distance = distance query (getD stored trace []) }))
+  read-traces s (a ∷ l) = omega (
+    arith,
+    read-traces (readLeaf stored tree query s (a .number)) l,
+    length-map {B = Near} (numbersIn (nodeAt tree (a .number) .kind))
+        (λ (trace : ℕ). record { trace = trace; distance = distance query (getD stored trace []) }),
+  )
 
   pub read-best : (s : Search) (l : List LeafBound) → readAll s l .best ≡ foldl bestWith (s .best) (nearsOf l)
   unfolding readLeaf flatten
@@ -258,10 +266,14 @@ fold-some a [] = refl
 fold-some a (b ∷ l) = fold-some (nearer a b) l
 
 -- of distances to stored traces, all those of d among them, the best is the lowest number at distance d
-pub winner : (stored : List Trace) (query : Trace) (d : ℕ) → Low d stored query 0 → ((t : ℕ) → t < length stored → d ≤ distance query (getD stored t [])) → (l : List Near) → ((b : Near) → In b l → IsNear stored query b) → ((t : ℕ) → t < length stored → distance query (getD stored t []) ≡ d → In (near stored query t) l) → foldl bestWith none l ≡ some (record { trace = lowestAt 0 d stored query; distance = d })
+pub winner : (stored : List Trace) (query : Trace) (d : ℕ) → Low d stored query 0 →
+    ((t : ℕ) → t < length stored → d ≤ distance query (getD stored t [])) → (l : List Near) →
+    ((b : Near) → In b l → IsNear stored query b) →
+    ((t : ℕ) → t < length stored → distance query (getD stored t []) ≡ d → In (near stored query t) l) → foldl bestWith none l ≡ some (record { trace = lowestAt 0 d stored query; distance = d })
 unfolding bestWith
 winner stored query d o least [] nears has = absurd (in-nil (has (o .place) (o .inside) (o .at)))
-winner stored query d o least (a ∷ l) nears has = fold-some a l ∙ ap some (by (foldl nearer a l) (nears (foldl nearer a l) (fold-in nearer nearer-either a l)) (comes (in-cons (has (o .place) (o .inside) (o .at)))))
+winner stored query d o least (a ∷ l) nears has = fold-some a l ∙ ap some
+    (by (foldl nearer a l) (nears (foldl nearer a l) (fold-in nearer nearer-either a l)) (comes (in-cons (has (o .place) (o .inside) (o .at)))))
   where
     comes : {b : Near} → (b ≡ a) ⊎ In b l → Comes (foldl nearer a l) b
     comes (inl e) = rw e (fold-first Comes comes-trans comes-refl nearer nearer-first nearer-second a l)

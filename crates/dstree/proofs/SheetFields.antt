@@ -1,19 +1,19 @@
--- Fields of a sheet: numbers and samples in bytes, there and back.
+-- Fields of a sheet: numbers and samples of any format in bytes, there and back.
 use Prim.Native.Nat.{ℕ, zero, suc, _+_, _*_, _-_, _/_, _%_, _^_, _≤_, _<_}
 use mathlib.Core.Path.{_≡_, refl, sym, _∙_, ap, subst}
-use mathlib.Core.List.{List, [], _∷_, map, flatten}
+use mathlib.Core.List.{List, [], _∷_, _++_, map, flatten, append-assoc}
 use native.Mathlib.Omega.{arith}
 use native.Mathlib.Decide.{decLe}
-use native.Mathlib.Nat.{pow-succ', lt-of-not-le}
-use lib.ListN.{length, getD, length-map}
+use native.Mathlib.Nat.{pow-succ', lt-of-not-le, le-of-lt, mul-le-mul-right}
+use lib.ListN.{length, take, drop, length-map, take-append-drop, drop-of-length-le}
+use lib.Seq.{take-at, drop-at, take-all, length-take-le}
 use lib.IntN.{ℤ, pos, negsuc}
 use lib.Signed.{mag}
-use lib.Dec.{T, ltb, ltb→lt, lt→ltb}
+use lib.Dec.{T, ltb, ltb→lt}
 use borrow.Author.Tests.{lt-ltb, le-ltb}
-use Rattle.integer.proofs.Lists.{All, all-none, all-more, all-mono, all-flatten, every-all, all-every}
-use Rattle.dstree.specs.Measures.{sampleLimit}
-use Rattle.dstree.specs.Sheet.{areBytes, bytesOf, numberIn, part, Format, narrow, coded, decoded}
-use Rattle.dstree.proofs.SheetPieces.{Sized, flatten-at, flatten-length}
+use Rattle.integer.proofs.Lists.{All, all-none, all-more, all-mono, every-all}
+use Rattle.dstree.specs.Sheet.{areBytes, bytesOf, numberIn, part, Format, coded, codedAll, decoded}
+use Rattle.dstree.proofs.SheetPieces.{Sized, flatten-length}
 
 -- every number of a list is below 256
 abbrev pub Bytes : List ℕ → Type 0
@@ -23,21 +23,12 @@ pub bytes-of : (bs : List ℕ) → T (areBytes bs) → Bytes bs
 unfolding areBytes
 bytes-of bs t = all-mono (λ b p. ltb→lt b 256 p) (every-all (λ b. ltb b 256) bs t)
 
-pub are-bytes : {bs : List ℕ} → Bytes bs → T (areBytes bs)
-unfolding areBytes
-are-bytes h = all-every (λ b. ltb b 256) (all-mono (λ b p. lt→ltb b 256 p) h)
-
 -- ---- numbers
 
 pub bytes-length : (k v : ℕ) → length (bytesOf k v) ≡ k
 unfolding bytesOf
 bytes-length zero v = refl
 bytes-length (suc k) v = ap suc (bytes-length k (v / 256))
-
-pub bytes-bytes : (k v : ℕ) → Bytes (bytesOf k v)
-unfolding bytesOf
-bytes-bytes zero v = all-none
-bytes-bytes (suc k) v = all-more {a = v % 256} (omega arith) (bytes-bytes k (v / 256))
 
 pub number-bytes : (k v : ℕ) → v < 256 ^ k → numberIn (bytesOf k v) ≡ v
 unfolding bytesOf numberIn
@@ -68,91 +59,120 @@ number-below (all-more {a = b} {rest} h hs) =
 pub said : (k v : ℕ) (bs : List ℕ) → length bs ≡ k → Bytes bs → numberIn bs ≡ v → bytesOf k v ≡ bs
 said k v bs l h e = rw (← l, ← e) (bytes-number h)
 
--- ---- samples of any width
+-- ---- samples of any format
 
-pub coded-length : (f : Format) (z : ℤ) → length (coded f z) ≡ f .sampleBytes
-unfolding coded
-coded-length f (pos v) = bytes-length (f .sampleBytes) v
-coded-length f (negsuc v) = bytes-length (f .sampleBytes) (256 ^ f .sampleBytes - 1 - v)
+module _ (f : Format) where
+  abbrev width : ℕ
+  width = f .sampleBytes
 
-pub coded-bytes : (f : Format) (z : ℤ) → Bytes (coded f z)
-unfolding coded
-coded-bytes f (pos v) = bytes-bytes (f .sampleBytes) v
-coded-bytes f (negsuc v) = bytes-bytes (f .sampleBytes) (256 ^ f .sampleBytes - 1 - v)
+  abbrev above : ℕ
+  above = 256 ^ f .sampleBytes
 
--- samples, one behind the other
-abbrev pub run : Format → List ℤ → List ℕ
-run f xs = flatten (map (coded f) xs)
+  pub coded-length : (z : ℤ) → length (coded f z) ≡ width
+  unfolding coded
+  coded-length (pos v) = bytes-length width v
+  coded-length (negsuc v) = bytes-length width (above - 1 - v)
 
-pub coded-sized : (f : Format) (xs : List ℤ) → Sized (f .sampleBytes) (map (coded f) xs)
-coded-sized f [] = all-none
-coded-sized f (x ∷ xs) = all-more {a = coded f x} (coded-length f x) (coded-sized f xs)
+  pub coded-sized : (xs : List ℤ) → Sized width (map (coded f) xs)
+  coded-sized [] = all-none
+  coded-sized (x ∷ xs) = all-more {a = coded f x} (coded-length x) (coded-sized xs)
 
--- the sample at a place
-pub run-at : (f : Format) (xs : List ℤ) (i : ℕ) → i < length xs → part (i * f .sampleBytes) (f .sampleBytes) (run f xs) ≡ coded f (getD xs i (pos 0))
-run-at f xs i h = flatten-at (f .sampleBytes) (coded-sized f xs) i (rw (length-map xs (coded f)) h) ∙ map-at xs i h
-  where
-    map-at : (xs : List ℤ) (i : ℕ) → i < length xs → getD (map (coded f) xs) i [] ≡ coded f (getD xs i (pos 0))
-    map-at [] i h = absurd (omega arith)
-    map-at (x ∷ xs) zero h = refl
-    map-at (x ∷ xs) (suc i) h = map-at xs i (omega arith)
+  -- ---- one behind another
 
-pub run-length : (f : Format) (xs : List ℤ) → length (run f xs) ≡ length xs * f .sampleBytes
-run-length f xs = flatten-length (f .sampleBytes) (coded-sized f xs) ∙ ap (λ (k : ℕ). k * f .sampleBytes) (length-map xs (coded f))
+  pub codes-length : (xs : List ℤ) → length (codedAll f xs) ≡ length xs * width
+  codes-length xs = flatten-length width (coded-sized xs) ∙ ap (λ (k : ℕ). k * width) (length-map xs (coded f))
 
-pub run-bytes : (f : Format) (xs : List ℤ) → Bytes (run f xs)
-run-bytes f xs = all-flatten (all-coded xs)
-  where
-    all-coded : (xs : List ℤ) → All Bytes (map (coded f) xs)
-    all-coded [] = all-none
-    all-coded (x ∷ xs) = all-more {a = coded f x} (coded-bytes f x) (all-coded xs)
+  pub codes-append : (a b : List ℤ) → codedAll f (a ++ b) ≡ codedAll f a ++ codedAll f b
+  unfolding flatten
+  codes-append [] b = refl
+  codes-append (z ∷ a) b =
+      ap (λ (l : List ℕ). coded f z ++ l) (codes-append a b) ∙ sym (append-assoc (coded f z) (codedAll f a) (codedAll f b))
+
+  -- cut behind k samples: their bytes, and the others'
+  module _ (k : ℕ) (xs : List ℤ) where
+    cut : codedAll f xs ≡ codedAll f (take k xs) ++ codedAll f (drop k xs)
+    cut = ap (codedAll f) (sym (take-append-drop k xs)) ∙ codes-append (take k xs) (drop k xs)
+
+    long : k ≤ length xs → length (codedAll f (take k xs)) ≡ k * width
+    long h = codes-length (take k xs) ∙ ap (λ (i : ℕ). i * width) (length-take-le k xs h)
+
+    short : length xs ≤ k → length (codedAll f xs) ≤ k * width
+    short h = omega (arith, codes-length xs, mul-le-mul-right width h)
+
+    pub codes-take : take (k * width) (codedAll f xs) ≡ codedAll f (take k xs)
+    codes-take = by (decLe k (length xs))
+      where
+        by : Dec (k ≤ length xs) → take (k * width) (codedAll f xs) ≡ codedAll f (take k xs)
+        by (yes h) = ap (take (k * width)) cut ∙ take-at (codedAll f (take k xs)) (codedAll f (drop k xs)) (k * width) (long h)
+        by (no g) =
+            let h : length xs ≤ k = le-of-lt (lt-of-not-le g) in
+            take-all (k * width) (codedAll f xs) (short h) ∙ ap (codedAll f) (sym (take-all k xs h))
+
+    pub codes-drop : drop (k * width) (codedAll f xs) ≡ codedAll f (drop k xs)
+    unfolding flatten
+    codes-drop = by (decLe k (length xs))
+      where
+        by : Dec (k ≤ length xs) → drop (k * width) (codedAll f xs) ≡ codedAll f (drop k xs)
+        by (yes h) = ap (drop (k * width)) cut ∙ drop-at (codedAll f (take k xs)) (codedAll f (drop k xs)) (k * width) (long h)
+        by (no g) =
+            let h : length xs ≤ k = le-of-lt (lt-of-not-le g) in
+            drop-of-length-le (codedAll f xs) {i = k * width} (short h) ∙ sym (ap (codedAll f) (drop-of-length-le xs {i = k} h))
+
+  -- the bytes of so many samples from one on
+  pub codes-part : (i count : ℕ) (xs : List ℤ) → part (i * width) (count * width) (codedAll f xs) ≡ codedAll f (part i count xs)
+  codes-part i count xs = ap (take (count * width)) (codes-drop i xs) ∙ codes-take count (drop i xs)
+
+  -- ---- there and back
+
+  decoded-low : (bytes : List ℕ) (v : ℕ) → numberIn bytes ≡ v → 2 * v < above → decoded f bytes ≡ pos v
+  unfolding decoded
+  decoded-low bytes v e h = rw (e, lt-ltb (2 * v) above h) refl
+
+  decoded-high : (bytes : List ℕ) (v : ℕ) → numberIn bytes ≡ v → above ≤ 2 * v → decoded f bytes ≡ negsuc (above - 1 - v)
+  unfolding decoded
+  decoded-high bytes v e h = rw (e, le-ltb (2 * v) above h) refl
 
 back-sub : (m v : ℕ) → v < m → m - 1 - (m - 1 - v) ≡ v
 back-sub m v h = omega arith
 
 -- half of the numbers that the bytes can say are for samples from 0 on
-module _ (f : Format) (limit : ℕ) (half : 2 * limit ≡ 256 ^ f .sampleBytes) where
+module _ (f : Format) (half : ℕ) (halves : 2 * half ≡ 256 ^ f .sampleBytes) where
   -- a sample that the bytes can say
   abbrev pub Fits : ℤ → Type 0
-  Fits z = mag z < limit
-
-  decoded-low : (bytes : List ℕ) (v : ℕ) → numberIn bytes ≡ v → v < limit → decoded f bytes ≡ pos v
-  unfolding decoded
-  decoded-low bytes v e h = rw (e, lt-ltb (2 * v) (256 ^ f .sampleBytes) (omega arith)) refl
-
-  decoded-high : (bytes : List ℕ) (v : ℕ) → numberIn bytes ≡ v → limit ≤ v → decoded f bytes ≡ negsuc (256 ^ f .sampleBytes - 1 - v)
-  unfolding decoded
-  decoded-high bytes v e h = rw (e, le-ltb (2 * v) (256 ^ f .sampleBytes) (omega arith)) refl
+  Fits z = mag z < half
 
   pub decoded-coded : (z : ℤ) → Fits z → decoded f (coded f z) ≡ z
   unfolding coded
-  decoded-coded (pos v) h = decoded-low (bytesOf (f .sampleBytes) v) v (number-bytes (f .sampleBytes) v (omega arith)) h
+  decoded-coded (pos v) h = decoded-low f (bytesOf (width f) v) v (number-bytes (width f) v (omega arith)) (omega arith)
   decoded-coded (negsuc v) h =
-      decoded-high (bytesOf (f .sampleBytes) (256 ^ f .sampleBytes - 1 - v)) (256 ^ f .sampleBytes - 1 - v) (number-bytes (f .sampleBytes) (256 ^ f .sampleBytes - 1 - v) (omega arith)) (omega arith)
-      ∙ ap negsuc (back-sub (256 ^ f .sampleBytes) v (omega arith))
+      let w : ℕ = above f - 1 - v in
+      decoded-high f (bytesOf (width f) w) w (number-bytes (width f) w (omega arith)) (omega arith)
+      ∙ ap negsuc (back-sub (above f) v (omega arith))
 
   pub decoded-all : {xs : List ℤ} → All Fits xs → map (decoded f) (map (coded f) xs) ≡ xs
   decoded-all all-none = refl
   decoded-all (all-more {a = x} {rest} h hs) = rw (decoded-coded x h, decoded-all hs) refl
 
   module _ (bs : List ℕ) (l : length bs ≡ f .sampleBytes) (h : Bytes bs) where
-    below : (v : ℕ) → numberIn bs ≡ v → v < 256 ^ f .sampleBytes
+    below : (v : ℕ) → numberIn bs ≡ v → v < above f
     below v e = subst (λ (k : ℕ). v < 256 ^ k) l (subst (λ (x : ℕ). x < 256 ^ length bs) e (number-below h))
 
     pub decoded-fits : Fits (decoded f bs)
-    decoded-fits = by (numberIn bs) refl (decLe limit (numberIn bs))
+    decoded-fits = by (numberIn bs) refl (decLe half (numberIn bs))
       where
-        by : (v : ℕ) → numberIn bs ≡ v → Dec (limit ≤ v) → Fits (decoded f bs)
-        by v e (yes g) = subst Fits (sym (decoded-high bs v e g)) (omega (arith, below v e))
-        by v e (no g) = subst Fits (sym (decoded-low bs v e (lt-of-not-le g))) (lt-of-not-le g)
+        by : (v : ℕ) → numberIn bs ≡ v → Dec (half ≤ v) → Fits (decoded f bs)
+        by v e (yes g) = subst Fits (sym (decoded-high f bs v e (omega arith))) (omega (arith, below v e))
+        by v e (no g) = let k = lt-of-not-le g in subst Fits (sym (decoded-low f bs v e (omega arith))) k
 
     pub coded-decoded : coded f (decoded f bs) ≡ bs
     unfolding coded
-    coded-decoded = by (numberIn bs) refl (decLe limit (numberIn bs))
+    coded-decoded = by (numberIn bs) refl (decLe half (numberIn bs))
       where
-        by : (v : ℕ) → numberIn bs ≡ v → Dec (limit ≤ v) → coded f (decoded f bs) ≡ bs
-        by v e (yes g) = ap (coded f) (decoded-high bs v e g) ∙ ap (bytesOf (f .sampleBytes)) (back-sub (256 ^ f .sampleBytes) v (below v e)) ∙ said (f .sampleBytes) v bs l h e
-        by v e (no g) = ap (coded f) (decoded-low bs v e (lt-of-not-le g)) ∙ said (f .sampleBytes) v bs l h e
+        by : (v : ℕ) → numberIn bs ≡ v → Dec (half ≤ v) → coded f (decoded f bs) ≡ bs
+        by v e (yes g) =
+            ap (coded f) (decoded-high f bs v e (omega arith)) ∙ ap (bytesOf (width f)) (back-sub (above f) v (below v e))
+            ∙ said (width f) v bs l h e
+        by v e (no g) = let k = lt-of-not-le g in ap (coded f) (decoded-low f bs v e (omega arith)) ∙ said (width f) v bs l h e
 
   pub coded-all : {bs : List (List ℕ)} → Sized (f .sampleBytes) bs → All Bytes bs → map (coded f) (map (decoded f) bs) ≡ bs
   coded-all all-none all-none = refl
@@ -161,13 +181,3 @@ module _ (f : Format) (limit : ℕ) (half : 2 * limit ≡ 256 ^ f .sampleBytes) 
   pub decoded-all-fit : {bs : List (List ℕ)} → Sized (f .sampleBytes) bs → All Bytes bs → All Fits (map (decoded f) bs)
   decoded-all-fit all-none all-none = all-none
   decoded-all-fit (all-more {a = b} e es) (all-more h hs) = all-more {a = decoded f b} (decoded-fits b e h) (decoded-all-fit es hs)
-
--- ---- two bytes a sample
-
-pub narrow-length : (z : ℤ) → length (coded narrow z) ≡ 2
-unfolding narrow
-narrow-length z = coded-length narrow z
-
-pub narrow-half : 2 * sampleLimit ≡ 256 ^ narrow .sampleBytes
-unfolding sampleLimit narrow
-narrow-half = refl

@@ -1,98 +1,61 @@
--- A sheet that is written, of any traces: its length, its bytes, and what its blocks carry.
-use Prim.Native.Nat.{ℕ, suc, _+_, _*_, _/_, _≤_, _<_}
+-- A sheet that is written, in any format and of any traces: its length, its bytes, and what its blocks carry.
+use Prim.Native.Nat.{ℕ, suc, _*_}
 use mathlib.Core.Path.{_≡_, refl, sym, _∙_, ap, subst}
-use mathlib.Core.List.{List, [], _∷_, flatten}
+use mathlib.Core.List.{List, _∷_, flatten}
 use native.Mathlib.Omega.{arith}
-use native.Mathlib.Nat.{mul-comm, mul-le-mul}
-use lib.ListN.{length, getD}
-use lib.Dec.{T}
-use Rattle.integer.specs.Words.{every, roundedUp}
-use Rattle.integer.proofs.Lists.{All, all-more, all-append, all-flatten}
+use native.Mathlib.Nat.{le-trans, mul-comm}
+use lib.ListN.{length}
+use Rattle.integer.proofs.Lists.{all-more, all-mono}
 use Rattle.dstree.specs.Measures.{Trace, Measures}
-use Rattle.dstree.specs.Sheet.{areBytes, bytesOf, part, pieces, blockSize, narrow, block, letters, headOf, sampleBlocksNeeded, blocksNeeded, carriedOf, blocksOf, sheetOf}
-use Rattle.dstree.proofs.SheetPieces.{Sized, pieces-length, pieces-at, pieces-at-most, pieces-all, flatten-length, flatten-at}
-use Rattle.dstree.proofs.SheetFields.{Bytes, bytes-of, are-bytes, bytes-bytes, run, run-bytes}
-use Rattle.dstree.proofs.SheetBlocks.{Carried, blocks-count, blocks-at, blocks-sized, blocks-bytes}
-
--- ---- how many blocks
-
--- they have room for all samples
-pub needed-room : (count n : ℕ) → count * n ≤ sampleBlocksNeeded count n * 253
-unfolding sampleBlocksNeeded roundedUp narrow
-needed-room count n = room (count * n)
-  where
-    room : (a : ℕ) → a ≤ (a + 252) / 253 * 253
-    room a = omega arith
-
--- "above 4,146 blocks" no library needs
-pub needed-most : (count n : ℕ) → count ≤ 4096 → n ≤ 256 → sampleBlocksNeeded count n ≤ 4145
-unfolding sampleBlocksNeeded roundedUp narrow
-needed-most count n h k = most (count * n) (mul-le-mul {n₁ = count} {m₁ = n} {n₂ = 4096} {m₂ = 256} h k)
-  where
-    most : (a : ℕ) → a ≤ 1048576 → (a + 252) / 253 ≤ 4145
-    most a h = omega arith
-
--- ---- what they carry
-
-head-bytes : (m : Measures) (count : ℕ) → Bytes (headOf m count)
-unfolding headOf letters areBytes every
-head-bytes m count = all-append (all-append (all-append (all-append (bytes-of letters tt) (bytes-bytes 2 (m .n))) (bytes-bytes 2 (m .capacity))) (bytes-bytes 2 (m .leafSize))) (bytes-bytes 2 count)
+use Rattle.dstree.specs.Sheet.{bytesOf, pieces, Format, blockSize, sampleSize, letters, headOf}
+use Rattle.dstree.specs.Sheet.{codedAll, sampleBlocksNeeded, carriedOf, blocksOf, sheetAs}
+use Rattle.dstree.proofs.SheetPieces.{Sized, pieces-length, pieces-at-most, flatten-length}
+use Rattle.dstree.proofs.SheetFormat.{Sound}
+use Rattle.dstree.proofs.SheetBlocks.{Carried, blocks-count, blocks-sized}
 
 pub head-length : (m : Measures) (count : ℕ) → length (headOf m count) ≡ 12
 unfolding headOf letters bytesOf
 head-length m count = refl
 
-module _ (m : Measures) (traces : List Trace) where
-  -- the bytes of all samples
-  abbrev pub sampled : List ℕ
-  sampled = run narrow (flatten traces)
+module _ (f : Format) (half : ℕ) (sound : Sound f half) where
+  -- pieces of samples' bytes
+  pub samples-carried : (count : ℕ) (bytes : List ℕ) → Carried (pieces (sampleSize f) count bytes)
+  samples-carried count bytes = all-mono (λ c h. le-trans h (sound .room)) (pieces-at-most (sampleSize f) count bytes)
 
-  abbrev pub needed : ℕ
-  needed = sampleBlocksNeeded (length traces) (m .n)
+  module _ (m : Measures) (traces : List Trace) where
+    -- the bytes of all samples
+    abbrev pub sampled : List ℕ
+    sampled = codedAll f (flatten traces)
 
-  pub carried-is : carriedOf m traces ≡ headOf m (length traces) ∷ pieces 506 needed sampled
-  unfolding carriedOf narrow
-  carried-is = refl
+    abbrev pub needed : ℕ
+    needed = sampleBlocksNeeded f (length traces) (m .n)
 
-  pub carried-count : length (carriedOf m traces) ≡ blocksNeeded (length traces) (m .n)
-  unfolding blocksNeeded
-  carried-count = ap length carried-is ∙ ap suc (pieces-length 506 needed sampled)
+    -- ---- what the blocks carry
 
-  -- no block carries more than it has room for
-  pub carried-fit : Carried (carriedOf m traces)
-  carried-fit = subst Carried (sym carried-is) (all-more {a = headOf m (length traces)} (omega (arith, head-length m (length traces))) (pieces-at-most 506 needed sampled))
+    pub carried-is : carriedOf f m traces ≡ headOf m (length traces) ∷ pieces (sampleSize f) needed sampled
+    unfolding carriedOf
+    carried-is = refl
 
-  carried-bytes : All Bytes (carriedOf m traces)
-  carried-bytes = subst (All Bytes) (sym carried-is) (all-more {a = headOf m (length traces)} (head-bytes m (length traces)) (pieces-all 506 needed (run-bytes narrow (flatten traces))))
+    pub carried-count : length (carriedOf f m traces) ≡ suc needed
+    carried-count = ap length carried-is ∙ ap suc (pieces-length (sampleSize f) needed sampled)
 
-  -- ---- blocks
+    -- no block carries more than it has room for
+    pub carried-fit : Carried (carriedOf f m traces)
+    carried-fit =
+        subst Carried (sym carried-is)
+        (all-more {a = headOf m (length traces)} (omega (arith, head-length m (length traces))) (samples-carried needed sampled))
 
-  pub written-count : length (blocksOf m traces) ≡ blocksNeeded (length traces) (m .n)
-  unfolding blocksOf
-  written-count = blocks-count 0 (carriedOf m traces) ∙ carried-count
+    -- ---- blocks
 
-  pub written-sized : Sized 512 (blocksOf m traces)
-  unfolding blocksOf
-  written-sized = blocks-sized 0 carried-fit
+    pub written-sized : Sized blockSize (blocksOf f m traces)
+    unfolding blocksOf
+    written-sized = blocks-sized f 0 carried-fit
 
-  -- the length of a sheet, whatever the traces are
-  pub written-length : length (sheetOf m traces) ≡ blockSize * blocksNeeded (length traces) (m .n)
-  unfolding sheetOf blockSize
-  written-length = flatten-length 512 written-sized ∙ ap (λ (k : ℕ). k * 512) written-count ∙ mul-comm (blocksNeeded (length traces) (m .n)) 512
+    written-count : length (blocksOf f m traces) ≡ suc needed
+    unfolding blocksOf
+    written-count = blocks-count f 0 (carriedOf f m traces) ∙ carried-count
 
-  pub written-bytes : T (areBytes (sheetOf m traces))
-  unfolding sheetOf blocksOf
-  written-bytes = are-bytes (all-flatten (blocks-bytes 0 carried-bytes))
-
-  -- ---- the block at a place
-
-  -- block 0 carries the head, block i + 1 the bytes of samples from 506 × i on
-  pub carried-first : getD (carriedOf m traces) 0 [] ≡ headOf m (length traces)
-  carried-first = ap (λ (cs : List (List ℕ)). getD cs 0 []) carried-is
-
-  pub carried-at : (i : ℕ) → i < needed → getD (carriedOf m traces) (suc i) [] ≡ part (i * 506) 506 sampled
-  carried-at i h = ap (λ (cs : List (List ℕ)). getD cs (suc i) []) carried-is ∙ pieces-at 506 needed sampled i h
-
-  pub written-at : (i : ℕ) → i < blocksNeeded (length traces) (m .n) → part (i * 512) 512 (sheetOf m traces) ≡ block i (getD (carriedOf m traces) i [])
-  unfolding sheetOf blocksOf
-  written-at i h = flatten-at 512 written-sized i (rw written-count h) ∙ blocks-at 0 (carriedOf m traces) i (rw carried-count h) ∙ ap (λ (k : ℕ). block k (getD (carriedOf m traces) i [])) (let e : 0 + i ≡ i = omega arith in e)
+    -- the length of a sheet, whatever the traces are
+    pub written-length : length (sheetAs f m traces) ≡ blockSize * suc needed
+    unfolding sheetAs
+    written-length = flatten-length blockSize written-sized ∙ ap (λ (k : ℕ). k * blockSize) written-count ∙ mul-comm (suc needed) blockSize

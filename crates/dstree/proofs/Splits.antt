@@ -1,36 +1,45 @@
--- A leaf that is split keeps the invariant: the leaf's traces go to its left or its right child by the test, and all else is as before.
+-- A leaf that is split keeps the shape and the invariant: its traces go to the left or the right child by the test, and all else is as before.
 -- What a split must have for that is `Good`, and the best split of a node has it, as every candidate of the node that parts the leaf has.
-use Prim.Native.Nat.{ℕ, suc, _+_, _*_, _-_, _≤_, _<_}
+use Prim.Native.Nat.{ℕ, zero, suc, _+_, _≤_, _<_}
 use mathlib.Core.Path.{_≡_, refl, sym, _∙_, ap, subst}
 use mathlib.Core.Logic.{_⊎_, inl, inr}
 use mathlib.Core.Bool.{Bool, true, false, not}
 use mathlib.Core.Option.{Option, none, some}
-use mathlib.Core.List.{List, [], _∷_, _++_, map, foldl}
+use mathlib.Core.List.{List, [], _∷_, map, foldl}
 use native.Mathlib.Omega.{arith}
 use native.Mathlib.Decide.{decLe}
 use native.Mathlib.Nat.{lt-of-not-le}
 use lib.ListN.{length, getD, set, length-set, length-append}
-use lib.IntN.{ℤ, pos}
+use lib.IntN.{ℤ, pos, _+ℤ_}
 use lib.Signed.{ltZ}
 use lib.Dec.{T, T-not, ltb}
 use Rattle.integer.specs.Words.{if_then_else_, lesser, greater, isIn, isEmpty, those, every}
 use mir.Facts.{and-yes}
 use borrow.Author.Tests.{ltb-true}
 use Rattle.integer.proofs.Tests.{test-true, test-false}
-use Rattle.integer.proofs.Lists.{not-empty, same-or-not, In, in-is, is-in, in-map, in-nil, from-those, in-those, in-either, those-lengths, every-of, All, all-none, all-more, all-mono, all-map, all-those, lesser-either, greater-either, Up, u-none, up-those, set-cases, two-cases}
+use Rattle.integer.proofs.Lists.{not-empty, same-or-not, In, in-is, is-in, in-map, in-nil, from-those, in-those, in-either, those-lengths}
+use Rattle.integer.proofs.Lists.{every-of, All, all-none, all-more, all-mono, all-map, all-those, lesser-either, greater-either, Up}
+use Rattle.integer.proofs.Lists.{u-none, up-those, set-cases, two-cases}
 use Rattle.dstree.specs.Measures.{Trace}
-use Rattle.dstree.specs.Node.{Kind, leaf, inner, Node, node, Tree, nodeAt, figureOf, goesLeft, ends}
-use Rattle.dstree.specs.Adding.{newLeaf, Candidate, candidates, tracesOf, thresholdOf, testOf, Split, splitBy, parts, gain, bestOf, best, splitInto, splitKind}
+use Rattle.dstree.specs.Node.{Test, Kind, leaf, inner, Node, node, Tree, nodeAt, figureOf, goesLeft, ends}
+use Rattle.dstree.specs.Adding.{newLeaf, Candidate, candidates, tracesOf, thresholdOf, testOf, Split, splitBy, parts, gain, bestOf, best, splitInto, splitKind, split, splitNew}
 use Rattle.dstree.specs.Matching.{hasChild, numbersIn}
 use Rattle.dstree.specs.Claims.{Below, held, under}
 use Rattle.dstree.proofs.Ranges.{Covered, covered-none, new-covered}
-use Rattle.dstree.proofs.Parted.{Fits}
-use Rattle.dstree.proofs.Formed.{Parent, Kept, nothing, number-node}
+use Rattle.dstree.specs.Formed.{Fits, RunIn, Parent, Kept, Shape}
+use Rattle.dstree.proofs.Formed.{nothing, number-node}
 use Rattle.dstree.proofs.Change.{leaf-in, has-inner, has-left, has-right}
-use Rattle.dstree.proofs.Cuts.{RunIn, FitsAs, candidates-fit, new-ends}
-use Rattle.dstree.proofs.Count.{spare, slack, slack-set, slack-append}
-use Rattle.dstree.proofs.Exact.{AllReached, reached-none, reached-by-more, of-chosen, new-reached}
-use Rattle.dstree.proofs.Invariant.{Threshold, threshold-more, InnerFits, Inv}
+use Rattle.dstree.proofs.Cuts.{FitsAs, candidates-fit, new-ends}
+use Rattle.dstree.proofs.Exact.{Of, AllReached, reached-none, reached-by-more, of-chosen, new-reached}
+use Rattle.dstree.proofs.Invariant.{Sends, Exact}
+
+-- a test's threshold is the sum of the figures of two traces of P
+pub record Threshold (stored : List Trace) (P : ℕ → Type 0) (test : Test) : Type 0 where
+  pub least : ℤ
+  pub greatest : ℤ
+  pub least-of : Of P (λ (t : ℕ). figureOf (test .figure) (test .on) (getD stored t [])) least
+  pub greatest-of : Of P (λ (t : ℕ). figureOf (test .figure) (test .on) (getD stored t [])) greatest
+  pub is : test .threshold ≡ least +ℤ greatest
 
 -- what a split makes of a leaf with these right ends and numbers
 pub record Good (n : ℕ) (stored : List Trace) (es numbers : List ℕ) (s : Split) : Type 0 where
@@ -48,9 +57,13 @@ pub record Good (n : ℕ) (stored : List Trace) (es numbers : List ℕ) (s : Spl
   pub run-in : RunIn n (s .test .on)
   pub threshold-is : Threshold stored (λ (t : ℕ). In t numbers) (s .test)
 
--- ---- a leaf splits
+-- no number is on both sides
+pub sides-apart : {n : ℕ} {stored : List Trace} {es numbers : List ℕ} {s : Split} → Good n stored es numbers s → (t : ℕ) → T (isIn t (s .left)) → T (isIn t (s .right)) → ⊥
+sides-apart good t h i = let z : true ≡ false = sym (good .goes-left t h) ∙ good .goes-right t i in subst T z tt
 
-module _ (n : ℕ) (stored : List Trace) (tree : Tree) (inv : Inv n stored tree) (at : ℕ) (held-there : List ℕ) (is-leaf : nodeAt tree at .kind ≡ leaf held-there) (s : Split) (good : Good n stored (ends (nodeAt tree at .segments)) held-there s) where
+-- ---- the nodes after a split
+
+module _ (stored : List Trace) (tree : Tree) (at : ℕ) (s : Split) where
   abbrev turned : Node
   turned = node (nodeAt tree at .segments) (inner (s .test) (length tree) (suc (length tree)))
 
@@ -60,38 +73,56 @@ module _ (n : ℕ) (stored : List Trace) (tree : Tree) (inv : Inv n stored tree)
   abbrev r : Node
   r = newLeaf stored (s .childEnds) (s .right)
 
+  pub split-length : length (splitInto stored tree at (some s)) ≡ suc (suc (length tree))
+  unfolding splitInto
+  split-length = simp (length-append, length-set) (omega arith)
+
+  -- the one that was split, another one, the left, the right, or none
+  pub split-cases : (P : Node → Type 0) (k : ℕ) → (k ≡ at → P turned) → ((k ≡ at → ⊥) → k < length tree → P (nodeAt tree k))
+      → (k ≡ length tree → P l) → (k ≡ suc (length tree) → P r) → (suc (suc (length tree)) ≤ k → P nothing) → P (nodeAt (splitInto stored tree at (some s)) k)
+  unfolding splitInto
+  split-cases P k here old left right out =
+      let size = length-set tree at turned in
+      two-cases nothing P (set tree at turned) l r k (λ h. set-cases nothing P tree at turned k (λ e g. here e) old (λ g. absurd (omega arith)))
+      (λ e. left (omega arith)) (λ e. right (omega arith)) (λ h. out (omega arith))
+
+-- ---- the shape
+
+module _ {n count : ℕ} {tree : Tree} (shape : Shape n count tree) (stored : List Trace) (at : ℕ) (held-there : List ℕ)
+    (is-leaf : nodeAt tree at .kind ≡ leaf held-there) (s : Split) (good : Good n stored (ends (nodeAt tree at .segments)) held-there s) where
   abbrev new : Tree
-  new = set tree at turned ++ (l ∷ r ∷ [])
+  new = splitInto stored tree at (some s)
 
   here-in : at < length tree
   here-in = leaf-in tree at held-there is-leaf (omega (arith, good .lengths, good .left-some))
 
   new-length : length new ≡ suc (suc (length tree))
-  new-length = simp (length-append, length-set) (omega arith)
+  new-length = split-length stored tree at s
 
-  -- ---- a node: the one that was split, another one, the new ones
+  new-cases : (P : Node → Type 0) (k : ℕ) → (k ≡ at → k < length tree → P (turned stored tree at s)) → ((k ≡ at → ⊥) → k < length tree → P (nodeAt tree k))
+      → (k ≡ length tree → P (l stored tree at s)) → (k ≡ suc (length tree) → P (r stored tree at s)) → (suc (suc (length tree)) ≤ k → P nothing) → P (nodeAt new k)
+  new-cases P k here = split-cases stored tree at s P k (λ e. here e (omega (arith, here-in)))
 
-  new-cases : (P : Node → Type 0) (k : ℕ) → (k ≡ at → k < length tree → P turned) → ((k ≡ at → ⊥) → k < length tree → P (nodeAt tree k)) → (k ≡ length tree → P l) → (k ≡ suc (length tree) → P r) → (suc (suc (length tree)) ≤ k → P nothing) → P (nodeAt new k)
-  new-cases P k here old left right out =
-      two-cases nothing P (set tree at turned) l r k (λ h. set-cases nothing P tree at turned k here old (λ g. absurd (omega (arith, length-set tree at turned))))
-      (λ e. left (e ∙ length-set tree at turned)) (λ e. right (e ∙ ap suc (length-set tree at turned))) (λ h. out (rw (length-set tree at turned) at h))
+  at-left : nodeAt new (length tree) ≡ l stored tree at s
+  at-left = new-cases (λ (a : Node). a ≡ l stored tree at s) (length tree) (λ e h. absurd (omega arith)) (λ f h. absurd (omega arith))
+      (λ e. refl) (λ e. absurd (omega arith)) (λ g. absurd (omega arith))
 
-  at-left : nodeAt new (length tree) ≡ l
-  at-left = new-cases (λ (a : Node). a ≡ l) (length tree) (λ e h. absurd (omega arith)) (λ f h. absurd (omega arith)) (λ e. refl) (λ e. absurd (omega arith)) (λ g. absurd (omega arith))
-
-  at-right : nodeAt new (suc (length tree)) ≡ r
-  at-right = new-cases (λ (a : Node). a ≡ r) (suc (length tree)) (λ e h. absurd (omega arith)) (λ f h. absurd (omega arith)) (λ e. absurd (omega arith)) (λ e. refl) (λ g. absurd (omega arith))
+  at-right : nodeAt new (suc (length tree)) ≡ r stored tree at s
+  at-right = new-cases (λ (a : Node). a ≡ r stored tree at s) (suc (length tree)) (λ e h. absurd (omega arith))
+      (λ f h. absurd (omega arith)) (λ e. absurd (omega arith)) (λ e. refl) (λ g. absurd (omega arith))
 
   at-same : (k : ℕ) → k < length tree → (k ≡ at → ⊥) → nodeAt new k ≡ nodeAt tree k
   at-same k g f = new-cases (λ (a : Node). a ≡ nodeAt tree k) k (λ e h. absurd (f e)) (λ f h. refl) (λ e. absurd (omega arith)) (λ e. absurd (omega arith)) (λ h. absurd (omega arith))
 
-  at-turned : nodeAt new at ≡ turned
-  at-turned = new-cases (λ (a : Node). a ≡ turned) at (λ e h. refl) (λ f h. absurd (f refl)) (λ e. absurd (omega (arith, here-in))) (λ e. absurd (omega (arith, here-in))) (λ h. absurd (omega (arith, here-in)))
+  at-turned : nodeAt new at ≡ turned stored tree at s
+  at-turned = new-cases (λ (a : Node). a ≡ turned stored tree at s) at (λ e h. refl) (λ f h. absurd (f refl))
+      (λ e. absurd (omega (arith, here-in))) (λ e. absurd (omega (arith, here-in))) (λ h. absurd (omega (arith, here-in)))
 
   -- no old record is changed
   old-segments : (k : ℕ) → k < length tree → nodeAt new k .segments ≡ nodeAt tree k .segments
   old-segments k g =
-      new-cases (λ (a : Node). a .segments ≡ nodeAt tree k .segments) k (λ e h. ap (λ (j : ℕ). nodeAt tree j .segments) (sym e)) (λ f h. refl) (λ e. absurd (omega arith)) (λ e. absurd (omega arith)) (λ h. absurd (omega arith))
+      new-cases (λ (a : Node). a .segments ≡ nodeAt tree k .segments) k (λ e h. ap (λ (j : ℕ). nodeAt tree j .segments) (sym e))
+      (λ f h. refl) (λ e. absurd (omega arith)) (λ e. absurd (omega arith)) (λ h. absurd (omega arith))
 
   -- ---- children
 
@@ -132,7 +163,12 @@ module _ (n : ℕ) (stored : List Trace) (tree : Tree) (inv : Inv n stored tree)
   below-was {t} (under {parent = p} {child = c} h b) = by (child-was c p h) (below-was b)
     where
       by : ChildWas c p → Was t c → Was t p
-      by (was i) w = record { old = λ g. under i (w .old (inv .child p c i .1)); in-left = λ e. absurd (omega (arith, inv .child p c i)); in-right = λ e. absurd (omega (arith, inv .child p c i)) }
+      by (was i) w = record {
+        old = λ g. under i (w .old (shape .child p c i .1));
+        in-left = λ e. absurd
+            (omega (arith, shape .child p c i));
+        in-right = λ e. absurd (omega (arith, shape .child p c i));
+      }
       by (fresh e g (inl i)) w = record { old = λ g. there t p e (good .left-in t (w .in-left i)); in-left = λ e. absurd (omega arith); in-right = λ e. absurd (omega arith) }
       by (fresh e g (inr i)) w = record { old = λ g. there t p e (good .right-in t (w .in-right i)); in-left = λ e. absurd (omega arith); in-right = λ e. absurd (omega arith) }
 
@@ -159,7 +195,7 @@ module _ (n : ℕ) (stored : List Trace) (tree : Tree) (inv : Inv n stored tree)
 
   split-on : {t k : ℕ} → Below tree t k → Below new t k
   split-on {t} (held {number} i) = held-on t number i
-  split-on (under {parent = p} {child = c} h b) = under {parent = p} {child = c} (rw (at-same p (omega (arith, inv .child p c h)) (inner-not c p h)) h) (split-on b)
+  split-on (under {parent = p} {child = c} h b) = under {parent = p} {child = c} (rw (at-same p (omega (arith, shape .child p c h)) (inner-not c p h)) h) (split-on b)
 
   -- ---- leaves
 
@@ -176,25 +212,22 @@ module _ (n : ℕ) (stored : List Trace) (tree : Tree) (inv : Inv n stored tree)
 
   was-there : (t k : ℕ) → (k ≡ at → ⊥) → T (isIn t (numbersIn (nodeAt tree k .kind))) → T (isIn t held-there) → ⊥
   unfolding numbersIn
-  was-there t k f h i = f (inv .one-leaf t k at h (rw is-leaf i))
-
-  not-both : (t : ℕ) → T (isIn t (s .left)) → T (isIn t (s .right)) → ⊥
-  not-both t h i = let z : true ≡ false = sym (good .goes-left t h) ∙ good .goes-right t i in subst T z tt
+  was-there t k f h i = f (shape .one-leaf t k at h (rw is-leaf i))
 
   one-there : (t j k : ℕ) → NumberWas t j → NumberWas t k → j ≡ k
-  one-there t j k (stays f h) (stays g i) = inv .one-leaf t j k h i
+  one-there t j k (stays f h) (stays g i) = shape .one-leaf t j k h i
   one-there t j k (stays f h) (to-left e i) = absurd (was-there t j f h (good .left-in t i))
   one-there t j k (stays f h) (to-right e i) = absurd (was-there t j f h (good .right-in t i))
   one-there t j k (to-left e i) (stays f h) = absurd (was-there t k f h (good .left-in t i))
   one-there t j k (to-left e i) (to-left f h) = e ∙ sym f
-  one-there t j k (to-left e i) (to-right f h) = absurd (not-both t i h)
+  one-there t j k (to-left e i) (to-right f h) = absurd (sides-apart good t i h)
   one-there t j k (to-right e i) (stays f h) = absurd (was-there t k f h (good .right-in t i))
-  one-there t j k (to-right e i) (to-left f h) = absurd (not-both t h i)
+  one-there t j k (to-right e i) (to-left f h) = absurd (sides-apart good t h i)
   one-there t j k (to-right e i) (to-right f h) = e ∙ sym f
 
-  stored-there : (t : ℕ) → T (isIn t held-there) → t < length stored
+  stored-there : (t : ℕ) → T (isIn t held-there) → t < count
   unfolding numbersIn
-  stored-there t i = inv .numbers t at (rw is-leaf i)
+  stored-there t i = shape .numbers t at (rw is-leaf i)
 
   split-kept : (t : ℕ) → Kept tree t → Kept new t
   unfolding newLeaf numbersIn
@@ -208,74 +241,16 @@ module _ (n : ℕ) (stored : List Trace) (tree : Tree) (inv : Inv n stored tree)
       by (yes e) = side (good .either t (subst (λ (a : Kind). T (isIn t (numbersIn a))) is-leaf (subst (λ (j : ℕ). T (isIn t (numbersIn (nodeAt tree j .kind)))) e (o .holds))))
       by (no f) = record { at = o .at; holds = rw (at-same (o .at) (number-node tree t (o .at) (o .holds)) f) (o .holds) }
 
-  -- ---- records
-
-  split-reached : (k : ℕ) → AllReached stored (λ (t : ℕ). Below new t k) 1 (nodeAt new k .segments)
-  split-reached k =
-      new-cases (λ (a : Node). AllReached stored (λ (t : ℕ). Below new t k) 1 (a .segments)) k
-      (λ e h. subst (λ (j : ℕ). AllReached stored (λ (t : ℕ). Below new t k) 1 (nodeAt tree j .segments)) e old) (λ f h. old)
-      (λ e. reached-by-more stored stored (λ (t : ℕ). In t (s .left)) (λ (t : ℕ). Below new t k) (λ t i. rw e (held (in-left-leaf t (in-is i)))) (λ t i. refl) (new-reached stored (s .left) (good .left-some) (s .childEnds)))
-      (λ e. reached-by-more stored stored (λ (t : ℕ). In t (s .right)) (λ (t : ℕ). Below new t k) (λ t i. rw e (held (in-right-leaf t (in-is i)))) (λ t i. refl) (new-reached stored (s .right) (good .right-some) (s .childEnds)))
-      (λ g. reached-none)
-    where
-      old : AllReached stored (λ (t : ℕ). Below new t k) 1 (nodeAt tree k .segments)
-      old = reached-by-more stored stored (λ (t : ℕ). Below tree t k) (λ (t : ℕ). Below new t k) (λ t b. split-on b) (λ t b. refl) (inv .reached k)
-
-  split-ranges : (t k : ℕ) → Was t k → Covered (getD stored t []) 1 (nodeAt new k .segments)
-  split-ranges t k w =
-      new-cases (λ (a : Node). Covered (getD stored t []) 1 (a .segments)) k
-      (λ e h. subst (λ (j : ℕ). Covered (getD stored t []) 1 (nodeAt tree j .segments)) e (inv .ranges t k (w .old h)))
-      (λ f h. inv .ranges t k (w .old h)) (λ e. new-covered stored (s .childEnds) (s .left) t (w .in-left e)) (λ e. new-covered stored (s .childEnds) (s .right) t (w .in-right e)) (λ g. covered-none)
-
   split-ends : (p c : ℕ) → ChildWas c p → (e : ℕ) → In e (ends (nodeAt new p .segments)) → In e (ends (nodeAt new c .segments))
-  split-ends p c (was h) = rw (old-segments p (omega (arith, inv .child p c h)), old-segments c (inv .child p c h .1)) (inv .ends-kept p c h)
+  split-ends p c (was h) = rw (old-segments p (omega (arith, shape .child p c h)), old-segments c (shape .child p c h .1)) (shape .ends-kept p c h)
   split-ends p c (fresh e g (inl q)) = rw (e, at-turned, q, at-left, new-ends stored (s .childEnds) (s .left)) (good .ends-kept)
   split-ends p c (fresh e g (inr q)) = rw (e, at-turned, q, at-right, new-ends stored (s .childEnds) (s .right)) (good .ends-kept)
-
-  -- ---- tests
-
-  abbrev KindFits : Kind → Type 0
-  KindFits (leaf ns) = Unit
-  KindFits (inner test l r) = InnerFits n stored new test l r
-
-  fresh-fits : InnerFits n stored new (s .test) (length tree) (suc (length tree))
-  fresh-fits = record {
-    left-first = omega arith;
-    run-in = good .run-in;
-    threshold-is = threshold-more stored stored (λ (t : ℕ). In t held-there) (λ (t : ℕ). t < length stored) (λ t i. stored-there t (in-is i)) (λ t i. refl) (good .threshold-is);
-    goes-left = λ t b. good .goes-left t (below-was b .in-left refl);
-    goes-right = λ t b. good .goes-right t (below-was b .in-right refl);
-  }
-
-  old-fits : (p : ℕ) (a : Kind) → nodeAt tree p .kind ≡ a → KindFits a
-  old-fits p (leaf ns) e = tt
-  old-fits p (inner test l r) e =
-      let fit : InnerFits n stored tree test l r = inv .inner-fits p test l r e in
-      record {
-        left-first = fit .left-first;
-        run-in = fit .run-in;
-        threshold-is = fit .threshold-is;
-        goes-left = λ t b. fit .goes-left t (below-was b .old (inv .child p l (rw e (has-left test l r)) .1));
-        goes-right = λ t b. fit .goes-right t (below-was b .old (inv .child p r (rw e (has-right test l r)) .1));
-      }
-
-  kind-fits : (p : ℕ) → KindFits (nodeAt new p .kind)
-  unfolding newLeaf
-  kind-fits p = new-cases (λ (a : Node). KindFits (a .kind)) p (λ e h. fresh-fits) (λ f h. old-fits p (nodeAt tree p .kind) refl) (λ e. tt) (λ e. tt) (λ g. tt)
-
-  -- ---- the shape
-
-  split-count : length new + slack new + 1 ≡ 2 * length stored
-  unfolding newLeaf spare slack
-  split-count =
-      let a : spare (nodeAt tree at .kind) ≡ 2 * length held-there - 2 = ap spare is-leaf in
-      omega (arith, new-length, a, slack-set tree at turned here-in, slack-append (set tree at turned) (l ∷ r ∷ []), inv .count, good .lengths, good .left-some, good .right-some)
 
   split-parented : (k : ℕ) → 0 < k → k < length new → Parent new k
   split-parented k h g = by (decLe (suc k) (length tree)) (decLe k (length tree))
     where
       old : Parent tree k → Parent new k
-      old p = record { parent = p .parent; has = rw (at-same (p .parent) (omega (arith, inv .child (p .parent) k (p .has))) (inner-not k (p .parent) (p .has))) (p .has) }
+      old p = record { parent = p .parent; has = rw (at-same (p .parent) (omega (arith, shape .child (p .parent) k (p .has))) (inner-not k (p .parent) (p .has))) (p .has) }
 
       left-one : k ≡ length tree → Parent new k
       left-one e = record { parent = at; has = rw (at-turned, e) (has-left (s .test) (length tree) (suc (length tree))) }
@@ -284,54 +259,107 @@ module _ (n : ℕ) (stored : List Trace) (tree : Tree) (inv : Inv n stored tree)
       right-one e = record { parent = at; has = rw (at-turned, e) (has-right (s .test) (length tree) (suc (length tree))) }
 
       by : Dec (suc k ≤ length tree) → Dec (k ≤ length tree) → Parent new k
-      by (yes a) b = old (inv .parented k h a)
+      by (yes a) b = old (shape .parented k h a)
       by (no a) (yes b) = left-one (omega (arith, lt-of-not-le a))
       by (no a) (no b) = right-one (omega (arith, lt-of-not-le b, new-length))
 
-  split-inv : Inv n stored (splitInto stored tree at (some s))
-  unfolding splitInto newLeaf numbersIn isIn
-  split-inv = record {
-    some-node = rw new-length (omega arith);
+  split-differ : (p : ℕ) (test : Test) (a b : ℕ) → nodeAt new p .kind ≡ inner test a b → a ≡ b → ⊥
+  unfolding newLeaf
+  split-differ p test a b =
+      new-cases (λ (o : Node). o .kind ≡ inner test a b → a ≡ b → ⊥) p
+      (λ e h q d. let u : length tree ≡ a = cc in let v : suc (length tree) ≡ b = cc in omega arith) (λ f h. shape .children-differ p test a b)
+      (λ e q. let z : _≡_ {A = ℕ} 0 1 = cc in absurd (omega arith)) (λ e q. let z : _≡_ {A = ℕ} 0 1 = cc in absurd (omega arith)) (λ g q. let z : _≡_ {A = ℕ} 0 1 = cc in absurd (omega arith))
+
+  pub split-shape : Shape n count (splitInto stored tree at (some s))
+  unfolding newLeaf numbersIn isIn
+  split-shape = record {
+    no-trace = λ e. absurd (omega (arith, new-length));
+    no-node = λ e. absurd (omega (arith, shape .no-node e, here-in));
     child = λ p c h. rw new-length (above p c (child-was c p h));
-    one-parent = λ p q c h k. one p q c (child-was c p h) (child-was c q k);
     parented = split-parented;
-    inner-fits = λ p test l r e. subst KindFits e (kind-fits p);
+    one-parent = λ p q c h k. one p q c (child-was c p h) (child-was c q k);
+    children-differ = split-differ;
     numbers = λ t k.
-        new-cases (λ (a : Node). T (isIn t (numbersIn (a .kind))) → t < length stored) k
-        (λ e h i. absurd i) (λ f h i. inv .numbers t k i) (λ e i. stored-there t (good .left-in t i)) (λ e i. stored-there t (good .right-in t i)) (λ g i. absurd i);
+        new-cases (λ (a : Node). T (isIn t (numbersIn (a .kind))) → t < count) k
+        (λ e h i. absurd i) (λ f h i. shape .numbers t k i) (λ e i. stored-there t (good .left-in t i)) (λ e i. stored-there t (good .right-in t i)) (λ g i. absurd i);
     one-leaf = λ t j k h i. one-there t j k (number-was t j h) (number-was t k i);
     full = λ k h.
         new-cases (λ (a : Node). (ns : List ℕ) → a .kind ≡ leaf ns → 0 < length ns) k
-        (λ e h ns q. let z : _≡_ {A = ℕ} 0 1 = cc in absurd (omega arith)) (λ f h. inv .full k h)
+        (λ e h ns q. let z : _≡_ {A = ℕ} 0 1 = cc in absurd (omega arith)) (λ f h. shape .full k h)
         (λ e ns q. let r : s .left ≡ ns = cc in rw (sym r) (good .left-some)) (λ e ns q. let r : s .right ≡ ns = cc in rw (sym r) (good .right-some)) (λ g. absurd (omega (arith, new-length)));
     rises = λ k.
         new-cases (λ (a : Node). (ns : List ℕ) → a .kind ≡ leaf ns → Up 0 ns) k
-        (λ e h ns q. let z : _≡_ {A = ℕ} 0 1 = cc in absurd (omega arith)) (λ f h. inv .rises k)
-        (λ e ns q. let p : s .left ≡ ns = cc in subst (Up 0) p (good .sides-rise (inv .rises at held-there is-leaf) .0))
-        (λ e ns q. let p : s .right ≡ ns = cc in subst (Up 0) p (good .sides-rise (inv .rises at held-there is-leaf) .1))
+        (λ e h ns q. let z : _≡_ {A = ℕ} 0 1 = cc in absurd (omega arith)) (λ f h. shape .rises k)
+        (λ e ns q. let p : s .left ≡ ns = cc in subst (Up 0) p (good .sides-rise (shape .rises at held-there is-leaf) .0))
+        (λ e ns q. let p : s .right ≡ ns = cc in subst (Up 0) p (good .sides-rise (shape .rises at held-there is-leaf) .1))
         (λ g ns q. let p : [] ≡ ns = cc in subst (Up 0) p u-none);
-    kept = λ t h. split-kept t (inv .kept t h);
+    kept = λ t h. split-kept t (shape .kept t h);
     fits = λ k h.
         new-cases (λ (a : Node). k < suc (suc (length tree)) → Fits n (ends (a .segments))) k
-        (λ e h g. inv .fits at (rw (sym e) h)) (λ f h g. inv .fits k h) (λ e g. rw (new-ends stored (s .childEnds) (s .left)) (good .children-fit)) (λ e g. rw (new-ends stored (s .childEnds) (s .right)) (good .children-fit)) (λ g h. absurd (omega arith)) (rw new-length at h);
+        (λ e h g. shape .fits at (rw (sym e) h)) (λ f h g. shape .fits k h)
+        (λ e g. rw (new-ends stored (s .childEnds) (s .left)) (good .children-fit))
+        (λ e g. rw (new-ends stored (s .childEnds) (s .right)) (good .children-fit)) (λ g h. absurd (omega arith)) (rw new-length at h);
     ends-kept = λ p c h. split-ends p c (child-was c p h);
-    ranges = λ t k b. split-ranges t k (below-was b);
-    reached = split-reached;
-    count = split-count;
   }
     where
       above : (p c : ℕ) → ChildWas c p → (p < c) × (c < suc (suc (length tree)))
-      above p c (was h) = (inv .child p c h .0, omega (arith, inv .child p c h .1))
+      above p c (was h) = (shape .child p c h .0, omega (arith, shape .child p c h .1))
       above p c (fresh e g (inl h)) = (omega arith, omega arith)
       above p c (fresh e g (inr h)) = (omega arith, omega arith)
 
       one : (p q c : ℕ) → ChildWas c p → ChildWas c q → p ≡ q
-      one p q c (was h) (was k) = inv .one-parent p q c h k
-      one p q c (was h) (fresh e g (inl i)) = absurd (omega (arith, inv .child p c h .1))
-      one p q c (was h) (fresh e g (inr i)) = absurd (omega (arith, inv .child p c h .1))
-      one p q c (fresh e g (inl i)) (was h) = absurd (omega (arith, inv .child q c h .1))
-      one p q c (fresh e g (inr i)) (was h) = absurd (omega (arith, inv .child q c h .1))
+      one p q c (was h) (was k) = shape .one-parent p q c h k
+      one p q c (was h) (fresh e g (inl i)) = absurd (omega (arith, shape .child p c h .1))
+      one p q c (was h) (fresh e g (inr i)) = absurd (omega (arith, shape .child p c h .1))
+      one p q c (fresh e g (inl i)) (was h) = absurd (omega (arith, shape .child q c h .1))
+      one p q c (fresh e g (inr i)) (was h) = absurd (omega (arith, shape .child q c h .1))
       one p q c (fresh e g i) (fresh f h j) = e ∙ sym f
+
+  -- ---- records and tests
+
+  module _ (exact : Exact stored tree) where
+    split-reached : (k : ℕ) → AllReached stored (λ (t : ℕ). Below new t k) 1 (nodeAt new k .segments)
+    split-reached k =
+        new-cases (λ (a : Node). AllReached stored (λ (t : ℕ). Below new t k) 1 (a .segments)) k
+        (λ e h. subst (λ (j : ℕ). AllReached stored (λ (t : ℕ). Below new t k) 1 (nodeAt tree j .segments)) e old) (λ f h. old)
+        (λ e. reached-by-more stored stored (λ (t : ℕ). In t (s .left)) (λ (t : ℕ). Below new t k)
+        (λ t i. rw e (held (in-left-leaf t (in-is i)))) (λ t i. refl) (new-reached stored (s .left) (good .left-some) (s .childEnds)))
+        (λ e. reached-by-more stored stored (λ (t : ℕ). In t (s .right)) (λ (t : ℕ). Below new t k)
+        (λ t i. rw e (held (in-right-leaf t (in-is i)))) (λ t i. refl) (new-reached stored (s .right) (good .right-some) (s .childEnds)))
+        (λ g. reached-none)
+      where
+        old : AllReached stored (λ (t : ℕ). Below new t k) 1 (nodeAt tree k .segments)
+        old = reached-by-more stored stored (λ (t : ℕ). Below tree t k) (λ (t : ℕ). Below new t k) (λ t b. split-on b) (λ t b. refl) (exact .reached k)
+
+    split-ranges : (t k : ℕ) → Was t k → Covered (getD stored t []) 1 (nodeAt new k .segments)
+    split-ranges t k w =
+        new-cases (λ (a : Node). Covered (getD stored t []) 1 (a .segments)) k
+        (λ e h. subst (λ (j : ℕ). Covered (getD stored t []) 1 (nodeAt tree j .segments)) e (exact .ranges t k (w .old h)))
+        (λ f h. exact .ranges t k (w .old h)) (λ e. new-covered stored (s .childEnds) (s .left) t (w .in-left e))
+        (λ e. new-covered stored (s .childEnds) (s .right) t (w .in-right e)) (λ g. covered-none)
+
+    abbrev SendsBy : Kind → Type 0
+    SendsBy (leaf ns) = Unit
+    SendsBy (inner test l r) = Sends stored new test l r
+
+    fresh-sends : Sends stored new (s .test) (length tree) (suc (length tree))
+    fresh-sends = record { goes-left = λ t b. good .goes-left t (below-was b .in-left refl); goes-right = λ t b. good .goes-right t (below-was b .in-right refl) }
+
+    old-sends : (p : ℕ) (a : Kind) → nodeAt tree p .kind ≡ a → SendsBy a
+    old-sends p (leaf ns) e = tt
+    old-sends p (inner test l r) e =
+        let fit : Sends stored tree test l r = exact .sends p test l r e in
+        record {
+          goes-left = λ t b. fit .goes-left t (below-was b .old (shape .child p l (rw e (has-left test l r)) .1));
+          goes-right = λ t b. fit .goes-right t (below-was b .old (shape .child p r (rw e (has-right test l r)) .1));
+        }
+
+    split-sends : (p : ℕ) (a : Kind) → nodeAt new p .kind ≡ a → SendsBy a
+    unfolding newLeaf
+    split-sends p a e = subst SendsBy e (new-cases (λ (o : Node). SendsBy (o .kind)) p (λ e h. fresh-sends) (λ f h. old-sends p (nodeAt tree p .kind) refl) (λ e. tt) (λ e. tt) (λ g. tt))
+
+    pub split-exact : Exact stored (splitInto stored tree at (some s))
+    split-exact = record { ranges = λ t k b. split-ranges t k (below-was b); reached = split-reached; sends = λ p test l r e. split-sends p (inner test l r) e }
 
 -- ---- the best split
 
@@ -368,7 +396,14 @@ module _ (n : ℕ) (stored : List Trace) (es numbers : List ℕ) where
     children-fit = f .child-fits;
     ends-kept = f .ends-kept;
     run-in = f .run-in;
-    threshold-is = record { least = _; greatest = _; least-of = of-chosen stored numbers some-number (figureOf (c .figure) (c .on)) lesser lesser-either (pos 0); greatest-of = of-chosen stored numbers some-number (figureOf (c .figure) (c .on)) greater greater-either (pos 0); is = refl };
+    threshold-is = record {
+      least = _;
+      greatest = _;
+      least-of = of-chosen stored numbers some-number
+          (figureOf (c .figure) (c .on)) lesser lesser-either (pos 0);
+      greatest-of = of-chosen stored numbers some-number (figureOf (c .figure) (c .on)) greater greater-either (pos 0);
+      is = refl;
+    };
   }
     where
       left? : ℕ → Bool
@@ -393,6 +428,9 @@ module _ (n : ℕ) (stored : List Trace) (es numbers : List ℕ) where
       best-all (gain stored es numbers)
       (all-mono (λ s g. g .0 (g .1)) (all-those {P = λ s. T (parts s) → Good n stored es numbers s} parts (all-map (splitBy stored numbers) split-good (candidates-fit n es f))))
 
+  pub best-is-good : Fits n es → {s : Split} → best stored es numbers ≡ some s → Good n stored es numbers s
+  best-is-good f e = subst (OfSome (Good n stored es numbers)) e (best-good f)
+
 -- no split was found: no candidate parts the leaf
 none-passes : {A : Type 0} (passes : A → Bool) (l : List A) → those passes l ≡ [] → {a : A} → In a l → T (not (passes a))
 none-passes passes l e {a} i = by (passes a) refl
@@ -403,28 +441,44 @@ none-passes passes l e {a} i = by (passes a) refl
 
 pub best-none : (stored : List Trace) (es numbers : List ℕ) → best stored es numbers ≡ none → T (every (λ c. not (parts (splitBy stored numbers c))) (candidates es))
 unfolding best bestOf
-best-none stored es numbers e = every-of _ (candidates es) (λ c i. none-passes parts (map (splitBy stored numbers) (candidates es)) (empty (those parts (map (splitBy stored numbers) (candidates es))) e) (in-map (splitBy stored numbers) i))
+best-none stored es numbers e = every-of _ (candidates es)
+    (λ c i. none-passes parts (map (splitBy stored numbers) (candidates es)) (empty (those parts (map (splitBy stored numbers) (candidates es))) e) (in-map (splitBy stored numbers) i))
   where
     empty : (l : List Split) → bestOf (gain stored es numbers) l ≡ none → l ≡ []
     empty [] q = refl
     empty (s ∷ l) q = let z : _≡_ {A = ℕ} 0 1 = cc in absurd (omega arith)
 
--- ---- a leaf splits, or stays whole
+-- ---- what a split keeps, the pass over the leaves keeps
 
-pub kind-inv : (n leafSize : ℕ) (stored : List Trace) (tree : Tree) (at : ℕ) → Inv n stored tree → (k : Kind) → nodeAt tree at .kind ≡ k → Inv n stored (splitKind leafSize stored tree at k)
-unfolding splitKind splitInto
-kind-inv n leafSize stored tree at inv (inner test l r) e = inv
-kind-inv n leafSize stored tree at inv (leaf numbers) e = by (ltb leafSize (length numbers)) refl
-  where
-    es : List ℕ
-    es = ends (nodeAt tree at .segments)
+module _ (n leafSize : ℕ) (stored : List Trace) (P : Tree → Type 0) (fits : (tree : Tree) → P tree → (k : ℕ) → k < length tree → Fits n (ends (nodeAt tree k .segments)))
+    (keeps : (tree : Tree) → P tree → (at : ℕ) (ns : List ℕ) → nodeAt tree at .kind ≡ leaf ns → (s : Split) → Good n stored
+    (ends (nodeAt tree at .segments)) ns s → P (splitInto stored tree at (some s))) where
+  kind-keeps : (tree : Tree) (at : ℕ) → P tree → (k : Kind) → nodeAt tree at .kind ≡ k → P (splitKind leafSize stored tree at k)
+  unfolding splitKind splitInto
+  kind-keeps tree at p (inner test l r) e = p
+  kind-keeps tree at p (leaf numbers) e = by (ltb leafSize (length numbers)) refl
+    where
+      es : List ℕ
+      es = ends (nodeAt tree at .segments)
 
-    found : (o : Option Split) → OfSome (Good n stored es numbers) o → Inv n stored (splitInto stored tree at o)
-    found none g = inv
-    found (some s) g = split-inv n stored tree inv at numbers e s g
+      found : (o : Option Split) → OfSome (Good n stored es numbers) o → P (splitInto stored tree at o)
+      found none g = p
+      found (some s) g = keeps tree p at numbers e s g
 
-    by : (b : Bool) → ltb leafSize (length numbers) ≡ b → Inv n stored (if b then splitInto stored tree at (best stored es numbers) else tree)
-    by false p = inv
-    by true p =
-        let h : leafSize < length numbers = ltb-true leafSize (length numbers) p in
-        found (best stored es numbers) (best-good n stored es numbers (inv .fits at (leaf-in tree at numbers e (omega arith))))
+      by : (b : Bool) → ltb leafSize (length numbers) ≡ b → P (if b then splitInto stored tree at (best stored es numbers) else tree)
+      by false q = p
+      by true q =
+          let h : leafSize < length numbers = ltb-true leafSize (length numbers) q in
+          found (best stored es numbers) (best-good n stored es numbers (fits tree p at (leaf-in tree at numbers e (omega arith))))
+
+  pub split-keeps : (tree : Tree) (at : ℕ) → P tree → P (split leafSize stored tree at)
+  split-keeps tree at p = kind-keeps tree at p (nodeAt tree at .kind) refl
+
+  pub pass-keeps : (fuel : ℕ) (tree : Tree) (at : ℕ) → P tree → P (splitNew fuel leafSize stored tree at)
+  unfolding splitNew
+  pass-keeps zero tree at p = p
+  pass-keeps (suc fuel) tree at p = by (ltb at (length tree)) (pass-keeps fuel (split leafSize stored tree at) (suc at) (split-keeps tree at p))
+    where
+      by : (b : Bool) → P (splitNew fuel leafSize stored (split leafSize stored tree at) (suc at)) → P (if b then splitNew fuel leafSize stored (split leafSize stored tree at) (suc at) else tree)
+      by true i = i
+      by false i = p

@@ -1,16 +1,17 @@
 -- Document 01, "Demand 3, over a list of calls": the calls, what the table refuses, and the book.
 use Prim.Native.Nat.{ℕ, _*_}
-use mathlib.Core.Bool.{Bool, true, false, not, _||_}
+use mathlib.Core.Bool.{Bool, true, not, _||_}
 use mathlib.Core.Option.{Option, none, some}
 use mathlib.Core.List.{List, [], _∷_, _++_}
-use lib.ListN.{length}
+use lib.ListN.{length, drop}
 use lib.Dec.{ltb, eqb}
 use Rattle.integer.specs.Words.{isEmpty}
 use Rattle.dstree.specs.Measures.{Trace, Measures, measures, inRange, samplesNeeded, recordsNeeded, linksNeeded, workNeeded}
 use Rattle.dstree.specs.Node.{Tree}
 use Rattle.dstree.specs.Adding.{treeOf}
 use Rattle.dstree.specs.Matching.{leaves, Match, matchOf}
-use Rattle.dstree.specs.Refusals.{Refusal, measure, shortTable, wrongTrace, full, empty, shortTrail, sheetLength, Condition, _refuses_, firstOf}
+use Rattle.dstree.specs.Refusals.{Refusal, measure, shortTable, wrongTrace, full, empty, shortTrail, sheetLength}
+use Rattle.dstree.specs.Refusals.{Condition, _refuses_, firstOf}
 use Rattle.dstree.specs.Sheet.{blockSize, blocksNeeded, sheetOf, Judged, refused, holds, judgeSheet}
 
 -- ---- calls
@@ -28,14 +29,59 @@ pub record Lent : Type 0 where
   pub links : ℕ
   pub work : ℕ
 
--- "calls of opening, adding, match, sheet writing and sheet reading", with the lengths of the tables that they are lent:
--- a match also with the length of its trail, a writing with that of its sheet, a reading with the sheet's bytes
-pub data Call : Type 0 where
-  opening : Lent → Measures → Call
-  adding : Lent → Trace → Call
-  matching : Lent → Trace → ℕ → Call
-  writing : Lent → ℕ → Call
-  reading : Lent → List ℕ → Call
+-- what a call asks for: "calls of opening, adding, match, sheet writing and sheet reading .. with any arguments". "Trails and sheets are not part of" the
+-- tables: a match comes with its query and the contents of its trail, a writing and a reading with the bytes of their sheet
+pub data Ask : Type 0 where
+  opening : Measures → Ask
+  adding : Trace → Ask
+  matching : Trace → List ℕ → Ask
+  writing : List ℕ → Ask
+  reading : List ℕ → Ask
+
+-- a call: "arguments .., lengths of tables included"
+pub record Call : Type 0 where
+  pub lent : Lent
+  pub ask : Ask
+
+abbrev pub call : Lent → Ask → Call
+call lent ask = record { lent = lent; ask = ask }
+
+-- what a call is lent beside the tables to be written, slice by slice
+unfoldable pub besideOf : Ask → List (List ℕ)
+besideOf (opening m) = []
+besideOf (adding x) = []
+besideOf (matching query trail) = trail ∷ []
+besideOf (writing sheet) = sheet ∷ []
+besideOf (reading bytes) = []
+
+-- ---- answers
+
+-- what a call answers that is not refused: "Opening and sheet reading answer only that they succeeded, adding the new trace's number, writing the number
+-- of blocks"; a match with its trail, a writing with its sheet
+pub data Result : Type 0 where
+  done : Result
+  added : ℕ → Result
+  matched : Match → Result
+  written : ℕ → List ℕ → Result
+
+-- "does its work or gives the one refusal that document 01 fixes"
+pub data Answer : Type 0 where
+  refusing : Refusal → Answer
+  answering : Result → Answer
+
+-- what a call answers, and what stands then in what it was lent beside the tables
+pub record Reply : Type 0 where
+  pub answer : Answer
+  pub beside : List (List ℕ)
+
+abbrev pub reply : Answer → List (List ℕ) → Reply
+reply answer beside = record { answer = answer; beside = beside }
+
+-- a list, its beginning replaced: "places after them keep their contents"
+abbrev pub over : {A : Type 0} → List A → List A → List A
+over front l = front ++ drop (length front) l
+
+-- ---- the book
 
 -- "keeps n, capacity, leaf size and a list of traces"
 pub record Book : Type 0 where
@@ -48,6 +94,14 @@ book m traces = record { measures = m; traces = traces }
 -- "The book's tree is what the steps under Adding make of its traces"
 abbrev pub bookTree : Book → Tree
 bookTree b = treeOf (b .measures) (b .traces)
+
+-- what the book says of a call, "fed the calls' arguments alone": the table's conditions, in order; and, if none holds, what it puts, what it answers, and
+-- what it leaves in what it is lent beside the tables
+pub record Entry : Type 0 where
+  pub conditions : List Condition
+  pub puts : Book
+  pub result : Result
+  pub beside : List (List ℕ)
 
 -- ---- refusals, "judged by arguments and book"
 
@@ -63,7 +117,7 @@ tablesShort layout lent m =
     || ltb (lent .links) (linksNeeded m)
     || ltb (lent .work) (workNeeded m)
 
--- 2, for tables that these measures need
+-- 2, for tables that these measures need. "3 never arises from these tables"
 abbrev pub shortConditions : Layout → Lent → Measures → List Condition
 shortConditions layout lent m = controlShort layout lent refuses shortTable ∷ tablesShort layout lent m refuses shortTable ∷ []
 
@@ -72,100 +126,105 @@ unfoldable pub readingConditions : Layout → Lent → Judged → List Condition
 readingConditions layout lent (refused r) = true refuses r ∷ []
 readingConditions layout lent (holds m traces) = shortConditions layout lent m
 
--- the table's conditions for a call, in order. "3 never arises from these tables"
-unfoldable pub conditions : Layout → Book → Call → List Condition
-conditions layout b (opening lent m) = not (inRange m) refuses measure ∷ shortConditions layout lent m
-conditions layout b (adding lent x) =
-    shortConditions layout lent (b .measures)
-    ++ not (eqb (length x) (b .measures .n)) refuses wrongTrace
-    ∷ eqb (length (b .traces)) (b .measures .capacity) refuses full
-    ∷ []
-conditions layout b (matching lent query trail) =
-    shortConditions layout lent (b .measures)
-    ++ not (eqb (length query) (b .measures .n)) refuses wrongTrace
-    ∷ isEmpty (b .traces) refuses empty
-    ∷ ltb trail (length (leaves (bookTree b))) refuses shortTrail
-    ∷ []
-conditions layout b (writing lent sheet) =
-    shortConditions layout lent (b .measures)
-    ++ ltb sheet (blockSize * blocksNeeded (length (b .traces)) (b .measures .n)) refuses sheetLength
-    ∷ []
-conditions layout b (reading lent bytes) = readingConditions layout lent (judgeSheet bytes)
-
--- the refusal of a call, if any
-unfoldable pub judge : Layout → Book → Call → Option Refusal
-judge layout b call = firstOf (conditions layout b call)
-
--- ---- the book
-
 -- "Reading puts the sheet's measures and traces, in order"
 unfoldable pub putRead : Book → Judged → Book
 putRead b (refused r) = b
 putRead b (holds m traces) = book m traces
 
--- what a call that is not refused puts. "An opening puts its measures and no trace. Adding appends its trace", nor does "a match or a writing" change anything
-unfoldable pub put : Book → Call → Book
-put b (opening lent m) = book m []
-put b (adding lent x) = book (b .measures) (b .traces ++ (x ∷ []))
-put b (matching lent query trail) = b
-put b (writing lent sheet) = b
-put b (reading lent bytes) = putRead b (judgeSheet bytes)
+-- ---- call by call
+
+module _ (layout : Layout) (lent : Lent) (b : Book) where
+  -- "An opening puts its measures and no trace"
+  unfoldable pub openingEntry : Measures → Entry
+  openingEntry m = record { conditions = not (inRange m) refuses measure ∷ shortConditions layout lent m; puts = book m []; result = done; beside = [] }
+
+  -- "Adding appends its trace"
+  unfoldable pub addingEntry : Trace → Entry
+  addingEntry x = record {
+    conditions =
+        shortConditions layout lent (b .measures)
+        ++ not (eqb (length x) (b .measures .n)) refuses wrongTrace
+        ∷ eqb (length (b .traces)) (b .measures .capacity) refuses full
+        ∷ [];
+    puts = book (b .measures) (b .traces ++ (x ∷ []));
+    result = added (length (b .traces));
+    beside = [];
+  }
+
+  -- "A refused call changes nothing, nor does a match or a writing". "the trail begins with R"
+  unfoldable pub matchingEntry : Trace → List ℕ → Entry
+  matchingEntry query trail =
+      let found = matchOf (b .traces) (bookTree b) query in
+      record {
+        conditions =
+            shortConditions layout lent (b .measures)
+            ++ not (eqb (length query) (b .measures .n)) refuses wrongTrace
+            ∷ isEmpty (b .traces) refuses empty
+            ∷ ltb (length trail) (length (leaves (bookTree b))) refuses shortTrail
+            ∷ [];
+        puts = b;
+        result = matched found;
+        beside = over (found .trail) trail ∷ [];
+      }
+
+  unfoldable pub writingEntry : List ℕ → Entry
+  writingEntry sheet =
+      let blocks = blocksNeeded (length (b .traces)) (b .measures .n) in
+      let bytes = sheetOf (b .measures) (b .traces) in
+      record {
+        conditions = shortConditions layout lent (b .measures) ++ ltb (length sheet) (blockSize * blocks) refuses sheetLength ∷ [];
+        puts = b;
+        result = written blocks bytes;
+        beside = over bytes sheet ∷ [];
+      }
+
+  unfoldable pub readingEntry : List ℕ → Entry
+  readingEntry bytes = record { conditions = readingConditions layout lent (judgeSheet bytes); puts = putRead b (judgeSheet bytes); result = done; beside = [] }
+
+  unfoldable pub entryOf : Ask → Entry
+  entryOf (opening m) = openingEntry m
+  entryOf (adding x) = addingEntry x
+  entryOf (matching query trail) = matchingEntry query trail
+  entryOf (writing sheet) = writingEntry sheet
+  entryOf (reading bytes) = readingEntry bytes
+
+-- ---- every call
+
+abbrev pub entry : Layout → Book → Call → Entry
+entry layout b c = entryOf layout (c .lent) b (c .ask)
+
+-- the refusal of a call, if any: "Refusals follow the table"
+unfoldable pub judge : Layout → Book → Call → Option Refusal
+judge layout b c = firstOf (entry layout b c .conditions)
 
 -- "A refused call changes nothing"
-unfoldable pub putUnless : Option Refusal → Book → Call → Book
-putUnless (some r) b call = b
-putUnless none b call = put b call
+unfoldable pub putUnless : Option Refusal → Book → Entry → Book
+putUnless (some r) b e = b
+putUnless none b e = e .puts
 
+-- the book after a call
 unfoldable pub turn : Layout → Book → Call → Book
-turn layout b call = putUnless (judge layout b call) b call
+turn layout b c = putUnless (judge layout b c) b (entry layout b c)
 
 -- the book after a list of calls
 unfoldable pub after : Layout → Book → List Call → Book
 after layout b [] = b
-after layout b (call ∷ rest) = after layout (turn layout b call) rest
+after layout b (c ∷ rest) = after layout (turn layout b c) rest
+
+-- "with all lent memory then as before the call", if it is refused
+unfoldable pub replyUnless : Option Refusal → List (List ℕ) → Entry → Reply
+replyUnless (some r) beside e = reply (refusing r) beside
+replyUnless none beside e = reply (answering (e .result)) (e .beside)
+
+-- the reply that the book has for a call: nothing is taken from the tables
+unfoldable pub replyOf : Layout → Book → Call → Reply
+replyOf layout b c = replyUnless (judge layout b c) (besideOf (c .ask)) (entry layout b c)
+
+-- .. and for a list of calls
+unfoldable pub repliesOf : Layout → Book → List Call → List Reply
+repliesOf layout b [] = []
+repliesOf layout b (c ∷ rest) = replyOf layout b c ∷ repliesOf layout (turn layout b c) rest
 
 -- "It starts with what that call puts": an opening or a reading that has just succeeded. What the book is before it does not matter
-unfoldable pub start : Call → Book
-start call = put (book (measures 0 0 0) []) call
-
-unfoldable pub isNone : Option Refusal → Bool
-isNone none = true
-isNone (some r) = false
-
--- "An opening or a sheet reading has just succeeded when it starts"
-unfoldable pub canStart : Layout → Call → Bool
-canStart layout (opening lent m) = isNone (judge layout (start (opening lent m)) (opening lent m))
-canStart layout (adding lent x) = false
-canStart layout (matching lent query trail) = false
-canStart layout (writing lent sheet) = false
-canStart layout (reading lent bytes) = isNone (judge layout (start (reading lent bytes)) (reading lent bytes))
-
--- ---- answers
-
--- "Opening and sheet reading answer only that they succeeded, adding the new trace's number, writing the number of blocks"; a match with its trail, a writing with its sheet
-pub data Answer : Type 0 where
-  done : Answer
-  added : ℕ → Answer
-  matched : Match → Answer
-  written : ℕ → List ℕ → Answer
-  refusing : Refusal → Answer
-
--- the answer of a call that is not refused
-unfoldable pub accepted : Book → Call → Answer
-accepted b (opening lent m) = done
-accepted b (adding lent x) = added (length (b .traces))
-accepted b (matching lent query trail) = matched (matchOf (b .traces) (bookTree b) query)
-accepted b (writing lent sheet) = written (blocksNeeded (length (b .traces)) (b .measures .n)) (sheetOf (b .measures) (b .traces))
-accepted b (reading lent bytes) = done
-
-unfoldable pub acceptedUnless : Option Refusal → Book → Call → Answer
-acceptedUnless (some r) b call = refusing r
-acceptedUnless none b call = accepted b call
-
-unfoldable pub answer : Layout → Book → Call → Answer
-answer layout b call = acceptedUnless (judge layout b call) b call
-
--- the answers to a list of calls
-unfoldable pub answers : Layout → Book → List Call → List Answer
-answers layout b [] = []
-answers layout b (call ∷ rest) = answer layout b call ∷ answers layout (turn layout b call) rest
+unfoldable pub start : Layout → Call → Book
+start layout c = entry layout (book (measures 0 0 0) []) c .puts

@@ -1,8 +1,8 @@
 -- What is claimed of the tree that insertion makes of a list of traces, as statements: the laws behind document 01's sections "A node's record",
 -- "Adding", "Matching", "Well-formed tables" and "Demand 3, over a list of calls". `proofs/Laws` proves them for every library.
-use Prim.Native.Nat.{ℕ, suc, _+_, _*_, _-_, _≤_, _<_}
+use Prim.Native.Nat.{ℕ, suc, _*_, _-_, _≤_, _<_}
 use mathlib.Core.Path.{_≡_}
-use mathlib.Core.Bool.{Bool, true, false, not}
+use mathlib.Core.Bool.{not}
 use mathlib.Core.Option.{some}
 use mathlib.Core.List.{List, [], _∷_, _++_, map, flatten}
 use lib.ListN.{length, getD}
@@ -14,8 +14,8 @@ use Rattle.segment.specs.Figures.{distance}
 use Rattle.dstree.specs.Measures.{Trace, Measures}
 use Rattle.dstree.specs.Figures.{Run, run, sumOn, scatterOn}
 use Rattle.dstree.specs.Node.{Segment, Test, leaf, inner, Tree, nodeAt, ends, figureOf}
-use Rattle.dstree.specs.Adding.{way, tracesOf, Candidate, candidates, Split, splitBy, parts, bestOf, insertion, treeOf}
-use Rattle.dstree.specs.Matching.{hasChild, bound, numbersIn, leaves, Search, searched, matchBySteps, leastDistance, Match, matchOf}
+use Rattle.dstree.specs.Adding.{way, tracesOf, Candidate, candidates, Split, splitBy, parts, bestOf, insertion}
+use Rattle.dstree.specs.Matching.{hasChild, bound, numbersIn, leaves, searched, matchBySteps, leastDistance, matchOf}
 use Rattle.dstree.specs.WellFormed.{wellFormed}
 
 -- "what is below a node": a leaf has its traces below it, an inner node what is below a child
@@ -68,7 +68,8 @@ pub record TestsOf (m : Measures) (traces : List Trace) (tree : Tree) : Type 0 w
 
 -- "A candidate parts the leaf if both sides receive a trace": exactly if its least figure is below its greatest
 abbrev pub Parting : Type 0
-Parting = (stored : List Trace) (numbers : List ℕ) (c : Candidate) → parts (splitBy stored numbers c) ≡ ltZ (leastℤ (map (figureOf (c .figure) (c .on)) (tracesOf stored numbers))) (greatestℤ (map (figureOf (c .figure) (c .on)) (tracesOf stored numbers)))
+Parting = (stored : List Trace) (numbers : List ℕ) (c : Candidate) → parts (splitBy stored numbers c) ≡ ltZ
+    (leastℤ (map (figureOf (c .figure) (c .on)) (tracesOf stored numbers))) (greatestℤ (map (figureOf (c .figure) (c .on)) (tracesOf stored numbers)))
 
 -- "Among the candidates that part the leaf the greatest gain wins, the earliest among equals": what stands before the winner has less gain, what
 -- stands behind it no more
@@ -91,7 +92,8 @@ numbersAmong tree set = flatten (map (λ number. numbersIn (nodeAt tree number .
 -- "Samples in leaves off the trail don't bear on a search: well-formed tables that differ only there give the same answer and the same trail".
 -- It holds of any tree, whoever made it
 abbrev pub OffTrail : Type 0
-OffTrail = (traces other : List Trace) (tree : Tree) (query : Trace) → tracesOf other (numbersAmong tree (searched traces tree query .trail)) ≡ tracesOf traces (numbersAmong tree (searched traces tree query .trail)) → searched other tree query ≡ searched traces tree query
+OffTrail = (traces other : List Trace) (tree : Tree) (query : Trace) → tracesOf other
+    (numbersAmong tree (searched traces tree query .trail)) ≡ tracesOf traces (numbersAmong tree (searched traces tree query .trail)) → searched other tree query ≡ searched traces tree query
 
 -- a set of leaves that "leaves out only bounds above the least distance in the set". A set is a list: what is claimed of every list's length is
 -- claimed of the list without repetition
@@ -108,10 +110,24 @@ pub record ClaimsOf (traces : List Trace) (tree : Tree) (query : Trace) : Type 0
   -- "A match .. answers the lowest trace number at distance d, d, the number of leaves in R, and the number of traces in them; the trail begins with R"
   pub steps-give-it : matchBySteps traces tree query ≡ some (matchOf traces tree query)
   -- "The same match on tables that differ from these only in samples of traces outside R .. gives that answer and that trail"
-  pub others-do-not-bear : (other : List Trace) → tracesOf other (numbersAmong tree (matchOf traces tree query .trail)) ≡ tracesOf traces (numbersAmong tree (matchOf traces tree query .trail)) → matchBySteps other tree query ≡ some (matchOf traces tree query)
+  pub others-do-not-bear : (other : List Trace)
+      → tracesOf other (numbersAmong tree (matchOf traces tree query .trail)) ≡ tracesOf traces
+      (numbersAmong tree (matchOf traces tree query .trail)) → matchBySteps other tree query ≡ some (matchOf traces tree query)
   -- "R leaves out only bounds above d"
   pub out-of-R : (number : ℕ) → T (isIn number (leaves tree)) → T (not (isIn number (matchOf traces tree query .trail))) → leastDistance traces query < bound tree query number
   -- "Any set of one leaf or more that leaves out only bounds above the least distance in the set contains R"
   pub contains-R : (set : List ℕ) → LeavesOutOnlyAbove traces tree query set → T (every (λ number. isIn number set) (matchOf traces tree query .trail))
   -- ".. so it has at least as many leaves as the answer counts"
   pub fewest : (set : List ℕ) → LeavesOutOnlyAbove traces tree query set → matchOf traces tree query .leaves ≤ length set
+
+-- a tree that is well formed, over traces of n samples, whose records have exactly the figures of the traces below: the tree that insertion makes is
+-- one, and so is any other, whoever made it
+pub record ExactTree (limit : ℕ) (m : Measures) (stored : List Trace) (tree : Tree) : Type 0 where
+  pub well-formed : T (wellFormed limit m (length stored) tree)
+  pub of-n : (t : ℕ) → t < length stored → length (getD stored t []) ≡ m .n
+  pub ranges : RangesOf stored tree
+
+-- what is claimed of a query needs no more
+abbrev pub ClaimsOfExact : Type 0
+ClaimsOfExact = (limit : ℕ) (m : Measures) (stored : List Trace) (tree : Tree) → ExactTree limit m stored tree
+    → (query : Trace) → 0 < length stored → length query ≡ m .n → ClaimsOf stored tree query

@@ -12,7 +12,7 @@ use Rattle.dstree.specs.Figures.{run}
 use Rattle.dstree.specs.Node.{Segment, bySum, leaf, inner, Node, node, Tree, nodeAt}
 use Rattle.dstree.specs.Adding.{candidates, spread, splitBy, gain, treeOf}
 use Rattle.dstree.specs.Matching.{bound, Match, matchBySteps, matchOf}
-use Rattle.dstree.specs.Sheet.{blocksOf, numberIn, part}
+use Rattle.dstree.specs.Sheet.{narrow, blocksOf, numberIn, part}
 
 -- ---- "n = 4, leaf size 2, capacity 8; add A (0,0,0,0), B (4,4,4,4), C (0,8,0,8)"
 
@@ -92,4 +92,4 @@ pub record StarredExamples : Type 0 where
   -- "Leaf size 1, (1,2,1,2) and (2,1,2,1): one leaf of two"
   pub one-leaf : map (λ (a : Node). a .kind) (treeOf (measures 4 8 1) twins) ≡ leaf (0 ∷ 1 ∷ []) ∷ []
   -- "n = 1, capacity 8, leaf size 2, trace (−1): checks 2,130 and 2,812"
-  pub checks : map (λ (b : List ℕ). numberIn (part 510 2 b)) (blocksOf (measures 1 8 2) minusOne) ≡ 2130 ∷ 2812 ∷ []
+  pub checks : map (λ (b : List ℕ). numberIn (part 510 2 b)) (blocksOf narrow (measures 1 8 2) minusOne) ≡ 2130 ∷ 2812 ∷ []

@@ -8,6 +8,7 @@ pub mod Node
 pub mod Adding
 pub mod Matching
 pub mod WellFormed
+pub mod Formed
 pub mod Refusals
 pub mod Sheet
 pub mod Book

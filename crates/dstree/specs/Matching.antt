@@ -1,11 +1,9 @@
 -- Document 01, "Matching".
-use Prim.Native.Nat.{ℕ, zero, suc, _+_, _*_, _-_, max}
+use Prim.Native.Nat.{ℕ, zero, suc, _+_, max}
 use mathlib.Core.Bool.{Bool, true, false, _&&_, _||_}
 use mathlib.Core.Option.{Option, none, some}
 use mathlib.Core.List.{List, [], _∷_, _++_, map, foldl}
 use lib.ListN.{length, getD}
-use lib.IntN.{ℤ, _-ℤ_, natAbs}
-use lib.Signed.{ltZ}
 use lib.Dec.{leb, ltb, eqb}
 use Rattle.integer.specs.Words.{if_then_else_, least, those, total, counting}
 use Rattle.segment.specs.Figures.{distance}
@@ -85,6 +83,12 @@ sorted (a ∷ rest) = placed a (sorted rest)
 -- "Leaves are read by bound, then by number"
 unfoldable pub readingOrder : Tree → Trace → List LeafBound
 readingOrder tree query = sorted (map (λ number. record { number = number; bound = bound tree query number }) (leaves tree))
+
+-- leaves are read in order until the next bound is one to stop at. What is found is of any kind S
+module _ {S : Type 0} (stop : S → ℕ → Bool) (read : S → ℕ → S) where
+  unfoldable pub readOn : S → List LeafBound → S
+  readOn s [] = s
+  readOn s (next ∷ rest) = let onward = readOn (read s (next .number)) rest in if stop s (next .bound) then s else onward
 
 -- ---- the steps of the search
 

@@ -1,11 +1,12 @@
--- Document 01, "Sheets". A byte is a number below 256, a sheet a list of bytes.
+-- Document 01, "Sheets". A byte is a number below 256, a sheet a list of bytes. What depends on how samples are carried takes a
+-- format; document 01's is `narrow`, and the names without a format, `sheetOf` and `judgeSheet` among them, mean that one.
 use Prim.Native.Nat.{ℕ, zero, suc, _+_, _*_, _-_, _/_, _%_, _^_}
-use mathlib.Core.Bool.{Bool, not, _&&_, _||_}
+use mathlib.Core.Bool.{Bool, not, _||_}
 use mathlib.Core.Option.{Option, none, some}
 use mathlib.Core.List.{List, [], _∷_, _++_, map, flatten}
 use lib.ListN.{length, getD, take, drop, replicate}
 use lib.IntN.{ℤ, pos, negsuc}
-use lib.Dec.{leb, ltb, eqb}
+use lib.Dec.{ltb, eqb}
 use Rattle.integer.specs.Words.{if_then_else_, every, same, roundedUp}
 use Rattle.dstree.specs.Measures.{Trace, Measures, measures, inRange}
 use Rattle.dstree.specs.Refusals.{Refusal, sheetLength, tornBlock, badSheet, Condition, _refuses_, firstOf}
@@ -40,31 +41,45 @@ filledTo size bytes = bytes ++ replicate (size - length bytes) 0
 
 -- ---- blocks: "512-byte blocks"
 
-unfoldable pub blockSize : ℕ
+abbrev pub blockSize : ℕ
 blockSize = 512
 
+-- before the check, "positions 0 to 509"
+abbrev pub checkedSize : ℕ
+checkedSize = 510
+
 -- between byte 3 and the check, "from byte 4" to byte 509
-unfoldable pub carriedSize : ℕ
+abbrev pub carriedSize : ℕ
 carriedSize = 506
 
--- how the blocks behind block 0 carry samples: bytes a sample takes, samples a block carries, their kind
+-- 8, "above 4,146 blocks": as many as the largest library needs
+abbrev pub mostBlocks : ℕ
+mostBlocks = 4146
+
+-- "modulo 65,521"
+abbrev pub checkModulus : ℕ
+checkModulus = 65521
+
+-- how a sheet carries samples: bytes a sample takes, samples a block carries, and the kinds of block 0 and of the blocks with samples
 pub record Format : Type 0 where
   pub sampleBytes : ℕ
   pub samplesPerBlock : ℕ
-  pub kind : ℕ
+  pub headKind : ℕ
+  pub sampleKind : ℕ
 
--- two bytes, "253 samples each", "kind .. 2 for others"
-unfoldable pub narrow : Format
-narrow = record { sampleBytes = 2; samplesPerBlock = 253; kind = 2 }
+-- the table of formats and kinds: two bytes, "253 samples each", "kind, 1 for block 0, 2 for others"
+abbrev pub narrow : Format
+narrow = record { sampleBytes = 2; samplesPerBlock = 253; headKind = 1; sampleKind = 2 }
 
--- the bytes of a block that samples take
-abbrev pub sampleSize : Format → ℕ
-sampleSize f = f .sampleBytes * f .samplesPerBlock
+module _ (f : Format) where
+  -- the bytes of a block that samples take
+  abbrev pub sampleSize : ℕ
+  sampleSize = f .sampleBytes * f .samplesPerBlock
 
--- "kind, 1 for block 0, 2 for others"
-unfoldable pub kindOf : ℕ → ℕ
-kindOf zero = 1
-kindOf (suc number) = narrow .kind
+  -- the kind of a block, by its number
+  unfoldable pub kindOf : ℕ → ℕ
+  kindOf zero = f .headKind
+  kindOf (suc number) = f .sampleKind
 
 -- "total of (position + 1) × byte", from a position on
 unfoldable pub weighted : ℕ → List ℕ → ℕ
@@ -73,20 +88,20 @@ weighted position (byte ∷ rest) = suc position * byte + weighted (suc position
 
 -- ".. over positions 0 to 509, modulo 65,521"
 unfoldable pub checkOf : List ℕ → ℕ
-checkOf block = weighted 0 (take 510 block) % 65521
+checkOf block = weighted 0 (take checkedSize block) % checkModulus
 
 -- "Bytes 510 to 511": the check behind the 510 bytes before it
 unfoldable pub sealed : List ℕ → List ℕ
 sealed front = front ++ bytesOf 2 (checkOf front)
 
 -- "Bytes 0 to 1: block number from 0. Byte 2: kind .. Byte 3: 0", what the block carries; "All else is 0"
-unfoldable pub block : ℕ → List ℕ → List ℕ
-block number carried = sealed (bytesOf 2 number ++ (kindOf number ∷ 0 ∷ []) ++ filledTo carriedSize carried)
+unfoldable pub block : ℕ → ℕ → List ℕ → List ℕ
+block kind number carried = sealed (bytesOf 2 number ++ (kind ∷ 0 ∷ []) ++ filledTo carriedSize carried)
 
 -- some blocks, numbered from `number` on
-unfoldable pub blocksFrom : ℕ → List (List ℕ) → List (List ℕ)
-blocksFrom number [] = []
-blocksFrom number (carried ∷ rest) = block number carried ∷ blocksFrom (suc number) rest
+unfoldable pub blocksFrom : Format → ℕ → List (List ℕ) → List (List ℕ)
+blocksFrom f number [] = []
+blocksFrom f number (carried ∷ rest) = block (kindOf f number) number carried ∷ blocksFrom f (suc number) rest
 
 -- ---- writing
 
@@ -98,29 +113,39 @@ letters = 84 ∷ 82 ∷ 67 ∷ 76 ∷ []
 unfoldable pub headOf : Measures → ℕ → List ℕ
 headOf m count = letters ++ bytesOf 2 (m .n) ++ bytesOf 2 (m .capacity) ++ bytesOf 2 (m .leafSize) ++ bytesOf 2 count
 
--- "two's complement"
-unfoldable pub coded : Format → ℤ → List ℕ
-coded f (pos v) = bytesOf (f .sampleBytes) v
-coded f (negsuc v) = bytesOf (f .sampleBytes) (256 ^ f .sampleBytes - 1 - v)
+module _ (f : Format) where
+  -- "two's complement"
+  unfoldable pub coded : ℤ → List ℕ
+  coded (pos v) = bytesOf (f .sampleBytes) v
+  coded (negsuc v) = bytesOf (f .sampleBytes) (256 ^ f .sampleBytes - 1 - v)
 
--- "k × n / 253 rounded up"
-unfoldable pub sampleBlocksNeeded : ℕ → ℕ → ℕ
-sampleBlocksNeeded count n = roundedUp (count * n) (narrow .samplesPerBlock)
+  -- samples, one behind another
+  abbrev pub codedAll : List ℤ → List ℕ
+  codedAll samples = flatten (map coded samples)
+
+  -- "k × n / 253 rounded up"
+  unfoldable pub sampleBlocksNeeded : ℕ → ℕ → ℕ
+  sampleBlocksNeeded count n = roundedUp (count * n) (f .samplesPerBlock)
+
+  -- what each block carries: the head; "253 samples each .., traces in number order, .. running on across blocks"
+  unfoldable pub carriedOf : Measures → List Trace → List (List ℕ)
+  carriedOf m traces =
+      headOf m (length traces) ∷ pieces (sampleSize f) (sampleBlocksNeeded (length traces) (m .n)) (codedAll (flatten traces))
+
+  unfoldable pub blocksOf : Measures → List Trace → List (List ℕ)
+  blocksOf m traces = blocksFrom f 0 (carriedOf m traces)
+
+  -- a library's sheet in this format
+  unfoldable pub sheetAs : Measures → List Trace → List ℕ
+  sheetAs m traces = flatten (blocksOf m traces)
 
 -- "With k traces there are 1 + (k × n / 253 rounded up) blocks"
 unfoldable pub blocksNeeded : ℕ → ℕ → ℕ
-blocksNeeded count n = suc (sampleBlocksNeeded count n)
-
--- what each block carries: the head; "253 samples each .., traces in number order, .. running on across blocks"
-unfoldable pub carriedOf : Measures → List Trace → List (List ℕ)
-carriedOf m traces = headOf m (length traces) ∷ pieces (sampleSize narrow) (sampleBlocksNeeded (length traces) (m .n)) (flatten (map (coded narrow) (flatten traces)))
-
-unfoldable pub blocksOf : Measures → List Trace → List (List ℕ)
-blocksOf m traces = blocksFrom 0 (carriedOf m traces)
+blocksNeeded count n = suc (sampleBlocksNeeded narrow count n)
 
 -- the sheet of a library
-unfoldable pub sheetOf : Measures → List Trace → List ℕ
-sheetOf m traces = flatten (blocksOf m traces)
+abbrev pub sheetOf : Measures → List Trace → List ℕ
+sheetOf = sheetAs narrow
 
 -- ---- reading: what a sheet of any bytes says
 
@@ -139,59 +164,75 @@ measuresIn b = measures (numberIn (part 8 2 b)) (numberIn (part 10 2 b)) (number
 unfoldable pub countIn : List ℕ → ℕ
 countIn b = numberIn (part 14 2 b)
 
-unfoldable pub decoded : Format → List ℕ → ℤ
-decoded f bytes = let v = numberIn bytes in if ltb (2 * v) (256 ^ f .sampleBytes) then pos v else negsuc (256 ^ f .sampleBytes - 1 - v)
+module _ (f : Format) where
+  unfoldable pub decoded : List ℕ → ℤ
+  decoded bytes =
+      let v = numberIn bytes in
+      if ltb (2 * v) (256 ^ f .sampleBytes) then pos v else negsuc (256 ^ f .sampleBytes - 1 - v)
 
--- the bytes that samples take in the blocks behind block 0, one block's after another's
-unfoldable pub sampleBytesIn : List (List ℕ) → List ℕ
-sampleBytesIn others = flatten (map (λ (b : List ℕ). take (sampleSize narrow) (carriedIn b)) others)
+  -- the bytes that samples take in the blocks behind block 0, one block's after another's
+  unfoldable pub sampleBytesIn : List (List ℕ) → List ℕ
+  sampleBytesIn others = flatten (map (λ (b : List ℕ). take (sampleSize f) (carriedIn b)) others)
 
--- the traces of those blocks
-unfoldable pub tracesIn : ℕ → ℕ → List (List ℕ) → List Trace
-tracesIn count n others = pieces n count (map (decoded narrow) (pieces (narrow .sampleBytes) (count * n) (sampleBytesIn others)))
+  -- the traces of those blocks
+  unfoldable pub tracesIn : ℕ → ℕ → List (List ℕ) → List Trace
+  tracesIn count n others = pieces n count (map decoded (pieces (f .sampleBytes) (count * n) (sampleBytesIn others)))
 
 -- ---- reading: what is refused
 
 -- 8, "reading: 0, not a multiple of 512, above 4,146 blocks"
 unfoldable pub isWrongLength : ℕ → Bool
-isWrongLength size = eqb size 0 || not (eqb (size % blockSize) 0) || ltb 4146 (size / blockSize)
-
--- 9, "check, block number or kind wrong"
-unfoldable pub isTorn : ℕ → List ℕ → Bool
-isTorn number b = not (eqb (numberIn (part 510 2 b)) (checkOf b)) || not (eqb (numberIn (part 0 2 b)) number) || not (eqb (getD b 2 0) (kindOf number))
-
--- "9 over all blocks", the place being "the first block at fault"; the blocks are numbered from `number` on
-unfoldable pub tornConditions : ℕ → List (List ℕ) → List Condition
-tornConditions number [] = []
-tornConditions number (b ∷ rest) = isTorn number b refuses tornBlock number ∷ tornConditions (suc number) rest
+isWrongLength size = eqb size 0 || not (eqb (size % blockSize) 0) || ltb mostBlocks (size / blockSize)
 
 unfoldable pub areZero : List ℕ → Bool
 areZero = every (λ byte. eqb byte 0)
 
--- the bytes "that must be 0": byte 3 of each block; block 0 behind the count; of the other blocks what no sample can take; what is left behind the last sample
-unfoldable pub zerosIn : ℕ → List ℕ → List (List ℕ) → List ℕ
-zerosIn samples first others =
-    map (λ (b : List ℕ). getD b 3 0) (first ∷ others)
-    ++ drop 12 (carriedIn first)
-    ++ flatten (map (λ (b : List ℕ). drop (sampleSize narrow) (carriedIn b)) others)
-    ++ drop (narrow .sampleBytes * samples) (sampleBytesIn others)
+-- byte 3 of each block
+abbrev pub thirdsIn : List (List ℕ) → List ℕ
+thirdsIn blocks = map (λ (b : List ℕ). getD b 3 0) blocks
 
--- 10, "letters, measures, count above capacity, number of blocks, or a nonzero byte that must be 0"
-unfoldable pub badConditions : List (List ℕ) → List Condition
-badConditions [] = []
-badConditions (first ∷ others) =
-    let m = measuresIn first in
-    let count = countIn first in
-    not (same (part 4 4 first) letters) refuses badSheet
-    ∷ not (inRange m) refuses badSheet
-    ∷ ltb (m .capacity) count refuses badSheet
-    ∷ not (eqb (length others) (sampleBlocksNeeded count (m .n))) refuses badSheet
-    ∷ not (areZero (zerosIn (count * m .n) first others)) refuses badSheet
-    ∷ []
+module _ (f : Format) where
+  -- 9, "check, block number or kind wrong"
+  unfoldable pub isTorn : ℕ → List ℕ → Bool
+  isTorn number b =
+      not (eqb (numberIn (part checkedSize 2 b)) (checkOf b))
+      || not (eqb (numberIn (part 0 2 b)) number)
+      || not (eqb (getD b 2 0) (kindOf f number))
 
--- "Reading: 8; 9 over all blocks; 10"
-unfoldable pub sheetConditions : List ℕ → List Condition
-sheetConditions bytes = isWrongLength (length bytes) refuses sheetLength ∷ tornConditions 0 (blocksIn bytes) ++ badConditions (blocksIn bytes)
+  -- "9 over all blocks", the place being "the first block at fault"; the blocks are numbered from `number` on
+  unfoldable pub tornConditions : ℕ → List (List ℕ) → List Condition
+  tornConditions number [] = []
+  tornConditions number (b ∷ rest) = isTorn number b refuses tornBlock number ∷ tornConditions (suc number) rest
+
+  -- the bytes "that must be 0": byte 3 of each block; block 0 behind the count; of the other blocks what no sample can take; what is left
+  -- behind the last sample
+  unfoldable pub zerosIn : ℕ → List ℕ → List (List ℕ) → List ℕ
+  zerosIn samples first others =
+      thirdsIn (first ∷ others)
+      ++ drop 12 (carriedIn first)
+      ++ flatten (map (λ (b : List ℕ). drop (sampleSize f) (carriedIn b)) others)
+      ++ drop (samples * f .sampleBytes) (sampleBytesIn f others)
+
+  -- 10, "letters, measures, count above capacity, number of blocks, or a nonzero byte that must be 0"
+  unfoldable pub badConditions : List (List ℕ) → List Condition
+  badConditions [] = []
+  badConditions (first ∷ others) =
+      let m = measuresIn first in
+      let count = countIn first in
+      not (same (part 4 4 first) letters) refuses badSheet
+      ∷ not (inRange m) refuses badSheet
+      ∷ ltb (m .capacity) count refuses badSheet
+      ∷ not (eqb (length others) (sampleBlocksNeeded f count (m .n))) refuses badSheet
+      ∷ not (areZero (zerosIn (count * m .n) first others)) refuses badSheet
+      ∷ []
+
+  -- "Reading: 8; 9 over all blocks; 10"
+  unfoldable pub conditionsAs : List ℕ → List Condition
+  conditionsAs bytes =
+      isWrongLength (length bytes) refuses sheetLength ∷ tornConditions 0 (blocksIn bytes) ++ badConditions (blocksIn bytes)
+
+abbrev pub sheetConditions : List ℕ → List Condition
+sheetConditions = conditionsAs narrow
 
 -- ---- reading: what it is
 
@@ -200,14 +241,18 @@ pub data Judged : Type 0 where
   refused : Refusal → Judged
   holds : Measures → List Trace → Judged
 
--- what the blocks hold. (A sheet that is not refused has a block)
-unfoldable pub heldBy : List (List ℕ) → Judged
-heldBy [] = refused sheetLength
-heldBy (first ∷ others) = holds (measuresIn first) (tracesIn (countIn first) (measuresIn first .n) others)
-
 unfoldable pub judgedBy : Option Refusal → Judged → Judged
-judgedBy (some r) held = refused r
-judgedBy none held = held
+judgedBy (some r) otherwise = refused r
+judgedBy none otherwise = otherwise
 
-unfoldable pub judgeSheet : List ℕ → Judged
-judgeSheet bytes = judgedBy (firstOf (sheetConditions bytes)) (heldBy (blocksIn bytes))
+module _ (f : Format) where
+  -- what the blocks hold. (A sheet that is not refused has a block)
+  unfoldable pub libraryIn : List (List ℕ) → Judged
+  libraryIn [] = refused sheetLength
+  libraryIn (first ∷ others) = holds (measuresIn first) (tracesIn f (countIn first) (measuresIn first .n) others)
+
+  unfoldable pub judgeAs : List ℕ → Judged
+  judgeAs bytes = judgedBy (firstOf (conditionsAs f bytes)) (libraryIn (blocksIn bytes))
+
+abbrev pub judgeSheet : List ℕ → Judged
+judgeSheet = judgeAs narrow

@@ -1,6 +1,6 @@
 -- Document 01, "Well-formed tables", as far as it speaks of the tree. (That "every kind field [is] a value that its layout names" is said where the layout is.)
-use Prim.Native.Nat.{ℕ, zero, suc, _+_, _*_, _-_}
-use mathlib.Core.Bool.{Bool, true, false, not, _&&_, Bool·beq}
+use Prim.Native.Nat.{ℕ, suc, _*_, _-_}
+use mathlib.Core.Bool.{Bool, true, not, _&&_, Bool·beq}
 use mathlib.Core.List.{List, [], _∷_, map, flatten}
 use lib.ListN.{length}
 use lib.IntN.{ℤ, pos, negℤ}
@@ -8,10 +8,10 @@ use lib.Signed.{leZ}
 use lib.Dec.{leb, ltb, eqb}
 use Rattle.integer.specs.Words.{every, counting, isEmpty, isIn, timesIn, lastOf}
 use Rattle.segment.specs.Limits.{sumLimit, scatterLimit}
-use Rattle.dstree.specs.Measures.{Measures, inRange, within}
-use Rattle.dstree.specs.Figures.{Run, run, width}
-use Rattle.dstree.specs.Node.{Segment, Figure, bySum, byScatter, Test, Kind, leaf, inner, Node, Tree, nodeAt, ends}
-use Rattle.dstree.specs.Matching.{numbersIn, isLeaf}
+use Rattle.dstree.specs.Measures.{Measures, inRange}
+use Rattle.dstree.specs.Figures.{run, width}
+use Rattle.dstree.specs.Node.{Segment, Figure, bySum, byScatter, Kind, leaf, inner, Node, Tree, nodeAt, ends}
+use Rattle.dstree.specs.Matching.{numbersIn}
 
 -- every number is above the one before it
 unfoldable pub rising : List ℕ → Bool

@@ -1,4 +1,4 @@
--- `pop`: the last key goes in the place of the least, which is the key at place 0, and sinks from there.
+-- The least key is the one at place 0. `pop`: the last key goes in its place, and sinks from there.
 use mathlib.Core.Path.{_≡_, refl, sym, ap, subst, _∙_}
 use mathlib.Core.List.{List, [], _∷_}
 use Prim.Native.Nat.{ℕ, zero, suc, _+_, _-_, _<_, _≤_}
@@ -8,8 +8,8 @@ use native.Mathlib.Omega.{arith}
 use lib.ListN.{length, getD, set, take, drop, length-set, length-take}
 use lib.Seq.{getD-set-same, getD-set-other, drop-set-lt, drop-cons, take-set-le, take-set-lt, getD-take}
 use Rattle.heap.specs.Keys.{insertKey, sortedOf}
-use Rattle.heap.specs.Heap.{IsHeap, Sunk, Popped}
-use Rattle.heap.proofs.Sorting.{Above, above-pour, insert-first, pour-nil, insert-nil}
+use Rattle.heap.specs.Heap.{IsHeap, Least, Sunk, Popped}
+use Rattle.heap.proofs.Sorting.{Above, above-pour, insert-first, pour-nil, pour-cons, insert-nil}
 use Rattle.heap.proofs.Shape.{least, more-keys, keys-set}
 
 above-of : (m : ℕ) (l : List ℕ) → ((i : ℕ) → i < length l → m ≤ getD l i 0) → Above m l
@@ -20,6 +20,20 @@ above-set : (m : ℕ) (l : List ℕ) (i k : ℕ) → m ≤ k → Above m l → A
 above-set m [] i k h a = a
 above-set m (x ∷ xs) zero k h a = (h, a .1)
 above-set m (x ∷ xs) (suc i) k h a = (a .0, above-set m xs i k h (a .1))
+
+pub least-first : (n : ℕ) (s : List ℕ) → 0 < n → n ≤ length s → IsHeap n s → Least n s (getD s 0 0)
+least-first zero s some fits heap = absurd (omega arith)
+least-first (suc m) [] some fits heap = absurd (not-suc-le-zero fits)
+least-first (suc m) (x ∷ s) some fits heap =
+    let above : Above x (take m s) =
+    above-of x (take m s)
+    (λ i q.
+    let p : i < m = omega (arith, rw (length-take m s) at q) in
+    rw (getD-take m s i 0 p) (least (suc m) (x ∷ s) heap (suc i) (omega arith))) in
+    record {
+      others = sortedOf (take m s);
+      keys = pour-cons x (take m s) [] ∙ insert-first x (sortedOf (take m s)) (above-pour x (take m s) [] above tt);
+    }
 
 module _ (last : ℕ) (s : List ℕ) (room : last < length s) (heap : IsHeap (last + 1) s) where
   heap-left : IsHeap last (set s last 0)

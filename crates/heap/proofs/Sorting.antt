@@ -157,16 +157,6 @@ unfolding pour
 pour-cancel [] p q e = e
 pour-cancel (x ∷ xs) p q e = pour-cancel xs p q (insert-cancel x (pour xs p) (pour xs q) e)
 
--- to pour keys in order is to pour the keys
-pub pour-inserted : (a : ℕ) (xs l : List ℕ) → pour (insertKey a xs) l ≡ insertKey a (pour xs l)
-pour-inserted a [] l = rw (insert-nil a) (pour-cons a [] l)
-pour-inserted a (x ∷ xs) l =
-    let ih = pour-inserted a xs l in
-    ⊎-elim
-    (λ (p : a ≤ x). rw (insert-here a x xs p) (pour-cons a (x ∷ xs) l))
-    (λ (p : x < a). rw (insert-past a x xs p, pour-cons x (insertKey a xs) l, pour-cons x xs l, ih) (insert-comm x a (pour xs l)))
-    (le-or-lt a x)
-
 pub above-pour : (m : ℕ) (xs l : List ℕ) → Above m xs → Above m l → Above m (pour xs l)
 unfolding pour
 above-pour m [] l h k = k

@@ -16,6 +16,11 @@ pub record Pushed (n key : ℕ) (s s′ : List ℕ) : Type 0 where
   pub keys : sortedOf (take (n + 1) s′) ≡ insertKey key (sortedOf (take n s))
   pub rest : drop (n + 1) s′ ≡ drop (n + 1) s
 
+-- the least key, r
+pub record Least (n : ℕ) (s : List ℕ) (r : ℕ) : Type 0 where
+  pub others : List ℕ
+  pub keys : sortedOf (take n s) ≡ r ∷ others
+
 -- the least key, r, less; the place that falls free is 0
 pub record Popped (n r : ℕ) (s s′ : List ℕ) : Type 0 where
   pub heap : IsHeap (n - 1) s′

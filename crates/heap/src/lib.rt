@@ -1,7 +1,7 @@
 // A binary heap of keys, the least first, in the first n places of a lent slice. A hole is moved, and keys are not swapped: each step stores one key.
 ghost use Prim.Native.Nat.{_<_, _≤_};
 ghost use lib.ListN.{length, getD};
-ghost use Rattle.heap.specs.Heap.{IsHeap, Lesser, Pushed, Sunk, Popped};
+ghost use Rattle.heap.specs.Heap.{IsHeap, Least, Lesser, Pushed, Sunk, Popped};
 
 // Puts a key into a heap of n keys, which then has n + 1.
 pub fn push(s: &mut [u64], n: usize, key: u64)
@@ -58,6 +58,14 @@ fn sink(s: &mut [u64], n: usize, key: u64)
         left = 2 * c + 1;
     }
     s[at] = key;
+}
+
+// The least of the n keys of a heap. It stays in.
+pub fn least(s: &[u64], n: usize) -> u64
+    requires { ⌜ (0 < n) × (n ≤ length (now s)) × (IsHeap n (now s)) ⌝ }
+    ensures { λ r. ⌜ Least n (now (s .entry)) r ⌝ }
+{
+    s[0]
 }
 
 // Takes the least of n keys out of a heap, which then has n - 1. The place that falls free is set to 0: search work is left zero.

@@ -3,26 +3,26 @@
 use mathlib.Core.Path.{_≡_, refl, sym, ap, subst, _∙_}
 use mathlib.Core.Bool.{Bool, true, false}
 use mathlib.Core.Option.{Option, none, some}
-use mathlib.Core.List.{List, [], _∷_, map, foldl}
+use mathlib.Core.List.{List, [], _∷_, foldl}
 use Prim.Native.Nat.{ℕ, zero, suc, _+_, _*_, _≤_, _<_}
 use native.Mathlib.Omega.{arith}
 use lib.IntN.{ℤ}
-use lib.ListN.{length, getD, length-map}
+use lib.ListN.{length}
 use lib.Dec.{eqb}
-use Rattle.integer.specs.Words.{if_then_else_, counting, lastOf}
-use Rattle.integer.proofs.Times.{counting-length}
-use Rattle.integer.proofs.Rows.{getD-table}
+use Rattle.integer.specs.Words.{if_then_else_, lastOf}
 use Rattle.dstree.specs.Measures.{Trace}
-use Rattle.dstree.specs.Node.{bySum, byScatter, Node, node, leaf, goesLeft, nodeAt}
+use Rattle.dstree.specs.Node.{bySum, byScatter, Node, goesLeft, nodeAt}
 use Rattle.dstree.specs.Adding.{nextNode, wayFrom, way}
 use Rattle.tables.specs.Layout.{kindPlace, segmentsPlace, firstPlace, rightPlace, recordPlaces}
 use Rattle.tables.specs.Tables.{Tables, traceCount, nodeCount, recordOf}
 use Rattle.tables.specs.View.{smallAt, testIn, kindIn, nodeIn, treeIn}
+use Rattle.tables.specs.Runs.{figureBy}
+use Rattle.tables.proofs.Views.{tree-size, tree-node}
 use Rattle.tables.proofs.Frame.{with-length, record-other, record-length}
 use Rattle.insertion_memory.specs.Records.{widenRecord}
 use Rattle.insertion_memory.specs.Memory.{onRecord}
 use Rattle.insertion.specs.Widening.{Readable}
-use Rattle.insertion.specs.Way.{figureBy, childIn, nextIn, orZero, wayIn, Passable, Descendable}
+use Rattle.insertion.specs.Way.{childIn, nextIn, orZero, wayIn, Passable, Descendable}
 use Rattle.insertion.proofs.Widened.{partly-all, partly-length}
 
 -- ---- the child by the kind
@@ -114,17 +114,6 @@ module _ {nodes : List ℤ} {count n : ℕ} (ok : Descendable nodes count n) (x 
 
 -- ---- the way by the tree that the tables stand for
 
-pub tree-count : (t : Tables) → length (treeIn t) ≡ nodeCount t
-unfolding treeIn
-tree-count t = length-map (counting (nodeCount t) 0) (λ j. nodeIn (t .links) (traceCount t) (recordOf (t .nodes) j)) ∙ counting-length (nodeCount t) 0
-
-pub tree-node : (t : Tables) (at : ℕ) → at < nodeCount t → nodeAt (treeIn t) at ≡ nodeIn (t .links) (traceCount t) (recordOf (t .nodes) at)
-unfolding treeIn
-tree-node t at h =
-    let e : 0 + at ≡ at = omega arith in
-    let f : ℕ → Node = λ j. nodeIn (t .links) (traceCount t) (recordOf (t .nodes) j) in
-    getD-table f (nodeCount t) 0 at (node [] (leaf [])) h ∙ ap f e
-
 module _ (t : Tables) (x : Trace) {n : ℕ} (ok : Descendable (t .nodes) (nodeCount t) n) where
   next-same : (r : List ℤ) (kind : ℕ) → nextNode (kindIn (t .links) (traceCount t) r kind) x ≡ childIn r x kind
   unfolding nextNode kindIn childIn
@@ -162,7 +151,7 @@ module _ (t : Tables) (x : Trace) {n : ℕ} (ok : Descendable (t .nodes) (nodeCo
 
   -- the nodes that code meets are those that document 01 says
   pub way-same : wayIn (t .nodes) (nodeCount t) x 0 ≡ way (treeIn t) x
-  way-same = from-same (nodeCount t) 0 (ok .some-node) ∙ ap (λ (fuel : ℕ). wayFrom fuel (treeIn t) x 0) (sym (tree-count t))
+  way-same = from-same (nodeCount t) 0 (ok .some-node) ∙ ap (λ (fuel : ℕ). wayFrom fuel (treeIn t) x 0) (sym (tree-size t))
 
 -- ---- going down
 
@@ -201,7 +190,8 @@ module _ {nodes : List ℤ} {count n : ℕ} (ok : Descendable nodes count n) (x 
         record {
           inside = b .1;
           same-length = widened-length;
-          same = λ j h l. record-other now at (widenRecord x (recordOf now at)) fits widened-size j (λ z. omega (arith, b .0)) (omega (arith, l, g .same-length, ok .room)) ∙ g .same j (omega (arith, b .0)) l;
+          same = λ j h l. record-other now at (widenRecord x (recordOf now at)) fits widened-size j (λ z. omega (arith, b .0)) (omega (arith, l, g .same-length, ok .room))
+              ∙ g .same j (omega (arith, b .0)) l;
           left = sym (ap (foldl (onRecord (widenRecord x)) now) (way-step ok x at c (g .inside) q)) ∙ g .left;
           last = sym (last-step ok x at c (g .inside) q) ∙ g .last;
         }

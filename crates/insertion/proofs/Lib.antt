@@ -1,5 +1,4 @@
 pub mod Chain
-pub mod Lent
 pub mod Plain
 pub mod Widened
 pub mod First

@@ -1,54 +1,23 @@
 -- How a record is widened place by place: four stores make a segment the widened one (`stored`), and after i segments the record is partly widened
 -- (`partly`). Behind those it is as it was, so that the next segment is still the one of the record at first.
 use mathlib.Core.Path.{_≡_, refl, sym, ap, subst, _∙_}
-use mathlib.Core.Bool.{Bool, true, false}
 use mathlib.Core.List.{List, [], _∷_, _++_, map, flatten, append-assoc, append-nil}
 use Prim.Native.Nat.{ℕ, zero, suc, _+_, _*_, _^_, _≤_, _<_, min, max}
 use native.Mathlib.Omega.{arith}
-use lib.IntN.{ℤ, pos, negsuc}
-use lib.Dec.{ltb}
+use lib.IntN.{ℤ, pos}
 use lib.ListN.{length, getD, set, take, drop, length-append, length-drop, take-append-drop}
 use lib.Seq.{sets-eq, getD-set-other, set-getD, take-at, drop-at, drop-drop, getD-append-add, getD-drop, length-take-le}
-use borrow.Author.Tests.{ltb-true, ltb-false}
-use Rattle.integer.specs.Words.{if_then_else_, counting, lesser, greater}
+use Rattle.integer.specs.Words.{counting, lesser, greater}
 use Rattle.dstree.specs.Measures.{Trace}
 use Rattle.dstree.specs.Figures.{Run, run, sumOn, scatterOn}
 use Rattle.dstree.specs.Node.{Segment, changeAll}
 use Rattle.dstree.specs.Adding.{widenSegment}
 use Rattle.tables.specs.Layout.{segmentsPlace, headPlaces, segmentPlaces, segmentAt, recordPlaces}
 use Rattle.tables.specs.View.{smallOf, scatterIn, placeOf, smallAt, segmentIn, segmentsIn}
+use Rattle.tables.specs.Runs.{RunOf}
+use Rattle.tables.proofs.Small.{small-back, scatter-back, lesser-pos, greater-pos}
 use Rattle.insertion_memory.specs.Records.{segmentFields, fieldsOf, widenRecord}
-use Rattle.insertion.specs.Widening.{rangeWith, withSegment, endIn, startIn, RunIn, SegmentReadable}
-
--- ---- fields that come back as they were read
-
-pub small-back : (z : ℤ) → smallOf z ≤ 65535 → pos (smallOf z) ≡ z
-small-back (pos n) h = by (ltb 65535 n) h
-  where
-    by : (b : Bool) → (if b then 65536 else n) ≤ 65535 → pos (if b then 65536 else n) ≡ pos n
-    by true g = absurd (omega arith)
-    by false g = refl
-small-back (negsuc n) h = absurd (omega arith)
-
-pub scatter-back : (z : ℤ) → scatterIn z ≤ 2 ^ 54 → pos (scatterIn z) ≡ z
-scatter-back (pos n) h = refl
-scatter-back (negsuc n) h = absurd (omega arith)
-
--- ---- the lesser and the greater of two scatters
-
-pub lesser-pos : (a b : ℕ) → lesser (pos a) (pos b) ≡ pos (min a b)
-lesser-pos a b = by (ltb b a) refl
-  where
-    by : (t : Bool) → ltb b a ≡ t → (if t then pos b else pos a) ≡ pos (min a b)
-    by true e = let h = ltb-true b a e in ap pos (omega arith)
-    by false e = let h = ltb-false b a e in ap pos (omega arith)
-
-pub greater-pos : (a b : ℕ) → greater (pos a) (pos b) ≡ pos (max a b)
-greater-pos a b = by (ltb a b) refl
-  where
-    by : (t : Bool) → ltb a b ≡ t → (if t then pos b else pos a) ≡ pos (max a b)
-    by true e = let h = ltb-true a b e in ap pos (omega arith)
-    by false e = let h = ltb-false a b e in ap pos (omega arith)
+use Rattle.insertion.specs.Widening.{rangeWith, withSegment, endIn, startIn, SegmentReadable}
 
 -- ---- four stores behind a place that stays
 
@@ -89,14 +58,16 @@ module _ (r : List ℤ) (i first n : ℕ) (size : length r ≡ recordPlaces) (h 
       let high = placeOf r (place + 4) in
       let greatest-place : place + 1 + 1 ≡ place + 2 = omega arith in
       let high-place : place + 3 + 1 ≡ place + 4 = omega arith in
-      let end-back : placeOf r place ≡ pos (endIn r i) = sym (small-back (placeOf r place) (omega (arith, ok .on .to, ok .on .narrow))) in
+      let end-back : placeOf r place ≡ pos (endIn r i) = sym (small-back (placeOf r place) (omega (arith, ok .on .inside .to-n, ok .on .narrow))) in
       let greatest : greater (placeOf r (place + 1 + 1)) (sumOn on x) ≡ greater (placeOf r (place + 2)) (sumOn on x) = rw greatest-place in
       let least-scatter : lesser (placeOf sums (place + 3)) (pos v) ≡ pos (min (scatterIn low) v) =
-      ap (λ (z : ℤ). lesser z (pos v)) (later r (place + 1) (place + 1 + 1) (lesser (placeOf r (place + 1)) (sumOn on x)) (greater (placeOf r (place + 1 + 1)) (sumOn on x)) (place + 3) (omega arith) (omega arith)
+      ap (λ (z : ℤ). lesser z (pos v)) (later r (place + 1) (place + 1 + 1) (lesser (placeOf r (place + 1)) (sumOn on x)) (greater (placeOf r (place + 1 + 1)) (sumOn on x))
+      (place + 3) (omega arith) (omega arith)
       ∙ sym (scatter-back low (ok .least-scatter)))
       ∙ lesser-pos (scatterIn low) v in
       let greatest-scatter : greater (placeOf sums (place + 3 + 1)) (pos v) ≡ pos (max (scatterIn high) v) =
-      ap (λ (z : ℤ). greater z (pos v)) (later r (place + 1) (place + 1 + 1) (lesser (placeOf r (place + 1)) (sumOn on x)) (greater (placeOf r (place + 1 + 1)) (sumOn on x)) (place + 3 + 1) (omega arith) (omega arith)
+      ap (λ (z : ℤ). greater z (pos v)) (later r (place + 1) (place + 1 + 1) (lesser (placeOf r (place + 1)) (sumOn on x)) (greater (placeOf r (place + 1 + 1)) (sumOn on x))
+      (place + 3 + 1) (omega arith) (omega arith)
       ∙ (ap (placeOf r) high-place ∙ sym (scatter-back high (ok .greatest-scatter))))
       ∙ greater-pos (scatterIn high) v in
       stored r place (place + 1) (place + 1 + 1) (place + 3) (place + 3 + 1)
@@ -149,7 +120,7 @@ module _ (x : Trace) (r : List ℤ) where
 
     pub readable-later : (first n : ℕ) → SegmentReadable r i first n → SegmentReadable (partly x r i) i first n
     readable-later first n ok = record {
-      on = subst (λ (end : ℕ). RunIn first end n) (sym end-later) (ok .on);
+      on = subst (λ (end : ℕ). RunOf n first end) (sym end-later) (ok .on);
       least-scatter = subst (λ (s : Segment). s .leastScatter ≤ 2 ^ 54) (sym segment-later) (ok .least-scatter);
       greatest-scatter = subst (λ (s : Segment). s .greatestScatter ≤ 2 ^ 54) (sym segment-later) (ok .greatest-scatter);
     }

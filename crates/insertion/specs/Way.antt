@@ -2,7 +2,6 @@
 -- `proofs/Down` shows.
 use Prim.Native.Nat.{ℕ, zero, suc, _*_, _≤_, _<_}
 use mathlib.Core.Path.{_≡_}
-use mathlib.Core.Bool.{Bool, true, false}
 use mathlib.Core.Option.{Option, none, some}
 use mathlib.Core.List.{List, [], _∷_}
 use lib.IntN.{ℤ}
@@ -14,13 +13,10 @@ use Rattle.dstree.specs.Node.{Figure, bySum, byScatter, goesLeft}
 use Rattle.tables.specs.Layout.{kindPlace, firstPlace, rightPlace, runFirstPlace, runLastPlace, recordPlaces}
 use Rattle.tables.specs.Tables.{recordOf}
 use Rattle.tables.specs.View.{smallAt, testIn}
-use Rattle.insertion.specs.Widening.{RunIn, Readable}
+use Rattle.tables.specs.Runs.{figureBy, RunOf}
+use Rattle.insertion.specs.Widening.{Readable}
 
--- sum or scatter, by a flag, and by a kind field: 1 by sum, 2 by scatter
-abbrev pub figureBy : Bool → Figure
-figureBy true = byScatter
-figureBy false = bySum
-
+-- sum or scatter, by a kind field: 1 by sum, 2 by scatter
 abbrev pub figureIn : List ℤ → Figure
 figureIn r = figureBy (eqb (smallAt r kindPlace) 2)
 
@@ -49,7 +45,7 @@ wayIn nodes (suc fuel) x at = at ∷ elim (nextIn (recordOf nodes at) x) [ none 
 -- a record's test is on a run inside 1 to n
 pub record TestReadable (r : List ℤ) (n : ℕ) : Type 0 where
   pub size : length r ≡ recordPlaces
-  pub on : RunIn (smallAt r runFirstPlace) (smallAt r runLastPlace) n
+  pub on : RunOf n (smallAt r runFirstPlace) (smallAt r runLastPlace)
 
 -- an inner node's record j of a table of `count`: its test, and "children numbered above their parent"
 pub record Passable (r : List ℤ) (n j count : ℕ) : Type 0 where

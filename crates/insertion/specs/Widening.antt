@@ -8,14 +8,8 @@ use Rattle.integer.specs.Words.{lesser, greater}
 use Rattle.dstree.specs.Node.{Segment}
 use Rattle.tables.specs.Layout.{segmentsPlace, segmentPlaces, segmentAt, recordPlaces}
 use Rattle.tables.specs.View.{placeOf, smallAt, segmentIn}
+use Rattle.tables.specs.Runs.{RunOf}
 use Rattle.insertion_memory.specs.Records.{segmentFields}
-
--- "a run inside 1 to n", n at most 256
-pub record RunIn (first last n : ℕ) : Type 0 where
-  pub from : 1 ≤ first
-  pub some : first ≤ last
-  pub to : last ≤ n
-  pub narrow : n ≤ 256
 
 -- a range of a record, its least at a place and its greatest behind that, with a figure in it too
 abbrev pub rangeWith : List ℤ → ℕ → ℤ → List ℤ
@@ -35,7 +29,7 @@ startIn r (suc i) = suc (endIn r i)
 
 -- a segment whose run is inside 1 to n, with scatters that are no larger than any limit
 pub record SegmentReadable (r : List ℤ) (i first n : ℕ) : Type 0 where
-  pub on : RunIn first (endIn r i) n
+  pub on : RunOf n first (endIn r i)
   pub least-scatter : segmentIn r i .leastScatter ≤ 2 ^ 54
   pub greatest-scatter : segmentIn r i .greatestScatter ≤ 2 ^ 54
 

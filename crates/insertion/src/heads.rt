@@ -1,29 +1,46 @@
 // The heads of records: a leaf's, an inner node's, and the first leaf of all.
 
+use tables::places::FIRST;
+use tables::places::GREATEST_SCATTER;
+use tables::places::GREATEST_SUM;
+use tables::places::HEAD;
+use tables::places::KIND;
+use tables::places::LEAST_SCATTER;
+use tables::places::LEAST_SUM;
+use tables::places::RECORD_PLACES;
+use tables::places::RIGHT;
+use tables::places::RUN_FIRST;
+use tables::places::RUN_LAST;
+use tables::places::SEGMENT;
+use tables::places::SEGMENTS;
+use tables::places::THRESHOLD;
+use tables::records::record_end;
+use tables::records::record_start;
 ghost use mathlib.Core.Path.{_≡_};
 ghost use mathlib.Core.List.{_∷_, [], _++_};
-ghost use Prim.Native.Nat.{_^_, _≤_, _<_};
+ghost use Prim.Native.Nat.{_+_, _*_, _^_, _≤_, _<_};
 ghost use lib.ListN.{length, drop, set};
 ghost use Rattle.dstree.specs.Adding.{segmentsOf};
 ghost use Rattle.tables.specs.Layout.{headPlaces, recordPlaces};
 ghost use Rattle.tables.specs.Tables.{withRecord};
+ghost use Rattle.tables.specs.Runs.{figureBy, testBy};
 ghost use Rattle.insertion_memory.specs.Records.{leafRecord, innerKind, innerRecord};
-ghost use Rattle.insertion.specs.Way.{figureBy};
+ghost use Rattle.insertion_memory.specs.Memory.{onRecord};
 ghost use Rattle.insertion.specs.Widening.{withSegment};
-ghost use Rattle.insertion.specs.Heads.{leafHead, testOn, segmentBy};
+ghost use Rattle.insertion.specs.Heads.{leafHead, segmentBy};
 
 // A leaf's head, by its number of segments and its first trace. Its test's places become 0, and its segments stay.
 pub fn write_leaf_head(record: &mut [i64], segments: usize, first: usize)
     requires { ⌜ (length (now «record») ≡ recordPlaces) × (segments ≤ 65535) × (first ≤ 65535) ⌝ }
     ensures { λ _. ⌜ now («record» .exit) ≡ leafHead segments first ++ drop headPlaces (now («record» .entry)) ⌝ }
 {
-    record[0] = 0;
-    record[1] = segments as i64;
-    record[2] = first as i64;
-    record[3] = 0;
-    record[4] = 0;
-    record[5] = 0;
-    record[6] = 0;
+    record[KIND] = 0;
+    record[SEGMENTS] = segments as i64;
+    record[FIRST] = first as i64;
+    record[RIGHT] = 0;
+    record[RUN_FIRST] = 0;
+    record[RUN_LAST] = 0;
+    record[THRESHOLD] = 0;
 }
 
 // An inner node's kind: 1 by sum, 2 by scatter.
@@ -36,9 +53,10 @@ fn kind_of(by_scatter: bool) -> i64
     1
 }
 
-// A leaf's record becomes an inner node's: kind, children and test. Its segments stay.
+// Node j's record, a leaf's, becomes an inner node's: kind, children and test. Its segments stay.
 pub fn become_inner(
-    record: &mut [i64],
+    nodes: &mut [i64],
+    j: usize,
     by_scatter: bool,
     left: usize,
     right: usize,
@@ -46,15 +64,18 @@ pub fn become_inner(
     last: usize,
     threshold: i64,
 )
-    requires { ⌜ (length (now «record») ≡ recordPlaces) × (left ≤ 65535) × (right ≤ 65535) × (first ≤ 65535) × (last ≤ 65535) ⌝ }
-    ensures { λ _. ⌜ now («record» .exit) ≡ innerRecord (testOn «by_scatter» first last threshold) left right (now («record» .entry)) ⌝ }
+    requires { ⌜ (j * recordPlaces + recordPlaces ≤ length (now nodes)) × (j ≤ 8191) × (left ≤ 65535) × (right ≤ 65535) × (first ≤ 65535) × (last ≤ 65535) ⌝ }
+    ensures { λ _. ⌜ now (nodes .exit) ≡ onRecord (innerRecord (testBy first last «by_scatter» threshold) left right) (now (nodes .entry)) j ⌝ }
 {
-    record[0] = kind_of(by_scatter);
-    record[2] = left as i64;
-    record[3] = right as i64;
-    record[4] = first as i64;
-    record[5] = last as i64;
-    record[6] = threshold;
+    let a = record_start(j);
+    let e = record_end(j);
+    let record = &mut nodes[a..e];
+    record[KIND] = kind_of(by_scatter);
+    record[FIRST] = left as i64;
+    record[RIGHT] = right as i64;
+    record[RUN_FIRST] = first as i64;
+    record[RUN_LAST] = last as i64;
+    record[THRESHOLD] = threshold;
 }
 
 // Segment i of a record, by its end and the least and greatest of its figures.
@@ -70,12 +91,12 @@ pub fn write_segment(
     requires { ⌜ (length (now «record») ≡ recordPlaces) × (i < 16) × (end ≤ 65535) × («least_scatter» ≤ 2 ^ 54) × («greatest_scatter» ≤ 2 ^ 54) ⌝ }
     ensures { λ _. ⌜ now («record» .exit) ≡ withSegment (now («record» .entry)) i (segmentBy end «least_sum» «greatest_sum» «least_scatter» «greatest_scatter») ⌝ }
 {
-    let at = 7 + i * 5;
+    let at = HEAD + i * SEGMENT;
     record[at] = end as i64;
-    record[at + 1] = least_sum;
-    record[at + 2] = greatest_sum;
-    record[at + 3] = least_scatter as i64;
-    record[at + 4] = greatest_scatter as i64;
+    record[at + LEAST_SUM] = least_sum;
+    record[at + GREATEST_SUM] = greatest_sum;
+    record[at + LEAST_SCATTER] = least_scatter as i64;
+    record[at + GREATEST_SCATTER] = greatest_scatter as i64;
 }
 
 // The record of a leaf with the first trace alone, and one segment. Least and greatest are that trace's own figures.
@@ -83,7 +104,7 @@ fn first_record(record: &mut [i64], trace: &[i16])
     requires { ⌜ (length (now «record») ≡ recordPlaces) × (length (now trace) ≤ 256) ⌝ }
     ensures { λ _. ⌜ now («record» .exit) ≡ leafRecord (segmentsOf (length (now (trace .entry)) ∷ []) (now (trace .entry) ∷ [])) 0 ⌝ }
 {
-    tables::loops::zero_nodes(record, 87);
+    tables::loops::zero_nodes(record, RECORD_PLACES);
     write_leaf_head(record, 1, 0);
     let sum = segment::figures::sum(trace);
     let scatter = segment::figures::scatter(trace);
@@ -97,8 +118,8 @@ pub fn first_leaf(nodes: &mut [i64], links: &mut [u16], trace: &[i16])
     ensures { λ _. ⌜ now (nodes .exit) ≡ withRecord (now (nodes .entry)) 0 (leafRecord (segmentsOf (length (now (trace .entry)) ∷ []) (now (trace .entry) ∷ [])) 0) ⌝ }
     ensures linked { λ _. ⌜ now (links .exit) ≡ set (now (links .entry)) 0 0 ⌝ }
 {
-    let a: usize = 0;
-    let e: usize = 87;
+    let a = record_start(0);
+    let e = record_end(0);
     first_record(&mut nodes[a..e], trace);
     links[0] = 0;
 }

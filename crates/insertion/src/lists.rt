@@ -1,17 +1,12 @@
 // A leaf's list of traces by the links: its last one, and how a new one joins it.
 
+use tables::walk::behind;
 ghost use mathlib.Core.Path.{_≡_};
 ghost use Prim.Native.Nat.{_≤_, _<_};
 ghost use lib.ListN.{length};
 ghost use Rattle.integer.specs.Words.{lastOf};
-ghost use Rattle.leaf_figures.specs.Walk.{Rising, numbersOf};
+ghost use Rattle.tables.specs.Walk.{Rising, numbersOf};
 ghost use Rattle.insertion_memory.specs.Links.{joined};
-
-fn wide(x: u16) -> usize
-    ensures { λ r. ⌜ r ≡ x ⌝ }
-{
-    x as usize
-}
 
 // The last trace of the list that starts at `head`, k traces being stored.
 pub fn last_of(links: &[u16], k: usize, head: usize) -> usize
@@ -19,10 +14,10 @@ pub fn last_of(links: &[u16], k: usize, head: usize) -> usize
     ensures { λ r. ⌜ r ≡ lastOf (numbersOf (now (links .entry)) k head) ⌝ }
 {
     let mut t = head;
-    let mut next = wide(links[t]);
-    while next != 0 {
+    let mut next = behind(links, k, t);
+    while next < k {
         t = next;
-        next = wide(links[t]);
+        next = behind(links, k, t);
     }
     t
 }

@@ -9,6 +9,7 @@ use lib.ListN.{length, set, length-append, length-set}
 use lib.Seq.{set-append-left, paste}
 use lib.Dec.{T}
 use Rattle.integer.specs.Words.{lastOf}
+use Rattle.integer.proofs.Lists.{in-is}
 use Rattle.dstree.specs.Measures.{Trace, Measures, samplesNeeded}
 use Rattle.dstree.specs.Node.{Tree, nodeAt}
 use Rattle.dstree.specs.Adding.{way, widenAll, join, segmentsOf}
@@ -22,10 +23,9 @@ use Rattle.insertion_memory.specs.Records.{leafRecord, widenRecord}
 use Rattle.insertion_memory.specs.Links.{joined}
 use Rattle.insertion_memory.specs.Memory.{Held, held, onRecord, splitAllOf, firstHeld, joinedHeld, heldAfter, addedTo}
 use Rattle.insertion_memory.proofs.Placing.{record-inside}
-use Rattle.insertion_memory.proofs.Stands.{Space}
-use Rattle.insertion_memory.proofs.Down.{LeafAt, way-inside, way-ends}
-use Rattle.insertion_memory.proofs.Widening.{widen-length}
-use Rattle.insertion_memory.proofs.Joining.{last-low, join-length}
+use Rattle.insertion_memory.specs.Stands.{Space}
+use Rattle.dstree.proofs.Change.{LeafAt, way-inside, way-leaf, widen-length, join-length}
+use Rattle.insertion_memory.proofs.Joining.{last-low}
 use Rattle.insertion_memory.proofs.FromTables.{Long, facts, node-count, space, tables-stand}
 use Rattle.insertion_memory.proofs.Meaning.{joined-held, meaning}
 use Rattle.insertion_memory.proofs.Made.{count-is}
@@ -78,18 +78,18 @@ module _ (part more : Tables) (x : Trace) (w : T (wellFormed part)) (long : Long
     at = lastOf (way tree x)
 
     end : LeafAt tree at
-    end = way-ends tree x (facts part w .child) some
+    end = way-leaf tree x (facts part w .shape .child) some
 
     abbrev numbers : List ℕ
     numbers = numbersIn (nodeAt tree at .kind)
 
     numbers-some : 0 < length numbers
     unfolding numbersIn
-    numbers-some = subst (λ (l : List ℕ). 0 < length l) (sym (ap numbersIn (end .is))) (facts part w .full at (end .inside) (end .numbers) (end .is))
+    numbers-some = subst (λ (l : List ℕ). 0 < length l) (sym (ap numbersIn (end .is))) (facts part w .shape .full at (end .inside) (end .numbers) (end .is))
 
     last-inside : lastOf numbers < length (part .links)
     last-inside =
-        let g : lastOf numbers < k = last-low k numbers numbers-some (λ t i. tables-stand part w long some .sound .owned t at i .0) in
+        let g : lastOf numbers < k = last-low k numbers numbers-some (λ t i. tables-stand part w long .shape .numbers t at (in-is i)) in
         omega (arith, g, less, room .links-room)
 
     joined-more-held : joinedHeld whole x ≡ wide (joinedHeld part x)
@@ -99,7 +99,7 @@ module _ (part more : Tables) (x : Trace) (w : T (wellFormed part)) (long : Long
         ∙ ap (λ (j : ℕ). joinedBy x tree j (nodeCount whole) (whole .nodes) (whole .links)) (traces-counted same)
         ∙ ap (λ (count : ℕ). joinedBy x tree k count (whole .nodes) (whole .links)) (nodes-counted same)
         ∙ ap₂ (λ (a : List ℤ) (b : List ℕ). held a b (nodeCount part))
-        (widen-more room (more .nodes) (more .links) x (way tree x) (way-inside tree x (facts part w .child) some) (tables-stand part w long some))
+        (widen-more room (more .nodes) (more .links) x (way tree x) (way-inside tree x (facts part w .shape .child) some) (tables-stand part w long))
         (joined-more (part .links) (more .links) numbers k last-inside (omega (arith, less, room .links-room)))
 
     abbrev stored : List Trace
@@ -108,7 +108,8 @@ module _ (part more : Tables) (x : Trace) (w : T (wellFormed part)) (long : Long
     stored-size : length stored ≡ suc k
     stored-size = length-append (tracesIn part) (x ∷ []) ∙ (let e : length (tracesIn part) + 1 ≡ suc k = omega (arith, count-is part) in e)
 
-    split-more-held : splitAllOf (measuresOf whole .leafSize) (tracesIn whole ++ (x ∷ [])) (joinedHeld whole x) (lastOf (way (treeIn whole) x)) ≡ wide (splitAllOf (measuresOf part .leafSize) stored (joinedHeld part x) at)
+    split-more-held : splitAllOf (measuresOf whole .leafSize) (tracesIn whole ++ (x ∷ [])) (joinedHeld whole x) (lastOf (way
+        (treeIn whole) x)) ≡ wide (splitAllOf (measuresOf part .leafSize) stored (joinedHeld part x) at)
     split-more-held =
         let there : at < length (join k at (widenAll x (way tree x) tree)) = omega (arith, end .inside, widen-length x (way tree x) tree, join-length k at (widenAll x (way tree x) tree)) in
         ap (λ (m : Measures). splitAllOf (m .leafSize) (tracesIn whole ++ (x ∷ [])) (joinedHeld whole x) (lastOf (way (treeIn whole) x))) (measures-same same)

@@ -11,7 +11,7 @@ use lib.Seq.{take-append-le, drop-append-le}
 use lib.Dec.{T, leb, le→leb}
 use mir.Facts.{yes-and, and-yes}
 use Rattle.integer.specs.Words.{counting}
-use Rattle.integer.proofs.Lists.{every-of, from-counting, map-agree}
+use Rattle.integer.proofs.Lists.{in-is, every-of, from-counting, map-agree}
 use Rattle.integer.proofs.Rows.{table-is}
 use Rattle.dstree.specs.Measures.{Trace, Measures, sampleLimit, samplesNeeded, recordsNeeded, linksNeeded}
 use Rattle.dstree.specs.Node.{leaf, node, Tree, nodeAt}
@@ -23,7 +23,7 @@ use Rattle.tables.specs.Beginning.{Begins}
 use Rattle.tables.proofs.Frame.{partOf}
 use Rattle.tables.proofs.Beginning.{extended, behindOf, begins-is}
 use Rattle.insertion_memory.specs.Memory.{Held, held}
-use Rattle.insertion_memory.proofs.Sound.{nodes-most}
+use Rattle.dstree.proofs.Nodes.{nodes-most}
 use Rattle.insertion_memory.proofs.Placing.{record-inside}
 use Rattle.insertion_memory.proofs.Stands.{Reads, reads-same, kind-named, Stands, node-read}
 use Rattle.insertion_memory.proofs.FromTables.{Long, facts, node-count, tables-stand}
@@ -38,9 +38,9 @@ pub stands-like : {n c k : ℕ} {nodes : List ℤ} {links : List ℕ} {h : Held}
 stands-like {c} {tree} h′ s count records same = record {
   few = s .few;
   count = count ∙ s .count;
-  reads = λ j g. subst (λ (r : List ℤ). Reads (h′ .links) r (nodeAt tree j)) (sym (records j (omega (arith, g, nodes-most (s .sound), s .few))))
-      (reads-same (λ t i. same t (omega (arith, s .sound .owned t j i .0, s .few))) (s .reads j g));
-  sound = s .sound;
+  reads = λ j g. subst (λ (r : List ℤ). Reads (h′ .links) r (nodeAt tree j)) (sym (records j (omega (arith, g, nodes-most (s .shape), s .few))))
+      (reads-same (λ t i. same t (omega (arith, s .shape .numbers t j (in-is i), s .few))) (s .reads j g));
+  shape = s .shape;
   nodes-size = refl;
   nodes-behind = refl;
   links-size = refl;
@@ -65,21 +65,10 @@ module _ {t s : Tables} (a : Agree t s) where
   pub nodes-counted : nodeCount s ≡ nodeCount t
   nodes-counted = a .control-agrees nodeCountPlace (omega arith)
 
-  pub agree-back : Agree s t
-  agree-back =
-      let c : measuresOf s .capacity ≡ measuresOf t .capacity = ap (λ (m : Measures). m .capacity) measures-same in
-      let n : measuresOf s .n ≡ measuresOf t .n = ap (λ (m : Measures). m .n) measures-same in
-      record {
-        control-agrees = λ i h. sym (a .control-agrees i h);
-        samples-agree = λ i h. subst (λ (n : ℕ). traceIn (t .samples) n i ≡ traceIn (s .samples) n i) (sym n) (sym (a .samples-agree i (omega (arith, h, c))));
-        nodes-agree = λ j h. sym (a .nodes-agree j (omega (arith, h, c)));
-        links-agree = λ i h. sym (a .links-agree i (omega (arith, h, c)));
-      }
-
   module _ (w : T (wellFormed t)) (long : Long t) where
     -- the nodes and links of s, with the same counts, stand for the tree of t
     like : 0 < length (treeIn t) → Stands (measuresOf t .n) (measuresOf t .capacity) (s .nodes) (s .links) (traceCount t) (held (s .nodes) (s .links) (nodeCount t)) (treeIn t)
-    like some = stands-like (held (s .nodes) (s .links) (nodeCount t)) (tables-stand t w long some) refl (a .nodes-agree) (a .links-agree)
+    like some = stands-like (held (s .nodes) (s .links) (nodeCount t)) (tables-stand t w long) refl (a .nodes-agree) (a .links-agree)
 
     pub tree-same : treeIn s ≡ treeIn t
     unfolding treeIn
@@ -93,7 +82,8 @@ module _ {t s : Tables} (a : Agree t s) where
     traces-same =
         ap (λ (n : ℕ). map (traceIn (s .samples) n) (counting (traceCount s) 0)) (ap (λ (m : Measures). m .n) measures-same)
         ∙ ap (λ (k : ℕ). map (traceIn (s .samples) (measuresOf t .n)) (counting k 0)) traces-counted
-        ∙ map-agree (traceIn (s .samples) (measuresOf t .n)) (traceIn (t .samples) (measuresOf t .n)) (counting (traceCount t) 0) (λ i h. a .samples-agree i (omega (arith, from-counting (traceCount t) 0 h .1, facts t w .room)))
+        ∙ map-agree (traceIn (s .samples) (measuresOf t .n)) (traceIn (t .samples) (measuresOf t .n)) (counting (traceCount t) 0)
+        (λ i h. a .samples-agree i (omega (arith, from-counting (traceCount t) 0 h .1, facts t w .room)))
 
     kinds-same : T (kindsNamed s)
     unfolding kindsNamed
@@ -104,7 +94,8 @@ module _ {t s : Tables} (a : Agree t s) where
     pub formed-same : T (wellFormed s)
     unfolding wellFormed
     formed-same =
-        let tree : T (abstract.wellFormed sampleLimit (measuresOf t) (traceCount t) (treeIn t)) = and-yes (kindsNamed t) (abstract.wellFormed sampleLimit (measuresOf t) (traceCount t) (treeIn t)) w .1 in
+        let tree : T (abstract.wellFormed sampleLimit (measuresOf t) (traceCount t) (treeIn t)) = and-yes (kindsNamed t)
+        (abstract.wellFormed sampleLimit (measuresOf t) (traceCount t) (treeIn t)) w .1 in
         yes-and (kindsNamed s) (abstract.wellFormed sampleLimit (measuresOf s) (traceCount s) (treeIn s)) kinds-same
         (subst (λ (m : Measures). T (abstract.wellFormed sampleLimit m (traceCount s) (treeIn s))) (sym measures-same)
         (subst (λ (k : ℕ). T (abstract.wellFormed sampleLimit (measuresOf t) k (treeIn s))) (sym traces-counted)
@@ -144,7 +135,9 @@ module _ (part more : Tables) (long : Long part) where
   }
 
   pub extended-long : Long (extended part more)
-  extended-long = subst (λ (m : Measures). (samplesNeeded m ≤ length (part .samples)) → (recordsNeeded m * recordPlaces ≤ length (part .nodes)) → (linksNeeded m ≤ length (part .links)) → Long (extended part more)) (measures-same extended-agree)
+  extended-long = subst
+      (λ (m : Measures). (samplesNeeded m ≤ length (part .samples)) → (recordsNeeded m * recordPlaces ≤ length (part .nodes)) →
+      (linksNeeded m ≤ length (part .links)) → Long (extended part more)) (measures-same extended-agree)
       (λ s n l. record {
         control-long = omega (arith, long .control-long, length-append (part .control) (more .control));
         samples-long = omega (arith, s, length-append (part .samples) (more .samples));
@@ -163,7 +156,3 @@ begins-long {part} {memory} b long = subst Long (sym (begins-is part memory b)) 
 -- the memory holds what its first places do
 pub holds-whole : {part memory : Tables} {m : Measures} {traces : List Trace} → Begins part memory → Holds part m traces → Holds memory m traces
 holds-whole b h = holds-same (begins-agree b (h .long)) (begins-long b (h .long)) h
-
--- .. and these what the memory does, if they are long enough
-pub holds-part : {part memory : Tables} {m : Measures} {traces : List Trace} → Begins part memory → Long part → Holds memory m traces → Holds part m traces
-holds-part b long h = holds-same (agree-back (begins-agree b long)) long h

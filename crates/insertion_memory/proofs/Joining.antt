@@ -6,17 +6,18 @@ use native.Mathlib.Omega.{arith}
 use lib.ListN.{length, getD, set, length-set}
 use lib.IntN.{ℤ}
 use Rattle.integer.specs.Words.{lastOf}
-use Rattle.integer.proofs.Lists.{In, Up, set-cases, last-in}
+use Rattle.integer.proofs.Lists.{In, in-is, Up, set-cases, last-in}
 use Rattle.dstree.specs.Node.{Kind, leaf, Node, node, Tree, nodeAt}
-use Rattle.dstree.specs.Adding.{joinKind, join}
+use Rattle.dstree.specs.Adding.{widenAll, joinKind, join}
 use Rattle.dstree.specs.Matching.{numbersIn}
+use Rattle.dstree.proofs.Formed.{numbers-up}
+use Rattle.dstree.proofs.Joins.{join-shape}
 use Rattle.tables.specs.Tables.{recordOf}
 use Rattle.insertion_memory.specs.Links.{joined}
 use Rattle.insertion_memory.specs.Memory.{Held, held}
 use Rattle.insertion_memory.proofs.Following.{join-at-other, joined-linked, joined-length, joined-behind}
-use Rattle.insertion_memory.proofs.Sound.{number-apart}
-use Rattle.insertion_memory.proofs.SoundJoined.{join-is, join-sound}
-use Rattle.insertion_memory.proofs.Stands.{Means, m-leaf, Low, Reads, reads-same, Space, Stands}
+use Rattle.insertion_memory.specs.Stands.{Space}
+use Rattle.insertion_memory.proofs.Stands.{Means, m-leaf, Low, Reads, reads-same, Stands}
 
 means-join : {links : List ℕ} {r : List ℤ} {ns : List ℕ} (k : ℕ) → Means links r (leaf ns) → Up 0 ns → Low k ns → k < length links → Means (joined links ns k) r (leaf (ns ++ (k ∷ [])))
 means-join {links} k (m-leaf {x} {l} e q w) u low h = m-leaf e q (joined-linked links x l k h w u low)
@@ -29,23 +30,23 @@ pub last-low : (k : ℕ) (ns : List ℕ) → 0 < length ns → Low k ns → last
 last-low k [] some low = absurd (omega arith)
 last-low k (x ∷ l) some low = low _ (last-in x l)
 
-pub join-length : (k at : ℕ) (tree : Tree) → length (join k at tree) ≡ length tree
-unfolding join
-join-length k at tree = length-set tree at (node (nodeAt tree at .segments) (joinKind k (nodeAt tree at .kind)))
+join-is : (k at : ℕ) (tree : Tree) (ns : List ℕ) → nodeAt tree at .kind ≡ leaf ns → join k at tree ≡ set tree at (node (nodeAt tree at .segments) (leaf (ns ++ (k ∷ []))))
+unfolding join joinKind
+join-is k at tree ns is = rw is
 
 module _ {n c : ℕ} {nodes : List ℤ} {links : List ℕ} (space : Space n c nodes links) where
   pub join-stands : {k : ℕ} {h : Held} {tree : Tree} (at : ℕ) (ns : List ℕ) → at < length tree → nodeAt tree at .kind ≡ leaf ns → k < c → Stands n c nodes links k h tree
       → Stands n c nodes links (suc k) (held (h .nodes) (joined (h .links) ns k) (h .count)) (join k at tree)
-  unfolding numbersIn
+  unfolding numbersIn widenAll
   join-stands {k} {h} {tree} at ns inside is less s =
       let full : k < length (h .links) = omega (arith, space .links-room, s .links-size) in
-      let some : 0 < length ns = s .sound .full at inside ns is in
+      let some : 0 < length ns = s .shape .full at inside ns is in
       let numbers : numbersIn (nodeAt tree at .kind) ≡ ns = ap numbersIn is in
-      let up : Up 0 ns = subst (λ (l : List ℕ). Up 0 l) numbers (s .sound .up at) in
+      let up : Up 0 ns = subst (λ (l : List ℕ). Up 0 l) numbers (numbers-up (s .shape) at) in
       let in-at : (t : ℕ) → In t ns → In t (numbersIn (nodeAt tree at .kind)) = λ t i. subst (λ (l : List ℕ). In t l) (sym numbers) i in
-      let low : Low k ns = λ t i. s .sound .owned t at (in-at t i) .0 in
+      let low : Low k ns = λ t i. s .shape .numbers t at (in-is (in-at t i)) in
       let longer : Node = node (nodeAt tree at .segments) (leaf (ns ++ (k ∷ []))) in
-      let is-set : join k at tree ≡ set tree at longer = join-is (s .sound) at ns inside is in
+      let is-set : join k at tree ≡ set tree at longer = join-is k at tree ns is in
       let own : Reads (joined (h .links) ns k) (recordOf (h .nodes) at) longer = record {
         size = s .reads at inside .size;
         segments = s .reads at inside .segments;
@@ -57,9 +58,10 @@ module _ {n c : ℕ} {nodes : List ℤ} {links : List ℕ} (space : Space n c no
         reads = λ j g. subst (λ (tree′ : Tree). Reads (joined (h .links) ns k) (recordOf (h .nodes) j) (nodeAt tree′ j)) (sym is-set)
             (set-cases (node [] (leaf [])) (λ (a : Node). Reads (joined (h .links) ns k) (recordOf (h .nodes) j) a) tree at longer j
             (λ e q. subst (λ (i : ℕ). Reads (joined (h .links) ns k) (recordOf (h .nodes) i) longer) (sym e) own)
-            (λ f q. reads-same (λ t i. other-link (h .links) ns k t some full (λ e. omega (arith, e, s .sound .owned t j i .0)) (λ i′. f (number-apart (s .sound) t j at i (in-at t i′)))) (s .reads j q))
+            (λ f q. reads-same (λ t i. other-link (h .links) ns k t some full (λ e. omega (arith, e, s .shape .numbers t j (in-is i)))
+            (λ i′. f (s .shape .one-leaf t j at (in-is i) (in-is (in-at t i′))))) (s .reads j q))
             (λ q. absurd (omega (arith, g, ap length is-set, length-set tree at longer))));
-        sound = join-sound (s .sound) at ns inside is;
+        shape = join-shape (s .shape) [] [] at ns inside is;
         nodes-size = s .nodes-size;
         nodes-behind = s .nodes-behind;
         links-size = joined-length (h .links) ns k ∙ s .links-size;

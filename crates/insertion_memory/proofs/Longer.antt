@@ -13,12 +13,15 @@ use lib.Seq.{take-append-le, drop-append-le, set-append-left, paste}
 use lib.Dec.{ltb}
 use borrow.Author.Tests.{ltb-true}
 use Rattle.integer.specs.Words.{if_then_else_, lastOf}
-use Rattle.integer.proofs.Lists.{In, first, later}
+use Rattle.integer.proofs.Lists.{In, first, later, in-is, is-in}
 use Rattle.dstree.specs.Measures.{Trace}
 use Rattle.dstree.specs.Node.{Segment, Kind, leaf, inner, Tree, nodeAt, ends}
 use Rattle.dstree.specs.Adding.{tracesOf, segmentsOf, newLeaf, Split, best, widen}
 use Rattle.dstree.specs.Matching.{numbersIn}
-use Rattle.dstree.proofs.Parted.{Fits}
+use Rattle.dstree.specs.Formed.{Fits}
+use Rattle.dstree.proofs.Nodes.{nodes-most}
+use Rattle.dstree.proofs.Cuts.{new-ends}
+use Rattle.dstree.proofs.Splits.{Good, split-length, split-shape, best-is-good}
 use Rattle.tables.specs.Layout.{kindPlace, recordPlaces}
 use Rattle.tables.specs.Tables.{recordOf, withRecord}
 use Rattle.tables.specs.View.{smallAt, segmentsIn, kindIn}
@@ -28,11 +31,9 @@ use Rattle.insertion_memory.specs.Links.{joined, linked}
 use Rattle.insertion_memory.specs.Memory.{Held, held, onRecord, splitTo, splitLeaf, splitAt, splitOn, splitAllOf}
 use Rattle.insertion_memory.proofs.ReadBack.{leaf-length, inner-length}
 use Rattle.insertion_memory.proofs.Following.{laid-length}
-use Rattle.insertion_memory.proofs.Sides.{Sides, from-left, from-right, best-sides}
-use Rattle.insertion_memory.proofs.Sound.{nodes-most}
-use Rattle.insertion_memory.proofs.SoundSplit.{new-ends, split-length, split-sound}
 use Rattle.insertion_memory.proofs.Placing.{record-inside}
-use Rattle.insertion_memory.proofs.Stands.{Space, Stands, kind-read}
+use Rattle.insertion_memory.specs.Stands.{Space}
+use Rattle.insertion_memory.proofs.Stands.{Stands, kind-read}
 use Rattle.insertion_memory.proofs.Widening.{widen-one}
 use Rattle.insertion_memory.proofs.Splitting.{split-at}
 use Rattle.insertion_memory.proofs.Beginnings.{stands-like, record-more}
@@ -83,7 +84,7 @@ module _ {n c : ℕ} {nodes : List ℤ} {links : List ℕ} (space : Space n c no
 
   -- a node of the tree is one of them
   few-nodes : {k : ℕ} {h : Held} {tree : Tree} → Stands n c nodes links k h tree → (j : ℕ) → j < length tree → j < 2 * c - 1
-  few-nodes s j g = omega (arith, g, nodes-most (s .sound), s .few)
+  few-nodes s j g = omega (arith, g, nodes-most (s .shape), s .few)
 
   longer-stands : {k : ℕ} {h : Held} {tree : Tree} → Stands n c nodes links k h tree → Stands n c (h .nodes ++ ns) (h .links ++ ls) k (longer ns ls h) tree
   longer-stands {h} s = stands-like (longer ns ls h) s refl
@@ -106,13 +107,14 @@ module _ {n c : ℕ} {nodes : List ℤ} {links : List ℕ} (space : Space n c no
         let segments : List Segment = segmentsOf (cut .childEnds) (tracesOf traces numbers) in
         leaf-length segments (getD numbers 0 0) (omega (arith, f .few, ap length (new-ends traces (cut .childEnds) numbers), length-map segments (λ (a : Segment). a .end)))
 
-    module _ {k : ℕ} {h : Held} {tree : Tree} (s : Stands n c nodes links k h tree) (at : ℕ) (numbers : List ℕ) (inside : at < length tree) (is : nodeAt tree at .kind ≡ leaf numbers) (cut : Split) (sides : Sides n numbers cut) where
+    module _ {k : ℕ} {h : Held} {tree : Tree} (s : Stands n c nodes links k h tree) (at : ℕ) (numbers : List ℕ)
+        (inside : at < length tree) (is : nodeAt tree at .kind ≡ leaf numbers) (cut : Split) (good : Good n traces (ends (nodeAt tree at .segments)) numbers cut) where
       abbrev m : ℕ
       m = h .count
 
       -- room for two more
       two-more : suc (suc m) ≤ 2 * c - 1
-      two-more = omega (arith, nodes-most (split-sound (s .sound) traces at numbers inside is cut sides), split-length traces tree at cut, s .few, s .count)
+      two-more = omega (arith, nodes-most (split-shape (s .shape) traces at numbers is cut good), split-length traces tree at cut, s .few, s .count)
 
       abbrev N : List ℤ
       N = h .nodes
@@ -139,7 +141,7 @@ module _ {n c : ℕ} {nodes : List ℤ} {links : List ℕ} (space : Space n c no
       size₁ = with-length N at parentRecord (room at (few-nodes s at inside)) (inner-length (cut .test) m (suc m) (recordOf N at) (s .reads at inside .size))
 
       size₂ : length N₂ ≡ length N
-      size₂ = with-length N₁ m leftRecord (omega (arith, room m (omega (arith, two-more)), size₁)) (side-size cut (cut .left) (sides .children)) ∙ size₁
+      size₂ = with-length N₁ m leftRecord (omega (arith, room m (omega (arith, two-more)), size₁)) (side-size cut (cut .left) (good .children-fit)) ∙ size₁
 
       split-nodes : withRecord (withRecord (onRecord (innerRecord (cut .test) m (suc m)) (N ++ ns) at) m leftRecord) (suc m) rightRecord ≡ withRecord N₂ (suc m) rightRecord ++ ns
       split-nodes =
@@ -150,13 +152,13 @@ module _ {n c : ℕ} {nodes : List ℤ} {links : List ℕ} (space : Space n c no
       low : (t : ℕ) → In t numbers → t < length (h .links)
       unfolding numbersIn
       low t i =
-          let g : t < k = s .sound .owned t at (subst (λ (l : List ℕ). In t l) (sym (ap numbersIn is)) i) .0 in
+          let g : t < k = s .shape .numbers t at (rw is (in-is i)) in
           omega (arith, g, s .few, space .links-room, s .links-size)
 
       split-links : linked (cut .right) (linked (cut .left) (h .links ++ ls)) ≡ linked (cut .right) (linked (cut .left) (h .links)) ++ ls
       split-links =
-          ap (λ (l : List ℕ). linked (cut .right) l) (linked-more (cut .left) (h .links) ls (λ t i. low t (from-left sides t i .0)))
-          ∙ linked-more (cut .right) (linked (cut .left) (h .links)) ls (λ t i. omega (arith, low t (from-right sides t i .0), laid-length (cut .left) (h .links)))
+          ap (λ (l : List ℕ). linked (cut .right) l) (linked-more (cut .left) (h .links) ls (λ t i. low t (is-in t numbers (good .left-in t (in-is i)))))
+          ∙ linked-more (cut .right) (linked (cut .left) (h .links)) ls (λ t i. omega (arith, low t (is-in t numbers (good .right-in t (in-is i))), laid-length (cut .left) (h .links)))
 
       split-some-more : splitTo traces (longer ns ls h) at (some cut) ≡ longer ns ls (splitTo traces h at (some cut))
       unfolding splitTo
@@ -164,11 +166,12 @@ module _ {n c : ℕ} {nodes : List ℤ} {links : List ℕ} (space : Space n c no
 
     -- ---- a split, or none
 
-    split-to-more : {k : ℕ} {h : Held} {tree : Tree} → Stands n c nodes links k h tree → (at : ℕ) (numbers : List ℕ) → at < length tree → nodeAt tree at .kind ≡ leaf numbers → (o : Option Split) → ((cut : Split) → o ≡ some cut → Sides n numbers cut)
+    split-to-more : {k : ℕ} {h : Held} {tree : Tree} → Stands n c nodes links k h tree → (at : ℕ) (numbers : List ℕ) → at < length tree
+        → nodeAt tree at .kind ≡ leaf numbers → (o : Option Split) → ((cut : Split) → o ≡ some cut → Good n traces (ends (nodeAt tree at .segments)) numbers cut)
         → splitTo traces (longer ns ls h) at o ≡ longer ns ls (splitTo traces h at o)
     unfolding splitTo
-    split-to-more s at numbers inside is none sides = refl
-    split-to-more s at numbers inside is (some cut) sides = split-some-more s at numbers inside is cut (sides cut refl)
+    split-to-more s at numbers inside is none good = refl
+    split-to-more s at numbers inside is (some cut) good = split-some-more s at numbers inside is cut (good cut refl)
 
     -- ---- a node, tried
 
@@ -178,14 +181,18 @@ module _ {n c : ℕ} {nodes : List ℤ} {links : List ℕ} (space : Space n c no
       unfolding splitLeaf
       split-leaf-more s at inside (inner test left right) is = refl
       split-leaf-more {k} {h} {tree} s at inside (leaf numbers) is =
-          ap (λ (r : List ℤ). if ltb leafSize (length numbers) then splitTo traces (longer ns ls h) at (best traces (ends (segmentsIn r)) numbers) else longer ns ls h) (record-more (h .nodes) ns at (node-inside s at (few-nodes s at inside)))
+          ap (λ (r : List ℤ). if ltb leafSize (length numbers) then splitTo traces (longer ns ls h) at
+          (best traces (ends (segmentsIn r)) numbers) else longer ns ls h) (record-more (h .nodes) ns at (node-inside s at (few-nodes s at inside)))
           ∙ by (ltb leafSize (length numbers))
         where
           fits : Fits n (ends (segmentsIn (recordOf (h .nodes) at)))
-          fits = subst (λ (l : List Segment). Fits n (ends l)) (sym (s .reads at inside .segments)) (s .sound .fits at inside)
+          fits = subst (λ (l : List Segment). Fits n (ends l)) (sym (s .reads at inside .segments)) (s .shape .fits at inside)
 
-          by : (b : Bool) → (if b then splitTo traces (longer ns ls h) at (best traces (ends (segmentsIn (recordOf (h .nodes) at))) numbers) else longer ns ls h) ≡ longer ns ls (if b then splitTo traces h at (best traces (ends (segmentsIn (recordOf (h .nodes) at))) numbers) else h)
-          by true = split-to-more s at numbers inside is (best traces (ends (segmentsIn (recordOf (h .nodes) at))) numbers) (λ cut e. best-sides n traces (ends (segmentsIn (recordOf (h .nodes) at))) numbers cut fits e)
+          by : (b : Bool) → (if b then splitTo traces (longer ns ls h) at (best traces (ends (segmentsIn (recordOf
+              (h .nodes) at))) numbers) else longer ns ls h) ≡ longer ns ls (if b then splitTo traces h at (best traces (ends (segmentsIn (recordOf (h .nodes) at))) numbers) else h)
+          by true = split-to-more s at numbers inside is (best traces (ends (segmentsIn (recordOf (h .nodes) at))) numbers)
+              (λ cut e. subst (λ (l : List Segment). Good n traces (ends l) numbers cut) (s .reads at inside .segments)
+              (best-is-good n traces (ends (segmentsIn (recordOf (h .nodes) at))) numbers fits e))
           by false = refl
 
       split-at-more : {k : ℕ} {h : Held} {tree : Tree} → length traces ≡ k → Stands n c nodes links k h tree → (at : ℕ) → at < length tree
@@ -205,10 +212,14 @@ module _ {n c : ℕ} {nodes : List ℤ} {links : List ℕ} (space : Space n c no
           → splitOn fuel leafSize traces (longer ns ls h) at ≡ longer ns ls (splitOn fuel leafSize traces h at)
       unfolding splitOn
       split-on-more zero size s at = refl
-      split-on-more {k} {h} {tree} (suc fuel) size s at = by (ltb at (h .count)) refl (λ (inside : at < length tree). split-on-more fuel size (split-at space traces leafSize size s at inside) (suc at))
+      split-on-more {k} {h} {tree} (suc fuel) size s at = by (ltb at (h .count)) refl
+          (λ (inside : at < length tree). split-on-more fuel size (split-at space traces leafSize size s at inside) (suc at))
         where
-          by : (b : Bool) → ltb at (h .count) ≡ b → (at < length tree → splitOn fuel leafSize traces (longer ns ls (splitAt leafSize traces h at)) (suc at) ≡ longer ns ls (splitOn fuel leafSize traces (splitAt leafSize traces h at) (suc at)))
-              → (if b then splitOn fuel leafSize traces (splitAt leafSize traces (longer ns ls h) at) (suc at) else longer ns ls h) ≡ longer ns ls (if b then splitOn fuel leafSize traces (splitAt leafSize traces h at) (suc at) else h)
+          by : (b : Bool) → ltb at (h .count) ≡ b
+              → (at < length tree → splitOn fuel leafSize traces (longer ns ls (splitAt leafSize traces h at)) (suc at) ≡ longer ns ls
+              (splitOn fuel leafSize traces (splitAt leafSize traces h at) (suc at)))
+              → (if b then splitOn fuel leafSize traces (splitAt leafSize traces (longer ns ls h) at)
+              (suc at) else longer ns ls h) ≡ longer ns ls (if b then splitOn fuel leafSize traces (splitAt leafSize traces h at) (suc at) else h)
           by true e ih =
               let inside : at < length tree = omega (arith, ltb-true at (h .count) e, s .count) in
               ap (λ (g : Held). splitOn fuel leafSize traces g (suc at)) (split-at-more size s at inside) ∙ ih inside

@@ -1,17 +1,16 @@
 -- Tables that adding makes of empty ones hold exactly the tree of their traces, and are well formed: each adding stands for an insertion, and the
 -- tree that insertions make is well formed by its laws.
 use Prim.Native.Nat.{ℕ, suc, _+_, _*_, _-_, _<_, _≤_}
-use mathlib.Core.Path.{_≡_, refl, sym, _∙_, ap, ap₂, subst}
+use mathlib.Core.Path.{_≡_, refl, sym, _∙_, ap, subst}
 use mathlib.Core.Bool.{true}
 use mathlib.Core.List.{List, [], _∷_, _++_, foldl, flatten, append-assoc, append-nil}
 use native.Mathlib.Omega.{arith}
 use lib.IntN.{pos}
-use lib.ListN.{length, length-map, length-append}
+use lib.ListN.{length, length-append}
 use lib.Dec.{T, leb, leb→le, le→leb}
 use Rattle.integer.specs.Words.{counting, every}
 use Rattle.integer.proofs.Tests.{passed, passes}
 use Rattle.integer.proofs.Lists.{In, in-append-left, in-append-right, first, from-every, every-of}
-use Rattle.integer.proofs.Times.{counting-length}
 use Rattle.dstree.specs.Measures.{Trace, Measures, sampleLimit, inRange, isTrace, isLibrary, samplesNeeded, recordsNeeded, linksNeeded, workNeeded}
 use Rattle.dstree.specs.Node.{Tree}
 use Rattle.dstree.specs.Adding.{insertion, grown, treeOf}
@@ -21,11 +20,13 @@ use Rattle.dstree.specs.Book.{Lent}
 use Rattle.tables.specs.Layout.{controlFields, recordPlaces}
 use Rattle.tables.specs.Tables.{Tables, lentOf, measuresOf, traceCount}
 use Rattle.tables.specs.Answers.{opened}
-use Rattle.tables.proofs.Judged.{Room}
+use Rattle.tables.specs.Judge.{Room}
 use Rattle.tables.proofs.Beginning.{fill-length}
-use Rattle.tables.specs.View.{traceIn, treeIn, tracesIn, kindsNamed, wellFormed}
+use Rattle.tables.specs.View.{treeIn, tracesIn, kindsNamed, wellFormed}
+use Rattle.tables.proofs.Views.{traces-size}
 use Rattle.insertion_memory.specs.Memory.{addedTo}
-use Rattle.insertion_memory.proofs.FromTables.{Long}
+pub use Rattle.tables.specs.Holds.{Holds}
+use Rattle.tables.specs.Holds.{Long}
 use Rattle.insertion_memory.proofs.Meaning.{Added, meaning, well-formed-after}
 
 -- ---- a library with fewer traces
@@ -34,7 +35,8 @@ use Rattle.insertion_memory.proofs.Meaning.{Added, meaning, well-formed
 pub grown-more : (m : Measures) (stored : List Trace) (tree : Tree) (more : List Trace) (x : Trace) → grown m stored tree (more ++ (x ∷ [])) ≡ insertion m (stored ++ more) (grown m stored tree more) x
 unfolding grown
 grown-more m stored tree [] x = rw (append-nil stored)
-grown-more m stored tree (y ∷ more) x = grown-more m (stored ++ (y ∷ [])) (insertion m stored tree y) more x ∙ ap (λ (l : List Trace). insertion m l (grown m (stored ++ (y ∷ [])) (insertion m stored tree y) more) x) (append-assoc stored (y ∷ []) more)
+grown-more m stored tree (y ∷ more) x = grown-more m (stored ++ (y ∷ [])) (insertion m stored tree y) more x ∙ ap
+    (λ (l : List Trace). insertion m l (grown m (stored ++ (y ∷ [])) (insertion m stored tree y) more) x) (append-assoc stored (y ∷ []) more)
 
 module _ (limit : ℕ) (m : Measures) (traces more : List Trace) (library : T (isLibrary limit m (traces ++ more))) where
   each : T (inRange m) × (T (leb (length (traces ++ more)) (m .capacity)) × T (every (isTrace limit (m .n)) (traces ++ more)))
@@ -49,19 +51,9 @@ module _ (limit : ℕ) (m : Measures) (traces more : List Trace) (library : T (i
 
 -- ---- what made tables hold
 
--- tables that hold these measures and traces: the tree is the one that document 01's steps make of them, and nothing is spoiled
-pub record Holds (t : Tables) (m : Measures) (traces : List Trace) : Type 0 where
-  pub formed : T (wellFormed t)
-  pub long : Long t
-  pub measures-are : measuresOf t ≡ m
-  pub traces-are : tracesIn t ≡ traces
-  -- "The tree is the one that the published DSTree insertion, in document 01's whole numbers, builds from the same traces in the same order"
-  pub tree-is : treeIn t ≡ treeOf m traces
-
 -- as many traces as the control record counts
 pub count-is : (t : Tables) → traceCount t ≡ length (tracesIn t)
-unfolding tracesIn
-count-is t = sym (length-map (counting (traceCount t) 0) (traceIn (t .samples) (measuresOf t .n)) ∙ counting-length (traceCount t) 0)
+count-is t = sym (traces-size t)
 
 -- tables stay long enough
 pub long-after : (t : Tables) (x : Trace) → Long t → Added t x → Long (addedTo t x)
@@ -69,9 +61,12 @@ long-after t x long a =
     let lengths : lentOf (addedTo t x) ≡ lentOf t = a .lengths-stay in
     record {
       control-long = subst (λ (l : Lent). controlFields ≤ l .control) (sym lengths) (long .control-long);
-      samples-long = subst (λ (k : Measures). samplesNeeded k ≤ length (addedTo t x .samples)) (sym (a .measures-stay)) (subst (λ (l : Lent). samplesNeeded (measuresOf t) ≤ l .samples) (sym lengths) (long .samples-long));
-      nodes-long = subst (λ (k : Measures). recordsNeeded k * recordPlaces ≤ length (addedTo t x .nodes)) (sym (a .measures-stay)) (subst (λ (l : Lent). recordsNeeded (measuresOf t) * recordPlaces ≤ l .nodes) (sym lengths) (long .nodes-long));
-      links-long = subst (λ (k : Measures). linksNeeded k ≤ length (addedTo t x .links)) (sym (a .measures-stay)) (subst (λ (l : Lent). linksNeeded (measuresOf t) ≤ l .links) (sym lengths) (long .links-long));
+      samples-long = subst (λ (k : Measures). samplesNeeded k ≤ length (addedTo t x .samples)) (sym (a .measures-stay))
+          (subst (λ (l : Lent). samplesNeeded (measuresOf t) ≤ l .samples) (sym lengths) (long .samples-long));
+      nodes-long = subst (λ (k : Measures). recordsNeeded k * recordPlaces ≤ length (addedTo t x .nodes)) (sym (a .measures-stay))
+          (subst (λ (l : Lent). recordsNeeded (measuresOf t) * recordPlaces ≤ l .nodes) (sym lengths) (long .nodes-long));
+      links-long = subst (λ (k : Measures). linksNeeded k ≤ length (addedTo t x .links)) (sym (a .measures-stay))
+          (subst (λ (l : Lent). linksNeeded (measuresOf t) ≤ l .links) (sym lengths) (long .links-long));
     }
 
 module _ (m : Measures) where
@@ -79,11 +74,18 @@ module _ (m : Measures) where
   unfolding isLibrary
   shorter traces more library =
       let p = each sampleLimit m traces more library in
-      passes (inRange m) (leb (length traces) (m .capacity) ∷ every (isTrace sampleLimit (m .n)) traces ∷ [])
-      (p .0, (le→leb (length traces) (m .capacity) (omega (arith, room sampleLimit m traces more library)), every-of (isTrace sampleLimit (m .n)) traces (λ x i. from-every (isTrace sampleLimit (m .n)) (traces ++ more) (p .1 .1) (in-append-left more i))))
+      passes (inRange m) (leb (length traces) (m .capacity) ∷ every (isTrace sampleLimit (m .n)) traces ∷ []) (
+        p .0,
+        (
+          le→leb (length traces) (m .capacity) (omega (arith, room sampleLimit m traces more library)),
+          every-of
+              (isTrace sampleLimit (m .n)) traces (λ x i. from-every (isTrace sampleLimit (m .n)) (traces ++ more) (p .1 .1) (in-append-left more i)),
+        ),
+      )
 
   -- tables that hold all but the last of a library's traces take that one: it has n samples, and there is room
-  pub takes-more : (t : Tables) (traces : List Trace) (x : Trace) → Holds t m traces → T (isLibrary sampleLimit m (traces ++ (x ∷ []))) → (length x ≡ measuresOf t .n) × (traceCount t < measuresOf t .capacity)
+  pub takes-more : (t : Tables) (traces : List Trace) (x : Trace) → Holds t m traces → T (isLibrary sampleLimit m (traces ++ (x ∷ [])))
+      → (length x ≡ measuresOf t .n) × (traceCount t < measuresOf t .capacity)
   takes-more t traces x h library =
       let size : length x ≡ m .n = trace-length sampleLimit (m .n) x (is-trace sampleLimit m traces (x ∷ []) library first) in
       let counted : traceCount t ≡ length traces = count-is t ∙ ap length (h .traces-are) in
@@ -134,7 +136,8 @@ module _ (m : Measures) where
 
 module _ (t : Tables) (m : Measures) (range : T (inRange m)) (enough : Room (lentOf t) m) where
   pub holds-none : Holds (opened t m) m []
-  unfolding opened wellFormed kindsNamed treeIn tracesIn counting every abstract.wellFormed abstract.everyNode abstract.childOnce abstract.inOneLeaf grown samplesNeeded recordsNeeded linksNeeded workNeeded flatten
+  unfolding opened wellFormed kindsNamed treeIn tracesIn counting every abstract.wellFormed abstract.everyNode abstract.childOnce
+      abstract.inOneLeaf grown samplesNeeded recordsNeeded linksNeeded workNeeded flatten
   holds-none = record {
     formed = passes (inRange m) (leb 0 (m .capacity) ∷ true ∷ true ∷ true ∷ true ∷ []) (range, (le→leb 0 (m .capacity) (omega arith), (tt, (tt, (tt, tt)))));
     long = record {

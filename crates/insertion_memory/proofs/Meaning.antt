@@ -6,13 +6,12 @@ use mathlib.Core.Path.{_≡_, refl, sym, _∙_, ap, subst}
 use mathlib.Core.Bool.{Bool, true, false}
 use mathlib.Core.List.{List, [], _∷_, _++_, map}
 use native.Mathlib.Omega.{arith}
-use lib.ListN.{length, set, drop, length-map, length-append, length-set}
+use lib.ListN.{length, set, drop, length-append, length-set}
 use lib.Seq.{getD-set-same, getD-set-other, drop-set-lt}
 use lib.Dec.{T, leb, le→leb}
 use mir.Facts.{yes-and}
 use Rattle.integer.specs.Words.{counting, every, lastOf}
 use Rattle.integer.proofs.Lists.{every-of, from-counting}
-use Rattle.integer.proofs.Times.{counting-length}
 use Rattle.dstree.specs.Measures.{Trace, Measures, sampleLimit, samplesNeeded, recordsNeeded, linksNeeded}
 use Rattle.dstree.specs.Node.{Kind, leaf, Tree, nodeAt}
 use Rattle.dstree.specs.Adding.{way, widenAll, join, newLeaf, splitAll, insertion}
@@ -21,13 +20,15 @@ use Rattle.dstree.specs.WellFormed as abstract
 use Rattle.tables.specs.Layout.{nPlace, capacityPlace, leafSizePlace, traceCountPlace, nodeCountPlace, controlFields, kindPlace, recordPlaces}
 use Rattle.tables.specs.Tables.{Tables, lentOf, field, measuresOf, traceCount, nodeCount, recordOf}
 use Rattle.tables.specs.View.{smallAt, nodeIn, treeIn, traceIn, tracesIn, kindsNamed, wellFormed}
-use Rattle.leaf_figures.specs.Walk.{Rising}
+use Rattle.tables.specs.Walk.{Rising}
+use Rattle.tables.proofs.Views.{traces-size}
 use Rattle.insertion_memory.specs.Memory.{Held, splitAllOf, firstHeld, joinedHeld, heldAfter, addedTo}
 use Rattle.insertion_memory.proofs.Storing.{stored-more, stored-length, stored-behind}
-use Rattle.insertion_memory.proofs.Down.{LeafAt, way-inside, way-ends}
-use Rattle.insertion_memory.proofs.Stands.{kind-named, Space, Stands, tree-read, links-rise}
-use Rattle.insertion_memory.proofs.Widening.{widen-length, widen-kind, widen-stands}
-use Rattle.insertion_memory.proofs.Joining.{join-length, join-stands}
+use Rattle.dstree.proofs.Change.{LeafAt, way-inside, way-leaf, widen-length, widen-kind, join-length}
+use Rattle.insertion_memory.specs.Stands.{Space}
+use Rattle.insertion_memory.proofs.Stands.{kind-named, Stands, tree-read, links-rise}
+use Rattle.insertion_memory.proofs.Widening.{widen-stands}
+use Rattle.insertion_memory.proofs.Joining.{join-stands}
 use Rattle.insertion_memory.proofs.Splitting.{split-all}
 use Rattle.insertion_memory.proofs.FromTables.{Long, facts, range, node-count, space, tables-stand}
 use Rattle.insertion_memory.proofs.First.{first-stands}
@@ -84,8 +85,7 @@ module _ (t : Tables) (x : Trace) (w : T (wellFormed t)) (long : Long t) (size :
   result = insertion (measuresOf t) (tracesIn t) (treeIn t) x
 
   traces-length : length (tracesIn t) ≡ k
-  unfolding tracesIn
-  traces-length = length-map (counting k 0) (traceIn (t .samples) n) ∙ counting-length k 0
+  traces-length = traces-size t
 
   space-of : Space n c (t .nodes) (t .links)
   space-of = space t w long
@@ -95,8 +95,9 @@ module _ (t : Tables) (x : Trace) (w : T (wellFormed t)) (long : Long t) (size :
   pub first-held : length (treeIn t) ≡ 0 → Stands n c (t .nodes) (t .links) (suc k) (firstHeld t x) result
   unfolding firstHeld
   first-held e =
-      let none : k ≡ 0 = facts t w .no-trace e in
-      let s : Stands n c (t .nodes) (t .links) 1 (firstHeld t x) (newLeaf (x ∷ []) (n ∷ []) (0 ∷ []) ∷ []) = first-stands n x (range t w .n-low) (t .nodes) (t .links) space-of (range t w .capacity-low) in
+      let none : k ≡ 0 = facts t w .shape .no-trace e in
+      let s : Stands n c (t .nodes) (t .links) 1 (firstHeld t x) (newLeaf (x ∷ []) (n ∷ []) (0 ∷ []) ∷ []) = first-stands n x
+      (range t w .n-low) (t .nodes) (t .links) space-of (range t w .capacity-low) in
       subst (λ (j : ℕ). Stands n c (t .nodes) (t .links) (suc j) (firstHeld t x) result) (sym none)
       (subst (λ (tree : Tree). Stands n c (t .nodes) (t .links) 1 (firstHeld t x) tree) (sym (insertion-first (measuresOf t) (tracesIn t) (treeIn t) x e)) s)
 
@@ -111,7 +112,7 @@ module _ (t : Tables) (x : Trace) (w : T (wellFormed t)) (long : Long t) (size :
     wide = widenAll x met (treeIn t)
 
     end : LeafAt (treeIn t) at
-    end = way-ends (treeIn t) x (facts t w .child) some
+    end = way-leaf (treeIn t) x (facts t w .shape .child) some
 
     inside : at < length wide
     inside = omega (arith, widen-length x met (treeIn t), end .inside)
@@ -122,7 +123,7 @@ module _ (t : Tables) (x : Trace) (w : T (wellFormed t)) (long : Long t) (size :
     pub joined-held : Stands n c (t .nodes) (t .links) (suc k) (joinedHeld t x) (join k at wide)
     unfolding joinedHeld
     joined-held = join-stands space-of at (numbersIn (nodeAt (treeIn t) at .kind)) inside is-leaf less
-        (widen-stands space-of x met (way-inside (treeIn t) x (facts t w .child) some) (tables-stand t w long some))
+        (widen-stands space-of x met (way-inside (treeIn t) x (facts t w .shape .child) some) (tables-stand t w long))
 
     abbrev stored : List Trace
     stored = tracesIn t ++ (x ∷ [])
@@ -158,7 +159,8 @@ module _ (t : Tables) (x : Trace) (w : T (wellFormed t)) (long : Long t) (size :
 
   count-after : traceCount (addedTo t x) ≡ suc k
   unfolding addedTo
-  count-after = getD-set-other control₁ nodeCountPlace traceCountPlace (after .count) 0 (λ e. omega (arith, e)) ∙ getD-set-same (t .control) traceCountPlace (suc k) 0 (omega (arith, long .control-long))
+  count-after = getD-set-other control₁ nodeCountPlace traceCountPlace (after .count) 0 (λ e. omega (arith, e)) ∙ getD-set-same
+      (t .control) traceCountPlace (suc k) 0 (omega (arith, long .control-long))
 
   nodes-after : nodeCount (addedTo t x) ≡ after .count
   unfolding addedTo

@@ -17,15 +17,13 @@ use Rattle.dstree.specs.Adding.{widenSegment}
 use Rattle.tables.specs.Layout.{kindPlace, segmentsPlace, firstPlace, rightPlace, segmentAt, headPlaces, segmentPlaces, recordPlaces}
 use Rattle.tables.specs.View.{smallOf, scatterIn, placeOf, smallAt, segmentIn, segmentsIn, testIn}
 use Rattle.insertion_memory.specs.Records.{segmentFields, fieldsOf, leafRecord, widenRecord, innerKind, innerRecord}
+unfoldable pub use Rattle.insertion_memory.specs.Stands.{kindNumber}
 
 -- ---- fields
 
 -- a 16-bit number reads back
 pub small-back : (v : ℕ) → v ≤ 65535 → smallOf (pos v) ≡ v
 small-back v h = rw (le-ltb 65535 v h)
-
-pub scatter-back : (v : ℕ) → scatterIn (pos v) ≡ v
-scatter-back v = refl
 
 pub fields-length : (l : List Segment) → length (fieldsOf l) ≡ 5 * length l
 unfolding fieldsOf segmentFields flatten
@@ -71,9 +69,6 @@ module _ (r : List ℤ) where
   segments-back l rest h q e = rw q (segments-from l 0 rest h e)
 
 -- the records' places by the head's, and behind the head
-
-head-at : (h l : List ℤ) (p : ℕ) → p < length h → placeOf (h ++ l) p ≡ placeOf h p
-head-at h l p g = List·getD-append h l (pos 0) p g
 
 -- ---- a new leaf's record
 
@@ -147,11 +142,6 @@ module _ (x : Trace) (r : List ℤ) (size : length r ≡ recordPlaces) where
       simp (length-append, length-drop, fields-length, head-size) (omega (arith, change-length x 1 (segmentsIn r)))
 
 -- ---- a leaf's record that becomes inner
-
--- what an inner node's kind field holds
-unfoldable pub kindNumber : Figure → ℕ
-kindNumber bySum = 1
-kindNumber byScatter = 2
 
 module _ (test : Test) (left right : ℕ) (r : List ℤ) where
   pub inner-kind : smallAt (innerRecord test left right r) kindPlace ≡ kindNumber (test .figure)

@@ -12,24 +12,27 @@ use lib.IntN.{ℤ}
 use lib.Dec.{ltb}
 use borrow.Author.Tests.{ltb-true, lt-ltb, le-ltb}
 use Rattle.integer.specs.Words.{if_then_else_}
-use Rattle.integer.proofs.Lists.{In, first, Up}
+use Rattle.integer.proofs.Lists.{In, first, in-is, is-in, Up}
 use Rattle.dstree.specs.Measures.{Trace}
 use Rattle.dstree.specs.Node.{Segment, Kind, leaf, inner, Node, node, Tree, nodeAt, ends}
 use Rattle.dstree.specs.Adding.{tracesOf, segmentsOf, newLeaf, Split, best, splitInto, splitKind, split, splitNew, splitAll}
 use Rattle.dstree.specs.Matching.{numbersIn}
-use Rattle.dstree.proofs.Parted.{Fits}
+use Rattle.dstree.specs.Formed.{Fits, Shape}
+use Rattle.dstree.proofs.Formed.{numbers-up}
+use Rattle.dstree.proofs.Nodes.{nodes-most}
+use Rattle.dstree.proofs.Cuts.{new-ends}
+use Rattle.dstree.proofs.Splits.{Good, sides-apart, split-length, split-cases, split-shape, best-is-good}
 use Rattle.tables.specs.Layout.{kindPlace}
 use Rattle.tables.specs.Tables.{recordOf, withRecord}
 use Rattle.tables.specs.View.{smallAt, segmentsIn, kindIn}
 use Rattle.insertion_memory.specs.Records.{leafRecord, innerRecord}
 use Rattle.insertion_memory.specs.Links.{linked}
 use Rattle.insertion_memory.specs.Memory.{Held, held, splitTo, splitLeaf, splitAt, splitOn, splitAllOf}
-use Rattle.insertion_memory.proofs.Following.{Linked, linked-same, laid-length, laid-other, laid-behind, laid-linked}
-use Rattle.insertion_memory.proofs.Sides.{Sides, from-left, from-right, sides-apart, left-up, right-up, best-sides}
-use Rattle.insertion_memory.proofs.Sound.{Sound, nodes-most, number-apart}
-use Rattle.insertion_memory.proofs.SoundSplit.{new-ends, split-length, split-cases, split-sound}
+use Rattle.insertion_memory.proofs.Following.{laid-length, laid-other, laid-behind, laid-linked}
+use Rattle.tables.proofs.Linked.{Linked, linked-same}
 use Rattle.insertion_memory.proofs.Placing.{Placed, placed}
-use Rattle.insertion_memory.proofs.Stands.{Low, Reads, reads-same, reads-leaf, reads-inner, Space, Stands, kind-read}
+use Rattle.insertion_memory.specs.Stands.{Space}
+use Rattle.insertion_memory.proofs.Stands.{Low, Reads, reads-same, reads-leaf, reads-inner, Stands, kind-read}
 
 -- ---- the pass, turn by turn
 
@@ -39,7 +42,8 @@ unfolding splitOn
 pass-over zero leafSize traces h at g = refl
 pass-over (suc fuel) leafSize traces h at g = rw (le-ltb at (h .count) g)
 
-pub pass-turn : (fuel leafSize : ℕ) (traces : List Trace) (h : Held) (at : ℕ) → at < h .count → splitOn (suc fuel) leafSize traces h at ≡ splitOn fuel leafSize traces (splitAt leafSize traces h at) (suc at)
+pub pass-turn : (fuel leafSize : ℕ) (traces : List Trace) (h : Held) (at : ℕ) → at < h .count
+    → splitOn (suc fuel) leafSize traces h at ≡ splitOn fuel leafSize traces (splitAt leafSize traces h at) (suc at)
 unfolding splitOn
 pass-turn fuel leafSize traces h at g = rw (lt-ltb at (h .count) g)
 
@@ -49,14 +53,16 @@ side-linked : (l links : List ℕ) → 0 < length l → Up 0 l → Low (length l
 side-linked [] links h u low = absurd (omega arith)
 side-linked (x ∷ l) links h u low = laid-linked x l links u low
 
-reads-side : {n : ℕ} {links : List ℕ} (narrow : n ≤ 256) (segments : List Segment) (l : List ℕ) → Fits n (ends segments) → 0 < length l → Low 65536 l → Linked links l → Reads links (leafRecord segments (getD l 0 0)) (node segments (leaf l))
+reads-side : {n : ℕ} {links : List ℕ} (narrow : n ≤ 256) (segments : List Segment) (l : List ℕ) → Fits n (ends segments) → 0 < length l
+    → Low 65536 l → Linked links l → Reads links (leafRecord segments (getD l 0 0)) (node segments (leaf l))
 reads-side narrow segments [] f h low w = absurd (omega arith)
 reads-side narrow segments (x ∷ l) f h low w = reads-leaf narrow segments f (omega (arith, low x first)) w
 
 module _ {n c : ℕ} {nodes : List ℤ} {links : List ℕ} (space : Space n c nodes links) (traces : List Trace) where
   -- ---- one leaf
 
-  module _ {k : ℕ} {tree : Tree} (N : List ℤ) (L : List ℕ) (s : Stands n c nodes links k (held N L (length tree)) tree) (at : ℕ) (ns : List ℕ) (inside : at < length tree) (is : nodeAt tree at .kind ≡ leaf ns) (cut : Split) (sides : Sides n ns cut) where
+  module _ {k : ℕ} {tree : Tree} (N : List ℤ) (L : List ℕ) (s : Stands n c nodes links k (held N L (length tree)) tree) (at : ℕ)
+      (ns : List ℕ) (inside : at < length tree) (is : nodeAt tree at .kind ≡ leaf ns) (cut : Split) (good : Good n traces (ends (nodeAt tree at .segments)) ns cut) where
     abbrev m : ℕ
     m = length tree
 
@@ -66,15 +72,15 @@ module _ {n c : ℕ} {nodes : List ℤ} {links : List ℕ} (space : Space n c no
     abbrev after : Tree
     after = splitInto traces tree at (some cut)
 
-    sound-after : Sound n k after
-    sound-after = split-sound (s .sound) traces at ns inside is cut sides
+    shape-after : Shape n k after
+    shape-after = split-shape (s .shape) traces at ns is cut good
 
     length-after : length after ≡ suc (suc m)
     length-after = split-length traces tree at cut
 
     -- room for two more
     two-more : suc (suc m) ≤ b
-    two-more = omega (arith, nodes-most sound-after, length-after, s .few)
+    two-more = omega (arith, nodes-most shape-after, length-after, s .few)
 
     numbers-at : numbersIn (nodeAt tree at .kind) ≡ ns
     unfolding numbersIn
@@ -84,16 +90,16 @@ module _ {n c : ℕ} {nodes : List ℤ} {links : List ℕ} (space : Space n c no
     in-at t i = subst (λ (l : List ℕ). In t l) (sym numbers-at) i
 
     low : (t : ℕ) → In t ns → t < k
-    low t i = s .sound .owned t at (in-at t i) .0
+    low t i = s .shape .numbers t at (in-is (in-at t i))
 
     left-in : (t : ℕ) → In t (cut .left) → In t ns
-    left-in t i = from-left sides t i .0
+    left-in t i = is-in t ns (good .left-in t (in-is i))
 
     right-in : (t : ℕ) → In t (cut .right) → In t ns
-    right-in t i = from-right sides t i .0
+    right-in t i = is-in t ns (good .right-in t (in-is i))
 
     up : Up 0 ns
-    up = subst (λ (l : List ℕ). Up 0 l) numbers-at (s .sound .up at)
+    up = subst (λ (l : List ℕ). Up 0 l) numbers-at (numbers-up (s .shape) at)
 
     -- ---- the links
 
@@ -107,10 +113,11 @@ module _ {n c : ℕ} {nodes : List ℤ} {links : List ℕ} (space : Space n c no
     long = omega (arith, space .links-room, s .links-size)
 
     left-linked : Linked L₂ (cut .left)
-    left-linked = linked-same (λ t i. laid-other (cut .right) L₁ t (λ j. sides-apart sides t i j)) (side-linked (cut .left) L (sides .left-some) (left-up sides up) (λ t i. omega (arith, low t (left-in t i), s .few, long)))
+    left-linked = linked-same (λ t i. laid-other (cut .right) L₁ t (λ j. sides-apart good t (in-is i) (in-is j)))
+        (side-linked (cut .left) L (good .left-some) (good .sides-rise up .0) (λ t i. omega (arith, low t (left-in t i), s .few, long)))
 
     right-linked : Linked L₂ (cut .right)
-    right-linked = side-linked (cut .right) L₁ (sides .right-some) (right-up sides up) (λ t i. omega (arith, low t (right-in t i), s .few, long, laid-length (cut .left) L))
+    right-linked = side-linked (cut .right) L₁ (good .right-some) (good .sides-rise up .1) (λ t i. omega (arith, low t (right-in t i), s .few, long, laid-length (cut .left) L))
 
     other-link : (t : ℕ) → (In t ns → ⊥) → getD L₂ t 0 ≡ getD L t 0
     other-link t f = laid-other (cut .right) L₁ t (λ i. f (right-in t i)) ∙ laid-other (cut .left) L t (λ i. f (left-in t i))
@@ -127,15 +134,20 @@ module _ {n c : ℕ} {nodes : List ℤ} {links : List ℕ} (space : Space n c no
     rightRecord = leafRecord (segmentsOf (cut .childEnds) (tracesOf traces (cut .right))) (getD (cut .right) 0 0)
 
     reads-parent : Reads L₂ parentRecord (node (nodeAt tree at .segments) (inner (cut .test) m (suc m)))
-    reads-parent = reads-inner (cut .test) m (suc m) (omega (arith, sides .inner .run-rises, sides .inner .to-n, space .narrow)) (omega (arith, sides .inner .to-n, space .narrow)) (omega (arith, two-more, space .small)) (omega (arith, two-more, space .small)) (s .reads at inside)
+    reads-parent = reads-inner (cut .test) m (suc m) (omega (arith, good .run-in .some-sample, good .run-in .to-n, space .narrow))
+        (omega (arith, good .run-in .to-n, space .narrow)) (omega (arith, two-more, space .small)) (omega (arith, two-more, space .small)) (s .reads at inside)
 
     reads-left : Reads L₂ leftRecord (newLeaf traces (cut .childEnds) (cut .left))
     unfolding newLeaf
-    reads-left = reads-side (space .narrow) (segmentsOf (cut .childEnds) (tracesOf traces (cut .left))) (cut .left) (subst (λ (l : List ℕ). Fits n l) (sym (new-ends traces (cut .childEnds) (cut .left))) (sides .children)) (sides .left-some) (λ t i. omega (arith, low t (left-in t i), s .few, space .small)) left-linked
+    reads-left = reads-side (space .narrow) (segmentsOf (cut .childEnds) (tracesOf traces (cut .left))) (cut .left)
+        (subst (λ (l : List ℕ). Fits n l) (sym (new-ends traces (cut .childEnds) (cut .left))) (good .children-fit)) (good .left-some)
+        (λ t i. omega (arith, low t (left-in t i), s .few, space .small)) left-linked
 
     reads-right : Reads L₂ rightRecord (newLeaf traces (cut .childEnds) (cut .right))
     unfolding newLeaf
-    reads-right = reads-side (space .narrow) (segmentsOf (cut .childEnds) (tracesOf traces (cut .right))) (cut .right) (subst (λ (l : List ℕ). Fits n l) (sym (new-ends traces (cut .childEnds) (cut .right))) (sides .children)) (sides .right-some) (λ t i. omega (arith, low t (right-in t i), s .few, space .small)) right-linked
+    reads-right = reads-side (space .narrow) (segmentsOf (cut .childEnds) (tracesOf traces (cut .right))) (cut .right)
+        (subst (λ (l : List ℕ). Fits n l) (sym (new-ends traces (cut .childEnds) (cut .right))) (good .children-fit)) (good .right-some)
+        (λ t i. omega (arith, low t (right-in t i), s .few, space .small)) right-linked
 
     abbrev N₁ : List ℤ
     N₁ = withRecord N at parentRecord
@@ -163,8 +175,9 @@ module _ {n c : ℕ} {nodes : List ℤ} {links : List ℕ} (space : Space n c no
         split-cases traces tree at cut (λ (a : Node). Reads L₂ (recordOf N₃ j) a) j
         (λ e. subst (λ (r : List ℤ). Reads L₂ r (node (nodeAt tree at .segments) (inner (cut .test) m (suc m)))) (sym (ap (λ (i : ℕ). recordOf N₃ i) e ∙ old-record at inside ∙ p₁ .here)) reads-parent)
         (λ f q. subst (λ (r : List ℤ). Reads L₂ r (nodeAt tree j)) (sym (old-record j q ∙ p₁ .other j f (omega (arith, q, two-more))))
-        (reads-same (λ t i. other-link t (λ i′. f (number-apart (s .sound) t j at i (in-at t i′)))) (s .reads j q)))
-        (λ e. subst (λ (r : List ℤ). Reads L₂ r (newLeaf traces (cut .childEnds) (cut .left))) (sym (ap (λ (i : ℕ). recordOf N₃ i) e ∙ p₃ .other m (λ z. omega (arith, z)) (omega (arith, two-more)) ∙ p₂ .here)) reads-left)
+        (reads-same (λ t i. other-link t (λ i′. f (s .shape .one-leaf t j at (in-is i) (in-is (in-at t i′))))) (s .reads j q)))
+        (λ e. subst (λ (r : List ℤ). Reads L₂ r (newLeaf traces (cut .childEnds) (cut .left)))
+        (sym (ap (λ (i : ℕ). recordOf N₃ i) e ∙ p₃ .other m (λ z. omega (arith, z)) (omega (arith, two-more)) ∙ p₂ .here)) reads-left)
         (λ e. subst (λ (r : List ℤ). Reads L₂ r (newLeaf traces (cut .childEnds) (cut .right))) (sym (ap (λ (i : ℕ). recordOf N₃ i) e ∙ p₃ .here)) reads-right)
         (λ q. absurd (omega (arith, q, g)))
 
@@ -174,7 +187,7 @@ module _ {n c : ℕ} {nodes : List ℤ} {links : List ℕ} (space : Space n c no
       few = s .few;
       count = sym length-after;
       reads = λ j g. reads-after j (omega (arith, g, length-after));
-      sound = sound-after;
+      shape = shape-after;
       nodes-size = p₃ .size ∙ p₂ .size ∙ p₁ .size ∙ s .nodes-size;
       nodes-behind = p₃ .behind ∙ p₂ .behind ∙ p₁ .behind ∙ s .nodes-behind;
       links-size = laid-length (cut .right) L₁ ∙ laid-length (cut .left) L ∙ s .links-size;
@@ -184,13 +197,14 @@ module _ {n c : ℕ} {nodes : List ℤ} {links : List ℕ} (space : Space n c no
 
   -- ---- a split, or none
 
-  split-to : {k : ℕ} {h : Held} {tree : Tree} → Stands n c nodes links k h tree → (at : ℕ) (ns : List ℕ) → at < length tree → nodeAt tree at .kind ≡ leaf ns → (o : Option Split) → ((cut : Split) → o ≡ some cut → Sides n ns cut)
+  split-to : {k : ℕ} {h : Held} {tree : Tree} → Stands n c nodes links k h tree → (at : ℕ) (ns : List ℕ) → at < length tree
+      → nodeAt tree at .kind ≡ leaf ns → (o : Option Split) → ((cut : Split) → o ≡ some cut → Good n traces (ends (nodeAt tree at .segments)) ns cut)
       → Stands n c nodes links k (splitTo traces h at o) (splitInto traces tree at o)
   unfolding splitTo splitInto
-  split-to s at ns inside is none sides = s
-  split-to {k} {h} {tree} s at ns inside is (some cut) sides =
+  split-to s at ns inside is none good = s
+  split-to {k} {h} {tree} s at ns inside is (some cut) good =
       subst (λ (count : ℕ). Stands n c nodes links k (splitTo traces (held (h .nodes) (h .links) count) at (some cut)) (splitInto traces tree at (some cut))) (sym (s .count))
-      (split-some (h .nodes) (h .links) (subst (λ (count : ℕ). Stands n c nodes links k (held (h .nodes) (h .links) count) tree) (s .count) s) at ns inside is cut (sides cut refl))
+      (split-some (h .nodes) (h .links) (subst (λ (count : ℕ). Stands n c nodes links k (held (h .nodes) (h .links) count) tree) (s .count) s) at ns inside is cut (good cut refl))
 
   -- ---- a node, tried
 
@@ -204,11 +218,13 @@ module _ {n c : ℕ} {nodes : List ℤ} {links : List ℕ} (space : Space n c no
         same : best traces (ends (segmentsIn (recordOf (h .nodes) at))) ns ≡ best traces (ends (nodeAt tree at .segments)) ns
         same = ap (λ (l : List Segment). best traces (ends l) ns) (s .reads at inside .segments)
 
-        result : Stands n c nodes links k (splitTo traces h at (best traces (ends (segmentsIn (recordOf (h .nodes) at))) ns)) (splitInto traces tree at (best traces (ends (nodeAt tree at .segments)) ns))
+        result : Stands n c nodes links k (splitTo traces h at (best traces (ends (segmentsIn (recordOf (h .nodes) at))) ns))
+            (splitInto traces tree at (best traces (ends (nodeAt tree at .segments)) ns))
         result = subst (λ (o : Option Split). Stands n c nodes links k (splitTo traces h at o) (splitInto traces tree at (best traces (ends (nodeAt tree at .segments)) ns))) (sym same)
-            (split-to s at ns inside is (best traces (ends (nodeAt tree at .segments)) ns) (λ cut e. best-sides n traces (ends (nodeAt tree at .segments)) ns cut (s .sound .fits at inside) e))
+            (split-to s at ns inside is (best traces (ends (nodeAt tree at .segments)) ns) (λ cut e. best-is-good n traces (ends (nodeAt tree at .segments)) ns (s .shape .fits at inside) e))
 
-        by : (t : Bool) → Stands n c nodes links k (if t then splitTo traces h at (best traces (ends (segmentsIn (recordOf (h .nodes) at))) ns) else h) (if t then splitInto traces tree at (best traces (ends (nodeAt tree at .segments)) ns) else tree)
+        by : (t : Bool) → Stands n c nodes links k (if t then splitTo traces h at (best traces (ends (segmentsIn (recordOf
+            (h .nodes) at))) ns) else h) (if t then splitInto traces tree at (best traces (ends (nodeAt tree at .segments)) ns) else tree)
         by true = result
         by false = s
 
@@ -227,11 +243,16 @@ module _ {n c : ℕ} {nodes : List ℤ} {links : List ℕ} (space : Space n c no
     unfolding splitOn splitNew
     split-on zero size s at = s
     split-on {k} {h} {tree} (suc fuel) size s at =
-        subst (λ (t : Bool). Stands n c nodes links k (if t then splitOn fuel leafSize traces (splitAt leafSize traces h at) (suc at) else h) (if ltb at (length tree) then splitNew fuel leafSize traces (split leafSize traces tree at) (suc at) else tree)) (sym (ap (λ (m : ℕ). ltb at m) (s .count)))
+        subst (λ (t : Bool). Stands n c nodes links k
+        (if t then splitOn fuel leafSize traces (splitAt leafSize traces h at) (suc at) else h)
+        (if ltb at (length tree) then splitNew fuel leafSize traces (split leafSize traces tree at) (suc at) else tree)) (sym (ap (λ (m : ℕ). ltb at m) (s .count)))
         (by (ltb at (length tree)) refl (λ (inside : at < length tree). split-on fuel size (split-at size s at inside) (suc at)))
       where
-        by : (t : Bool) → ltb at (length tree) ≡ t → (at < length tree → Stands n c nodes links k (splitOn fuel leafSize traces (splitAt leafSize traces h at) (suc at)) (splitNew fuel leafSize traces (split leafSize traces tree at) (suc at)))
-            → Stands n c nodes links k (if t then splitOn fuel leafSize traces (splitAt leafSize traces h at) (suc at) else h) (if t then splitNew fuel leafSize traces (split leafSize traces tree at) (suc at) else tree)
+        by : (t : Bool) → ltb at (length tree) ≡ t
+            → (at < length tree → Stands n c nodes links k (splitOn fuel leafSize traces (splitAt leafSize traces h at) (suc at))
+            (splitNew fuel leafSize traces (split leafSize traces tree at) (suc at)))
+            → Stands n c nodes links k (if t then splitOn fuel leafSize traces (splitAt leafSize traces h at) (suc at) else h)
+            (if t then splitNew fuel leafSize traces (split leafSize traces tree at) (suc at) else tree)
         by true e ih = ih (ltb-true at (length tree) e)
         by false e ih = s
 
@@ -240,4 +261,5 @@ module _ {n c : ℕ} {nodes : List ℤ} {links : List ℕ} (space : Space n c no
         → Stands n c nodes links k (splitAllOf leafSize traces h at) (splitAll leafSize traces tree at)
     unfolding splitAllOf
     split-all {k} {h} {tree} size s at inside =
-        subst (λ (m : ℕ). Stands n c nodes links k (splitOn (2 * length traces) leafSize traces (splitAt leafSize traces h at) m) (splitAll leafSize traces tree at)) (sym (s .count)) (split-on (2 * length traces) size (split-at size s at inside) (length tree))
+        subst (λ (m : ℕ). Stands n c nodes links k (splitOn (2 * length traces) leafSize traces (splitAt leafSize traces h at) m)
+        (splitAll leafSize traces tree at)) (sym (s .count)) (split-on (2 * length traces) size (split-at size s at inside) (length tree))

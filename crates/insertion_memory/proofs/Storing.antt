@@ -13,7 +13,7 @@ use Rattle.integer.proofs.Rows.{map-append, counting-more}
 use Rattle.dstree.specs.Measures.{Trace}
 use Rattle.tables.specs.View.{traceIn}
 use Rattle.tables.proofs.Frame.{withPart, part-same, part-other}
-use Rattle.leaf_figures.specs.Walk.{storedIn}
+use Rattle.tables.specs.Walk.{storedIn}
 
 module _ (samples : List ℤ) (n k c : ℕ) (x : Trace) (size : length x ≡ n) (less : k < c) (room : c * n ≤ length samples) where
   abbrev after : List ℤ

@@ -1,9 +1,9 @@
 -- Widening the records of some nodes, one after another, is widening the nodes.
-use Prim.Native.Nat.{ℕ, _+_, _*_, _-_, _≤_, _<_}
-use mathlib.Core.Path.{_≡_, refl, sym, _∙_, ap, subst}
+use Prim.Native.Nat.{ℕ, _*_, _-_, _≤_, _<_}
+use mathlib.Core.Path.{sym, _∙_, ap, subst}
 use mathlib.Core.List.{List, [], _∷_, foldl}
 use native.Mathlib.Omega.{arith}
-use lib.ListN.{length, length-set, List·getD-eq-default}
+use lib.ListN.{length, length-set}
 use lib.IntN.{ℤ}
 use Rattle.integer.proofs.Lists.{In, first, later, set-cases}
 use Rattle.dstree.specs.Measures.{Trace}
@@ -12,35 +12,21 @@ use Rattle.dstree.specs.Adding.{widen, widenAll}
 use Rattle.tables.specs.Tables.{recordOf}
 use Rattle.insertion_memory.specs.Records.{widenRecord}
 use Rattle.insertion_memory.specs.Memory.{Held, held, onRecord}
-use Rattle.insertion_memory.proofs.Sound.{nodes-most, widen-sound}
+use Rattle.dstree.proofs.Nodes.{nodes-most}
+use Rattle.dstree.proofs.Joins.{widen-shape}
 use Rattle.insertion_memory.proofs.Placing.{Placed, placed}
-use Rattle.insertion_memory.proofs.Stands.{Reads, reads-widen, Space, Stands}
-
--- ---- on the tree: neither the number of nodes nor a node's kind changes
-
-pub widen-length : (x : Trace) (met : List ℕ) (tree : Tree) → length (widenAll x met tree) ≡ length tree
-unfolding widenAll
-widen-length x [] tree = refl
-widen-length x (at ∷ met) tree = widen-length x met (changeAt tree at (widen x)) ∙ length-set tree at (widen x (nodeAt tree at))
-
-pub widen-kind : (x : Trace) (met : List ℕ) (tree : Tree) (j : ℕ) → nodeAt (widenAll x met tree) j .kind ≡ nodeAt tree j .kind
-unfolding widenAll widen
-widen-kind x [] tree j = refl
-widen-kind x (at ∷ met) tree j =
-    widen-kind x met (changeAt tree at (widen x)) j
-    ∙ set-cases (node [] (leaf [])) (λ (a : Node). a .kind ≡ nodeAt tree j .kind) tree at (widen x (nodeAt tree at)) j
-    (λ e h. ap (λ (i : ℕ). nodeAt tree i .kind) (sym e)) (λ f h. refl) (λ h. ap (λ (a : Node). a .kind) (sym (List·getD-eq-default tree (node [] (leaf [])) h)))
-
--- ---- on the records
+use Rattle.insertion_memory.specs.Stands.{Space}
+use Rattle.insertion_memory.proofs.Stands.{Reads, reads-widen, Stands}
 
 module _ {n c : ℕ} {nodes : List ℤ} {links : List ℕ} (space : Space n c nodes links) (x : Trace) where
   pub widen-one : {k : ℕ} {h : Held} {tree : Tree} (at : ℕ) → at < length tree → Stands n c nodes links k h tree
       → Stands n c nodes links k (held (onRecord (widenRecord x) (h .nodes) at) (h .links) (h .count)) (changeAt tree at (widen x))
+  unfolding widenAll
   widen-one {k} {h} {tree} at inside s =
       let b : ℕ = 2 * c - 1 in
-      let most : length tree + 1 ≤ 2 * k = nodes-most (s .sound) in
+      let most : length tree ≤ 2 * k - 1 = nodes-most (s .shape) in
       let wide : Node = widen x (nodeAt tree at) in
-      let own : Reads (h .links) (widenRecord x (recordOf (h .nodes) at)) wide = reads-widen (space .narrow) x (s .sound .fits at inside) (s .reads at inside) in
+      let own : Reads (h .links) (widenRecord x (recordOf (h .nodes) at)) wide = reads-widen (space .narrow) x (s .shape .fits at inside) (s .reads at inside) in
       let p : Placed b (h .nodes) (onRecord (widenRecord x) (h .nodes) at) at (widenRecord x (recordOf (h .nodes) at)) =
       placed b at (h .nodes) (widenRecord x (recordOf (h .nodes) at)) (omega (arith, space .nodes-room, s .nodes-size)) (omega (arith, s .few)) (own .size) in
       record {
@@ -51,7 +37,7 @@ module _ {n c : ℕ} {nodes : List ℤ} {links : List ℕ} (space : Space n c no
             (λ e q. subst (λ (r : List ℤ). Reads (h .links) r wide) (sym (ap (λ (i : ℕ). recordOf (onRecord (widenRecord x) (h .nodes) at) i) e ∙ p .here)) own)
             (λ f q. subst (λ (r : List ℤ). Reads (h .links) r (nodeAt tree j)) (sym (p .other j f low)) (s .reads j q))
             (λ q. absurd (omega (arith, g, length-set tree at wide)));
-        sound = widen-sound x at (s .sound);
+        shape = widen-shape x (at ∷ []) (s .shape);
         nodes-size = p .size ∙ s .nodes-size;
         nodes-behind = p .behind ∙ s .nodes-behind;
         links-size = s .links-size;

@@ -1,18 +1,18 @@
 -- Document 01, "Adding", on the tables: every place of them after an accepted adding, whatever well-formed tables hold.
-use Prim.Native.Nat.{ℕ, zero, suc, _+_, _*_}
+use Prim.Native.Nat.{ℕ, zero, suc, _*_}
 use mathlib.Core.Option.{Option, none, some}
 use mathlib.Core.List.{List, [], _∷_, _++_, foldl}
 use lib.IntN.{ℤ}
-use lib.ListN.{length, getD, drop, set}
+use lib.ListN.{length, getD, set}
 use lib.Seq.{paste}
-use lib.Dec.{ltb, eqb}
+use lib.Dec.{ltb}
 use Rattle.integer.specs.Words.{if_then_else_, lastOf}
 use Rattle.dstree.specs.Measures.{Trace}
 use Rattle.dstree.specs.Node.{Kind, leaf, inner, nodeAt, ends}
 use Rattle.dstree.specs.Adding.{way, segmentsOf, tracesOf, Split, best}
 use Rattle.dstree.specs.Matching.{numbersIn}
-use Rattle.tables.specs.Layout.{nPlace, traceCountPlace, nodeCountPlace, kindPlace}
-use Rattle.tables.specs.Tables.{Tables, tables, field, measuresOf, traceCount, nodeCount, recordOf, withRecord}
+use Rattle.tables.specs.Layout.{traceCountPlace, nodeCountPlace, kindPlace}
+use Rattle.tables.specs.Tables.{Tables, tables, measuresOf, traceCount, nodeCount, recordOf, withRecord}
 use Rattle.tables.specs.View.{smallAt, segmentsIn, kindIn, treeIn, tracesIn}
 use Rattle.insertion_memory.specs.Records.{leafRecord, widenRecord, innerRecord}
 use Rattle.insertion_memory.specs.Links.{joined, linked}

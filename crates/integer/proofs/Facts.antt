@@ -13,7 +13,7 @@ use Prim.Native.Nat.{ℕ, zero, suc, _+_, _*_, _≤_}
 use native.Mathlib.Nat.{mul-zero}
 use native.Mathlib.Omega.{arith}
 use lib.IntN.{ℤ, pos, negsuc, negℤ, _+ℤ_, _-ℤ_, _*ℤ_}
-use Rattle.integer.proofs.Order.{_≤ℤ_, _<ℤ_, of-diff-nonneg, cancel, <ℤ→, →<ℤ, up, down, ≤ℤ→, →≤ℤ, →≡ℤ, ≡ℤ→, sum-parts, diff-parts, *ℤ-pos-one, negℤ-is}
+use Rattle.integer.proofs.Order.{_≤ℤ_, _<ℤ_, of-diff-nonneg, <ℤ→, →<ℤ, up, down, ≤ℤ→, →≤ℤ, →≡ℤ, ≡ℤ→, sum-parts, diff-parts, *ℤ-pos-one, negℤ-is}
 use Rattle.integer.proofs.Ring.{Poly, nil, term, at, mono, val, norm, norm-sound, Sides, sides, Same, ring, reading as Ring·reading, plus, scale, val-plus, val-scale}
 
 -- a monomial as it is written: x, x *ℤ (y *ℤ z)
@@ -59,14 +59,16 @@ scale-neg k (negsuc n) = (refl, sym (mul-zero (suc k)))
 parts : (p : Poly) (ρ : List ℤ) → up (val p ρ) + less p ρ ≡ down (val p ρ) + more p ρ
 parts nil ρ = refl
 parts (term (pos k) m p) ρ = omega (arith, sum-parts (pos k *ℤ mono m ρ) (val p ρ), scale-pos k (mono m ρ), parts p ρ, ap (λ z. k * up z) (product-is m ρ), ap (λ z. k * down z) (product-is m ρ))
-parts (term (negsuc k) m p) ρ = omega (arith, sum-parts (negsuc k *ℤ mono m ρ) (val p ρ), scale-neg k (mono m ρ), parts p ρ, ap (λ z. suc k * up z) (product-is m ρ), ap (λ z. suc k * down z) (product-is m ρ))
+parts (term (negsuc k) m p) ρ = omega
+    (arith, sum-parts (negsuc k *ℤ mono m ρ) (val p ρ), scale-neg k (mono m ρ), parts p ρ, ap (λ z. suc k * up z) (product-is m ρ), ap (λ z. suc k * down z) (product-is m ρ))
 
 -- ---- the difference of the two sides, b − a
 abbrev pub diff : {ρ : List ℤ} {a b : ℤ} → Sides ρ a b → Poly
 diff (sides r s) = plus (norm s) (scale (negsuc 0) [] (norm r))
 
 diff-sound : {ρ : List ℤ} {a b : ℤ} (r : Sides ρ a b) → val (diff r) ρ ≡ b -ℤ a
-diff-sound {ρ} {a} {b} (sides r s) = val-plus ρ (norm s) (scale (negsuc 0) [] (norm r)) ∙ ap₂ _+ℤ_ (norm-sound s) (val-scale ρ (negsuc 0) [] (norm r) ∙ ap₂ _*ℤ_ (*ℤ-pos-one (negsuc 0)) (norm-sound r) ∙ negℤ-is a)
+diff-sound {ρ} {a} {b} (sides r s) = val-plus ρ (norm s) (scale (negsuc 0) [] (norm r)) ∙ ap₂ _+ℤ_ (norm-sound s)
+    (val-scale ρ (negsuc 0) [] (norm r) ∙ ap₂ _*ℤ_ (*ℤ-pos-one (negsuc 0)) (norm-sound r) ∙ negℤ-is a)
 
 -- what `omega` has to know of the two sides
 gap : {ρ : List ℤ} {a b : ℤ} (r : Sides ρ a b) → up b + down a + less (diff r) ρ ≡ down b + up a + more (diff r) ρ
@@ -137,10 +139,6 @@ from ρ h (claim p q) k = exact q .1 (k (exact p .0 h))
 -- ---- an order by a certificate that is written out: b − a is a sum of products that are not negative. It is checked as `ring` is, whatever its size
 pub by-certificate : (ρ : List ℤ) {a b z : ℤ} → pos 0 ≤ℤ z → (r : Sides ρ (b -ℤ a) z) → Same r → a ≤ℤ b
 by-certificate ρ h r t = of-diff-nonneg (subst (λ z. pos 0 ≤ℤ z) (sym (ring ρ r t)) h)
-
--- (k + 1)·(b − a) is
-pub by-certificate-of : (k : ℕ) (ρ : List ℤ) {a b z : ℤ} → pos 0 ≤ℤ z → (r : Sides ρ (pos (suc k) *ℤ (b -ℤ a)) z) → Same r → a ≤ℤ b
-by-certificate-of k ρ h r t = of-diff-nonneg (cancel k (subst (λ z. pos 0 ≤ℤ z) (sym (ring ρ r t)) h))
 
 -- ---- what `search reading` applies
 pub ruleset reading = (claim, le, lt, eq, lt-nat, le-nat, eq-nat, and, pair, imp, never, Ring·reading)

@@ -6,5 +6,4 @@ pub mod Tests
 pub mod Lists
 pub mod Times
 pub mod Rows
-pub mod Totals
 pub mod Examples

@@ -1,5 +1,5 @@
 -- Lists of anything: what is in the lists that the definitions' words make (those, counting, chosen, flatten ..), and how many there are.
--- Membership is `In`, a place in a list. The kit's `List·Memᴰ` keeps an equation at the place; a match on `In` puts the element itself there.
+-- Membership is `In`, a place in a list.
 use Prim.Native.Nat.{ℕ, zero, suc, _+_, _≤_, _<_, min, max}
 use mathlib.Core.Path.{_≡_, refl, sym, _∙_, ap, subst}
 use mathlib.Core.Logic.{_⊎_, inl, inr}
@@ -15,6 +15,7 @@ use lib.Dec.{T, eqb, eqb-refl}
 use mir.Facts.{and-yes, yes-and}
 use borrow.Author.Tests.{eqb-true, eqb-false}
 use Rattle.integer.specs.Words.{if_then_else_, lesser, greater, those, every, counting, chosen, isEmpty, isIn, least, greatest, leastℤ, greatestℤ, lastOf}
+pub use Rattle.integer.specs.Lists.{In, first, later, All, all-none, all-more, Up, u-none, u-more}
 use Rattle.integer.proofs.Tests.{is-true, is-false}
 use Rattle.integer.proofs.Order.{_≤ℤ_, ≤ℤ-trans, <ℤ-≤ℤ}
 
@@ -34,10 +35,6 @@ strict {m} {n} h f = by (decLe n m)
     by (no g) = lt-of-not-le g
 
 -- ---- membership
-
-pub data In {A : Type 0} (a : A) : List A → Type 0 where
-  first : {rest : List A} → In a (a ∷ rest)
-  later : {b : A} {rest : List A} → In a rest → In a (b ∷ rest)
 
 pub in-nil : {A : Type 0} {a : A} → In a [] → ⊥
 in-nil i = elim i [ ]
@@ -279,10 +276,6 @@ from-counting (suc m) a {k} i = by (in-cons i) (from-counting m (suc a))
 
 -- ---- all and some
 
-pub data All {A : Type 0} (P : A → Type 0) : List A → Type 0 where
-  all-none : All P []
-  all-more : {a : A} {rest : List A} → P a → All P rest → All P (a ∷ rest)
-
 pub data Some {A : Type 0} (P : A → Type 0) : List A → Type 0 where
   some-here : {a : A} {rest : List A} → P a → Some P (a ∷ rest)
   some-later : {a : A} {rest : List A} → Some P rest → Some P (a ∷ rest)
@@ -365,7 +358,8 @@ all-those {A} {P} passes (all-more {a} {rest} p ps) = by (passes a) refl (all-th
 -- ---- what is chosen from the left on
 
 -- it stands in a relation to all, if what is chosen of two does to both
-module _ {A : Type 0} (R : A → A → Type 0) (trans : (a b c : A) → R a b → R b c → R a c) (same : (a : A) → R a a) (choice : A → A → A) (left : (a b : A) → R (choice a b) a) (right : (a b : A) → R (choice a b) b) where
+module _ {A : Type 0} (R : A → A → Type 0) (trans : (a b c : A) → R a b → R b c → R a c) (same : (a : A) → R a a) (choice : A → A → A)
+    (left : (a b : A) → R (choice a b) a) (right : (a b : A) → R (choice a b) b) where
   pub fold-first : (a : A) (l : List A) → R (foldl choice a l) a
   fold-first a [] = same a
   fold-first a (b ∷ l) = trans (foldl choice (choice a b) l) (choice a b) a (fold-first (choice a b) l) (left a b)
@@ -471,14 +465,7 @@ greatestℤ-in = chosen-in greater greater-either (pos 0)
 pub least-in : (l : List ℕ) → 0 < length l → In (least l) l
 least-in = chosen-in min min-either 0
 
-pub greatest-in : (l : List ℕ) → 0 < length l → In (greatest l) l
-greatest-in = chosen-in max max-either 0
-
 -- ---- numbers that rise, from k on
-
-pub data Up : ℕ → List ℕ → Type 0 where
-  u-none : {k : ℕ} → Up k []
-  u-more : {k a : ℕ} {l : List ℕ} → k ≤ a → Up (suc a) l → Up k (a ∷ l)
 
 up-weaken : {j k : ℕ} {l : List ℕ} → j ≤ k → Up k l → Up j l
 up-weaken h u-none = u-none
@@ -487,10 +474,6 @@ up-weaken {j} {k} h (u-more {a} g u) = u-more {k = j} {a = a} (omega arith) u
 pub up-in : {k a : ℕ} {l : List ℕ} → Up k l → In a l → k ≤ a
 up-in (u-more h u) first = h
 up-in (u-more h u) (later i) = omega (arith, up-in u i)
-
-pub up-from : {j k : ℕ} {l : List ℕ} → j < k → Up k l → Up (suc j) l
-up-from h u-none = u-none
-up-from {j} {k} h (u-more {a} g u) = u-more {k = suc j} {a = a} (omega arith) u
 
 -- numbers that rise from b on, below k, are at most k − b
 pub up-length : {b : ℕ} {l : List ℕ} (k : ℕ) → b ≤ k → Up b l → ((t : ℕ) → In t l → t < k) → b + length l ≤ k
@@ -585,7 +568,8 @@ module _ {A : Type 0} (d : A) (P : A → Type 0) where
   set-cases (a ∷ l) (suc at) new (suc k) here other out = set-cases l at new k (λ e h. here (ap suc e) (omega arith)) (λ f h. other (λ e. f (omega arith)) (omega arith)) (λ h. out (omega arith))
 
   -- two more at the end
-  pub two-cases : (l : List A) (a b : A) (k : ℕ) → (k < length l → P (getD l k d)) → (k ≡ length l → P a) → (k ≡ suc (length l) → P b) → (suc (suc (length l)) ≤ k → P d) → P (getD (l ++ (a ∷ b ∷ [])) k d)
+  pub two-cases : (l : List A) (a b : A) (k : ℕ) → (k < length l → P (getD l k d)) → (k ≡ length l → P a) → (k ≡ suc (length l) → P b)
+      → (suc (suc (length l)) ≤ k → P d) → P (getD (l ++ (a ∷ b ∷ [])) k d)
   two-cases [] a b zero old l r out = l refl
   two-cases [] a b (suc zero) old l r out = r refl
   two-cases [] a b (suc (suc k)) old l r out = out (omega arith)

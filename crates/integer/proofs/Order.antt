@@ -35,10 +35,12 @@ pub +ℤ-*ℤ : (m k c : ℤ) → (m +ℤ k) *ℤ c ≡ m *ℤ c +ℤ k *ℤ c
     base = ap (λ x. x *ℤ c) (+ℤ-idl k) ∙ sym (ap (λ x. x +ℤ k *ℤ c) (zero-*ℤ c) ∙ +ℤ-idl (k *ℤ c))
 
     more : (m : ℤ) → (m +ℤ k) *ℤ c ≡ m *ℤ c +ℤ k *ℤ c → (sucℤ m +ℤ k) *ℤ c ≡ sucℤ m *ℤ c +ℤ k *ℤ c
-    more m h = ap (λ x. x *ℤ c) (sucℤ-+ℤ m k) ∙ sucℤ-*ℤ (m +ℤ k) c ∙ ap (λ x. x +ℤ c) h ∙ +ℤ-assoc (m *ℤ c) (k *ℤ c) c ∙ ap (λ x. m *ℤ c +ℤ x) (+ℤ-comm (k *ℤ c) c) ∙ sym (+ℤ-assoc (m *ℤ c) c (k *ℤ c)) ∙ ap (λ x. x +ℤ k *ℤ c) (sym (sucℤ-*ℤ m c))
+    more m h = ap (λ x. x *ℤ c) (sucℤ-+ℤ m k) ∙ sucℤ-*ℤ (m +ℤ k) c ∙ ap (λ x. x +ℤ c) h ∙ +ℤ-assoc (m *ℤ c) (k *ℤ c) c ∙ ap
+        (λ x. m *ℤ c +ℤ x) (+ℤ-comm (k *ℤ c) c) ∙ sym (+ℤ-assoc (m *ℤ c) c (k *ℤ c)) ∙ ap (λ x. x +ℤ k *ℤ c) (sym (sucℤ-*ℤ m c))
 
     less : (m : ℤ) → (m +ℤ k) *ℤ c ≡ m *ℤ c +ℤ k *ℤ c → (predℤ m +ℤ k) *ℤ c ≡ predℤ m *ℤ c +ℤ k *ℤ c
-    less m h = ap (λ x. x *ℤ c) (predℤ-+ℤ m k) ∙ predℤ-*ℤ (m +ℤ k) c ∙ ap (λ x. x -ℤ c) h ∙ +ℤ-assoc (m *ℤ c) (k *ℤ c) (negℤ c) ∙ ap (λ x. m *ℤ c +ℤ x) (+ℤ-comm (k *ℤ c) (negℤ c)) ∙ sym (+ℤ-assoc (m *ℤ c) (negℤ c) (k *ℤ c)) ∙ ap (λ x. x +ℤ k *ℤ c) (sym (predℤ-*ℤ m c))
+    less m h = ap (λ x. x *ℤ c) (predℤ-+ℤ m k) ∙ predℤ-*ℤ (m +ℤ k) c ∙ ap (λ x. x -ℤ c) h ∙ +ℤ-assoc (m *ℤ c) (k *ℤ c) (negℤ c) ∙ ap
+        (λ x. m *ℤ c +ℤ x) (+ℤ-comm (k *ℤ c) (negℤ c)) ∙ sym (+ℤ-assoc (m *ℤ c) (negℤ c) (k *ℤ c)) ∙ ap (λ x. x +ℤ k *ℤ c) (sym (predℤ-*ℤ m c))
 
     up : (n : ℕ) → (pos n +ℤ k) *ℤ c ≡ pos n *ℤ c +ℤ k *ℤ c → (pos n +ℤ pos 1 +ℤ k) *ℤ c ≡ (pos n +ℤ pos 1) *ℤ c +ℤ k *ℤ c
     up n h = subst (λ z. (z +ℤ k) *ℤ c ≡ z *ℤ c +ℤ k *ℤ c) (sym (+ℤ-one (pos n))) (more (pos n) h)
@@ -157,9 +159,6 @@ pub ≤ℤ-trans : {a b c : ℤ} → a ≤ℤ b → b ≤ℤ c → a ≤ℤ c
 pub ≤ℤ-antisym : {a b : ℤ} → a ≤ℤ b → b ≤ℤ a → a ≡ b
 ≤ℤ-antisym h k = →≡ℤ (omega (arith, ≤ℤ→ h, ≤ℤ→ k))
 
-pub ≤ℤ-of-≡ : {a b : ℤ} → a ≡ b → a ≤ℤ b
-≤ℤ-of-≡ e = →≤ℤ (omega (arith, ≡ℤ→ e))
-
 pub pos-mono : {a b : ℕ} → a ≤ b → pos a ≤ℤ pos b
 pos-mono h = →≤ℤ (omega arith)
 
@@ -191,15 +190,6 @@ pub <ℤ-≤ℤ : {a b : ℤ} → a <ℤ b → a ≤ℤ b
 
 pub <ℤ→≤ℤ : {a b : ℤ} → a <ℤ b → a +ℤ pos 1 ≤ℤ b
 <ℤ→≤ℤ {a} {b} h = →≤ℤ (omega (arith, sum-parts a (pos 1), <ℤ→ h))
-
-pub ≤ℤ→<ℤ : {a b : ℤ} → a +ℤ pos 1 ≤ℤ b → a <ℤ b
-≤ℤ→<ℤ {a} {b} h = →<ℤ (omega (arith, sum-parts a (pos 1), ≤ℤ→ h))
-
-pub add-mono : {a b c d : ℤ} → a ≤ℤ b → c ≤ℤ d → a +ℤ c ≤ℤ b +ℤ d
-add-mono {a} {b} {c} {d} h k = →≤ℤ (omega (arith, ≤ℤ→ h, ≤ℤ→ k, sum-parts a c, sum-parts b d))
-
-pub neg-mono : {a b : ℤ} → a ≤ℤ b → negℤ b ≤ℤ negℤ a
-neg-mono {a} {b} h = →≤ℤ (omega (arith, ≤ℤ→ h, neg-parts a, neg-parts b))
 
 -- a ≤ b, and 0 ≤ b − a
 pub diff-nonneg : {a b : ℤ} → a ≤ℤ b → pos 0 ≤ℤ b -ℤ a
@@ -239,9 +229,6 @@ cancel k {a = negsuc n} h = absurd (no (suc k * suc n) (omega arith) h)
     no zero p h = omega arith
     no (suc m) p h = h .le
 
-pub mul-mono : {a b c : ℤ} → pos 0 ≤ℤ c → a ≤ℤ b → c *ℤ a ≤ℤ c *ℤ b
-mul-mono {a} {b} {c} h k = of-diff-nonneg (subst (λ z. pos 0 ≤ℤ z) (*ℤ-+ℤ c b (negℤ a) ∙ ap (λ z. c *ℤ b +ℤ z) (*ℤ-negℤ c a)) (h ⊗ diff-nonneg k))
-
 -- both sides of an equation times k: where a square stands under a factor, `from` is handed the law of the square times that factor
 pub times : (k : ℤ) {a b : ℤ} → a ≡ b → k *ℤ a ≡ k *ℤ b
 times k e = ap (λ z. k *ℤ z) e
@@ -249,9 +236,6 @@ times k e = ap (λ z. k *ℤ z) e
 -- ---- ℕ in ℤ (the sum and the product of `pos` compute: `pos a +ℤ pos b` is `pos (a + b)`)
 pub of-pos-mono : {a b : ℕ} → pos a ≤ℤ pos b → a ≤ b
 of-pos-mono h = omega (arith, ≤ℤ→ h)
-
-pub pos-inj : {a b : ℕ} → pos a ≡ pos b → a ≡ b
-pos-inj e = ap up e
 
 -- ---- the absolute value
 pub natAbs-parts : (a : ℤ) → natAbs a ≡ up a + down a
@@ -265,10 +249,6 @@ natAbs-of (negsuc k) m n e = omega arith
 
 pub natAbs-diff : (a b : ℤ) → natAbs (a -ℤ b) ≡ (up a + down b - (up b + down a)) + (up b + down a - (up a + down b))
 natAbs-diff a b = natAbs-of (a -ℤ b) (up a + down b) (up b + down a) (omega (arith, diff-parts a b))
-
-pub pos-natAbs : {a : ℤ} → pos 0 ≤ℤ a → pos (natAbs a) ≡ a
-pos-natAbs {a = pos n} h = refl
-pos-natAbs {a = negsuc n} h = absurd (h .le)
 
 pub natAbs-square : (a : ℤ) → pos (natAbs a * natAbs a) ≡ a *ℤ a
 natAbs-square (pos n) = refl
@@ -300,14 +280,6 @@ le-natAbs {a = pos a} {n} h k = of-pos-mono k
 le-natAbs {a = negsuc a} {n} h k = omega (arith, ≤ℤ→ h, neg-parts (pos n))
 
 -- ---- what a signed width asks, `mag z < 2 ^ 63`: −H ≤ z < H
-pub in-width : (z : ℤ) {H : ℕ} → negℤ (pos H) ≤ℤ z → z <ℤ pos H → mag z < H
-in-width (pos n) {H} h k = omega (arith, <ℤ→ k)
-in-width (negsuc n) {H} h k = omega (arith, ≤ℤ→ h, neg-parts (pos H))
-
-pub of-width : (z : ℤ) {H : ℕ} → mag z < H → (negℤ (pos H) ≤ℤ z) × (z <ℤ pos H)
-of-width (pos n) {H} h = (→≤ℤ (omega (arith, neg-parts (pos H))), →<ℤ (omega arith))
-of-width (negsuc n) {H} h = (→≤ℤ (omega (arith, neg-parts (pos H))), →<ℤ (omega arith))
-
 -- the parts of a number in a width, and its size. (The other way, `mag z < H → natAbs z ≤ H`, is `natAbs-le` of `lib.Signed`)
 pub width-parts : (z : ℤ) {H : ℕ} → mag z < H → (up z < H) × (down z ≤ H)
 width-parts (pos n) h = (h, omega arith)

@@ -212,7 +212,8 @@ pub ring : (ρ : List ℤ) {a b : ℤ} (r : Sides ρ a b) → Same r → a ≡ b
 ring ρ (sides r s) t = sym (norm-sound r) ∙ ap (λ p. val p ρ) (same-eq (norm r) (norm s) t) ∙ norm-sound s
 
 -- ---- what `search reading` applies: the entries of ρ, the operations, and numerals
--- (one rule for each place: rules `here` and `there` would meet `search`'s bound of 1,000 fits at six unknowns. Sixteen places; for one more, `let w : Reads ρ (f 16) = var 16 in` before the call: `search` takes a variable in scope too)
+-- (one rule for each place: rules `here` and `there` would meet `search`'s bound of 1,000 fits at six unknowns. Sixteen places; for one
+-- more, `let w : Reads ρ (f 16) = var 16 in` before the call: `search` takes a variable in scope too)
 abbrev pub v0 : {x0 : ℤ} {ρ : List ℤ} → Reads (x0 ∷ ρ) x0
 v0 = var 0
 

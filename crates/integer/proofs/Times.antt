@@ -124,7 +124,13 @@ module _ {A : Type 0} (f : A → List ℕ) (d : A) (k : ℕ) where
   at-once (a ∷ l) zero h t only =
       omega (arith, times-append k (f a) (flatten (map f l)), times-nowhere l (λ j g i. omega (arith, only (suc j) (omega arith) i)))
   at-once (a ∷ l) (suc place) h t only =
-      omega (arith, times-append k (f a) (flatten (map f l)), times-none k (f a) (λ i. omega (arith, only 0 (omega arith) i)), at-once l place (omega arith) t (λ j g i. omega (arith, only (suc j) (omega arith) i)))
+      omega (
+        arith,
+        times-append k (f a) (flatten (map f l)),
+        times-none k (f a)
+            (λ i. omega (arith, only 0 (omega arith) i)),
+        at-once l place (omega arith) t (λ j g i. omega (arith, only (suc j) (omega arith) i)),
+      )
 
   pub times-once : (l : List A) → OnceAt f d l k → timesIn k (flatten (map f l)) ≡ 1
   times-once l o = at-once l (o .place) (o .inside) (o .once) (o .only)
@@ -159,7 +165,8 @@ tally-more [] b l = omega (arith, times-nil b)
 tally-more (x ∷ xs) b l = by (same-or-not x b) (tally-more xs b l)
   where
     by : Dec (x ≡ b) → tally xs (b ∷ l) ≡ timesIn b xs + tally xs l → timesIn x (b ∷ l) + tally xs (b ∷ l) ≡ timesIn b (x ∷ xs) + (timesIn x l + tally xs l)
-    by (yes e) ih = subst (λ (y : ℕ). timesIn x (y ∷ l) + tally xs (b ∷ l) ≡ timesIn b (x ∷ xs) + (timesIn x l + tally xs l)) e (omega (arith, times-same x l, times-same b xs, subst (λ (y : ℕ). timesIn b (y ∷ xs) ≡ suc (timesIn b xs)) (sym e) (times-same b xs)))
+    by (yes e) ih = subst (λ (y : ℕ). timesIn x (y ∷ l) + tally xs (b ∷ l) ≡ timesIn b (x ∷ xs) + (timesIn x l + tally xs l)) e
+        (omega (arith, times-same x l, times-same b xs, subst (λ (y : ℕ). timesIn b (y ∷ xs) ≡ suc (timesIn b xs)) (sym e) (times-same b xs)))
     by (no f) ih = omega (arith, times-other x b l f, times-other b x xs (λ e. f (sym e)))
 
 tally-length : (xs l : List ℕ) → ((b : ℕ) → In b l → timesIn b xs ≡ 1) → tally xs l ≡ length l

@@ -14,16 +14,10 @@ use mir.Syntax.{Width}
 use mir.Val.{SFits, hbits, toZ, ofZ}
 use mir.Facts.{toZ-ofZ, sfits-widen}
 use lib.Dec.{T, leb}
-use lib.IntN.{ℤ, pos, negℤ, natAbs, _-ℤ_}
+use lib.IntN.{ℤ, natAbs, _-ℤ_}
 use lib.Signed as Signed
 use lib.Signed.{mag, ltZ, ltZ-yes}
-use Rattle.integer.proofs.Order.{_≤ℤ_, _<ℤ_, in-width, of-width, mag-most, natAbs-sub}
-
-pub fits : {w : Width} {z : ℤ} → (negℤ (pos (2 ^ hbits w)) ≤ℤ z) × (z <ℤ pos (2 ^ hbits w)) → SFits w z
-fits {w} {z} h = record { sfits = in-width z (h .0) (h .1) }
-
-pub of-fits : {w : Width} {z : ℤ} → SFits w z → (negℤ (pos (2 ^ hbits w)) ≤ℤ z) × (z <ℤ pos (2 ^ hbits w))
-of-fits {w} {z} h = of-width z (h .sfits)
+use Rattle.integer.proofs.Order.{_<ℤ_, mag-most, natAbs-sub}
 
 -- ---- sizes
 -- what the read of an element shows, as the width's fact

@@ -1,5 +1,3 @@
-pub mod Lent
-pub mod Listed
 pub mod Taken
 pub mod Ranged
 pub mod Placed

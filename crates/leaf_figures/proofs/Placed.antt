@@ -77,7 +77,8 @@ moved-none from new place h =
     let e : place - place ≡ 0 = omega arith in
     rw (add-one place, take-suc-set from place new h, e)
 
-pub moved-more : (from : List ℕ) (new place : ℕ) (at : List ℕ) (i : ℕ) → place ≤ i → i < length from → i + 1 < length at → Moved from new place at i → Moved from new place (set at (i + 1) (getD from i 0)) (i + 1)
+pub moved-more : (from : List ℕ) (new place : ℕ) (at : List ℕ) (i : ℕ) → place ≤ i → i < length from → i + 1 < length at → Moved from new place at i
+    → Moved from new place (set at (i + 1) (getD from i 0)) (i + 1)
 moved-more from new place at i p h room m =
     let e : i + 1 - place ≡ suc (i - place) = omega arith in
     let f : place + (i - place) ≡ i = omega arith in
@@ -86,7 +87,8 @@ moved-more from new place at i p h room m =
     take-suc rest (i - place) 0 (omega (arith, length-drop place from)) ∙ ap (λ (x : ℕ). take (i - place) rest ++ (x ∷ [])) (getD-drop place from (i - place) 0 ∙ ap (λ (j : ℕ). getD from j 0) f) in
     rw (add-one (i + 1), take-suc-set at (i + 1) (getD from i 0) room, m, e, more) (append-assoc (take place from) (new ∷ take (i - place) rest) (getD from i 0 ∷ []))
 
-pub moved-all : (from : List ℕ) (new count : ℕ) (at : List ℕ) → placeIn new (take count from) ≤ count → Moved from new (placeIn new (take count from)) at count → take (count + 1) at ≡ cutAt new (take count from)
+pub moved-all : (from : List ℕ) (new count : ℕ) (at : List ℕ) → placeIn new (take count from) ≤ count → Moved from new (placeIn new (take count from)) at count
+    → take (count + 1) at ≡ cutAt new (take count from)
 moved-all from new count at h m =
     let p = placeIn new (take count from) in
     m ∙ sym (cut-is new (take count from) ∙ ap₂ (λ (a b : List ℕ). a ++ new ∷ b) (take-take p count from h) (drop-take p count from))

@@ -1,18 +1,16 @@
 -- With mark 0 on every trace the side is the whole leaf, and its least and greatest sum or scatter are those of the figure.
 use mathlib.Core.Path.{_≡_, refl, sym, ap, _∙_}
-use mathlib.Core.Bool.{Bool, true, false}
 use mathlib.Core.List.{List, [], _∷_, map, foldl}
 use Prim.Native.Nat.{ℕ, zero, suc, min, max}
-use native.Mathlib.Omega.{arith}
 use lib.ListN.{getD, replicate}
 use lib.IntN.{ℤ, pos}
-use lib.Dec.{ltb}
-use borrow.Author.Tests.{ltb-true, ltb-false, eq-eqb}
-use Rattle.integer.specs.Words.{if_then_else_, lesser, greater, those, chosen, leastℤ, greatestℤ, least, greatest}
+use borrow.Author.Tests.{eq-eqb}
+use Rattle.integer.specs.Words.{lesser, greater, those, chosen, leastℤ, greatestℤ, least, greatest}
 use Rattle.dstree.specs.Measures.{Trace}
 use Rattle.dstree.specs.Figures.{Run, scatterOn}
 use Rattle.dstree.specs.Node.{Segment, bySum, byScatter, figureOf}
 use Rattle.dstree.specs.Adding.{segmentOf}
+use Rattle.tables.proofs.Small.{lesser-pos, greater-pos}
 use Rattle.leaf_figures.specs.Sides.{marked, segmentBy}
 use Rattle.leaf_figures.specs.declared.sides.Figures.{Figures}
 
@@ -29,20 +27,6 @@ all-marked m [] = refl
 all-marked m (t ∷ numbers) = rw (eq-eqb (getD (replicate m 0) t 0) 0 (no-mark m t)) (ap (λ (l : List ℕ). t ∷ l) (all-marked m numbers))
 
 -- ---- scatters as numbers with a sign
-
-lesser-pos : (a b : ℕ) → lesser (pos a) (pos b) ≡ pos (min a b)
-lesser-pos a b = by (ltb b a) refl
-  where
-    by : (t : Bool) → ltb b a ≡ t → (if t then pos b else pos a) ≡ pos (min a b)
-    by true e = ap pos (omega (arith, ltb-true b a e))
-    by false e = ap pos (omega (arith, ltb-false b a e))
-
-greater-pos : (a b : ℕ) → greater (pos a) (pos b) ≡ pos (max a b)
-greater-pos a b = by (ltb a b) refl
-  where
-    by : (t : Bool) → ltb a b ≡ t → (if t then pos b else pos a) ≡ pos (max a b)
-    by true e = ap pos (omega (arith, ltb-true a b e))
-    by false e = ap pos (omega (arith, ltb-false a b e))
 
 module _ {A : Type 0} (f : A → ℕ) where
   fold-least : (a : ℕ) (l : List A) → foldl lesser (pos a) (map (λ x. pos (f x)) l) ≡ pos (foldl min a (map f l))

@@ -23,7 +23,8 @@ module _ (sumAt : ℕ → ℤ) (scatterAt : ℕ → ℕ) where
   abbrev figures : ℤ → ℤ → ℕ → ℕ → Figures
   figures a b c d = record { any = true; «least_sum» = a; «greatest_sum» = b; «least_scatter» = c; «greatest_scatter» = d }
 
-  more-taken : (a b : ℤ) (c d : ℕ) (l : List ℕ) → foldl taking (figures a b c d) l ≡ figures (foldl lesser a (map sumAt l)) (foldl greater b (map sumAt l)) (foldl min c (map scatterAt l)) (foldl max d (map scatterAt l))
+  more-taken : (a b : ℤ) (c d : ℕ) (l : List ℕ) → foldl taking (figures a b c d) l ≡ figures (foldl lesser a (map sumAt l)) (foldl greater b (map sumAt l))
+      (foldl min c (map scatterAt l)) (foldl max d (map scatterAt l))
   unfolding withFigures
   more-taken a b c d [] = refl
   more-taken a b c d (t ∷ l) = more-taken (lesser a (sumAt t)) (greater b (sumAt t)) (min c (scatterAt t)) (max d (scatterAt t)) l
@@ -85,7 +86,13 @@ unfolding withFigures
 with-small f s v h hs hv = by (f .any)
   where
     more : Figures
-    more = record { any = true; «least_sum» = lesser (f .«least_sum») s; «greatest_sum» = greater (f .«greatest_sum») s; «least_scatter» = min (f .«least_scatter») v; «greatest_scatter» = max (f .«greatest_scatter») v }
+    more = record {
+      any = true;
+      «least_sum» = lesser (f .«least_sum») s;
+      «greatest_sum» = greater (f .«greatest_sum») s;
+      «least_scatter» = min (f .«least_scatter») v;
+      «greatest_scatter» = max (f .«greatest_scatter») v;
+    }
 
     one : Figures
     one = record { any = true; «least_sum» = s; «greatest_sum» = s; «least_scatter» = v; «greatest_scatter» = v }

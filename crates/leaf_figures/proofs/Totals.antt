@@ -28,7 +28,8 @@ module _ (at : List ℕ) (count : ℕ) (room : count ≤ length at) (i : ℕ) (h
   next-at {n} {first} r = next-of (subst (Rise n first) (end-at at count room i h) r)
 
   pub spread-more : (first : ℕ) (traces : List Trace)
-      → spreadFrom first (drop i (take count at)) traces ≡ spreadOn (run first (getD at i 0)) (segmentOf traces (run first (getD at i 0))) + spreadFrom (getD at i 0 + 1) (drop (i + 1) (take count at)) traces
+      → spreadFrom first (drop i (take count at)) traces ≡ spreadOn (run first (getD at i 0)) (segmentOf traces (run first (getD at i 0))) + spreadFrom
+      (getD at i 0 + 1) (drop (i + 1) (take count at)) traces
   unfolding totalOver segmentsFrom segmentOf
   spread-more first traces = rw (end-at at count room i h, add-one (getD at i 0))
 

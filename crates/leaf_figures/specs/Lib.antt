@@ -1,5 +1,3 @@
--- A leaf's traces in the tables, their figures on a run, the node's right ends, and the spread over them.
-pub mod Walk
-pub mod Runs
+-- The figures of a leaf's traces on a run, the node's right ends, and the spread over them.
 pub mod Sides
 pub mod Ends

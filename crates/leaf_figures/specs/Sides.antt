@@ -9,7 +9,7 @@ use Rattle.integer.specs.Words.{if_then_else_, lesser, greater, those}
 use Rattle.dstree.specs.Measures.{Trace}
 use Rattle.dstree.specs.Node.{Segment}
 use Rattle.dstree.specs.Adding.{tracesOf}
-use Rattle.leaf_figures.specs.Walk.{storedIn, numbersOf}
+use Rattle.tables.specs.Walk.{storedIn, numbersOf}
 use Rattle.leaf_figures.specs.declared.sides.Figures.{Figures}
 
 -- the numbers with a mark

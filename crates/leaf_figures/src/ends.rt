@@ -1,4 +1,9 @@
 // A node's right ends by value, and one more of them.
+
+use tables::places::HEAD;
+use tables::places::SEGMENT;
+use tables::places::SEGMENTS;
+use tables::records::small_at;
 ghost use mathlib.Core.Path.{_≡_};
 ghost use Prim.Native.Nat.{_<_, _≤_};
 ghost use lib.ListN.{length};
@@ -20,11 +25,11 @@ pub fn ends_of(record: &[i64]) -> Ends
     ensures { λ r. ⌜ endsOf r ≡ ends (segmentsIn (now («record» .entry))) ⌝ }
     ensures room { λ r. ⌜ Room r ⌝ }
 {
-    let count = tables::records::small_at(record, 1);
+    let count = small_at(record, SEGMENTS);
     let mut at = [0usize; 16];
     let mut i: usize = 0;
     while i < count {
-        at[i] = tables::records::small_at(record, 7 + i * 5);
+        at[i] = small_at(record, HEAD + i * SEGMENT);
         i += 1;
     }
     Ends { at, count }

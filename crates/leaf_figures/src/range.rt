@@ -6,8 +6,8 @@ ghost use lib.IntN.{natAbs};
 ghost use Rattle.integer.specs.Words.{leastℤ, greatestℤ};
 ghost use Rattle.dstree.specs.Figures.{run};
 ghost use Rattle.dstree.specs.Node.{figureOf};
-ghost use Rattle.leaf_figures.specs.Walk.{leafTraces, Stored};
-ghost use Rattle.leaf_figures.specs.Runs.{Inside, figureBy};
+ghost use Rattle.tables.specs.Walk.{leafTraces, Stored};
+ghost use Rattle.tables.specs.Runs.{Inside, figureBy};
 
 pub struct Range {
     pub least: i64,

@@ -1,15 +1,21 @@
 // The least and greatest figures of a leaf's traces on a run of samples, or of one side of them. Each trace has a mark, and a side is the traces
 // with one mark.
+
+use tables::numbers::greater;
+use tables::numbers::larger;
+use tables::numbers::lesser;
+use tables::numbers::smaller;
+use tables::runs::scatter_on;
+use tables::runs::sum_on;
+use tables::runs::trace_at;
 ghost use mathlib.Core.Path.{_≡_};
-ghost use Prim.Native.Nat.{min, max};
 ghost use lib.ListN.{length};
-ghost use Rattle.integer.specs.Words as words;
 ghost use Rattle.integer.specs.Words.{if_then_else_};
 ghost use Rattle.dstree.specs.Figures.{run, sumOn, scatterOn};
 ghost use Rattle.dstree.specs.Adding.{segmentOf};
 ghost use Rattle.tables.specs.View.{traceIn};
-ghost use Rattle.leaf_figures.specs.Walk.{Stored};
-ghost use Rattle.leaf_figures.specs.Runs.{RunIn, Inside};
+ghost use Rattle.tables.specs.Walk.{Stored};
+ghost use Rattle.tables.specs.Runs.{RunIn, Inside};
 ghost use Rattle.leaf_figures.specs.Sides.{sideTraces, withFigures, Small, segmentBy};
 
 // The figures of no trace are 0.
@@ -19,30 +25,6 @@ pub struct Figures {
     pub greatest_sum: i64,
     pub least_scatter: u64,
     pub greatest_scatter: u64,
-}
-
-fn lesser(a: i64, b: i64) -> i64
-    ensures { λ r. ⌜ r ≡ words.lesser a b ⌝ }
-{
-    if b < a { b } else { a }
-}
-
-fn greater(a: i64, b: i64) -> i64
-    ensures { λ r. ⌜ r ≡ words.greater a b ⌝ }
-{
-    if a < b { b } else { a }
-}
-
-fn smaller(u: u64, v: u64) -> u64
-    ensures { λ r. ⌜ r ≡ min u v ⌝ }
-{
-    if v < u { v } else { u }
-}
-
-fn larger(u: u64, v: u64) -> u64
-    ensures { λ r. ⌜ r ≡ max u v ⌝ }
-{
-    if u < v { v } else { u }
 }
 
 // One trace's figures more.
@@ -83,8 +65,9 @@ fn with_trace(
     ensures small { λ r. ⌜ Small r ⌝ }
 {
     if on_side {
-        let s = crate::runs::run_sum(samples, n, t, first, last);
-        let v = crate::runs::run_scatter(samples, n, t, first, last);
+        let trace = trace_at(samples, n, t);
+        let s = sum_on(trace, first, last);
+        let v = scatter_on(trace, first, last);
         widened(f, s, v)
     } else {
         f
@@ -117,7 +100,7 @@ pub fn side_figures(
     let mut t = head;
     while t < k {
         f = with_trace(samples, n, t, first, last, marks[t] == mark, f);
-        t = crate::walk::behind(links, k, t);
+        t = tables::walk::behind(links, k, t);
     }
     f
 }

@@ -4,8 +4,8 @@ ghost use Prim.Native.Nat.{_^_, _≤_};
 ghost use lib.ListN.{length};
 ghost use Rattle.dstree.specs.Figures.{run};
 ghost use Rattle.dstree.specs.Adding.{segmentOf, spreadOn, spread};
-ghost use Rattle.leaf_figures.specs.Walk.{leafTraces, Stored};
-ghost use Rattle.leaf_figures.specs.Runs.{Inside};
+ghost use Rattle.tables.specs.Walk.{leafTraces, Stored};
+ghost use Rattle.tables.specs.Runs.{Inside};
 ghost use Rattle.leaf_figures.specs.Sides.{sideTraces};
 ghost use Rattle.leaf_figures.specs.Ends.{endsOf, Room, Rise};
 

@@ -6,14 +6,12 @@
 pub mod telling; // an answer as numbers
 
 ghost use mathlib.Core.Path.{_≡_};
+ghost use mathlib.Core.List.{[], _∷_};
 ghost use Rattle.dstree.specs.Measures.{measures};
+ghost use Rattle.dstree.specs.Book as book;
 ghost use Rattle.tables.specs.Tables.{tables};
-ghost use Rattle.tables.specs.Answers.{openOf};
-ghost use Rattle.adding.specs.Added.{addOf};
-ghost use Rattle.matching.specs.Matched.{nearestOf};
-ghost use Rattle.sheet_writing.specs.Written.{writeOf};
-ghost use Rattle.sheet_reading.specs.Loaded.{readOf};
-ghost use Rattle.library_c.specs.Told.{exported, exportedOf, exportedWith, exportedBeside};
+ghost use Rattle.calls.specs.Effects.{outcomeOn};
+ghost use Rattle.library_c.specs.Exported.{exported, exportedOf};
 
 // Two wrong programs that the contract rules out: one that gives the place as its code, and one that writes the place of a refusal into a place of `out`
 // behind the first.
@@ -31,9 +29,9 @@ pub extern "C" fn silkendoz_open(
 ) -> u64
     ensures { λ r. ⌜ exported r (now (out .exit))
         (tables (now (control .exit)) (now (samples .exit)) (now (nodes .exit)) (now (links .exit)) (now (work .exit)))
-        ≡ exportedOf (openOf
-        (tables (now (control .entry)) (now (samples .entry)) (now (nodes .entry)) (now (links .entry)) (now (work .entry)))
-        (measures n capacity «leaf_size»)) (now (out .entry)) ⌝ }
+        []
+        ≡ exportedOf (outcomeOn (book.opening (measures n capacity «leaf_size»))
+        (tables (now (control .entry)) (now (samples .entry)) (now (nodes .entry)) (now (links .entry)) (now (work .entry)))) (now (out .entry)) ⌝ }
 {
     let answer = opening::open(control, samples, nodes, links, work, n, capacity, leaf_size);
     telling::tell_opened(answer, out)
@@ -52,9 +50,9 @@ pub extern "C" fn silkendoz_add(
 ) -> u64
     ensures { λ r. ⌜ exported r (now (out .exit))
         (tables (now (control .exit)) (now (samples .exit)) (now (nodes .exit)) (now (links .exit)) (now (work .entry)))
-        ≡ exportedOf (addOf
-        (tables (now (control .entry)) (now (samples .entry)) (now (nodes .entry)) (now (links .entry)) (now (work .entry)))
-        (now (trace .entry))) (now (out .entry)) ⌝ }
+        []
+        ≡ exportedOf (outcomeOn (book.adding (now (trace .entry)))
+        (tables (now (control .entry)) (now (samples .entry)) (now (nodes .entry)) (now (links .entry)) (now (work .entry)))) (now (out .entry)) ⌝ }
 {
     let answer = adding::add(control, samples, nodes, links, work, trace);
     telling::tell_added(answer, out)
@@ -72,13 +70,11 @@ pub extern "C" fn silkendoz_nearest(
     query: &[i16],
     out: &mut [u64],
 ) -> u64
-    ensures { λ r. ⌜ exportedWith r (now (out .exit))
+    ensures { λ r. ⌜ exported r (now (out .exit))
         (tables (now (control .entry)) (now (samples .entry)) (now (nodes .entry)) (now (links .entry)) (now (work .exit)))
-        (now (trail .exit))
-        ≡ exportedBeside (nearestOf
-        (tables (now (control .entry)) (now (samples .entry)) (now (nodes .entry)) (now (links .entry)) (now (work .entry)))
-        (now (query .entry))
-        (now (trail .entry))) (now (out .entry)) ⌝ }
+        (now (trail .exit) ∷ [])
+        ≡ exportedOf (outcomeOn (book.matching (now (query .entry)) (now (trail .entry)))
+        (tables (now (control .entry)) (now (samples .entry)) (now (nodes .entry)) (now (links .entry)) (now (work .entry)))) (now (out .entry)) ⌝ }
 {
     let answer = matching::nearest(control, samples, nodes, links, work, trail, query);
     telling::tell_found(answer, out)
@@ -95,12 +91,11 @@ pub extern "C" fn silkendoz_write_sheet(
     sheet: &mut [u8],
     out: &mut [u64],
 ) -> u64
-    ensures { λ r. ⌜ exportedWith r (now (out .exit))
+    ensures { λ r. ⌜ exported r (now (out .exit))
         (tables (now (control .entry)) (now (samples .entry)) (now (nodes .entry)) (now (links .entry)) (now (work .entry)))
-        (now (sheet .exit))
-        ≡ exportedBeside (writeOf
-        (tables (now (control .entry)) (now (samples .entry)) (now (nodes .entry)) (now (links .entry)) (now (work .entry)))
-        (now (sheet .entry))) (now (out .entry)) ⌝ }
+        (now (sheet .exit) ∷ [])
+        ≡ exportedOf (outcomeOn (book.writing (now (sheet .entry)))
+        (tables (now (control .entry)) (now (samples .entry)) (now (nodes .entry)) (now (links .entry)) (now (work .entry)))) (now (out .entry)) ⌝ }
 {
     let answer = sheet_writing::write_sheet(control, samples, nodes, links, work, sheet);
     telling::tell_written(answer, out)
@@ -119,9 +114,9 @@ pub extern "C" fn silkendoz_read_sheet(
 ) -> u64
     ensures { λ r. ⌜ exported r (now (out .exit))
         (tables (now (control .exit)) (now (samples .exit)) (now (nodes .exit)) (now (links .exit)) (now (work .exit)))
-        ≡ exportedOf (readOf
-        (tables (now (control .entry)) (now (samples .entry)) (now (nodes .entry)) (now (links .entry)) (now (work .entry)))
-        (now (sheet .entry))) (now (out .entry)) ⌝ }
+        []
+        ≡ exportedOf (outcomeOn (book.reading (now (sheet .entry)))
+        (tables (now (control .entry)) (now (samples .entry)) (now (nodes .entry)) (now (links .entry)) (now (work .entry)))) (now (out .entry)) ⌝ }
 {
     let answer = sheet_reading::read_sheet(control, samples, nodes, links, work, sheet);
     telling::tell_read(answer, out)

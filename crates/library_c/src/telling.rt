@@ -17,7 +17,7 @@ ghost use Rattle.adding.specs.Answered as added;
 ghost use Rattle.matching.specs.Answered as matched;
 ghost use Rattle.sheet_writing.specs.Answered as writing;
 ghost use Rattle.sheet_reading.specs.Answered as reading;
-ghost use Rattle.library_c.specs.Told.{told, toldOf};
+ghost use Rattle.library_c.specs.Exported.{returned, returnedOf};
 
 // A number at its place, if there is such a place.
 fn put(out: &mut [u64], at: usize, x: u64)
@@ -29,7 +29,7 @@ fn put(out: &mut [u64], at: usize, x: u64)
 }
 
 fn tell_refusal(why: Refusal, out: &mut [u64]) -> u64
-    ensures { λ r. ⌜ told r (now (out .exit)) ≡ toldOf (refusing (wordOf why)) (now (out .entry)) ⌝ }
+    ensures { λ r. ⌜ returned r (now (out .exit)) ≡ returnedOf (refusing (wordOf why)) (now (out .entry)) ⌝ }
 {
     let place = tables::answers::place(why);
     let number = tables::answers::number(why);
@@ -38,7 +38,7 @@ fn tell_refusal(why: Refusal, out: &mut [u64]) -> u64
 }
 
 pub fn tell_opened(answer: Opened, out: &mut [u64]) -> u64
-    ensures { λ r. ⌜ told r (now (out .exit)) ≡ toldOf (opened.answerOf answer) (now (out .entry)) ⌝ }
+    ensures { λ r. ⌜ returned r (now (out .exit)) ≡ returnedOf (opened.answerOf answer) (now (out .entry)) ⌝ }
 {
     match answer {
         Opened::Done => 0,
@@ -47,7 +47,7 @@ pub fn tell_opened(answer: Opened, out: &mut [u64]) -> u64
 }
 
 pub fn tell_added(answer: Added, out: &mut [u64]) -> u64
-    ensures { λ r. ⌜ told r (now (out .exit)) ≡ toldOf (added.answerOf answer) (now (out .entry)) ⌝ }
+    ensures { λ r. ⌜ returned r (now (out .exit)) ≡ returnedOf (added.answerOf answer) (now (out .entry)) ⌝ }
 {
     match answer {
         Added::At(number) => {
@@ -60,7 +60,7 @@ pub fn tell_added(answer: Added, out: &mut [u64]) -> u64
 
 // The trail is told by the slice that the match leaves it in, so that any list may stand for it here.
 pub fn tell_found(answer: Found, out: &mut [u64]) -> u64
-    ensures { λ r. ⌜ ((trail : List ℕ) → told r (now (out .exit)) ≡ toldOf (matched.answerBy answer trail) (now (out .entry))) ⌝ }
+    ensures { λ r. ⌜ ((trail : List ℕ) → returned r (now (out .exit)) ≡ returnedOf (matched.answerBy answer trail) (now (out .entry))) ⌝ }
 {
     match answer {
         Found::At(trace, distance, leaves, traces) => {
@@ -76,7 +76,7 @@ pub fn tell_found(answer: Found, out: &mut [u64]) -> u64
 
 // The sheet is told by the slice that the writing leaves it in.
 pub fn tell_written(answer: Written, out: &mut [u64]) -> u64
-    ensures { λ r. ⌜ ((sheet : List ℕ) → told r (now (out .exit)) ≡ toldOf (writing.answerBy answer sheet) (now (out .entry))) ⌝ }
+    ensures { λ r. ⌜ ((sheet : List ℕ) → returned r (now (out .exit)) ≡ returnedOf (writing.answerBy answer sheet) (now (out .entry))) ⌝ }
 {
     match answer {
         Written::Blocks(count) => {
@@ -88,7 +88,7 @@ pub fn tell_written(answer: Written, out: &mut [u64]) -> u64
 }
 
 pub fn tell_read(answer: Read, out: &mut [u64]) -> u64
-    ensures { λ r. ⌜ told r (now (out .exit)) ≡ toldOf (reading.answerOf answer) (now (out .entry)) ⌝ }
+    ensures { λ r. ⌜ returned r (now (out .exit)) ≡ returnedOf (reading.answerOf answer) (now (out .entry)) ⌝ }
 {
     match answer {
         Read::Done => 0,

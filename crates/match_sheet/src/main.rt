@@ -5,6 +5,6 @@ fn main() {
     let mut sheet = [0u8; 65537];
     let size = io::read_full(0, &mut sheet);
     let mut out = [0u8; 84];
-    let written = sheet_match::line(&sheet[..size], &mut out);
+    let written = sheet_line::line(&sheet[..size], &mut out);
     io::write_all(1, &out[..written]);
 }

@@ -1,6 +1,6 @@
 -- Leaves counted record by record, and that these are the leaves of the tree that tables stand for.
 use Prim.Native.Nat.{ℕ, zero, suc, _+_, _*_, _-_, _≤_, _<_}
-use mathlib.Core.Path.{_≡_, refl, sym, _∙_, ap}
+use mathlib.Core.Path.{_≡_, refl, _∙_, ap}
 use mathlib.Core.Bool.{Bool, true, false}
 use mathlib.Core.List.{List, [], _∷_}
 use native.Mathlib.Numerals.{add-one}
@@ -8,19 +8,16 @@ use native.Mathlib.Omega.{arith}
 use native.Mathlib.Nat.{mul-le-mul-right}
 use lib.Dec.{T}
 use lib.IntN.{ℤ}
-use lib.ListN.{length, length-map}
+use lib.ListN.{length}
 use Rattle.integer.specs.Words.{if_then_else_, those, counting}
-use Rattle.integer.proofs.Rows.{getD-table}
-use Rattle.integer.proofs.Times.{counting-length}
 use Rattle.dstree.specs.Measures.{sampleLimit}
-use Rattle.dstree.proofs.Formed.{well-formed}
 use Rattle.dstree.proofs.Nodes.{nodes-at-most}
-use Rattle.insertion_memory.proofs.FromTables.{facts, range, node-count}
-use Rattle.dstree.specs.Node.{leaf, Node, node, nodeAt}
+use Rattle.dstree.specs.Node.{nodeAt}
 use Rattle.dstree.specs.Matching.{isLeaf, leaves}
 use Rattle.tables.specs.Layout.{kindPlace, recordPlaces}
 use Rattle.tables.specs.Tables.{Tables, measuresOf, traceCount, nodeCount, recordOf}
-use Rattle.tables.specs.View.{smallAt, kindIn, nodeIn, treeIn, wellFormed}
+use Rattle.tables.specs.View.{smallAt, kindIn, treeIn, wellFormed}
+use Rattle.tables.proofs.Views.{tree-size, tree-kind, tree-passes, tree-formed, measures-fit}
 use Rattle.matching.specs.Leaves.{leafIn, oneIf, leafCount}
 
 -- a kind other than 1 and 2
@@ -72,34 +69,23 @@ those-same f g (suc n) a h =
     rw (h a (omega arith), rest)
 
 module _ (t : Tables) where
-  count-is : length (treeIn t) ≡ nodeCount t
-  unfolding treeIn
-  count-is = length-map (counting (nodeCount t) 0) (λ j. nodeIn (t .links) (traceCount t) (recordOf (t .nodes) j)) ∙ counting-length (nodeCount t) 0
-
   leaf-is : (i : ℕ) → i < nodeCount t → isLeaf (nodeAt (treeIn t) i .kind) ≡ leafIn (t .nodes) i
-  unfolding treeIn nodeIn
-  leaf-is i h =
-      let make : ℕ → Node = λ i. nodeIn (t .links) (traceCount t) (recordOf (t .nodes) i) in
-      let e : 0 + i ≡ i = omega arith in
-      let at : nodeAt (treeIn t) i ≡ make i = getD-table make (nodeCount t) 0 i (node [] (leaf [])) h ∙ ap make e in
-      ap (λ (a : Node). isLeaf (a .kind)) at ∙ leaf-same (t .links) (traceCount t) (recordOf (t .nodes) i) (smallAt (recordOf (t .nodes) i) kindPlace)
+  leaf-is i h = ap isLeaf (tree-kind t i h) ∙ leaf-same (t .links) (traceCount t) (recordOf (t .nodes) i) (smallAt (recordOf (t .nodes) i) kindPlace)
 
   pub leaves-counted : length (leaves (treeIn t)) ≡ leafCount (t .nodes) (nodeCount t) 0
   unfolding leaves
   leaves-counted =
-      ap (λ (n : ℕ). length (those (λ number. isLeaf (nodeAt (treeIn t) number .kind)) (counting n 0))) count-is
+      ap (λ (n : ℕ). length (those (λ number. isLeaf (nodeAt (treeIn t) number .kind)) (counting n 0))) (tree-size t)
       ∙ ap length (those-same (λ number. isLeaf (nodeAt (treeIn t) number .kind)) (leafIn (t .nodes)) (nodeCount t) 0 (λ i p. leaf-is i (omega (arith, p))))
 
 -- ---- room for all records
 
 module _ (t : Tables) (w : T (wellFormed t)) (room : (2 * measuresOf t .capacity - 1) * recordPlaces ≤ length (t .nodes)) where
   most : nodeCount t ≤ 2 * measuresOf t .capacity - 1
-  most =
-      let f = facts t w in
-      omega (arith, node-count t w, nodes-at-most sampleLimit (measuresOf t) (traceCount t) (treeIn t) (well-formed f), f .room)
+  most = omega (arith, tree-size t, nodes-at-most sampleLimit (measuresOf t) (traceCount t) (treeIn t) (tree-passes t w), tree-formed t w .room)
 
   pub records-room : nodeCount t * recordPlaces ≤ length (t .nodes)
   records-room = omega (arith, mul-le-mul-right recordPlaces most, room)
 
   pub records-few : nodeCount t ≤ 8192
-  records-few = omega (arith, most, range t w .capacity-high)
+  records-few = omega (arith, most, measures-fit t w .capacity-high)

@@ -1,4 +1,3 @@
 pub mod Counted
 pub mod Conditions
 pub mod Told
-pub mod Finds

@@ -1,4 +1,3 @@
--- What a match refuses, answers and leaves, and the leaves that it counts.
+-- What a match answers, and the leaves that it counts.
 pub mod Leaves
-pub mod Matched
 pub mod Answered

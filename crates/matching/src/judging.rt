@@ -1,86 +1,50 @@
-// What a match refuses, in the table's order: a short control record (2), its measures (3), another short table (2), spoiled tables (3), a query of
-// another length (4), no trace stored (6), a short trail (7).
+// What a match refuses: what every call on made tables does, then a query of another length (4), no trace stored (6), a trail with fewer places than
+// leaves (7).
 
 use tables::Refusal;
 use tables::Verdict;
 use tables::control::field;
-use tables::control::judge_lent;
+use tables::numbers::wide;
+use tables::places::N;
+use tables::places::NODE_COUNT;
+use tables::places::TRACE_COUNT;
+use well_formed::judging::judge_tables;
 ghost use mathlib.Core.Path.{_≡_};
-ghost use mathlib.Core.List.{[]};
 ghost use Rattle.dstree.specs.Refusals.{firstOf};
 ghost use Rattle.tables.specs.Tables.{tables};
-ghost use Rattle.tables.specs.Answers.{foundBy, Lends};
-ghost use Rattle.matching.specs.Matched.{restConditions, nearestConditions};
+ghost use Rattle.tables.specs.Answers.{foundBy};
+ghost use Rattle.calls.specs.Effects.{matches};
 
-fn wide(x: u16) -> usize
-    ensures { λ r. ⌜ r ≡ x ⌝ }
-{
-    x as usize
-}
-
-fn wider(x: u16) -> u64
-    ensures { λ r. ⌜ r ≡ x ⌝ }
-{
-    x as u64
-}
-
-// What contents, the query's length and the trail's refuse, the tables being long enough.
-pub fn judge_rest(
-    control: &[u16],
-    nodes: &[i64],
-    links: &[u16],
-    size: usize,
-    trail: usize,
-) -> Verdict
-    requires { ⌜ Lends (now control) (now nodes) (now links) ⌝ }
-    ensures { λ r. ⌜ foundBy r ≡ firstOf (restConditions (tables (now (control .entry)) [] (now (nodes .entry)) (now (links .entry)) []) size trail) ⌝ }
-{
-    let n = wide(field(control, 0));
-    let k = field(control, 3);
-    let m = wide(field(control, 4));
-    let formed = well_formed::well_formed(control, nodes, links);
-    if !formed {
-        return Verdict::Refused(Refusal::Spoiled);
-    }
-    if size != n {
-        return Verdict::Refused(Refusal::WrongTrace);
-    }
-    if k == 0 {
-        return Verdict::Refused(Refusal::Empty);
-    }
-    let leaves = crate::leaves::leaf_count(nodes, m);
-    if trail < leaves {
-        return Verdict::Refused(Refusal::ShortTrail);
-    }
-    Verdict::Fine
-}
-
-pub fn judge_nearest(
+pub fn judge(
     control: &[u16],
     samples: &[i16],
     nodes: &[i64],
     links: &[u16],
     work: &[u64],
     query: &[i16],
-    trail: usize,
+    trail: &[u16],
 ) -> Verdict
-    ensures { λ r. ⌜ foundBy r ≡ firstOf (nearestConditions (tables (now (control .entry)) (now (samples .entry)) (now (nodes .entry)) (now (links .entry)) (now (work .entry))) (now (query .entry)) trail) ⌝ }
+    ensures { λ r. ⌜ foundBy r ≡ firstOf (matches
+        (tables (now (control .entry)) (now (samples .entry)) (now (nodes .entry)) (now (links .entry)) (now (work .entry)))
+        (now (query .entry)) (now (trail .entry)) .conditions) ⌝ }
 {
-    let n = wider(field(control, 0));
-    let capacity = wider(field(control, 1));
-    let leaf_size = wider(field(control, 2));
-    let lent = judge_lent(
-        control.len(),
-        samples.len(),
-        nodes.len(),
-        links.len(),
-        work.len(),
-        n,
-        capacity,
-        leaf_size,
-    );
-    match lent {
+    let n = wide(field(control, N));
+    let k = field(control, TRACE_COUNT);
+    let m = wide(field(control, NODE_COUNT));
+    let made = judge_tables(control, samples, nodes, links, work);
+    match made {
         Verdict::Refused(why) => Verdict::Refused(why),
-        Verdict::Fine => judge_rest(control, nodes, links, query.len(), trail),
+        Verdict::Fine => {
+            if query.len() != n {
+                return Verdict::Refused(Refusal::WrongTrace);
+            }
+            if k == 0 {
+                return Verdict::Refused(Refusal::Empty);
+            }
+            if trail.len() < crate::leaves::leaf_count(nodes, m) {
+                return Verdict::Refused(Refusal::ShortTrail);
+            }
+            Verdict::Fine
+        }
     }
 }

@@ -1,4 +1,6 @@
 // How many leaves a table of records has.
+
+use tables::places::KIND;
 ghost use mathlib.Core.Path.{_≡_};
 ghost use Prim.Native.Nat.{_+_, _*_, _≤_, _<_};
 ghost use lib.ListN.{length};
@@ -10,7 +12,7 @@ fn leaf_one(nodes: &[i64], j: usize) -> usize
     requires { ⌜ (j * recordPlaces + recordPlaces ≤ length (now nodes)) × (j ≤ 8191) ⌝ }
     ensures { λ r. ⌜ r ≡ oneIf (leafIn (now (nodes .entry)) j) ⌝ }
 {
-    let kind = tables::records::node_small(nodes, j, 0);
+    let kind = tables::records::node_small(nodes, j, KIND);
     if kind == 1 {
         return 0;
     }

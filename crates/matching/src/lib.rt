@@ -6,9 +6,11 @@ pub mod judging; // what a match refuses
 use tables::Refusal;
 use tables::Verdict;
 ghost use mathlib.Core.Path.{_≡_};
+ghost use mathlib.Core.List.{[], _∷_};
+ghost use Rattle.dstree.specs.Book.{matching};
 ghost use Rattle.tables.specs.Tables.{tables};
-ghost use Rattle.tables.specs.Answers.{outcomeWith};
-ghost use Rattle.matching.specs.Matched.{nearestOf};
+ghost use Rattle.calls.specs.Outcome.{outcome};
+ghost use Rattle.calls.specs.Effects.{outcomeOn};
 ghost use Rattle.matching.specs.Answered.{answerBy};
 
 // Trace number, distance, leaves read and traces read, or a refusal.
@@ -30,16 +32,13 @@ pub fn nearest(
     trail: &mut [u16],
     query: &[i16],
 ) -> Found
-    ensures { λ r. ⌜ outcomeWith (answerBy r (now (trail .exit)))
+    ensures { λ r. ⌜ outcome (answerBy r (now (trail .exit)))
         (tables (now (control .entry)) (now (samples .entry)) (now (nodes .entry)) (now (links .entry)) (now (work .exit)))
-        (now (trail .exit))
-        ≡ nearestOf
-        (tables (now (control .entry)) (now (samples .entry)) (now (nodes .entry)) (now (links .entry)) (now (work .entry)))
-        (now (query .entry))
-        (now (trail .entry)) ⌝ }
+        (now (trail .exit) ∷ [])
+        ≡ outcomeOn (matching (now (query .entry)) (now (trail .entry)))
+        (tables (now (control .entry)) (now (samples .entry)) (now (nodes .entry)) (now (links .entry)) (now (work .entry))) ⌝ }
 {
-    let places = trail.len();
-    let verdict = judging::judge_nearest(control, samples, nodes, links, work, query, places);
+    let verdict = judging::judge(control, samples, nodes, links, work, query, trail);
     match verdict {
         Verdict::Refused(why) => Found::Refused(why),
         Verdict::Fine => {

@@ -1,9 +1,8 @@
--- What an opening that nothing refuses knows; and the two ways that opening ends, as the definition has them: a refusal with the tables as they were, and
--- the opened tables.
+-- What an opening that nothing refuses knows, and what it leaves, table by table.
 use mathlib.Core.Path.{_≡_, refl}
 use mathlib.Core.Bool.{not}
 use mathlib.Core.List.{List, [], _∷_}
-use mathlib.Core.Option.{none, some}
+use mathlib.Core.Option.{none}
 use Prim.Native.Nat.{ℕ, _*_, _≤_}
 use native.Mathlib.Nat.{not-suc-le-zero, le-of-suc-le-suc}
 use borrow.Author.Tests.{not-false}
@@ -14,14 +13,11 @@ use Rattle.dstree.specs.Refusals.{firstOf}
 use Rattle.dstree.specs.Book.{Lent, controlShort, tablesShort}
 use Rattle.dstree.proofs.Conditions.{none-first}
 use Rattle.tables.specs.Layout.{layout, recordPlaces, controlFields}
-use Rattle.tables.specs.Tables.{Tables, tables, lentOf, filled}
-use Rattle.tables.specs.Judge.{openingConditionsOf}
-use Rattle.tables.specs.Answers.{wordOf, outcome, unlessRefused, openingConditions, opened, openOf}
-use Rattle.tables.specs.declared.Refusal.{Refusal}
+use Rattle.tables.specs.Tables.{Tables, tables, filled}
+use Rattle.tables.specs.Judge.{openingConditionsOf, Accepted}
+use Rattle.tables.specs.Answers.{opened}
 use Rattle.tables.proofs.Range.{in-range}
-use Rattle.tables.proofs.Judged.{Accepted, room-of}
-use Rattle.opening.specs.Opened.{answerOf}
-use Rattle.opening.specs.declared.Opened.the-variants as o
+use Rattle.tables.proofs.Judged.{room-of}
 
 -- what it says of lengths and measures that opening refuses nothing
 pub opening-accepted : (lengths : Lent) (m : Measures) → firstOf (openingConditionsOf lengths m) ≡ none → Accepted lengths m
@@ -32,24 +28,16 @@ opening-accepted lengths m e =
     let three = none-first (tablesShort layout lengths m) _ _ (two .1) in
     record { range = in-range m (not-false _ (one .0)); room = room-of lengths m (two .0) (three .0) }
 
-module _ (t : Tables) (m : Measures) where
-  pub refused-answer : (why : Refusal) → firstOf (openingConditionsOf (lentOf t) m) ≡ some (wordOf why) → outcome (answerOf (o.Refused why)) t ≡ openOf t m
-  unfolding answerOf openOf openingConditions unlessRefused
-  refused-answer why e = rw e
-
-  pub done-answer : (after : Tables) → firstOf (openingConditionsOf (lentOf t) m) ≡ none → after ≡ opened t m → outcome (answerOf o.Done) after ≡ openOf t m
-  unfolding answerOf openOf openingConditions unlessRefused
-  done-answer after e p = rw (e, p)
-
-  pub opened-tables : (control : List ℕ) (samples nodes : List ℤ) (links work : List ℕ)
-      → control ≡ m .n ∷ m .capacity ∷ m .leafSize ∷ 0 ∷ 0 ∷ drop controlFields (t .control)
-      → samples ≡ filled (samplesNeeded m) (pos 0) (t .samples)
-      → nodes ≡ filled (recordsNeeded m * recordPlaces) (pos 0) (t .nodes)
-      → links ≡ filled (linksNeeded m) 0 (t .links)
-      → work ≡ filled (workNeeded m) 0 (t .work)
-      → tables control samples nodes links work ≡ opened t m
-  unfolding opened
-  opened-tables control samples nodes links work c s n l w = rw (c, s, n, l, w)
+-- the opened tables, table by table
+pub opened-tables : (t : Tables) (m : Measures) (control : List ℕ) (samples nodes : List ℤ) (links work : List ℕ)
+    → control ≡ m .n ∷ m .capacity ∷ m .leafSize ∷ 0 ∷ 0 ∷ drop controlFields (t .control)
+    → samples ≡ filled (samplesNeeded m) (pos 0) (t .samples)
+    → nodes ≡ filled (recordsNeeded m * recordPlaces) (pos 0) (t .nodes)
+    → links ≡ filled (linksNeeded m) 0 (t .links)
+    → work ≡ filled (workNeeded m) 0 (t .work)
+    → tables control samples nodes links work ≡ opened t m
+unfolding opened
+opened-tables t m control samples nodes links work c s n l w = rw (c, s, n, l, w)
 
 -- five stores from the front are five new places before the rest
 pub five-stores : (l : List ℕ) (a b c d e : ℕ) → 5 ≤ length l → set (set (set (set (set l 0 a) 1 b) 2 c) 3 d) 4 e ≡ a ∷ b ∷ c ∷ d ∷ e ∷ drop 5 l

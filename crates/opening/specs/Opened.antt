@@ -1,10 +1,10 @@
 -- What `open` answers, in document 01's terms.
-use Rattle.dstree.specs.Book.{Answer, done, refusing}
+use Rattle.dstree.specs.Book.{Answer, answering, refusing, done}
 use Rattle.tables.specs.Answers.{wordOf}
 use Rattle.opening.specs.declared.Opened.{Opened}
 use Rattle.opening.specs.declared.Opened.the-variants as o
 
 -- "Opening and sheet reading answer only that they succeeded"
 unfoldable pub answerOf : Opened → Answer
-answerOf o.Done = done
+answerOf o.Done = answering done
 answerOf (o.Refused why) = refusing (wordOf why)

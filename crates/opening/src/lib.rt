@@ -9,16 +9,24 @@ use tables::loops::zero_links;
 use tables::loops::zero_nodes;
 use tables::loops::zero_samples;
 use tables::loops::zero_work;
-use tables::records::RECORD_PLACES;
+use tables::places::CAPACITY;
+use tables::places::LEAF_SIZE;
+use tables::places::N;
+use tables::places::NODE_COUNT;
+use tables::places::RECORD_PLACES;
+use tables::places::TRACE_COUNT;
 ghost use mathlib.Core.Path.{_≡_};
-ghost use mathlib.Core.List.{_∷_};
+ghost use mathlib.Core.List.{[], _∷_};
 ghost use Prim.Native.Nat.{_≤_};
 ghost use lib.ListN.{length, drop};
 ghost use Rattle.dstree.specs.Measures.{measures};
+ghost use Rattle.dstree.specs.Book.{opening};
 ghost use Rattle.tables.specs.Layout.{controlFields};
 ghost use Rattle.tables.specs.Tables.{tables, lentOf};
-ghost use Rattle.tables.specs.Answers.{outcome, opened, openOf};
-ghost use Rattle.tables.proofs.Judged.{Accepted};
+ghost use Rattle.tables.specs.Answers.{opened};
+ghost use Rattle.tables.specs.Judge.{Accepted};
+ghost use Rattle.calls.specs.Outcome.{outcome};
+ghost use Rattle.calls.specs.Effects.{outcomeOn};
 ghost use Rattle.opening.specs.Opened.{answerOf};
 
 pub enum Opened {
@@ -31,11 +39,11 @@ fn write_control(control: &mut [u16], n: u16, capacity: u16, leaf_size: u16)
     requires { ⌜ controlFields ≤ length (now control) ⌝ }
     ensures { λ _. ⌜ now (control .exit) ≡ n ∷ capacity ∷ «leaf_size» ∷ 0 ∷ 0 ∷ drop controlFields (now (control .entry)) ⌝ }
 {
-    control[0] = n;
-    control[1] = capacity;
-    control[2] = leaf_size;
-    control[3] = 0;
-    control[4] = 0;
+    control[N] = n;
+    control[CAPACITY] = capacity;
+    control[LEAF_SIZE] = leaf_size;
+    control[TRACE_COUNT] = 0;
+    control[NODE_COUNT] = 0;
 }
 
 // The tables of an empty library with these measures, for tables that refuse nothing of them: the needed parts are zeroed, and the control record is
@@ -81,9 +89,9 @@ pub fn open(
 ) -> Opened
     ensures { λ r. ⌜ outcome (answerOf r)
         (tables (now (control .exit)) (now (samples .exit)) (now (nodes .exit)) (now (links .exit)) (now (work .exit)))
-        ≡ openOf
-        (tables (now (control .entry)) (now (samples .entry)) (now (nodes .entry)) (now (links .entry)) (now (work .entry)))
-        (measures n capacity «leaf_size») ⌝ }
+        []
+        ≡ outcomeOn (opening (measures n capacity «leaf_size»))
+        (tables (now (control .entry)) (now (samples .entry)) (now (nodes .entry)) (now (links .entry)) (now (work .entry))) ⌝ }
 {
     let verdict = judge_opening(
         control.len(),

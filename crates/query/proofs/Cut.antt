@@ -15,7 +15,7 @@ use Rattle.segment.proofs.Sums.{sum-append, squares-append}
 use Rattle.segment.proofs.Scatter.{scatter-law}
 use Rattle.segment.proofs.Limits.{within-take, within-drop, sum-limit, squares-limit, scatter-limit}
 use Rattle.dstree.specs.Figures.{run, width, samplesOn, sumOn, scatterOn}
-use Rattle.leaf_figures.specs.Runs.{Inside}
+use Rattle.tables.specs.Runs.{Inside}
 use Rattle.query.specs.Prefixes.{Prefixes}
 
 less-first : (a b : ℤ) → a +ℤ b -ℤ a ≡ b

@@ -1,5 +1,5 @@
 -- Every record of well-formed tables is bounded, so that whoever has tested the tables may ask for a node's bound.
-use mathlib.Core.Path.{_≡_, refl, ap, subst, _∙_}
+use mathlib.Core.Path.{_≡_, refl, subst, _∙_}
 use mathlib.Core.Logic.{_⊎_, inl, inr}
 use mathlib.Core.List.{List, [], _∷_, map}
 use Prim.Native.Nat.{ℕ, suc, _+_, _*_, _≤_, _<_}
@@ -7,17 +7,17 @@ use native.Mathlib.Omega.{arith}
 use lib.IntN.{ℤ}
 use lib.ListN.{length, length-map}
 use Rattle.integer.specs.Words.{counting}
-use Rattle.integer.proofs.Rows.{getD-table}
 use Rattle.integer.proofs.Times.{counting-length}
 use Rattle.segment.specs.Limits.{sumLimit, scatterLimit}
 use Rattle.dstree.specs.Measures.{sampleLimit}
-use Rattle.dstree.specs.Node.{Segment, Node, node, leaf, nodeAt, ends}
-use Rattle.dstree.proofs.Parted.{Parted, p-last, p-more, Fits}
+use Rattle.dstree.specs.Node.{Segment, ends}
+use Rattle.dstree.specs.Formed.{Parted, p-last, p-more, Fits}
 use Rattle.dstree.proofs.Formed as rules
 use Rattle.tables.specs.Layout.{recordPlaces, segmentsPlace}
 use Rattle.tables.specs.Tables.{Tables, measuresOf, traceCount, nodeCount, recordOf}
-use Rattle.tables.specs.View.{smallAt, segmentIn, segmentsIn, nodeIn, treeIn}
+use Rattle.tables.specs.View.{smallAt, segmentIn, segmentsIn, treeIn}
 use Rattle.tables.proofs.Frame.{record-length}
+use Rattle.tables.proofs.Views.{tree-segments, tree-inside}
 use Rattle.query.specs.Bounded.{Limited, AllLimited, l-none, l-more, Bounded}
 
 -- ---- ends that rise and whose last is n
@@ -63,29 +63,15 @@ pub bounded-of : (r : List ℤ) (n : ℕ) → length r ≡ recordPlaces → Fits
 unfolding segmentsIn
 bounded-of r n size f a =
     let count : length (ends (map (segmentIn r) (counting (smallAt r segmentsPlace) 0))) ≡ smallAt r segmentsPlace =
-    length-map (map (segmentIn r) (counting (smallAt r segmentsPlace) 0)) (λ (s : Segment). s .end) ∙ (length-map (counting (smallAt r segmentsPlace) 0) (segmentIn r) ∙ counting-length (smallAt r segmentsPlace) 0) in
+    length-map (map (segmentIn r) (counting (smallAt r segmentsPlace) 0)) (λ (s : Segment). s .end)
+    ∙ (length-map (counting (smallAt r segmentsPlace) 0) (segmentIn r) ∙ counting-length (smallAt r segmentsPlace) 0) in
     record { places = size; few = omega (arith, count, f .few); limited = all-limited-of n 1 (segmentsIn r) (f .parted) a }
 
 -- ---- node j of the tables
 
 module _ (t : Tables) (formed : rules.Formed sampleLimit (measuresOf t) (traceCount t) (treeIn t)) (j : ℕ) (h : j < nodeCount t) where
-  node-is : nodeAt (treeIn t) j ≡ nodeIn (t .links) (traceCount t) (recordOf (t .nodes) j)
-  unfolding treeIn
-  node-is =
-      let make : ℕ → Node = λ i. nodeIn (t .links) (traceCount t) (recordOf (t .nodes) i) in
-      let e : 0 + j ≡ j = omega arith in
-      getD-table make (nodeCount t) 0 j (node [] (leaf [])) h ∙ ap make e
-
-  segments-are : nodeAt (treeIn t) j .segments ≡ segmentsIn (recordOf (t .nodes) j)
-  unfolding nodeIn
-  segments-are = ap (λ (a : Node). a .segments) node-is
-
-  is-node : j < length (treeIn t)
-  unfolding treeIn
-  is-node = omega (arith, h, length-map (counting (nodeCount t) 0) (λ (i : ℕ). nodeIn (t .links) (traceCount t) (recordOf (t .nodes) i)), counting-length (nodeCount t) 0)
-
   pub bounded-at : j * recordPlaces + recordPlaces ≤ length (t .nodes) → Bounded (recordOf (t .nodes) j) (measuresOf t .n)
   bounded-at room =
       bounded-of (recordOf (t .nodes) j) (measuresOf t .n) (record-length (t .nodes) j room)
-      (subst (λ (l : List Segment). Fits (measuresOf t .n) (ends l)) segments-are (formed .fits j is-node))
-      (subst (rules.AllLimited sampleLimit 1) segments-are (formed .figures j is-node))
+      (subst (λ (l : List Segment). Fits (measuresOf t .n) (ends l)) (tree-segments t j h) (formed .shape .fits j (tree-inside t j h)))
+      (subst (rules.AllLimited sampleLimit 1) (tree-segments t j h) (formed .limits .figures j (tree-inside t j h)))

@@ -11,23 +11,19 @@ use Rattle.segment.specs.Terms.{sumGap, scatterGap, boundTerm}
 use Rattle.segment.proofs.Limits.{sum-gap-limit, scatter-gap-limit}
 use Rattle.dstree.specs.Measures.{Trace}
 use Rattle.dstree.specs.Figures.{run, width}
-use Rattle.dstree.specs.Node.{Segment, Kind, node, totalOver}
+use Rattle.dstree.specs.Node.{Segment, totalOver}
 use Rattle.dstree.specs.Matching.{boundOn, ownBound}
 use Rattle.tables.specs.Layout.{segmentsPlace, segmentAt}
 use Rattle.tables.specs.View.{smallAt, segmentIn, segmentsIn, nodeIn}
 use Rattle.query.specs.Bounded.{Limited, AllLimited, l-more, boundBy}
 
 -- the own bound of the node that a record stands for, whatever its kind
-pub own-bound-is : (query : Trace) (r : List ℤ) (kind : Kind) → ownBound query (node (segmentsIn r) kind) ≡ boundBy query r
-unfolding ownBound
-own-bound-is query r kind = refl
-
 pub own-bound-in : (query : Trace) (links : List ℕ) (count : ℕ) (r : List ℤ) → ownBound query (nodeIn links count r) ≡ boundBy query r
 unfolding ownBound nodeIn
 own-bound-in query links count r = refl
 
 -- ---- sizes
-pub term-size : (w g h : ℕ) → 0 < w → g ≤ w * 65536 → h ≤ w * 32768 → boundTerm w g h ≤ 2 ^ 33 * w
+term-size : (w g h : ℕ) → 0 < w → g ≤ w * 65536 → h ≤ w * 32768 → boundTerm w g h ≤ 2 ^ 33 * w
 unfolding boundTerm roundedUp
 term-size w g h p hg hh =
     let most : g * g + h * h + (w - 1) < (2 ^ 33 * w + 1) * w = omega (arith, mul-le-mul hg hg, mul-le-mul hh hh) in
@@ -78,10 +74,12 @@ module _ (r : List ℤ) (count i : ℕ) (h : i < count) where
     pub next-at : {n first : ℕ} → AllLimited n first (segmentsAfter r count i) → Next r n count first i last
     next-at {n} {first} l = subst (Next r n count first i) is-end (next-of (subst (AllLimited n first) after-more l))
 
-    pub bound-more : (query : Trace) (first : ℕ) → totalOver (boundOn query) first (segmentsAfter r count i) ≡ boundOn query (run first last) (segmentIn r i) + totalOver (boundOn query) (last + 1) (segmentsAfter r count (i + 1))
+    pub bound-more : (query : Trace) (first : ℕ) → totalOver (boundOn query) first (segmentsAfter r count i)
+        ≡ boundOn query (run first last) (segmentIn r i) + totalOver (boundOn query) (last + 1) (segmentsAfter r count (i + 1))
     unfolding totalOver
     bound-more query first =
-        subst (λ (x : ℕ). totalOver (boundOn query) first (segmentsAfter r count i) ≡ boundOn query (run first x) (segmentIn r i) + totalOver (boundOn query) (x + 1) (segmentsAfter r count (i + 1))) is-end
+        subst (λ (x : ℕ). totalOver (boundOn query) first (segmentsAfter r count i)
+        ≡ boundOn query (run first x) (segmentIn r i) + totalOver (boundOn query) (x + 1) (segmentsAfter r count (i + 1))) is-end
         (rw (after-more, add-one (segmentIn r i .end)))
 
 pub bound-end : (r : List ℤ) (count : ℕ) (query : Trace) (first i : ℕ) → count ≤ i → totalOver (boundOn query) first (segmentsAfter r count i) ≡ 0

@@ -44,7 +44,8 @@ module _ (query sums : List ℤ) (squares : List ℕ) (i : ℕ) (p : Passed quer
   squares-size = rw (p .squares-are i (omega arith)) (omega (arith, squares-limit 32768 (take i query) (p .within), length-take-le i query (p .inside)))
 
   -- one sample more
-  pub passed-more : length query ≤ 256 → i < length query → mag (getD query i (pos 0)) < 2 ^ 15 → (s : ℤ) (q : ℕ) → s ≡ getD sums i (pos 0) +ℤ getD query i (pos 0) → q ≡ getD squares i 0 + square (getD query i (pos 0))
+  pub passed-more : length query ≤ 256 → i < length query → mag (getD query i (pos 0)) < 2 ^ 15 → (s : ℤ) (q : ℕ)
+      → s ≡ getD sums i (pos 0) +ℤ getD query i (pos 0) → q ≡ getD squares i 0 + square (getD query i (pos 0))
       → Passed query (set sums (i + 1) s) (set squares (i + 1) q) (i + 1)
   passed-more few l m s q es eq =
       let e : s ≡ sum (take (i + 1) query) = es ∙ (ap (λ (z : ℤ). z +ℤ getD query i (pos 0)) (p .sums-are i (omega arith)) ∙ sym (sum-more query i l)) in

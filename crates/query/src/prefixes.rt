@@ -5,7 +5,7 @@ ghost use lib.IntN.{natAbs, _+ℤ_};
 ghost use lib.ListN.{length};
 ghost use Rattle.integer.specs.Words.{square};
 ghost use Rattle.dstree.specs.Figures.{run, width, sumOn, scatterOn};
-ghost use Rattle.leaf_figures.specs.Runs.{Inside};
+ghost use Rattle.tables.specs.Runs.{Inside};
 ghost use Rattle.query.specs.Prefixes.{Prefixes};
 
 // A sum and one sample more.

@@ -3,19 +3,18 @@ use mathlib.Core.Path.{_≡_, sym, ap, ap₂, _∙_}
 use mathlib.Core.Option.{Option}
 use mathlib.Core.List.{List, [], _∷_, _++_, map, foldl}
 use Prim.Native.Nat.{ℕ, _+_, _<_}
-use native.Mathlib.Omega.{arith}
 use lib.ListN.{length, getD, length-map}
 use Rattle.integer.proofs.Lists.{In, map-agree}
-use Rattle.integer.proofs.Rows.{getD-table}
 use Rattle.segment.specs.Figures.{distance}
 use Rattle.dstree.specs.Measures.{Trace}
-use Rattle.dstree.specs.Node.{Node, node, leaf, nodeAt}
+use Rattle.dstree.specs.Node.{nodeAt}
 use Rattle.dstree.specs.Matching.{Near, Search, bestWith, numbersIn, distancesIn, readLeaf}
 use Rattle.tables.specs.Layout.{kindPlace, firstPlace}
 use Rattle.tables.specs.Tables.{Tables, measuresOf, traceCount, nodeCount, recordOf}
-use Rattle.tables.specs.View.{smallAt, kindIn, nodeIn, treeIn, traceIn, tracesIn}
-use Rattle.leaf_figures.specs.Walk.{numbersOf, Stored}
-use Rattle.leaf_figures.proofs.Listed.{stored-at, numbers-below}
+use Rattle.tables.specs.View.{smallAt, treeIn, traceIn, tracesIn}
+use Rattle.tables.specs.Walk.{numbersOf, Stored}
+use Rattle.tables.proofs.Views.{tree-numbers, trace-at}
+use Rattle.tables.proofs.Listed.{numbers-below}
 use Rattle.reading.specs.Nearest.{near, bestOf, nearOf}
 use Rattle.reading.specs.declared.best.Best.{Best}
 use Rattle.reading.specs.declared.leaf.Read.{Read}
@@ -34,20 +33,11 @@ module _ (t : Tables) (j : ℕ) (a : LeafAt t j) where
   abbrev pub numbers : List ℕ
   numbers = numbersOf (t .links) (traceCount t) head
 
-  node-is : nodeAt (treeIn t) j ≡ nodeIn (t .links) (traceCount t) (recordOf (t .nodes) j)
-  unfolding treeIn
-  node-is =
-      let make : ℕ → Node = λ i. nodeIn (t .links) (traceCount t) (recordOf (t .nodes) i) in
-      let e : 0 + j ≡ j = omega arith in
-      getD-table make (nodeCount t) 0 j (node [] (leaf [])) (a .inside) ∙ ap make e
-
   numbers-are : numbersIn (nodeAt (treeIn t) j .kind) ≡ numbers
-  unfolding nodeIn numbersIn kindIn
-  numbers-are = ap (λ (x : Node). numbersIn (x .kind)) node-is ∙ (rw (a .is-leaf))
+  numbers-are = tree-numbers t j (a .inside) (a .is-leaf)
 
-  trace-at : (i : ℕ) → In i numbers → getD (tracesIn t) i [] ≡ traceIn (t .samples) (measuresOf t .n) i
-  unfolding tracesIn
-  trace-at i h = stored-at (t .samples) (measuresOf t .n) (traceCount t) i (numbers-below (t .links) (traceCount t) (a .stored .rising) head i (a .stored .inside) h)
+  met-at : (i : ℕ) → In i numbers → getD (tracesIn t) i [] ≡ traceIn (t .samples) (measuresOf t .n) i
+  met-at i h = trace-at t i (numbers-below (t .links) (traceCount t) (a .stored .rising) head i (a .stored .inside) h)
 
   module _ (query : Trace) where
     abbrev distances : List Near
@@ -57,7 +47,7 @@ module _ (t : Tables) (j : ℕ) (a : LeafAt t j) where
     unfolding distancesIn
     distances-are =
         let by : ℕ → Near = λ i. near i (distance query (getD (tracesIn t) i [])) in
-        ap (map by) numbers-are ∙ map-agree by (nearOf (t .samples) (measuresOf t .n) query) numbers (λ i h. ap (λ (x : Trace). near i (distance query x)) (trace-at i h))
+        ap (map by) numbers-are ∙ map-agree by (nearOf (t .samples) (measuresOf t .n) query) numbers (λ i h. ap (λ (x : Trace). near i (distance query x)) (met-at i h))
 
     -- what a reading adds to a search
     pub reading-is : (s : Search) → readLeaf (tracesIn t) (treeIn t) query s j ≡ record { best = foldl bestWith (s .best) distances; traces = s .traces + length numbers; trail = s .trail ++ (j ∷ []) }
@@ -69,4 +59,7 @@ module _ (t : Tables) (j : ℕ) (a : LeafAt t j) where
     -- so that an answer of `read_leaf` is the search after the leaf
     pub answer-is : (s : Search) (best : Best) (r : Read) → bestOf best ≡ s .best → bestOf (r .best) ≡ foldl bestWith (bestOf best) distances → r .traces ≡ length numbers
         → readLeaf (tracesIn t) (treeIn t) query s j ≡ record { best = bestOf (r .best); traces = s .traces + r .traces; trail = s .trail ++ (j ∷ []) }
-    answer-is s best r e f g = reading-is s ∙ ap₂ (λ (b : Option Near) (m : ℕ). record { best = b; traces = s .traces + m; trail = s .trail ++ (j ∷ []) }) (sym (f ∙ ap (λ (b : Option Near). foldl bestWith b distances) e)) (sym g)
+    answer-is s best r e f g =
+        reading-is s
+        ∙ ap₂ (λ (b : Option Near) (m : ℕ). record { best = b; traces = s .traces + m; trail = s .trail ++ (j ∷ []) })
+        (sym (f ∙ ap (λ (b : Option Near). foldl bestWith b distances) e)) (sym g)

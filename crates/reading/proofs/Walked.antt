@@ -9,8 +9,8 @@ use lib.IntN.{ℤ}
 use lib.ListN.{length}
 use Rattle.dstree.specs.Measures.{Trace}
 use Rattle.dstree.specs.Matching.{Near, bestWith}
-use Rattle.leaf_figures.specs.Walk.{Rising, behindOf, Stored}
-use Rattle.leaf_figures.proofs.Listed.{metFrom, met-more, met-end}
+use Rattle.tables.specs.Walk.{Rising, behindOf, Stored}
+use Rattle.tables.proofs.Listed.{metFrom, met-more, met-end}
 use Rattle.reading.specs.Nearest.{nearOf}
 
 module _ (samples : List ℤ) (n : ℕ) (query : Trace) (links : List ℕ) (k : ℕ) where

@@ -6,7 +6,7 @@ ghost use lib.ListN.{length};
 ghost use Rattle.segment.specs.Figures as figure;
 ghost use Rattle.dstree.specs.Matching.{bestWith};
 ghost use Rattle.tables.specs.View.{traceIn};
-ghost use Rattle.leaf_figures.specs.Walk.{numbersOf, Stored};
+ghost use Rattle.tables.specs.Walk.{numbersOf, Stored};
 ghost use Rattle.reading.specs.Nearest.{bestOf, nearOf};
 
 // The distance of stored trace t to the query. Trace t lies at t * n.
@@ -47,7 +47,7 @@ pub fn read_leaf(
     while t < k {
         nearest = crate::best::with_trace(nearest, t as u64, trace_distance(samples, n, t, query));
         traces += 1;
-        t = leaf_figures::walk::behind(links, k, t);
+        t = tables::walk::behind(links, k, t);
     }
     Read {
         best: nearest,

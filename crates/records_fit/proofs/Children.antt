@@ -1,11 +1,10 @@
 -- A node's record and its children's: what records that fit say of them, and that a child's ends include its parent's.
-use Prim.Native.Nat.{ℕ, _+_, _*_, _-_, _≤_, _<_}
+use Prim.Native.Nat.{ℕ, _≤_, _<_}
 use mathlib.Core.Path.{_≡_, refl, sym, _∙_}
 use mathlib.Core.Bool.{Bool, true, false, _&&_}
 use mathlib.Core.List.{List, [], _∷_}
 use native.Mathlib.Omega.{arith}
 use lib.IntN.{ℤ}
-use lib.ListN.{take, drop}
 use lib.Dec.{T, leb, ltb, leb→le, ltb→lt}
 use mir.Facts.{and-yes}
 use Rattle.integer.specs.Words.{every}
@@ -13,7 +12,7 @@ use Rattle.integer.proofs.Lists.{first, later, from-every}
 use Rattle.integer.proofs.Tests.{is-true, passed}
 use Rattle.dstree.specs.Measures.{sampleLimit}
 use Rattle.dstree.specs.WellFormed.{childrenOf, testFits}
-use Rattle.tables.specs.Layout.{kindPlace, firstPlace, rightPlace, segmentsPlace, recordPlaces}
+use Rattle.tables.specs.Layout.{kindPlace, firstPlace, rightPlace, segmentsPlace}
 use Rattle.tables.specs.Tables.{recordOf}
 use Rattle.tables.specs.View.{smallAt, segmentsIn, kindIn}
 use Rattle.records_fit.specs.Fits.{kindAlone, childFits, headFits, segmentsHold, recordFits, endsIn, keptAt, recordsFit}
@@ -21,13 +20,6 @@ use Rattle.records_fit.proofs.Limits.{passing}
 use Rattle.records_fit.proofs.Segments.{hold-few}
 use Rattle.records_fit.proofs.Heads.{kind-inner}
 use Rattle.records_fit.proofs.Loops.{each-passes}
-
--- ---- a part of the table is a record
-
-module _ (nodes : List ℤ) (j : ℕ) where
-  pub part-is : take ((j * recordPlaces + recordPlaces) - j * recordPlaces) (drop (j * recordPlaces) nodes) ≡ recordOf nodes j
-  unfolding recordOf
-  part-is = let w : (j * recordPlaces + recordPlaces) - j * recordPlaces ≡ recordPlaces = omega arith in rw w
 
 -- ---- one record that fits
 

@@ -92,7 +92,9 @@ module _ (n first last : ℕ) (figure : Figure) (threshold : ℤ) (left right : 
       test-threshold h = rw (le-leb 1 first f, le-leb first last g, le-leb last n h, add-one last)
 
 -- the fields that were read are the test's
-pub test-is : (n : ℕ) (r : List ℤ) {kind first last : ℕ} {threshold : ℤ} → kind ≡ smallAt r kindPlace → first ≡ smallAt r runFirstPlace → last ≡ smallAt r runLastPlace → threshold ≡ placeOf r thresholdPlace
-    → testFits sampleLimit n (inner (record { on = run first last; figure = figureNamed kind; threshold = threshold }) (smallAt r firstPlace) (smallAt r rightPlace)) ≡ testFits sampleLimit n (innerNamed r (smallAt r kindPlace))
+pub test-is : (n : ℕ) (r : List ℤ) {kind first last : ℕ} {threshold : ℤ} → kind ≡ smallAt r kindPlace → first ≡ smallAt r runFirstPlace
+    → last ≡ smallAt r runLastPlace → threshold ≡ placeOf r thresholdPlace
+    → testFits sampleLimit n (inner (record { on = run first last; figure = figureNamed kind; threshold = threshold })
+    (smallAt r firstPlace) (smallAt r rightPlace)) ≡ testFits sampleLimit n (innerNamed r (smallAt r kindPlace))
 unfolding testIn
 test-is n r e f g h = rw (e, f, g, h)

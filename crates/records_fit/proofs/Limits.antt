@@ -106,14 +106,6 @@ scatter-threshold w t h = scatter-is (2 * (w * w * 1073741824)) t h
 
 -- ---- what the code's tests of a sign tell
 
-pub scatter-below : (z : ℤ) → ltZ z (pos 0) ≡ true → _≡_ {A = ℕ} (2 ^ 63) (scatterIn z)
-scatter-below (pos n) e = let h = ltb-true n 0 e in absurd (omega arith)
-scatter-below (negsuc n) e = refl
-
-pub scatter-above : (z : ℤ) → ltZ z (pos 0) ≡ false → natAbs z ≡ scatterIn z
-scatter-above (pos n) e = refl
-scatter-above (negsuc n) e = clash e
-
 pub not-negative : (z : ℤ) → ltZ z (pos 0) ≡ false → T (nonNeg z)
 not-negative (pos n) e = tt
 not-negative (negsuc n) e = clash e

@@ -49,7 +49,13 @@ end-most r i = small-most (placeOf r (segmentAt i))
 
 -- the figures that were read are the segment's
 pub figures-are : (w : ℕ) (r : List ℤ) (i : ℕ) {a b p q : ℤ} → a ≡ placeOf r (segmentAt i + 1) → b ≡ placeOf r (segmentAt i + 2) → p ≡ placeOf r (segmentAt i + 3) → q ≡ placeOf r (segmentAt i + 4)
-    → segmentFits sampleLimit w (record { end = smallAt r (segmentAt i); leastSum = a; greatestSum = b; leastScatter = scatterIn p; greatestScatter = scatterIn q }) ≡ segmentFits sampleLimit w (segmentIn r i)
+    → segmentFits sampleLimit w (record {
+      end = smallAt r (segmentAt i);
+      leastSum = a;
+      greatestSum = b;
+      leastScatter = scatterIn p;
+      greatestScatter = scatterIn q;
+    }) ≡ segmentFits sampleLimit w (segmentIn r i)
 unfolding segmentIn
 figures-are w r i e f g h = rw (e, f, g, h)
 
@@ -125,7 +131,8 @@ rest-is : (n before : ℕ) (l : List Segment) → (rising (before ∷ ends l) &&
 unfolding rising segmentsFit restHolds
 rest-is n before [] = and-yes (eqb before n)
 rest-is n before (s ∷ rest) =
-    sorted (ltb before (s .end)) (rising (s .end ∷ ends rest)) (eqb (foldl (λ x y. y) (s .end) (ends rest)) n) (segmentFits sampleLimit (width (run (suc before) (s .end))) s) (segmentsFit sampleLimit (suc (s .end)) rest)
+    sorted (ltb before (s .end)) (rising (s .end ∷ ends rest)) (eqb (foldl (λ x y. y) (s .end) (ends rest)) n)
+    (segmentFits sampleLimit (width (run (suc before) (s .end))) s) (segmentsFit sampleLimit (suc (s .end)) rest)
     ∙ ap (λ (b : Bool). (ltb before (s .end) && segmentFits sampleLimit (width (run (suc before) (s .end))) s) && b) (rest-is n (s .end) rest)
 
 -- as many ends as segments

@@ -1,5 +1,6 @@
 // The limits of a segment's figures and of a test's threshold, on plain numbers.
 
+use tables::records::scatter;
 ghost use mathlib.Core.Path.{_≡_};
 ghost use Prim.Native.Nat.{ℕ, _≤_};
 ghost use lib.IntN.{natAbs};
@@ -18,16 +19,6 @@ fn size(v: i64) -> u64
     v as u64
 }
 
-// A field that holds a scatter. Below zero it reads as 2^63, which is above every limit.
-fn scatter(v: i64) -> u64
-    ensures { λ r. ⌜ r ≡ scatterIn v ⌝ }
-{
-    if v < 0 {
-        return 9223372036854775808;
-    }
-    v as u64
-}
-
 // The figures of a segment of w samples: least at most greatest, sums up to w × 32,768 either side of 0, scatters up to w² × 2^30.
 pub fn figures_fit(
     w: u64,
@@ -37,7 +28,13 @@ pub fn figures_fit(
     greatest_scatter: i64,
 ) -> bool
     requires { ⌜ w ≤ 65536 ⌝ }
-    ensures { λ r. ⌜ ((end : ℕ) → r ≡ segmentFits sampleLimit w (record { end = end; leastSum = «least_sum»; greatestSum = «greatest_sum»; leastScatter = scatterIn «least_scatter»; greatestScatter = scatterIn «greatest_scatter» })) ⌝ }
+    ensures { λ r. ⌜ ((end : ℕ) → r ≡ segmentFits sampleLimit w (record {
+      end = end;
+      leastSum = «least_sum»;
+      greatestSum = «greatest_sum»;
+      leastScatter = scatterIn «least_scatter»;
+      greatestScatter = scatterIn «greatest_scatter»;
+    })) ⌝ }
 {
     if greatest_sum < least_sum {
         return false;

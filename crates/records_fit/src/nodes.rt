@@ -1,10 +1,10 @@
-// The rules on the records in use. Where node j's record lies, only these functions know.
+// The rules on the records in use.
 
-use crate::places::FIRST;
-use crate::places::KIND;
-use crate::places::RIGHT;
-use tables::records::RECORD_PLACES;
+use tables::places::FIRST;
+use tables::places::KIND;
+use tables::places::RIGHT;
 use tables::records::node_small;
+use tables::records::record_at;
 ghost use mathlib.Core.Path.{_≡_};
 ghost use Prim.Native.Nat.{_+_, _*_, _≤_, _<_};
 ghost use lib.ListN.{length};
@@ -17,9 +17,7 @@ fn node_fits(nodes: &[i64], j: usize, m: usize, n: usize) -> bool
     requires { ⌜ (j * recordPlaces + recordPlaces ≤ length (now nodes)) × (j ≤ 8191) × (n ≤ 256) ⌝ }
     ensures { λ r. ⌜ r ≡ recordFits n m j (recordOf (now (nodes .entry)) j) ⌝ }
 {
-    let a = j * RECORD_PLACES;
-    let e = a + RECORD_PLACES;
-    crate::records::record_fits(&nodes[a..e], j, m, n)
+    crate::records::record_fits(record_at(nodes, j), j, m, n)
 }
 
 // Every record in use fits by itself.
@@ -38,14 +36,11 @@ pub fn records_fit(nodes: &[i64], m: usize, n: usize) -> bool
 }
 
 fn kept(nodes: &[i64], child: usize, parent: usize) -> bool
-    requires { ⌜ (child * recordPlaces + recordPlaces ≤ length (now nodes)) × (child ≤ 8191) × (smallAt (recordOf (now nodes) child) segmentsPlace ≤ 16) × (parent * recordPlaces + recordPlaces ≤ length (now nodes)) × (parent ≤ 8191) × (smallAt (recordOf (now nodes) parent) segmentsPlace ≤ 16) ⌝ }
+    requires { ⌜ (child * recordPlaces + recordPlaces ≤ length (now nodes)) × (child ≤ 8191) × (smallAt (recordOf (now nodes) child) segmentsPlace ≤ 16)
+        × (parent * recordPlaces + recordPlaces ≤ length (now nodes)) × (parent ≤ 8191) × (smallAt (recordOf (now nodes) parent) segmentsPlace ≤ 16) ⌝ }
     ensures { λ r. ⌜ r ≡ endsIn (segmentsIn (recordOf (now (nodes .entry)) child)) (segmentsIn (recordOf (now (nodes .entry)) parent)) ⌝ }
 {
-    let a = child * RECORD_PLACES;
-    let b = a + RECORD_PLACES;
-    let x = parent * RECORD_PLACES;
-    let y = x + RECORD_PLACES;
-    crate::records::ends_kept(&nodes[a..b], &nodes[x..y])
+    crate::records::ends_kept(record_at(nodes, child), record_at(nodes, parent))
 }
 
 // Both children of node j keep its ends, if it is an inner node.

@@ -1,14 +1,18 @@
-// The rules on one record, which is 87 places.
+// The rules on one record.
 
-use crate::places::FIRST;
-use crate::places::HEAD;
-use crate::places::KIND;
-use crate::places::RIGHT;
-use crate::places::RUN_FIRST;
-use crate::places::RUN_LAST;
-use crate::places::SEGMENT;
-use crate::places::SEGMENTS;
-use crate::places::THRESHOLD;
+use tables::places::FIRST;
+use tables::places::GREATEST_SCATTER;
+use tables::places::GREATEST_SUM;
+use tables::places::HEAD;
+use tables::places::KIND;
+use tables::places::LEAST_SCATTER;
+use tables::places::LEAST_SUM;
+use tables::places::RIGHT;
+use tables::places::RUN_FIRST;
+use tables::places::RUN_LAST;
+use tables::places::SEGMENT;
+use tables::places::SEGMENTS;
+use tables::places::THRESHOLD;
 use tables::records::small_at;
 use tables::records::value_at;
 ghost use mathlib.Core.Path.{_≡_};
@@ -39,10 +43,10 @@ fn segment_fits(places: &[i64], i: usize, w: u64) -> bool
     ensures { λ r. ⌜ r ≡ segmentFits sampleLimit w (segmentIn (now (places .entry)) i) ⌝ }
 {
     let at = HEAD + i * SEGMENT;
-    let least_sum = value_at(places, at + 1);
-    let greatest_sum = value_at(places, at + 2);
-    let least_scatter = value_at(places, at + 3);
-    let greatest_scatter = value_at(places, at + 4);
+    let least_sum = value_at(places, at + LEAST_SUM);
+    let greatest_sum = value_at(places, at + GREATEST_SUM);
+    let least_scatter = value_at(places, at + LEAST_SCATTER);
+    let greatest_scatter = value_at(places, at + GREATEST_SCATTER);
     crate::figures::figures_fit(w, least_sum, greatest_sum, least_scatter, greatest_scatter)
 }
 
@@ -96,7 +100,8 @@ fn child_fits(m: usize, j: usize, child: usize) -> bool
 // A test: its run lies inside 1 to n, and its threshold within the limits.
 fn test_fits(kind: usize, first: usize, last: usize, threshold: i64, n: usize) -> bool
     requires { ⌜ n ≤ 256 ⌝ }
-    ensures { λ r. ⌜ ((left right : ℕ) → r ≡ testFits sampleLimit n (inner (record { on = run first last; figure = figureNamed kind; threshold = threshold }) left right)) ⌝ }
+    ensures { λ r. ⌜ ((left right : ℕ) →
+        r ≡ testFits sampleLimit n (inner (record { on = run first last; figure = figureNamed kind; threshold = threshold }) left right)) ⌝ }
 {
     if first < 1 {
         return false;
@@ -178,7 +183,8 @@ fn ends_in(child: &[i64], count: usize, parent: &[i64], many: usize) -> bool
 
 // A child's ends include its parent's. Both have at most 16.
 pub fn ends_kept(child: &[i64], parent: &[i64]) -> bool
-    requires { ⌜ (length (now child) ≡ recordPlaces) × (smallAt (now child) segmentsPlace ≤ 16) × (length (now parent) ≡ recordPlaces) × (smallAt (now parent) segmentsPlace ≤ 16) ⌝ }
+    requires { ⌜ (length (now child) ≡ recordPlaces) × (smallAt (now child) segmentsPlace ≤ 16)
+        × (length (now parent) ≡ recordPlaces) × (smallAt (now parent) segmentsPlace ≤ 16) ⌝ }
     ensures { λ r. ⌜ r ≡ endsIn (segmentsIn (now (child .entry))) (segmentsIn (now (parent .entry))) ⌝ }
 {
     let count = small_at(child, SEGMENTS);

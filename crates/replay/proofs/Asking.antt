@@ -1,6 +1,7 @@
--- The call that a script asks for, and what is known of it: it is lent no more than there is, and its arguments are what the slices' types say.
+-- The call that a row asks for, and what is known of it: it is lent no more than there is, and its arguments are what the slices' types say.
 use Prim.Native.Nat.{ℕ, suc, _+_, _≤_, _<_, _^_}
 use native.Mathlib.Numerals.{add-one}
+use native.Mathlib.Omega.{arith}
 use mathlib.Core.Path.{_≡_, refl, sym, ap, subst, _∙_}
 use mathlib.Core.Bool.{Bool, true, false, _&&_}
 use mathlib.Core.Option.{Option, none, some}
@@ -10,26 +11,27 @@ use lib.ListN.{length, getD, take, drop}
 use lib.Seq.{take-suc, take-all}
 use lib.Signed.{mag}
 use lib.Dec.{T, leb, ltb, eqb, leb→le}
-use borrow.Author.Tests.{lt-ltb, eq-eqb, ne-eqb}
+use borrow.Author.Tests.{lt-ltb, ne-eqb}
 use Rattle.integer.specs.Words.{if_then_else_, every}
 use Rattle.integer.proofs.Tests.{passed, is-true}
-use Rattle.integer.proofs.Lists.{All, all-none, all-more, all-append, all-take, all-drop, every-all, all-every}
+use Rattle.integer.specs.Lists.{All, all-none, all-more}
+use Rattle.integer.proofs.Lists.{all-append, all-take, all-drop, every-all, all-every}
 use Rattle.dstree.specs.Measures.{sampleLimit}
 use Rattle.dstree.specs.Sheet.{areBytes}
-use Rattle.dstree.specs.Book.{Lent}
+use Rattle.dstree.specs.Book.{Lent, Ask, Call}
 use Rattle.tables.specs.Tables.{lentOf}
-use Rattle.tables.proofs.Beginning.{Within}
-use Rattle.demands.specs.Library.{areSamples}
-use Rattle.demands.specs.Requests.{Request, opening, adding, matching, writing, reading, lentIn, Typed}
-use Rattle.replay.specs.declared.Op.{Op}
-use Rattle.replay.specs.Script.{State, lentBy, fitsIn, openingBy, addingBy, matchingBy, writingBy, readingBy, requestOf, asks, stateAfter}
+use Rattle.tables.specs.Beginning.{Within}
+use Rattle.calls.specs.Follows.{areSamples, Typed}
+use Rattle.replay.specs.Script.{State, numberAt, ownNumber, lentBy, fitsIn, openingBy, addingBy, matchingBy, writingBy, readingBy, askOf, asks}
+use Rattle.replay.specs.Script.{samplesOf, sheetOf, stateAfter}
 
 -- ---- which call
 
 pub fits-within : (lent lengths : Lent) → fitsIn lent lengths ≡ true → Within lent lengths
 unfolding fitsIn
 fits-within lent lengths e =
-    let p = passed (leb (lent .control) (lengths .control)) (leb (lent .samples) (lengths .samples) ∷ leb (lent .nodes) (lengths .nodes) ∷ leb (lent .links) (lengths .links) ∷ leb (lent .work) (lengths .work) ∷ []) (is-true e) in
+    let p = passed (leb (lent .control) (lengths .control)) (leb (lent .samples) (lengths .samples) ∷ leb (lent .nodes) (lengths .nodes)
+    ∷ leb (lent .links) (lengths .links) ∷ leb (lent .work) (lengths .work) ∷ []) (is-true e) in
     record {
       control-within = leb→le (lent .control) (lengths .control) (p .0);
       samples-within = leb→le (lent .samples) (lengths .samples) (p .1 .0);
@@ -38,38 +40,45 @@ fits-within lent lengths e =
       work-within = leb→le (lent .work) (lengths .work) (p .1 .1 .1 .1);
     }
 
-pub asks-not : (lengths : Lent) (op : Op) (s : State) → fitsIn (lentBy op) lengths ≡ false → asks lengths op s ≡ none
+pub asks-not : (lengths : Lent) (row : List ℕ) (s : State) → fitsIn (lentBy row) lengths ≡ false → asks lengths row s ≡ none
 unfolding asks
-asks-not lengths op s e = simp e
+asks-not lengths row s e = simp e
 
-module _ (lengths : Lent) (op : Op) (s : State) (e : fitsIn (lentBy op) lengths ≡ true) where
-  pub asks-opening : op .kind ≡ 0 → asks lengths op s ≡ some (openingBy op)
-  unfolding asks requestOf
-  asks-opening k = simp (e, eq-eqb (op .kind) 0 k)
+pub asks-it : (lengths : Lent) (row : List ℕ) (s : State) → fitsIn (lentBy row) lengths ≡ true → asks lengths row s ≡ askOf row s
+unfolding asks
+asks-it lengths row s e = simp e
 
-  module _ (no-opening : op .kind ≡ 0 → ⊥) where
-    pub asks-adding : op .kind ≡ 1 → asks lengths op s ≡ addingBy op s
-    unfolding asks requestOf
-    asks-adding k = simp (e, ne-eqb (op .kind) 0 no-opening, eq-eqb (op .kind) 1 k)
+module _ (row : List ℕ) (s : State) where
+  pub asks-opening : numberAt row 0 ≡ 0 → askOf row s ≡ some (openingBy row)
+  unfolding askOf
+  asks-opening k = rw k refl
 
-    module _ (no-adding : op .kind ≡ 1 → ⊥) where
-      pub asks-matching : op .kind ≡ 2 → asks lengths op s ≡ matchingBy op s
-      unfolding asks requestOf
-      asks-matching k = simp (e, ne-eqb (op .kind) 0 no-opening, ne-eqb (op .kind) 1 no-adding, eq-eqb (op .kind) 2 k)
+  pub asks-adding : numberAt row 0 ≡ 1 → askOf row s ≡ addingBy row s
+  unfolding askOf
+  asks-adding k = rw k refl
 
-      module _ (no-match : op .kind ≡ 2 → ⊥) where
-        pub asks-writing : op .kind ≡ 3 → asks lengths op s ≡ writingBy op s
-        unfolding asks requestOf
-        asks-writing k = simp (e, ne-eqb (op .kind) 0 no-opening, ne-eqb (op .kind) 1 no-adding, ne-eqb (op .kind) 2 no-match, eq-eqb (op .kind) 3 k)
+  pub asks-matching : numberAt row 0 ≡ 2 → askOf row s ≡ matchingBy row s
+  unfolding askOf
+  asks-matching k = rw k refl
 
-        module _ (no-writing : op .kind ≡ 3 → ⊥) where
-          pub asks-reading : op .kind ≡ 4 → asks lengths op s ≡ readingBy op s
-          unfolding asks requestOf
-          asks-reading k = simp (e, ne-eqb (op .kind) 0 no-opening, ne-eqb (op .kind) 1 no-adding, ne-eqb (op .kind) 2 no-match, ne-eqb (op .kind) 3 no-writing, eq-eqb (op .kind) 4 k)
+  pub asks-writing : numberAt row 0 ≡ 3 → askOf row s ≡ writingBy row s
+  unfolding askOf
+  asks-writing k = rw k refl
 
-          pub asks-nothing : (op .kind ≡ 4 → ⊥) → asks lengths op s ≡ none
-          unfolding asks requestOf
-          asks-nothing k = simp (e, ne-eqb (op .kind) 0 no-opening, ne-eqb (op .kind) 1 no-adding, ne-eqb (op .kind) 2 no-match, ne-eqb (op .kind) 3 no-writing, ne-eqb (op .kind) 4 k)
+  pub asks-reading : numberAt row 0 ≡ 4 → askOf row s ≡ readingBy row s
+  unfolding askOf
+  asks-reading k = rw k refl
+
+  pub asks-nothing : (numberAt row 0 ≡ 0 → ⊥) → (numberAt row 0 ≡ 1 → ⊥) → (numberAt row 0 ≡ 2 → ⊥) → (numberAt row 0 ≡ 3 → ⊥) → (numberAt row 0 ≡ 4 → ⊥)
+      → askOf row s ≡ none
+  unfolding askOf
+  asks-nothing a b c d e = simp (
+    ne-eqb (numberAt row 0) 0 a,
+    ne-eqb (numberAt row 0) 1 b,
+    ne-eqb (numberAt row 0) 2 c,
+    ne-eqb (numberAt row 0) 3 d,
+    ne-eqb (numberAt row 0) 4 e,
+  )
 
 -- ---- what is known of it
 
@@ -79,18 +88,14 @@ pub record Sound (lengths : Lent) (s : State) : Type 0 where
   pub of-samples : T (areSamples (s .samples))
   pub of-bytes : T (areBytes (s .sheets .ahead))
 
-pub record Fair (lengths : Lent) (q : Request) : Type 0 where
-  pub within : Within (lentIn q) lengths
-  pub typed : Typed q
-
 -- of the call that is asked for, if any
-FairIf : Lent → Option Request → Type 0
-FairIf lengths none = Unit
-FairIf lengths (some q) = Fair lengths q
+TypedIf : Option Ask → Type 0
+TypedIf none = Unit
+TypedIf (some ask) = Typed ask
 
-fair-by : (lengths : Lent) (test : Bool) (yes′ no′ : Option Request) → (test ≡ true → FairIf lengths yes′) → FairIf lengths no′ → FairIf lengths (if test then yes′ else no′)
-fair-by lengths true yes′ no′ f g = f refl
-fair-by lengths false yes′ no′ f g = g
+typed-by : (test : Bool) (yes′ no′ : Option Ask) → (test ≡ true → TypedIf yes′) → TypedIf no′ → TypedIf (if test then yes′ else no′)
+typed-by true yes′ no′ f g = f refl
+typed-by false yes′ no′ f g = g
 
 module _ {A : Type 0} (passes : A → Bool) (k : ℕ) (l : List A) (t : T (every passes l)) where
   every-take : T (every passes (take k l))
@@ -105,33 +110,45 @@ isSample sample = ltb (mag sample) sampleLimit
 abbrev pub isByte : ℕ → Bool
 isByte byte = ltb byte 256
 
-module _ (lengths : Lent) (op : Op) (s : State) (sound : Sound lengths s) (w : Within (lentBy op) lengths) where
-  fair-request : FairIf lengths (requestOf op s)
-  unfolding requestOf addingBy matchingBy writingBy readingBy FairIf lentIn Typed areBytes
-  fair-request =
-      fair-by lengths (eqb (op .kind) 0) _ _ (λ _. record { within = w; typed = tt })
-      (fair-by lengths (eqb (op .kind) 1) _ _ (λ _. fair-by lengths (leb (op .first) (length (s .samples))) _ _ (λ _. record { within = w; typed = every-take isSample (op .first) (s .samples) (sound .of-samples) }) tt)
-      (fair-by lengths (eqb (op .kind) 2) _ _ (λ _. fair-by lengths (leb (op .first) (length (s .samples)) && leb (op .second) (length (s .trails .ahead))) _ _ (λ _. record { within = w; typed = tt }) tt)
-      (fair-by lengths (eqb (op .kind) 3) _ _ (λ _. fair-by lengths (leb (op .first) (length (s .sheets .ahead))) _ _ (λ _. record { within = w; typed = tt }) tt)
-      (fair-by lengths (eqb (op .kind) 4) _ _ (λ _. fair-by lengths (leb (op .first) (length (s .sheets .ahead))) _ _ (λ _. record { within = w; typed = every-take isByte (op .first) (s .sheets .ahead) (sound .of-bytes) }) tt)
+module _ (lengths : Lent) (row : List ℕ) (s : State) (sound : Sound lengths s) where
+  typed-ask : TypedIf (askOf row s)
+  unfolding askOf addingBy matchingBy writingBy readingBy TypedIf Typed areBytes
+  typed-ask =
+      typed-by (eqb (numberAt row 0) 0) _ _ (λ _. tt)
+      (typed-by (eqb (numberAt row 0) 1) _ _
+      (λ _. typed-by (leb (ownNumber row 0) (length (s .samples))) _ _ (λ _. every-take isSample (ownNumber row 0) (s .samples) (sound .of-samples)) tt)
+      (typed-by (eqb (numberAt row 0) 2) _ _
+      (λ _. typed-by (leb (ownNumber row 0) (length (s .samples)) && leb (ownNumber row 1) (length (s .trails .ahead))) _ _ (λ _. tt) tt)
+      (typed-by (eqb (numberAt row 0) 3) _ _ (λ _. typed-by (leb (ownNumber row 0) (length (s .sheets .ahead))) _ _ (λ _. tt) tt)
+      (typed-by (eqb (numberAt row 0) 4) _ _
+      (λ _. typed-by (leb (ownNumber row 0) (length (s .sheets .ahead))) _ _ (λ _. every-take isByte (ownNumber row 0) (s .sheets .ahead) (sound .of-bytes)) tt)
       tt))))
 
-fair-asks : (lengths : Lent) (op : Op) (s : State) → Sound lengths s → FairIf lengths (asks lengths op s)
-unfolding asks FairIf
-fair-asks lengths op s sound = fair-by lengths (fitsIn (lentBy op) lengths) (requestOf op s) none (λ e. fair-request lengths op s sound (fits-within (lentBy op) lengths e)) tt
+  typed-asks : TypedIf (asks lengths row s)
+  unfolding asks TypedIf
+  typed-asks = typed-by (fitsIn (lentBy row) lengths) (askOf row s) none (λ _. typed-ask) tt
 
-pub asked-fair : (lengths : Lent) (op : Op) (s : State) → Sound lengths s → (q : Request) → asks lengths op s ≡ some q → Fair lengths q
-unfolding FairIf
-asked-fair lengths op s sound q e = subst (FairIf lengths) e (fair-asks lengths op s sound)
+  pub asked-typed : (ask : Ask) → asks lengths row s ≡ some ask → Typed ask
+  unfolding TypedIf
+  asked-typed ask e = subst TypedIf e typed-asks
+
+-- a call is asked for only where it is lent no more than there is
+pub asked-within : (lengths : Lent) (row : List ℕ) (s : State) (ask : Ask) → asks lengths row s ≡ some ask → Within (lentBy row) lengths
+unfolding asks
+asked-within lengths row s ask e = by (fitsIn (lentBy row) lengths) refl e
+  where
+    by : (b : Bool) → fitsIn (lentBy row) lengths ≡ b → (if b then askOf row s else none) ≡ some ask → Within (lentBy row) lengths
+    by true f g = fits-within (lentBy row) lengths f
+    by false f g = let z : _≡_ {A = ℕ} 0 1 = cc in absurd (omega arith)
 
 -- a call takes from what is ahead
-pub sound-after : (lengths : Lent) (s : State) → Sound lengths s → (q : Request) → lentOf (stateAfter q s .memory) ≡ lengths → Sound lengths (stateAfter q s)
+pub sound-after : (lengths : Lent) (s : State) → Sound lengths s → (c : Call) → lentOf (stateAfter c s .memory) ≡ lengths → Sound lengths (stateAfter c s)
 unfolding stateAfter areBytes
-sound-after lengths s sound (opening lent m) e = record { as-long = e; of-samples = sound .of-samples; of-bytes = sound .of-bytes }
-sound-after lengths s sound (adding lent x) e = record { as-long = e; of-samples = every-drop isSample (length x) (s .samples) (sound .of-samples); of-bytes = sound .of-bytes }
-sound-after lengths s sound (matching lent x trail) e = record { as-long = e; of-samples = every-drop isSample (length x) (s .samples) (sound .of-samples); of-bytes = sound .of-bytes }
-sound-after lengths s sound (writing lent sheet) e = record { as-long = e; of-samples = sound .of-samples; of-bytes = every-drop isByte (length sheet) (s .sheets .ahead) (sound .of-bytes) }
-sound-after lengths s sound (reading lent bytes) e = record { as-long = e; of-samples = sound .of-samples; of-bytes = every-drop isByte (length bytes) (s .sheets .ahead) (sound .of-bytes) }
+sound-after lengths s sound c e = record {
+  as-long = e;
+  of-samples = every-drop isSample (length (samplesOf (c .ask))) (s .samples) (sound .of-samples);
+  of-bytes = every-drop isByte (length (sheetOf (c .ask))) (s .sheets .ahead) (sound .of-bytes);
+}
 
 -- ---- the samples of a lent slice, looked at one by one
 

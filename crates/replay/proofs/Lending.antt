@@ -7,8 +7,8 @@ use lib.ListN.{length, take, drop, length-append, length-drop}
 use lib.Seq.{length-take-le, take-at, drop-at, take-add, drop-drop}
 use Rattle.dstree.specs.Book.{Lent}
 use Rattle.tables.specs.Tables.{Tables, tables, lentOf}
-use Rattle.tables.specs.Beginning.{over, left}
-use Rattle.tables.proofs.Beginning.{Within, tables-same}
+use Rattle.tables.specs.Beginning.{over, left, Within}
+use Rattle.tables.proofs.Beginning.{tables-same}
 use Rattle.replay.specs.Script.{supply, supplyAt}
 
 -- ---- the first places of each table
@@ -69,7 +69,8 @@ supply-moved from many l beside h m e =
     )
 
 -- what is taken to be read stays as it was
-pub supply-passed : (from many : ℕ) (l : List ℕ) → many ≤ length l - from → supplyAt (from + many) l ≡ supply (take from l ++ take many (drop from l)) (drop (length (take many (drop from l))) (drop from l))
+pub supply-passed : (from many : ℕ) (l : List ℕ) → many ≤ length l - from → supplyAt (from + many) l
+    ≡ supply (take from l ++ take many (drop from l)) (drop (length (take many (drop from l))) (drop from l))
 supply-passed from many l m = rw (take-add from many l, ahead-moved from many l m)
 
 pub still-inside : (from many all : ℕ) → from ≤ all → many ≤ all - from → from + many ≤ all

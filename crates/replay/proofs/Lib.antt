@@ -1,7 +1,6 @@
-pub mod Lending
-pub mod Turns
+pub mod ReadBack
 pub mod Asking
-pub mod Story
-pub mod Playing
+pub mod Lending
+pub mod Moves
+pub mod Played
 pub mod Scripts
-pub mod Theorem

@@ -1,4 +1,5 @@
 -- Scripts of calls, what a script asks for, what holds after it, and which lists of calls have one.
+pub mod Numbers
 pub mod Script
-pub mod Story
+pub mod Demanded
 pub mod Scripts

@@ -5,13 +5,12 @@ use mathlib.Core.List.{List}
 use lib.IntN.{ℤ}
 use lib.ListN.{length}
 use lib.Dec.{T}
-use Rattle.integer.proofs.Lists.{All}
+use Rattle.integer.specs.Lists.{All}
 use Rattle.dstree.specs.Sheet.{areBytes}
-use Rattle.dstree.specs.Book.{Lent}
+use Rattle.dstree.specs.Book.{Lent, Ask, opening, adding, matching, writing, reading, Call}
 use Rattle.tables.specs.Tables.{Tables}
-use Rattle.tables.proofs.Beginning.{Within}
-use Rattle.demands.specs.Library.{areSamples}
-use Rattle.demands.specs.Requests.{Request, opening, adding, matching, writing, reading, lentIn}
+use Rattle.tables.specs.Beginning.{Within}
+use Rattle.calls.specs.Follows.{areSamples}
 use Rattle.replay.specs.Script.{played}
 
 -- numbers that a slice of 64-bit, or of 16-bit, numbers without sign holds
@@ -22,17 +21,17 @@ abbrev pub Mark : ℕ → Type 0
 Mark x = x < 2 ^ 16
 
 -- what the types of arguments say: measures and lengths have 64 bits, samples and places of a trail 16, bytes 8
-unfoldable pub Sized : Request → Type 0
-Sized (opening lent m) = Word (m .n) × Word (m .capacity) × Word (m .leafSize)
-Sized (adding lent x) = T (areSamples x) × Word (length x)
-Sized (matching lent x trail) = T (areSamples x) × Word (length x) × All Mark trail × Word (length trail)
-Sized (writing lent sheet) = T (areBytes sheet) × Word (length sheet)
-Sized (reading lent bytes) = T (areBytes bytes) × Word (length bytes)
+unfoldable pub Sized : Ask → Type 0
+Sized (opening m) = Word (m .n) × Word (m .capacity) × Word (m .leafSize)
+Sized (adding x) = T (areSamples x) × Word (length x)
+Sized (matching x trail) = T (areSamples x) × Word (length x) × All Mark trail × Word (length trail)
+Sized (writing sheet) = T (areBytes sheet) × Word (length sheet)
+Sized (reading bytes) = T (areBytes bytes) × Word (length bytes)
 
 -- .. and no table is lent longer than it is
-pub record Possible (lengths : Lent) (q : Request) : Type 0 where
-  pub within : Within (lentIn q) lengths
-  pub sized : Sized q
+pub record Possible (lengths : Lent) (c : Call) : Type 0 where
+  pub within : Within (c .lent) lengths
+  pub sized : Sized (c .ask)
 
 -- tables as they are in a machine
 pub record Long (lengths : Lent) : Type 0 where
@@ -43,13 +42,13 @@ pub record Long (lengths : Lent) : Type 0 where
   pub work-long : Word (lengths .work)
 
 -- what `play` can be lent so that it makes exactly these calls
-pub record Script (memory : Tables) (calls : List Request) : Type 0 where
-  pub ops : List ℕ
+pub record Script (memory : Tables) (calls : List Call) : Type 0 where
+  pub numbers : List ℕ
   pub pool : List ℤ
   pub trails : List ℕ
   pub sheets : List ℕ
-  pub asks-them : played memory ops pool trails sheets .asked ≡ calls
-  pub ops-fit : All Word ops
+  pub asks-them : played memory numbers pool trails sheets .asked ≡ calls
+  pub numbers-fit : All Word numbers
   pub pool-fits : T (areSamples pool)
   pub trails-fit : All Mark trails
   pub sheets-fit : T (areBytes sheets)

@@ -22,13 +22,15 @@ pub as-many : (m : Measures) → recordsNeeded m ≡ workNeeded m
 unfolding recordsNeeded workNeeded
 as-many m = refl
 
-module _ (t : Tables) (query : Trace) (size : ℕ) (ready : Ready t query size) (work work₁ work′ trail trail′ : List ℕ) (best : Option Near) (out traces : ℕ) (v : Visited t query work work₁ trail trail′ best out traces) where
-  pub cleared : work′ ≡ filled (workNeeded (measuresOf t)) 0 work₁ → Searched t query work work′ trail trail′ best out traces
-  cleared z =
+module _ (t : Tables) (query : Trace) (size : ℕ) (ready : Ready t query size) (work work₁ work′ trail trail′ : List ℕ) (best : Option Near)
+    (out traces : ℕ) (v : Visited t query trail trail′ best out traces) where
+  -- the loop was lent the first places, one for each node
+  pub cleared : drop (nodeCount t) work₁ ≡ drop (nodeCount t) work → work′ ≡ filled (workNeeded (measuresOf t)) 0 work₁ → Searched t query work work′ trail trail′ best out traces
+  cleared behind z =
       let k = workNeeded (measuresOf t) in
       record {
         found = v .found;
         within = v .within;
         trail-rest = v .trail-rest;
-        work-zero = z ∙ ap (λ (l : List ℕ). replicate k 0 ++ l) (drop-more k (nodeCount t) work₁ work (nodes-needed t query size ready) (v .work-rest));
+        work-zero = z ∙ ap (λ (l : List ℕ). replicate k 0 ++ l) (drop-more k (nodeCount t) work₁ work (nodes-needed t query size ready) behind);
       }

@@ -1,246 +1,149 @@
--- The turns of `visit`: what is known before the loop, its invariant, and what a turn leaves of it.
-use Prim.Native.Nat.{ℕ, suc, _+_, _*_, _-_, _≤_, _<_}
-use mathlib.Core.Path.{_≡_, refl, sym, _∙_, ap, subst}
+-- The turns of `visit`: its invariant, and what a leaf that is read, or the end, leaves of it.
+use Prim.Native.Nat.{ℕ, _+_, _*_, _≤_, _<_}
+use mathlib.Core.Path.{_≡_, refl, sym, _∙_, ap}
 use mathlib.Core.Bool.{Bool, true, false}
-use mathlib.Core.Option.{Option, none}
+use mathlib.Core.Option.{none, some}
 use mathlib.Core.List.{List, [], _∷_, _++_, map, foldl}
 use native.Mathlib.Numerals.{add-one}
 use native.Mathlib.Omega.{arith}
-use lib.IntN.{ℤ}
 use lib.ListN.{length, take, drop, set, length-set}
 use lib.Seq.{drop-drop, drop-set-lt, take-suc-set}
-use Rattle.integer.specs.Words.{if_then_else_, those, counting}
-use Rattle.integer.proofs.Times.{counting-length}
-use Rattle.heap.specs.Heap.{Pushed, Popped}
+use Rattle.integer.specs.Words.{if_then_else_}
+use Rattle.integer.proofs.Lists.{All, all-none, all-more, all-mono}
 use Rattle.dstree.specs.Measures.{Trace}
-use Rattle.dstree.specs.Node.{leaf, Tree, nodeAt}
-use Rattle.dstree.specs.Matching.{Near, Search, bestWith, isLeaf, leaves, readingOrder, readLeaf, searched}
-use Rattle.tables.specs.Layout.{kindPlace, firstPlace, rightPlace}
+use Rattle.dstree.specs.Node.{Tree}
+use Rattle.dstree.specs.Matching.{LeafBound, Search, bestWith, isAbove, leaves, readingOrder, readLeaf, readOn, searchOn, searched}
+use Rattle.dstree.proofs.Reading.{reading-length}
+use Rattle.tables.specs.Layout.{firstPlace}
 use Rattle.tables.specs.Tables.{Tables, measuresOf, traceCount, nodeCount, recordOf}
 use Rattle.tables.specs.View.{smallAt, treeIn, tracesIn}
-use Rattle.leaf_figures.specs.Walk.{numbersOf, Stored}
-use Rattle.query.specs.Prefixes.{Prefixes}
+use Rattle.tables.specs.Walk.{numbersOf, Stored}
 use Rattle.reading.specs.Nearest.{bestOf, nearOf}
 use Rattle.reading.specs.declared.best.Best.{Best}
 use Rattle.reading.specs.declared.leaf.Read.{Read}
-use Rattle.reading.proofs.Meaning.{answer-is}
-use Rattle.best_first.specs.BestFirst.{boundIn, numberIn, childKey, firstKey, readOn, stopsAt}
-use Rattle.best_first.proofs.Law.{stops-monotone, search-is}
-use Rattle.best_first.proofs.Turns as turns
-use Rattle.best_first.proofs.Order.{load}
-use Rattle.best_first.proofs.Turns.{Waiting, Turn, keysIn}
+use Rattle.reading.proofs.Meaning.{LeafAt, answer-is}
+use Rattle.best_first.proofs.Alike.{order-alike}
+use Rattle.leaf_order.specs.Waits.{shapeIn, Waits, remaining, Begun}
+use Rattle.leaf_order.specs.Handed.{isPast, Past, HandedLeaf}
 use Rattle.search.specs.Searched.{Ready, seen, Visited}
-use Rattle.search.proofs.Facts.{InnerAt, count-is, some-node, branches, is-leaf, stored, leaf-at, inner-at}
+use Rattle.search.proofs.Facts.{shape-alike}
 
-drop-one : (n : ℕ) (l m : List ℕ) → drop n l ≡ drop n m → drop (n + 1) l ≡ drop (n + 1) m
-drop-one n l m e = sym (drop-drop 1 n l) ∙ ap (drop 1) e ∙ drop-drop 1 n m
-
-those-most : (p : ℕ → Bool) (l : List ℕ) → length (those p l) ≤ length l
-unfolding those
-those-most p [] = omega arith
-those-most p (x ∷ l) = by (p x) (those-most p l)
-  where
-    by : (b : Bool) → length (those p l) ≤ length l → length (if b then x ∷ those p l else those p l) ≤ suc (length l)
-    by true h = omega (arith, h)
-    by false h = omega (arith, h)
-
--- no more leaves than nodes
-leaves-most : (tree : Tree) → length (leaves tree) ≤ length tree
-unfolding leaves
-leaves-most tree = omega (arith, those-most (λ number. isLeaf (nodeAt tree number .kind)) (counting (length tree) 0), counting-length (length tree) 0)
-
--- what the search finds in the end
-abbrev pub answerIn : Tables → Trace → Search
-answerIn t query = searched (tracesIn t) (treeIn t) query
+-- the search stops where "the next bound is above the best distance found"
+abbrev pub stopsAt : Search → ℕ → Bool
+stopsAt s bound = isAbove bound (s .best)
 
 -- reading a leaf
 abbrev pub readIn : Tables → Trace → Search → ℕ → Search
 readIn t query = readLeaf (tracesIn t) (treeIn t) query
 
--- what the loop is entered with; work and trail are given by their lengths
-pub record Known (t : Tables) (query sums : List ℤ) (squares : List ℕ) (work trail n k : ℕ) : Type 0 where
-  pub ready : Ready t query trail
-  pub prefixes : Prefixes query sums squares
-  pub work-wide : nodeCount t ≤ work
-  pub n-is : n ≡ measuresOf t .n
-  pub k-is : k ≡ traceCount t
+-- the best distance is the limit
+past-is : (best : Best) (bound : ℕ) → isPast (best .found) (best .distance) bound ≡ isAbove bound (bestOf best)
+unfolding isPast isAbove
+past-is best bound = by (best .found)
+  where
+    by : (f : Bool) → isPast f (best .distance) bound ≡ isAbove bound (if f then some (record { trace = best .trace; distance = best .distance }) else none)
+    by true = refl
+    by false = refl
 
--- the invariant
-pub record State (t : Tables) (query : Trace) (work₀ trail₀ work trail : List ℕ) (waiting out traces : ℕ) (best : Option Near) : Type 0 where
-  pub waits : Waiting stopsAt (readIn t query) (treeIn t) query (answerIn t query) work₀ work waiting out (seen best traces (take out trail))
+-- ---- leaves read on in order
+
+module _ {S : Type 0} (stop : S → ℕ → Bool) (read : S → ℕ → S) where
+  pub read-next : (s : S) (a : LeafBound) (l : List LeafBound) → stop s (a .bound) ≡ false → readOn stop read s (a ∷ l) ≡ readOn stop read (read s (a .number)) l
+  unfolding readOn
+  read-next s a l e = rw e
+
+  pub read-end : (s : S) {l : List LeafBound} → All (λ (a : LeafBound). stop s (a .bound) ≡ true) l → readOn stop read s l ≡ s
+  unfolding readOn
+  read-end s all-none = refl
+  read-end s (all-more e es) = rw e
+
+-- document 01's search is one that reads leaves on so
+search-is : (stored : List Trace) (tree : Tree) (query : Trace) (s : Search) (l : List LeafBound)
+    → readOn stopsAt (readLeaf stored tree query) s l ≡ searchOn stored tree query s l
+unfolding readOn searchOn
+search-is stored tree query s [] = refl
+search-is stored tree query s (a ∷ l) = by (isAbove (a .bound) (s .best)) (search-is stored tree query (readLeaf stored tree query s (a .number)) l)
+  where
+    by : (c : Bool) {p q : Search} → p ≡ q → (if c then s else p) ≡ (if c then s else q)
+    by true ih = refl
+    by false ih = ih
+
+drop-one : (n : ℕ) (l m : List ℕ) → drop n l ≡ drop n m → drop (n + 1) l ≡ drop (n + 1) m
+drop-one n l m e = sym (drop-drop 1 n l) ∙ ap (drop 1) e ∙ drop-drop 1 n m
+
+-- a leaf's list, with n, the count of traces and the head as code has them
+pub stored-as : (t : Tables) (j : ℕ) (at : LeafAt t j) (n k head : ℕ) → n ≡ measuresOf t .n → k ≡ traceCount t
+    → head ≡ smallAt (recordOf (t .nodes) j) firstPlace → Stored (t .samples) (t .links) n k head
+stored-as t j at n k head n-is k-is head-is = rw (n-is, k-is, head-is) (at .stored)
+
+-- ---- the invariant
+
+-- the keys that wait stand for leaves; to read these on from what is found gives the answer, and the trail has room for them
+pub record State (t : Tables) (query : Trace) (tree : Tree) (trail₀ work trail : List ℕ) (waiting out traces : ℕ) (best : Best) : Type 0 where
+  pub waits : Waits tree query waiting work
+  pub goes-on : readOn stopsAt (readIn t query) (seen (bestOf best) traces (take out trail)) (remaining tree query waiting work) ≡ searched (tracesIn t) (treeIn t) query
+  pub trail-room : out + length (remaining tree query waiting work) ≡ length (leaves (treeIn t))
   pub few : traces ≤ out * 4096
   pub trail-size : length trail ≡ length trail₀
   pub trail-rest : drop out trail ≡ drop out trail₀
 
-module _ {t : Tables} {query sums : List ℤ} {squares : List ℕ} {n k : ℕ} (work₀ trail₀ : List ℕ) (known : Known t query sums squares (length work₀) (length trail₀) n k) where
-  abbrev tree : Tree
-  tree = treeIn t
-
-  abbrev ready : Ready t query (length trail₀)
-  ready = known .ready
-
-  pub wide : length tree ≤ length work₀
-  wide = omega (arith, known .work-wide, count-is t query (length trail₀) ready)
-
-  -- the first key waits
-  pub state-start : (entry : List ℕ) → Pushed 0 (firstKey tree query) entry work₀ → State t query work₀ trail₀ work₀ trail₀ 1 0 0 none
+module _ (t : Tables) (query : Trace) (trail₀ : List ℕ) (ready : Ready t query (length trail₀)) where
+  -- all leaves are to come
+  pub state-start : (m : ℕ) → m ≡ nodeCount t → (work : List ℕ) → Begun (shapeIn (t .nodes) m) query work
+      → State t query (shapeIn (t .nodes) m) trail₀ work trail₀ 1 0 0 (record { found = false; trace = 0; distance = 0 })
   unfolding searched
-  state-start entry p = record {
-    waits =
-        subst (λ (s : Search). Waiting stopsAt (readIn t query) tree query s work₀ work₀ 1 0 (seen none 0 [])) (search-is (tracesIn t) tree query (seen none 0 []) (readingOrder tree query))
-        (turns.waiting-start stopsAt (readIn t query) stops-monotone tree (branches t query (length trail₀) ready) query entry work₀ (seen none 0 []) p);
-    few = omega arith;
-    trail-size = refl;
-    trail-rest = refl;
-  }
+  state-start m e work b =
+      let order : remaining (shapeIn (t .nodes) m) query 1 work ≡ readingOrder (treeIn t) query = b .all ∙ (rw e (order-alike (shape-alike t) query)) in
+      record {
+        waits = b .waits;
+        goes-on = rw order (search-is (tracesIn t) (treeIn t) query (seen none 0 []) (readingOrder (treeIn t) query));
+        trail-room = omega (arith, ap length order, reading-length (treeIn t) query);
+        few = omega arith;
+        trail-size = refl;
+        trail-rest = refl;
+      }
 
-  -- the places behind the nodes are those at entry
-  behind : (entry work : List ℕ) → Pushed 0 (firstKey tree query) entry work₀ → drop (length tree) work ≡ drop (length tree) work₀ → drop (nodeCount t) work ≡ drop (nodeCount t) entry
-  behind entry work p e =
-      rw (count-is t query (length trail₀) ready) (e ∙ turns.behind-start stopsAt (readIn t query) stops-monotone tree (branches t query (length trail₀) ready) query (firstKey tree query) entry work₀ p)
+  module _ {tree : Tree} {work trail : List ℕ} {waiting out traces : ℕ} {best : Best} (s : State t query tree trail₀ work trail waiting out traces best) where
+    -- no more leaves are read than there are
+    pub out-most : out ≤ length (leaves (treeIn t))
+    out-most = omega (arith, s .trail-room)
 
-  module _ (work trail : List ℕ) (waiting out traces : ℕ) (best : Option Near) (s : State t query work₀ trail₀ work trail waiting out traces best) where
-    pub out-most : out ≤ length (leaves tree)
-    out-most = turns.out-most stopsAt (readIn t query) stops-monotone tree (branches t query (length trail₀) ready) query (answerIn t query) work₀ work waiting out (seen best traces (take out trail)) (s .waits)
-
-    -- no key waits
-    pub state-end : (entry : List ℕ) → Pushed 0 (firstKey tree query) entry work₀ → waiting ≤ 0 → Visited t query entry work trail₀ trail best out traces
-    state-end entry p h = record {
-      found = turns.waiting-none stopsAt (readIn t query) stops-monotone tree (branches t query (length trail₀) ready) query (answerIn t query) work₀ work waiting out (seen best traces (take out trail)) (s .waits) h;
+    -- no leaf to come is within the best distance
+    pub state-end : All (Past (best .found) (best .distance)) (remaining tree query waiting work) → Visited t query trail₀ trail (bestOf best) out traces
+    state-end past = record {
+      found = sym (read-end stopsAt (readIn t query) (seen (bestOf best) traces (take out trail)) (all-mono (λ a e. sym (past-is best (a .bound)) ∙ e) past)) ∙ s .goes-on;
       within = omega (arith, out-most, ready .trail-long);
       trail-rest = s .trail-rest;
-      work-rest = behind entry work p (s .waits .work-rest);
     }
 
--- a turn in which the least key is out
-pub record Taken (t : Tables) (query sums : List ℤ) (squares work₀ trail₀ : List ℕ) (n k : ℕ) : Type 0 where
-  pub known : Known t query sums squares (length work₀) (length trail₀) n k
-  pub work : List ℕ
-  pub trail : List ℕ
-  pub waiting : ℕ
-  pub out : ℕ
-  pub traces : ℕ
-  pub best : Best
-  pub state : State t query work₀ trail₀ work trail waiting out traces (bestOf best)
-  pub some-key : 0 < waiting
-  pub x : ℕ
-  pub left : List ℕ
-  pub size : length left ≡ length work
-  pub popped : Popped waiting x work left
+    -- the next leaf is read
+    module _ {work′ : List ℕ} {bound j left : ℕ} (h : HandedLeaf tree query (best .found) (best .distance) waiting work work′ bound j left) where
+      pub leaf-room : out < length trail
+      leaf-room = omega (arith, s .trail-room, ap length (h .first), ready .trail-long, s .trail-size)
 
-module _ {t : Tables} {query sums : List ℤ} {squares work₀ trail₀ : List ℕ} {n k : ℕ} (c : Taken t query sums squares work₀ trail₀ n k) where
-  abbrev set-up : Ready t query (length trail₀)
-  set-up = c .known .ready
+      pub leaf-less : length (remaining tree query left work′) < length (remaining tree query waiting work)
+      leaf-less = rw (h .first) (omega arith)
 
-  -- what is found so far
-  abbrev pub soFar : Search
-  soFar = seen (bestOf (c .best)) (c .traces) (take (c .out) (c .trail))
-
-  abbrev turn : Turn stopsAt (readIn t query) (treeIn t) query (answerIn t query) work₀
-  turn = record {
-    monotone = stops-monotone;
-    branching = branches t query (length trail₀) set-up;
-    work = c .work;
-    n = c .waiting;
-    out = c .out;
-    s = soFar;
-    waiting = c .state .waits;
-    some-key = c .some-key;
-    wide = omega (arith, wide work₀ trail₀ (c .known), c .state .waits .work-long);
-    x = c .x;
-    left = c .left;
-    long = c .size;
-    popped = c .popped;
-  }
-
-  pub number-in : numberIn (c .x) < length (treeIn t)
-  number-in = turns.taken-number turn
-
-  pub out-below : c .out ≤ 8192
-  out-below = omega (arith, out-most work₀ trail₀ (c .known) (c .work) (c .trail) (c .waiting) (c .out) (c .traces) (bestOf (c .best)) (c .state), leaves-most (treeIn t), branches t query (length trail₀) set-up .few)
-
-  pub left-size : length (c .left) ≡ length work₀
-  left-size = c .size ∙ c .state .waits .work-long
-
-  pub state-stop : (entry : List ℕ) → Pushed 0 (firstKey (treeIn t) query) entry work₀ → stopsAt soFar (boundIn (c .x)) ≡ true → Visited t query entry (c .left) trail₀ (c .trail) (bestOf (c .best)) (c .out) (c .traces)
-  state-stop entry p e = record {
-    found = turns.taken-stop turn e;
-    within = omega (arith, out-most work₀ trail₀ (c .known) (c .work) (c .trail) (c .waiting) (c .out) (c .traces) (bestOf (c .best)) (c .state), set-up .trail-long);
-    trail-rest = c .state .trail-rest;
-    work-rest = behind work₀ trail₀ (c .known) entry (c .left) p (turns.taken-rest turn);
-  }
-
-  -- a leaf is read
-  module _ (e : smallAt (recordOf (t .nodes) (numberIn (c .x))) kindPlace ≡ 0) where
-    abbrev headOf : ℕ
-    headOf = smallAt (recordOf (t .nodes) (numberIn (c .x))) firstPlace
-
-    abbrev kind-leaf : nodeAt (treeIn t) (numberIn (c .x)) .kind ≡ leaf (numbersOf (t .links) (traceCount t) headOf)
-    kind-leaf = is-leaf t query (length trail₀) set-up (numberIn (c .x)) number-in e
-
-    pub leaf-room : c .out < length (c .trail)
-    leaf-room = omega (arith, turns.leaf-room turn kind-leaf, set-up .trail-long, c .state .trail-size)
-
-    pub leaf-less : load (treeIn t) (keysIn (c .waiting - 1) (c .left)) < load (treeIn t) (keysIn (c .waiting) (c .work))
-    leaf-less = turns.leaf-less turn kind-leaf
-
-    pub stored-at : (head : ℕ) → head ≡ headOf → Stored (t .samples) (t .links) n k head
-    stored-at head hd =
-        subst (λ (i : ℕ). Stored (t .samples) (t .links) i k head) (sym (c .known .n-is))
-        (subst (λ (i : ℕ). Stored (t .samples) (t .links) (measuresOf t .n) i head) (sym (c .known .k-is))
-        (subst (Stored (t .samples) (t .links) (measuresOf t .n) (traceCount t)) (sym hd) (stored t query (length trail₀) set-up (numberIn (c .x)) number-in e)))
-
-    pub state-leaf : (head : ℕ) (r : Read)
-        → head ≡ headOf
-        → stopsAt soFar (boundIn (c .x)) ≡ false
-        → bestOf (r .best) ≡ foldl bestWith (bestOf (c .best)) (map (nearOf (t .samples) n query) (numbersOf (t .links) k head))
-        → r .traces ≡ length (numbersOf (t .links) k head)
-        → r .traces ≤ k
-        → State t query work₀ trail₀ (c .left) (set (c .trail) (c .out) (numberIn (c .x))) (c .waiting - 1) (c .out + 1) (c .traces + r .traces) (bestOf (r .best))
-    state-leaf head r hd go b counted most =
-        let j = numberIn (c .x) in
-        let at = leaf-at t query (length trail₀) set-up j number-in e in
-        let lists : numbersOf (t .links) k head ≡ numbersOf (t .links) (traceCount t) headOf = ap (λ (i : ℕ). numbersOf (t .links) i head) (c .known .k-is) ∙ ap (numbersOf (t .links) (traceCount t)) hd in
-        let b′ : bestOf (r .best) ≡ foldl bestWith (bestOf (c .best)) (map (nearOf (t .samples) (measuresOf t .n) query) (numbersOf (t .links) (traceCount t) headOf)) =
-        b ∙ (ap (λ (i : ℕ). foldl bestWith (bestOf (c .best)) (map (nearOf (t .samples) i query) (numbersOf (t .links) k head))) (c .known .n-is) ∙ ap (λ (l : List ℕ). foldl bestWith (bestOf (c .best)) (map (nearOf (t .samples) (measuresOf t .n) query) l)) lists) in
-        let noted : take (c .out + 1) (set (c .trail) (c .out) j) ≡ take (c .out) (c .trail) ++ (j ∷ []) = rw (add-one (c .out)) (take-suc-set (c .trail) (c .out) j leaf-room) in
-        let read : readIn t query soFar j ≡ seen (bestOf (r .best)) (c .traces + r .traces) (take (c .out + 1) (set (c .trail) (c .out) j)) =
-        answer-is t j at query soFar (c .best) r refl b′ (counted ∙ ap length lists) ∙ ap (seen (bestOf (r .best)) (c .traces + r .traces)) (sym noted) in
-        record {
-          waits = subst (Waiting stopsAt (readIn t query) (treeIn t) query (answerIn t query) work₀ (c .left) (c .waiting - 1) (c .out + 1)) read (turns.waiting-leaf turn kind-leaf go);
-          few = omega (arith, c .state .few, most, c .known .k-is, at .stored .few);
-          trail-size = length-set (c .trail) (c .out) j ∙ c .state .trail-size;
-          trail-rest = drop-set-lt (c .out + 1) (c .trail) (c .out) j (omega arith) ∙ drop-one (c .out) (c .trail) trail₀ (c .state .trail-rest);
-        }
-
-  -- two children wait
-  module _ (f : smallAt (recordOf (t .nodes) (numberIn (c .x))) kindPlace ≡ 0 → ⊥) where
-    abbrev here : InnerAt t (numberIn (c .x))
-    here = inner-at t query (length trail₀) set-up (numberIn (c .x)) number-in f
-
-    abbrev leftOf : ℕ
-    leftOf = smallAt (recordOf (t .nodes) (numberIn (c .x))) firstPlace
-
-    abbrev rightOf : ℕ
-    rightOf = smallAt (recordOf (t .nodes) (numberIn (c .x))) rightPlace
-
-    pub left-in : leftOf < length (treeIn t)
-    left-in = turns.left-node turn (here .is-inner)
-
-    pub right-in : rightOf < length (treeIn t)
-    right-in = turns.right-node turn (here .is-inner)
-
-    pub inner-room : c .waiting < length (treeIn t)
-    inner-room = turns.inner-room turn (here .is-inner)
-
-    module _ (work₂ work₃ : List ℕ) (size₂ : length work₂ ≡ length (c .left)) (size₃ : length work₃ ≡ length work₂) (q : Pushed (c .waiting - 1) (childKey (treeIn t) query (boundIn (c .x)) rightOf) (c .left) work₂) (u : Pushed (c .waiting - 1 + 1) (childKey (treeIn t) query (boundIn (c .x)) leftOf) work₂ work₃) where
-      pub inner-less : load (treeIn t) (keysIn (c .waiting - 1 + 1 + 1) work₃) < load (treeIn t) (keysIn (c .waiting) (c .work))
-      inner-less = turns.inner-less turn (here .is-inner) work₂ work₃ size₂ size₃ q u
-
-      pub state-inner : State t query work₀ trail₀ work₃ (c .trail) (c .waiting - 1 + 1 + 1) (c .out) (c .traces) (bestOf (c .best))
-      state-inner = record {
-        waits = turns.waiting-inner turn (here .is-inner) work₂ work₃ size₂ size₃ q u;
-        few = c .state .few;
-        trail-size = c .state .trail-size;
-        trail-rest = c .state .trail-rest;
-      }
+      pub state-leaf : (at : LeafAt t j) (r : Read) (n k head : ℕ) → n ≡ measuresOf t .n → k ≡ traceCount t → head ≡ smallAt (recordOf (t .nodes) j) firstPlace
+          → bestOf (r .best) ≡ foldl bestWith (bestOf best) (map (nearOf (t .samples) n query) (numbersOf (t .links) k head))
+          → r .traces ≡ length (numbersOf (t .links) k head)
+          → r .traces ≤ k
+          → State t query tree trail₀ work′ (set trail out j) left (out + 1) (traces + r .traces) (r .best)
+      state-leaf at r n k head n-is k-is head-is found counted most =
+          let soFar = seen (bestOf best) traces (take out trail) in
+          let noted : take (out + 1) (set trail out j) ≡ take out trail ++ (j ∷ []) = rw (add-one out) (take-suc-set trail out j leaf-room) in
+          let read : readIn t query soFar j ≡ seen (bestOf (r .best)) (traces + r .traces) (take (out + 1) (set trail out j)) =
+          answer-is t j at query soFar best r refl (rw (n-is, k-is, head-is) at found) (rw (k-is, head-is) at counted) ∙ ap (seen (bestOf (r .best)) (traces + r .traces)) (sym noted) in
+          let go : stopsAt soFar bound ≡ false = sym (past-is best bound) ∙ h .within in
+          record {
+            waits = h .waits;
+            goes-on =
+                ap (λ (q : Search). readOn stopsAt (readIn t query) q (remaining tree query left work′)) (sym read)
+                ∙ sym (read-next stopsAt (readIn t query) soFar (record { number = j; bound = bound }) (remaining tree query left work′) go)
+                ∙ ap (readOn stopsAt (readIn t query) soFar) (sym (h .first))
+                ∙ s .goes-on;
+            trail-room = omega (arith, s .trail-room, ap length (h .first));
+            few = omega (arith, s .few, most, k-is, at .stored .few);
+            trail-size = length-set trail out j ∙ s .trail-size;
+            trail-rest = drop-set-lt (out + 1) trail out j (omega arith) ∙ drop-one out trail trail₀ (s .trail-rest);
+          }

@@ -1,5 +1,10 @@
 // Leaves are read by bound, then by number, until the next bound is above the best distance found.
+use leaf_order::leaves::Next;
 use reading::best::Best;
+use tables::control::field;
+use tables::places::FIRST;
+use tables::places::TRACE_COUNT;
+ghost use mathlib.Core.Path.{_≡_};
 ghost use Prim.Native.Nat.{_≤_};
 ghost use lib.ListN.{length};
 ghost use Rattle.tables.specs.Tables.{nodeCount};
@@ -14,9 +19,17 @@ pub struct Seen {
     pub traces: usize,
 }
 
-// Search work holds the keys of the nodes that wait, as a heap. What stands in it before does not matter.
+// A node's number, as the trail has it.
+fn narrow(j: usize) -> u16
+    requires { ⌜ j ≤ 65535 ⌝ }
+    ensures { λ r. ⌜ r ≡ j ⌝ }
+{
+    j as u16
+}
+
+// Search work has a place for each node. What stands in it before does not matter.
 //
-// Two wrong programs that the contract rules out: one that stops at a bound equal to the best distance, and one that gives a child its own bound alone.
+// Two wrong programs that the contract rules out: one that stops at a bound equal to the best distance, and one that reads leaves by number alone.
 pub fn visit(
     control: &[u16],
     samples: &[i16],
@@ -28,13 +41,15 @@ pub fn visit(
     work: &mut [u64],
     trail: &mut [u16],
 ) -> Seen
-    requires { ⌜ Ready (made (now control) (now samples) (now nodes) (now links)) (now query) (length (now trail)) × Prefixes (now query) (now sums) (now squares) × (nodeCount (made (now control) (now samples) (now nodes) (now links)) ≤ length (now work)) ⌝ }
-    ensures { λ r. ⌜ Visited (made (now (control .entry)) (now (samples .entry)) (now (nodes .entry)) (now (links .entry))) (now (query .entry)) (now (work .entry)) (now (work .exit)) (now (trail .entry)) (now (trail .exit)) (bestOf (r .best)) (r .out) (r .traces) ⌝ }
+    requires { ⌜ Ready (made (now control) (now samples) (now nodes) (now links)) (now query) (length (now trail))
+        × Prefixes (now query) (now sums) (now squares)
+        × (length (now work) ≡ nodeCount (made (now control) (now samples) (now nodes) (now links))) ⌝ }
+    ensures { λ r. ⌜ Visited (made (now (control .entry)) (now (samples .entry)) (now (nodes .entry)) (now (links .entry))) (now (query .entry))
+        (now (trail .entry)) (now (trail .exit)) (bestOf (r .best)) (r .out) (r .traces) ⌝ }
 {
     let n = query.len();
-    let k = crate::keys::wide(tables::control::field(control, 3));
-    let root = crate::keys::node_key(nodes, 0, 0, query, sums, squares);
-    heap::push(work, 0, root);
+    let k = tables::numbers::wide(field(control, TRACE_COUNT));
+    leaf_order::leaves::begin(nodes, query, sums, squares, work);
     let mut waiting: usize = 1;
     let mut out: usize = 0;
     let mut traces: usize = 0;
@@ -43,31 +58,26 @@ pub fn visit(
         trace: 0,
         distance: 0,
     };
-    while 0 < waiting {
-        let x = heap::pop(work, waiting);
-        waiting -= 1;
-        let above = x / 8192;
-        if crate::keys::is_above(above, best.found, best.distance) {
+    loop {
+        let next = leaf_order::leaves::next_leaf(
+            nodes,
+            query,
+            sums,
+            squares,
+            work,
+            waiting,
+            best.found,
+            best.distance,
+        );
+        let Next::Leaf(bound, j, left) = next else {
             return Seen { best, out, traces };
-        }
-        let j = (x % 8192) as usize;
-        let kind = tables::records::node_small(nodes, j, 0);
-        let first = tables::records::node_small(nodes, j, 2);
-        if kind == 0 {
-            let r = reading::leaf::read_leaf(samples, links, n, k, first, query, best);
-            best = r.best;
-            traces += r.traces;
-            trail[out] = crate::keys::narrow(j);
-            out += 1;
-        } else {
-            let second = tables::records::node_small(nodes, j, 3);
-            let right = crate::keys::node_key(nodes, second, above, query, sums, squares);
-            let left = crate::keys::node_key(nodes, first, above, query, sums, squares);
-            heap::push(work, waiting, right);
-            waiting += 1;
-            heap::push(work, waiting, left);
-            waiting += 1;
-        }
+        };
+        waiting = left;
+        let first = tables::records::node_small(nodes, j, FIRST);
+        let r = reading::leaf::read_leaf(samples, links, n, k, first, query, best);
+        best = r.best;
+        traces += r.traces;
+        trail[out] = narrow(j);
+        out += 1;
     }
-    Seen { best, out, traces }
 }

@@ -6,7 +6,7 @@ use native.Mathlib.Nat.{not-suc-le-zero, le-of-suc-le-suc}
 use native.Mathlib.Numerals.{add-one}
 use native.Mathlib.Omega.{arith}
 use lib.ListN.{length, getD, take}
-use Rattle.dstree.specs.Sheet.{weighted, checkOf}
+use Rattle.dstree.specs.Sheet.{weighted}
 
 weighted-suc : (p : ℕ) (l : List ℕ) (j : ℕ) → j < length l → weighted p (take (suc j) l) ≡ weighted p (take j l) + suc (p + j) * getD l j 0
 unfolding weighted
@@ -16,8 +16,3 @@ weighted-suc p (b ∷ l) (suc j) h = omega (arith, weighted-suc (suc p) l j (le-
 
 pub weighted-more : (l : List ℕ) (j : ℕ) → j < length l → weighted 0 (take (j + 1) l) ≡ weighted 0 (take j l) + (j + 1) * getD l j 0
 weighted-more l j h = omega (arith, ap (λ (i : ℕ). weighted 0 (take i l)) (add-one j), weighted-suc 0 l j h)
-
--- a check has two bytes
-pub check-small : (l : List ℕ) → checkOf l < 65521
-unfolding checkOf
-check-small l = omega arith

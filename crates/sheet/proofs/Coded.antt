@@ -1,56 +1,46 @@
 -- Samples as bytes: two for each, one sample more at a time; and the number whose bytes a sample's are.
 use mathlib.Core.Path.{_≡_, refl, sym, ap, _∙_, subst}
 use mathlib.Core.Bool.{true, false}
-use mathlib.Core.List.{List, [], _∷_, _++_, map, flatten, append-assoc, append-nil}
+use mathlib.Core.List.{List, [], _∷_, _++_, flatten, append-nil}
 use Prim.Native.Nat.{ℕ, suc, _+_, _*_, _-_, _≤_, _<_}
 use native.Mathlib.Numerals.{add-one}
 use native.Mathlib.Omega.{arith}
 use lib.Dec.{T}
 use lib.IntN.{ℤ, pos, negsuc, natAbs, _+ℤ_}
 use lib.Signed.{ltZ, nonNeg, mag}
-use lib.ListN.{length, getD, take, length-map}
+use lib.ListN.{length, getD, take}
 use lib.Seq.{sets, take-suc, length-take-le}
 use mir.Syntax.{w16, w64}
 use mir.Val.{Fits, SFits}
 use mir.Facts.{toZ-ofZ}
 use borrow.Author.Tests.{ltb-true, le-ltb}
 use Rattle.integer.proofs.Width.{read, read-wider, small}
-use Rattle.dstree.specs.Sheet.{bytesOf, coded, narrow}
-use Rattle.dstree.proofs.SheetPieces.{flatten-length}
-use Rattle.dstree.proofs.SheetFields.{coded-sized}
-use Rattle.sheet.specs.Codes.{codes}
+use Rattle.dstree.specs.Sheet.{bytesOf, narrow, coded, codedAll}
+use Rattle.dstree.proofs.SheetFields.{codes-append, codes-length}
 use Rattle.sheet.proofs.Laid.{sets-append}
 
-pub codes-append : (a b : List ℤ) → codes (a ++ b) ≡ codes a ++ codes b
-unfolding flatten
-codes-append [] b = refl
-codes-append (z ∷ a) b = ap (λ (l : List ℕ). coded narrow z ++ l) (codes-append a b) ∙ sym (append-assoc (coded narrow z) (codes a) (codes b))
-
-pub codes-length : (samples : List ℤ) → length (codes samples) ≡ 2 * length samples
-unfolding narrow
-codes-length samples =
-    let e : length (codes samples) ≡ length (map (coded narrow) samples) * 2 = flatten-length 2 (coded-sized narrow samples) in
-    omega (arith, e, length-map samples (coded narrow))
-
-codes-one : (z : ℤ) → codes (z ∷ []) ≡ coded narrow z
+codes-one : (z : ℤ) → codedAll narrow (z ∷ []) ≡ coded narrow z
 unfolding flatten
 codes-one z = append-nil (coded narrow z)
 
 -- the codes of one sample more
-codes-more : (samples : List ℤ) (j : ℕ) → j < length samples → codes (take (j + 1) samples) ≡ codes (take j samples) ++ coded narrow (getD samples j (pos 0))
+codes-more : (samples : List ℤ) (j : ℕ) → j < length samples
+    → codedAll narrow (take (j + 1) samples) ≡ codedAll narrow (take j samples) ++ coded narrow (getD samples j (pos 0))
 codes-more samples j h =
-    ap codes (ap (λ (k : ℕ). take k samples) (add-one j) ∙ take-suc samples j (pos 0) h)
-    ∙ codes-append (take j samples) (getD samples j (pos 0) ∷ [])
-    ∙ ap (λ (l : List ℕ). codes (take j samples) ++ l) (codes-one (getD samples j (pos 0)))
+    ap (codedAll narrow) (ap (λ (k : ℕ). take k samples) (add-one j) ∙ take-suc samples j (pos 0) h)
+    ∙ codes-append narrow (take j samples) (getD samples j (pos 0) ∷ [])
+    ∙ ap (λ (l : List ℕ). codedAll narrow (take j samples) ++ l) (codes-one (getD samples j (pos 0)))
 
-codes-taken : (samples : List ℤ) (j : ℕ) → j ≤ length samples → length (codes (take j samples)) ≡ 2 * j
-codes-taken samples j h = codes-length (take j samples) ∙ ap (λ (k : ℕ). 2 * k) (length-take-le j samples h)
+codes-taken : (samples : List ℤ) (j : ℕ) → j ≤ length samples → length (codedAll narrow (take j samples)) ≡ 2 * j
+codes-taken samples j h = omega (arith, codes-length narrow (take j samples), length-take-le j samples h)
 
 -- and they are put behind those of the samples before it
-pub codes-put : (l : List ℕ) (place : ℕ) (samples : List ℤ) (j : ℕ) → j < length samples → sets (sets l place (codes (take j samples))) (place + 2 * j) (coded narrow (getD samples j (pos 0))) ≡ sets l place (codes (take (j + 1) samples))
+pub codes-put : (l : List ℕ) (place : ℕ) (samples : List ℤ) (j : ℕ) → j < length samples
+    → sets (sets l place (codedAll narrow (take j samples))) (place + 2 * j) (coded narrow (getD samples j (pos 0)))
+    ≡ sets l place (codedAll narrow (take (j + 1) samples))
 codes-put l place samples j h =
     let z = coded narrow (getD samples j (pos 0)) in
-    let before = codes (take j samples) in
+    let before = codedAll narrow (take j samples) in
     ap (λ (k : ℕ). sets (sets l place before) (place + k) z) (sym (codes-taken samples j (omega arith)))
     ∙ sym (sets-append before z l place)
     ∙ ap (sets l place) (sym (codes-more samples j h))
@@ -68,7 +58,7 @@ record Complement (z : ℤ) : Type 0 where
   bytes : bytesOf 2 number ≡ coded narrow z
 
 complement : (z : ℤ) → ltZ z (pos 0) ≡ true → mag z < 32768 → Complement z
-unfolding coded narrow
+unfolding coded
 complement (pos v) e h = let g = ltb-true v 0 e in absurd (omega arith)
 complement (negsuc v) e h =
     record { number = 65535 - v; sum = sums; small = omega arith; bytes = refl }
@@ -102,12 +92,14 @@ module _ (z : ℤ) (f : SFits w16 z) (e : ltZ (read w16 z) (pos 0) ≡ true) whe
 -- a sample from 0 on is its own number
 module _ (z : ℤ) (f : SFits w16 z) (e : ltZ (read w16 z) (pos 0) ≡ false) where
   up : (x : ℤ) → ltZ x (pos 0) ≡ false → mag x < 32768 → (T (nonNeg x) × Fits w16 (natAbs x)) × (bytesOf 2 (natAbs x) ≡ coded narrow x)
-  unfolding coded narrow
+  unfolding coded
   up (pos v) e h = ((tt, omega arith), refl)
   up (negsuc v) e h = clash (sym e)
 
   own : (T (nonNeg (read w16 z)) × Fits w16 (natAbs (read w16 z))) × (bytesOf 2 (natAbs (read w16 z)) ≡ coded narrow z)
-  own = subst (λ (x : ℤ). (T (nonNeg x) × Fits w16 (natAbs x)) × (bytesOf 2 (natAbs x) ≡ coded narrow z)) (sym (toZ-ofZ f)) (up z (subst (λ (x : ℤ). ltZ x (pos 0) ≡ false) (toZ-ofZ f) e) (f .sfits))
+  own =
+      subst (λ (x : ℤ). (T (nonNeg x) × Fits w16 (natAbs x)) × (bytesOf 2 (natAbs x) ≡ coded narrow z)) (sym (toZ-ofZ f))
+      (up z (subst (λ (x : ℤ). ltZ x (pos 0) ≡ false) (toZ-ofZ f) e) (f .sfits))
 
   pub own-cast : T (nonNeg (read w16 z)) × Fits w16 (natAbs (read w16 z))
   own-cast = own .0

@@ -1,13 +1,8 @@
 -- What the writers of a block put, piece by piece.
 use Prim.Native.Nat.{ℕ}
-use mathlib.Core.List.{List, _++_, map, flatten}
-use lib.IntN.{ℤ}
+use mathlib.Core.List.{List, _++_}
 use Rattle.dstree.specs.Measures.{Measures}
-use Rattle.dstree.specs.Sheet.{bytesOf, coded, narrow}
-
--- samples as bytes, one behind another
-abbrev pub codes : List ℤ → List ℕ
-codes samples = flatten (map (coded narrow) samples)
+use Rattle.dstree.specs.Sheet.{bytesOf}
 
 -- "two bytes each for n, capacity, leaf size, trace count"
 abbrev pub measureBytes : Measures → ℕ → List ℕ

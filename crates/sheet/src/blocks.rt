@@ -7,12 +7,12 @@ use crate::letters::LETTERS;
 use crate::samples::put_samples;
 ghost use mathlib.Core.Path.{_≡_};
 ghost use mathlib.Core.List.{_∷_, [], _++_};
-ghost use Prim.Native.Nat.{_≤_, _<_};
+ghost use Prim.Native.Nat.{_≤_};
 ghost use lib.ListN.{length, take, replicate};
 ghost use lib.Seq.{sets};
 ghost use Rattle.dstree.specs.Measures.{measures};
-ghost use Rattle.dstree.specs.Sheet.{bytesOf, filledTo, sealed, block, headOf};
-ghost use Rattle.sheet.specs.Codes.{codes, measureBytes};
+ghost use Rattle.dstree.specs.Sheet.{bytesOf, filledTo, blockSize, checkedSize, narrow, sealed, block, headOf, codedAll};
+ghost use Rattle.sheet.specs.Codes.{measureBytes};
 
 // "All else is 0": before a block's fields are put, every byte is 0.
 fn zero(part: &mut [u8])
@@ -27,8 +27,8 @@ fn zero(part: &mut [u8])
 
 // Number and kind, and nothing else yet.
 fn begin(part: &mut [u8], number: u16, kind: u8)
-    requires { ⌜ length (now part) ≡ 512 ⌝ }
-    ensures { λ _. ⌜ now (part .exit) ≡ filledTo 512 (bytesOf 2 number ++ (kind ∷ 0 ∷ [])) ⌝ }
+    requires { ⌜ length (now part) ≡ blockSize ⌝ }
+    ensures { λ _. ⌜ now (part .exit) ≡ filledTo blockSize (bytesOf 2 number ++ (kind ∷ 0 ∷ [])) ⌝ }
 {
     zero(part);
     put_two(part, 0, number);
@@ -37,8 +37,8 @@ fn begin(part: &mut [u8], number: u16, kind: u8)
 
 // The check behind the 510 bytes before it.
 fn seal(part: &mut [u8])
-    requires { ⌜ length (now part) ≡ 512 ⌝ }
-    ensures { λ _. ⌜ now (part .exit) ≡ sealed (take 510 (now (part .entry))) ⌝ }
+    requires { ⌜ length (now part) ≡ blockSize ⌝ }
+    ensures { λ _. ⌜ now (part .exit) ≡ sealed (take checkedSize (now (part .entry))) ⌝ }
 {
     let check = check_of(part);
     put_two(part, 510, check as u16);
@@ -46,7 +46,7 @@ fn seal(part: &mut [u8])
 
 // "two bytes each for n, capacity, leaf size, trace count", from byte 8 on.
 fn put_measures(part: &mut [u8], n: u16, capacity: u16, leaf_size: u16, count: u16)
-    requires { ⌜ length (now part) ≡ 512 ⌝ }
+    requires { ⌜ length (now part) ≡ blockSize ⌝ }
     ensures { λ _. ⌜ now (part .exit) ≡ sets (now (part .entry)) 8 (measureBytes (measures n capacity «leaf_size») count) ⌝ }
 {
     put_two(part, 8, n);
@@ -57,8 +57,8 @@ fn put_measures(part: &mut [u8], n: u16, capacity: u16, leaf_size: u16, count: u
 
 // Block 0: the letters, the measures and the number of traces.
 pub fn write_head(part: &mut [u8], n: u16, capacity: u16, leaf_size: u16, count: u16)
-    requires { ⌜ length (now part) ≡ 512 ⌝ }
-    ensures { λ _. ⌜ now (part .exit) ≡ block 0 (headOf (measures n capacity «leaf_size») count) ⌝ }
+    requires { ⌜ length (now part) ≡ blockSize ⌝ }
+    ensures { λ _. ⌜ now (part .exit) ≡ block (narrow .headKind) 0 (headOf (measures n capacity «leaf_size») count) ⌝ }
 {
     begin(part, 0, 1);
     put_bytes(part, 4, &LETTERS);
@@ -68,8 +68,8 @@ pub fn write_head(part: &mut [u8], n: u16, capacity: u16, leaf_size: u16, count:
 
 // Another block: at most 253 samples from byte 4 on.
 pub fn write_samples(part: &mut [u8], number: u16, samples: &[i16])
-    requires { ⌜ (length (now part) ≡ 512) × (length (now samples) ≤ 253) × (0 < number) ⌝ }
-    ensures { λ _. ⌜ now (part .exit) ≡ block number (codes (now (samples .entry))) ⌝ }
+    requires { ⌜ (length (now part) ≡ blockSize) × (length (now samples) ≤ narrow .samplesPerBlock) ⌝ }
+    ensures { λ _. ⌜ now (part .exit) ≡ block (narrow .sampleKind) number (codedAll narrow (now (samples .entry))) ⌝ }
 {
     begin(part, number, 2);
     put_samples(part, 4, samples);

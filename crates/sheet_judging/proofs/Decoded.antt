@@ -1,11 +1,11 @@
 -- The number of two bytes, read as a sample: as the machine makes it, and as the definition has it.
 use mathlib.Core.Path.{_≡_, sym, ap, _∙_, subst}
 use mathlib.Core.List.{List}
-use Prim.Native.Nat.{ℕ, suc, _*_, _-_, _≤_, _<_}
+use Prim.Native.Nat.{ℕ, _*_, _-_, _≤_, _<_}
 use native.Mathlib.Omega.{arith}
 use lib.IntN.{ℤ, pos, negsuc, _-ℤ_}
 use mir.Syntax.{w16, w64}
-use mir.Val.{SFits, toZ, ofZ}
+use mir.Val.{SFits, toZ}
 use mir.Facts.{toZ-ofZ, toZ-pos}
 use borrow.Author.Tests.{lt-ltb, le-ltb}
 use Rattle.integer.proofs.Width.{read, of-mag}
@@ -13,11 +13,11 @@ use Rattle.dstree.specs.Sheet.{numberIn, narrow, decoded}
 
 module _ (v : ℕ) (bytes : List ℕ) (e : numberIn bytes ≡ v) where
   decoded-low : v < 32768 → decoded narrow bytes ≡ pos v
-  unfolding decoded narrow
+  unfolding decoded
   decoded-low h = rw (e, lt-ltb (2 * v) 65536 (omega arith))
 
   decoded-high : 32768 ≤ v → decoded narrow bytes ≡ negsuc (65535 - v)
-  unfolding decoded narrow
+  unfolding decoded
   decoded-high h = rw (e, le-ltb (2 * v) 65536 (omega arith))
 
   -- a number in the lower half is itself

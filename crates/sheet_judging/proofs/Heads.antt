@@ -6,14 +6,12 @@ use mathlib.Core.List.{List, _∷_}
 use native.Mathlib.Omega.{arith}
 use lib.ListN.{length, getD, drop}
 use lib.Seq.{drop-cons}
-use lib.Dec.{eqb}
 use borrow.Author.Tests.{eq-eqb, ne-eqb}
 use Rattle.integer.specs.Words.{same}
-use Rattle.dstree.specs.Measures.{measures}
 use Rattle.dstree.specs.Sheet.{blockSize, part, numberIn, letters, measuresIn, countIn}
 use Rattle.sheet_judging.specs.Blocks.{blockAt}
 use Rattle.sheet_judging.specs.Heads.{Says}
-use Rattle.sheet_judging.proofs.Parts.{part-part, part-cons}
+use Rattle.dstree.proofs.SheetPieces.{part-part, part-cons}
 
 -- ---- letters
 
@@ -22,7 +20,9 @@ module _ (bytes : List ℕ) (room : 8 ≤ length bytes) (i : ℕ) where
   abbrev lettersFrom : ℕ → Bool
   lettersFrom k = same (part (4 + k) (8 - (4 + k)) bytes) (drop k letters)
 
-  opened : i < 4 → (part (4 + i) (8 - (4 + i)) bytes ≡ getD bytes (4 + i) 0 ∷ part (4 + suc i) (8 - (4 + suc i)) bytes) × (drop i letters ≡ getD letters i 0 ∷ drop (suc i) letters)
+  opened : i < 4
+      → (part (4 + i) (8 - (4 + i)) bytes ≡ getD bytes (4 + i) 0 ∷ part (4 + suc i) (8 - (4 + suc i)) bytes)
+      × (drop i letters ≡ getD letters i 0 ∷ drop (suc i) letters)
   unfolding letters
   opened h =
       let e : suc (4 + i) ≡ 4 + suc i = omega arith in
@@ -44,17 +44,18 @@ module _ (bytes : List ℕ) (room : 8 ≤ length bytes) (i : ℕ) where
 
 -- a field of block 0 is the sheet's
 module _ (bytes : List ℕ) where
-  first-part : (place k : ℕ) → place + k ≤ 512 → part place k (blockAt bytes 0) ≡ part place k bytes
-  unfolding blockSize
-  first-part place k h = let e : 0 + place ≡ place = omega arith in part-part place k 0 512 bytes h ∙ ap (λ (at : ℕ). part at k bytes) e
+  first-part : (place k : ℕ) → place + k ≤ blockSize → part place k (blockAt bytes 0) ≡ part place k bytes
+  first-part place k h =
+      let e : 0 + place ≡ place = omega arith in part-part place k 0 blockSize bytes h ∙ ap (λ (at : ℕ). part at k bytes) e
 
   pub first-letters : part 4 4 (blockAt bytes 0) ≡ part 4 4 bytes
   first-letters = first-part 4 4 (omega arith)
 
-  field : (place : ℕ) → place + 2 ≤ 512 → numberIn (part place 2 (blockAt bytes 0)) ≡ numberIn (part place 2 bytes)
+  field : (place : ℕ) → place + 2 ≤ blockSize → numberIn (part place 2 (blockAt bytes 0)) ≡ numberIn (part place 2 bytes)
   field place h = ap numberIn (first-part place 2 h)
 
-  pub says : (n capacity leafSize count : ℕ) → n ≡ numberIn (part 8 2 bytes) → capacity ≡ numberIn (part 10 2 bytes) → leafSize ≡ numberIn (part 12 2 bytes) → count ≡ numberIn (part 14 2 bytes) → Says (blockAt bytes 0) n capacity leafSize count
+  pub says : (n capacity leafSize count : ℕ) → n ≡ numberIn (part 8 2 bytes) → capacity ≡ numberIn (part 10 2 bytes)
+      → leafSize ≡ numberIn (part 12 2 bytes) → count ≡ numberIn (part 14 2 bytes) → Says (blockAt bytes 0) n capacity leafSize count
   unfolding measuresIn countIn
   says n capacity leafSize count a b c d = record {
     measures-are = rw (field 8 (omega arith), field 10 (omega arith), field 12 (omega arith), a, b, c);

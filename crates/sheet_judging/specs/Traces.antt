@@ -1,14 +1,12 @@
--- The traces that a sheet holds, by what its blocks say.
-use Prim.Native.Nat.{ℕ, _*_}
-use mathlib.Core.List.{List}
+-- The traces that a sheet holds, by what its blocks say, and where a sample stands.
+use Prim.Native.Nat.{ℕ, _+_, _*_, _-_, _<_}
+use mathlib.Core.Path.{_≡_}
+use mathlib.Core.List.{List, map}
 use lib.IntN.{ℤ}
+use lib.ListN.{drop}
 use Rattle.dstree.specs.Measures.{Trace}
-use Rattle.dstree.specs.Sheet.{narrow, part, decoded, measuresIn, countIn, sampleBytesIn, tracesIn}
-use Rattle.sheet_judging.specs.Blocks.{blockAt, blocksFrom}
-
--- sample i of the library, from 0 on, "running on across blocks"
-abbrev pub sampleIn : List ℕ → ℕ → ℤ
-sampleIn bytes i = decoded narrow (part (i * narrow .sampleBytes) (narrow .sampleBytes) (sampleBytesIn (blocksFrom bytes 1)))
+use Rattle.dstree.specs.Sheet.{narrow, blockSize, part, pieces, decoded, measuresIn, countIn, sampleBytesIn, tracesIn}
+use Rattle.sheet_judging.specs.Blocks.{blockAt, laterBlocks}
 
 -- the samples of a trace, and how many traces there are, as block 0 says
 abbrev pub sizeOf : List ℕ → ℕ
@@ -19,4 +17,27 @@ countOf bytes = countIn (blockAt bytes 0)
 
 -- the traces, in order
 abbrev pub tracesOf : List ℕ → List Trace
-tracesOf bytes = tracesIn (countOf bytes) (sizeOf bytes) (blocksFrom bytes 1)
+tracesOf bytes = tracesIn narrow (countOf bytes) (sizeOf bytes) (laterBlocks bytes 1)
+
+-- the number of a sample, by its block and how many of the block's samples lie before it. Block 0 carries none; "running on across blocks"
+abbrev pub numberAt : ℕ → ℕ → ℕ
+numberAt number used = (number - 1) * narrow .samplesPerBlock + used
+
+-- these are sample i's
+pub record IsAt (number used i : ℕ) : Type 0 where
+  pub behind-head : 0 < number
+  pub within : used < narrow .samplesPerBlock
+  pub counted : numberAt number used ≡ i
+
+-- the first byte of a sample, "from byte 4"
+abbrev pub placeOf : ℕ → ℕ → ℕ
+placeOf number used = number * blockSize + 4 + narrow .sampleBytes * used
+
+-- the sample there
+abbrev pub sampleAt : List ℕ → ℕ → ℕ → ℤ
+sampleAt bytes number used = decoded narrow (part (placeOf number used) (narrow .sampleBytes) bytes)
+
+-- so many samples, from a number on
+unfoldable pub samplesFrom : List ℕ → ℕ → ℕ → List ℤ
+samplesFrom bytes first k =
+    map (decoded narrow) (pieces (narrow .sampleBytes) k (drop (first * narrow .sampleBytes) (sampleBytesIn narrow (laterBlocks bytes 1))))

@@ -2,56 +2,87 @@
 
 use sheet::check::check_of;
 use sheet::fields::two_bytes;
+use sheet::fields::wide;
 use tables::Refusal;
 use tables::Verdict;
 ghost use mathlib.Core.Path.{_≡_};
-ghost use Prim.Native.Nat.{suc, _*_, _≤_};
+ghost use Prim.Native.Nat.{ℕ, suc, _*_, _≤_, _<_};
 ghost use lib.ListN.{length};
 ghost use Rattle.dstree.specs.Refusals.{firstOf};
-ghost use Rattle.dstree.specs.Sheet.{blockSize, kindOf, isTorn, blocksIn, tornConditions};
+ghost use Rattle.dstree.specs.Sheet.{blockSize, mostBlocks, narrow, kindOf, isTorn, blocksIn, tornConditions};
 ghost use Rattle.tables.specs.Answers.{foundBy};
 ghost use Rattle.sheet_judging.specs.Blocks.{InBlocks};
+ghost use Rattle.sheet_judging.specs.Traces.{IsAt, placeOf};
 
-// The number of the block that is read next.
+// The number of the block that is read next, and how many of its samples are read already.
 pub struct Cursor {
     pub number: usize,
+    pub used: usize,
 }
 
 impl Cursor {
     pub fn first() -> Cursor
         ensures { λ r. ⌜ r .number ≡ 0 ⌝ }
     {
-        Cursor { number: 0 }
+        Cursor { number: 0, used: 0 }
+    }
+
+    // At a sample by its number: "253 samples each", from block 1 on.
+    pub fn at_sample(i: usize) -> Cursor
+        requires { ⌜ i < mostBlocks * narrow .samplesPerBlock ⌝ }
+        ensures { λ r. ⌜ IsAt (r .number) (r .used) i ⌝ }
+    {
+        Cursor {
+            number: 1 + i / 253,
+            used: i % 253,
+        }
     }
 
     // The byte that the block starts with.
     pub fn start(self) -> usize
-        requires { ⌜ self .number ≤ 4146 ⌝ }
+        requires { ⌜ self .number ≤ mostBlocks ⌝ }
         ensures { λ r. ⌜ r ≡ self .number * blockSize ⌝ }
     {
         self.number * 512
     }
 
+    // The first byte of the sample that is read next.
+    pub fn place(self) -> usize
+        requires { ⌜ (self .number ≤ mostBlocks) × (self .used < narrow .samplesPerBlock) ⌝ }
+        ensures { λ r. ⌜ r ≡ placeOf (self .number) (self .used) ⌝ }
+    {
+        self.start() + 4 + 2 * self.used
+    }
+
     // One block on.
     pub fn next(self) -> Cursor
-        requires { ⌜ self .number ≤ 4146 ⌝ }
-        ensures { λ r. ⌜ r .number ≡ suc (self .number) ⌝ }
+        requires { ⌜ self .number ≤ mostBlocks ⌝ }
+        ensures { λ r. ⌜ (r .number ≡ suc (self .number)) × (r .used ≡ 0) ⌝ }
     {
         Cursor {
             number: self.number + 1,
+            used: 0,
         }
     }
-}
 
-fn wide(byte: u8) -> u64
-    ensures { λ r. ⌜ r ≡ byte ⌝ }
-{
-    byte as u64
+    // One sample on: behind the last of a block's, one block on.
+    pub fn step(self) -> Cursor
+        requires { ⌜ (self .number ≤ mostBlocks) × (self .used < narrow .samplesPerBlock) ⌝ }
+        ensures { λ r. ⌜ ((i : ℕ) → IsAt (self .number) (self .used) i → IsAt (r .number) (r .used) (suc i)) ⌝ }
+    {
+        if self.used < 252 {
+            return Cursor {
+                number: self.number,
+                used: self.used + 1,
+            };
+        }
+        self.next()
+    }
 }
 
 // "kind, 1 for block 0, 2 for others"
 fn kind_of(number: u64) -> u64
-    ensures { λ r. ⌜ r ≡ kindOf number ⌝ }
+    ensures { λ r. ⌜ r ≡ kindOf narrow number ⌝ }
 {
     if number == 0 {
         return 1;
@@ -62,7 +93,7 @@ fn kind_of(number: u64) -> u64
 // 9: check, block number or kind wrong.
 fn is_torn(block: &[u8], number: u64) -> bool
     requires { ⌜ length (now block) ≡ blockSize ⌝ }
-    ensures { λ r. ⌜ r ≡ isTorn number (now (block .entry)) ⌝ }
+    ensures { λ r. ⌜ r ≡ isTorn narrow number (now (block .entry)) ⌝ }
 {
     let check = check_of(block);
     if two_bytes(block, 510) != check {
@@ -77,7 +108,7 @@ fn is_torn(block: &[u8], number: u64) -> bool
 // The first torn block, in the order of their numbers.
 pub fn first_torn(sheet: &[u8]) -> Verdict
     requires { ⌜ InBlocks (now sheet) ⌝ }
-    ensures { λ r. ⌜ foundBy r ≡ firstOf (tornConditions 0 (blocksIn (now (sheet .entry)))) ⌝ }
+    ensures { λ r. ⌜ foundBy r ≡ firstOf (tornConditions narrow 0 (blocksIn (now (sheet .entry)))) ⌝ }
 {
     let count = sheet.len() / 512;
     let mut cursor = Cursor::first();

@@ -11,7 +11,7 @@ ghost use Prim.Native.Nat.{_≤_, _<_};
 ghost use lib.ListN.{length};
 ghost use Rattle.integer.specs.Words.{same};
 ghost use Rattle.dstree.specs.Refusals.{firstOf};
-ghost use Rattle.dstree.specs.Sheet.{part, letters, blocksIn, badConditions};
+ghost use Rattle.dstree.specs.Sheet.{part, blockSize, narrow, letters, blocksIn, badConditions};
 ghost use Rattle.tables.specs.Answers.{foundBy};
 ghost use Rattle.sheet_judging.specs.Blocks.{InBlocks, blockAt};
 ghost use Rattle.sheet_judging.specs.Heads.{Says};
@@ -40,7 +40,7 @@ pub struct Head {
 }
 
 pub fn head_of(sheet: &[u8]) -> Head
-    requires { ⌜ 512 ≤ length (now sheet) ⌝ }
+    requires { ⌜ blockSize ≤ length (now sheet) ⌝ }
     ensures { λ r. ⌜ Says (blockAt (now (sheet .entry)) 0) (r .n) (r .capacity) (r .leaf) (r .count) ⌝ }
 {
     Head {
@@ -54,7 +54,7 @@ pub fn head_of(sheet: &[u8]) -> Head
 // 10: letters, measures, count above capacity, number of blocks, or a nonzero byte that must be 0.
 pub fn judge_contents(sheet: &[u8]) -> Verdict
     requires { ⌜ InBlocks (now sheet) ⌝ }
-    ensures { λ r. ⌜ foundBy r ≡ firstOf (badConditions (blocksIn (now (sheet .entry)))) ⌝ }
+    ensures { λ r. ⌜ foundBy r ≡ firstOf (badConditions narrow (blocksIn (now (sheet .entry)))) ⌝ }
 {
     if !letters_fit(sheet) {
         return Verdict::Refused(Refusal::BadSheet);

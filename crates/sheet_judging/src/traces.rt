@@ -1,19 +1,20 @@
 // The traces that an accepted sheet holds, one at a time.
 
+use crate::blocks::Cursor;
 use sheet::fields::two_bytes;
 ghost use mathlib.Core.Path.{_≡_};
 ghost use mathlib.Core.List.{List, []};
 ghost use mathlib.Core.Option.{none};
-ghost use Prim.Native.Nat.{ℕ, _*_, _-_, _<_};
+ghost use Prim.Native.Nat.{ℕ, _+_, _*_, _-_, _^_, _≤_, _<_};
 ghost use lib.ListN.{length, getD};
 ghost use Rattle.dstree.specs.Refusals.{firstOf};
 ghost use Rattle.dstree.specs.Sheet.{narrow, numberIn, decoded, sheetConditions};
 ghost use Rattle.sheet_judging.specs.Blocks.{InBlocks, blockCount};
-ghost use Rattle.sheet_judging.specs.Traces.{sampleIn, sizeOf, countOf, tracesOf};
+ghost use Rattle.sheet_judging.specs.Traces.{sizeOf, countOf, tracesOf, numberAt, IsAt, sampleAt, samplesFrom};
 
 // The sample that two bytes are, "two's complement": from 32,768 on, a number stands for itself less 65,536.
 fn decode(v: u64) -> i16
-    requires { ⌜ v < 65536 ⌝ }
+    requires { ⌜ v < 256 ^ narrow .sampleBytes ⌝ }
     ensures { λ r. ⌜ ((bytes : List ℕ) → numberIn bytes ≡ v → r ≡ decoded narrow bytes) ⌝ }
 {
     if v < 32768 {
@@ -22,13 +23,31 @@ fn decode(v: u64) -> i16
     (v as i64 - 65536) as i16
 }
 
-// A sample by its number: 253 in each block behind block 0, from byte 4 on.
-fn sample_at(sheet: &[u8], i: usize) -> i16
-    requires { ⌜ InBlocks (now sheet) × (i < (blockCount (now sheet) - 1) * narrow .samplesPerBlock) ⌝ }
-    ensures { λ r. ⌜ r ≡ sampleIn (now (sheet .entry)) i ⌝ }
+// The sample that is read next.
+fn sample_at(sheet: &[u8], cursor: Cursor) -> i16
+    requires { ⌜ InBlocks (now sheet) × (cursor .number < blockCount (now sheet)) × (cursor .used < narrow .samplesPerBlock) ⌝ }
+    ensures { λ r. ⌜ r ≡ sampleAt (now (sheet .entry)) (cursor .number) (cursor .used) ⌝ }
 {
-    let place = (1 + i / 253) * 512 + 4 + 2 * (i % 253);
+    let place = cursor.place();
     decode(two_bytes(sheet, place))
+}
+
+// As many samples as there are places, from the cursor on; and the cursor behind them.
+pub fn read_samples(sheet: &[u8], from: Cursor, places: &mut [i16]) -> Cursor
+    requires { ⌜ InBlocks (now sheet) × IsAt (from .number) (from .used) (numberAt (from .number) (from .used))
+        × (numberAt (from .number) (from .used) + length (now places) ≤ (blockCount (now sheet) - 1) * narrow .samplesPerBlock) ⌝ }
+    ensures { λ r. ⌜ (now (places .exit) ≡ samplesFrom (now (sheet .entry)) (numberAt (from .number) (from .used)) (length (now (places .entry))))
+        × IsAt (r .number) (r .used) (numberAt (from .number) (from .used) + length (now (places .entry))) ⌝ }
+{
+    let n = places.len();
+    let mut cursor = from;
+    let mut i = 0;
+    while i < n {
+        places[i] = sample_at(sheet, cursor);
+        cursor = cursor.step();
+        i += 1;
+    }
+    cursor
 }
 
 // A trace by its number, of a sheet that is not refused.
@@ -36,11 +55,6 @@ pub fn read_trace(sheet: &[u8], number: usize, trace: &mut [i16])
     requires { ⌜ (firstOf (sheetConditions (now sheet)) ≡ none) × (number < countOf (now sheet)) × (length (now trace) ≡ sizeOf (now sheet)) ⌝ }
     ensures { λ _. ⌜ now (trace .exit) ≡ getD (tracesOf (now (sheet .entry))) number [] ⌝ }
 {
-    let n = trace.len();
-    let first = number * n;
-    let mut i = 0;
-    while i < n {
-        trace[i] = sample_at(sheet, first + i);
-        i += 1;
-    }
+    let from = Cursor::at_sample(number * trace.len());
+    read_samples(sheet, from, trace);
 }

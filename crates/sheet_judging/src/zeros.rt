@@ -5,8 +5,8 @@ ghost use mathlib.Core.Path.{_≡_};
 ghost use Prim.Native.Nat.{suc, _-_, _*_, _≤_};
 ghost use lib.ListN.{length, drop};
 ghost use Rattle.integer.specs.Words.{roundedUp};
-ghost use Rattle.dstree.specs.Sheet.{part, areZero, blocksIn, narrow, sampleBytesIn, zerosIn};
-ghost use Rattle.sheet_judging.specs.Blocks.{InBlocks, blockCount, blockAt, blocksFrom, thirdsIn};
+ghost use Rattle.dstree.specs.Sheet.{part, narrow, areZero, thirdsIn, blocksIn, sampleBytesIn, zerosIn};
+ghost use Rattle.sheet_judging.specs.Blocks.{InBlocks, blockCount, blockAt, laterBlocks};
 
 // The bytes from one place to another.
 fn zeros(bytes: &[u8], from: usize, to: usize) -> bool
@@ -43,7 +43,7 @@ fn thirds_zero(sheet: &[u8]) -> bool
 // What is left behind the last of so many samples, in the last block. With no sample there is no such block.
 fn left_zero(sheet: &[u8], samples: usize) -> bool
     requires { ⌜ InBlocks (now sheet) × (blockCount (now sheet) ≡ suc (roundedUp samples (narrow .samplesPerBlock))) ⌝ }
-    ensures { λ r. ⌜ r ≡ areZero (drop (narrow .sampleBytes * samples) (sampleBytesIn (blocksFrom (now (sheet .entry)) 1))) ⌝ }
+    ensures { λ r. ⌜ r ≡ areZero (drop (samples * narrow .sampleBytes) (sampleBytesIn narrow (laterBlocks (now (sheet .entry)) 1))) ⌝ }
 {
     let last = sheet.len() / 512 - 1;
     if last == 0 {
@@ -57,7 +57,7 @@ fn left_zero(sheet: &[u8], samples: usize) -> bool
 // Every byte that must be 0, of a sheet with as many blocks as so many samples need.
 pub fn all_zero(sheet: &[u8], samples: usize) -> bool
     requires { ⌜ InBlocks (now sheet) × (blockCount (now sheet) ≡ suc (roundedUp samples (narrow .samplesPerBlock))) ⌝ }
-    ensures { λ r. ⌜ r ≡ areZero (zerosIn samples (blockAt (now (sheet .entry)) 0) (blocksFrom (now (sheet .entry)) 1)) ⌝ }
+    ensures { λ r. ⌜ r ≡ areZero (zerosIn narrow samples (blockAt (now (sheet .entry)) 0) (laterBlocks (now (sheet .entry)) 1)) ⌝ }
 {
     if !thirds_zero(sheet) {
         return false;

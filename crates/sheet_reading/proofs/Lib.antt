@@ -1,3 +1,3 @@
-pub mod Told
+pub mod Ends
 pub mod Library
 pub mod Steps

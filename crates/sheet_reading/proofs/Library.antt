@@ -2,7 +2,7 @@
 use mathlib.Core.Path.{_≡_, sym, ap, _∙_, subst}
 use mathlib.Core.Option.{none}
 use mathlib.Core.List.{List, [], _∷_, _++_, foldl, foldl-append}
-use Prim.Native.Nat.{ℕ, suc, _+_, _<_}
+use Prim.Native.Nat.{ℕ, suc, _<_}
 use native.Mathlib.Omega.{arith}
 use lib.IntN.{ℤ}
 use lib.ListN.{length, getD, take, drop, take-append-drop}
@@ -13,7 +13,7 @@ use Rattle.integer.specs.Words.{every}
 use Rattle.integer.proofs.Lists.{in-getD}
 use Rattle.dstree.specs.Measures.{Trace, Measures, sampleLimit, isLibrary}
 use Rattle.dstree.specs.Refusals.{firstOf}
-use Rattle.dstree.specs.Sheet.{areBytes, pieces, tracesIn, sheetConditions}
+use Rattle.dstree.specs.Sheet.{areBytes, tracesIn, sheetConditions}
 use Rattle.dstree.proofs.Laws.{trace-length}
 use Rattle.dstree.proofs.RoundTrips.{is-library}
 use Rattle.dstree.proofs.SheetPieces.{pieces-length}
@@ -22,7 +22,7 @@ use Rattle.insertion_memory.specs.Memory.{addedTo}
 use Rattle.insertion_memory.proofs.Made.{Holds, count-is, room, is-trace, shorter, holds-all}
 use Rattle.adding.specs.Putting.{Takes}
 use Rattle.sheet_judging.specs.Traces.{sizeOf, countOf, tracesOf}
-use Rattle.sheet_reading.proofs.Told.{said, judged-holds}
+use Rattle.sheet_reading.proofs.Ends.{said, judged-holds}
 
 -- a slice of bytes
 pub known-bytes : (l : List ℕ) → ((i : ℕ) → getD l i 0 < 256) → T (areBytes l)
@@ -51,7 +51,8 @@ module _ (bytes : List ℕ) (sound : firstOf (sheetConditions bytes) ≡ none) (
   pub trace-size : (i : ℕ) → i < countOf bytes → length (getD traces i []) ≡ said bytes .n
   trace-size i h =
       let inside : i < length traces = omega (arith, traces-count bytes) in
-      trace-length sampleLimit (said bytes .n) (getD traces i []) (is-trace sampleLimit (said bytes) [] traces whole (in-getD traces i [] inside))
+      trace-length sampleLimit (said bytes .n) (getD traces i [])
+      (is-trace sampleLimit (said bytes) [] traces whole (in-getD traces i [] inside))
 
   -- the first traces, added to an empty library
   module _ (t : Tables) (empty : Holds t (said bytes) []) (i : ℕ) where
@@ -63,10 +64,12 @@ module _ (bytes : List ℕ) (sound : firstOf (sheetConditions bytes) ≡ none) (
       in-traces = subst (λ (k : ℕ). i < k) (sym (traces-count bytes)) inside
 
       next-less : length (take i traces) < said bytes .capacity
-      next-less = omega (arith, room sampleLimit (said bytes) [] traces whole, in-traces, length-take-le i traces (omega (arith, in-traces)))
+      next-less =
+          omega (arith, room sampleLimit (said bytes) [] traces whole, in-traces, length-take-le i traces (omega (arith, in-traces)))
 
       -- tables that hold the first traces take the next one
-      pub takes-next : (control : List ℕ) (samples nodes : List ℤ) (links : List ℕ) → tables control samples nodes links [] ≡ foldl addedTo t (take i traces) → Takes control samples nodes links (getD traces i [])
+      pub takes-next : (control : List ℕ) (samples nodes : List ℤ) (links : List ℕ)
+          → tables control samples nodes links [] ≡ foldl addedTo t (take i traces) → Takes control samples nodes links (getD traces i [])
       takes-next control samples nodes links e =
           let u = tables control samples nodes links [] in
           let h : Holds u (said bytes) (take i traces) = subst (λ (x : Tables). Holds x (said bytes) (take i traces)) (sym e) holds-first in

@@ -8,10 +8,11 @@ use Rattle.dstree.specs.Measures.{Measures, inRange}
 use Rattle.tables.specs.Tables.{Tables, tables, lentOf}
 use Rattle.tables.specs.View.{treeIn, tracesIn, kindsNamed, wellFormed}
 use Rattle.tables.specs.Answers.{opened}
-use Rattle.tables.proofs.Judged.{Room}
+use Rattle.tables.specs.Judge.{Room}
 use Rattle.insertion_memory.proofs.Made.{Holds, holds-none}
 
-without-work : (control : List ℕ) (samples nodes : List ℤ) (links work : List ℕ) (m : Measures) → Holds (tables control samples nodes links work) m [] → Holds (tables control samples nodes links []) m []
+without-work : (control : List ℕ) (samples nodes : List ℤ) (links work : List ℕ) (m : Measures)
+    → Holds (tables control samples nodes links work) m [] → Holds (tables control samples nodes links []) m []
 unfolding wellFormed kindsNamed treeIn tracesIn
 without-work control samples nodes links work m h = record {
   formed = h .formed;
@@ -21,5 +22,8 @@ without-work control samples nodes links work m h = record {
   tree-is = h .tree-is;
 }
 
-pub opened-empty : (t : Tables) (m : Measures) → T (inRange m) → Room (lentOf t) m → (control : List ℕ) (samples nodes : List ℤ) (links work : List ℕ) → tables control samples nodes links work ≡ opened t m → Holds (tables control samples nodes links []) m []
-opened-empty t m range room control samples nodes links work e = without-work control samples nodes links work m (subst (λ (u : Tables). Holds u m []) (sym e) (holds-none t m range room))
+pub opened-empty : (t : Tables) (m : Measures) → T (inRange m) → Room (lentOf t) m
+    → (control : List ℕ) (samples nodes : List ℤ) (links work : List ℕ) → tables control samples nodes links work ≡ opened t m
+    → Holds (tables control samples nodes links []) m []
+opened-empty t m range room control samples nodes links work e =
+    without-work control samples nodes links work m (subst (λ (u : Tables). Holds u m []) (sym e) (holds-none t m range room))

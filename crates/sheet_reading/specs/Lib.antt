@@ -1,4 +1,3 @@
--- What reading leaves and answers, and what has to hold so that the traces of a sheet can be added.
-pub mod Loaded
+-- What reading a sheet answers, and what has to hold so that its traces can be added.
 pub mod Answered
 pub mod Loads

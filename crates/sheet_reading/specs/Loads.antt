@@ -8,7 +8,7 @@ use lib.ListN.{getD}
 use Rattle.dstree.specs.Refusals.{firstOf}
 use Rattle.dstree.specs.Sheet.{measuresIn, sheetConditions}
 use Rattle.tables.specs.Tables.{tables}
-use Rattle.insertion_memory.proofs.Made.{Holds}
+use Rattle.tables.specs.Holds.{Holds}
 use Rattle.adding.specs.Putting.{Takes}
 use Rattle.sheet_judging.specs.Blocks.{blockAt}
 use Rattle.sheet_judging.specs.Traces.{sizeOf, countOf, tracesOf}

@@ -8,9 +8,11 @@ use sheet_judging::contents::head_of;
 use tables::Refusal;
 use tables::Verdict;
 ghost use mathlib.Core.Path.{_≡_};
+ghost use mathlib.Core.List.{[]};
+ghost use Rattle.dstree.specs.Book.{reading};
 ghost use Rattle.tables.specs.Tables.{tables};
-ghost use Rattle.tables.specs.Answers.{outcome};
-ghost use Rattle.sheet_reading.specs.Loaded.{readOf};
+ghost use Rattle.calls.specs.Outcome.{outcome};
+ghost use Rattle.calls.specs.Effects.{outcomeOn};
 ghost use Rattle.sheet_reading.specs.Answered.{answerOf};
 
 // That the tables hold the sheet's library, or a refusal.
@@ -34,9 +36,9 @@ pub fn read_sheet(
 ) -> Read
     ensures { λ r. ⌜ outcome (answerOf r)
         (tables (now (control .exit)) (now (samples .exit)) (now (nodes .exit)) (now (links .exit)) (now (work .exit)))
-        ≡ readOf
-        (tables (now (control .entry)) (now (samples .entry)) (now (nodes .entry)) (now (links .entry)) (now (work .entry)))
-        (now (sheet .entry)) ⌝ }
+        []
+        ≡ outcomeOn (reading (now (sheet .entry)))
+        (tables (now (control .entry)) (now (samples .entry)) (now (nodes .entry)) (now (links .entry)) (now (work .entry))) ⌝ }
 {
     let verdict = judging::judge_reading(
         control.len(),

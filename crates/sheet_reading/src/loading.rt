@@ -22,7 +22,9 @@ fn put_next(
     trace: &mut [i16],
 )
     requires { ⌜ Next (now control) (now samples) (now nodes) (now links) (now sheet) (length (now trace)) number ⌝ }
-    ensures { λ _. ⌜ ((work : List ℕ) → tables (now (control .exit)) (now (samples .exit)) (now (nodes .exit)) (now (links .exit)) work ≡ addedTo (tables (now (control .entry)) (now (samples .entry)) (now (nodes .entry)) (now (links .entry)) work) (getD (tracesOf (now (sheet .entry))) number [])) ⌝ }
+    ensures { λ _. ⌜ ((work : List ℕ) → tables (now (control .exit)) (now (samples .exit)) (now (nodes .exit)) (now (links .exit)) work
+        ≡ addedTo (tables (now (control .entry)) (now (samples .entry)) (now (nodes .entry)) (now (links .entry)) work)
+        (getD (tracesOf (now (sheet .entry))) number [])) ⌝ }
 {
     read_trace(sheet, number, trace);
     put(control, samples, nodes, links, trace);
@@ -39,7 +41,9 @@ fn put_one(
     number: usize,
 )
     requires { ⌜ Next (now control) (now samples) (now nodes) (now links) (now sheet) n number ⌝ }
-    ensures { λ _. ⌜ ((work : List ℕ) → tables (now (control .exit)) (now (samples .exit)) (now (nodes .exit)) (now (links .exit)) work ≡ addedTo (tables (now (control .entry)) (now (samples .entry)) (now (nodes .entry)) (now (links .entry)) work) (getD (tracesOf (now (sheet .entry))) number [])) ⌝ }
+    ensures { λ _. ⌜ ((work : List ℕ) → tables (now (control .exit)) (now (samples .exit)) (now (nodes .exit)) (now (links .exit)) work
+        ≡ addedTo (tables (now (control .entry)) (now (samples .entry)) (now (nodes .entry)) (now (links .entry)) work)
+        (getD (tracesOf (now (sheet .entry))) number [])) ⌝ }
 {
     let mut trace = [0i16; 256];
     put_next(
@@ -64,7 +68,9 @@ pub fn load(
     count: usize,
 )
     requires { ⌜ Loads (now control) (now samples) (now nodes) (now links) (now sheet) n count ⌝ }
-    ensures { λ _. ⌜ ((work : List ℕ) → tables (now (control .exit)) (now (samples .exit)) (now (nodes .exit)) (now (links .exit)) work ≡ foldl addedTo (tables (now (control .entry)) (now (samples .entry)) (now (nodes .entry)) (now (links .entry)) work) (take count (tracesOf (now (sheet .entry))))) ⌝ }
+    ensures { λ _. ⌜ ((work : List ℕ) → tables (now (control .exit)) (now (samples .exit)) (now (nodes .exit)) (now (links .exit)) work
+        ≡ foldl addedTo (tables (now (control .entry)) (now (samples .entry)) (now (nodes .entry)) (now (links .entry)) work)
+        (take count (tracesOf (now (sheet .entry))))) ⌝ }
 {
     let mut number = 0;
     while number < count {

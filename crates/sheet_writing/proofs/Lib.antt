@@ -2,5 +2,4 @@ pub mod Runs
 pub mod BlockByBlock
 pub mod Stored
 pub mod Conditions
-pub mod Needed
-pub mod Told
+pub mod Ends

@@ -1,4 +1,3 @@
--- What writing a sheet refuses, answers and leaves.
-pub mod Written
+-- What writing a sheet answers, and what it leaves block by block.
 pub mod Filled
 pub mod Answered

@@ -6,9 +6,11 @@ pub mod filling; // the blocks of a sheet
 use tables::Refusal;
 use tables::Verdict;
 ghost use mathlib.Core.Path.{_≡_};
+ghost use mathlib.Core.List.{[], _∷_};
+ghost use Rattle.dstree.specs.Book.{writing};
 ghost use Rattle.tables.specs.Tables.{tables};
-ghost use Rattle.tables.specs.Answers.{outcomeWith};
-ghost use Rattle.sheet_writing.specs.Written.{writeOf};
+ghost use Rattle.calls.specs.Outcome.{outcome};
+ghost use Rattle.calls.specs.Effects.{outcomeOn};
 ghost use Rattle.sheet_writing.specs.Answered.{answerBy};
 
 // The number of blocks, or a refusal.
@@ -29,15 +31,13 @@ pub fn write_sheet(
     work: &[u64],
     sheet: &mut [u8],
 ) -> Written
-    ensures { λ r. ⌜ outcomeWith (answerBy r (now (sheet .exit)))
+    ensures { λ r. ⌜ outcome (answerBy r (now (sheet .exit)))
         (tables (now (control .entry)) (now (samples .entry)) (now (nodes .entry)) (now (links .entry)) (now (work .entry)))
-        (now (sheet .exit))
-        ≡ writeOf
-        (tables (now (control .entry)) (now (samples .entry)) (now (nodes .entry)) (now (links .entry)) (now (work .entry)))
-        (now (sheet .entry)) ⌝ }
+        (now (sheet .exit) ∷ [])
+        ≡ outcomeOn (writing (now (sheet .entry)))
+        (tables (now (control .entry)) (now (samples .entry)) (now (nodes .entry)) (now (links .entry)) (now (work .entry))) ⌝ }
 {
-    let places = sheet.len();
-    let verdict = judging::judge_writing(control, samples, nodes, links, work, places);
+    let verdict = judging::judge(control, samples, nodes, links, work, sheet);
     match verdict {
         Verdict::Refused(why) => Written::Refused(why),
         Verdict::Fine => Written::Blocks(filling::fill_sheet(control, samples, sheet)),

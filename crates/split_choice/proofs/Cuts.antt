@@ -9,13 +9,7 @@ use borrow.Author.Tests.{ltb-true, ltb-false}
 use Rattle.integer.specs.Words.{if_then_else_}
 use Rattle.integer.proofs.Lists.{In, first, later}
 use Rattle.dstree.specs.Adding.{cutAt}
-use Rattle.dstree.proofs.Parted.{Parted, p-last, p-more}
 use Rattle.leaf_figures.specs.Ends.{Rise, r-none, r-more}
-
--- ends that part 1 to n rise
-pub parted-rise : {n from : ℕ} {l : List ℕ} → Parted n from l → Rise n from l × (from ≤ n)
-parted-rise {n} {from} (p-last h) = (r-more h (omega arith) r-none, h)
-parted-rise {n} {from} (p-more {e} h p) = let r = parted-rise p in (r-more h (omega (arith, r .1)) (r .0), omega (arith, r .1))
 
 pub rise-in : {n from x : ℕ} {l : List ℕ} → Rise n from l → In x l → from ≤ x
 rise-in (r-more h k r) first = h

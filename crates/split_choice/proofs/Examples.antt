@@ -6,7 +6,7 @@ use Prim.Native.Nat.{ℕ, zero, suc}
 use native.Mathlib.Omega.{arith}
 use lib.IntN.{ℤ, pos}
 use lib.ListN.{replicate}
-use Rattle.leaf_figures.specs.Walk.{Rising, Stored}
+use Rattle.tables.specs.Walk.{Rising, Stored}
 use Rattle.leaf_figures.specs.Ends.{endsOf, Room, Rise, r-none, r-more}
 use Rattle.leaf_figures.specs.declared.ends.Ends.{Ends}
 

@@ -12,7 +12,7 @@ use Rattle.integer.proofs.Lists.{In, in-cons}
 use Rattle.dstree.specs.Measures.{Trace}
 use Rattle.dstree.specs.Figures.{run}
 use Rattle.dstree.specs.Adding.{Split, byEither, halves, cutAt, candidatesFrom, best}
-use Rattle.leaf_figures.specs.Runs.{Inside}
+use Rattle.tables.specs.Runs.{Inside}
 use Rattle.leaf_figures.specs.Ends.{Rise, r-more}
 use Rattle.split_choice.specs.Choosing.{chosenBy, tried, Sound}
 use Rattle.split_choice.specs.declared.choice.Choice.{Choice}
@@ -35,7 +35,13 @@ module _ (n : ℕ) (stored : List Trace) (all numbers : List ℕ) where
     pub cuts : (m : ℕ) → first ≤ m → m ≤ n → (In m rest → ⊥) → Rise n 1 (cutAt m all)
 
   pub going-start : Rise n 1 all → Going nothing 1 all
-  going-start r = record { from-1 = omega arith; sound = λ e. (let z : _≡_ {A = ℕ} 0 1 = cc in absurd (omega arith)); comes = all-tried stored all numbers; rise = r; cuts = λ m h k f. rise-cut m r h k f }
+  going-start r = record {
+    from-1 = omega arith;
+    sound = λ e. (let z : _≡_ {A = ℕ} 0 1 = cc in absurd (omega arith));
+    comes = all-tried stored all numbers;
+    rise = r;
+    cuts = λ m h k f. rise-cut m r h k f;
+  }
 
   pub going-end : {found : Choice} {first : ℕ} → Going found first [] → chosenBy stored all numbers found ≡ best stored all numbers
   unfolding candidatesFrom
@@ -44,7 +50,8 @@ module _ (n : ℕ) (stored : List Trace) (all numbers : List ℕ) where
   pub record Turn (first end : ℕ) (rest : List ℕ) : Type 0 where
     pub inside : Inside n first end
     pub cuts : (m : ℕ) → first ≤ m → m < end → Rise n 1 (cutAt m all)
-    pub on : (found next : Choice) → Going found first (end ∷ rest) → chosenBy stored all numbers next ≡ tried stored all numbers (chosenBy stored all numbers found) (byEither (run first end) all ++ halves all (run first end)) → Sound n stored all numbers next → Going next (end + 1) rest
+    pub on : (found next : Choice) → Going found first (end ∷ rest) → chosenBy stored all numbers next
+        ≡ tried stored all numbers (chosenBy stored all numbers found) (byEither (run first end) all ++ halves all (run first end)) → Sound n stored all numbers next → Going next (end + 1) rest
 
   turn-by : {first end : ℕ} {rest : List ℕ} → 1 ≤ first → Rise n first (end ∷ rest) → ((m : ℕ) → first ≤ m → m ≤ n → (In m (end ∷ rest) → ⊥) → Rise n 1 (cutAt m all)) → Turn first end rest
   turn-by {first} {end} {rest} h (r-more a b r) cuts = record {
@@ -53,7 +60,8 @@ module _ (n : ℕ) (stored : List Trace) (all numbers : List ℕ) where
     on = λ found next g e s. record {
       from-1 = omega arith;
       sound = s;
-      comes = ap (λ (o : Option Split). tried stored all numbers o (candidatesFrom all (end + 1) rest)) e ∙ (sym (segment-tried stored all numbers (chosenBy stored all numbers found) first end rest) ∙ g .comes);
+      comes = ap (λ (o : Option Split). tried stored all numbers o (candidatesFrom all (end + 1) rest)) e
+          ∙ (sym (segment-tried stored all numbers (chosenBy stored all numbers found) first end rest) ∙ g .comes);
       rise = subst (λ (x : ℕ). Rise n x rest) (sym (add-one end)) r;
       cuts = λ m k l f. cuts m (omega arith) l (λ i. passed m k f (in-cons i));
     };

@@ -13,8 +13,8 @@ use Rattle.dstree.specs.Figures.{run}
 use Rattle.dstree.specs.Node.{figureOf}
 use Rattle.dstree.specs.Adding.{Candidate, candidates, candidatesFrom, byEither, halves, Split, thresholdOf, testOf, splitBy, parts, gain, bestOf, best, tracesOf}
 use Rattle.dstree.proofs.Parting.{parting}
-use Rattle.leaf_figures.specs.Runs.{figureBy}
-use Rattle.split_choice.specs.Marking.{testBy}
+use Rattle.tables.specs.Runs.{figureBy}
+use Rattle.tables.specs.Runs.{testBy}
 use Rattle.split_choice.specs.Choosing.{childEnds, candidateBy, splitOn, splitOf, chosenBy, choiceOf, betterOf, betterSplit, tryOne, tried, Fit, Found, Sound}
 use Rattle.split_choice.specs.declared.choice.Trial.{Trial}
 use Rattle.split_choice.specs.declared.choice.Choice.{Choice}
@@ -52,7 +52,8 @@ module _ (stored : List Trace) (all numbers : List ℕ) where
 
   -- a segment's candidates, then those behind it
   pub segment-tried : (o : Option Split) (first end : ℕ) (rest : List ℕ)
-      → tried stored all numbers o (candidatesFrom all first (end ∷ rest)) ≡ tried stored all numbers (tried stored all numbers o (byEither (run first end) all ++ halves all (run first end))) (candidatesFrom all (end + 1) rest)
+      → tried stored all numbers o (candidatesFrom all first (end ∷ rest))
+      ≡ tried stored all numbers (tried stored all numbers o (byEither (run first end) all ++ halves all (run first end))) (candidatesFrom all (end + 1) rest)
   unfolding candidatesFrom
   segment-tried o first end rest =
       rw (add-one end) (fold-append (tryOne stored all numbers) o (byEither (run first end) all ++ halves all (run first end)) (candidatesFrom all (suc end) rest))
@@ -79,7 +80,8 @@ module _ (stored : List Trace) (all numbers : List ℕ) where
         where
           on : (t : Bool) → old .found ≡ true → ltZ (old .gain) (new .gain) ≡ t
               → chosenBy stored all numbers (if t then new else old)
-              ≡ some (if ltZ (gain stored all numbers (splitOf stored all numbers old)) (gain stored all numbers (splitOf stored all numbers new)) then splitOf stored all numbers new else splitOf stored all numbers old)
+              ≡ some (if ltZ (gain stored all numbers (splitOf stored all numbers old)) (gain stored all numbers (splitOf stored all numbers new)) then
+              splitOf stored all numbers new else splitOf stored all numbers old)
           on true f q = rw (← sound f .gain-is, ← good .gain-is, q, is-new)
           on false f q = rw (← sound f .gain-is, ← good .gain-is, q, f)
 

@@ -13,11 +13,11 @@ use Rattle.dstree.specs.Measures.{Trace}
 use Rattle.dstree.specs.Figures.{run}
 use Rattle.dstree.specs.Node.{Test, goesLeft}
 use Rattle.dstree.specs.Adding.{Candidate, cutAt, Split, splitBy, parts, gain, spread}
-use Rattle.leaf_figures.specs.Walk.{storedIn, numbersOf, leafTraces, Stored}
-use Rattle.leaf_figures.specs.Runs.{figureBy, Inside}
+use Rattle.tables.specs.Walk.{storedIn, numbersOf, leafTraces, Stored}
+use Rattle.tables.specs.Runs.{figureBy, Inside}
 use Rattle.leaf_figures.specs.Ends.{endsOf, Room, Rise}
 use Rattle.leaf_figures.specs.declared.ends.Ends.{Ends}
-use Rattle.split_choice.specs.Marking.{testBy}
+use Rattle.tables.specs.Runs.{testBy}
 use Rattle.split_choice.specs.declared.choice.Trial.{Trial}
 use Rattle.split_choice.specs.declared.choice.Choice.{Choice}
 

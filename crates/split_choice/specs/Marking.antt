@@ -2,15 +2,7 @@
 use Prim.Native.Nat.{ℕ}
 use mathlib.Core.Bool.{Bool, true, false}
 use mathlib.Core.List.{List, foldl}
-use lib.IntN.{ℤ}
 use lib.ListN.{set}
-use Rattle.dstree.specs.Figures.{run}
-use Rattle.dstree.specs.Node.{Test}
-use Rattle.leaf_figures.specs.Runs.{figureBy}
-
--- a test by its numbers
-abbrev pub testBy : ℕ → ℕ → Bool → ℤ → Test
-testBy first last byScatter threshold = record { on = run first last; figure = figureBy byScatter; threshold = threshold }
 
 -- 1 left, 2 right
 abbrev pub codeOf : Bool → ℕ

@@ -6,8 +6,8 @@ ghost use mathlib.Core.List.{_∷_, [], _++_};
 ghost use Prim.Native.Nat.{ℕ, _≤_, _<_};
 ghost use Rattle.dstree.specs.Figures.{run};
 ghost use Rattle.dstree.specs.Adding.{byEither, halves, cutAt, best};
-ghost use Rattle.leaf_figures.specs.Walk.{storedIn, numbersOf, Stored};
-ghost use Rattle.leaf_figures.specs.Runs.{Inside};
+ghost use Rattle.tables.specs.Walk.{storedIn, numbersOf, Stored};
+ghost use Rattle.tables.specs.Runs.{Inside};
 ghost use Rattle.leaf_figures.specs.Ends.{endsOf, Room, Rise};
 ghost use Rattle.split_choice.specs.Choosing.{choiceOf, betterOf, candidateBy, childEnds, chosenIn, SoundIn, After, Fit, Leaf};
 
@@ -125,7 +125,8 @@ fn try_segment(
     last: usize,
     old: Choice,
 ) -> Choice
-    requires { ⌜ Leaf (now samples) (now links) n k head e whole × Inside n first last × ((m : ℕ) → first ≤ m → m < last → Rise n 1 (cutAt m (endsOf e))) × SoundIn (now samples) (now links) n k head e old ⌝ }
+    requires { ⌜ Leaf (now samples) (now links) n k head e whole × Inside n first last
+        × ((m : ℕ) → first ≤ m → m < last → Rise n 1 (cutAt m (endsOf e))) × SoundIn (now samples) (now links) n k head e old ⌝ }
     ensures { λ r. ⌜ After (now (samples .entry)) (now (links .entry)) n k head e old (byEither (run first last) (endsOf e) ++ halves (endsOf e) (run first last)) r ⌝ }
 {
     let count = e.count;

@@ -6,10 +6,10 @@ use leaf_figures::spread::side_spread;
 ghost use mathlib.Core.Path.{_≡_};
 ghost use Prim.Native.Nat.{_+_, _*_, _^_, _<_, _≤_};
 ghost use lib.IntN.{pos, _-ℤ_};
-ghost use Rattle.leaf_figures.specs.Walk.{storedIn, numbersOf};
+ghost use Rattle.tables.specs.Walk.{storedIn, numbersOf};
 ghost use Rattle.leaf_figures.specs.Ends.{endsOf, Room};
 ghost use Rattle.dstree.specs.Adding as adding;
-ghost use Rattle.split_choice.specs.Marking.{testBy};
+ghost use Rattle.tables.specs.Runs.{testBy};
 ghost use Rattle.split_choice.specs.Choosing.{childEnds, Fit, Leaf, splitOn};
 
 // Twice the leaf's spread less both children's. It is a number with a sign: children's spreads can be the larger ones.
@@ -45,7 +45,8 @@ pub fn gain_of(
     threshold: i64,
 ) -> i64
     requires { ⌜ Leaf (now samples) (now links) n k head e whole × Fit n (endsOf e) (c .first) (c .last) (c .cut) ⌝ }
-    ensures { λ r. ⌜ r ≡ adding.gain (storedIn (now (samples .entry)) n k) (endsOf e) (numbersOf (now (links .entry)) k head) (splitOn (storedIn (now (samples .entry)) n k) (numbersOf (now (links .entry)) k head) (testBy (c .first) (c .last) (c .«by_scatter») threshold) (childEnds (c .cut) (endsOf e))) ⌝ }
+    ensures { λ r. ⌜ r ≡ adding.gain (storedIn (now (samples .entry)) n k) (endsOf e) (numbersOf (now (links .entry)) k head)
+        (splitOn (storedIn (now (samples .entry)) n k) (numbersOf (now (links .entry)) k head) (testBy (c .first) (c .last) (c .«by_scatter») threshold) (childEnds (c .cut) (endsOf e))) ⌝ }
 {
     let first = c.first;
     let last = c.last;

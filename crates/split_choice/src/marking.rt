@@ -5,11 +5,12 @@ ghost use Prim.Native.Nat.{ℕ};
 ghost use lib.ListN.{length, getD};
 ghost use Rattle.dstree.specs.Node.{goesLeft};
 ghost use Rattle.tables.specs.View.{traceIn};
-ghost use Rattle.leaf_figures.specs.Walk.{storedIn, numbersOf, Stored};
-ghost use Rattle.leaf_figures.specs.Runs.{RunIn, Inside};
-ghost use Rattle.split_choice.specs.Marking.{testBy, codeOf, marksBy};
+ghost use Rattle.tables.specs.Walk.{storedIn, numbersOf, Stored};
+ghost use Rattle.tables.specs.Runs.{RunIn, Inside};
+ghost use Rattle.tables.specs.Runs.{testBy};
+ghost use Rattle.split_choice.specs.Marking.{codeOf, marksBy};
 
-// 1 if trace t goes left, which it does if twice its figure is at most the threshold, and 2 if it goes right.
+// 1 if trace t goes left, and 2 if it goes right.
 pub fn side_of(
     samples: &[i16],
     n: usize,
@@ -22,8 +23,12 @@ pub fn side_of(
     requires { ⌜ RunIn (now samples) n t first last ⌝ }
     ensures { λ r. ⌜ r ≡ codeOf (goesLeft (testBy first last «by_scatter» threshold) (traceIn (now (samples .entry)) n t)) ⌝ }
 {
-    let figure = leaf_figures::runs::run_figure(samples, n, t, first, last, by_scatter);
-    if 2 * figure <= threshold { 1 } else { 2 }
+    let trace = tables::runs::trace_at(samples, n, t);
+    if tables::runs::goes_left(trace, first, last, by_scatter, threshold) {
+        1
+    } else {
+        2
+    }
 }
 
 // The leaf's traces marked by their sides. Marks of other traces stay.
@@ -40,12 +45,13 @@ pub fn mark_sides(
     marks: &mut [u8; 4096],
 )
     requires { ⌜ Stored (now samples) (now links) n k head × Inside n first last × (length (now marks) ≡ 4096) ⌝ }
-    ensures { λ _. ⌜ now (marks .exit) ≡ marksBy (λ (t : ℕ). goesLeft (testBy first last «by_scatter» threshold) (getD (storedIn (now (samples .entry)) n k) t [])) (now (marks .entry)) (numbersOf (now (links .entry)) k head) ⌝ }
+    ensures { λ _. ⌜ now (marks .exit)
+        ≡ marksBy (λ (t : ℕ). goesLeft (testBy first last «by_scatter» threshold) (getD (storedIn (now (samples .entry)) n k) t [])) (now (marks .entry)) (numbersOf (now (links .entry)) k head) ⌝ }
     ensures size { λ _. ⌜ length (now (marks .exit)) ≡ 4096 ⌝ }
 {
     let mut t = head;
     while t < k {
         marks[t] = side_of(samples, n, t, first, last, by_scatter, threshold);
-        t = leaf_figures::walk::behind(links, k, t);
+        t = tables::walk::behind(links, k, t);
     }
 }

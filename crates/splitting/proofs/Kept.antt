@@ -5,35 +5,36 @@ use mathlib.Core.Path.{_≡_, refl, sym, ap, subst, _∙_}
 use mathlib.Core.Bool.{true}
 use mathlib.Core.Option.{some}
 use mathlib.Core.List.{List}
-use Prim.Native.Nat.{ℕ, suc, _+_, _*_, _≤_, _<_}
+use Prim.Native.Nat.{ℕ, suc, _*_, _-_, _≤_, _<_}
 use native.Mathlib.Omega.{arith}
 use lib.IntN.{ℤ}
 use lib.ListN.{length, length-map}
 use lib.Dec.{ltb}
 use borrow.Author.Tests.{lt-ltb}
 use Rattle.integer.specs.Words.{counting}
-use Rattle.integer.proofs.Lists.{first}
+use Rattle.integer.proofs.Lists.{first, in-is}
 use Rattle.integer.proofs.Times.{counting-length}
 use Rattle.dstree.specs.Measures.{Trace}
 use Rattle.dstree.specs.Node.{Segment, Figure, bySum, byScatter, Kind, Tree, ends}
 use Rattle.dstree.specs.Adding.{Split, best, split}
 use Rattle.dstree.specs.Matching.{numbersIn}
-use Rattle.dstree.proofs.Parted.{Parted, p-last, p-more, Fits}
+use Rattle.dstree.specs.Formed.{Parted, p-last, p-more, Fits}
 use Rattle.tables.specs.Layout.{kindPlace, segmentsPlace, firstPlace}
 use Rattle.tables.specs.Tables.{recordOf}
 use Rattle.tables.specs.View.{smallAt, segmentIn, segmentsIn, numbersFrom}
-use Rattle.leaf_figures.specs.Walk.{storedIn, numbersOf, Stored}
+use Rattle.tables.specs.Walk.{storedIn, numbersOf, Stored}
 use Rattle.leaf_figures.specs.Ends.{Rise, r-none, r-more}
 use Rattle.insertion_memory.specs.Memory.{Held, held, splitTo, splitAt}
 use Rattle.insertion_memory.proofs.ReadBack.{kindNumber}
-use Rattle.insertion_memory.proofs.Sides.{best-sides}
-use Rattle.insertion_memory.proofs.Sound.{nodes-most}
+use Rattle.dstree.proofs.Nodes.{nodes-most}
+use Rattle.dstree.proofs.Splits.{best-is-good}
 use Rattle.insertion_memory.proofs.Stands.{Means, m-leaf, m-inner, Low, Stands, links-rise}
 use Rattle.insertion_memory.proofs.Splitting.{split-at}
 use Rattle.splitting.specs.Splits as needs
 use Rattle.splitting.specs.Splits.{IsLeaf, Splits}
 use Rattle.splitting.specs.Standing.{Standing}
-use Rattle.splitting.proofs.Tried.{stored-count, long-splits}
+use Rattle.tables.proofs.Listed.{stored-size}
+use Rattle.splitting.proofs.Tried.{long-splits}
 
 -- ---- ends
 
@@ -77,8 +78,8 @@ module _ {nodes : List ℤ} {links : List ℕ} {samples : List ℤ} {n k count :
   traces = storedIn samples n k
 
   -- fewer nodes than twice the traces
-  pub count-most : count + 1 ≤ 2 * k
-  count-most = omega (arith, s .stands .count, nodes-most (s .stands .sound))
+  pub count-most : count ≤ 2 * k - 1
+  count-most = omega (arith, s .stands .count, nodes-most (s .stands .shape))
 
   module _ (at : ℕ) (inside : at < count) where
     abbrev r : List ℤ
@@ -88,10 +89,10 @@ module _ {nodes : List ℤ} {links : List ℕ} {samples : List ℤ} {n k count :
     here = omega (arith, inside, s .stands .count)
 
     fits : Fits n (ends (segmentsIn r))
-    fits = subst (λ (l : List Segment). Fits n (ends l)) (sym (s .stands .reads at here .segments)) (s .stands .sound .fits at here)
+    fits = subst (λ (l : List Segment). Fits n (ends l)) (sym (s .stands .reads at here .segments)) (s .stands .shape .fits at here)
 
     after : (leafSize : ℕ) → Stands n c nodes links k (splitAt leafSize traces (held nodes links count) at) (split leafSize traces tree at)
-    after leafSize = split-at (s .space) traces leafSize (stored-count samples n k) (s .stands) at here
+    after leafSize = split-at (s .space) traces leafSize (stored-size samples n k) (s .stands) at here
 
     module _ (is : smallAt r kindPlace ≡ 0) where
       stored : Stored samples links n k (smallAt r firstPlace)
@@ -102,20 +103,21 @@ module _ {nodes : List ℤ} {links : List ℕ} {samples : List ℤ} {n k count :
         samples-room = s .samples-room;
         links-room = omega (arith, s .stands .few, s .space .links-room);
         rising = links-rise (s .stands);
-        inside = leaf-first k is (s .stands .reads at here .kind) (λ t i. s .stands .sound .owned t at i .0);
+        inside = leaf-first k is (s .stands .reads at here .kind) (λ t i. s .stands .shape .numbers t at (in-is i));
       }
 
       parted : (cut : Split) → best traces (ends (segmentsIn r)) (numbersOf links k (smallAt r firstPlace)) ≡ some cut → needs.Parted nodes count cut
       unfolding splitTo
       parted cut e =
-          let sides = best-sides n traces (ends (segmentsIn r)) (numbersOf links k (smallAt r firstPlace)) cut fits e in
+          let good = best-is-good n traces (ends (segmentsIn r)) (numbersOf links k (smallAt r firstPlace)) fits e in
           let long : ltb 0 (length (numbersOf links k (smallAt r firstPlace))) ≡ true = lt-ltb 0 (length (numbersOf links k (smallAt r firstPlace))) (numbers-some links k (smallAt r firstPlace)) in
-          let made : splitAt 0 traces (held nodes links count) at ≡ splitTo traces (held nodes links count) at (some cut) = long-splits 0 traces nodes links count at k (stored-count samples n k) is long (some cut) e in
+          let made : splitAt 0 traces (held nodes links count) at ≡ splitTo traces (held nodes links count) at (some cut) =
+          long-splits 0 traces nodes links count at k (stored-size samples n k) is long (some cut) e in
           let two : splitAt 0 traces (held nodes links count) at .count ≡ suc (suc count) = ap (λ (h : Held). h .count) made in
-          let most : suc (suc count) + 1 ≤ 2 * k = omega (arith, two, after 0 .count, nodes-most (after 0 .sound)) in
+          let most : suc (suc count) ≤ 2 * k - 1 = omega (arith, two, after 0 .count, nodes-most (after 0 .shape)) in
           record {
-            left-some = sides .left-some;
-            right-some = sides .right-some;
+            left-some = good .left-some;
+            right-some = good .right-some;
             room = omega (arith, most, s .stands .few, s .space .nodes-room);
             few = omega (arith, most, s .stands .few, s .space .small);
           }
@@ -158,7 +160,7 @@ module _ {nodes : List ℤ} {links : List ℕ} {samples : List ℤ} {n k count :
           few = stands′ .few;
           count = stands′ .count;
           reads = stands′ .reads;
-          sound = stands′ .sound;
+          shape = stands′ .shape;
           nodes-size = refl;
           nodes-behind = refl;
           links-size = refl;

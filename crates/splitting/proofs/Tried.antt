@@ -1,42 +1,23 @@
 -- A node that is tried: an inner node and a short leaf stay, and a longer leaf splits by its best candidate, if there is one.
-use mathlib.Core.Path.{_≡_, refl, sym, ap, _∙_}
-use mathlib.Core.Bool.{Bool, true, false, not}
+use mathlib.Core.Path.{_≡_, refl, ap, _∙_}
+use mathlib.Core.Bool.{true, false}
 use mathlib.Core.Option.{Option}
 use mathlib.Core.List.{List}
 use Prim.Native.Nat.{ℕ, zero, suc}
 use native.Mathlib.Omega.{arith}
 use lib.IntN.{ℤ}
-use lib.ListN.{length, length-map}
+use lib.ListN.{length}
 use lib.Dec.{ltb}
 use borrow.Author.Tests.{le-ltb}
-use Rattle.integer.specs.Words.{if_then_else_, counting}
-use Rattle.integer.proofs.Times.{counting-length}
+use Rattle.integer.specs.Words.{if_then_else_}
 use Rattle.dstree.specs.Measures.{Trace}
 use Rattle.dstree.specs.Node.{ends}
 use Rattle.dstree.specs.Adding.{Split, best}
 use Rattle.tables.specs.Layout.{kindPlace, firstPlace}
 use Rattle.tables.specs.Tables.{recordOf}
-use Rattle.tables.specs.View.{smallAt, segmentsIn, traceIn, kindIn}
-use Rattle.leaf_figures.specs.Walk.{storedIn, numbersOf}
-use Rattle.leaf_figures.specs.Runs as runs
-use Rattle.insertion.specs.Way as way
+use Rattle.tables.specs.View.{smallAt, segmentsIn, kindIn}
+use Rattle.tables.specs.Walk.{numbersOf}
 use Rattle.insertion_memory.specs.Memory.{Held, held, splitTo, splitLeaf, splitAt}
-
-pub not-true : (b : Bool) → not b ≡ true → b ≡ false
-not-true true e = sym e
-not-true false e = refl
-
-pub not-false : (b : Bool) → not b ≡ false → b ≡ true
-not-false true e = refl
-not-false false e = sym e
-
--- sum or scatter by a flag, in the words of either crate
-pub figure-same : (b : Bool) → way.figureBy b ≡ runs.figureBy b
-figure-same true = refl
-figure-same false = refl
-
-pub stored-count : (samples : List ℤ) (n k : ℕ) → length (storedIn samples n k) ≡ k
-stored-count samples n k = length-map (counting k 0) (traceIn samples n) ∙ counting-length k 0
 
 module _ (leafSize : ℕ) (traces : List Trace) (nodes : List ℤ) (links : List ℕ) (count at : ℕ) where
   abbrev h : Held

@@ -2,16 +2,16 @@
 use mathlib.Core.Path.{_≡_, refl, sym, ap, _∙_}
 use mathlib.Core.Bool.{Bool, true, false}
 use mathlib.Core.List.{List, [], _∷_, _++_, append-assoc}
-use Prim.Native.Nat.{ℕ, suc, _+_, _≤_, _<_}
+use Prim.Native.Nat.{ℕ, suc, _≤_, _<_}
 use native.Mathlib.Omega.{arith}
 use lib.ListN.{length, getD, set, take, drop, drop-of-length-le, length-set}
 use lib.Seq.{drop-cons, take-suc-set, take-set-le, length-take-le, getD-take}
 use lib.Dec.{eqb}
 use Rattle.integer.specs.Words.{if_then_else_, those}
 use Rattle.integer.proofs.Lists.{In, in-getD, from-those}
-use Rattle.leaf_figures.specs.Walk.{Rising, behindOf, numbersOf}
+use Rattle.tables.specs.Walk.{Rising, behindOf, numbersOf}
 use Rattle.leaf_figures.specs.Sides.{marked}
-use Rattle.leaf_figures.proofs.Listed.{metFrom, met-more, met-end, numbers-below}
+use Rattle.tables.proofs.Listed.{metFrom, met-more, met-end, numbers-below}
 use Rattle.insertion_memory.specs.Links.{linked}
 
 -- one trace more, if it has the mark

@@ -59,7 +59,8 @@ module _ (r : List ℤ) (size : length r ≡ recordPlaces) where
         ∙ (ap₂ (λ (a b : List ℤ). a ++ (segmentFields s ++ b)) (take-at front behind (segmentAt (length done)) front-length) rest
         ∙ (append-assoc (take headPlaces r) (fieldsOf done) (segmentFields s ++ drop (headPlaces + segmentPlaces * length (done ++ (s ∷ []))) r)
         ∙ ap (λ (l : List ℤ). take headPlaces r ++ l)
-        (sym (append-assoc (fieldsOf done) (segmentFields s) (drop (headPlaces + segmentPlaces * length (done ++ (s ∷ []))) r)) ∙ ap (λ (l : List ℤ). l ++ drop (headPlaces + segmentPlaces * length (done ++ (s ∷ []))) r) (sym (fields-more done s)))))
+        (sym (append-assoc (fieldsOf done) (segmentFields s) (drop (headPlaces + segmentPlaces * length (done ++ (s ∷ []))) r))
+        ∙ ap (λ (l : List ℤ). l ++ drop (headPlaces + segmentPlaces * length (done ++ (s ∷ []))) r) (sym (fields-more done s)))))
 
 -- ---- segments by their ends
 

@@ -7,7 +7,7 @@ use lib.ListN.{length, getD, take, drop}
 use Rattle.dstree.specs.Node.{Segment}
 use Rattle.tables.specs.Layout.{headPlaces, segmentPlaces}
 use Rattle.dstree.specs.Adding.{segmentsOf, tracesOf}
-use Rattle.leaf_figures.specs.Walk.{storedIn, numbersOf, Stored}
+use Rattle.tables.specs.Walk.{storedIn, numbersOf, Stored}
 use Rattle.leaf_figures.specs.Sides.{marked}
 use Rattle.leaf_figures.specs.Ends.{endsOf, Room, Rise}
 use Rattle.leaf_figures.specs.declared.ends.Ends.{Ends}

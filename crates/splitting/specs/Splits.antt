@@ -10,7 +10,7 @@ use Rattle.dstree.specs.Adding.{Split, best}
 use Rattle.tables.specs.Layout.{kindPlace, segmentsPlace, firstPlace, recordPlaces}
 use Rattle.tables.specs.Tables.{recordOf}
 use Rattle.tables.specs.View.{smallAt, segmentsIn}
-use Rattle.leaf_figures.specs.Walk.{storedIn, numbersOf, Stored}
+use Rattle.tables.specs.Walk.{storedIn, numbersOf, Stored}
 use Rattle.leaf_figures.specs.Ends.{endsOf, Room, Rise}
 use Rattle.leaf_figures.specs.declared.ends.Ends.{Ends}
 use Rattle.split_choice.specs.Choosing.{Fit, splitOf}

@@ -6,7 +6,7 @@ use lib.IntN.{ℤ}
 use lib.ListN.{length}
 use Rattle.dstree.specs.Node.{Tree}
 use Rattle.insertion_memory.specs.Memory.{held}
-use Rattle.insertion_memory.proofs.Stands.{Space, Stands}
+use Rattle.insertion_memory.specs.Stands.{Space, Stands}
 
 -- nodes and links of `count` nodes stand for a tree over k traces of n samples, all of them stored, with room for a capacity of traces
 pub record Standing (nodes : List ℤ) (links : List ℕ) (samples : List ℤ) (n k count : ℕ) : Type 0 where

@@ -1,20 +1,15 @@
 // A leaf's list of traces: how long it is, and the two sides of it laid as lists of their own. Each trace has a mark, and a side is the traces with one mark.
 
+use tables::numbers::wide;
+use tables::walk::behind;
 ghost use mathlib.Core.Path.{_≡_};
-ghost use mathlib.Core.Bool.{Bool};
 ghost use Prim.Native.Nat.{ℕ, suc, _≤_, _<_};
 ghost use lib.ListN.{length, getD, take};
 ghost use lib.Dec.{ltb};
 ghost use Rattle.integer.specs.Words.{if_then_else_};
-ghost use Rattle.leaf_figures.specs.Walk.{Rising, numbersOf};
+ghost use Rattle.tables.specs.Walk.{Rising, numbersOf};
 ghost use Rattle.leaf_figures.specs.Sides.{marked};
 ghost use Rattle.insertion_memory.specs.Links.{linked};
-
-fn wide(x: u16) -> usize
-    ensures { λ r. ⌜ r ≡ x ⌝ }
-{
-    x as usize
-}
 
 // Whether the list that starts at `head` has more traces than the leaf size. As many as the leaf size are not more.
 pub fn leaf_longer(links: &[u16], k: usize, head: usize, leaf_size: usize) -> bool
@@ -25,7 +20,7 @@ pub fn leaf_longer(links: &[u16], k: usize, head: usize, leaf_size: usize) -> bo
     let mut t = head;
     while t < k {
         seen += 1;
-        t = leaf_figures::walk::behind(links, k, t);
+        t = behind(links, k, t);
     }
     leaf_size < seen
 }
@@ -60,7 +55,7 @@ pub fn list_side(
     while t < k {
         order[count] = t as u16;
         count = counted(count, marks[t] == mark);
-        t = leaf_figures::walk::behind(links, k, t);
+        t = behind(links, k, t);
     }
     count
 }
@@ -76,7 +71,7 @@ pub fn first_on_side(links: &[u16], k: usize, head: usize, marks: &[u8; 4096], m
         if marks[t] == mark {
             return t;
         }
-        t = leaf_figures::walk::behind(links, k, t);
+        t = behind(links, k, t);
     }
     k
 }
@@ -99,8 +94,10 @@ pub fn lay(links: &mut [u16], order: &[u16; 4096], count: usize)
 
 // The two sides of a leaf laid as lists of their own: mark 1 is the left side, mark 2 the right one. Both are listed before a link is written.
 pub fn relink(links: &mut [u16], k: usize, head: usize, marks: &[u8; 4096])
-    requires { ⌜ (head < k) × (k ≤ 4096) × (k ≤ length (now links)) × Rising (now links) k × (length (now marks) ≡ 4096) × (0 < length (marked (now marks) 1 (numbersOf (now links) k head))) × (0 < length (marked (now marks) 2 (numbersOf (now links) k head))) ⌝ }
-    ensures { λ _. ⌜ now (links .exit) ≡ linked (marked (now (marks .entry)) 2 (numbersOf (now (links .entry)) k head)) (linked (marked (now (marks .entry)) 1 (numbersOf (now (links .entry)) k head)) (now (links .entry))) ⌝ }
+    requires { ⌜ (head < k) × (k ≤ 4096) × (k ≤ length (now links)) × Rising (now links) k × (length (now marks) ≡ 4096)
+        × (0 < length (marked (now marks) 1 (numbersOf (now links) k head))) × (0 < length (marked (now marks) 2 (numbersOf (now links) k head))) ⌝ }
+    ensures { λ _. ⌜ now (links .exit) ≡ linked (marked (now (marks .entry)) 2 (numbersOf (now (links .entry)) k head))
+        (linked (marked (now (marks .entry)) 1 (numbersOf (now (links .entry)) k head)) (now (links .entry))) ⌝ }
 {
     let mut left = [0u16; 4096];
     let mut right = [0u16; 4096];

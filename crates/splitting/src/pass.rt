@@ -2,7 +2,7 @@
 
 ghost use mathlib.Core.Path.{_≡_};
 ghost use Prim.Native.Nat.{_*_, _<_};
-ghost use Rattle.leaf_figures.specs.Walk.{storedIn};
+ghost use Rattle.tables.specs.Walk.{storedIn};
 ghost use Rattle.insertion_memory.specs.Memory.{held, splitOn, splitAllOf};
 ghost use Rattle.splitting.specs.Standing.{Standing};
 

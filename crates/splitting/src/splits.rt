@@ -1,15 +1,18 @@
 // One leaf split by the best candidate that parts it.
 
+use insertion::heads::become_inner;
+use tables::places::FIRST;
+use tables::places::KIND;
+use tables::records::node_small;
+use tables::records::record_at;
 ghost use mathlib.Core.Path.{_≡_};
 ghost use mathlib.Core.Option.{some};
-ghost use Prim.Native.Nat.{suc, _+_, _*_, _≤_};
+ghost use Prim.Native.Nat.{suc, _*_, _≤_};
 ghost use lib.ListN.{length};
-ghost use Rattle.dstree.specs.Node.{ends};
-ghost use Rattle.tables.specs.Layout.{recordPlaces, segmentsPlace};
-ghost use Rattle.tables.specs.Tables.{recordOf, withRecord};
-ghost use Rattle.tables.specs.View.{smallAt, segmentsIn};
-ghost use Rattle.leaf_figures.specs.Walk.{storedIn, numbersOf};
-ghost use Rattle.leaf_figures.specs.Ends.{endsOf, Room};
+ghost use Rattle.tables.specs.Layout.{recordPlaces};
+ghost use Rattle.tables.specs.Tables.{withRecord};
+ghost use Rattle.tables.specs.Walk.{storedIn, numbersOf};
+ghost use Rattle.leaf_figures.specs.Ends.{endsOf};
 ghost use Rattle.insertion_memory.specs.Memory.{held, splitTo, splitAt};
 ghost use Rattle.split_choice.specs.Choosing.{splitOf};
 ghost use Rattle.splitting.specs.Leaves.{Side, sideRecord};
@@ -27,12 +30,16 @@ fn write_sides(
     marks: &[u8; 4096],
     e: leaf_figures::ends::Ends,
 )
-    requires { ⌜ (suc (suc count) * recordPlaces ≤ length (now nodes)) × (count ≤ 8190) × Side (now samples) (now links) n k head (now marks) 1 e × Side (now samples) (now links) n k head (now marks) 2 e ⌝ }
-    ensures { λ _. ⌜ now (nodes .exit) ≡ withRecord (withRecord (now (nodes .entry)) count (sideRecord (now (samples .entry)) (now (links .entry)) n k head (now (marks .entry)) 1 (endsOf e))) (suc count) (sideRecord (now (samples .entry)) (now (links .entry)) n k head (now (marks .entry)) 2 (endsOf e)) ⌝ }
+    requires { ⌜ (suc (suc count) * recordPlaces ≤ length (now nodes)) × (count ≤ 8190)
+        × Side (now samples) (now links) n k head (now marks) 1 e × Side (now samples) (now links) n k head (now marks) 2 e ⌝ }
+    ensures { λ _. ⌜ now (nodes .exit)
+        ≡ withRecord
+        (withRecord (now (nodes .entry)) count (sideRecord (now (samples .entry)) (now (links .entry)) n k head (now (marks .entry)) 1 (endsOf e)))
+        (suc count) (sideRecord (now (samples .entry)) (now (links .entry)) n k head (now (marks .entry)) 2 (endsOf e)) ⌝ }
 {
-    crate::leaves::write_leaf_at(nodes, count, samples, links, n, k, head, marks, 1, e);
+    crate::leaves::write_leaf(nodes, count, samples, links, n, k, head, marks, 1, e);
     let right = count + 1;
-    crate::leaves::write_leaf_at(nodes, right, samples, links, n, k, head, marks, 2, e);
+    crate::leaves::write_leaf(nodes, right, samples, links, n, k, head, marks, 2, e);
 }
 
 // A leaf split by a choice: it becomes inner, its two sides become the next two nodes, and their lists are laid. The sides are marked, and the new
@@ -50,7 +57,8 @@ fn split_by(
     c: split_choice::choice::Choice,
 )
     requires { ⌜ Parts (now nodes) (now links) (now samples) n k count at head e c ⌝ }
-    ensures { λ _. ⌜ held (now (nodes .exit)) (now (links .exit)) (suc (suc count)) ≡ splitTo (storedIn (now (samples .entry)) n k) (held (now (nodes .entry)) (now (links .entry)) count) at (some (splitOf (storedIn (now (samples .entry)) n k) (endsOf e) (numbersOf (now (links .entry)) k head) c)) ⌝ }
+    ensures { λ _. ⌜ held (now (nodes .exit)) (now (links .exit)) (suc (suc count)) ≡ splitTo (storedIn (now (samples .entry)) n k)
+        (held (now (nodes .entry)) (now (links .entry)) count) at (some (splitOf (storedIn (now (samples .entry)) n k) (endsOf e) (numbersOf (now (links .entry)) k head) c)) ⌝ }
 {
     let first = c.first;
     let last = c.last;
@@ -71,20 +79,9 @@ fn split_by(
     );
     let child = split_choice::gains::child_ends(e, c.cut);
     let right = count + 1;
-    crate::leaves::become_inner_at(nodes, at, by_scatter, count, right, first, last, threshold);
+    become_inner(nodes, at, by_scatter, count, right, first, last, threshold);
     write_sides(nodes, count, samples, links, n, k, head, &marks, child);
     crate::lists::relink(links, k, head, &marks);
-}
-
-// The right ends of node j's segments.
-fn ends_at(nodes: &[i64], j: usize) -> leaf_figures::ends::Ends
-    requires { ⌜ (j * recordPlaces + recordPlaces ≤ length (now nodes)) × (j ≤ 8191) × (smallAt (recordOf (now nodes) j) segmentsPlace ≤ 16) ⌝ }
-    ensures { λ r. ⌜ endsOf r ≡ ends (segmentsIn (recordOf (now (nodes .entry)) j)) ⌝ }
-    ensures room { λ r. ⌜ Room r ⌝ }
-{
-    let a = j * 87;
-    let z = a + 87;
-    leaf_figures::ends::ends_of(&nodes[a..z])
 }
 
 // The node at a number, tried: a leaf with more traces than the leaf size splits, if a candidate parts it. The answer is how many nodes there are then.
@@ -101,16 +98,16 @@ pub fn split_at(
     requires { ⌜ Splits (now nodes) (now links) (now samples) n k count at ⌝ }
     ensures { λ r. ⌜ held (now (nodes .exit)) (now (links .exit)) r ≡ splitAt «leaf_size» (storedIn (now (samples .entry)) n k) (held (now (nodes .entry)) (now (links .entry)) count) at ⌝ }
 {
-    let kind = tables::records::node_small(nodes, at, 0);
+    let kind = node_small(nodes, at, KIND);
     if kind != 0 {
         return count;
     }
-    let head = tables::records::node_small(nodes, at, 2);
+    let head = node_small(nodes, at, FIRST);
     let longer = crate::lists::leaf_longer(links, k, head, leaf_size);
     if !longer {
         return count;
     }
-    let e = ends_at(nodes, at);
+    let e = leaf_figures::ends::ends_of(record_at(nodes, at));
     let c = split_choice::choice::choose(samples, links, n, k, head, e);
     let found = c.found;
     if !found {

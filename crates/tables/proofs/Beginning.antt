@@ -1,19 +1,19 @@
 -- The first places of a memory, and what is behind them. The idea: a memory that begins with some tables is those tables with more places behind each,
 -- so that what a call does to it can be said as an equation between lists that are joined.
 use Prim.Native.Nat.{ℕ, zero, suc, _*_, _≤_}
-use mathlib.Core.Path.{_≡_, refl, sym, ap, subst, _∙_}
+use mathlib.Core.Path.{_≡_, refl, sym, ap, _∙_}
 use mathlib.Core.List.{List, [], _∷_, _++_, append-assoc}
 use native.Mathlib.Omega.{arith}
 use lib.IntN.{pos}
-use lib.ListN.{length, take, drop, replicate, take-append-drop, length-append, length-drop, length-replicate}
-use lib.Seq.{take-length, take-take, length-take-le, take-append-seam, drop-append-le, drop-at}
+use lib.ListN.{length, take, drop, take-append-drop, length-append, length-drop, length-replicate}
+use lib.Seq.{take-take, length-take-le, take-append-seam, drop-at}
 use Rattle.dstree.specs.Measures.{Measures, samplesNeeded, recordsNeeded, linksNeeded, workNeeded}
 use Rattle.dstree.specs.Book.{Lent}
 use Rattle.tables.specs.Layout.{controlFields, recordPlaces}
 use Rattle.tables.specs.Tables.{Tables, tables, lentOf, filled}
-use Rattle.tables.specs.Beginning.{firstPlaces, over, left, Begins}
+use Rattle.tables.specs.Beginning.{firstPlaces, over, left, Begins, Within}
 use Rattle.tables.specs.Answers.{opened}
-use Rattle.tables.proofs.Judged.{Room}
+use Rattle.tables.specs.Judge.{Room}
 
 -- ---- of a list
 
@@ -43,10 +43,6 @@ module _ {A : Type 0} where
 
   begin-of : (p q l : List A) → take (length p) l ≡ p → take (length q) l ≡ q → length p ≤ length q → take (length p) q ≡ p
   begin-of p q l e f h = ap (λ (k : List A). take (length p) k) (sym f) ∙ (take-take (length p) (length q) l h ∙ e)
-
-  -- zeros over the first k places
-  fill-more : (k : ℕ) (z : A) (p r : List A) → k ≤ length p → filled k z (p ++ r) ≡ filled k z p ++ r
-  fill-more k z p r h = ap (λ (l : List A). replicate k z ++ l) (drop-append-le k p r h) ∙ sym (append-assoc (replicate k z) (drop k p) r)
 
   pub fill-length : (k : ℕ) (z : A) (l : List A) → k ≤ length l → length (filled k z l) ≡ length l
   fill-length k z l h = simp (length-append, length-replicate, length-drop) (omega arith)
@@ -112,9 +108,6 @@ first-begins lent memory = tables-same
     (take-as-long (lent .links) (memory .links))
     (take-as-long (lent .work) (memory .work))
 
-pub begins-all : (memory : Tables) → Begins memory memory
-begins-all memory = tables-same (take-length (memory .control)) (take-length (memory .samples)) (take-length (memory .nodes)) (take-length (memory .links)) (take-length (memory .work))
-
 pub begins-on : (part whole memory : Tables) → Begins part whole → Begins whole memory → Begins part memory
 begins-on part whole memory b c = tables-same
     (begin-twice (part .control) (whole .control) (memory .control) (ap (λ (t : Tables). t .control) b) (ap (λ (t : Tables). t .control) c))
@@ -124,14 +117,6 @@ begins-on part whole memory b c = tables-same
     (begin-twice (part .work) (whole .work) (memory .work) (ap (λ (t : Tables). t .work) b) (ap (λ (t : Tables). t .work) c))
 
 -- ---- lengths
-
--- no table longer
-pub record Within (short long : Lent) : Type 0 where
-  pub control-within : short .control ≤ long .control
-  pub samples-within : short .samples ≤ long .samples
-  pub nodes-within : short .nodes ≤ long .nodes
-  pub links-within : short .links ≤ long .links
-  pub work-within : short .work ≤ long .work
 
 pub begins-within : (part memory : Tables) → Begins part memory → Within (lentOf part) (lentOf memory)
 begins-within part memory b = record {
@@ -185,22 +170,3 @@ module _ (part : Tables) (m : Measures) (room : Room (lentOf part) m) where
         fill-length {A = ℕ} (linksNeeded m) 0 (part .links) (room .links-room),
         fill-length {A = ℕ} (workNeeded m) 0 (part .work) (room .work-room),
       )
-
-  opened-extended : (more : Tables) → opened (extended part more) m ≡ extended (opened part m) more
-  unfolding opened
-  opened-extended more = tables-same
-      (ap (λ (l : List ℕ). m .n ∷ m .capacity ∷ m .leafSize ∷ 0 ∷ 0 ∷ l) (drop-append-le controlFields (part .control) (more .control) (room .control-room)))
-      (fill-more (samplesNeeded m) (pos 0) (part .samples) (more .samples) (room .samples-room))
-      (fill-more (recordsNeeded m * recordPlaces) (pos 0) (part .nodes) (more .nodes) (room .nodes-room))
-      (fill-more {A = ℕ} (linksNeeded m) 0 (part .links) (more .links) (room .links-room))
-      (fill-more {A = ℕ} (workNeeded m) 0 (part .work) (more .work) (room .work-room))
-
-  -- opening the first places of a memory is opening the memory
-  pub opened-left : (memory : Tables) → Begins part memory → left (opened part m) memory ≡ opened memory m
-  opened-left memory b = by memory (behindOf part memory) (begins-is part memory b)
-    where
-      by : (memory more : Tables) → memory ≡ extended part more → left (opened part m) memory ≡ opened memory m
-      by memory more e = rw e (left-extended part (opened part m) more opened-lent ∙ sym (opened-extended more))
-
-  pub opened-begins : (memory : Tables) → Begins part memory → Begins (opened part m) (opened memory m)
-  opened-begins memory b = subst (λ (t : Tables). Begins (opened part m) t) (opened-left memory b) (left-begins (opened part m) memory)

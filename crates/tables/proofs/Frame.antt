@@ -92,19 +92,16 @@ pub record-length : (nodes : List ℤ) (j : ℕ) → j * recordPlaces + recordPl
 unfolding recordOf
 record-length nodes j fits = length-take-le recordPlaces (drop (j * recordPlaces) nodes) (simp length-drop (omega arith))
 
--- the code's part of a table from e − 87 to e, with e the place behind node j's record, is that record
-module _ (nodes : List ℤ) (j e : ℕ) (h : e ≡ j * recordPlaces + recordPlaces) where
-  starts : e - recordPlaces ≡ j * recordPlaces
-  starts = omega arith
-
-  sized : e - (e - recordPlaces) ≡ recordPlaces
+-- the code's part of a table from a to e, the start of node j's record and the place behind it, is that record
+module _ (nodes : List ℤ) (j a e : ℕ) (starts : a ≡ j * recordPlaces) (ends : e ≡ j * recordPlaces + recordPlaces) where
+  sized : e - a ≡ recordPlaces
   sized = omega arith
 
-  pub part-is : take (e - (e - recordPlaces)) (drop (e - recordPlaces) nodes) ≡ recordOf nodes j
+  pub part-is : take (e - a) (drop a nodes) ≡ recordOf nodes j
   unfolding recordOf
   part-is = rw (sized, starts)
 
   -- and the table with r put into the place of that part is the table with r for the record
-  pub put-is : (r : List ℤ) → putMid (e - recordPlaces) (e - (e - recordPlaces)) nodes r ≡ withRecord nodes j r
+  pub put-is : (r : List ℤ) → putMid a (e - a) nodes r ≡ withRecord nodes j r
   unfolding withRecord
-  put-is r = rw (post-is (e - recordPlaces) e nodes (omega arith), starts, h)
+  put-is r = rw (post-is a e nodes (omega arith), starts, ends)

@@ -2,31 +2,19 @@
 use mathlib.Core.Path.{_≡_}
 use mathlib.Core.Bool.{false, not, _||_}
 use mathlib.Core.Option.{none}
-use Prim.Native.Nat.{_*_, _≤_}
+use Prim.Native.Nat.{_*_}
 use lib.Dec.{ltb}
 use borrow.Author.Tests.{ltb-false, not-false}
 use Rattle.integer.proofs.Tests.{neither}
-use Rattle.dstree.specs.Measures.{Measures, inRange, samplesNeeded, recordsNeeded, linksNeeded, workNeeded}
+use Rattle.dstree.specs.Measures.{Measures, inRange, samplesNeeded, recordsNeeded, linksNeeded}
 use Rattle.dstree.specs.Refusals.{firstOf}
 use Rattle.dstree.specs.Book.{Lent, controlShort, tablesShort}
 use Rattle.dstree.proofs.Conditions.{none-first}
-use Rattle.tables.specs.Layout.{layout, recordPlaces, controlFields}
+use Rattle.tables.specs.Layout.{layout, recordPlaces}
 use Rattle.tables.specs.Tables.{Tables, lentOf, measuresOf}
-use Rattle.tables.specs.Judge.{lentConditionsOf}
+use Rattle.tables.specs.Judge.{lentConditionsOf, Room, Accepted}
 use Rattle.tables.specs.Answers.{Lends}
-use Rattle.tables.proofs.Range.{InRange, in-range}
-
--- the tables have the places that the measures need
-pub record Room (lengths : Lent) (m : Measures) : Type 0 where
-  pub control-room : controlFields ≤ lengths .control
-  pub samples-room : samplesNeeded m ≤ lengths .samples
-  pub nodes-room : recordsNeeded m * recordPlaces ≤ lengths .nodes
-  pub links-room : linksNeeded m ≤ lengths .links
-  pub work-room : workNeeded m ≤ lengths .work
-
-pub record Accepted (lengths : Lent) (m : Measures) : Type 0 where
-  pub range : InRange m
-  pub room : Room lengths m
+use Rattle.tables.proofs.Range.{in-range}
 
 pub room-of : (lengths : Lent) (m : Measures) → controlShort layout lengths ≡ false → tablesShort layout lengths m ≡ false → Room lengths m
 unfolding controlShort tablesShort

@@ -3,5 +3,8 @@ pub mod Frame
 pub mod Small
 pub mod Range
 pub mod Judged
-pub mod Refused
 pub mod Beginning
+pub mod Views
+pub mod Listed
+pub mod Parts
+pub mod Linked

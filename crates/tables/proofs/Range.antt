@@ -1,4 +1,4 @@
--- Measures in range, as bounds on the numbers; and what of the needs follows for products.
+-- Measures that pass the test are in range; and what of that follows for products.
 use mathlib.Core.Path.{_≡_, refl}
 use mathlib.Core.Bool.{Bool, true, false, _&&_}
 use Prim.Native.Nat.{ℕ, _*_, _<_, _≤_, _^_}
@@ -7,14 +7,7 @@ use native.Mathlib.Omega.{arith}
 use lib.Dec.{leb, lit<}
 use borrow.Author.Tests.{leb-true}
 use Rattle.dstree.specs.Measures.{Measures, inRange}
-
-pub record InRange (m : Measures) : Type 0 where
-  pub n-low : 1 ≤ m .n
-  pub n-high : m .n ≤ 256
-  pub capacity-low : 1 ≤ m .capacity
-  pub capacity-high : m .capacity ≤ 4096
-  pub leaf-low : 1 ≤ m .leafSize
-  pub leaf-high : m .leafSize ≤ 64
+use Rattle.tables.specs.Judge.{InRange}
 
 both : (a b : Bool) → a && b ≡ true → (a ≡ true) × (b ≡ true)
 both true b e = (refl, e)

@@ -1,14 +1,14 @@
--- A field as a small number: what the two tests of its value tell, the second of them against a limit k.
-use mathlib.Core.Path.{_≡_, refl, sym}
+-- Fields as numbers without a sign: what the tests of a field's value tell, fields that come back as they were read, and the lesser and the greater of two.
+use mathlib.Core.Path.{_≡_, refl, sym, ap}
 use mathlib.Core.Bool.{Bool, true, false}
-use Prim.Native.Nat.{ℕ, _<_, _≤_}
+use Prim.Native.Nat.{ℕ, _≤_, _^_, min, max}
 use native.Mathlib.Omega.{arith}
 use lib.Dec.{T, ltb}
 use lib.IntN.{ℤ, pos, negsuc, natAbs}
 use lib.Signed.{ltZ, nonNeg}
 use borrow.Author.Tests.{ltb-true, ltb-false, lt-ltb}
-use Rattle.integer.specs.Words.{if_then_else_}
-use Rattle.tables.specs.View.{smallOf}
+use Rattle.integer.specs.Words.{if_then_else_, lesser, greater}
+use Rattle.tables.specs.View.{smallOf, scatterIn}
 
 clash : {X : Type 0} → true ≡ false → X
 clash e = let z : _≡_ {A = ℕ} 0 1 = cc in absurd (omega arith)
@@ -36,3 +36,43 @@ is-small k (pos n) limit low high =
     let h = ltb-false k n high in
     record { value = read n (ltb 65535 n) refl (omega arith); sign = tt; bound = omega arith }
 is-small k (negsuc n) limit low high = clash low
+
+-- ---- a field that holds a scatter, by its sign
+
+pub scatter-below : (z : ℤ) → ltZ z (pos 0) ≡ true → _≡_ {A = ℕ} (2 ^ 63) (scatterIn z)
+scatter-below (pos n) e = let h = ltb-true n 0 e in absurd (omega arith)
+scatter-below (negsuc n) e = refl
+
+pub scatter-above : (z : ℤ) → ltZ z (pos 0) ≡ false → T (nonNeg z) × (natAbs z ≡ scatterIn z)
+scatter-above (pos n) e = (tt, refl)
+scatter-above (negsuc n) e = clash e
+
+-- ---- fields that come back as they were read
+
+pub small-back : (z : ℤ) → smallOf z ≤ 65535 → pos (smallOf z) ≡ z
+small-back (pos n) h = by (ltb 65535 n) h
+  where
+    by : (b : Bool) → (if b then 65536 else n) ≤ 65535 → pos (if b then 65536 else n) ≡ pos n
+    by true g = absurd (omega arith)
+    by false g = refl
+small-back (negsuc n) h = absurd (omega arith)
+
+pub scatter-back : (z : ℤ) → scatterIn z ≤ 2 ^ 54 → pos (scatterIn z) ≡ z
+scatter-back (pos n) h = refl
+scatter-back (negsuc n) h = absurd (omega arith)
+
+-- ---- the lesser and the greater of two scatters
+
+pub lesser-pos : (a b : ℕ) → lesser (pos a) (pos b) ≡ pos (min a b)
+lesser-pos a b = by (ltb b a) refl
+  where
+    by : (t : Bool) → ltb b a ≡ t → (if t then pos b else pos a) ≡ pos (min a b)
+    by true e = ap pos (omega (arith, ltb-true b a e))
+    by false e = ap pos (omega (arith, ltb-false b a e))
+
+pub greater-pos : (a b : ℕ) → greater (pos a) (pos b) ≡ pos (max a b)
+greater-pos a b = by (ltb a b) refl
+  where
+    by : (t : Bool) → ltb a b ≡ t → (if t then pos b else pos a) ≡ pos (max a b)
+    by true e = ap pos (omega (arith, ltb-true a b e))
+    by false e = ap pos (omega (arith, ltb-false a b e))

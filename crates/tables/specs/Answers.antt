@@ -1,4 +1,4 @@
--- Answers and refusals of the calls, in document 01's terms; what every call that is lent made tables refuses first; what opening leaves.
+-- Refusals as code has them, in document 01's terms; what every call that is lent made tables refuses first; what opening leaves.
 use Prim.Native.Nat.{ℕ, _*_, _-_, _≤_}
 use mathlib.Core.Path.{_≡_}
 use mathlib.Core.Bool.{true, not}
@@ -8,8 +8,7 @@ use lib.IntN.{ℤ, pos}
 use lib.ListN.{length, drop}
 use Rattle.dstree.specs.Measures.{Measures, inRange, samplesNeeded, recordsNeeded, linksNeeded, workNeeded}
 use Rattle.dstree.specs.Refusals as word
-use Rattle.dstree.specs.Refusals.{Condition, _refuses_, firstOf}
-use Rattle.dstree.specs.Book.{Answer, done, refusing}
+use Rattle.dstree.specs.Refusals.{Condition, _refuses_}
 use Rattle.tables.specs.Layout.{capacityPlace, recordPlaces, controlFields}
 use Rattle.tables.specs.Tables.{Tables, tables, lentOf, field, measuresOf, filled}
 use Rattle.tables.specs.View.{wellFormed}
@@ -39,33 +38,6 @@ unfoldable pub foundBy : Verdict → Option word.Refusal
 foundBy v.Fine = none
 foundBy (v.Refused why) = some (wordOf why)
 
--- ---- what a call answers and leaves
-
-pub record Outcome : Type 0 where
-  pub answer : Answer
-  pub after : Tables
-
-abbrev pub outcome : Answer → Tables → Outcome
-outcome a t = record { answer = a; after = t }
-
--- a refused call leaves "all lent memory then as before the call"
-unfoldable pub unlessRefused : Option word.Refusal → Tables → Outcome → Outcome
-unlessRefused (some why) before accepted = outcome (refusing why) before
-unlessRefused none before accepted = accepted
-
--- the same of a call that is lent a trail or a sheet beside the tables: with what it leaves in that
-pub record OutcomeWith : Type 0 where
-  pub answer : Answer
-  pub after : Tables
-  pub beside : List ℕ
-
-abbrev pub outcomeWith : Answer → Tables → List ℕ → OutcomeWith
-outcomeWith a t beside = record { answer = a; after = t; beside = beside }
-
-unfoldable pub unlessRefusedWith : Option word.Refusal → Tables → List ℕ → OutcomeWith → OutcomeWith
-unlessRefusedWith (some why) before beside accepted = outcomeWith (refusing why) before beside
-unlessRefusedWith none before beside accepted = accepted
-
 -- ---- tables that a call is lent to work on
 
 -- "control record too short (2); its measures (3); other tables (2); the rest of 3"
@@ -93,6 +65,3 @@ opened t m =
     (filled (recordsNeeded m * recordPlaces) (pos 0) (t .nodes))
     (filled (linksNeeded m) 0 (t .links))
     (filled (workNeeded m) 0 (t .work))
-
-unfoldable pub openOf : Tables → Measures → Outcome
-openOf t m = unlessRefused (firstOf (openingConditions t m)) t (outcome done (opened t m))

@@ -1,9 +1,9 @@
 -- The memory of a library is one, and a call is lent the first so many places of each table: "lengths of tables included" (docs/DECISIONS.md, T11).
-use Prim.Native.Nat.{ℕ}
+use Prim.Native.Nat.{_≤_}
 use mathlib.Core.Path.{_≡_}
-use mathlib.Core.List.{List, _++_}
-use lib.ListN.{length, take, drop}
+use lib.ListN.{take}
 use Rattle.dstree.specs.Book.{Lent}
+pub use Rattle.dstree.specs.Book.{over}
 use Rattle.tables.specs.Tables.{Tables, tables, lentOf}
 
 -- what a call is lent of a memory
@@ -14,10 +14,6 @@ firstPlaces lent memory =
     (take (lent .nodes) (memory .nodes))
     (take (lent .links) (memory .links))
     (take (lent .work) (memory .work))
-
--- a list, its beginning replaced: places behind it keep their contents
-abbrev pub over : {A : Type 0} → List A → List A → List A
-over front l = front ++ drop (length front) l
 
 -- the memory after a call that left this where it was lent
 abbrev pub left : Tables → Tables → Tables
@@ -31,3 +27,11 @@ left part memory =
 -- these tables are the first places of a memory
 abbrev pub Begins : Tables → Tables → Type 0
 Begins part memory = firstPlaces (lentOf part) memory ≡ part
+
+-- no table longer
+pub record Within (short long : Lent) : Type 0 where
+  pub control-within : short .control ≤ long .control
+  pub samples-within : short .samples ≤ long .samples
+  pub nodes-within : short .nodes ≤ long .nodes
+  pub links-within : short .links ≤ long .links
+  pub work-within : short .work ≤ long .work

@@ -1,12 +1,12 @@
 -- What lengths and measures alone refuse: all that opening refuses, and the first conditions of every call that is lent made tables.
-use Prim.Native.Nat.{ℕ}
+use Prim.Native.Nat.{ℕ, _*_, _≤_}
 use mathlib.Core.Bool.{not}
 use mathlib.Core.List.{List, [], _∷_}
-use Rattle.dstree.specs.Measures.{Measures, inRange}
+use Rattle.dstree.specs.Measures.{Measures, inRange, samplesNeeded, recordsNeeded, linksNeeded, workNeeded}
 use Rattle.dstree.specs.Refusals as word
 use Rattle.dstree.specs.Refusals.{Condition, _refuses_}
 use Rattle.dstree.specs.Book.{Lent, controlShort, tablesShort}
-use Rattle.tables.specs.Layout.{layout}
+use Rattle.tables.specs.Layout.{layout, recordPlaces, controlFields}
 
 -- lengths of control record, samples, nodes, links and search work, as a call has them
 abbrev pub lent : ℕ → ℕ → ℕ → ℕ → ℕ → Lent
@@ -27,3 +27,26 @@ lentConditionsOf lengths m =
     ∷ not (inRange m) refuses word.spoiled
     ∷ tablesShort layout lengths m refuses word.shortTable
     ∷ []
+
+-- ---- what holds where nothing of that refuses
+
+-- "n 1 to 256, capacity 1 to 4,096, leaf size 1 to 64"
+pub record InRange (m : Measures) : Type 0 where
+  pub n-low : 1 ≤ m .n
+  pub n-high : m .n ≤ 256
+  pub capacity-low : 1 ≤ m .capacity
+  pub capacity-high : m .capacity ≤ 4096
+  pub leaf-low : 1 ≤ m .leafSize
+  pub leaf-high : m .leafSize ≤ 64
+
+-- every table has the places that the measures need
+pub record Room (lengths : Lent) (m : Measures) : Type 0 where
+  pub control-room : controlFields ≤ lengths .control
+  pub samples-room : samplesNeeded m ≤ lengths .samples
+  pub nodes-room : recordsNeeded m * recordPlaces ≤ lengths .nodes
+  pub links-room : linksNeeded m ≤ lengths .links
+  pub work-room : workNeeded m ≤ lengths .work
+
+pub record Accepted (lengths : Lent) (m : Measures) : Type 0 where
+  pub range : InRange m
+  pub room : Room lengths m

@@ -5,3 +5,6 @@ pub mod View
 pub mod Judge
 pub mod Answers
 pub mod Beginning
+pub mod Walk
+pub mod Runs
+pub mod Holds

@@ -1,7 +1,7 @@
 -- The lent tables as a record of lists, and the parts of them that calls read and write.
 use Prim.Native.Nat.{ℕ, _+_, _*_}
 use mathlib.Core.List.{List, _++_}
-use lib.IntN.{ℤ, pos}
+use lib.IntN.{ℤ}
 use lib.ListN.{length, getD, take, drop, replicate}
 use Rattle.dstree.specs.Measures.{Measures, measures}
 use Rattle.dstree.specs.Book.{Lent}

@@ -2,7 +2,8 @@
 
 use crate::Refusal;
 use crate::Verdict;
-use crate::records::RECORD_PLACES;
+use crate::places::CONTROL_FIELDS;
+use crate::places::RECORD_PLACES;
 ghost use mathlib.Core.Path.{_≡_};
 ghost use Prim.Native.Nat.{ℕ, _≤_};
 ghost use Rattle.dstree.specs.Measures.{measures, inRange, samplesNeeded, recordsNeeded};
@@ -12,9 +13,6 @@ ghost use Rattle.tables.specs.Layout.{layout};
 ghost use Rattle.tables.specs.Tables.{field};
 ghost use Rattle.tables.specs.Judge.{lent, openingConditionsOf, lentConditionsOf};
 ghost use Rattle.tables.specs.Answers.{foundBy};
-
-// n, capacity, leaf size, and the counts of traces and nodes.
-pub const CONTROL_FIELDS: usize = 5;
 
 // A field of the control record, and 0 behind its end, so that reading one needs no judgement first.
 pub fn field(control: &[u16], place: usize) -> u16

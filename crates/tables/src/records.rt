@@ -1,14 +1,12 @@
 // Fields of a node's record, and records as parts of the table. Where node j's record lies, only the functions on the table know.
 
+use crate::places::RECORD_PLACES;
 ghost use mathlib.Core.Path.{_≡_};
 ghost use Prim.Native.Nat.{_+_, _*_, _≤_, _<_};
-ghost use lib.ListN.{length, set};
+ghost use lib.ListN.{length};
 ghost use Rattle.tables.specs.Layout.{recordPlaces};
-ghost use Rattle.tables.specs.Tables.{recordOf, withRecord};
-ghost use Rattle.tables.specs.View.{smallOf, smallAt, placeOf};
-
-// Places of a node's record: a head of 7, and 5 for each of 16 segments.
-pub const RECORD_PLACES: usize = 87;
+ghost use Rattle.tables.specs.Tables.{recordOf};
+ghost use Rattle.tables.specs.View.{smallOf, scatterIn, smallAt, placeOf};
 
 // A field that holds a small number. What is no 16-bit number reads as 65,536, which no rule accepts.
 pub fn small(v: i64) -> usize
@@ -21,6 +19,16 @@ pub fn small(v: i64) -> usize
         return 65536;
     }
     v as usize
+}
+
+// A field that holds a scatter. Below zero it reads as 2^63, above every limit.
+pub fn scatter(v: i64) -> u64
+    ensures { λ r. ⌜ r ≡ scatterIn v ⌝ }
+{
+    if v < 0 {
+        return 9223372036854775808;
+    }
+    v as u64
 }
 
 // ---- one record
@@ -41,47 +49,37 @@ pub fn small_at(record: &[i64], place: usize) -> usize
     small(record[place])
 }
 
-// The record with another value in one field.
-pub fn set_value(record: &mut [i64], place: usize, v: i64)
-    requires { ⌜ (length (now «record») ≡ recordPlaces) × (place < recordPlaces) ⌝ }
-    ensures { λ _. ⌜ now («record» .exit) ≡ set (now («record» .entry)) place v ⌝ }
+// ---- the table. A part that is written through is lent from `record_start` to `record_end`, since a contract can say nothing of a part that is handed back
+
+// Where node j's record starts, and the place behind it. Nothing else computes where a record lies.
+pub fn record_start(j: usize) -> usize
+    requires { ⌜ j ≤ 8191 ⌝ }
+    ensures { λ r. ⌜ r ≡ j * recordPlaces ⌝ }
 {
-    record[place] = v;
+    j * RECORD_PLACES
 }
 
-// ---- the table: node j's record is found, and the function on one record is called
-
-// The place behind node j's record, from which its start follows. Nothing else computes where a record lies.
-fn record_end(j: usize) -> usize
+pub fn record_end(j: usize) -> usize
     requires { ⌜ j ≤ 8191 ⌝ }
     ensures { λ r. ⌜ r ≡ j * recordPlaces + recordPlaces ⌝ }
 {
     (j + 1) * RECORD_PLACES
 }
 
-pub fn node_value(nodes: &[i64], j: usize, place: usize) -> i64
-    requires { ⌜ (j * recordPlaces + recordPlaces ≤ length (now nodes)) × (j ≤ 8191) × (place < recordPlaces) ⌝ }
-    ensures { λ r. ⌜ r ≡ placeOf (recordOf (now (nodes .entry)) j) place ⌝ }
+// Node j's record.
+pub fn record_at(nodes: &[i64], j: usize) -> &[i64]
+    requires { ⌜ (j * recordPlaces + recordPlaces ≤ length (now nodes)) × (j ≤ 8191) ⌝ }
+    ensures { λ r. ⌜ now r ≡ recordOf (now (nodes .entry)) j ⌝ }
 {
+    let a = record_start(j);
     let e = record_end(j);
-    let a = e - RECORD_PLACES;
-    value_at(&nodes[a..e], place)
+    &nodes[a..e]
 }
 
+// One of its fields, as a small number.
 pub fn node_small(nodes: &[i64], j: usize, place: usize) -> usize
     requires { ⌜ (j * recordPlaces + recordPlaces ≤ length (now nodes)) × (j ≤ 8191) × (place < recordPlaces) ⌝ }
     ensures { λ r. ⌜ r ≡ smallAt (recordOf (now (nodes .entry)) j) place ⌝ }
 {
-    let e = record_end(j);
-    let a = e - RECORD_PLACES;
-    small_at(&nodes[a..e], place)
-}
-
-pub fn set_node_value(nodes: &mut [i64], j: usize, place: usize, v: i64)
-    requires { ⌜ (j * recordPlaces + recordPlaces ≤ length (now nodes)) × (j ≤ 8191) × (place < recordPlaces) ⌝ }
-    ensures { λ _. ⌜ now (nodes .exit) ≡ withRecord (now (nodes .entry)) j (set (recordOf (now (nodes .entry)) j) place v) ⌝ }
-{
-    let e = record_end(j);
-    let a = e - RECORD_PLACES;
-    set_value(&mut nodes[a..e], place, v);
+    small_at(record_at(nodes, j), place)
 }

@@ -125,7 +125,8 @@ module _ {links : List ℕ} {k start : ℕ} {before marks : List ℕ} {at : ℕ}
       falling (suc fuel) e t =
           let next = getD links at 0 in
           let q : numbers ≡ w .done ++ (at ∷ (next ∷ list-rest links fuel next)) =
-          w .whole ∙ (ap (λ (x : ℕ). w .done ++ numbersFrom links (suc x) at) e ∙ ap (λ (l : List ℕ). w .done ++ l) (list-goes links (suc fuel) at f ∙ ap (λ (l : List ℕ). at ∷ l) (list-is links fuel next))) in
+          w .whole ∙ (ap (λ (x : ℕ). w .done ++ numbersFrom links (suc x) at) e ∙ ap (λ (l : List ℕ). w .done ++ l)
+          (list-goes links (suc fuel) at f ∙ ap (λ (l : List ℕ). at ∷ l) (list-is links fuel next))) in
           omega (arith, rising-at (w .done) at next (list-rest links fuel next) (subst (λ (l : List ℕ). T (rising l)) q (leaf-rises numbers t)), g)
 
   module _ (h : at < k) {after : List ℕ} (g : Grown marks after (at ∷ [])) where

@@ -120,9 +120,11 @@ module _ (n k m : ℕ) (nodes : List ℤ) (links : List ℕ) where
   unfolding endsKept keptAt
   kept-is j t =
       ap (λ (l : List ℕ). every (λ child. every (λ end. isIn end (ends (nodeAt tree child .segments))) (ends (at j .segments))) l) (children-is j)
-      ∙ every-same (λ child. every (λ end. isIn end (ends (nodeAt tree child .segments))) (ends (at j .segments))) (λ child. endsIn (segmentsIn (recordOf nodes child)) (segmentsIn (recordOf nodes j))) (childrenAt nodes j) each
+      ∙ every-same (λ child. every (λ end. isIn end (ends (nodeAt tree child .segments))) (ends (at j .segments)))
+      (λ child. endsIn (segmentsIn (recordOf nodes child)) (segmentsIn (recordOf nodes j))) (childrenAt nodes j) each
     where
-      each : (x : ℕ) → In x (childrenAt nodes j) → every (λ end. isIn end (ends (nodeAt tree x .segments))) (ends (at j .segments)) ≡ endsIn (segmentsIn (recordOf nodes x)) (segmentsIn (recordOf nodes j))
+      each : (x : ℕ) → In x (childrenAt nodes j) → every (λ end. isIn end (ends (nodeAt tree x .segments))) (ends (at j .segments))
+          ≡ endsIn (segmentsIn (recordOf nodes x)) (segmentsIn (recordOf nodes j))
       each x i =
           let h : x < m = ltb→lt x m (and-yes (ltb j x) (ltb x m) (from-every (childFits m j) (childrenAt nodes j) t i) .1) in
           ap (λ (a : Node). every (λ end. isIn end (ends (a .segments))) (ends (at j .segments))) (node-is x h)
@@ -141,9 +143,6 @@ module _ (n k m : ℕ) (nodes : List ℤ) (links : List ℕ) where
 
   abbrev more : ℕ → List Bool
   more j = endsFit n (ends (at j .segments)) ∷ endsKept tree (at j) ∷ leafFits (at j .kind) ∷ segmentsFit sampleLimit 1 (at j .segments) ∷ testFits sampleLimit n (at j .kind) ∷ []
-
-  named : ℕ → Bool
-  named j = leb (smallAt (r j) kindPlace) 2
 
   from-node : (j : ℕ) → T (leb (smallAt (r j) kindPlace) 2) → T (whole j) → T (recordFits n m j (r j)) × (T (keptAt nodes j) × T (leafFitsAt nodes links k j))
   unfolding nodeFits recordFits headFits segmentsHold nodeIn
@@ -223,10 +222,14 @@ module _ (control : List ℕ) (nodes : List ℤ) (links : List ℕ) where
       let p = parts w in
       let q = passed (inRange (measuresOf t)) rules (p .1) in
       let each : (j : ℕ) → In j (counting m 0) → T (recordFits n m j (recordOf nodes j)) × (T (keptAt nodes j) × T (leafFitsAt nodes links k j)) =
-      λ j i. from-node n k m nodes links j (from-every kinds (counting m 0) (p .0) i) (from-every (λ x. fits x (at n k m nodes links x)) (counting m 0) (subst T (made-nodes fits (at n k m nodes links) m 0) (q .1 .1 .1 .0)) i) in
+      λ j i. from-node n k m nodes links j (from-every kinds (counting m 0) (p .0) i)
+      (from-every (λ x. fits x (at n k m nodes links x)) (counting m 0) (subst T (made-nodes fits (at n k m nodes links) m 0) (q .1 .1 .1 .0)) i) in
       let most : m ≤ 2 * k - 1 = subst (λ (x : ℕ). x ≤ 2 * k - 1) (size n k m nodes links) (nodes-at-most sampleLimit (measuresOf t) k made (p .1)) in
       passes (countsFit m k capacity) tests (
-        passes (leb k capacity) (Bool·beq (eqb m 0) (eqb k 0) ∷ leb m (2 * k - 1) ∷ []) (q .1 .0, (subst (λ (x : ℕ). T (Bool·beq (eqb x 0) (eqb k 0))) (size n k m nodes links) (q .1 .1 .0), le→leb m (2 * k - 1) most)),
+        passes (leb k capacity) (Bool·beq (eqb m 0) (eqb k 0) ∷ leb m (2 * k - 1) ∷ []) (
+          q .1 .0,
+          (subst (λ (x : ℕ). T (Bool·beq (eqb x 0) (eqb k 0))) (size n k m nodes links) (q .1 .1 .0), le→leb m (2 * k - 1) most),
+        ),
         (
           every-of (λ j. recordFits n m j (recordOf nodes j)) (counting m 0) (λ j i. each j i .0),
           (
@@ -247,7 +250,8 @@ module _ (control : List ℕ) (nodes : List ℤ) (links : List ℕ) where
       let c = passed (leb k capacity) (Bool·beq (eqb m 0) (eqb k 0) ∷ leb m (2 * k - 1) ∷ []) (p .0) in
       let l = and-yes leavesFit oneLeaf (p .1 .1 .1 .1) in
       let each : (j : ℕ) → In j (counting m 0) → T (kinds j) × T (fits j (at n k m nodes links j)) =
-      λ j i. to-node n k m nodes links j (from-every (λ x. recordFits n m x (recordOf nodes x)) (counting m 0) (p .1 .0) i) (from-every (keptAt nodes) (counting m 0) (p .1 .1 .0) i) (from-every (leafFitsAt nodes links k) (counting m 0) (l .0) i) in
+      λ j i. to-node n k m nodes links j (from-every (λ x. recordFits n m x (recordOf nodes x)) (counting m 0) (p .1 .0) i)
+      (from-every (keptAt nodes) (counting m 0) (p .1 .1 .0) i) (from-every (leafFitsAt nodes links k) (counting m 0) (l .0) i) in
       joined (every-of kinds (counting m 0) (λ j i. each j i .0))
       (passes (inRange (measuresOf t)) rules (
         g,

@@ -79,7 +79,12 @@ module _ (f : ℕ → List ℕ) where
   pub twice-firsts : {a : List ℕ} (j m : ℕ) → j ≤ m → Twice a (firsts j) → Twice a (firsts m)
   twice-firsts j m h t =
       let e : j + (m - j) ≡ m = omega arith in
-      record { number = t .number; inside = t .inside; again = omega (arith, t .again, subst (λ (y : ℕ). timesIn (t .number) (firsts j) ≤ timesIn (t .number) (firsts y)) e (times-firsts (t .number) j (m - j))) }
+      record {
+        number = t .number;
+        inside = t .inside;
+        again =
+            omega (arith, t .again, subst (λ (y : ℕ). timesIn (t .number) (firsts j) ≤ timesIn (t .number) (firsts y)) e (times-firsts (t .number) j (m - j)));
+      }
 
   module _ {a b : List ℕ} {j : ℕ} (g : Grown a b (firsts j)) where
     pub grown-firsts : {c : List ℕ} → Grown b c (f j) → Grown a c (firsts (j + 1))

@@ -165,7 +165,8 @@ module _ {nodes : List ℤ} {links : List ℕ} {k : ℕ} {before marks : List �
 
 -- ---- all leaves
 
-module _ (nodes : List ℤ) (m : ℕ) (links : List ℕ) (k : ℕ) {after : List ℕ} {r : Bool} (h : Held (every (leafFitsAt nodes links k) (counting m 0)) k blank after (numbersOfFirst nodes links k m) r) where
+module _ (nodes : List ℤ) (m : ℕ) (links : List ℕ)
+    (k : ℕ) {after : List ℕ} {r : Bool} (h : Held (every (leafFitsAt nodes links k) (counting m 0)) k blank after (numbersOfFirst nodes links k m) r) where
   abbrev all : List ℕ
   all = numbersOfFirst nodes links k m
 

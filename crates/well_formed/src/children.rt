@@ -1,8 +1,8 @@
 // Every node but 0 is a child once.
 
-use records_fit::places::FIRST;
-use records_fit::places::KIND;
-use records_fit::places::RIGHT;
+use tables::places::FIRST;
+use tables::places::KIND;
+use tables::places::RIGHT;
 use tables::records::node_small;
 ghost use mathlib.Core.Path.{_≡_};
 ghost use lib.ListN.{length};

@@ -1,7 +1,8 @@
 // Every trace number is in one leaf, and the numbers of a leaf rise.
 
-use records_fit::places::FIRST;
-use records_fit::places::KIND;
+use tables::numbers::wide;
+use tables::places::FIRST;
+use tables::places::KIND;
 use tables::records::node_small;
 ghost use mathlib.Core.Path.{_≡_};
 ghost use Prim.Native.Nat.{suc, _≤_};
@@ -25,7 +26,7 @@ fn mark_list(links: &[u16], k: usize, first: usize, marks: &mut [u16; 8192]) -> 
         if !crate::marks::mark(marks, at) {
             return false;
         }
-        let next = crate::wide(links[at]);
+        let next = wide(links[at]);
         if next == 0 {
             return true;
         }
@@ -53,7 +54,8 @@ fn mark_leaf(nodes: &[i64], j: usize, links: &[u16], k: usize, marks: &mut [u16;
 // Marks the trace numbers of every leaf.
 fn mark_all(nodes: &[i64], m: usize, links: &[u16], k: usize, marks: &mut [u16; 8192]) -> bool
     requires { ⌜ AllFit m (now nodes) × (k ≤ length (now links)) × (k ≤ 8192) × (length (now marks) ≡ 8192) ⌝ }
-    ensures { λ r. ⌜ Held (every (leafFitsAt (now (nodes .entry)) (now (links .entry)) k) (counting m 0)) k (now (marks .entry)) (now (marks .exit)) (numbersOfFirst (now (nodes .entry)) (now (links .entry)) k m) r ⌝ }
+    ensures { λ r. ⌜ Held (every (leafFitsAt (now (nodes .entry)) (now (links .entry)) k) (counting m 0)) k (now (marks .entry))
+        (now (marks .exit)) (numbersOfFirst (now (nodes .entry)) (now (links .entry)) k m) r ⌝ }
 {
     let mut j: usize = 0;
     while j < m {

@@ -4,23 +4,21 @@
 pub mod marks; // numbers met, in a table of their own
 pub mod children; // every node but 0 a child once
 pub mod leaves; // every trace number in one leaf
+pub mod judging; // what lent tables are refused for
 
+use tables::control::field;
+use tables::numbers::wide;
+use tables::places::CAPACITY;
+use tables::places::N;
+use tables::places::NODE_COUNT;
+use tables::places::TRACE_COUNT;
 ghost use mathlib.Core.Path.{_≡_};
-ghost use mathlib.Core.Bool.{true};
 ghost use mathlib.Core.List.{[]};
-ghost use Prim.Native.Nat.{_*_, _-_, _≤_};
-ghost use lib.ListN.{length};
-ghost use Rattle.dstree.specs.Measures.{inRange};
-ghost use Rattle.tables.specs.Layout.{capacityPlace, controlFields, recordPlaces};
-ghost use Rattle.tables.specs.Tables.{tables, field, measuresOf};
+ghost use Prim.Native.Nat.{_≤_};
+ghost use Rattle.tables.specs.Tables.{tables};
 ghost use Rattle.tables.specs.View.{wellFormed};
+ghost use Rattle.tables.specs.Answers.{Lends};
 ghost use Rattle.well_formed.specs.Tests.{countsFit};
-
-fn wide(x: u16) -> usize
-    ensures { λ r. ⌜ r ≡ x ⌝ }
-{
-    x as usize
-}
 
 // The counts, before any record is read: of k traces there are 2k − 1 nodes at most, and a table holds as many records.
 fn counts_fit(m: usize, k: usize, capacity: usize) -> bool
@@ -40,13 +38,13 @@ fn counts_fit(m: usize, k: usize, capacity: usize) -> bool
 }
 
 pub fn well_formed(control: &[u16], nodes: &[i64], links: &[u16]) -> bool
-    requires { ⌜ (controlFields ≤ length (now control)) × (inRange (measuresOf (tables (now control) [] (now nodes) (now links) [])) ≡ true) × ((2 * field (now control) capacityPlace - 1) * recordPlaces ≤ length (now nodes)) × (field (now control) capacityPlace ≤ length (now links)) ⌝ }
+    requires { ⌜ Lends (now control) (now nodes) (now links) ⌝ }
     ensures { λ r. ⌜ r ≡ wellFormed (tables (now (control .entry)) [] (now (nodes .entry)) (now (links .entry)) []) ⌝ }
 {
-    let n = wide(tables::control::field(control, 0));
-    let capacity = wide(tables::control::field(control, 1));
-    let k = wide(tables::control::field(control, 3));
-    let m = wide(tables::control::field(control, 4));
+    let n = wide(field(control, N));
+    let capacity = wide(field(control, CAPACITY));
+    let k = wide(field(control, TRACE_COUNT));
+    let m = wide(field(control, NODE_COUNT));
     if !counts_fit(m, k, capacity) {
         return false;
     }

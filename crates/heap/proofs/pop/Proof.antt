@@ -7,25 +7,6 @@ use denote.Ref.{now}
 use Rattle.heap.proofs.Popping.{sink-ready, pop-more, pop-one}
 use Rattle.heap.proofs.pop.Statement.{statement}
 use Rattle.heap.proofs.pop.Tie as tie
-use Rattle.heap.proofs.sink.Reads as sink-reads
-
-slice-read-least : tie.Need-slice-read-least
-slice-read-least c = omega arith
-
-sub-last : tie.Need-sub-last
-sub-last c = omega arith
-
-mul-key : tie.Need-mul-key
-mul-key c = omega arith
-
-slice-read-key : tie.Need-slice-read-key
-slice-read-key c = omega arith
-
-mul-s : tie.Need-mul-s
-mul-s c = omega arith
-
-slice-write-s : tie.Need-slice-write-s
-slice-write-s c = omega arith
 
 sink-requires : tie.Need-sink-requires
 sink-requires c κs =
@@ -41,9 +22,6 @@ returns c =
     let b = k .before .before .before .before .before .before in
     pop-more (b .args .n) (now (b .args .s)) (b .pre .0) (b .pre .1) (b .pre .2) (k .sink .last .0) (k .before .before .if1 .taken) (k .sink .ensures)
 
-same-length-2 : tie.Need-same-length-2
-same-length-2 c = search needs
-
 returns-2 : tie.Need-returns-2
 returns-2 c =
     let b = c .before .before .before .before in
@@ -53,14 +31,5 @@ pub pop-spec : {M : Type 1} → statement M
 pop-spec =
     tie.close
     (tie.spec
-    slice-read-least
-    sub-last
-    mul-key
-    slice-read-key
-    mul-s
-    slice-write-s
-    sink-requires
-    same-length
-    returns
-    same-length-2
-    returns-2)
+    (λ c. omega arith) (λ c. omega arith) (λ c. omega arith) (λ c. omega arith) (λ c. omega arith) (λ c. omega arith) sink-requires
+    same-length returns (λ c. search needs) returns-2)

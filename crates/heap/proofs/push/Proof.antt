@@ -17,21 +17,6 @@ abbrev μ-loop : tie.MeasureT-loop
 loop-holds : tie.Need-loop-holds Inv-loop μ-loop
 loop-holds c = rise-start (c .args .n) (c .args .key) (now (c .args .s)) (c .pre .0) (c .pre .1)
 
-sub-up : tie.Need-sub-up Inv-loop μ-loop
-sub-up c = omega arith
-
-mul-k : tie.Need-mul-k Inv-loop μ-loop
-mul-k c = omega arith
-
-slice-read-k : tie.Need-slice-read-k Inv-loop μ-loop
-slice-read-k c = omega arith
-
-mul-s : tie.Need-mul-s Inv-loop μ-loop
-mul-s c = omega arith
-
-slice-write-s : tie.Need-slice-write-s Inv-loop μ-loop
-slice-write-s c = omega arith
-
 same-length : tie.Need-same-length Inv-loop μ-loop
 same-length c = simp length-set (c .before .before .before .loop .inv .long)
 
@@ -44,15 +29,6 @@ returns c =
     rise-end (a .n) (a .key) (now (a .s)) (pre .0) (L .at) (L .s) (L .inv)
     (λ i p q. let e : i ≡ (L .at - 1) / 2 = omega (arith, p, q, t) in rw e (c .if1 .taken))
 
-mul-s-2 : tie.Need-mul-s-2 Inv-loop μ-loop
-mul-s-2 c = omega arith
-
-slice-write-s-2 : tie.Need-slice-write-s-2 Inv-loop μ-loop
-slice-write-s-2 c = omega arith
-
-loop-less : tie.Need-loop-less Inv-loop μ-loop
-loop-less c = omega arith
-
 loop-again : tie.Need-loop-again Inv-loop μ-loop
 loop-again c =
     let L = c .before .before .before .loop in
@@ -60,12 +36,6 @@ loop-again c =
     let pre = c .before .before .before .before .pre in
     let t : 0 < L .at = c .before .before .loop-test .taken in
     rise-step (a .n) (a .key) (now (a .s)) (pre .0) (L .at) (L .s) (L .inv) ((L .at - 1) / 2) (omega arith) (omega arith) (c .if1 .left)
-
-mul-s-3 : tie.Need-mul-s-3 Inv-loop μ-loop
-mul-s-3 c = omega arith
-
-slice-write-s-3 : tie.Need-slice-write-s-3 Inv-loop μ-loop
-slice-write-s-3 c = omega arith
 
 same-length-2 : tie.Need-same-length-2 Inv-loop μ-loop
 same-length-2 c = simp length-set (c .before .loop .inv .long)
@@ -82,21 +52,6 @@ pub push-spec : {M : Type 1} → statement M
 push-spec =
     tie.close
     (tie.spec
-    Inv-loop
-    μ-loop
-    loop-holds
-    sub-up
-    mul-k
-    slice-read-k
-    mul-s
-    slice-write-s
-    same-length
-    returns
-    mul-s-2
-    slice-write-s-2
-    loop-less
-    loop-again
-    mul-s-3
-    slice-write-s-3
-    same-length-2
-    returns-2)
+    Inv-loop μ-loop loop-holds (λ c. omega arith) (λ c. omega arith) (λ c. omega arith) (λ c. omega arith) (λ c. omega arith)
+    same-length returns (λ c. omega arith) (λ c. omega arith) (λ c. omega arith) loop-again (λ c. omega arith) (λ c. omega arith)
+    same-length-2 returns-2)

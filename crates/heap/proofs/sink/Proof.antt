@@ -9,7 +9,6 @@ use Rattle.heap.proofs.Shape.{lesser-all}
 use Rattle.heap.proofs.Sinking.{Sink, sink-start, sink-step, sink-end}
 use Rattle.heap.proofs.sink.Statement.{statement}
 use Rattle.heap.proofs.sink.Tie as tie
-use Rattle.heap.proofs.lesser.Reads as lesser-reads
 
 abbrev Inv-loop : tie.InvT-loop
 Inv-loop s₀ n key at₀ left₀ s at left = (Sink n key at s₀ s) × (left ≡ 2 * at + 1)
@@ -23,21 +22,6 @@ loop-holds c =
     let pre = c .before .pre in
     (sink-start (a .n) (a .key) (now (a .s)) (pre .0) (pre .1) (pre .2) (pre .3), omega arith)
 
-lesser-requires : tie.Need-lesser-requires Inv-loop μ-loop
-lesser-requires c κs = omega arith
-
-mul-k : tie.Need-mul-k Inv-loop μ-loop
-mul-k c = omega arith
-
-slice-read-k : tie.Need-slice-read-k Inv-loop μ-loop
-slice-read-k c = omega arith
-
-mul-s : tie.Need-mul-s Inv-loop μ-loop
-mul-s c = omega arith
-
-slice-write-s : tie.Need-slice-write-s Inv-loop μ-loop
-slice-write-s c = omega arith
-
 same-length : tie.Need-same-length Inv-loop μ-loop
 same-length c = simp length-set (c .before .before .before .before .before .loop .inv .0 .long)
 
@@ -49,21 +33,6 @@ returns c =
     let all = lesser-all (a .n) (L .at) (L .left) (L .s) (c .before .before .lesser .result) (L .inv .1) (c .before .before .lesser .ensures) in
     sink-end (a .n) (a .key) (now (a .s)) (pre .0) (pre .1) (L .at) (L .s) (L .inv .0)
     (λ j p q r. omega (arith, c .if1 .taken, all j p q r))
-
-mul-s-2 : tie.Need-mul-s-2 Inv-loop μ-loop
-mul-s-2 c = omega arith
-
-slice-write-s-2 : tie.Need-slice-write-s-2 Inv-loop μ-loop
-slice-write-s-2 c = omega arith
-
-mul-left : tie.Need-mul-left Inv-loop μ-loop
-mul-left c = omega arith
-
-add-left : tie.Need-add-left Inv-loop μ-loop
-add-left c = omega arith
-
-loop-less : tie.Need-loop-less Inv-loop μ-loop
-loop-less c = omega arith
 
 loop-again : tie.Need-loop-again Inv-loop μ-loop
 loop-again c =
@@ -78,12 +47,6 @@ loop-again c =
           (omega (arith, e, k .low)) (omega (arith, e, k .high)) (k .room) (omega (arith, c .if1 .left)) all,
       omega arith,
     )
-
-mul-s-3 : tie.Need-mul-s-3 Inv-loop μ-loop
-mul-s-3 c = omega arith
-
-slice-write-s-3 : tie.Need-slice-write-s-3 Inv-loop μ-loop
-slice-write-s-3 c = omega arith
 
 same-length-2 : tie.Need-same-length-2 Inv-loop μ-loop
 same-length-2 c = simp length-set (c .before .loop .inv .0 .long)
@@ -100,23 +63,6 @@ pub sink-spec : {M : Type 1} → statement M
 sink-spec =
     tie.close
     (tie.spec
-    Inv-loop
-    μ-loop
-    loop-holds
-    lesser-requires
-    mul-k
-    slice-read-k
-    mul-s
-    slice-write-s
-    same-length
-    returns
-    mul-s-2
-    slice-write-s-2
-    mul-left
-    add-left
-    loop-less
-    loop-again
-    mul-s-3
-    slice-write-s-3
-    same-length-2
-    returns-2)
+    Inv-loop μ-loop loop-holds (λ c κs. omega arith) (λ c. omega arith) (λ c. omega arith) (λ c. omega arith) (λ c. omega arith)
+    same-length returns (λ c. omega arith) (λ c. omega arith) (λ c. omega arith) (λ c. omega arith) (λ c. omega arith) loop-again
+    (λ c. omega arith) (λ c. omega arith) same-length-2 returns-2)

@@ -1,16 +1,22 @@
 -- `matching::nearest` meets its contract: what the judge found says which way the call ends, and tables that refuse nothing may be searched.
-use mathlib.Core.Path.{_≡_, refl, sym, ap, _∙_}
+use Prim.Native.Nat.{ℕ}
+use mathlib.Core.Path.{_≡_, sym, ap, _∙_}
+use mathlib.Core.Bool.{true, false}
 use mathlib.Core.Option.{none}
-use lib.ListN.{length}
+use mathlib.Core.List.{List, [], _∷_}
+use native.Mathlib.Omega.{arith}
 use denote.Ref.{now}
 use borrow.Author.Needs.{needs}
-use borrow.Author.Tests.{not-true, not-false}
+use borrow.Author.Tests.{not-true}
 use Rattle.dstree.specs.Refusals.{firstOf}
+use Rattle.dstree.specs.Book.{besideOf}
 use Rattle.tables.specs.Tables.{Tables, tables}
 use Rattle.tables.specs.Answers.{foundBy}
-use Rattle.matching.specs.Matched.{nearestConditions}
-use Rattle.matching.proofs.Conditions.{work-room, searchable}
-use Rattle.matching.proofs.Told.{refused-answer, found-answer, none-answer}
+use Rattle.calls.specs.Effects.{matches, effectOf, outcomeOn}
+use Rattle.calls.proofs.Ends.{ends-refused}
+use Rattle.matching.specs.Answered.{answerBy}
+use Rattle.matching.proofs.Conditions.{Taken, taken}
+use Rattle.matching.proofs.Told.{found-one, found-answer}
 use Rattle.matching.proofs.nearest.Statement.{statement}
 use Rattle.matching.proofs.nearest.Tie as tie
 
@@ -18,28 +24,48 @@ use Rattle.matching.proofs.nearest.Tie as tie
 abbrev lentTables : tie.Start → Tables
 lentTables s = tables (now (s .args .control)) (now (s .args .samples)) (now (s .args .nodes)) (now (s .args .links)) (now (s .args .work))
 
-abbrev start : tie.After-judge-nearest → tie.Start
-start j = j .before .before .before .before .before .before
+abbrev start : tie.After-judge → tie.Start
+start j = j .before .before .before .before .before .before .before
 
 -- nothing was refused
-nothing : (e : tie.After-enum-told) → firstOf (nearestConditions (lentTables (start (e .before .before))) (now (start (e .before .before) .args .query)) (length (now (start (e .before .before) .args .trail)))) ≡ none
-unfolding foundBy
-nothing e = sym (e .before .before .judge-nearest .ensures) ∙ ap foundBy (e .enum-told .given .1)
+module _ (e : tie.After-enum-told) where
+  abbrev s : tie.Start
+  s = start (e .before .before)
 
-judge-nearest-requires : tie.Need-judge-nearest-requires
-judge-nearest-requires c κs = tt
+  nothing : firstOf (matches (lentTables s) (now (s .args .query)) (now (s .args .trail)) .conditions) ≡ none
+  unfolding foundBy
+  nothing = sym (e .before .before .judge .ensures) ∙ ap foundBy (e .enum-told .given .1)
 
-enum-known-verdict : tie.Need-enum-known-verdict
-enum-known-verdict c = search needs
+  may : Taken (lentTables s) (now (s .args .query)) (now (s .args .trail))
+  may = taken (lentTables s) (now (s .args .query)) (now (s .args .trail)) nothing
+
+judge-requires : tie.Need-judge-requires
+judge-requires c κs = tt
 
 enum-told : tie.Need-enum-told
 enum-told c = search needs
 
 search-all-requires : tie.Need-search-all-requires
-search-all-requires c κs =
-    let e = c .before .before in
-    let s = start (e .before .before) in
-    (searchable (lentTables s) (now (s .args .query)) (length (now (s .args .trail))) (nothing e), work-room (lentTables s) (now (s .args .query)) (length (now (s .args .trail))) (nothing e))
+search-all-requires c κs = let m = may (c .before .before) in (m .ready, m .work-room)
+
+-- the search, and that it found a trace
+module _ (q : tie.After-search-all) where
+  abbrev workAfter : List ℕ
+  workAfter = q .search-all .last .1 .1 .1 .1 .1 .0
+
+  abbrev trailAfter : List ℕ
+  trailAfter = q .search-all .last .1 .1 .1 .1 .1 .1 .0
+
+  one : q .search-all .result .best .found ≡ true
+  one =
+      let e = q .before .before .before in
+      let a = s e .args in
+      let r = q .search-all .result in
+      found-one (now (a .control)) (now (a .samples)) (now (a .nodes)) (now (a .links)) (now (a .work)) (now (a .query)) (now (a .trail))
+      workAfter trailAfter (r .best) (r .out) (r .traces) (q .search-all .kept .1 .1 .1 .1 .1 .1 .0) (q .search-all .ensures) (may e .finds)
+
+true-false : true ≡ false → ⊥
+true-false e = let z : _≡_ {A = ℕ} 0 1 = cc in absurd (omega arith)
 
 same-length : tie.Need-same-length
 same-length c = c .before .before .before .before .before .before .search-all .kept .1 .1 .1 .1 .1 .0
@@ -50,47 +76,30 @@ same-length-2 c = c .before .before .before .before .before .before .search-all 
 returns : tie.Need-returns
 returns c =
     let q = c .before .before .before .before .before .before in
-    let e = q .before .before .before in
-    let a = start (e .before .before) .args in
     let r = q .search-all .result in
-    none-answer (now (a .control)) (now (a .samples)) (now (a .nodes)) (now (a .links)) (now (a .work)) (now (a .query)) (now (a .trail)) (q .search-all .last .1 .1 .1 .1 .1 .0) (q .search-all .last .1 .1 .1 .1 .1 .1 .0) (r .best) (r .out) (r .traces) (nothing e) (q .search-all .kept .1 .1 .1 .1 .1 .1 .0) (q .search-all .ensures) (not-true (r .best .found) (c .if1 .taken))
-
-same-length-3 : tie.Need-same-length-3
-same-length-3 c = search needs
+    absurd (true-false (sym (one q) ∙ not-true (r .best .found) (c .if1 .taken)))
 
 returns-2 : tie.Need-returns-2
+unfolding answerBy outcomeOn effectOf besideOf
 returns-2 c =
     let j = c .before .before .before in
-    let s = start j in
-    refused-answer (lentTables s) (now (s .args .query)) (now (s .args .trail)) _ (sym (j .judge-nearest .ensures) ∙ ap foundBy (c .before .verdict .given .1))
-
-same-length-4 : tie.Need-same-length-4
-same-length-4 c = search needs
-
-same-length-5 : tie.Need-same-length-5
-same-length-5 c = search needs
+    let t = lentTables (start j) in
+    let a = start j .args in
+    ends-refused t (now (a .trail) ∷ []) (matches t (now (a .query)) (now (a .trail))) _ (sym (j .judge .ensures) ∙ ap foundBy (c .before .verdict .given .1))
 
 returns-3 : tie.Need-returns-3
 returns-3 c =
     let q = c .before .before .before .before .before .before in
     let e = q .before .before .before in
-    let a = start (e .before .before) .args in
+    let a = s e .args in
     let r = q .search-all .result in
-    found-answer (now (a .control)) (now (a .samples)) (now (a .nodes)) (now (a .links)) (now (a .work)) (now (a .query)) (now (a .trail)) (q .search-all .last .1 .1 .1 .1 .1 .0) (q .search-all .last .1 .1 .1 .1 .1 .1 .0) (r .best) (r .out) (r .traces) (nothing e) (q .search-all .kept .1 .1 .1 .1 .1 .1 .0) (q .search-all .ensures) (not-false (r .best .found) (c .if1 .left))
+    found-answer (now (a .control)) (now (a .samples)) (now (a .nodes)) (now (a .links)) (now (a .work)) (now (a .query)) (now (a .trail))
+    (workAfter q) (trailAfter q) (r .best) (r .out) (r .traces) (q .search-all .kept .1 .1 .1 .1 .1 .1 .0) (q .search-all .ensures)
+    (one q) (nothing e)
 
 pub nearest-spec : {M : Type 1} → statement M
 nearest-spec =
     tie.close
     (tie.spec
-    judge-nearest-requires
-    enum-known-verdict
-    enum-told
-    search-all-requires
-    same-length
-    same-length-2
-    returns
-    same-length-3
-    returns-2
-    same-length-4
-    same-length-5
-    returns-3)
+    judge-requires (λ c. search needs) enum-told search-all-requires same-length same-length-2 returns (λ c. search needs)
+    (λ c. search needs) returns-2 (λ c. search needs) (λ c. search needs) returns-3)

@@ -1,14 +1,19 @@
 -- `opening::open` meets its contract: what the judge found says which of the two ways the call ends.
-use mathlib.Core.Path.{_≡_, sym, ap, _∙_}
+use mathlib.Core.Path.{_≡_, refl, sym, ap, _∙_}
 use mathlib.Core.Option.{none}
+use mathlib.Core.List.{[]}
 use denote.Ref.{now}
 use borrow.Author.Needs.{needs}
 use Rattle.dstree.specs.Measures.{Measures, measures}
 use Rattle.dstree.specs.Refusals.{firstOf}
 use Rattle.tables.specs.Tables.{Tables, tables, lentOf}
 use Rattle.tables.specs.Judge.{openingConditionsOf}
-use Rattle.tables.specs.Answers.{foundBy}
-use Rattle.opening.proofs.Answered.{opening-accepted, refused-answer, done-answer}
+use Rattle.tables.specs.Answers.{foundBy, openingConditions}
+use Rattle.dstree.specs.Book.{done, besideOf}
+use Rattle.calls.specs.Effects.{opens, effectOf, outcomeOn}
+use Rattle.calls.proofs.Ends.{ends-refused, ends-done}
+use Rattle.opening.specs.Opened.{answerOf}
+use Rattle.opening.proofs.Answered.{opening-accepted}
 use Rattle.opening.proofs.open.Statement.{statement}
 use Rattle.opening.proofs.open.Tie as tie
 
@@ -25,12 +30,6 @@ start c = c .before .before .before .before
 -- what the judge found is what the definition finds
 found : (c : tie.After-judge-opening) → firstOf (openingConditionsOf (lentOf (lentTables (start c))) (asked (start c))) ≡ foundBy (c .judge-opening .result)
 found c = sym (c .judge-opening .ensures)
-
-judge-opening-requires : tie.Need-judge-opening-requires
-judge-opening-requires c κs = search needs
-
-enum-known-verdict : tie.Need-enum-known-verdict
-enum-known-verdict c = search needs
 
 enum-told : tie.Need-enum-told
 enum-told c = search needs
@@ -54,44 +53,23 @@ put-empty-requires c κs =
     opening-accepted (lentOf (lentTables (origin e))) (asked (origin e)) (nothing e)
 
 returns : tie.Need-returns
-unfolding foundBy
+unfolding answerOf outcomeOn effectOf besideOf opens openingConditions
 returns c =
     let o = c .before .before .before in
-    refused-answer (lentTables (start o)) (asked (start o)) _ (found o ∙ ap foundBy (c .before .verdict .given .1))
-
-same-length : tie.Need-same-length
-same-length c = search needs
-
-same-length-2 : tie.Need-same-length-2
-same-length-2 c = search needs
-
-same-length-3 : tie.Need-same-length-3
-same-length-3 c = search needs
-
-same-length-4 : tie.Need-same-length-4
-same-length-4 c = search needs
-
-same-length-5 : tie.Need-same-length-5
-same-length-5 c = search needs
+    let t = lentTables (start o) in
+    ends-refused t [] (opens t (asked (start o))) _ (found o ∙ ap foundBy (c .before .verdict .given .1))
 
 returns-2 : tie.Need-returns-2
+unfolding answerOf outcomeOn effectOf besideOf opens openingConditions
 returns-2 c =
     let p = c .before .before .before .before .before .before .before .before in
     let e = told (p .before) in
-    done-answer (lentTables (origin e)) (asked (origin e)) _ (nothing e) (p .put-empty .ensures)
+    let t = lentTables (origin e) in
+    ends-done t [] (opens t (asked (origin e))) done _ [] (nothing e) refl (p .put-empty .ensures) refl
 
 pub open-spec : {M : Type 1} → statement M
 open-spec =
     tie.close
     (tie.spec
-    judge-opening-requires
-    enum-known-verdict
-    enum-told
-    put-empty-requires
-    returns
-    same-length
-    same-length-2
-    same-length-3
-    same-length-4
-    same-length-5
-    returns-2)
+    (λ c κs. search needs) (λ c. search needs) enum-told put-empty-requires returns (λ c. search needs) (λ c. search needs)
+    (λ c. search needs) (λ c. search needs) (λ c. search needs) returns-2)

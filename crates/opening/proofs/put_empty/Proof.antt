@@ -89,21 +89,6 @@ cast-write-control-3 c = let r = start (recordsLast c) .pre .range in omega arit
 write-control-requires : tie.Need-write-control-requires
 write-control-requires c κs = start (recordsLast c) .pre .room .control-room
 
-same-length : tie.Need-same-length
-same-length c = search needs
-
-same-length-2 : tie.Need-same-length-2
-same-length-2 c = search needs
-
-same-length-3 : tie.Need-same-length-3
-same-length-3 c = search needs
-
-same-length-4 : tie.Need-same-length-4
-same-length-4 c = search needs
-
-same-length-5 : tie.Need-same-length-5
-same-length-5 c = search needs
-
 returns : tie.Need-returns
 unfolding linksNeeded recordsNeeded workNeeded
 returns c =
@@ -125,20 +110,6 @@ pub put-empty-spec : {M : Type 1} → statement M
 put-empty-spec =
     tie.close
     (tie.spec
-    records-needed-requires
-    samples-needed-requires
-    zero-samples-requires
-    mul-zero-nodes
-    zero-nodes-requires
-    zero-links-requires
-    zero-work-requires
-    cast-write-control
-    cast-write-control-2
-    cast-write-control-3
-    write-control-requires
-    same-length
-    same-length-2
-    same-length-3
-    same-length-4
-    same-length-5
-    returns)
+    records-needed-requires samples-needed-requires zero-samples-requires mul-zero-nodes zero-nodes-requires zero-links-requires
+    zero-work-requires cast-write-control cast-write-control-2 cast-write-control-3 write-control-requires (λ c. search needs)
+    (λ c. search needs) (λ c. search needs) (λ c. search needs) (λ c. search needs) returns)

@@ -7,9 +7,6 @@ use Rattle.opening.proofs.Answered.{five-stores}
 use Rattle.opening.proofs.write_control.Statement.{statement}
 use Rattle.opening.proofs.write_control.Tie as tie
 
-slice-write-control : tie.Need-slice-write-control
-slice-write-control c = omega arith
-
 slice-write-control-2 : tie.Need-slice-write-control-2
 slice-write-control-2 c = simp length-set (omega arith)
 
@@ -22,12 +19,12 @@ slice-write-control-4 c = simp length-set (omega arith)
 slice-write-control-5 : tie.Need-slice-write-control-5
 slice-write-control-5 c = simp length-set (omega arith)
 
-same-length : tie.Need-same-length
-same-length c = search needs
-
 returns : tie.Need-returns
 returns c = five-stores (now (c .args .control)) (c .args .n) (c .args .capacity) (c .args .leaf-size) 0 0 (c .pre)
 
 pub write-control-spec : {M : Type 1} → statement M
 write-control-spec =
-    tie.close (tie.spec slice-write-control slice-write-control-2 slice-write-control-3 slice-write-control-4 slice-write-control-5 same-length returns)
+    tie.close
+    (tie.spec
+    (λ c. omega arith) slice-write-control-2 slice-write-control-3 slice-write-control-4 slice-write-control-5 (λ c. search needs)
+    returns)

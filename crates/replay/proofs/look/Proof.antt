@@ -5,7 +5,7 @@ use lib.ListN.{length, take}
 use lib.Dec.{T}
 use denote.Ref.{now}
 use borrow.Author.Needs.{needs}
-use Rattle.demands.specs.Library.{areSamples}
+use Rattle.calls.specs.Follows.{areSamples}
 use Rattle.integer.specs.Words.{every}
 use Rattle.replay.proofs.Asking.{one-more-sample, all-samples}
 use Rattle.replay.proofs.look.Statement.{statement}

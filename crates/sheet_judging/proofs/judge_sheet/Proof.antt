@@ -2,25 +2,19 @@
 use mathlib.Core.Path.{_≡_, sym, ap, _∙_}
 use mathlib.Core.Bool.{false}
 use mathlib.Core.List.{List, _++_}
-use mathlib.Core.Option.{none, some}
 use Prim.Native.Nat.{ℕ}
 use lib.ListN.{length}
 use denote.Ref.{now}
 use borrow.Author.Needs.{needs}
 use Rattle.dstree.specs.Refusals.{firstOf}
-use Rattle.dstree.specs.Sheet.{isWrongLength, blocksIn, tornConditions, badConditions, sheetConditions}
+use Rattle.dstree.specs.Sheet.{narrow, isWrongLength, blocksIn, tornConditions, badConditions, sheetConditions, conditionsAs}
 use Rattle.tables.specs.Answers.{wordOf, foundBy}
 use Rattle.dstree.proofs.Conditions.{first-some, first-none}
-use Rattle.sheet_judging.specs.Blocks.{InBlocks}
-use Rattle.sheet_judging.proofs.Places.{in-blocks}
 use Rattle.sheet_judging.proofs.judge_sheet.Statement.{statement}
 use Rattle.sheet_judging.proofs.judge_sheet.Tie as tie
 
-wrong-length-requires : tie.Need-wrong-length-requires
-wrong-length-requires c κs = search needs
-
 returns : tie.Need-returns
-unfolding foundBy wordOf sheetConditions firstOf
+unfolding foundBy wordOf conditionsAs firstOf
 returns c = rw (sym (c .before .wrong-length .ensures) ∙ c .if1 .taken)
 
 -- a sheet of whole blocks
@@ -28,21 +22,15 @@ module _ (e : tie.Else1) where
   abbrev bytes : List ℕ
   bytes = now (e .before .before .before .args .sheet)
 
-  right : isWrongLength (length bytes) ≡ false
-  right = sym (e .before .wrong-length .ensures) ∙ e .if1 .left
+  whole : isWrongLength (length bytes) ≡ false
+  whole = sym (e .before .wrong-length .ensures) ∙ e .if1 .left
 
-  whole : InBlocks bytes
-  whole = in-blocks bytes right
-
-  later : firstOf (sheetConditions bytes) ≡ firstOf (tornConditions 0 (blocksIn bytes) ++ badConditions (blocksIn bytes))
-  unfolding sheetConditions firstOf
-  later = rw right
+  later : firstOf (sheetConditions bytes) ≡ firstOf (tornConditions narrow 0 (blocksIn bytes) ++ badConditions narrow (blocksIn bytes))
+  unfolding conditionsAs firstOf
+  later = rw whole
 
 first-torn-requires : tie.Need-first-torn-requires
 first-torn-requires c κs = whole c
-
-enum-known-torn : tie.Need-enum-known-torn
-enum-known-torn c = search needs
 
 enum-told : tie.Need-enum-told
 enum-told c = search needs
@@ -55,7 +43,8 @@ unfolding foundBy
 returns-2 c =
     let t = c .before .before .before in
     let e = t .before in
-    sym (later e ∙ first-some (tornConditions 0 (blocksIn (bytes e))) (badConditions (blocksIn (bytes e))) _ (sym (t .first-torn .ensures) ∙ ap foundBy (c .before .torn .given .1)))
+    sym (later e ∙ first-some (tornConditions narrow 0 (blocksIn (bytes e))) (badConditions narrow (blocksIn (bytes e))) _
+    (sym (t .first-torn .ensures) ∙ ap foundBy (c .before .torn .given .1)))
 
 returns-3 : tie.Need-returns-3
 unfolding foundBy
@@ -63,17 +52,11 @@ returns-3 c =
     let t = c .before .before .before in
     let e = t .before in
     c .judge-contents .ensures
-    ∙ sym (later e ∙ first-none (tornConditions 0 (blocksIn (bytes e))) (badConditions (blocksIn (bytes e))) (sym (t .first-torn .ensures) ∙ ap foundBy (c .before .enum-told .given .1)))
+    ∙ sym (later e ∙ first-none (tornConditions narrow 0 (blocksIn (bytes e))) (badConditions narrow (blocksIn (bytes e)))
+    (sym (t .first-torn .ensures) ∙ ap foundBy (c .before .enum-told .given .1)))
 
 pub judge-sheet-spec : {M : Type 1} → statement M
 judge-sheet-spec =
     tie.close
     (tie.spec
-    wrong-length-requires
-    returns
-    first-torn-requires
-    enum-known-torn
-    enum-told
-    judge-contents-requires
-    returns-2
-    returns-3)
+    (λ c κs. search needs) returns first-torn-requires (λ c. search needs) enum-told judge-contents-requires returns-2 returns-3)

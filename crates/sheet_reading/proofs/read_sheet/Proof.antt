@@ -1,11 +1,10 @@
--- `sheet_reading::read_sheet` meets its contract: what was judged says which of the two ways the call ends; an accepted sheet's measures open an empty
--- library, which its traces are added to.
+-- `sheet_reading::read_sheet` meets its contract: what was judged says which of the two ways the call ends; an accepted sheet's measures
+-- open an empty library, which its traces are added to.
 use mathlib.Core.Path.{_≡_, sym, ap, _∙_, subst}
 use mathlib.Core.Option.{none}
 use mathlib.Core.List.{List, foldl}
 use Prim.Native.Nat.{ℕ}
 use native.Mathlib.Omega.{arith}
-use lib.IntN.{ℤ}
 use lib.Seq.{take-all}
 use denote.Ref.{now}
 use borrow.Author.Needs.{needs}
@@ -16,23 +15,17 @@ use Rattle.dstree.specs.Book.{readingConditions}
 use Rattle.tables.specs.Layout.{layout}
 use Rattle.tables.specs.Tables.{Tables, tables, lentOf}
 use Rattle.tables.specs.Answers.{foundBy, opened}
-use Rattle.tables.proofs.Judged.{Accepted}
+use Rattle.tables.specs.Judge.{Accepted}
 use Rattle.insertion_memory.specs.Memory.{addedTo}
 use Rattle.sheet_judging.specs.Traces.{tracesOf}
 use Rattle.sheet_judging.proofs.Places.{first-inside}
 use Rattle.sheet_judging.proofs.Samples.{fine}
-use Rattle.sheet_reading.specs.Loaded.{loaded}
-use Rattle.sheet_reading.proofs.Told.{said, sheet-fine, accepted, refused-answer, done-answer}
+use Rattle.calls.specs.Library.{loaded}
+use Rattle.sheet_reading.proofs.Ends.{said, sheet-fine, accepted, refused-answer, done-answer}
 use Rattle.sheet_reading.proofs.Library.{traces-count}
 use Rattle.sheet_reading.proofs.Steps.{opened-empty}
 use Rattle.sheet_reading.proofs.read_sheet.Statement.{statement}
 use Rattle.sheet_reading.proofs.read_sheet.Tie as tie
-
-judge-reading-requires : tie.Need-judge-reading-requires
-judge-reading-requires c κs = search needs
-
-enum-known-verdict : tie.Need-enum-known-verdict
-enum-known-verdict c = search needs
 
 enum-told : tie.Need-enum-told
 enum-told c = search needs
@@ -46,7 +39,9 @@ module _ (j : tie.After-judge-reading) where
   bytes = now (start .args .sheet)
 
   abbrev lent : Tables
-  lent = tables (now (start .args .control)) (now (start .args .samples)) (now (start .args .nodes)) (now (start .args .links)) (now (start .args .work))
+  lent =
+      tables (now (start .args .control)) (now (start .args .samples)) (now (start .args .nodes)) (now (start .args .links))
+      (now (start .args .work))
 
   found : firstOf (readingConditions layout (lentOf lent) (judgeSheet bytes)) ≡ foundBy (j .judge-reading .result)
   found = sym (j .judge-reading .ensures)
@@ -71,16 +66,16 @@ head-of-requires c κs = first-inside (bytes (judge c)) (fine (bytes (judge c)) 
 
 -- what block 0 says
 module _ (h : tie.After-head-of) where
-  abbrev told : tie.After-enum-told
-  told = h .before
+  abbrev passed : tie.After-enum-told
+  passed = h .before
 
-  said-is : said (bytes (judge told)) ≡ measures (h .head-of .result .n) (h .head-of .result .capacity) (h .head-of .result .leaf)
+  said-is : said (bytes (judge passed)) ≡ measures (h .head-of .result .n) (h .head-of .result .capacity) (h .head-of .result .leaf)
   said-is = h .head-of .ensures .measures-are
 
 put-empty-requires : tie.Need-put-empty-requires
 put-empty-requires c κs =
     let h = c .before .before .before .before .before in
-    subst (Accepted (lentOf (lent (judge (told h))))) (said-is h) (room (told h))
+    subst (Accepted (lentOf (lent (judge (passed h))))) (said-is h) (room (passed h))
 
 -- once the library is opened
 module _ (p : tie.After-put-empty) where
@@ -88,22 +83,24 @@ module _ (p : tie.After-put-empty) where
   head = p .before .before .before .before .before .before
 
   abbrev origin : tie.After-judge-reading
-  origin = judge (told head)
+  origin = judge (passed head)
 
-  opened-is : tables (p .put-empty .last .0) (p .put-empty .last .1 .0) (p .put-empty .last .1 .1 .0) (p .put-empty .last .1 .1 .1 .0) (p .put-empty .last .1 .1 .1 .1 .0) ≡ opened (lent origin) (said (bytes origin))
+  opened-is : tables (p .put-empty .last .0) (p .put-empty .last .1 .0) (p .put-empty .last .1 .1 .0) (p .put-empty .last .1 .1 .1 .0)
+      (p .put-empty .last .1 .1 .1 .1 .0)
+      ≡ opened (lent origin) (said (bytes origin))
   opened-is = p .put-empty .ensures ∙ ap (opened (lent origin)) (sym (said-is head))
 
 load-requires : tie.Need-load-requires
 load-requires c κs =
     let p = c .before .before .before .before .before .before .before .before .before .before .before .before in
     let h = head p in
-    let ok = room (told h) in
+    let ok = room (passed h) in
     let b = bytes (origin p) in
     record {
-      sound = sound (told h);
+      sound = sound (passed h);
       size = ap (λ (m : Measures). m .n) (sym (said-is h));
       counted = omega (arith, h .head-of .ensures .count-is);
-      empty = opened-empty (lent (origin p)) (said b) (fine b (sound (told h)) .good .measured) (ok .room) _ _ _ _ _ (opened-is p);
+      empty = opened-empty (lent (origin p)) (said b) (fine b (sound (passed h)) .good .measured) (ok .room) _ _ _ _ _ (opened-is p);
     }
 
 returns : tie.Need-returns
@@ -112,46 +109,22 @@ returns c =
     let j = c .before .before .before in
     refused-answer (lent j) (bytes j) _ (found j ∙ ap foundBy (c .before .verdict .given .1))
 
-same-length : tie.Need-same-length
-same-length c = search needs
-
-same-length-2 : tie.Need-same-length-2
-same-length-2 c = search needs
-
-same-length-3 : tie.Need-same-length-3
-same-length-3 c = search needs
-
-same-length-4 : tie.Need-same-length-4
-same-length-4 c = search needs
-
-same-length-5 : tie.Need-same-length-5
-same-length-5 c = search needs
-
 returns-2 : tie.Need-returns-2
 unfolding loaded
 returns-2 c =
     let l = c .before .before .before .before .before .before in
     let p = l .before .before .before .before .before .before .before .before .before .before .before .before .before in
-    done-answer (lent (origin p)) (bytes (origin p)) _ (nothing (told (head p)))
+    done-answer (lent (origin p)) (bytes (origin p)) _ (nothing (passed (head p)))
     (l .load .ensures (p .put-empty .last .1 .1 .1 .1 .0)
-    ∙ (ap (foldl addedTo (tables (p .put-empty .last .0) (p .put-empty .last .1 .0) (p .put-empty .last .1 .1 .0) (p .put-empty .last .1 .1 .1 .0) (p .put-empty .last .1 .1 .1 .1 .0)))
-    (take-all (head p .head-of .result .count) (tracesOf (bytes (origin p))) (omega (arith, head p .head-of .ensures .count-is, traces-count (bytes (origin p)))))
+    ∙ (ap (foldl addedTo (tables (p .put-empty .last .0) (p .put-empty .last .1 .0) (p .put-empty .last .1 .1 .0) (p .put-empty .last .1 .1 .1 .0)
+    (p .put-empty .last .1 .1 .1 .1 .0)))
+    (take-all (head p .head-of .result .count) (tracesOf (bytes (origin p)))
+    (omega (arith, head p .head-of .ensures .count-is, traces-count (bytes (origin p)))))
     ∙ ap (λ (t : Tables). foldl addedTo t (tracesOf (bytes (origin p)))) (opened-is p)))
 
 pub read-sheet-spec : {M : Type 1} → statement M
 read-sheet-spec =
     tie.close
     (tie.spec
-    judge-reading-requires
-    enum-known-verdict
-    enum-told
-    head-of-requires
-    put-empty-requires
-    load-requires
-    returns
-    same-length
-    same-length-2
-    same-length-3
-    same-length-4
-    same-length-5
-    returns-2)
+    (λ c κs. search needs) (λ c. search needs) enum-told head-of-requires put-empty-requires load-requires returns
+    (λ c. search needs) (λ c. search needs) (λ c. search needs) (λ c. search needs) (λ c. search needs) returns-2)

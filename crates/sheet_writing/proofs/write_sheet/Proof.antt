@@ -1,14 +1,14 @@
--- `sheet_writing::write_sheet` meets its contract: what the judge found says which way the call ends, and a sheet that refuses nothing has room.
+-- `sheet_writing::write_sheet` meets its contract: what the judge found says which way the call ends, and a sheet that refuses nothing has
+-- room.
 use mathlib.Core.Path.{_≡_, sym, ap, _∙_}
 use mathlib.Core.Option.{none}
-use lib.ListN.{length}
 use denote.Ref.{now}
 use Rattle.dstree.specs.Refusals.{firstOf}
 use Rattle.tables.specs.Tables.{Tables, tables}
 use Rattle.tables.specs.Answers.{foundBy}
-use Rattle.sheet_writing.specs.Written.{writingConditions}
+use Rattle.calls.specs.Effects.{writes}
 use Rattle.sheet_writing.proofs.Conditions.{fillable}
-use Rattle.sheet_writing.proofs.Told.{refused-answer, written-answer}
+use Rattle.sheet_writing.proofs.Ends.{refused-answer, written-answer}
 use borrow.Author.Needs.{needs}
 use Rattle.sheet_writing.proofs.write_sheet.Statement.{statement}
 use Rattle.sheet_writing.proofs.write_sheet.Tie as tie
@@ -17,19 +17,14 @@ use Rattle.sheet_writing.proofs.write_sheet.Tie as tie
 abbrev lentTables : tie.Start → Tables
 lentTables s = tables (now (s .args .control)) (now (s .args .samples)) (now (s .args .nodes)) (now (s .args .links)) (now (s .args .work))
 
-abbrev start : tie.After-judge-writing → tie.Start
-start j = j .before .before .before .before .before
+abbrev start : tie.After-judge → tie.Start
+start j = j .before .before .before .before .before .before
 
 -- nothing was refused
-nothing : (e : tie.After-enum-told) → firstOf (writingConditions (lentTables (start (e .before .before))) (length (now (start (e .before .before) .args .sheet)))) ≡ none
+nothing : (e : tie.After-enum-told)
+    → firstOf (writes (lentTables (start (e .before .before))) (now (start (e .before .before) .args .sheet)) .conditions) ≡ none
 unfolding foundBy
-nothing e = sym (e .before .before .judge-writing .ensures) ∙ ap foundBy (e .enum-told .given .1)
-
-judge-writing-requires : tie.Need-judge-writing-requires
-judge-writing-requires c κs = search needs
-
-enum-known-verdict : tie.Need-enum-known-verdict
-enum-known-verdict c = search needs
+nothing e = sym (e .before .before .judge .ensures) ∙ ap foundBy (e .enum-told .given .1)
 
 enum-told : tie.Need-enum-told
 enum-told c = search needs
@@ -38,32 +33,26 @@ fill-sheet-requires : tie.Need-fill-sheet-requires
 fill-sheet-requires c κs =
     let e = c .before in
     let s = start (e .before .before) in
-    fillable (lentTables s) (length (now (s .args .sheet))) (nothing e)
+    fillable (lentTables s) (now (s .args .sheet)) (nothing e)
 
 returns : tie.Need-returns
 returns c =
     let j = c .before .before .before in
     let s = start j in
-    refused-answer (lentTables s) (now (s .args .sheet)) _ (sym (j .judge-writing .ensures) ∙ ap foundBy (c .before .verdict .given .1))
-
-same-length : tie.Need-same-length
-same-length c = search needs
+    refused-answer (lentTables s) (now (s .args .sheet)) _ (sym (j .judge .ensures) ∙ ap foundBy (c .before .verdict .given .1))
 
 returns-2 : tie.Need-returns-2
 returns-2 c =
     let f = c .before .before .fill-sheet in
     let e = c .before .before .before .before in
     let a = start (e .before .before) .args in
-    written-answer (now (a .control)) (now (a .samples)) (now (a .nodes)) (now (a .links)) (now (a .work)) (now (a .sheet)) (f .last .1 .1 .0) (f .result) (nothing e) (f .ensures .0) (f .ensures .1)
+    written-answer (now (a .control)) (now (a .samples)) (now (a .nodes)) (now (a .links)) (now (a .work)) (now (a .sheet))
+    (f .last .1 .1 .0) (f .result)
+    (nothing e) (f .ensures .0) (f .ensures .1)
 
 pub write-sheet-spec : {M : Type 1} → statement M
 write-sheet-spec =
     tie.close
     (tie.spec
-    judge-writing-requires
-    enum-known-verdict
-    enum-told
-    fill-sheet-requires
-    returns
-    same-length
+    (λ c κs. search needs) (λ c. search needs) enum-told fill-sheet-requires (λ c. search needs) returns (λ c. search needs)
     returns-2)

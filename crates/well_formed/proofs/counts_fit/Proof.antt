@@ -15,11 +15,11 @@ returns-2 c = let a = c .before .before .args in sym (no-trace (a .m) (a .k) (a 
 returns-3 : tie.Need-returns-3
 returns-3 c = let a = c .before .before .before .args in sym (no-node (a .m) (a .k) (a .capacity) (omega arith) (c .before .if2 .left) (c .if3 .taken))
 
-mul-result : tie.Need-mul-result
-mul-result c = search needs
-
 returns-4 : tie.Need-returns-4
 returns-4 c = let a = c .before .before .before .args in sym (some-nodes (a .m) (a .k) (a .capacity) (omega arith) (c .before .if2 .left) (c .if3 .left))
 
 pub counts-fit-spec : {M : Type 1} → statement M
-counts-fit-spec = tie.close (tie.spec returns returns-2 returns-3 mul-result returns-4)
+counts-fit-spec =
+    tie.close
+    (tie.spec
+    returns returns-2 returns-3 (λ c. search needs) returns-4)

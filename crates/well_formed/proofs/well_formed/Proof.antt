@@ -11,36 +11,13 @@ use borrow.Author.Needs.{needs}
 use borrow.Author.Tests.{not-true, not-false}
 use Rattle.tables.specs.Layout.{nPlace, capacityPlace, traceCountPlace, nodeCountPlace, recordPlaces}
 use Rattle.tables.specs.Tables.{tables, field, measuresOf}
-use Rattle.tables.proofs.Range.{InRange, in-range}
+use Rattle.tables.specs.Judge.{InRange}
+use Rattle.tables.proofs.Range.{in-range}
 use Rattle.records_fit.specs.Fits.{recordsFit, allKept, AllFit}
 use Rattle.well_formed.specs.Tests.{countsFit, childrenOnce, leavesHold}
 use Rattle.well_formed.proofs.Equal.{counts-refuse, records-refuse, ends-refuse, children-refuse, leaves-decide, counted}
 use Rattle.well_formed.proofs.well_formed.Statement.{statement}
 use Rattle.well_formed.proofs.well_formed.Tie as tie
-
-field-requires : tie.Need-field-requires
-field-requires c κs = search needs
-
-wide-requires : tie.Need-wide-requires
-wide-requires c κs = search needs
-
-field-requires-2 : tie.Need-field-requires-2
-field-requires-2 c κs = search needs
-
-wide-requires-2 : tie.Need-wide-requires-2
-wide-requires-2 c κs = search needs
-
-field-requires-3 : tie.Need-field-requires-3
-field-requires-3 c κs = search needs
-
-wide-requires-3 : tie.Need-wide-requires-3
-wide-requires-3 c κs = search needs
-
-field-requires-4 : tie.Need-field-requires-4
-field-requires-4 c κs = search needs
-
-wide-requires-4 : tie.Need-wide-requires-4
-wide-requires-4 c κs = search needs
 
 -- the fields, as they were read
 module _ (c : tie.After-wide4) where
@@ -90,7 +67,7 @@ module _ (c : tie.After-wide4) where
   m-read = c .wide4 .ensures ∙ c .before .field4 .ensures
 
   ranged : InRange (measuresOf (tables control [] nodes links []))
-  ranged = in-range (measuresOf (tables control [] nodes links [])) (s .pre .1)
+  ranged = in-range (measuresOf (tables control [] nodes links [])) (s .pre .measured)
 
 counts-fit-requires : tie.Need-counts-fit-requires
 counts-fit-requires c κs = omega (arith, capacity-read c, ranged c .capacity-high)
@@ -105,7 +82,7 @@ returns : tie.Need-returns
 returns c =
     let d = c .before in
     let w = d .before in
-    counts-refuse (control w) (nodes w) (links w) (s w .pre .1) (counts d (not-true (d .counts-fit .result) (c .if1 .taken)))
+    counts-refuse (control w) (nodes w) (links w) (s w .pre .measured) (counts d (not-true (d .counts-fit .result) (c .if1 .taken)))
 
 -- the counts passed
 module _ (c : tie.Else1) where
@@ -122,7 +99,7 @@ module _ (c : tie.Else1) where
   m-low = counted (m w) (k w) (capacity w) counts-pass .1
 
   held : w .wide4 .result * recordPlaces ≤ length (nodes w)
-  held = omega (arith, m-read w, m-low, s w .pre .2)
+  held = omega (arith, m-read w, m-low, s w .pre .nodes-long)
 
   low : w .wide4 .result ≤ 8191
   low = omega (arith, m-read w, m-low, ranged w .capacity-high)
@@ -140,7 +117,7 @@ returns-2 : tie.Need-returns-2
 returns-2 c =
     let d = c .before in
     let x = w (d .before) in
-    records-refuse (control x) (nodes x) (links x) (s x .pre .1) (counts-pass (d .before)) (records d (not-true (d .records-fit .result) (c .if2 .taken)))
+    records-refuse (control x) (nodes x) (links x) (s x .pre .measured) (counts-pass (d .before)) (records d (not-true (d .records-fit .result) (c .if2 .taken)))
 
 -- the records passed
 module _ (c : tie.Else2) where
@@ -166,7 +143,7 @@ returns-3 : tie.Need-returns-3
 returns-3 c =
     let d = c .before in
     let x = w (o (d .before)) in
-    ends-refuse (control x) (nodes x) (links x) (s x .pre .1) (counts-pass (o (d .before))) (records-pass (d .before)) (ends d (not-true (d .ends-kept .result) (c .if3 .taken)))
+    ends-refuse (control x) (nodes x) (links x) (s x .pre .measured) (counts-pass (o (d .before))) (records-pass (d .before)) (ends d (not-true (d .ends-kept .result) (c .if3 .taken)))
 
 children-once-requires : tie.Need-children-once-requires
 children-once-requires c κs = all-fit (c .before .before)
@@ -186,13 +163,13 @@ returns-4 c =
     let f = d .before in
     let g = f .before .before in
     let x = w (o g) in
-    children-refuse (control x) (nodes x) (links x) (s x .pre .1) (counts-pass (o g)) (records-pass g) (ends-pass f) (children d (not-true (d .children-once .result) (c .if4 .taken)))
+    children-refuse (control x) (nodes x) (links x) (s x .pre .measured) (counts-pass (o g)) (records-pass g) (ends-pass f) (children d (not-true (d .children-once .result) (c .if4 .taken)))
 
 leaves-hold-requires : tie.Need-leaves-hold-requires
 leaves-hold-requires c κs =
     let g = c .before .before .before .before in
     let x = w (o g) in
-    (all-fit g, omega (arith, k-read x, k-room (o g), s x .pre .3), omega (arith, k-read x, k-room (o g), ranged x .capacity-high))
+    (all-fit g, omega (arith, k-read x, k-room (o g), s x .pre .links-long), omega (arith, k-read x, k-room (o g), ranged x .capacity-high))
 
 returns-5 : tie.Need-returns-5
 returns-5 c =
@@ -202,27 +179,13 @@ returns-5 c =
     let g = f .before .before in
     let x = w (o g) in
     let q : c .leaves-hold .result ≡ leavesHold (x .wide4 .result) (nodes x) (w3 x .wide3 .result) (links x) = c .leaves-hold .ensures in
-    q ∙ (ap₂ (λ (y z : ℕ). leavesHold y (nodes x) z (links x)) (m-read x) (k-read x) ∙ leaves-decide (control x) (nodes x) (links x) (s x .pre .1) (counts-pass (o g)) (records-pass g) (ends-pass f) (children d (not-false (d .children-once .result) (h .if4 .left))))
+    q ∙ (ap₂ (λ (y z : ℕ). leavesHold y (nodes x) z (links x)) (m-read x) (k-read x) ∙ leaves-decide (control x) (nodes x) (links x)
+    (s x .pre .measured) (counts-pass (o g)) (records-pass g) (ends-pass f) (children d (not-false (d .children-once .result) (h .if4 .left))))
 
 pub well-formed-spec : {M : Type 1} → statement M
 well-formed-spec =
     tie.close
     (tie.spec
-    field-requires
-    wide-requires
-    field-requires-2
-    wide-requires-2
-    field-requires-3
-    wide-requires-3
-    field-requires-4
-    wide-requires-4
-    counts-fit-requires
-    returns
-    records-fit-requires
-    returns-2
-    ends-kept-requires
-    returns-3
-    children-once-requires
-    returns-4
-    leaves-hold-requires
-    returns-5)
+    (λ c κs. search needs) (λ c κs. search needs) (λ c κs. search needs) (λ c κs. search needs) (λ c κs. search needs)
+    (λ c κs. search needs) (λ c κs. search needs) (λ c κs. search needs) counts-fit-requires returns records-fit-requires returns-2
+    ends-kept-requires returns-3 children-once-requires returns-4 leaves-hold-requires returns-5)

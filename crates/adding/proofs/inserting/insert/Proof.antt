@@ -9,7 +9,7 @@ use borrow.Author.Needs.{needs}
 use Rattle.dstree.specs.Measures.{Trace}
 use Rattle.dstree.specs.Adding.{segmentsOf}
 use Rattle.tables.specs.Tables.{withRecord}
-use Rattle.leaf_figures.specs.Walk.{storedIn}
+use Rattle.tables.specs.Walk.{storedIn}
 use Rattle.insertion_memory.specs.Records.{leafRecord}
 use Rattle.insertion_memory.specs.Memory.{held, splitAllOf}
 use Rattle.adding.specs.Inserting.{leafBy, joinedBy, insertedBy}
@@ -26,15 +26,6 @@ unfolding insertedBy
 inserted-more nodes links samples n k leafSize x zero h = absurd (omega arith)
 inserted-more nodes links samples n k leafSize x (suc count) h = refl
 
-first-leaf-requires : tie.Need-first-leaf-requires
-first-leaf-requires c κs = search needs
-
-same-length : tie.Need-same-length
-same-length c = search needs
-
-same-length-2 : tie.Need-same-length-2
-same-length-2 c = search needs
-
 returns : tie.Need-returns
 unfolding insertedBy
 returns c =
@@ -45,18 +36,13 @@ returns c =
     let N = now (g .nodes) in
     let L = now (g .links) in
     let x = now (g .trace) in
-    let made : f .first-leaf .last .0 ≡ withRecord N 0 (leafRecord (segmentsOf (g .n ∷ []) (x ∷ [])) 0) = f .first-leaf .ensures .0 ∙ ap (λ (m : ℕ). withRecord N 0 (leafRecord (segmentsOf (m ∷ []) (x ∷ [])) 0)) (s .pre .size) in
+    let made : f .first-leaf .last .0 ≡ withRecord N 0 (leafRecord (segmentsOf (g .n ∷ []) (x ∷ [])) 0) =
+    f .first-leaf .ensures .0 ∙ ap (λ (m : ℕ). withRecord N 0 (leafRecord (segmentsOf (m ∷ []) (x ∷ [])) 0)) (s .pre .size) in
     ap₂ (λ (u : List ℤ) (v : List ℕ). held u v 1) made (f .first-leaf .ensures .1)
     ∙ ap (λ (m : ℕ). insertedBy N L (now (g .samples)) (g .n) (g .k) (g .leaf-size) x m) (sym (t .if1 .taken))
 
 insert-more-requires : tie.Need-insert-more-requires
 insert-more-requires c κs = let e = c .before .before in e .before .before .pre .joins (some-of (e .before .before .args .count) (e .if1 .left))
-
-same-length-3 : tie.Need-same-length-3
-same-length-3 c = search needs
-
-same-length-4 : tie.Need-same-length-4
-same-length-4 c = search needs
 
 returns-2 : tie.Need-returns-2
 returns-2 c =
@@ -69,11 +55,5 @@ pub insert-spec : {M : Type 1} → statement M
 insert-spec =
     tie.close
     (tie.spec
-    first-leaf-requires
-    same-length
-    same-length-2
-    returns
-    insert-more-requires
-    same-length-3
-    same-length-4
-    returns-2)
+    (λ c κs. search needs) (λ c. search needs) (λ c. search needs) returns insert-more-requires (λ c. search needs)
+    (λ c. search needs) returns-2)

@@ -11,7 +11,7 @@ use borrow.Author.Needs.{needs}
 use Rattle.tables.specs.Layout.{firstPlace}
 use Rattle.tables.specs.Tables.{recordOf}
 use Rattle.tables.specs.View.{smallAt}
-use Rattle.leaf_figures.specs.Walk.{storedIn, numbersOf, Rising}
+use Rattle.tables.specs.Walk.{storedIn, numbersOf, Rising}
 use Rattle.insertion_memory.specs.Links.{joined}
 use Rattle.insertion_memory.specs.Memory.{held, splitAllOf}
 use Rattle.splitting.specs.Standing.{Standing}
@@ -30,21 +30,13 @@ module _ (a : tie.After-node-small) where
 links-are : (j : tie.After-join) → let g = start (j .before .before) .args in j .join .last .0 ≡ linkedBy (now (g .nodes)) (now (g .links)) (g .k) (now (g .trace)) (g .count)
 links-are j = let g = start (j .before .before) .args in j .join .ensures ∙ ap (λ (h : ℕ). joined (now (g .links)) (numbersOf (now (g .links)) (g .k) h) (g .k)) (head-is (j .before .before))
 
-descend-requires : tie.Need-descend-requires
-descend-requires c κs = search needs
-
-node-small-requires : tie.Need-node-small-requires
-node-small-requires c κs = search needs
-
 join-requires : tie.Need-join-requires
 join-requires c κs =
     let a = c .before in
     let s = start a in
     let p = s .pre in
-    subst (λ (j : ℕ). (j < s .args .k) × (s .args .k < length (now (s .args .links))) × (s .args .k ≤ 4096) × Rising (now (s .args .links)) (s .args .k)) (sym (head-is a)) (p .head-inside, p .links-room, p .few, p .rising)
-
-add-more : tie.Need-add-more
-add-more c = search needs
+    subst (λ (j : ℕ). (j < s .args .k) × (s .args .k < length (now (s .args .links))) × (s .args .k ≤ 4096) × Rising (now (s .args .links)) (s .args .k))
+    (sym (head-is a)) (p .head-inside, p .links-room, p .few, p .rising)
 
 split-all-requires : tie.Need-split-all-requires
 split-all-requires c κs =
@@ -57,15 +49,10 @@ split-all-requires c κs =
     let x = now (g .trace) in (
       subst (λ (m : ℕ). Standing (a .before .before .before .descend .last .0) (j .join .last .0) (now (g .samples)) (g .n) m (g .count)) (sym (add-one (g .k)))
           (subst (λ (l : List ℕ). Standing (a .before .before .before .descend .last .0) l (now (g .samples)) (g .n) (suc (g .k)) (g .count)) (sym (links-are j))
-          (subst (λ (l : List ℤ). Standing l (linkedBy N L (g .k) x (g .count)) (now (g .samples)) (g .n) (suc (g .k)) (g .count)) (sym (a .before .before .before .descend .ensures .1)) (s .pre .standing))),
+          (subst (λ (l : List ℤ). Standing l (linkedBy N L (g .k) x (g .count)) (now (g .samples)) (g .n) (suc (g .k)) (g .count))
+          (sym (a .before .before .before .descend .ensures .1)) (s .pre .standing))),
       omega (arith, a .before .before .before .descend .ensures .0, s .pre .leaf-inside),
     )
-
-same-length : tie.Need-same-length
-same-length c = search needs
-
-same-length-2 : tie.Need-same-length-2
-same-length-2 c = search needs
 
 returns : tie.Need-returns
 returns c =
@@ -88,11 +75,5 @@ pub insert-more-spec : {M : Type 1} → statement M
 insert-more-spec =
     tie.close
     (tie.spec
-    descend-requires
-    node-small-requires
-    join-requires
-    add-more
-    split-all-requires
-    same-length
-    same-length-2
-    returns)
+    (λ c κs. search needs) (λ c κs. search needs) join-requires (λ c. search needs) split-all-requires (λ c. search needs)
+    (λ c. search needs) returns)

@@ -17,7 +17,7 @@ use Rattle.tables.specs.Tables.{Tables, tables, measuresOf, traceCount, nodeCou
 use Rattle.tables.specs.View.{treeIn, kindsNamed, wellFormed}
 use Rattle.tables.proofs.Range.{samples-fit}
 use Rattle.insertion_memory.specs.Memory.{Held, held, heldAfter, addedTo}
-use Rattle.insertion_memory.proofs.Sound.{nodes-most}
+use Rattle.dstree.proofs.Nodes.{nodes-most}
 use Rattle.insertion_memory.proofs.FromTables.{Long, range}
 use Rattle.insertion_memory.proofs.Meaning.{held-stands}
 use Rattle.adding.specs.Inserting.{insertedBy, Inserts}
@@ -73,11 +73,13 @@ module _ (a : tie.After-wide4) where
   count-is : a .wide4 .result ≡ nodeCount (lent start [])
   count-is = a .wide4 .ensures ∙ a .before .field4 .ensures
 
-  at-is : a .before .before .before .wide3 .result * a .before .before .before .before .before .before .before .before .before .wide .result ≡ traceCount (lent start []) * measuresOf (lent start []) .n
+  at-is : a .before .before .before .wide3 .result * a .before .before .before .before .before .before .before .before .before .wide .result
+      ≡ traceCount (lent start []) * measuresOf (lent start []) .n
   at-is = ap₂ _*_ k-is n-is
 
 -- the samples with the new trace
-stored-is : (b : tie.After-copy-trace) → let s = start (b .before .before) in b .copy-trace .last .0 ≡ paste (now (s .args .samples)) (traceCount (lent s []) * measuresOf (lent s []) .n) (now (s .args .trace)) (measuresOf (lent s []) .n)
+stored-is : (b : tie.After-copy-trace) → let s = start (b .before .before) in b .copy-trace .last .0
+    ≡ paste (now (s .args .samples)) (traceCount (lent s []) * measuresOf (lent s []) .n) (now (s .args .trace)) (measuresOf (lent s []) .n)
 stored-is b =
     let s = start (b .before .before) in
     b .copy-trace .ensures ∙ ap₂ (λ (p q : ℕ). paste (now (s .args .samples)) p (now (s .args .trace)) q) (at-is (b .before .before)) (takesOf s [] .size)
@@ -90,41 +92,22 @@ module _ (i : tie.After-insert) where
   abbrev wideOf : tie.After-wide4
   wideOf = copyOf .before .before
 
-  after-is : (work : List ℕ) → held (i .insert .last .0) (i .insert .last .1 .0) (i .insert .result) ≡ heldAfter (lent (start wideOf) work) (now (start wideOf .args .trace)) (nodeCount (lent (start wideOf) work))
+  after-is : (work : List ℕ) → held (i .insert .last .0) (i .insert .last .1 .0) (i .insert .result)
+      ≡ heldAfter (lent (start wideOf) work) (now (start wideOf .args .trace)) (nodeCount (lent (start wideOf) work))
   after-is work =
       let g = start wideOf .args in
       let p = takesOf (start wideOf) work in
       i .insert .ensures
-      ∙ (same-held (λ (s : List ℤ) (u v l w : ℕ). insertedBy (now (g .nodes)) (now (g .links)) s u v l (now (g .trace)) w) (stored-is copyOf) (n-is wideOf) (k-is wideOf) (leaf-size-is wideOf) (count-is wideOf)
+      ∙ (same-held (λ (s : List ℤ) (u v l w : ℕ). insertedBy (now (g .nodes)) (now (g .links)) s u v l (now (g .trace)) w)
+      (stored-is copyOf) (n-is wideOf) (k-is wideOf) (leaf-size-is wideOf) (count-is wideOf)
       ∙ inserted-is (lent (start wideOf) work) (now (g .trace)) (p .formed) (p .long) (p .size) (p .less))
-
-field-requires : tie.Need-field-requires
-field-requires c κs = search needs
-
-wide-requires : tie.Need-wide-requires
-wide-requires c κs = search needs
-
-field-requires-2 : tie.Need-field-requires-2
-field-requires-2 c κs = search needs
-
-wide-requires-2 : tie.Need-wide-requires-2
-wide-requires-2 c κs = search needs
-
-field-requires-3 : tie.Need-field-requires-3
-field-requires-3 c κs = search needs
-
-wide-requires-3 : tie.Need-wide-requires-3
-wide-requires-3 c κs = search needs
-
-field-requires-4 : tie.Need-field-requires-4
-field-requires-4 c κs = search needs
-
-wide-requires-4 : tie.Need-wide-requires-4
-wide-requires-4 c κs = search needs
 
 mul-at : tie.Need-mul-at
 mul-at c = let p = takesOf (start c) [] in
-    record { fits = samples-fit (c .before .before .before .wide3 .result) (c .before .before .before .before .before .before .before .before .before .wide .result) (omega (arith, k-is c, p .less, range (lent (start c) []) (p .formed) .capacity-high)) (omega (arith, n-is c, range (lent (start c) []) (p .formed) .n-high)) }
+    record {
+      fits = samples-fit (c .before .before .before .wide3 .result) (c .before .before .before .before .before .before .before .before .before .wide .result)
+          (omega (arith, k-is c, p .less, range (lent (start c) []) (p .formed) .capacity-high)) (omega (arith, n-is c, range (lent (start c) []) (p .formed) .n-high));
+    }
 
 copy-trace-requires : tie.Need-copy-trace-requires
 unfolding samplesNeeded
@@ -140,10 +123,8 @@ insert-requires c κs =
     let b = c .before .before .before .before in
     let a = b .before .before in
     let p = takesOf (start a) [] in
-    four (λ (s : List ℤ) (u v w : ℕ). Inserts (now (start a .args .nodes)) (now (start a .args .links)) s u v (now (start a .args .trace)) w) (stored-is b) (n-is a) (k-is a) (count-is a) (inserts (lent (start a) []) (now (start a .args .trace)) (p .formed) (p .long) (p .size) (p .less))
-
-add-next : tie.Need-add-next
-add-next c = search needs
+    four (λ (s : List ℤ) (u v w : ℕ). Inserts (now (start a .args .nodes)) (now (start a .args .links)) s u v (now (start a .args .trace)) w)
+    (stored-is b) (n-is a) (k-is a) (count-is a) (inserts (lent (start a) []) (now (start a .args .trace)) (p .formed) (p .long) (p .size) (p .less))
 
 write-counts-requires : tie.Need-write-counts-requires
 write-counts-requires c κs =
@@ -155,19 +136,7 @@ write-counts-requires c κs =
     let after = held-stands t x (p .formed) (p .long) (p .size) (p .less) in
     let few = range t (p .formed) .capacity-high in
     let count : i .insert .result ≡ heldAfter t x (nodeCount t) .count = ap (λ (h : Held). h .count) (after-is i []) in
-    (p .long .control-long, omega (arith, k-is a, p .less, few), omega (arith, count, after .count, nodes-most (after .sound), p .less, few))
-
-same-length : tie.Need-same-length
-same-length c = search needs
-
-same-length-2 : tie.Need-same-length-2
-same-length-2 c = search needs
-
-same-length-3 : tie.Need-same-length-3
-same-length-3 c = search needs
-
-same-length-4 : tie.Need-same-length-4
-same-length-4 c = search needs
+    (p .long .control-long, omega (arith, k-is a, p .less, few), omega (arith, count, after .count, nodes-most (after .shape), p .less, few))
 
 returns : tie.Need-returns
 unfolding addedTo
@@ -188,21 +157,7 @@ pub put-spec : {M : Type 1} → statement M
 put-spec =
     tie.close
     (tie.spec
-    field-requires
-    wide-requires
-    field-requires-2
-    wide-requires-2
-    field-requires-3
-    wide-requires-3
-    field-requires-4
-    wide-requires-4
-    mul-at
-    copy-trace-requires
-    insert-requires
-    add-next
-    write-counts-requires
-    same-length
-    same-length-2
-    same-length-3
-    same-length-4
+    (λ c κs. search needs) (λ c κs. search needs) (λ c κs. search needs) (λ c κs. search needs) (λ c κs. search needs)
+    (λ c κs. search needs) (λ c κs. search needs) (λ c κs. search needs) mul-at copy-trace-requires insert-requires
+    (λ c. search needs) write-counts-requires (λ c. search needs) (λ c. search needs) (λ c. search needs) (λ c. search needs)
     returns)

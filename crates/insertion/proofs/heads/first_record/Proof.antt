@@ -20,18 +20,6 @@ use Rattle.insertion.proofs.First.{first-is}
 use Rattle.insertion.proofs.heads.first_record.Statement.{statement}
 use Rattle.insertion.proofs.heads.first_record.Tie as tie
 
-zero-nodes-requires : tie.Need-zero-nodes-requires
-zero-nodes-requires c κs = search needs
-
-write-leaf-head-requires : tie.Need-write-leaf-head-requires
-write-leaf-head-requires c κs = search needs
-
-sum-requires : tie.Need-sum-requires
-sum-requires c κs = search needs
-
-scatter-requires : tie.Need-scatter-requires
-scatter-requires c κs = search needs
-
 write-segment-requires : tie.Need-write-segment-requires
 write-segment-requires c κs =
     let s = c .before .before .before .before .before .before .before .before .before in
@@ -40,9 +28,6 @@ write-segment-requires c κs =
     let m : c .before .scatter .result ≤ 2 ^ 30 * (w * w) = c .before .scatter .ensures .1 in
     let most : c .before .scatter .result ≤ 2 ^ 54 = omega (arith, mul-le-mul few few) in
     (search needs, omega arith, omega arith, most, most)
-
-same-length : tie.Need-same-length
-same-length c = search needs
 
 returns : tie.Need-returns
 returns c =
@@ -55,17 +40,13 @@ returns c =
     k .before .before .before .write-leaf-head .ensures ∙ ap (λ (l : List ℤ). leafHead 1 0 ++ drop headPlaces l) zeros in
     let z : read w64 (k .before .sum .result) ≡ sum x = toZ-ofZ (sfits-of {w = w64} {z = k .before .sum .result} (k .before .sum .ok)) ∙ k .before .sum .ensures .0 in
     let v : k .scatter .result ≡ scatter x = k .scatter .ensures .0 in
-    let e : c .before .write-segment .last .0 ≡ withSegment (k .before .before .before .write-leaf-head .last .0) 0 (segmentBy (length x) (read w64 (k .before .sum .result)) (read w64 (k .before .sum .result)) (k .scatter .result) (k .scatter .result)) = c .before .write-segment .ensures in
+    let e : c .before .write-segment .last .0 ≡ withSegment (k .before .before .before .write-leaf-head .last .0) 0
+    (segmentBy (length x) (read w64 (k .before .sum .result)) (read w64 (k .before .sum .result)) (k .scatter .result) (k .scatter .result)) = c .before .write-segment .ensures in
     e ∙ rw (headed, z, v) (first-is r x (s .pre .0))
 
 pub first-record-spec : {M : Type 1} → statement M
 first-record-spec =
     tie.close
     (tie.spec
-    zero-nodes-requires
-    write-leaf-head-requires
-    sum-requires
-    scatter-requires
-    write-segment-requires
-    same-length
-    returns)
+    (λ c κs. search needs) (λ c κs. search needs) (λ c κs. search needs) (λ c κs. search needs) write-segment-requires
+    (λ c. search needs) returns)

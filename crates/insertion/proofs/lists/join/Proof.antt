@@ -6,7 +6,7 @@ use lib.ListN.{set, length-set}
 use denote.Ref.{now}
 use borrow.Author.Needs.{needs}
 use Rattle.integer.specs.Words.{lastOf}
-use Rattle.leaf_figures.specs.Walk.{numbersOf}
+use Rattle.tables.specs.Walk.{numbersOf}
 use Rattle.insertion_memory.specs.Links.{joined}
 use Rattle.insertion.proofs.Chain.{last-in}
 use Rattle.insertion.proofs.lists.join.Statement.{statement}
@@ -17,27 +17,6 @@ below c =
     let s = c .before .before .before in
     let e : c .last-of .result ≡ lastOf (numbersOf (now (s .args .links)) (s .args .k) (s .args .head)) = c .last-of .ensures in
     omega (arith, e, last-in (now (s .args .links)) (s .args .k) (s .pre .3) (s .args .head) (s .pre .0))
-
-last-of-requires : tie.Need-last-of-requires
-last-of-requires c κs = search needs
-
-cast-links : tie.Need-cast-links
-cast-links c = search needs
-
-mul-links : tie.Need-mul-links
-mul-links c = let h = below c in omega arith
-
-slice-write-links : tie.Need-slice-write-links
-slice-write-links c = let h = below c in omega arith
-
-mul-links-2 : tie.Need-mul-links-2
-mul-links-2 c = search needs
-
-slice-write-links-2 : tie.Need-slice-write-links-2
-slice-write-links-2 c = simp length-set (omega arith)
-
-same-length : tie.Need-same-length
-same-length c = search needs
 
 returns : tie.Need-returns
 unfolding joined
@@ -50,11 +29,6 @@ pub join-spec : {M : Type 1} → statement M
 join-spec =
     tie.close
     (tie.spec
-    last-of-requires
-    cast-links
-    mul-links
-    slice-write-links
-    mul-links-2
-    slice-write-links-2
-    same-length
+    (λ c κs. search needs) (λ c. search needs) (λ c. let h = below c in omega arith)
+    (λ c. let h = below c in omega arith) (λ c. search needs) (λ c. simp length-set (omega arith)) (λ c. search needs)
     returns)

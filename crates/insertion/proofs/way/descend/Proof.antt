@@ -1,15 +1,21 @@
--- `insertion::way::descend` meets its contract: at each node the records from there on are as they were, and what is left of the way comes to the whole
--- (`Down`). Children are numbered above their parent, so that what is left of the count falls.
+-- `insertion::way::descend` meets its contract: what is left to do comes to the whole (`Down`), and the node's number rises below their count.
 use mathlib.Core.Path.{_≡_, sym, ap, subst, _∙_}
 use mathlib.Core.List.{List}
-use Prim.Native.Nat.{_-_}
+use Prim.Native.Nat.{ℕ, _+_, _*_, _-_, _≤_}
 use native.Mathlib.Omega.{arith}
 use lib.IntN.{ℤ}
 use lib.ListN.{length}
 use denote.Ref.{now}
+use borrow.Rule.Slice.PartMut.{putMid}
+use Rattle.dstree.specs.Measures.{Trace}
+use Rattle.tables.specs.Layout.{kindPlace, recordPlaces}
+use Rattle.tables.specs.Tables.{recordOf, withRecord}
+use Rattle.tables.specs.View.{smallAt}
+use Rattle.tables.proofs.Frame.{part-is, put-is}
 use Rattle.insertion_memory.specs.Records.{widenRecord}
 use Rattle.insertion_memory.specs.Memory.{onRecord}
 use Rattle.insertion.specs.Widening.{Readable}
+use Rattle.insertion.specs.Way.{TestReadable, Descendable, nextIn, orZero}
 use Rattle.insertion.proofs.Down.{Going, going-starts, fits, same-record, widened-length, ended, falls, goes-on}
 use Rattle.insertion.proofs.way.descend.Statement.{statement}
 use Rattle.insertion.proofs.way.descend.Tie as tie
@@ -20,76 +26,109 @@ Inv-loop nodes₀ count trace at₀ nodes at = Going nodes₀ count trace nodes 
 abbrev μ-loop : tie.MeasureT-loop
 μ-loop nodes₀ count trace at₀ nodes at = count - at
 
-loop-holds : tie.Need-loop-holds Inv-loop μ-loop
-loop-holds c = going-starts (c .pre) (now (c .args .trace))
+-- what a turn knows
+module _ (l : tie.At-loop Inv-loop μ-loop) where
+  abbrev nodes : List ℤ
+  nodes = l .loop .nodes
 
-next-at-requires : tie.Need-next-at-requires Inv-loop μ-loop
-next-at-requires c κs =
-    let s = c .before .before in
-    let l = c .before .loop in
-    let x = now (s .args .trace) in
-    let same = same-record (s .pre) x (l .inv) in
-    let inside = l .inv .inside in (
-      fits (s .pre) x (l .inv),
-      omega (arith, s .pre .few),
-      rw same (s .pre .kind (l .at) inside),
-      rw same (λ i. s .pre .passable (l .at) inside i .test),
-    )
+  abbrev at : ℕ
+  at = l .loop .at
 
-widen-at-requires : tie.Need-widen-at-requires Inv-loop μ-loop
-widen-at-requires c κs =
-    let k = c .before .before .before in
-    let s = k .before in
-    let l = k .loop in
-    let x = now (s .args .trace) in (
-      omega (arith, fits (s .pre) x (l .inv)),
-      omega (arith, s .pre .few, l .inv .inside),
-      subst (λ (r : List ℤ). Readable r (length x)) (sym (same-record (s .pre) x (l .inv))) (s .pre .readable (l .at) (l .inv .inside)),
-    )
+  abbrev x : Trace
+  x = now (l .before .args .trace)
+
+  abbrev ok : Descendable (now (l .before .args .nodes)) (l .before .args .count) (length x)
+  ok = l .before .pre
+
+  inside : at * recordPlaces + recordPlaces ≤ length nodes
+  inside = fits ok x (l .loop .inv)
+
+  low : at ≤ 8191
+  low = omega (arith, ok .few, l .loop .inv .inside)
+
+  same : recordOf nodes at ≡ recordOf (now (l .before .args .nodes)) at
+  same = same-record ok x (l .loop .inv)
+
+-- the record that is read
+read-is : (c : tie.After-record-at Inv-loop μ-loop) → let l = c .before .before in now (c .record-at .result) ≡ recordOf (nodes l) (at l)
+read-is c = c .record-at .ensures
+
+abbrev turn : tie.After-record-end Inv-loop μ-loop → tie.At-loop Inv-loop μ-loop
+turn c = c .before .before .before .before .before
+
+-- the part that is lent, and the table after it
+module _ (c : tie.After-record-end Inv-loop μ-loop) where
+  abbrev a : ℕ
+  a = c .before .record-start .result
+
+  abbrev e : ℕ
+  e = c .record-end .result
+
+  starts : a ≡ at (turn c) * recordPlaces
+  starts = c .before .record-start .ensures
+
+  ends : e ≡ at (turn c) * recordPlaces + recordPlaces
+  ends = c .record-end .ensures
+
+next-is : (c : tie.After-next-of Inv-loop μ-loop) → let l = c .before .before .before in c .next-of .result ≡ orZero (nextIn (recordOf (nodes l) (at l)) (x l))
+next-is c = let l = c .before .before .before in c .next-of .ensures ∙ ap (λ (r : List ℤ). orZero (nextIn r (x l))) (read-is (c .before))
+
+widened : (c : tie.After-widen-record Inv-loop μ-loop) → let k = c .before .before in
+    let l = turn k in
+    putMid (a k) (e k - a k) (nodes l) (c .widen-record .last .0) ≡ onRecord (widenRecord (x l)) (nodes l) (at l)
+widened c =
+    let k = c .before .before in
+    let l = turn k in
+    put-is (nodes l) (at l) (a k) (e k) (starts k) (ends k) (c .widen-record .last .0)
+    ∙ ap (withRecord (nodes l) (at l)) (c .widen-record .ensures ∙ ap (widenRecord (x l)) (part-is (nodes l) (at l) (a k) (e k) (starts k) (ends k)))
+
+next-of-requires : tie.Need-next-of-requires Inv-loop μ-loop
+next-of-requires c κs =
+    let l = c .before .before in
+    let i = l .loop .inv .inside in
+    let P : List ℤ → Type 0 = λ r. (length r ≡ recordPlaces) × (smallAt r kindPlace ≤ 2) × (1 ≤ smallAt r kindPlace → TestReadable r (length (x l))) in
+    subst P (sym (read-is c ∙ same l)) (ok l .readable (at l) i .size, ok l .kind (at l) i, λ h. ok l .passable (at l) i h .test)
+
+widen-record-requires : tie.Need-widen-record-requires Inv-loop μ-loop
+widen-record-requires c κs =
+    let k = c .before in
+    let l = turn k in
+    subst (λ (r : List ℤ). Readable r (length (x l))) (sym (part-is (nodes l) (at l) (a k) (e k) (starts k) (ends k) ∙ same l)) (ok l .readable (at l) (l .loop .inv .inside))
 
 same-length : tie.Need-same-length Inv-loop μ-loop
 same-length c =
-    let k = c .before .before in
-    let s = k .before .before .before .before .before in
-    let l = k .before .before .before .before .loop in
-    ap length (k .widen-at .ensures) ∙ widened-length (s .pre) (now (s .args .trace)) (l .inv)
+    let m = c .before .before in
+    let l = turn (m .before .before) in
+    ap length (widened m) ∙ widened-length (ok l) (x l) (l .loop .inv)
 
 returns : tie.Need-returns Inv-loop μ-loop
 returns c =
-    let k = c .before .before in
-    let s = k .before .before .before .before .before in
-    let l = k .before .before .before .before .loop in
-    let x = now (s .args .trace) in
-    let e = ended (s .pre) x (l .inv) (k .before .before .next-at .ensures) (c .if1 .taken) in
-    (e .0, k .widen-at .ensures ∙ e .1)
+    let m = c .before .before in
+    let k = m .before .before in
+    let l = turn k in
+    let done = ended (ok l) (x l) (l .loop .inv) (next-is (k .before .before)) (c .if1 .taken) in
+    (done .0, widened m ∙ done .1)
 
 loop-less : tie.Need-loop-less Inv-loop μ-loop
 loop-less c =
-    let k = c .before .before in
-    let s = k .before .before .before .before .before in
-    let l = k .before .before .before .before .loop in
-    let b = falls (s .pre) (now (s .args .trace)) (l .inv) (k .before .before .next-at .ensures) (c .if1 .left) in
+    let k = c .before .before .before .before in
+    let l = turn k in
+    let b = falls (ok l) (x l) (l .loop .inv) (next-is (k .before .before)) (c .if1 .left) in
     omega arith
 
 loop-again : tie.Need-loop-again Inv-loop μ-loop
 loop-again c =
-    let k = c .before .before in
-    let s = k .before .before .before .before .before in
-    let l = k .before .before .before .before .loop in
-    let x = now (s .args .trace) in
-    let after : k .widen-at .last .0 ≡ onRecord (widenRecord x) (l .nodes) (l .at) = k .widen-at .ensures in
-    subst (λ (m : List ℤ). Going (now (s .args .nodes)) (s .args .count) x m (k .before .before .next-at .result)) (sym after) (goes-on (s .pre) x (l .inv) (k .before .before .next-at .ensures) (c .if1 .left))
+    let m = c .before .before in
+    let k = m .before .before in
+    let l = turn k in
+    subst (λ (t : List ℤ). Going (now (l .before .args .nodes)) (l .before .args .count) (x l) t (k .before .before .next-of .result)) (sym (widened m))
+    (goes-on (ok l) (x l) (l .loop .inv) (next-is (k .before .before)) (c .if1 .left))
 
 pub descend-spec : {M : Type 1} → statement M
 descend-spec =
     tie.close
     (tie.spec
-    Inv-loop
-    μ-loop
-    loop-holds
-    next-at-requires
-    widen-at-requires
-    same-length
-    returns
-    loop-less
-    loop-again)
+    Inv-loop μ-loop (λ c. going-starts (c .pre) (now (c .args .trace))) (λ c κs. (inside (c .before), low (c .before))) next-of-requires
+    (λ c κs. low (c .before .before .before)) (λ c κs. low (c .before .before .before .before)) (λ c. omega (arith, starts c, low (turn c)))
+    (λ c. omega (arith, starts c, ends c)) (λ c. omega (arith, starts c, ends c)) (λ c. omega (arith, ends c, inside (turn c)))
+    widen-record-requires same-length returns loop-less loop-again)

@@ -12,19 +12,10 @@ use Rattle.insertion.proofs.Down.{child-leaf, child-inner}
 use Rattle.insertion.proofs.way.next_of.Statement.{statement}
 use Rattle.insertion.proofs.way.next_of.Tie as tie
 
-small-at-requires : tie.Need-small-at-requires
-small-at-requires c κs = search needs
-
 returns : tie.Need-returns
 returns c =
     let s = c .before .before in
     sym (ap orZero (child-leaf (now (s .args .«record»)) (now (s .args .trace)) (smallAt (now (s .args .«record»)) kindPlace) (sym (c .before .small-at .ensures) ∙ c .if1 .taken)))
-
-small-at-requires-2 : tie.Need-small-at-requires-2
-small-at-requires-2 c κs = search needs
-
-small-at-requires-3 : tie.Need-small-at-requires-3
-small-at-requires-3 c κs = search needs
 
 goes-left-requires : tie.Need-goes-left-requires
 goes-left-requires c κs =
@@ -32,9 +23,6 @@ goes-left-requires c κs =
     let s = k .before .before in
     let e : k .before .small-at .result ≡ smallAt (now (s .args .«record»)) kindPlace = k .before .small-at .ensures in
     s .pre .2 (omega (arith, k .if1 .left))
-
-either-requires : tie.Need-either-requires
-either-requires c κs = search needs
 
 returns-2 : tie.Need-returns-2
 returns-2 c =
@@ -53,10 +41,5 @@ pub next-of-spec : {M : Type 1} → statement M
 next-of-spec =
     tie.close
     (tie.spec
-    small-at-requires
-    returns
-    small-at-requires-2
-    small-at-requires-3
-    goes-left-requires
-    either-requires
-    returns-2)
+    (λ c κs. search needs) returns (λ c κs. search needs) (λ c κs. search needs) goes-left-requires
+    (λ c κs. search needs) returns-2)

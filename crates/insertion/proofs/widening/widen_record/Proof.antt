@@ -47,20 +47,8 @@ module _ (c : tie.In-loop Inv-loop μ-loop) where
   end-is : endIn (c .before .loop .«record») (c .before .loop .i) ≡ endIn old (c .before .loop .i)
   end-is = ap (λ (r : List ℤ). endIn r (c .before .loop .i)) (c .before .loop .inv .2) ∙ end-later x old (c .before .loop .i) room
 
-small-at-requires : tie.Need-small-at-requires Inv-loop μ-loop
-small-at-requires c κs = (c .before .pre .size, omega arith)
-
 loop-holds : tie.Need-loop-holds Inv-loop μ-loop
 loop-holds c = let s = c .before .before in (omega arith, refl, sym (partly-none (now (s .args .trace)) (now (s .args .«record»))))
-
-mul-small-at : tie.Need-mul-small-at Inv-loop μ-loop
-mul-small-at c = omega arith
-
-add-small-at : tie.Need-add-small-at Inv-loop μ-loop
-add-small-at c = omega arith
-
-small-at-requires-2 : tie.Need-small-at-requires-2 Inv-loop μ-loop
-small-at-requires-2 c κs = (long (c .before), omega arith)
 
 widen-segment-requires : tie.Need-widen-segment-requires Inv-loop μ-loop
 widen-segment-requires c κs =
@@ -76,13 +64,7 @@ add-first : tie.Need-add-first Inv-loop μ-loop
 add-first c =
     let k = c .before .before .before .before .before in
     let e : c .before .before .before .small-at2 .result ≡ endIn (k .before .loop .«record») (k .before .loop .i) = c .before .before .before .small-at2 .ensures in
-    omega (arith, e ∙ end-is k, readable k .on .to, readable k .on .narrow)
-
-add-i : tie.Need-add-i Inv-loop μ-loop
-add-i c = omega arith
-
-loop-less : tie.Need-loop-less Inv-loop μ-loop
-loop-less c = omega arith
+    omega (arith, e ∙ end-is k, readable k .on .inside .to-n, readable k .on .narrow)
 
 loop-again : tie.Need-loop-again Inv-loop μ-loop
 loop-again c =
@@ -91,7 +73,8 @@ loop-again c =
     let e : c .before .before .before .small-at2 .result ≡ endIn (l .«record») (l .i) = c .before .before .before .small-at2 .ensures in
     let first : c .before .before .before .small-at2 .result + 1 ≡ startIn (old k) (l .i + 1) =
     add-one (c .before .before .before .small-at2 .result) ∙ (ap suc (e ∙ end-is k) ∙ ap (startIn (old k)) (sym (add-one (l .i)))) in
-    let after : c .before .widen-segment .last .0 ≡ withSegment (l .«record») (l .i) (widenSegment (x k) (run (l .first) (endIn (l .«record») (l .i))) (segmentIn (l .«record») (l .i))) = c .before .widen-segment .ensures in
+    let after : c .before .widen-segment .last .0 ≡ withSegment (l .«record») (l .i) (widenSegment (x k) (run (l .first) (endIn (l .«record») (l .i))) (segmentIn (l .«record») (l .i))) =
+    c .before .widen-segment .ensures in
     let segment : segmentIn (l .«record») (l .i) ≡ segmentIn (old k) (l .i) =
     ap (λ (r : List ℤ). segmentIn r (l .i)) (l .inv .2) ∙ segment-later (x k) (old k) (l .i) (room k) in
     let more : c .before .widen-segment .last .0 ≡ partly (x k) (old k) (l .i + 1) =
@@ -118,17 +101,6 @@ pub widen-record-spec : {M : Type 1} → statement M
 widen-record-spec =
     tie.close
     (tie.spec
-    Inv-loop
-    μ-loop
-    small-at-requires
-    loop-holds
-    mul-small-at
-    add-small-at
-    small-at-requires-2
-    widen-segment-requires
-    add-first
-    add-i
-    loop-less
-    loop-again
-    same-length
-    returns)
+    Inv-loop μ-loop (λ c κs. (c .before .pre .size, omega arith)) loop-holds (λ c. omega arith) (λ c. omega arith)
+    (λ c κs. (long (c .before), omega arith)) widen-segment-requires add-first (λ c. omega arith) (λ c. omega arith)
+    loop-again same-length returns)

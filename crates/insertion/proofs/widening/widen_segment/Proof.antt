@@ -9,42 +9,14 @@ use denote.Ref.{now}
 use borrow.Author.Needs.{needs, sfits-of}
 use Rattle.integer.proofs.Width.{read}
 use Rattle.dstree.specs.Figures.{run, sumOn, scatterOn}
+use Rattle.dstree.specs.Node.{bySum, byScatter, figureOf}
 use Rattle.insertion.specs.Widening.{rangeWith, endIn}
 use Rattle.insertion.proofs.Widened.{widened-stored}
 use Rattle.insertion.proofs.widening.widen_segment.Statement.{statement}
 use Rattle.insertion.proofs.widening.widen_segment.Tie as tie
 
-mul-at : tie.Need-mul-at
-mul-at c = search needs
-
-add-at : tie.Need-add-at
-add-at c = search needs
-
-small-at-requires : tie.Need-small-at-requires
-small-at-requires c κs = search needs
-
-sum-on-requires : tie.Need-sum-on-requires
-sum-on-requires c κs = search needs
-
-scatter-on-requires : tie.Need-scatter-on-requires
-scatter-on-requires c κs = search needs
-
-add-sums : tie.Need-add-sums
-add-sums c = search needs
-
-add-scatters : tie.Need-add-scatters
-add-scatters c = search needs
-
-widen-range-requires : tie.Need-widen-range-requires
-widen-range-requires c κs = search needs
-
-widen-range-requires-2 : tie.Need-widen-range-requires-2
-widen-range-requires-2 c κs = search needs
-
-same-length : tie.Need-same-length
-same-length c = search needs
-
 returns : tie.Need-returns
+unfolding figureOf
 returns c =
     let k = c .before .before .before .before .before .before in
     let s = k .before .before .before .before in
@@ -53,10 +25,10 @@ returns c =
     let x = now (a .trace) in
     let p : ℕ = 7 + a .i * 5 in
     let end : k .before .before .small-at .result ≡ endIn r (a .i) = k .before .before .small-at .ensures in
-    let sum : read w64 (k .before .sum-on .result) ≡ sumOn (run (a .first) (endIn r (a .i))) x =
-    toZ-ofZ (sfits-of {w = w64} {z = k .before .sum-on .result} (k .before .sum-on .ok)) ∙ (k .before .sum-on .ensures .0 ∙ ap (λ (last : ℕ). sumOn (run (a .first) last) x) end) in
-    let scatter : read w64 (k .scatter-on .result) ≡ pos (scatterOn (run (a .first) (endIn r (a .i))) x) =
-    toZ-ofZ (sfits-of {w = w64} {z = k .scatter-on .result} (k .scatter-on .ok)) ∙ (k .scatter-on .ensures .0 ∙ ap (λ (last : ℕ). pos (scatterOn (run (a .first) last) x)) end) in
+    let sum : read w64 (k .before .figure-on .result) ≡ sumOn (run (a .first) (endIn r (a .i))) x =
+    toZ-ofZ (sfits-of {w = w64} {z = k .before .figure-on .result} (k .before .figure-on .ok)) ∙ (k .before .figure-on .ensures .0 ∙ ap (λ (last : ℕ). figureOf bySum (run (a .first) last) x) end) in
+    let scatter : read w64 (k .figure-on2 .result) ≡ pos (scatterOn (run (a .first) (endIn r (a .i))) x) =
+    toZ-ofZ (sfits-of {w = w64} {z = k .figure-on2 .result} (k .figure-on2 .ok)) ∙ (k .figure-on2 .ensures .0 ∙ ap (λ (last : ℕ). figureOf byScatter (run (a .first) last) x) end) in
     let sums : c .before .before .before .before .widen-range .last .0 ≡ rangeWith r (p + 1) (sumOn (run (a .first) (endIn r (a .i))) x) =
     c .before .before .before .before .widen-range .ensures ∙ ap (rangeWith r (p + 1)) sum in
     c .before .widen-range2 .ensures
@@ -66,14 +38,5 @@ pub widen-segment-spec : {M : Type 1} → statement M
 widen-segment-spec =
     tie.close
     (tie.spec
-    mul-at
-    add-at
-    small-at-requires
-    sum-on-requires
-    scatter-on-requires
-    add-sums
-    add-scatters
-    widen-range-requires
-    widen-range-requires-2
-    same-length
-    returns)
+    (λ c. search needs) (λ c. search needs) (λ c κs. search needs) (λ c κs. search needs) (λ c κs. search needs) (λ c. search needs)
+    (λ c κs. search needs) (λ c. search needs) (λ c κs. search needs) (λ c. search needs) returns)

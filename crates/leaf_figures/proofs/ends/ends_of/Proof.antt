@@ -20,32 +20,8 @@ Inv-loop «record» count at₀ i₀ at i = (i ≤ count) × (count ≤ 16) × (
 abbrev μ-loop : tie.MeasureT-loop
 μ-loop «record» count at₀ i₀ at i = count - i
 
-small-at-requires : tie.Need-small-at-requires Inv-loop μ-loop
-small-at-requires c κs = (c .pre .0, omega arith)
-
 loop-holds : tie.Need-loop-holds Inv-loop μ-loop
 loop-holds c = (omega arith, omega (arith, c .small-at .ensures, c .before .pre .1), omega arith, λ j h. absurd (omega arith))
-
-mul-small-at : tie.Need-mul-small-at Inv-loop μ-loop
-mul-small-at c = omega arith
-
-add-small-at : tie.Need-add-small-at Inv-loop μ-loop
-add-small-at c = omega arith
-
-small-at-requires-2 : tie.Need-small-at-requires-2 Inv-loop μ-loop
-small-at-requires-2 c κs = (c .before .before .before .pre .0, omega arith)
-
-mul-at : tie.Need-mul-at Inv-loop μ-loop
-mul-at c = omega arith
-
-array-write-at : tie.Need-array-write-at Inv-loop μ-loop
-array-write-at c = omega arith
-
-add-i : tie.Need-add-i Inv-loop μ-loop
-add-i c = omega arith
-
-loop-less : tie.Need-loop-less Inv-loop μ-loop
-loop-less c = omega arith
 
 loop-again : tie.Need-loop-again Inv-loop μ-loop
 loop-again c =
@@ -75,16 +51,6 @@ pub ends-of-spec : {M : Type 1} → statement M
 ends-of-spec =
     tie.close
     (tie.spec
-    Inv-loop
-    μ-loop
-    small-at-requires
-    loop-holds
-    mul-small-at
-    add-small-at
-    small-at-requires-2
-    mul-at
-    array-write-at
-    add-i
-    loop-less
-    loop-again
-    returns)
+    Inv-loop μ-loop (λ c κs. (c .pre .0, omega arith)) loop-holds (λ c. omega arith) (λ c. omega arith)
+    (λ c κs. (c .before .before .before .pre .0, omega arith)) (λ c. omega arith) (λ c. omega arith) (λ c. omega arith)
+    (λ c. omega arith) loop-again returns)

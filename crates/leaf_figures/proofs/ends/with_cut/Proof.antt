@@ -16,9 +16,6 @@ Inv-loop middle place from count at₀ i₀ at i =
 abbrev μ-loop : tie.MeasureT-loop
 μ-loop middle place from count at₀ i₀ at i = count - i
 
-place-of-requires : tie.Need-place-of-requires Inv-loop μ-loop
-place-of-requires c κs = c .pre .0
-
 mul-at : tie.Need-mul-at Inv-loop μ-loop
 mul-at c = omega (arith, c .before .before .place-of .ensures .1, c .before .before .before .pre .1)
 
@@ -53,9 +50,6 @@ array-write-at-2 c = omega (arith, c .before .before .before .before .before .pr
 add-i : tie.Need-add-i Inv-loop μ-loop
 add-i c = omega (arith, c .before .before .before .before .before .pre .1)
 
-loop-less : tie.Need-loop-less Inv-loop μ-loop
-loop-less c = omega arith
-
 loop-again : tie.Need-loop-again Inv-loop μ-loop
 loop-again c =
     let s = c .before .before .before .before .before in
@@ -64,7 +58,8 @@ loop-again c =
       omega arith,
       omega arith,
       length-set (l .at) (l .i + 1) (getD from (l .i) 0) ∙ l .inv .2,
-      moved-more from (s .args .middle) (c .before .before .before .before .place-of .result) (l .at) (l .i) (l .inv .0) (omega (arith, s .pre .0 .places, s .pre .1)) (omega (arith, l .inv .2, s .pre .1)) (l .inv .3),
+      moved-more from (s .args .middle) (c .before .before .before .before .place-of .result) (l .at) (l .i) (l .inv .0) (omega (arith, s .pre .0 .places, s .pre .1))
+          (omega (arith, l .inv .2, s .pre .1)) (l .inv .3),
     )
 
 add-t8 : tie.Need-add-t8 Inv-loop μ-loop
@@ -86,19 +81,5 @@ pub with-cut-spec : {M : Type 1} → statement M
 with-cut-spec =
     tie.close
     (tie.spec
-    Inv-loop
-    μ-loop
-    place-of-requires
-    mul-at
-    array-write-at
-    loop-holds
-    mul-at-2
-    array-read-at
-    add-at
-    mul-at-3
-    array-write-at-2
-    add-i
-    loop-less
-    loop-again
-    add-t8
-    returns)
+    Inv-loop μ-loop (λ c κs. c .pre .0) mul-at array-write-at loop-holds mul-at-2 array-read-at add-at mul-at-3
+    array-write-at-2 add-i (λ c. omega arith) loop-again add-t8 returns)

@@ -10,21 +10,12 @@ use mir.Facts.{toZ-ofZ}
 use Rattle.integer.proofs.Width.{small, read}
 use Rattle.dstree.specs.Figures.{run}
 use Rattle.dstree.specs.Adding.{segmentOf, tracesOf}
-use Rattle.leaf_figures.specs.Walk.{storedIn, numbersOf}
+use Rattle.tables.specs.Walk.{storedIn, numbersOf}
 use Rattle.leaf_figures.specs.Sides.{segmentBy}
 use Rattle.leaf_figures.proofs.Ranged.{all-marked, least-sum-is, greatest-sum-is, least-scatter-is, greatest-scatter-is}
 use borrow.Author.Needs.{needs}
 use Rattle.leaf_figures.proofs.range.leaf_range.Statement.{statement}
 use Rattle.leaf_figures.proofs.range.leaf_range.Tie as tie
-
-side-figures-requires : tie.Need-side-figures-requires
-side-figures-requires c κs = search needs
-
-cast-t14 : tie.Need-cast-t14
-cast-t14 c = search needs
-
-cast-t15 : tie.Need-cast-t15
-cast-t15 c = search needs
 
 -- the figures are those of all the leaf's traces
 whole : (c : tie.After-side-figures) →
@@ -44,7 +35,8 @@ returns c =
     let on = run (s .args .first) (s .args .last) in
     let traces = tracesOf (storedIn (s .args .samples .now) (s .args .n) (s .args .k)) (numbersOf (s .args .links .now) (s .args .k) (s .args .head)) in
     let least-back : toZ w64 (f .result .«least_scatter») ≡ pos (f .result .«least_scatter») = toZ-ofZ (small {w = w64} {z = pos (f .result .«least_scatter»)} (omega (arith, m .least-scatter))) in
-    let greatest-back : toZ w64 (f .result .«greatest_scatter») ≡ pos (f .result .«greatest_scatter») = toZ-ofZ (small {w = w64} {z = pos (f .result .«greatest_scatter»)} (omega (arith, m .greatest-scatter))) in
+    let greatest-back : toZ w64 (f .result .«greatest_scatter») ≡ pos (f .result .«greatest_scatter») =
+    toZ-ofZ (small {w = w64} {z = pos (f .result .«greatest_scatter»)} (omega (arith, m .greatest-scatter))) in
     rw (least-back, greatest-back, c .before .before .if1 .taken)
     (least-scatter-is traces on (f .result) e, (greatest-scatter-is traces on (f .result) e, (omega (arith, m .least-scatter), omega (arith, m .greatest-scatter))))
 
@@ -62,4 +54,4 @@ returns-2 c =
     (least-sum-is traces on (f .result) e, (greatest-sum-is traces on (f .result) e, (omega (arith, m .least-sum), omega (arith, m .greatest-sum))))
 
 pub leaf-range-spec : {M : Type 1} → statement M
-leaf-range-spec = tie.close (tie.spec side-figures-requires cast-t14 cast-t15 returns returns-2)
+leaf-range-spec = tie.close (tie.spec (λ c κs. search needs) (λ c. search needs) (λ c. search needs) returns returns-2)

@@ -9,18 +9,6 @@ use Rattle.leaf_figures.specs.Sides.{withFigures}
 use Rattle.leaf_figures.proofs.sides.widened.Statement.{statement}
 use Rattle.leaf_figures.proofs.sides.widened.Tie as tie
 
-lesser-requires : tie.Need-lesser-requires
-lesser-requires c κs = search needs
-
-greater-requires : tie.Need-greater-requires
-greater-requires c κs = search needs
-
-smaller-requires : tie.Need-smaller-requires
-smaller-requires c κs = search needs
-
-larger-requires : tie.Need-larger-requires
-larger-requires c κs = search needs
-
 returns : tie.Need-returns
 unfolding withFigures
 returns c =
@@ -42,4 +30,5 @@ returns-2 c = let s = c .before in rw (toZ-ofZ (s .fits .sum), c .if1 .left)
 pub widened-spec : {M : Type 1} → statement M
 widened-spec =
     tie.close
-    (tie.spec lesser-requires greater-requires smaller-requires larger-requires returns returns-2)
+    (tie.spec
+    (λ c κs. search needs) (λ c κs. search needs) (λ c κs. search needs) (λ c κs. search needs) returns returns-2)

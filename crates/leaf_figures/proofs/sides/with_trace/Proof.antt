@@ -1,41 +1,38 @@
 -- `leaf_figures::sides::with_trace` meets its contract: the figures that it adds are those of the trace, which are small.
-use mathlib.Core.Path.{_≡_, refl, sym, ap₂, subst, _∙_}
-use Prim.Native.Nat.{_≤_}
-use native.Mathlib.Nat.{mul-le-mul}
-use native.Mathlib.Omega.{arith}
+use mathlib.Core.Path.{_≡_, refl, sym, ap, ap₂, subst, _∙_}
+use lib.ListN.{length}
 use borrow.Author.Needs.{needs}
 use mir.Syntax.{w64}
 use mir.Facts.{toZ-ofZ}
 use Rattle.integer.proofs.Width.{of-mag}
-use Rattle.dstree.specs.Figures.{run, width}
+use Rattle.dstree.specs.Measures.{Trace}
+use Rattle.dstree.specs.Figures.{run, sumOn, scatterOn}
+use Rattle.tables.specs.Runs.{RunOf}
+use Rattle.tables.proofs.Parts.{run-of}
 use Rattle.leaf_figures.specs.Sides.{withFigures, Small}
 use Rattle.leaf_figures.proofs.Taken.{with-small}
 use Rattle.leaf_figures.proofs.sides.with_trace.Statement.{statement}
 use Rattle.leaf_figures.proofs.sides.with_trace.Tie as tie
 
-run-sum-requires : tie.Need-run-sum-requires
-run-sum-requires c κs = search needs
-
-run-scatter-requires : tie.Need-run-scatter-requires
-run-scatter-requires c κs = search needs
-
-widened-requires : tie.Need-widened-requires
-widened-requires c κs = search needs
+on-trace : (c : tie.After-trace-at) → RunOf (length (c .trace-at .result .now)) (c .before .before .args .first) (c .before .before .args .last)
+on-trace c = let a = c .before .before .args in subst (λ (x : Trace). RunOf (length x) (a .first) (a .last)) (sym (c .trace-at .ensures)) (run-of (c .before .before .pre .0))
 
 returns : tie.Need-returns
 returns c =
-    let s = c .before .before .before .before in
-    let sums = c .before .before .run-sum in
-    let scatters = c .before .run-scatter in
-    let w : width (run (s .args .first) (s .args .last)) ≤ 256 = omega (arith, s .pre .0 .narrow, s .pre .0 .inside .from-1, s .pre .0 .inside .to-n) in
-    let e : c .widened .result ≡ withFigures (s .args .f) (sums .result) (scatters .result) =
-    c .widened .ensures ∙ ap₂ (withFigures (s .args .f)) (toZ-ofZ (of-mag {w = w64} (sums .result) (sums .ok))) refl in
-    let small = with-small (s .args .f) (sums .result) (scatters .result) (s .pre .1) (omega (arith, sums .ensures .1)) (omega (arith, scatters .ensures .1, mul-le-mul w w)) in
-    rw (c .before .before .before .if1 .taken) (e ∙ ap₂ (withFigures (s .args .f)) (sums .ensures .0) (scatters .ensures .0), subst Small (sym e) small)
-
-returns-2 : tie.Need-returns-2
-returns-2 c = rw (c .if1 .left) (refl, c .before .pre .1)
+    let k = c .before .before .before in
+    let s = k .before .before in
+    let sums = c .before .before .sum-on in
+    let scatters = c .before .scatter-on in
+    let f = s .args .f in
+    let on = run (s .args .first) (s .args .last) in
+    let e : c .widened .result ≡ withFigures f (sums .result) (scatters .result) = c .widened .ensures ∙ ap₂ (withFigures f) (toZ-ofZ (of-mag {w = w64} (sums .result) (sums .ok))) refl in
+    let small = with-small f (sums .result) (scatters .result) (s .pre .1) (sums .ensures .1) (scatters .ensures .1) in
+    rw (k .before .if1 .taken)
+    (e ∙ ap₂ (withFigures f) (sums .ensures .0 ∙ ap (sumOn on) (k .trace-at .ensures)) (scatters .ensures .0 ∙ ap (scatterOn on) (k .trace-at .ensures)), subst Small (sym e) small)
 
 pub with-trace-spec : {M : Type 1} → statement M
 with-trace-spec =
-    tie.close (tie.spec run-sum-requires run-scatter-requires widened-requires returns returns-2)
+    tie.close
+    (tie.spec
+    (λ c κs. search needs) (λ c κs. on-trace c) (λ c κs. on-trace (c .before)) (λ c κs. search needs) returns
+    (λ c. rw (c .if1 .left) (refl, c .before .pre .1)))

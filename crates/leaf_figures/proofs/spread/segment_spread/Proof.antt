@@ -21,15 +21,6 @@ least-back f m = toZ-ofZ (small {w = w64} {z = f .«least_sum»} (omega (arith, 
 greatest-back : (f : Figures) → Small f → read w64 (f .«greatest_sum») ≡ f .«greatest_sum»
 greatest-back f m = toZ-ofZ (small {w = w64} {z = f .«greatest_sum»} (omega (arith, m .greatest-sum)))
 
-side-figures-requires : tie.Need-side-figures-requires
-side-figures-requires c κs = search needs
-
-sub-w : tie.Need-sub-w
-sub-w c = search needs
-
-add-w : tie.Need-add-w
-add-w c = search needs
-
 spread-term-requires : tie.Need-spread-term-requires
 spread-term-requires c κs =
     let s = c .before .before .before .before in
@@ -52,4 +43,6 @@ returns c =
 
 pub segment-spread-spec : {M : Type 1} → statement M
 segment-spread-spec =
-    tie.close (tie.spec side-figures-requires sub-w add-w spread-term-requires returns)
+    tie.close
+    (tie.spec
+    (λ c κs. search needs) (λ c. search needs) (λ c. search needs) spread-term-requires returns)

@@ -8,7 +8,7 @@ use lib.IntN.{ℤ}
 use lib.ListN.{getD, take, drop}
 use Rattle.dstree.specs.Measures.{Trace}
 use Rattle.dstree.specs.Adding.{tracesOf, spread}
-use Rattle.leaf_figures.specs.Walk.{storedIn, numbersOf}
+use Rattle.tables.specs.Walk.{storedIn, numbersOf}
 use Rattle.leaf_figures.specs.Sides.{marked}
 use Rattle.leaf_figures.specs.Ends.{Rise}
 use Rattle.leaf_figures.proofs.Totals.{spreadFrom, Next, next-at, spread-more, spread-end, spread-is}
@@ -33,8 +33,13 @@ abbrev μ-loop : tie.MeasureT-loop
 loop-holds : tie.Need-loop-holds Inv-loop μ-loop
 loop-holds c =
     let s = c .before .before in
-    let a = s .args in
-    (omega arith, omega arith, omega (arith, spread-is (take (a .e .count) (a .e .at)) (side (a .samples .now) (a .links .now) (a .n) (a .k) (a .head) (a .marks .now) (a .mark))), omega arith, s .pre .3)
+    let a = s .args in (
+      omega arith,
+      omega arith,
+      omega (arith, spread-is (take (a .e .count) (a .e .at)) (side (a .samples .now) (a .links .now) (a .n) (a .k) (a .head) (a .marks .now) (a .mark))),
+      omega arith,
+      s .pre .3,
+    )
 
 mul-last : tie.Need-mul-last Inv-loop μ-loop
 mul-last c = omega (arith, c .before .before .before .before .pre .2 .few)
@@ -68,16 +73,14 @@ add-first c = omega (arith, next (c .before) .to-n, c .before .before .before .b
 add-i : tie.Need-add-i Inv-loop μ-loop
 add-i c = omega (arith, c .before .before .before .before .before .pre .2 .few)
 
-loop-less : tie.Need-loop-less Inv-loop μ-loop
-loop-less c = omega arith
-
 loop-again : tie.Need-loop-again Inv-loop μ-loop
 loop-again c =
     let s = c .before .before .before .before .before in
     let a = s .args in
     let l = c .before .before .loop in
     let r = next (c .before) in
-    let more = spread-more (a .e .at) (a .e .count) (omega (arith, s .pre .2 .places, s .pre .2 .few)) (l .i) (c .before .loop-test .taken) (l .first) (side (a .samples .now) (a .links .now) (a .n) (a .k) (a .head) (a .marks .now) (a .mark)) in
+    let more = spread-more (a .e .at) (a .e .count) (omega (arith, s .pre .2 .places, s .pre .2 .few)) (l .i) (c .before .loop-test .taken) (l .first)
+    (side (a .samples .now) (a .links .now) (a .n) (a .k) (a .head) (a .marks .now) (a .mark)) in
     (omega arith, omega arith, omega (arith, l .inv .2, more, c .segment-spread .ensures .0), omega (arith, l .inv .3, c .segment-spread .ensures .1), r .on)
 
 returns : tie.Need-returns Inv-loop μ-loop
@@ -85,22 +88,13 @@ returns c =
     let s = c .before .before .before .before in
     let a = s .args in
     let l = c .before .loop in
-    let rest = spread-end (a .e .at) (a .e .count) (omega (arith, s .pre .2 .places, s .pre .2 .few)) (l .i) (c .loop-test .left) (l .first) (side (a .samples .now) (a .links .now) (a .n) (a .k) (a .head) (a .marks .now) (a .mark)) in
+    let rest = spread-end (a .e .at) (a .e .count) (omega (arith, s .pre .2 .places, s .pre .2 .few)) (l .i) (c .loop-test .left) (l .first)
+    (side (a .samples .now) (a .links .now) (a .n) (a .k) (a .head) (a .marks .now) (a .mark)) in
     (omega (arith, l .inv .2, rest), omega (arith, l .inv .3, s .pre .2 .few))
 
 pub side-spread-spec : {M : Type 1} → statement M
 side-spread-spec =
     tie.close
     (tie.spec
-    Inv-loop
-    μ-loop
-    loop-holds
-    mul-last
-    array-read-last
-    segment-spread-requires
-    add-total
-    add-first
-    add-i
-    loop-less
-    loop-again
-    returns)
+    Inv-loop μ-loop loop-holds mul-last array-read-last segment-spread-requires add-total add-first add-i
+    (λ c. omega arith) loop-again returns)

@@ -3,15 +3,12 @@ use mathlib.Core.Path.{ap, _∙_}
 use mathlib.Core.List.{List}
 use Prim.Native.Nat.{ℕ}
 use Rattle.dstree.specs.Adding.{tracesOf, spread}
-use Rattle.leaf_figures.specs.Walk.{storedIn, numbersOf}
+use Rattle.tables.specs.Walk.{storedIn, numbersOf}
 use Rattle.leaf_figures.specs.Ends.{endsOf}
 use Rattle.leaf_figures.proofs.Ranged.{all-marked}
 use borrow.Author.Needs.{needs}
 use Rattle.leaf_figures.proofs.spread.whole_spread.Statement.{statement}
 use Rattle.leaf_figures.proofs.spread.whole_spread.Tie as tie
-
-side-spread-requires : tie.Need-side-spread-requires
-side-spread-requires c κs = search needs
 
 returns : tie.Need-returns
 returns c =
@@ -21,4 +18,4 @@ returns c =
     )
 
 pub whole-spread-spec : {M : Type 1} → statement M
-whole-spread-spec = tie.close (tie.spec side-spread-requires returns)
+whole-spread-spec = tie.close (tie.spec (λ c κs. search needs) returns)

@@ -2,33 +2,15 @@
 use borrow.Author.Needs.{needs}
 use mathlib.Core.Path.{_∙_}
 use denote.Ref.{now}
-use Rattle.library_c.proofs.Told.{added-at, added-refused}
+use Rattle.library_c.proofs.Answers.{added-at, added-refused}
 use Rattle.library_c.proofs.telling.tell_added.Statement.{statement}
 use Rattle.library_c.proofs.telling.tell_added.Tie as tie
-
-enum-known-answer : tie.Need-enum-known-answer
-enum-known-answer c = search needs
-
-put-requires : tie.Need-put-requires
-put-requires c κs = search needs
-
-enum-known-answer-2 : tie.Need-enum-known-answer-2
-enum-known-answer-2 c = search needs
-
-tell-refusal-requires : tie.Need-tell-refusal-requires
-tell-refusal-requires c κs = search needs
-
-same-length : tie.Need-same-length
-same-length c = search needs
 
 returns : tie.Need-returns
 returns c =
     let p = c .before .before in
     let s = p .before .before .before .before .before .before in
     added-at (s .args .answer) _ (now (s .args .out)) _ (p .put .ensures) (p .before .before .before .answer .given .1)
-
-same-length-2 : tie.Need-same-length-2
-same-length-2 c = search needs
 
 returns-2 : tie.Need-returns-2
 returns-2 c =
@@ -40,11 +22,5 @@ pub tell-added-spec : {M : Type 1} → statement M
 tell-added-spec =
     tie.close
     (tie.spec
-    enum-known-answer
-    put-requires
-    enum-known-answer-2
-    tell-refusal-requires
-    same-length
-    returns
-    same-length-2
-    returns-2)
+    (λ c. search needs) (λ c κs. search needs) (λ c. search needs) (λ c κs. search needs) (λ c. search needs) returns
+    (λ c. search needs) returns-2)

@@ -2,33 +2,9 @@
 use borrow.Author.Needs.{needs}
 use mathlib.Core.Path.{_∙_}
 use denote.Ref.{now}
-use Rattle.library_c.proofs.Told.{found-at, found-refused}
+use Rattle.library_c.proofs.Answers.{found-at, found-refused}
 use Rattle.library_c.proofs.telling.tell_found.Statement.{statement}
 use Rattle.library_c.proofs.telling.tell_found.Tie as tie
-
-enum-known-answer : tie.Need-enum-known-answer
-enum-known-answer c = search needs
-
-put-requires : tie.Need-put-requires
-put-requires c κs = search needs
-
-put-requires-2 : tie.Need-put-requires-2
-put-requires-2 c κs = search needs
-
-put-requires-3 : tie.Need-put-requires-3
-put-requires-3 c κs = search needs
-
-put-requires-4 : tie.Need-put-requires-4
-put-requires-4 c κs = search needs
-
-enum-known-answer-2 : tie.Need-enum-known-answer-2
-enum-known-answer-2 c = search needs
-
-tell-refusal-requires : tie.Need-tell-refusal-requires
-tell-refusal-requires c κs = search needs
-
-same-length : tie.Need-same-length
-same-length c = search needs
 
 returns : tie.Need-returns
 returns c = λ trail.
@@ -38,9 +14,6 @@ returns c = λ trail.
     let p1 = p2 .before .before .before .before in
     let s = p1 .before .before .before .before .before .before in
     found-at (s .args .answer) trail _ _ _ _ (now (s .args .out)) _ _ _ _ (p1 .put .ensures) (p2 .put2 .ensures) (p3 .put3 .ensures) (p4 .put4 .ensures) (p1 .before .before .before .answer .given .1)
-
-same-length-2 : tie.Need-same-length-2
-same-length-2 c = search needs
 
 returns-2 : tie.Need-returns-2
 returns-2 c = λ trail.
@@ -52,14 +25,5 @@ pub tell-found-spec : {M : Type 1} → statement M
 tell-found-spec =
     tie.close
     (tie.spec
-    enum-known-answer
-    put-requires
-    put-requires-2
-    put-requires-3
-    put-requires-4
-    enum-known-answer-2
-    tell-refusal-requires
-    same-length
-    returns
-    same-length-2
-    returns-2)
+    (λ c. search needs) (λ c κs. search needs) (λ c κs. search needs) (λ c κs. search needs) (λ c κs. search needs)
+    (λ c. search needs) (λ c κs. search needs) (λ c. search needs) returns (λ c. search needs) returns-2)

@@ -2,24 +2,15 @@
 use borrow.Author.Needs.{needs}
 use mathlib.Core.Path.{_∙_}
 use denote.Ref.{now}
-use Rattle.library_c.proofs.Told.{opened-done, opened-refused}
+use Rattle.library_c.proofs.Answers.{opened-done, opened-refused}
 use Rattle.library_c.proofs.telling.tell_opened.Statement.{statement}
 use Rattle.library_c.proofs.telling.tell_opened.Tie as tie
 
 enum-told : tie.Need-enum-told
 enum-told c = search needs
 
-enum-known-answer : tie.Need-enum-known-answer
-enum-known-answer c = search needs
-
-tell-refusal-requires : tie.Need-tell-refusal-requires
-tell-refusal-requires c κs = search needs
-
 returns : tie.Need-returns
 returns c = let s = c .before .before .before in opened-done (s .args .answer) (now (s .args .out)) (c .enum-told .given .1)
-
-same-length : tie.Need-same-length
-same-length c = search needs
 
 returns-2 : tie.Need-returns-2
 returns-2 c =
@@ -30,4 +21,5 @@ returns-2 c =
 pub tell-opened-spec : {M : Type 1} → statement M
 tell-opened-spec =
     tie.close
-    (tie.spec enum-told enum-known-answer tell-refusal-requires returns same-length returns-2)
+    (tie.spec
+    enum-told (λ c. search needs) (λ c κs. search needs) returns (λ c. search needs) returns-2)

@@ -1,10 +1,10 @@
 -- `matching::leaves::leaf_count` meets its contract: what is counted and what is still to be counted is all of it.
-use mathlib.Core.Path.{_≡_, refl, sym, ap, _∙_}
-use Prim.Native.Nat.{ℕ, suc, _+_, _*_, _-_, _≤_, _<_}
+use mathlib.Core.Path.{_≡_, ap}
+use Prim.Native.Nat.{ℕ, _+_, _-_, _≤_, _<_}
 use native.Mathlib.Nat.{mul-le-mul-right}
 use native.Mathlib.Omega.{arith}
-use lib.ListN.{length}
 use denote.Ref.{now}
+use Rattle.tables.specs.Layout.{recordPlaces}
 use Rattle.matching.specs.Leaves.{leafIn, leafCount}
 use Rattle.matching.proofs.Counted.{count-more, count-none, one-most}
 use Rattle.matching.proofs.leaves.leaf_count.Statement.{statement}
@@ -27,7 +27,7 @@ leaf-one-requires c κs =
     let s = c .before .before in
     let j = c .before .loop .j in
     let h : j < s .args .m = omega (arith, c .loop-test .taken) in
-    (omega (arith, mul-le-mul-right 87 h, s .pre .0), omega (arith, h, s .pre .1))
+    (omega (arith, mul-le-mul-right recordPlaces h, s .pre .0), omega (arith, h, s .pre .1))
 
 add-total : tie.Need-add-total Inv-loop μ-loop
 add-total c =

@@ -1,6 +1,5 @@
 -- `matching::leaves::leaf_one` meets its contract: kinds 1 and 2 are inner nodes, and every other kind reads as a leaf.
-use mathlib.Core.Path.{_≡_, refl, sym, _∙_}
-use mathlib.Core.Bool.{true}
+use mathlib.Core.Path.{sym, _∙_}
 use denote.Ref.{now}
 use borrow.Author.Needs.{needs}
 use Rattle.dstree.specs.Matching.{isLeaf}
@@ -10,9 +9,6 @@ use Rattle.tables.specs.View.{smallAt, kindIn}
 use Rattle.matching.proofs.Counted.{leaf-by}
 use Rattle.matching.proofs.leaves.leaf_one.Statement.{statement}
 use Rattle.matching.proofs.leaves.leaf_one.Tie as tie
-
-node-small-requires : tie.Need-node-small-requires
-node-small-requires c κs = search needs
 
 returns : tie.Need-returns
 unfolding isLeaf kindIn
@@ -30,4 +26,7 @@ returns-3 c =
     rw (leaf-by (recordOf (now (s .args .nodes)) (s .args .j)) (smallAt (recordOf (now (s .args .nodes)) (s .args .j)) kindPlace) (λ q. c .before .if1 .left (e ∙ q)) (λ q. c .if2 .left (e ∙ q)))
 
 pub leaf-one-spec : {M : Type 1} → statement M
-leaf-one-spec = tie.close (tie.spec node-small-requires returns returns-2 returns-3)
+leaf-one-spec =
+    tie.close
+    (tie.spec
+    (λ c κs. search needs) returns returns-2 returns-3)

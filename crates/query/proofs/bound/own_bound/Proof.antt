@@ -33,8 +33,14 @@ loop-holds c =
     let s = c .before in
     let r = s .args .«record» .now in
     let e : c .small-at .result ≡ smallAt r segmentsPlace = c .small-at .ensures in
-    let a : segmentsAfter r (c .small-at .result) 0 ≡ segmentsIn r = rw e (after-start r) in
-    (omega arith, omega arith, omega (arith, ap (totalOver (boundOn (s .args .query .now)) 1) a), omega arith, omega arith, subst (AllLimited (length (s .args .query .now)) 1) (sym a) (s .pre .1 .limited))
+    let a : segmentsAfter r (c .small-at .result) 0 ≡ segmentsIn r = rw e (after-start r) in (
+      omega arith,
+      omega arith,
+      omega (arith, ap (totalOver (boundOn (s .args .query .now)) 1) a),
+      omega arith,
+      omega arith,
+      subst (AllLimited (length (s .args .query .now)) 1) (sym a) (s .pre .1 .limited),
+    )
 
 -- no more than 16 segments
 few : (c : tie.At-loop Inv-loop μ-loop) → c .before .small-at .result ≤ 16
@@ -66,7 +72,14 @@ segment-term-requires c κs =
     (s .pre .0, record { from-1 = c .before .before .loop .inv .1; rises = x .rises; to-n = x .to-n }, s .pre .1 .places, omega (arith, few (c .before .before)), x .limited)
 
 add-total : tie.Need-add-total Inv-loop μ-loop
-add-total c = omega (arith, c .segment-term .ensures .1, c .before .before .before .loop .inv .3, next (c .before) .rises, next (c .before) .to-n, c .before .before .before .before .before .pre .0 .few)
+add-total c = omega (
+  arith,
+  c .segment-term .ensures .1,
+  c .before .before .before .loop .inv .3,
+  next (c .before) .rises,
+  next (c .before) .to-n,
+  c .before .before .before .before .before .pre .0 .few,
+)
 
 add-first : tie.Need-add-first Inv-loop μ-loop
 add-first c = omega (arith, next (c .before) .to-n, c .before .before .before .before .before .pre .0 .few)
@@ -74,15 +87,13 @@ add-first c = omega (arith, next (c .before) .to-n, c .before .before .before .b
 add-i : tie.Need-add-i Inv-loop μ-loop
 add-i c = omega (arith, few (c .before .before .before))
 
-loop-less : tie.Need-loop-less Inv-loop μ-loop
-loop-less c = omega arith
-
 loop-again : tie.Need-loop-again Inv-loop μ-loop
 loop-again c =
     let s = c .before .before .before .before .before in
     let l = c .before .before .before .loop in
     let x = next (c .before) in
-    let more = bound-more (s .args .«record» .now) (c .before .before .before .before .small-at .result) (l .i) (c .before .before .loop-test .taken) (c .before .small-at2 .result) (c .before .small-at2 .ensures) (s .args .query .now) (l .first) in
+    let more = bound-more (s .args .«record» .now) (c .before .before .before .before .small-at .result) (l .i)
+    (c .before .before .loop-test .taken) (c .before .small-at2 .result) (c .before .small-at2 .ensures) (s .args .query .now) (l .first) in
     (omega arith, omega arith, omega (arith, l .inv .2, more, c .segment-term .ensures .0), omega (arith, l .inv .3, c .segment-term .ensures .1, x .rises), omega (arith, x .to-n), x .on)
 
 returns : tie.Need-returns Inv-loop μ-loop
@@ -96,17 +107,5 @@ pub own-bound-spec : {M : Type 1} → statement M
 own-bound-spec =
     tie.close
     (tie.spec
-    Inv-loop
-    μ-loop
-    small-at-requires
-    loop-holds
-    mul-small-at
-    add-small-at
-    small-at-requires-2
-    segment-term-requires
-    add-total
-    add-first
-    add-i
-    loop-less
-    loop-again
-    returns)
+    Inv-loop μ-loop small-at-requires loop-holds mul-small-at add-small-at small-at-requires-2 segment-term-requires add-total
+    add-first add-i (λ c. omega arith) loop-again returns)

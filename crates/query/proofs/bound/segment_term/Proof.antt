@@ -18,51 +18,6 @@ use borrow.Author.Needs.{needs}
 use Rattle.query.proofs.bound.segment_term.Statement.{statement}
 use Rattle.query.proofs.bound.segment_term.Tie as tie
 
-figures-on-requires : tie.Need-figures-on-requires
-figures-on-requires c κs = search needs
-
-sub-w : tie.Need-sub-w
-sub-w c = search needs
-
-add-w : tie.Need-add-w
-add-w c = search needs
-
-mul-at : tie.Need-mul-at
-mul-at c = search needs
-
-add-at : tie.Need-add-at
-add-at c = search needs
-
-add-value-at : tie.Need-add-value-at
-add-value-at c = search needs
-
-value-at-requires : tie.Need-value-at-requires
-value-at-requires c κs = search needs
-
-add-value-at-2 : tie.Need-add-value-at-2
-add-value-at-2 c = search needs
-
-value-at-requires-2 : tie.Need-value-at-requires-2
-value-at-requires-2 c κs = search needs
-
-add-value-at-3 : tie.Need-add-value-at-3
-add-value-at-3 c = search needs
-
-value-at-requires-3 : tie.Need-value-at-requires-3
-value-at-requires-3 c κs = search needs
-
-scatter-of-requires : tie.Need-scatter-of-requires
-scatter-of-requires c κs = search needs
-
-add-value-at-4 : tie.Need-add-value-at-4
-add-value-at-4 c = search needs
-
-value-at-requires-4 : tie.Need-value-at-requires-4
-value-at-requires-4 c κs = search needs
-
-scatter-of-requires-2 : tie.Need-scatter-of-requires-2
-scatter-of-requires-2 c κs = search needs
-
 -- the figures and the fields, as they are read back
 module _ (c : tie.After-struct-told) where
   abbrev start : tie.Start
@@ -85,13 +40,13 @@ module _ (c : tie.After-struct-told) where
   unfolding segmentIn
   greatest-read = let v = c .before .before .before .before .before .value-at2 in toZ-ofZ (of-mag {w = w64} (v .result) (v .ok)) ∙ v .ensures
 
-  least-told : c .before .before .before .scatter-of .result ≡ segment .leastScatter
+  least-scatter : c .before .before .before .scatter .result ≡ segment .leastScatter
   unfolding segmentIn
-  least-told = let v = c .before .before .before .before .value-at3 in c .before .before .before .scatter-of .ensures ∙ ap scatterIn (toZ-ofZ (of-mag {w = w64} (v .result) (v .ok)) ∙ v .ensures)
+  least-scatter = let v = c .before .before .before .before .value-at3 in c .before .before .before .scatter .ensures ∙ ap scatterIn (toZ-ofZ (of-mag {w = w64} (v .result) (v .ok)) ∙ v .ensures)
 
-  greatest-told : c .before .scatter-of2 .result ≡ segment .greatestScatter
+  greatest-scatter : c .before .scatter2 .result ≡ segment .greatestScatter
   unfolding segmentIn
-  greatest-told = let v = c .before .before .value-at4 in c .before .scatter-of2 .ensures ∙ ap scatterIn (toZ-ofZ (of-mag {w = w64} (v .result) (v .ok)) ∙ v .ensures)
+  greatest-scatter = let v = c .before .before .value-at4 in c .before .scatter2 .ensures ∙ ap scatterIn (toZ-ofZ (of-mag {w = w64} (v .result) (v .ok)) ∙ v .ensures)
 
 segment-bound-requires : tie.Need-segment-bound-requires
 segment-bound-requires c κs =
@@ -99,8 +54,15 @@ segment-bound-requires c κs =
     let f = c .before .before .before .before .before .before .before .figures-on in
     let w : width (run (s .args .first) (s .args .last)) ≤ 256 = omega (arith, s .pre .1 .from-1, s .pre .1 .to-n, s .pre .0 .few) in
     let m = s .pre .4 in
-    rw (sum-read c, least-read c, greatest-read c)
-    (omega arith, omega (arith, s .pre .1 .from-1, s .pre .1 .to-n, s .pre .0 .few), omega (arith, f .ensures .1 .1 .0), omega (arith, m .least-sum), omega (arith, m .greatest-sum), omega (arith, f .ensures .1 .1 .1, mul-le-mul w w), omega (arith, least-told c, m .least-scatter, mul-le-mul w w))
+    rw (sum-read c, least-read c, greatest-read c) (
+      omega arith,
+      omega (arith, s .pre .1 .from-1, s .pre .1 .to-n, s .pre .0 .few),
+      omega (arith, f .ensures .1 .1 .0),
+      omega (arith, m .least-sum),
+      omega (arith, m .greatest-sum),
+      omega (arith, f .ensures .1 .1 .1, mul-le-mul w w),
+      omega (arith, least-scatter c, m .least-scatter, mul-le-mul w w),
+    )
 
 returns : tie.Need-returns
 unfolding boundOn
@@ -111,12 +73,13 @@ returns c =
     let on = run (s .args .first) (s .args .last) in
     let g = segment k in
     let w : s .args .last - s .args .first + 1 ≡ suc (s .args .last) - s .args .first = omega (arith, s .pre .1 .rises) in
-    let low = k .before .before .before .scatter-of .result in
-    let high = k .before .scatter-of2 .result in
+    let low = k .before .before .before .scatter .result in
+    let high = k .before .scatter2 .result in
     let told : c .segment-bound .result ≡ boundTerm (suc (s .args .last) - s .args .first) (sumGap (f .result .sum) (g .leastSum) (g .greatestSum)) (scatterGap (f .result .scatter) low high) =
     rw (sum-read k, least-read k, greatest-read k, w) at (c .segment-bound .ensures .0) in
-    let e : c .segment-bound .result ≡ boundTerm (suc (s .args .last) - s .args .first) (sumGap (f .result .sum) (g .leastSum) (g .greatestSum)) (scatterGap (f .result .scatter) (g .leastScatter) (g .greatestScatter)) =
-    told ∙ ap₂ (λ (a b : ℕ). boundTerm (width on) (sumGap (f .result .sum) (g .leastSum) (g .greatestSum)) (scatterGap (f .result .scatter) a b)) (least-told k) (greatest-told k) in (
+    let e : c .segment-bound .result ≡ boundTerm (suc (s .args .last) - s .args .first) (sumGap (f .result .sum) (g .leastSum) (g .greatestSum))
+    (scatterGap (f .result .scatter) (g .leastScatter) (g .greatestScatter)) =
+    told ∙ ap₂ (λ (a b : ℕ). boundTerm (width on) (sumGap (f .result .sum) (g .leastSum) (g .greatestSum)) (scatterGap (f .result .scatter) a b)) (least-scatter k) (greatest-scatter k) in (
       e ∙ ap₂ (λ (t : ℤ) (u : ℕ). boundTerm (width on) (sumGap t (g .leastSum) (g .greatestSum)) (scatterGap u (g .leastScatter) (g .greatestScatter))) (f .ensures .0) (f .ensures .1 .0),
       omega (arith, e, gaps-size (width on) (f .result .sum) (f .result .scatter) g (omega (arith, s .pre .1 .rises)) (f .ensures .1 .1 .0) (f .ensures .1 .1 .1) (s .pre .4)),
     )
@@ -125,20 +88,6 @@ pub segment-term-spec : {M : Type 1} → statement M
 segment-term-spec =
     tie.close
     (tie.spec
-    figures-on-requires
-    sub-w
-    add-w
-    mul-at
-    add-at
-    add-value-at
-    value-at-requires
-    add-value-at-2
-    value-at-requires-2
-    add-value-at-3
-    value-at-requires-3
-    scatter-of-requires
-    add-value-at-4
-    value-at-requires-4
-    scatter-of-requires-2
-    segment-bound-requires
-    returns)
+    (λ c κs. search needs) (λ c. search needs) (λ c. search needs) (λ c. search needs) (λ c. search needs) (λ c. search needs)
+    (λ c κs. search needs) (λ c. search needs) (λ c κs. search needs) (λ c. search needs) (λ c κs. search needs)
+    (λ c κs. search needs) (λ c. search needs) (λ c κs. search needs) (λ c κs. search needs) segment-bound-requires returns)

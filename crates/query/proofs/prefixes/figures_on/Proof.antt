@@ -13,21 +13,6 @@ use borrow.Author.Needs.{needs}
 use Rattle.query.proofs.prefixes.figures_on.Statement.{statement}
 use Rattle.query.proofs.prefixes.figures_on.Tie as tie
 
-sub-before : tie.Need-sub-before
-sub-before c = search needs
-
-mul-sum : tie.Need-mul-sum
-mul-sum c = search needs
-
-element-copy-out-sum : tie.Need-element-copy-out-sum
-element-copy-out-sum c = search needs
-
-mul-sum-2 : tie.Need-mul-sum-2
-mul-sum-2 c = search needs
-
-element-copy-out-sum-2 : tie.Need-element-copy-out-sum-2
-element-copy-out-sum-2 c = search needs
-
 -- the two prefix sums, and what is known of their difference
 high : (c : tie.After-sum) → SFits w64 (getD (c .before .args .sums .now) (c .before .args .last) (pos 0))
 high c = of-mag (getD (c .before .args .sums .now) (c .before .args .last) (pos 0)) (c .sum .given)
@@ -50,25 +35,10 @@ sum-read c =
 sub-sum : tie.Need-sub-sum
 sub-sum c = fits-difference (high (c .before)) (low c) (sizes c)
 
-mul-total : tie.Need-mul-total
-mul-total c = search needs
-
-element-copy-out-total : tie.Need-element-copy-out-total
-element-copy-out-total c = search needs
-
-mul-total-2 : tie.Need-mul-total-2
-mul-total-2 c = search needs
-
-element-copy-out-total-2 : tie.Need-element-copy-out-total-2
-element-copy-out-total-2 c = search needs
-
 sub-total : tie.Need-sub-total
 sub-total c =
     let s = c .before .before .before .before in
     omega (arith, cut.squares-are (s .args .query .now) (s .args .sums .now) (s .args .squares .now) (s .pre .0) (s .args .first) (s .args .last) (s .pre .1))
-
-sub-w : tie.Need-sub-w
-sub-w c = search needs
 
 scatter-from-requires : tie.Need-scatter-from-requires
 scatter-from-requires c κs =
@@ -92,17 +62,5 @@ pub figures-on-spec : {M : Type 1} → statement M
 figures-on-spec =
     tie.close
     (tie.spec
-    sub-before
-    mul-sum
-    element-copy-out-sum
-    mul-sum-2
-    element-copy-out-sum-2
-    sub-sum
-    mul-total
-    element-copy-out-total
-    mul-total-2
-    element-copy-out-total-2
-    sub-total
-    sub-w
-    scatter-from-requires
-    returns)
+    (λ c. search needs) (λ c. search needs) (λ c. search needs) (λ c. search needs) (λ c. search needs) sub-sum (λ c. search needs)
+    (λ c. search needs) (λ c. search needs) (λ c. search needs) sub-total (λ c. search needs) scatter-from-requires returns)

@@ -19,26 +19,8 @@ Inv-loop query sums₀ squares₀ i₀ sums squares i = Passed query sums square
 abbrev μ-loop : tie.MeasureT-loop
 μ-loop query sums₀ squares₀ i₀ sums squares i = length query - i
 
-element-set-of-sums : tie.Need-element-set-of-sums Inv-loop μ-loop
-element-set-of-sums c = omega (arith, c .pre .1)
-
-element-write-squares : tie.Need-element-write-squares Inv-loop μ-loop
-element-write-squares c = omega (arith, c .pre .2)
-
 loop-holds : tie.Need-loop-holds Inv-loop μ-loop
 loop-holds c = passed-none (c .args .query .now) (c .args .sums .now) (c .args .squares .now) (c .pre .1) (c .pre .2)
-
-mul-with-sample : tie.Need-mul-with-sample Inv-loop μ-loop
-mul-with-sample c = omega (arith, c .before .loop .inv .inside, c .before .before .pre .0)
-
-element-copy-out-with-sample : tie.Need-element-copy-out-with-sample Inv-loop μ-loop
-element-copy-out-with-sample c = omega (arith, c .before .loop .inv .inside, c .before .before .pre .0)
-
-mul-with-sample-2 : tie.Need-mul-with-sample-2 Inv-loop μ-loop
-mul-with-sample-2 c = omega (arith, c .before .before .loop .inv .inside, c .before .before .before .pre .0)
-
-shared-slice-copy-out-with-sample : tie.Need-shared-slice-copy-out-with-sample Inv-loop μ-loop
-shared-slice-copy-out-with-sample c = omega arith
 
 with-sample-requires : tie.Need-with-sample-requires Inv-loop μ-loop
 with-sample-requires c κs =
@@ -46,47 +28,11 @@ with-sample-requires c κs =
     rw (toZ-ofZ (of-mag {w = w64} (getD (l .sums) (l .i) (pos 0)) (c .before .with-sample-arg .given)))
     (omega (arith, sum-size (c .before .before .before .before .args .query .now) (l .sums) (l .squares) (l .i) (l .inv), l .inv .inside, c .before .before .before .before .pre .0))
 
-add-t18 : tie.Need-add-t18 Inv-loop μ-loop
-add-t18 c = omega (arith, c .before .before .before .before .loop .inv .inside, c .before .before .before .before .before .pre .0)
-
-mul-t19 : tie.Need-mul-t19 Inv-loop μ-loop
-mul-t19 c = omega (arith, c .before .before .before .before .loop .inv .inside, c .before .before .before .before .before .pre .0)
-
-element-set-from-sums : tie.Need-element-set-from-sums Inv-loop μ-loop
-element-set-from-sums c = omega (arith, c .before .before .before .before .loop .inv .inside, c .before .before .before .before .before .pre .0)
-
-mul-with-square : tie.Need-mul-with-square Inv-loop μ-loop
-mul-with-square c = omega (arith, c .before .before .before .before .loop .inv .inside, c .before .before .before .before .before .pre .0)
-
-element-copy-out-with-square : tie.Need-element-copy-out-with-square Inv-loop μ-loop
-element-copy-out-with-square c = omega (arith, c .before .before .before .before .loop .inv .inside, c .before .before .before .before .before .pre .0)
-
-mul-with-square-2 : tie.Need-mul-with-square-2 Inv-loop μ-loop
-mul-with-square-2 c = omega (arith, c .before .before .before .before .before .loop .inv .inside, c .before .before .before .before .before .before .pre .0)
-
-shared-slice-copy-out-with-square : tie.Need-shared-slice-copy-out-with-square Inv-loop μ-loop
-shared-slice-copy-out-with-square c = omega arith
-
 with-square-requires : tie.Need-with-square-requires Inv-loop μ-loop
 with-square-requires c κs =
     let l = c .before .before .before .before .before .before .loop in
     let s = c .before .before .before .before .before .before .before in
     omega (arith, squares-size (s .args .query .now) (l .sums) (l .squares) (l .i) (l .inv), l .inv .inside, s .pre .0)
-
-add-squares : tie.Need-add-squares Inv-loop μ-loop
-add-squares c = omega (arith, c .before .before .before .before .before .before .before .loop .inv .inside, c .before .before .before .before .before .before .before .before .pre .0)
-
-mul-squares : tie.Need-mul-squares Inv-loop μ-loop
-mul-squares c = omega (arith, c .before .before .before .before .before .before .before .loop .inv .inside, c .before .before .before .before .before .before .before .before .pre .0)
-
-element-write-squares-2 : tie.Need-element-write-squares-2 Inv-loop μ-loop
-element-write-squares-2 c = omega (arith, c .before .before .before .before .before .before .before .loop .inv .inside, c .before .before .before .before .before .before .before .before .pre .0)
-
-add-i : tie.Need-add-i Inv-loop μ-loop
-add-i c = omega (arith, c .before .before .before .before .before .before .before .loop .inv .inside, c .before .before .before .before .before .before .before .before .pre .0)
-
-loop-less : tie.Need-loop-less Inv-loop μ-loop
-loop-less c = omega arith
 
 loop-again : tie.Need-loop-again Inv-loop μ-loop
 loop-again c =
@@ -111,28 +57,20 @@ pub prefix-sums-spec : {M : Type 1} → statement M
 prefix-sums-spec =
     tie.close
     (tie.spec
-    Inv-loop
-    μ-loop
-    element-set-of-sums
-    element-write-squares
-    loop-holds
-    mul-with-sample
-    element-copy-out-with-sample
-    mul-with-sample-2
-    shared-slice-copy-out-with-sample
+    Inv-loop μ-loop (λ c. omega (arith, c .pre .1)) (λ c. omega (arith, c .pre .2)) loop-holds
+    (λ c. omega (arith, c .before .loop .inv .inside, c .before .before .pre .0))
+    (λ c. omega (arith, c .before .loop .inv .inside, c .before .before .pre .0))
+    (λ c. omega (arith, c .before .before .loop .inv .inside, c .before .before .before .pre .0)) (λ c. omega arith)
     with-sample-requires
-    add-t18
-    mul-t19
-    element-set-from-sums
-    mul-with-square
-    element-copy-out-with-square
-    mul-with-square-2
-    shared-slice-copy-out-with-square
-    with-square-requires
-    add-squares
-    mul-squares
-    element-write-squares-2
-    add-i
-    loop-less
-    loop-again
-    returns)
+    (λ c. omega (arith, c .before .before .before .before .loop .inv .inside, c .before .before .before .before .before .pre .0))
+    (λ c. omega (arith, c .before .before .before .before .loop .inv .inside, c .before .before .before .before .before .pre .0))
+    (λ c. omega (arith, c .before .before .before .before .loop .inv .inside, c .before .before .before .before .before .pre .0))
+    (λ c. omega (arith, c .before .before .before .before .loop .inv .inside, c .before .before .before .before .before .pre .0))
+    (λ c. omega (arith, c .before .before .before .before .loop .inv .inside, c .before .before .before .before .before .pre .0))
+    (λ c. omega (arith, c .before .before .before .before .before .loop .inv .inside, c .before .before .before .before .before .before .pre .0))
+    (λ c. omega arith) with-square-requires
+    (λ c. omega (arith, c .before .before .before .before .before .before .before .loop .inv .inside, c .before .before .before .before .before .before .before .before .pre .0))
+    (λ c. omega (arith, c .before .before .before .before .before .before .before .loop .inv .inside, c .before .before .before .before .before .before .before .before .pre .0))
+    (λ c. omega (arith, c .before .before .before .before .before .before .before .loop .inv .inside, c .before .before .before .before .before .before .before .before .pre .0))
+    (λ c. omega (arith, c .before .before .before .before .before .before .before .loop .inv .inside, c .before .before .before .before .before .before .before .before .pre .0))
+    (λ c. omega arith) loop-again returns)

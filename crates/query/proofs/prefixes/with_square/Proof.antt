@@ -20,8 +20,8 @@ squared c = c .square .ensures ∙ ap square (read-wider w64 tt (c .before .fits
 add-result : tie.Need-add-result
 add-result c = omega (arith, squared c, mul-le-mul (size (c .before .fits .x)) (size (c .before .fits .x)), c .before .pre)
 
-returns : tie.Need-returns
-returns c = omega (arith, squared c)
-
 pub with-square-spec : {M : Type 1} → statement M
-with-square-spec = tie.close (tie.spec cast-square square-requires add-result returns)
+with-square-spec =
+    tie.close
+    (tie.spec
+    cast-square square-requires add-result (λ c. omega (arith, squared c)))

@@ -8,8 +8,8 @@ use lib.ListN.{length}
 use Rattle.segment.specs.Figures.{distance}
 use Rattle.dstree.specs.Matching.{bestWith}
 use Rattle.tables.specs.View.{traceIn}
-use Rattle.leaf_figures.specs.Walk.{numbersOf}
-use Rattle.leaf_figures.proofs.Listed.{metFrom, met-start, behind-rises}
+use Rattle.tables.specs.Walk.{numbersOf}
+use Rattle.tables.proofs.Listed.{metFrom, met-start, behind-rises}
 use Rattle.reading.specs.Nearest.{bestOf, near, nearOf}
 use Rattle.reading.proofs.Walked.{nearestFrom, nearest-more, nearest-end, length-more, length-end, trace-room}
 use Rattle.reading.proofs.leaf.read_leaf.Statement.{statement}
@@ -44,9 +44,6 @@ trace-distance-requires c κs =
 with-trace-requires : tie.Need-with-trace-requires Inv-loop μ-loop
 with-trace-requires c κs = tt
 
-add-traces : tie.Need-add-traces Inv-loop μ-loop
-add-traces c = omega (arith, c .before .before .before .loop .inv .0, c .before .before .before .loop .inv .1, c .before .before .before .before .before .pre .0 .few)
-
 behind-requires : tie.Need-behind-requires Inv-loop μ-loop
 behind-requires c κs = omega (arith, c .before .before .before .before .before .pre .0 .links-room)
 
@@ -64,7 +61,8 @@ loop-again c =
     let h : l .t < a .k = omega (arith, c .before .before .before .loop-test .taken) in
     let rises = behind-rises (a .links .now) (a .k) (s .pre .0 .rising) (l .t) h in
     let d : c .before .before .trace-distance .result ≡ distance (a .query .now) (traceIn (a .samples .now) (a .n) (l .t)) = c .before .before .trace-distance .ensures .0 in
-    let e : bestOf (c .before .with-trace .result) ≡ bestWith (bestOf (l .nearest)) (nearOf (a .samples .now) (a .n) (a .query .now) (l .t)) = c .before .with-trace .ensures ∙ ap (λ (x : ℕ). bestWith (bestOf (l .nearest)) (near (l .t) x)) d in (
+    let e : bestOf (c .before .with-trace .result) ≡ bestWith (bestOf (l .nearest)) (nearOf (a .samples .now) (a .n) (a .query .now) (l .t)) =
+    c .before .with-trace .ensures ∙ ap (λ (x : ℕ). bestWith (bestOf (l .nearest)) (near (l .t) x)) d in (
       omega (arith, c .behind .ensures, rises),
       omega (arith, c .behind .ensures, rises, l .inv .1),
       ap₂ (nearestFrom (a .samples .now) (a .n) (a .query .now) (a .links .now) (a .k)) e (c .behind .ensures)
@@ -86,13 +84,6 @@ pub read-leaf-spec : {M : Type 1} → statement M
 read-leaf-spec =
     tie.close
     (tie.spec
-    Inv-loop
-    μ-loop
-    loop-holds
-    trace-distance-requires
-    with-trace-requires
-    add-traces
-    behind-requires
-    loop-less
-    loop-again
-    returns)
+    Inv-loop μ-loop loop-holds trace-distance-requires with-trace-requires
+    (λ c. omega (arith, c .before .before .before .loop .inv .0, c .before .before .before .loop .inv .1, c .before .before .before .before .before .pre .0 .few))
+    behind-requires loop-less loop-again returns)

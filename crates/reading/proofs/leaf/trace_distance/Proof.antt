@@ -15,27 +15,6 @@ whole : (samples : List ℤ) (n t : ℕ) → take (t * n + n - t * n) (drop (t *
 unfolding traceIn
 whole samples n t = let w : t * n + n - t * n ≡ n = omega arith in rw w
 
-mul-a : tie.Need-mul-a
-mul-a c = search needs
-
-add-e : tie.Need-add-e
-add-e c = search needs
-
-mul-distance : tie.Need-mul-distance
-mul-distance c = search needs
-
-sub-distance : tie.Need-sub-distance
-sub-distance c = search needs
-
-part-distance-start : tie.Need-part-distance-start
-part-distance-start c = search needs
-
-part-distance-end : tie.Need-part-distance-end
-part-distance-end c = search needs
-
-distance-requires : tie.Need-distance-requires
-distance-requires c κs = search needs
-
 returns : tie.Need-returns
 returns c =
     let s = c .before .before in
@@ -46,11 +25,5 @@ pub trace-distance-spec : {M : Type 1} → statement M
 trace-distance-spec =
     tie.close
     (tie.spec
-    mul-a
-    add-e
-    mul-distance
-    sub-distance
-    part-distance-start
-    part-distance-end
-    distance-requires
-    returns)
+    (λ c. search needs) (λ c. search needs) (λ c. search needs) (λ c. search needs) (λ c. search needs) (λ c. search needs)
+    (λ c κs. search needs) returns)

@@ -38,24 +38,12 @@ returns c end =
     let a = c .before .args in
     sums-fall (a .w) end (a .least-sum) (a .greatest-sum) (scatterIn (a .least-scatter)) (scatterIn (a .greatest-scatter)) (order (c .before) (c .if1 .taken))
 
-scatter-requires : tie.Need-scatter-requires
-scatter-requires c κs = search needs
-
-scatter-requires-2 : tie.Need-scatter-requires-2
-scatter-requires-2 c κs = search needs
-
 returns-2 : tie.Need-returns-2
 returns-2 c end =
     let k = c .before .before .before in
     let a = k .before .args in
     scatters-fall (a .w) end (a .least-sum) (a .greatest-sum) (scatterIn (a .least-scatter)) (scatterIn (a .greatest-scatter)) (order (k .before) (k .if1 .left))
     (omega (arith, greatest-is (c .before .before), least-is (c .before), c .if2 .taken))
-
-mul-if3 : tie.Need-mul-if3
-mul-if3 c = search needs
-
-size-requires : tie.Need-size-requires
-size-requires c κs = search needs
 
 -- the scatters are in order
 in-order : (c : tie.Else2) → scatterIn (c .before .before .before .before .args .least-scatter) ≤ scatterIn (c .before .before .before .before .args .greatest-scatter)
@@ -68,12 +56,6 @@ returns-3 c end =
     let a = k .before .args in
     least-outside (a .w) end (a .least-sum) (a .greatest-sum) (scatterIn (a .least-scatter)) (scatterIn (a .greatest-scatter)) (order (k .before) (k .if1 .left)) (in-order d)
     (omega (arith, size-is (c .before), c .if3 .taken))
-
-mul-if4 : tie.Need-mul-if4
-mul-if4 c = search needs
-
-size-requires-2 : tie.Need-size-requires-2
-size-requires-2 c κs = search needs
 
 -- the least sum is inside
 inside : (c : tie.Else3) → natAbs (c .before .before .before .before .before .before .args .least-sum) ≤ c .before .before .before .before .before .before .args .w * 32768
@@ -108,16 +90,5 @@ pub figures-fit-spec : {M : Type 1} → statement M
 figures-fit-spec =
     tie.close
     (tie.spec
-    returns
-    scatter-requires
-    scatter-requires-2
-    returns-2
-    mul-if3
-    size-requires
-    returns-3
-    mul-if4
-    size-requires-2
-    returns-4
-    mul-result
-    mul-result-2
-    returns-5)
+    returns (λ c κs. search needs) (λ c κs. search needs) returns-2 (λ c. search needs) (λ c κs. search needs) returns-3
+    (λ c. search needs) (λ c κs. search needs) returns-4 mul-result mul-result-2 returns-5)

@@ -17,24 +17,12 @@ use Rattle.records_fit.proofs.figures.threshold_fits.Tie as tie
 same : (c : tie.Start) → toZ w64 (ofZ w64 (c .args .threshold)) ≡ c .args .threshold
 same c = toZ-ofZ w64 (c .args .threshold) (c .fits .threshold)
 
-size-requires : tie.Need-size-requires
-size-requires c κs = search needs
-
-mul-result : tie.Need-mul-result
-mul-result c = omega arith
-
-mul-result-2 : tie.Need-mul-result-2
-mul-result-2 c = omega arith
-
 returns : tie.Need-returns
 returns c =
     let s = c .before .before in
     let a = s .args in
     rw (eq-eqb (a .kind) 1 (c .before .if1 .taken))
     (ap (λ (x : ℕ). leb x (2 * (a .w * 32768))) (c .size .ensures ∙ ap natAbs (same s)) ∙ sym (sum-threshold (a .w) (a .threshold)))
-
-scatter-requires : tie.Need-scatter-requires
-scatter-requires c κs = search needs
 
 -- twice the limit fits 64 bits
 top : (c : tie.Start) → 2 * (c .args .w * c .args .w * 1073741824) < 2 ^ 63
@@ -60,12 +48,5 @@ pub threshold-fits-spec : {M : Type 1} → statement M
 threshold-fits-spec =
     tie.close
     (tie.spec
-    size-requires
-    mul-result
-    mul-result-2
-    returns
-    scatter-requires
-    mul-result-3
-    mul-result-4
-    mul-result-5
-    returns-2)
+    (λ c κs. search needs) (λ c. omega arith) (λ c. omega arith) returns (λ c κs. search needs) mul-result-3 mul-result-4
+    mul-result-5 returns-2)

@@ -31,12 +31,6 @@ returns c =
     let a = d .before .before .before .args in
     one-failed (keptAt (now (a .nodes))) (a .m) 0 (L .j) (omega arith) (omega arith) (sym (d .node-kept .ensures) ∙ not-true (d .node-kept .result) (c .if1 .taken))
 
-add-j : tie.Need-add-j Inv-loop μ-loop
-add-j c = omega (arith, c .before .before .before .before .pre .low)
-
-loop-less : tie.Need-loop-less Inv-loop μ-loop
-loop-less c = omega arith
-
 loop-again : tie.Need-loop-again Inv-loop μ-loop
 loop-again c =
     let d = c .before in
@@ -54,12 +48,5 @@ pub ends-kept-spec : {M : Type 1} → statement M
 ends-kept-spec =
     tie.close
     (tie.spec
-    Inv-loop
-    μ-loop
-    loop-holds
-    node-kept-requires
-    returns
-    add-j
-    loop-less
-    loop-again
-    returns-2)
+    Inv-loop μ-loop loop-holds node-kept-requires returns (λ c. omega (arith, c .before .before .before .before .pre .low))
+    (λ c. omega arith) loop-again returns-2)

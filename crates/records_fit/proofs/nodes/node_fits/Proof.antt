@@ -1,55 +1,24 @@
 -- `records_fit::nodes::node_fits` meets its contract: the part that is lent is node j's record.
-use mathlib.Core.Path.{_≡_, _∙_}
-use Prim.Native.Nat.{_+_, _*_, _-_}
-use native.Mathlib.Omega.{arith}
-use lib.ListN.{take, drop}
+use mathlib.Core.Path.{ap, _∙_}
+use mathlib.Core.List.{List}
+use lib.IntN.{ℤ}
+use lib.ListN.{length}
 use denote.Ref.{now}
 use borrow.Author.Needs.{needs}
-use Rattle.tables.specs.Layout.{recordPlaces}
-use Rattle.tables.specs.Tables.{recordOf}
+use Rattle.tables.proofs.Frame.{record-length}
 use Rattle.records_fit.specs.Fits.{recordFits}
 use Rattle.records_fit.proofs.nodes.node_fits.Statement.{statement}
 use Rattle.records_fit.proofs.nodes.node_fits.Tie as tie
 
-mul-a : tie.Need-mul-a
-mul-a c = search needs
-
-add-e : tie.Need-add-e
-add-e c = search needs
-
-mul-record-fits : tie.Need-mul-record-fits
-mul-record-fits c = search needs
-
-sub-record-fits : tie.Need-sub-record-fits
-sub-record-fits c = search needs
-
-part-record-fits-start : tie.Need-part-record-fits-start
-part-record-fits-start c = search needs
-
-part-record-fits-end : tie.Need-part-record-fits-end
-part-record-fits-end c = search needs
-
 record-fits-requires : tie.Need-record-fits-requires
-record-fits-requires c κs = search needs
+record-fits-requires c κs =
+    let s = c .before in
+    (ap length (c .record-at .ensures) ∙ record-length (now (s .args .nodes)) (s .args .j) (s .pre .0), s .pre .2)
 
 returns : tie.Need-returns
-unfolding recordOf
 returns c =
     let a = c .before .before .args in
-    let from = a .j * recordPlaces in
-    let w : (from + recordPlaces) - from ≡ recordPlaces = omega arith in
-    let e : c .record-fits .result ≡ recordFits (a .n) (a .m) (a .j) (take ((from + recordPlaces) - from) (drop from (now (a .nodes)))) = c .record-fits .ensures in
-    e ∙ rw w
+    c .record-fits .ensures ∙ ap (λ (r : List ℤ). recordFits (a .n) (a .m) (a .j) r) (c .before .record-at .ensures)
 
 pub node-fits-spec : {M : Type 1} → statement M
-node-fits-spec =
-    tie.close
-    (tie.spec
-    mul-a
-    add-e
-    mul-record-fits
-    sub-record-fits
-    part-record-fits-start
-    part-record-fits-end
-    record-fits-requires
-    returns)
+node-fits-spec = tie.close (tie.spec (λ c κs. search needs) record-fits-requires returns)

@@ -40,7 +40,8 @@ module _ (s : tie.Start) where
   few x h = few-segments n m x (recordOf nodes x) (fits x h)
 
   -- what `kept` asks, for a child that is one of m nodes
-  askable : (child : ℕ) → child < m → (child * recordPlaces + recordPlaces ≤ length nodes) × (child ≤ 8191) × (smallAt (recordOf nodes child) segmentsPlace ≤ 16) × (j * recordPlaces + recordPlaces ≤ length nodes) × (j ≤ 8191) × (smallAt (recordOf nodes j) segmentsPlace ≤ 16)
+  askable : (child : ℕ) → child < m → (child * recordPlaces + recordPlaces ≤ length nodes) × (child ≤ 8191)
+      × (smallAt (recordOf nodes child) segmentsPlace ≤ 16) × (j * recordPlaces + recordPlaces ≤ length nodes) × (j ≤ 8191) × (smallAt (recordOf nodes j) segmentsPlace ≤ 16)
   askable child h = (omega (arith, s .pre .all .held), omega (arith, s .pre .all .low), few child h, omega (arith, s .pre .all .held), omega (arith, s .pre .all .low), few j (s .pre .inside))
 
   mine : (j * recordPlaces + recordPlaces ≤ length nodes) × (j ≤ 8191)
@@ -67,7 +68,8 @@ kept-requires c κs =
     let s = c .before .before .before in
     askable s (c .node-small2 .result) (omega (arith, c .node-small2 .ensures, left-above (n s) (m s) (j s) (r s) (fits s (j s) (s .pre .inside)) (inner (c .before)) .1))
 
-left-is : (c : tie.After-kept) {b : Bool} → c .kept .result ≡ b → endsIn (segmentsIn (recordOf (nodes (c .before .before .before .before)) (smallAt (r (c .before .before .before .before)) firstPlace))) (segmentsIn (r (c .before .before .before .before))) ≡ b
+left-is : (c : tie.After-kept) {b : Bool} → c .kept .result ≡ b
+    → endsIn (segmentsIn (recordOf (nodes (c .before .before .before .before)) (smallAt (r (c .before .before .before .before)) firstPlace))) (segmentsIn (r (c .before .before .before .before))) ≡ b
 left-is c e =
     let s = c .before .before .before .before in
     sym (c .kept .ensures ∙ ap (λ (x : ℕ). endsIn (segmentsIn (recordOf (nodes s) x)) (segmentsIn (r s))) (c .before .node-small2 .ensures)) ∙ e
@@ -85,7 +87,13 @@ kept-requires-2 : tie.Need-kept-requires-2
 kept-requires-2 c κs =
     let k = c .before .before .before .before in
     let s = k .before .before in
-    askable s (c .node-small3 .result) (omega (arith, c .node-small3 .ensures, left-above (n s) (m s) (j s) (r s) (fits s (j s) (s .pre .inside)) (inner k) .1, right-above (n s) (m s) (j s) (r s) (fits s (j s) (s .pre .inside)) (inner k) .1))
+    askable s (c .node-small3 .result)
+    (omega (
+      arith,
+      c .node-small3 .ensures,
+      left-above (n s) (m s) (j s) (r s) (fits s (j s) (s .pre .inside)) (inner k) .1,
+      right-above (n s) (m s) (j s) (r s) (fits s (j s) (s .pre .inside)) (inner k) .1,
+    ))
 
 returns-3 : tie.Need-returns-3
 returns-3 c =

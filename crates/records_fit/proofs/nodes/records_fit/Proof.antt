@@ -37,12 +37,6 @@ returns c =
     let a = d .before .before .before .args in
     one-failed (fits (now (a .nodes)) (a .m) (a .n)) (a .m) 0 (L .j) (omega arith) (omega arith) (sym (d .node-fits .ensures) ∙ not-true (d .node-fits .result) (c .if1 .taken))
 
-add-j : tie.Need-add-j Inv-loop μ-loop
-add-j c = omega arith
-
-loop-less : tie.Need-loop-less Inv-loop μ-loop
-loop-less c = omega arith
-
 loop-again : tie.Need-loop-again Inv-loop μ-loop
 loop-again c =
     let d = c .before in
@@ -60,12 +54,4 @@ pub records-fit-spec : {M : Type 1} → statement M
 records-fit-spec =
     tie.close
     (tie.spec
-    Inv-loop
-    μ-loop
-    loop-holds
-    node-fits-requires
-    returns
-    add-j
-    loop-less
-    loop-again
-    returns-2)
+    Inv-loop μ-loop loop-holds node-fits-requires returns (λ c. omega arith) (λ c. omega arith) loop-again returns-2)

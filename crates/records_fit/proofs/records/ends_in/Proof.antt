@@ -58,12 +58,6 @@ returns c =
     let d = c .before in
     sym (whole d ∙ ends-stop (child d) (segmentIn (parent d) (i d)) (rest d) (found d (not-true (d .has-end .result) (c .if1 .taken))))
 
-add-i : tie.Need-add-i Inv-loop μ-loop
-add-i c = omega arith
-
-loop-less : tie.Need-loop-less Inv-loop μ-loop
-loop-less c = omega arith
-
 loop-again : tie.Need-loop-again Inv-loop μ-loop
 loop-again c =
     let d = c .before in
@@ -80,13 +74,4 @@ pub ends-in-spec : {M : Type 1} → statement M
 ends-in-spec =
     tie.close
     (tie.spec
-    Inv-loop
-    μ-loop
-    loop-holds
-    end-at-requires
-    has-end-requires
-    returns
-    add-i
-    loop-less
-    loop-again
-    returns-2)
+    Inv-loop μ-loop loop-holds end-at-requires has-end-requires returns (λ c. omega arith) (λ c. omega arith) loop-again returns-2)

@@ -8,12 +8,6 @@ use Rattle.records_fit.specs.Fits.{segmentsFrom, endsIn}
 use Rattle.records_fit.proofs.records.ends_kept.Statement.{statement}
 use Rattle.records_fit.proofs.records.ends_kept.Tie as tie
 
-small-at-requires : tie.Need-small-at-requires
-small-at-requires c κs = search needs
-
-small-at-requires-2 : tie.Need-small-at-requires-2
-small-at-requires-2 c κs = search needs
-
 ends-in-requires : tie.Need-ends-in-requires
 ends-in-requires c κs =
     let p = c .before .before .pre in
@@ -23,8 +17,12 @@ returns : tie.Need-returns
 unfolding segmentsIn
 returns c =
     let a = c .before .before .before .args in
-    let e : c .ends-in .result ≡ endsIn (segmentsFrom (now (a .child)) (c .before .before .small-at .result) 0) (segmentsFrom (now (a .parent)) (c .before .small-at2 .result) 0) = c .ends-in .ensures in
+    let e : c .ends-in .result ≡ endsIn (segmentsFrom (now (a .child)) (c .before .before .small-at .result) 0)
+    (segmentsFrom (now (a .parent)) (c .before .small-at2 .result) 0) = c .ends-in .ensures in
     e ∙ rw (c .before .before .small-at .ensures, c .before .small-at2 .ensures)
 
 pub ends-kept-spec : {M : Type 1} → statement M
-ends-kept-spec = tie.close (tie.spec small-at-requires small-at-requires-2 ends-in-requires returns)
+ends-kept-spec =
+    tie.close
+    (tie.spec
+    (λ c κs. search needs) (λ c κs. search needs) ends-in-requires returns)

@@ -50,12 +50,6 @@ returns c =
     let d = c .before in
     sym (whole d ∙ end-here (e d) (segmentIn (places d) (i d)) (segmentsFrom (places d) (count d - (i d + 1)) (i d + 1)) (found d ∙ c .if1 .taken))
 
-add-i : tie.Need-add-i Inv-loop μ-loop
-add-i c = omega arith
-
-loop-less : tie.Need-loop-less Inv-loop μ-loop
-loop-less c = omega arith
-
 loop-again : tie.Need-loop-again Inv-loop μ-loop
 loop-again c =
     let d = c .before in
@@ -71,12 +65,4 @@ pub has-end-spec : {M : Type 1} → statement M
 has-end-spec =
     tie.close
     (tie.spec
-    Inv-loop
-    μ-loop
-    loop-holds
-    end-at-requires
-    returns
-    add-i
-    loop-less
-    loop-again
-    returns-2)
+    Inv-loop μ-loop loop-holds end-at-requires returns (λ c. omega arith) (λ c. omega arith) loop-again returns-2)

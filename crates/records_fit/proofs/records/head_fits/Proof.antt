@@ -18,20 +18,11 @@ use Rattle.records_fit.proofs.Heads.{head-leaf, head-other, head-left, 
 use Rattle.records_fit.proofs.records.head_fits.Statement.{statement}
 use Rattle.records_fit.proofs.records.head_fits.Tie as tie
 
-small-at-requires : tie.Need-small-at-requires
-small-at-requires c κs = search needs
-
 returns : tie.Need-returns
 returns c = let a = c .before .before .args in sym (head-leaf (a .n) (a .m) (a .j) (now (a .places)) (sym (c .before .small-at .ensures) ∙ c .if1 .taken))
 
 returns-2 : tie.Need-returns-2
 returns-2 c = let a = c .before .before .before .args in sym (head-other (a .n) (a .m) (a .j) (now (a .places)) (omega (arith, c .before .before .small-at .ensures, c .if2 .taken)))
-
-small-at-requires-2 : tie.Need-small-at-requires-2
-small-at-requires-2 c κs = search needs
-
-child-fits-requires : tie.Need-child-fits-requires
-child-fits-requires c κs = search needs
 
 -- the kind is 1 or 2
 module _ (c : tie.Else2) where
@@ -44,7 +35,8 @@ module _ (c : tie.Else2) where
   named : smallAt places kindPlace ≤ 2
   named = omega (arith, c .before .before .small-at .ensures, c .if2 .left)
 
-left-is : (c : tie.After-child-fits) {b : Bool} → c .child-fits .result ≡ b → childFits (c .before .before .before .before .before .args .m) (c .before .before .before .before .before .args .j) (smallAt (places (c .before .before)) firstPlace) ≡ b
+left-is : (c : tie.After-child-fits) {b : Bool} → c .child-fits .result ≡ b
+    → childFits (c .before .before .before .before .before .args .m) (c .before .before .before .before .before .args .j) (smallAt (places (c .before .before)) firstPlace) ≡ b
 left-is c e =
     let a = c .before .before .before .before .before .args in
     sym (c .child-fits .ensures ∙ ap (childFits (a .m) (a .j)) (c .before .small-at2 .ensures)) ∙ e
@@ -55,16 +47,12 @@ returns-3 c =
     let a = k .before .before .before .args in
     sym (head-left (a .n) (a .m) (a .j) (places k) (not-leaf k) (named k) (left-is (c .before) (not-true (c .before .child-fits .result) (c .if3 .taken))))
 
-small-at-requires-3 : tie.Need-small-at-requires-3
-small-at-requires-3 c κs = search needs
-
-child-fits-requires-2 : tie.Need-child-fits-requires-2
-child-fits-requires-2 c κs = search needs
-
 left-fits : (c : tie.Else3) → c .before .child-fits .result ≡ true
 left-fits c = not-false (c .before .child-fits .result) (c .if3 .left)
 
-right-is : (c : tie.After-child-fits2) {b : Bool} → c .child-fits2 .result ≡ b → childFits (c .before .before .before .before .before .before .before .before .args .m) (c .before .before .before .before .before .before .before .before .args .j) (smallAt (places (c .before .before .before .before .before)) rightPlace) ≡ b
+right-is : (c : tie.After-child-fits2) {b : Bool} → c .child-fits2 .result ≡ b
+    → childFits (c .before .before .before .before .before .before .before .before .args .m)
+    (c .before .before .before .before .before .before .before .before .args .j) (smallAt (places (c .before .before .before .before .before)) rightPlace) ≡ b
 right-is c e =
     let a = c .before .before .before .before .before .before .before .before .args in
     sym (c .child-fits2 .ensures ∙ ap (childFits (a .m) (a .j)) (c .before .small-at3 .ensures)) ∙ e
@@ -76,18 +64,6 @@ returns-4 c =
     let a = k .before .before .before .args in
     sym (head-right (a .n) (a .m) (a .j) (places k) (not-leaf k) (named k) (left-is (f .before) (left-fits f)) (right-is (c .before) (not-true (c .before .child-fits2 .result) (c .if4 .taken))))
 
-small-at-requires-4 : tie.Need-small-at-requires-4
-small-at-requires-4 c κs = search needs
-
-small-at-requires-5 : tie.Need-small-at-requires-5
-small-at-requires-5 c κs = search needs
-
-value-at-requires : tie.Need-value-at-requires
-value-at-requires c κs = search needs
-
-test-fits-requires : tie.Need-test-fits-requires
-test-fits-requires c κs = search needs
-
 returns-5 : tie.Need-returns-5
 returns-5 c =
     let g = c .before .before .before .before in
@@ -96,24 +72,14 @@ returns-5 c =
     let a = k .before .before .before .args in
     let v = c .before .value-at in
     c .test-fits .ensures (smallAt (places k) firstPlace) (smallAt (places k) rightPlace)
-    ∙ (test-is (a .n) (places k) (k .before .before .small-at .ensures) (c .before .before .before .small-at4 .ensures) (c .before .before .small-at5 .ensures) (toZ-ofZ w64 (v .result) (sfits-of {w = w64} {z = v .result} (v .ok)) ∙ v .ensures)
+    ∙ (test-is (a .n) (places k) (k .before .before .small-at .ensures) (c .before .before .before .small-at4 .ensures)
+    (c .before .before .small-at5 .ensures) (toZ-ofZ w64 (v .result) (sfits-of {w = w64} {z = v .result} (v .ok)) ∙ v .ensures)
     ∙ sym (head-test (a .n) (a .m) (a .j) (places k) (not-leaf k) (named k) (left-is (f .before) (left-fits f)) (right-is (g .before) (not-false (g .before .child-fits2 .result) (g .if4 .left)))))
 
 pub head-fits-spec : {M : Type 1} → statement M
 head-fits-spec =
     tie.close
     (tie.spec
-    small-at-requires
-    returns
-    returns-2
-    small-at-requires-2
-    child-fits-requires
-    returns-3
-    small-at-requires-3
-    child-fits-requires-2
-    returns-4
-    small-at-requires-4
-    small-at-requires-5
-    value-at-requires
-    test-fits-requires
+    (λ c κs. search needs) returns returns-2 (λ c κs. search needs) (λ c κs. search needs) returns-3 (λ c κs. search needs)
+    (λ c κs. search needs) returns-4 (λ c κs. search needs) (λ c κs. search needs) (λ c κs. search needs) (λ c κs. search needs)
     returns-5)

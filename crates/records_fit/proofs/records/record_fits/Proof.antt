@@ -8,18 +8,12 @@ use Rattle.records_fit.specs.Fits.{headFits, recordFits}
 use Rattle.records_fit.proofs.records.record_fits.Statement.{statement}
 use Rattle.records_fit.proofs.records.record_fits.Tie as tie
 
-head-fits-requires : tie.Need-head-fits-requires
-head-fits-requires c κs = search needs
-
 returns : tie.Need-returns
 unfolding recordFits
 returns c =
     let a = c .before .before .args in
     let e : headFits (a .n) (a .m) (a .j) (now (a .places)) ≡ false = sym (c .before .head-fits .ensures) ∙ not-true (c .before .head-fits .result) (c .if1 .taken) in
     rw e
-
-segments-fit-requires : tie.Need-segments-fit-requires
-segments-fit-requires c κs = search needs
 
 returns-2 : tie.Need-returns-2
 unfolding recordFits
@@ -29,4 +23,7 @@ returns-2 c =
     rw e (c .segments-fit .ensures)
 
 pub record-fits-spec : {M : Type 1} → statement M
-record-fits-spec = tie.close (tie.spec head-fits-requires returns segments-fit-requires returns-2)
+record-fits-spec =
+    tie.close
+    (tie.spec
+    (λ c κs. search needs) returns (λ c κs. search needs) returns-2)

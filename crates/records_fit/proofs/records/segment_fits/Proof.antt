@@ -10,39 +10,6 @@ use Rattle.records_fit.proofs.Segments.{figures-are}
 use Rattle.records_fit.proofs.records.segment_fits.Statement.{statement}
 use Rattle.records_fit.proofs.records.segment_fits.Tie as tie
 
-mul-at : tie.Need-mul-at
-mul-at c = search needs
-
-add-at : tie.Need-add-at
-add-at c = search needs
-
-add-value-at : tie.Need-add-value-at
-add-value-at c = search needs
-
-value-at-requires : tie.Need-value-at-requires
-value-at-requires c κs = search needs
-
-add-value-at-2 : tie.Need-add-value-at-2
-add-value-at-2 c = search needs
-
-value-at-requires-2 : tie.Need-value-at-requires-2
-value-at-requires-2 c κs = search needs
-
-add-value-at-3 : tie.Need-add-value-at-3
-add-value-at-3 c = search needs
-
-value-at-requires-3 : tie.Need-value-at-requires-3
-value-at-requires-3 c κs = search needs
-
-add-value-at-4 : tie.Need-add-value-at-4
-add-value-at-4 c = search needs
-
-value-at-requires-4 : tie.Need-value-at-requires-4
-value-at-requires-4 c κs = search needs
-
-figures-fit-requires : tie.Need-figures-fit-requires
-figures-fit-requires c κs = search needs
-
 returns : tie.Need-returns
 returns c =
     let s = c .before .before .before .before .before in
@@ -61,15 +28,5 @@ pub segment-fits-spec : {M : Type 1} → statement M
 segment-fits-spec =
     tie.close
     (tie.spec
-    mul-at
-    add-at
-    add-value-at
-    value-at-requires
-    add-value-at-2
-    value-at-requires-2
-    add-value-at-3
-    value-at-requires-3
-    add-value-at-4
-    value-at-requires-4
-    figures-fit-requires
-    returns)
+    (λ c. search needs) (λ c. search needs) (λ c. search needs) (λ c κs. search needs) (λ c. search needs) (λ c κs. search needs)
+    (λ c. search needs) (λ c κs. search needs) (λ c. search needs) (λ c κs. search needs) (λ c κs. search needs) returns)

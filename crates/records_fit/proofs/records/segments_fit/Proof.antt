@@ -9,9 +9,6 @@ use Rattle.records_fit.proofs.Segments.{none-hold, many-hold, some-hold
 use Rattle.records_fit.proofs.records.segments_fit.Statement.{statement}
 use Rattle.records_fit.proofs.records.segments_fit.Tie as tie
 
-small-at-requires : tie.Need-small-at-requires
-small-at-requires c κs = search needs
-
 returns : tie.Need-returns
 returns c = let a = c .before .before .args in sym (none-hold (a .n) (now (a .places)) (omega (arith, c .before .small-at .ensures, c .if1 .taken)))
 
@@ -30,4 +27,7 @@ returns-3 c =
     ∙ sym (some-hold (a .n) (now (a .places)) (omega (arith, s .small-at .ensures, c .before .before .if1 .left)) (omega (arith, s .small-at .ensures, c .before .if2 .left))))
 
 pub segments-fit-spec : {M : Type 1} → statement M
-segments-fit-spec = tie.close (tie.spec small-at-requires returns returns-2 segments-run-requires returns-3)
+segments-fit-spec =
+    tie.close
+    (tie.spec
+    (λ c κs. search needs) returns returns-2 segments-run-requires returns-3)

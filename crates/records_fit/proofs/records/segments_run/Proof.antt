@@ -62,9 +62,6 @@ returns c =
     let d = c .before in
     sym (whole d ∙ rest-falls (n d) (before d) (segmentIn (places d) (i d)) (rest d) (omega (arith, found d, c .if1 .taken)))
 
-sub-segment-fits : tie.Need-sub-segment-fits Inv-loop μ-loop
-sub-segment-fits c = omega arith
-
 segment-fits-requires : tie.Need-segment-fits-requires Inv-loop μ-loop
 segment-fits-requires c κs = (c .before .before .before .before .pre .0, omega arith, omega (arith, most (c .before)))
 
@@ -85,12 +82,6 @@ returns-2 c =
     let k = s .before .before in
     sym (whole k ∙ rest-outside (n k) (before k) (segmentIn (places k) (i k)) (rest k) (rises s) (fits s (not-true (s .segment-fits .result) (c .if2 .taken))))
 
-add-i : tie.Need-add-i Inv-loop μ-loop
-add-i c = omega arith
-
-loop-less : tie.Need-loop-less Inv-loop μ-loop
-loop-less c = omega arith
-
 loop-again : tie.Need-loop-again Inv-loop μ-loop
 loop-again c =
     let s = c .before in
@@ -110,15 +101,5 @@ pub segments-run-spec : {M : Type 1} → statement M
 segments-run-spec =
     tie.close
     (tie.spec
-    Inv-loop
-    μ-loop
-    loop-holds
-    end-at-requires
-    returns
-    sub-segment-fits
-    segment-fits-requires
-    returns-2
-    add-i
-    loop-less
-    loop-again
-    returns-3)
+    Inv-loop μ-loop loop-holds end-at-requires returns (λ c. omega arith) segment-fits-requires returns-2 (λ c. omega arith)
+    (λ c. omega arith) loop-again returns-3)

@@ -23,15 +23,6 @@ returns-3 c left right =
     let a = c .before .before .before .args in
     test-late (a .n) (a .first) (a .last) (figureNamed (a .kind)) (a .threshold) left right (omega arith) (omega arith) (omega arith)
 
-add-threshold-fits : tie.Need-add-threshold-fits
-add-threshold-fits c = omega arith
-
-sub-threshold-fits : tie.Need-sub-threshold-fits
-sub-threshold-fits c = omega arith
-
-threshold-fits-requires : tie.Need-threshold-fits-requires
-threshold-fits-requires c κs = omega arith
-
 returns-4 : tie.Need-returns-4
 returns-4 c left right =
     let s = c .before .before .before .before in
@@ -44,10 +35,4 @@ pub test-fits-spec : {M : Type 1} → statement M
 test-fits-spec =
     tie.close
     (tie.spec
-    returns
-    returns-2
-    returns-3
-    add-threshold-fits
-    sub-threshold-fits
-    threshold-fits-requires
-    returns-4)
+    returns returns-2 returns-3 (λ c. omega arith) (λ c. omega arith) (λ c κs. omega arith) returns-4)

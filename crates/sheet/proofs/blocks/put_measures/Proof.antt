@@ -9,21 +9,6 @@ use borrow.Author.Needs.{needs}
 use Rattle.sheet.proofs.blocks.put_measures.Statement.{statement}
 use Rattle.sheet.proofs.blocks.put_measures.Tie as tie
 
-put-two-requires : tie.Need-put-two-requires
-put-two-requires c κs = omega arith
-
-put-two-requires-2 : tie.Need-put-two-requires-2
-put-two-requires-2 c κs = omega arith
-
-put-two-requires-3 : tie.Need-put-two-requires-3
-put-two-requires-3 c κs = omega arith
-
-put-two-requires-4 : tie.Need-put-two-requires-4
-put-two-requires-4 c κs = omega arith
-
-same-length : tie.Need-same-length
-same-length c = search needs
-
 returns : tie.Need-returns
 unfolding bytesOf
 returns c =
@@ -37,9 +22,4 @@ pub put-measures-spec : {M : Type 1} → statement M
 put-measures-spec =
     tie.close
     (tie.spec
-    put-two-requires
-    put-two-requires-2
-    put-two-requires-3
-    put-two-requires-4
-    same-length
-    returns)
+    (λ c κs. omega arith) (λ c κs. omega arith) (λ c κs. omega arith) (λ c κs. omega arith) (λ c. search needs) returns)

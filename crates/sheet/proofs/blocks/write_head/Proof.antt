@@ -6,7 +6,7 @@ use native.Mathlib.Omega.{arith}
 use lib.ListN.{take}
 use lib.Seq.{sets}
 use Rattle.dstree.specs.Measures.{measures}
-use Rattle.dstree.specs.Sheet.{kindOf, letters, headOf, sealed}
+use Rattle.dstree.specs.Sheet.{checkedSize, narrow, letters, headOf, sealed}
 use Rattle.sheet.specs.Codes.{measureBytes}
 use Rattle.dstree.proofs.SheetWritten.{head-length}
 use Rattle.sheet.proofs.Laid.{block-is, head-put}
@@ -14,43 +14,25 @@ use borrow.Author.Needs.{needs}
 use Rattle.sheet.proofs.blocks.write_head.Statement.{statement}
 use Rattle.sheet.proofs.blocks.write_head.Tie as tie
 
-begin-requires : tie.Need-begin-requires
-begin-requires c κs = search needs
-
-slice-aggregate-put-bytes : tie.Need-slice-aggregate-put-bytes
-slice-aggregate-put-bytes c = search needs
-
-put-bytes-requires : tie.Need-put-bytes-requires
-put-bytes-requires c κs = search needs
-
-put-measures-requires : tie.Need-put-measures-requires
-put-measures-requires c κs = search needs
-
-seal-requires : tie.Need-seal-requires
-seal-requires c κs = search needs
-
-same-length : tie.Need-same-length
-same-length c = search needs
-
 returns : tie.Need-returns
-unfolding kindOf letters
+unfolding letters
 returns c =
     let a = c .before .before .before .before .before .before .before .before .before .before .before .before .before .before .before .before .before .before .args in
     let m = measures (a .n) (a .capacity) (a .leaf-size) in
-    let lettered = c .before .before .before .before .before .before .before .before .before .before .put-bytes .ensures ∙ ap (λ (l : List ℕ). sets l 4 letters) (c .before .before .before .before .before .before .before .before .before .before .before .before .before .before .before .begin .ensures) in
-    let put = c .before .before .before .before .before .before .put-measures .ensures ∙ ap (λ (l : List ℕ). sets l 8 (measureBytes m (a .count))) lettered ∙ head-put m (a .count) _ in
+    let lettered =
+    c .before .before .before .before .before .before .before .before .before .before .put-bytes .ensures
+    ∙ ap (λ (l : List ℕ). sets l 4 letters)
+    (c .before .before .before .before .before .before .before .before .before .before .before .before .before .before .before .begin .ensures) in
+    let put =
+    c .before .before .before .before .before .before .put-measures .ensures
+    ∙ ap (λ (l : List ℕ). sets l 8 (measureBytes m (a .count))) lettered ∙ head-put m (a .count) _ in
     c .before .before .seal .ensures
-    ∙ ap (λ (l : List ℕ). sealed (take 510 l)) put
-    ∙ block-is 0 (headOf m (a .count)) (omega (arith, head-length m (a .count)))
+    ∙ ap (λ (l : List ℕ). sealed (take checkedSize l)) put
+    ∙ block-is (narrow .headKind) 0 (headOf m (a .count)) (omega (arith, head-length m (a .count)))
 
 pub write-head-spec : {M : Type 1} → statement M
 write-head-spec =
     tie.close
     (tie.spec
-    begin-requires
-    slice-aggregate-put-bytes
-    put-bytes-requires
-    put-measures-requires
-    seal-requires
-    same-length
-    returns)
+    (λ c κs. search needs) (λ c. search needs) (λ c κs. search needs) (λ c κs. search needs) (λ c κs. search needs)
+    (λ c. search needs) returns)

@@ -1,4 +1,5 @@
--- `sheet::samples::put_samples` meets its contract: after j turns the bytes of the first j samples are put. The measure is how many are left.
+-- `sheet::samples::put_samples` meets its contract: after j turns the bytes of the first j samples are put. The measure is how many are
+-- left.
 use mathlib.Core.Path.{_≡_, refl, ap, ap₂, _∙_}
 use mathlib.Core.List.{List, flatten}
 use Prim.Native.Nat.{ℕ, _+_, _*_, _-_, _≤_}
@@ -11,14 +12,14 @@ use mir.Syntax.{w16}
 use mir.Val.{SFits}
 use mir.ValLaws.{toZ-ofZ}
 use borrow.Author.Needs.{needs, sfits-of}
-use Rattle.dstree.specs.Sheet.{bytesOf, coded, narrow}
-use Rattle.sheet.specs.Codes.{codes}
+use Rattle.dstree.specs.Sheet.{bytesOf, narrow, coded, codedAll}
 use Rattle.sheet.proofs.Coded.{codes-put}
 use Rattle.sheet.proofs.samples.put_samples.Statement.{statement}
 use Rattle.sheet.proofs.samples.put_samples.Tie as tie
 
 abbrev Inv-loop : tie.InvT-loop
-Inv-loop bytes₀ place samples j₀ bytes j = (j ≤ length samples) × (bytes ≡ sets bytes₀ place (codes (take j samples))) × (length bytes ≡ length bytes₀)
+Inv-loop bytes₀ place samples j₀ bytes j =
+    (j ≤ length samples) × (bytes ≡ sets bytes₀ place (codedAll narrow (take j samples))) × (length bytes ≡ length bytes₀)
 
 abbrev μ-loop : tie.MeasureT-loop
 μ-loop bytes₀ place samples j₀ bytes j = length samples - j
@@ -27,29 +28,8 @@ loop-holds : tie.Need-loop-holds Inv-loop μ-loop
 unfolding flatten
 loop-holds c = (omega arith, refl, refl)
 
-mul-put-two : tie.Need-mul-put-two Inv-loop μ-loop
-mul-put-two c = omega arith
-
-add-put-two : tie.Need-add-put-two Inv-loop μ-loop
-add-put-two c = omega arith
-
-mul-code : tie.Need-mul-code Inv-loop μ-loop
-mul-code c = omega arith
-
-shared-slice-copy-out-code : tie.Need-shared-slice-copy-out-code Inv-loop μ-loop
-shared-slice-copy-out-code c = omega arith
-
 code-requires : tie.Need-code-requires Inv-loop μ-loop
 code-requires c κs = tt
-
-put-two-requires : tie.Need-put-two-requires Inv-loop μ-loop
-put-two-requires c κs = omega arith
-
-add-j : tie.Need-add-j Inv-loop μ-loop
-add-j c = omega arith
-
-loop-less : tie.Need-loop-less Inv-loop μ-loop
-loop-less c = omega arith
 
 loop-again : tie.Need-loop-again Inv-loop μ-loop
 loop-again c =
@@ -65,30 +45,15 @@ loop-again c =
       c .before .before .put-two .kept .0 ∙ l .inv .2,
     )
 
-same-length : tie.Need-same-length Inv-loop μ-loop
-same-length c = search needs
-
 returns : tie.Need-returns Inv-loop μ-loop
 returns c =
     let l = c .before .loop in
     let a = c .before .before .before .args in
-    l .inv .1 ∙ ap (λ (x : List ℤ). sets (now (a .bytes)) (a .place) (codes x)) (take-all (l .j) (now (a .samples)) (omega arith))
+    l .inv .1 ∙ ap (λ (x : List ℤ). sets (now (a .bytes)) (a .place) (codedAll narrow x)) (take-all (l .j) (now (a .samples)) (omega arith))
 
 pub put-samples-spec : {M : Type 1} → statement M
 put-samples-spec =
     tie.close
     (tie.spec
-    Inv-loop
-    μ-loop
-    loop-holds
-    mul-put-two
-    add-put-two
-    mul-code
-    shared-slice-copy-out-code
-    code-requires
-    put-two-requires
-    add-j
-    loop-less
-    loop-again
-    same-length
-    returns)
+    Inv-loop μ-loop loop-holds (λ c. omega arith) (λ c. omega arith) (λ c. omega arith) (λ c. omega arith) code-requires
+    (λ c κs. omega arith) (λ c. omega arith) (λ c. omega arith) loop-again (λ c. search needs) returns)

@@ -7,17 +7,9 @@ use lib.Dec.{eqb}
 use denote.Ref.{now}
 use borrow.Author.Needs.{needs}
 use borrow.Author.Tests.{eq-eqb, ne-eqb}
-use Rattle.dstree.specs.Sheet.{blockSize, part, numberIn, checkOf, isTorn}
+use Rattle.dstree.specs.Sheet.{checkedSize, part, numberIn, checkOf, isTorn}
 use Rattle.sheet_judging.proofs.blocks.is_torn.Statement.{statement}
 use Rattle.sheet_judging.proofs.blocks.is_torn.Tie as tie
-
-check-of-requires : tie.Need-check-of-requires
-unfolding blockSize
-check-of-requires c κs = omega arith
-
-two-bytes-requires : tie.Need-two-bytes-requires
-unfolding blockSize
-two-bytes-requires c κs = omega arith
 
 -- the test of the check, and of the number
 module _ (t : tie.After-two-bytes) where
@@ -27,7 +19,7 @@ module _ (t : tie.After-two-bytes) where
   check-is : t .before .check-of .result ≡ checkOf (now (start .args .block))
   check-is = t .before .check-of .ensures
 
-  stated-is : t .two-bytes .result ≡ numberIn (part 510 2 (now (start .args .block)))
+  stated-is : t .two-bytes .result ≡ numberIn (part checkedSize 2 (now (start .args .block)))
   stated-is = t .two-bytes .ensures .0
 
 returns : tie.Need-returns
@@ -36,11 +28,7 @@ returns c =
     let t = c .before in
     simp (ne-eqb _ _ (λ e. c .if1 .taken (stated-is t ∙ (e ∙ sym (check-is t)))))
 
-two-bytes-requires-2 : tie.Need-two-bytes-requires-2
-unfolding blockSize
-two-bytes-requires-2 c κs = omega arith
-
-whole-check : (c : tie.Else1) → eqb (numberIn (part 510 2 (now (start (c .before) .args .block)))) (checkOf (now (start (c .before) .args .block))) ≡ true
+whole-check : (c : tie.Else1) → let b = now (start (c .before) .args .block) in eqb (numberIn (part checkedSize 2 b)) (checkOf b) ≡ true
 whole-check c = eq-eqb _ _ (sym (stated-is (c .before)) ∙ (c .if1 .left ∙ check-is (c .before)))
 
 returns-2 : tie.Need-returns-2
@@ -49,33 +37,16 @@ returns-2 c =
     let e = c .before .before in
     simp (whole-check e, ne-eqb _ _ (λ p. c .if2 .taken (c .before .two-bytes2 .ensures .0 ∙ p)))
 
-shared-slice-read-wide : tie.Need-shared-slice-read-wide
-unfolding blockSize
-shared-slice-read-wide c = omega arith
-
-wide-requires : tie.Need-wide-requires
-wide-requires c κs = search needs
-
-kind-of-requires : tie.Need-kind-of-requires
-kind-of-requires c κs = search needs
-
 returns-3 : tie.Need-returns-3
 unfolding isTorn
 returns-3 c =
     let n = c .before .before .before in
     simp (whole-check (n .before .before), eq-eqb _ _ (sym (n .before .two-bytes2 .ensures .0) ∙ n .if2 .left))
-    (ap₂ (λ (a b : ℕ). not (eqb a b)) (c .before .wide .ensures) (c .kind-of .ensures))
+    (ap₂ (λ (a b : ℕ). not (eqb a b)) (c .before .wide .ensures .0) (c .kind-of .ensures))
 
 pub is-torn-spec : {M : Type 1} → statement M
 is-torn-spec =
     tie.close
     (tie.spec
-    check-of-requires
-    two-bytes-requires
-    returns
-    two-bytes-requires-2
-    returns-2
-    shared-slice-read-wide
-    wide-requires
-    kind-of-requires
-    returns-3)
+    (λ c κs. omega arith) (λ c κs. omega arith) returns (λ c κs. omega arith) returns-2 (λ c. omega arith) (λ c κs. search needs)
+    (λ c κs. search needs) returns-3)

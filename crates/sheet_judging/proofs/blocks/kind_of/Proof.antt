@@ -9,8 +9,8 @@ returns : tie.Need-returns
 unfolding kindOf
 returns c = rw (c .if1 .taken)
 
-other : (number : ℕ) → (number ≡ 0 → ⊥) → 2 ≡ kindOf number
-unfolding kindOf narrow
+other : (number : ℕ) → (number ≡ 0 → ⊥) → narrow .sampleKind ≡ kindOf narrow number
+unfolding kindOf
 other zero f = absurd (f refl)
 other (suc number) f = refl
 

@@ -12,11 +12,13 @@ use borrow.Author.Tests.{lt-ltb, le-ltb, eq-eqb, ne-eqb, not-true, not-false}
 use Rattle.integer.specs.Words.{same, roundedUp}
 use Rattle.dstree.specs.Measures.{Measures, measures, inRange}
 use Rattle.dstree.specs.Refusals.{firstOf}
-use Rattle.dstree.specs.Sheet.{blockSize, narrow, part, letters, blocksIn, measuresIn, countIn, sampleBlocksNeeded, areZero, zerosIn, badConditions}
+use Rattle.dstree.specs.Sheet.{narrow, part, letters, blocksIn, measuresIn, countIn, sampleBlocksNeeded, areZero, zerosIn}
+use Rattle.dstree.specs.Sheet.{badConditions}
 use Rattle.tables.specs.Answers.{wordOf, foundBy}
-use Rattle.tables.proofs.Range.{InRange, in-range, samples-fit}
-use Rattle.sheet_judging.specs.Blocks.{blockCount, blockAt, blocksFrom}
-use Rattle.sheet_judging.proofs.Places.{first-inside}
+use Rattle.tables.specs.Judge.{InRange}
+use Rattle.tables.proofs.Range.{in-range, samples-fit}
+use Rattle.sheet_judging.specs.Blocks.{blockCount, blockAt, laterBlocks}
+use Rattle.sheet_judging.proofs.Places.{blocks, first-inside}
 use Rattle.sheet_judging.proofs.Bad.{badBy, bad-are, bad-letters, bad-measures, bad-count, bad-blocks, bad-zeros, none-bad}
 use Rattle.sheet_judging.proofs.contents.judge_contents.Statement.{statement}
 use Rattle.sheet_judging.proofs.contents.judge_contents.Tie as tie
@@ -31,8 +33,9 @@ returns c =
     let s = t .before .before in
     let bytes = now (s .args .sheet) in
     let b = blockAt bytes 0 in
-    bad-letters (same (part 4 4 bytes) letters) (inRange (measuresIn b)) (ltb (measuresIn b .capacity) (countIn b)) (eqb (blockCount bytes - 1) (sampleBlocksNeeded (countIn b) (measuresIn b .n)))
-    (areZero (zerosIn (countIn b * measuresIn b .n) b (blocksFrom bytes 1)))
+    bad-letters (same (part 4 4 bytes) letters) (inRange (measuresIn b)) (ltb (measuresIn b .capacity) (countIn b))
+    (eqb (blockCount bytes - 1) (sampleBlocksNeeded narrow (countIn b) (measuresIn b .n)))
+    (areZero (zerosIn narrow (countIn b * measuresIn b .n) b (laterBlocks bytes 1)))
     (sym (t .letters-fit .ensures) ∙ not-true (t .letters-fit .result) (c .if1 .taken))
     ∙ ap firstOf (sym (bad-are bytes (s .pre) (measuresIn b) (countIn b) refl refl))
 
@@ -56,27 +59,25 @@ module _ (h : tie.After-head-of) where
   abbrev above : Bool
   above = ltb (m .capacity) count
 
-  abbrev blocks : Bool
-  blocks = eqb (blockCount bytes - 1) (sampleBlocksNeeded count (m .n))
+  abbrev enough : Bool
+  enough = eqb (blockCount bytes - 1) (sampleBlocksNeeded narrow count (m .n))
 
   abbrev zero : Bool
-  zero = areZero (zerosIn (count * m .n) (blockAt bytes 0) (blocksFrom bytes 1))
+  zero = areZero (zerosIn narrow (count * m .n) (blockAt bytes 0) (laterBlocks bytes 1))
 
-  tests : badConditions (blocksIn bytes) ≡ badBy (same (part 4 4 bytes) letters) (inRange m) above blocks zero
+  tests : badConditions narrow (blocksIn bytes) ≡ badBy (same (part 4 4 bytes) letters) (inRange m) above enough zero
   tests = bad-are bytes (start .pre) m count (h .head-of .ensures .measures-are) (h .head-of .ensures .count-is)
 
   lettered : same (part 4 4 bytes) letters ≡ true
   lettered = sym (h .before .before .letters-fit .ensures) ∙ not-false (h .before .before .letters-fit .result) (h .before .if1 .left)
-
-measures-fit-requires : tie.Need-measures-fit-requires
-measures-fit-requires c κs = search needs
 
 returns-2 : tie.Need-returns-2
 unfolding foundBy wordOf
 returns-2 c =
     let f = c .before in
     let h = f .before in
-    bad-measures (same (part 4 4 (bytes h)) letters) (inRange (m h)) (above h) (blocks h) (zero h) (lettered h) (sym (f .measures-fit .ensures) ∙ not-true (f .measures-fit .result) (c .if2 .taken)) ∙ ap firstOf (sym (tests h))
+    bad-measures (same (part 4 4 (bytes h)) letters) (inRange (m h)) (above h) (enough h) (zero h) (lettered h)
+    (sym (f .measures-fit .ensures) ∙ not-true (f .measures-fit .result) (c .if2 .taken)) ∙ ap firstOf (sym (tests h))
 
 -- measures in range
 module _ (e : tie.Else2) where
@@ -93,7 +94,8 @@ returns-3 : tie.Need-returns-3
 unfolding foundBy wordOf
 returns-3 c =
     let h = headOf (c .before) in
-    bad-count (same (part 4 4 (bytes h)) letters) (inRange (m h)) (above h) (blocks h) (zero h) (lettered h) (measured (c .before)) (lt-ltb (m h .capacity) (count h) (c .if3 .taken)) ∙ ap firstOf (sym (tests h))
+    bad-count (same (part 4 4 (bytes h)) letters) (inRange (m h)) (above h) (enough h) (zero h) (lettered h) (measured (c .before))
+    (lt-ltb (m h .capacity) (count h) (c .if3 .taken)) ∙ ap firstOf (sym (tests h))
 
 -- count within capacity
 module _ (e : tie.Else3) where
@@ -113,33 +115,33 @@ mul-samples : tie.Need-mul-samples
 mul-samples c = record { fits = samples-fit (count (head c)) (m (head c) .n) (few c) (range (c .before) .n-high) }
 
 sub-if4 : tie.Need-sub-if4
-unfolding blockSize
-sub-if4 c = let w = start (head c) .pre in omega (arith, w .some-block)
+sub-if4 c = omega (arith, blocks (bytes (head c)) (start (head c) .pre) .some-block)
 
 add-if4 : tie.Need-add-if4
 add-if4 c = omega (arith, samples-few c)
 
 returns-4 : tie.Need-returns-4
-unfolding foundBy wordOf sampleBlocksNeeded roundedUp narrow blockSize
+unfolding foundBy wordOf sampleBlocksNeeded roundedUp
 returns-4 c =
     let e = c .before in
     let h = head e in
-    bad-blocks (same (part 4 4 (bytes h)) letters) (inRange (m h)) (above h) (blocks h) (zero h) (lettered h) (measured (e .before)) (within e) (ne-eqb _ _ (c .if4 .taken)) ∙ ap firstOf (sym (tests h))
+    bad-blocks (same (part 4 4 (bytes h)) letters) (inRange (m h)) (above h) (enough h) (zero h) (lettered h) (measured (e .before))
+    (within e) (ne-eqb _ _ (c .if4 .taken)) ∙ ap firstOf (sym (tests h))
 
 -- as many blocks as are needed
 module _ (e : tie.Else4) where
   abbrev heads : tie.After-head-of
   heads = head (e .before)
 
-  blocked : eqb (blockCount (bytes heads) - 1) (sampleBlocksNeeded (count heads) (m heads .n)) ≡ true
-  unfolding sampleBlocksNeeded roundedUp narrow blockSize
+  blocked : eqb (blockCount (bytes heads) - 1) (sampleBlocksNeeded narrow (count heads) (m heads .n)) ≡ true
+  unfolding sampleBlocksNeeded roundedUp
   blocked = eq-eqb _ _ (e .if4 .left)
 
 all-zero-requires : tie.Need-all-zero-requires
-unfolding roundedUp narrow blockSize
+unfolding roundedUp
 all-zero-requires c κs =
-    let w = start (heads c) .pre in
-    (w, omega (arith, c .if4 .left, w .some-block))
+    let whole = start (heads c) .pre in
+    (whole, omega (arith, c .if4 .left, blocks (bytes (heads c)) whole .some-block))
 
 returns-5 : tie.Need-returns-5
 unfolding foundBy wordOf
@@ -147,7 +149,9 @@ returns-5 c =
     let z = c .before in
     let e = z .before in
     let h = heads e in
-    bad-zeros (same (part 4 4 (bytes h)) letters) (inRange (m h)) (above h) (blocks h) (zero h) (lettered h) (measured (e .before .before)) (within (e .before)) (blocked e) (sym (z .all-zero .ensures) ∙ not-true (z .all-zero .result) (c .if5 .taken)) ∙ ap firstOf (sym (tests h))
+    bad-zeros (same (part 4 4 (bytes h)) letters) (inRange (m h)) (above h) (enough h) (zero h) (lettered h) (measured (e .before .before))
+    (within (e .before)) (blocked e) (sym (z .all-zero .ensures) ∙ not-true (z .all-zero .result) (c .if5 .taken))
+    ∙ ap firstOf (sym (tests h))
 
 returns-6 : tie.Need-returns-6
 unfolding foundBy
@@ -155,22 +159,13 @@ returns-6 c =
     let z = c .before in
     let e = z .before in
     let h = heads e in
-    none-bad (same (part 4 4 (bytes h)) letters) (inRange (m h)) (above h) (blocks h) (zero h) (lettered h) (measured (e .before .before)) (within (e .before)) (blocked e) (sym (z .all-zero .ensures) ∙ not-false (z .all-zero .result) (c .if5 .left)) ∙ ap firstOf (sym (tests h))
+    none-bad (same (part 4 4 (bytes h)) letters) (inRange (m h)) (above h) (enough h) (zero h) (lettered h) (measured (e .before .before))
+    (within (e .before)) (blocked e) (sym (z .all-zero .ensures) ∙ not-false (z .all-zero .result) (c .if5 .left))
+    ∙ ap firstOf (sym (tests h))
 
 pub judge-contents-spec : {M : Type 1} → statement M
 judge-contents-spec =
     tie.close
     (tie.spec
-    letters-fit-requires
-    returns
-    head-of-requires
-    measures-fit-requires
-    returns-2
-    returns-3
-    mul-samples
-    sub-if4
-    add-if4
-    returns-4
-    all-zero-requires
-    returns-5
-    returns-6)
+    letters-fit-requires returns head-of-requires (λ c κs. search needs) returns-2 returns-3 mul-samples sub-if4 add-if4 returns-4
+    all-zero-requires returns-5 returns-6)

@@ -4,14 +4,8 @@ use Rattle.sheet_judging.proofs.Decoded.{low-is, moved-fits, moved-cast
 use Rattle.sheet_judging.proofs.traces.decode.Statement.{statement}
 use Rattle.sheet_judging.proofs.traces.decode.Tie as tie
 
-cast-result : tie.Need-cast-result
-cast-result c = search needs
-
 returns : tie.Need-returns
 returns c = λ bytes e. low-is (c .before .args .v) bytes e (c .if1 .taken)
-
-cast-result-2 : tie.Need-cast-result-2
-cast-result-2 c = search needs
 
 sub-result : tie.Need-sub-result
 sub-result c = moved-fits (c .before .args .v) (c .if1 .left) (c .before .pre)
@@ -23,4 +17,7 @@ returns-2 : tie.Need-returns-2
 returns-2 c = λ bytes e. high-is (c .before .args .v) (c .if1 .left) (c .before .pre) bytes e
 
 pub decode-spec : {M : Type 1} → statement M
-decode-spec = tie.close (tie.spec cast-result returns cast-result-2 sub-result cast-result-3 returns-2)
+decode-spec =
+    tie.close
+    (tie.spec
+    (λ c. search needs) returns (λ c. search needs) sub-result cast-result-3 returns-2)

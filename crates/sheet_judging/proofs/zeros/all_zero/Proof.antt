@@ -1,5 +1,5 @@
 -- `sheet_judging::zeros::all_zero` meets its contract: area by area.
-use mathlib.Core.Path.{_≡_, sym, ap, _∙_}
+use mathlib.Core.Path.{_≡_, sym, _∙_}
 use mathlib.Core.Bool.{true}
 use mathlib.Core.List.{List}
 use Prim.Native.Nat.{ℕ}
@@ -7,14 +7,11 @@ use native.Mathlib.Omega.{arith}
 use denote.Ref.{now}
 use borrow.Author.Needs.{needs}
 use borrow.Author.Tests.{not-true, not-false}
-use Rattle.dstree.specs.Sheet.{blockSize, part, areZero, blocksIn}
-use Rattle.sheet_judging.specs.Blocks.{thirdsIn}
+use Rattle.dstree.specs.Sheet.{areZero, thirdsIn, blocksIn}
+use Rattle.sheet_judging.proofs.Places.{first-inside}
 use Rattle.sheet_judging.proofs.AllZero.{zeros-apart}
 use Rattle.sheet_judging.proofs.zeros.all_zero.Statement.{statement}
 use Rattle.sheet_judging.proofs.zeros.all_zero.Tie as tie
-
-thirds-zero-requires : tie.Need-thirds-zero-requires
-thirds-zero-requires c κs = search needs
 
 -- the sheet, and byte 3 of its blocks
 module _ (t : tie.After-thirds-zero) where
@@ -27,30 +24,31 @@ module _ (t : tie.After-thirds-zero) where
 returns : tie.Need-returns
 returns c =
     let t = c .before in
-    sym (zeros-apart (bytes t) (start t .pre .0) (start t .args .samples) ∙ rw (sym (t .thirds-zero .ensures) ∙ not-true (t .thirds-zero .result) (c .if1 .taken)))
+    sym (zeros-apart (bytes t) (start t .pre .0) (start t .args .samples)
+    ∙ rw (sym (t .thirds-zero .ensures) ∙ not-true (t .thirds-zero .result) (c .if1 .taken)))
 
 thirds : (c : tie.Else1) → areZero (thirdsIn (blocksIn (bytes (c .before)))) ≡ true
 thirds c = sym (c .before .thirds-zero .ensures) ∙ not-false (c .before .thirds-zero .result) (c .if1 .left)
 
 zeros-requires : tie.Need-zeros-requires
-unfolding blockSize
-zeros-requires c κs = let w = start (c .before) .pre .0 in (omega arith, omega (arith, w .all-whole, w .some-block))
+zeros-requires c κs = (omega arith, omega (arith, first-inside (bytes (c .before)) (start (c .before) .pre .0)))
 
 returns-2 : tie.Need-returns-2
 returns-2 c =
     let z = c .before in
     let t = z .before .before in
-    sym (zeros-apart (bytes t) (start t .pre .0) (start t .args .samples) ∙ rw (thirds (z .before), sym (z .zeros .ensures) ∙ not-true (z .zeros .result) (c .if2 .taken)))
-
-left-zero-requires : tie.Need-left-zero-requires
-left-zero-requires c κs = search needs
+    sym (zeros-apart (bytes t) (start t .pre .0) (start t .args .samples)
+    ∙ rw (thirds (z .before), sym (z .zeros .ensures) ∙ not-true (z .zeros .result) (c .if2 .taken)))
 
 returns-3 : tie.Need-returns-3
 returns-3 c =
     let z = c .before .before in
     let t = z .before .before in
-    sym (zeros-apart (bytes t) (start t .pre .0) (start t .args .samples) ∙ rw (thirds (z .before), sym (z .zeros .ensures) ∙ not-false (z .zeros .result) (c .before .if2 .left)) (sym (c .left-zero .ensures)))
+    sym (zeros-apart (bytes t) (start t .pre .0) (start t .args .samples)
+    ∙ rw (thirds (z .before), sym (z .zeros .ensures) ∙ not-false (z .zeros .result) (c .before .if2 .left)) (sym (c .left-zero .ensures)))
 
 pub all-zero-spec : {M : Type 1} → statement M
 all-zero-spec =
-    tie.close (tie.spec thirds-zero-requires returns zeros-requires returns-2 left-zero-requires returns-3)
+    tie.close
+    (tie.spec
+    (λ c κs. search needs) returns zeros-requires returns-2 (λ c κs. search needs) returns-3)

@@ -1,4 +1,5 @@
--- `sheet_judging::zeros::zeros` meets its contract. The loop's invariant: the part from the place on is all zeros exactly if the whole part is.
+-- `sheet_judging::zeros::zeros` meets its contract. The loop's invariant: the part from the place on is all zeros exactly if the whole part
+-- is.
 use mathlib.Core.Path.{_≡_, refl, sym, _∙_}
 use Prim.Native.Nat.{_-_, _≤_}
 use native.Mathlib.Numerals.{add-one}
@@ -18,26 +19,22 @@ abbrev μ-loop : tie.MeasureT-loop
 loop-holds : tie.Need-loop-holds Inv-loop μ-loop
 loop-holds c = (c .pre .0, refl)
 
-shared-slice-read-if1 : tie.Need-shared-slice-read-if1 Inv-loop μ-loop
-shared-slice-read-if1 c = omega arith
-
 returns : tie.Need-returns Inv-loop μ-loop
 returns c =
     let t = c .before .before in
     let l = t .before in
-    sym (l .loop .inv .1 ∙ zero-here (now (l .before .args .bytes)) (l .loop .place) (l .before .args .to) (t .loop-test .taken) (l .before .pre .1) (c .if1 .taken))
-
-add-place : tie.Need-add-place Inv-loop μ-loop
-add-place c = omega arith
-
-loop-less : tie.Need-loop-less Inv-loop μ-loop
-loop-less c = omega arith
+    let a = l .before .args in
+    sym (l .loop .inv .1 ∙ zero-here (now (a .bytes)) (l .loop .place) (a .to) (t .loop-test .taken) (l .before .pre .1) (c .if1 .taken))
 
 loop-again : tie.Need-loop-again Inv-loop μ-loop
 loop-again c =
     let t = c .before .before in
     let l = t .before in
-    (omega arith, rw (add-one (l .loop .place)) (l .loop .inv .1 ∙ zero-later (now (l .before .args .bytes)) (l .loop .place) (l .before .args .to) (t .loop-test .taken) (l .before .pre .1) (c .if1 .left)))
+    let a = l .before .args in (
+      omega arith,
+      rw (add-one (l .loop .place)) (l .loop .inv .1
+          ∙ zero-later (now (a .bytes)) (l .loop .place) (a .to) (t .loop-test .taken) (l .before .pre .1) (c .if1 .left)),
+    )
 
 returns-2 : tie.Need-returns-2 Inv-loop μ-loop
 returns-2 c =
@@ -46,4 +43,6 @@ returns-2 c =
 
 pub zeros-spec : {M : Type 1} → statement M
 zeros-spec =
-    tie.close (tie.spec Inv-loop μ-loop loop-holds shared-slice-read-if1 returns add-place loop-less loop-again returns-2)
+    tie.close
+    (tie.spec
+    Inv-loop μ-loop loop-holds (λ c. omega arith) returns (λ c. omega arith) (λ c. omega arith) loop-again returns-2)

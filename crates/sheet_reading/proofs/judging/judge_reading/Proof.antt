@@ -6,7 +6,7 @@ use Prim.Native.Nat.{ℕ}
 use native.Mathlib.Omega.{arith}
 use denote.Ref.{now}
 use borrow.Author.Needs.{needs}
-use Rattle.dstree.specs.Measures.{Measures, measures}
+use Rattle.dstree.specs.Measures.{Measures}
 use Rattle.dstree.specs.Refusals.{firstOf}
 use Rattle.dstree.specs.Sheet.{sheetConditions}
 use Rattle.dstree.specs.Book.{Lent, shortConditions}
@@ -15,12 +15,9 @@ use Rattle.tables.specs.Judge.{lent}
 use Rattle.tables.specs.Answers.{foundBy}
 use Rattle.sheet_judging.proofs.Places.{first-inside}
 use Rattle.sheet_judging.proofs.Samples.{fine, range}
-use Rattle.sheet_reading.proofs.Told.{refused-first, short-only}
+use Rattle.sheet_reading.proofs.Ends.{refused-first, short-only}
 use Rattle.sheet_reading.proofs.judging.judge_reading.Statement.{statement}
 use Rattle.sheet_reading.proofs.judging.judge_reading.Tie as tie
-
-judge-sheet-requires : tie.Need-judge-sheet-requires
-judge-sheet-requires c κs = search needs
 
 -- what the sheet alone says
 module _ (j : tie.After-judge-sheet) where
@@ -35,9 +32,6 @@ module _ (j : tie.After-judge-sheet) where
 
   found : firstOf (sheetConditions bytes) ≡ foundBy (j .judge-sheet .result)
   found = sym (j .judge-sheet .ensures)
-
-enum-known-judged : tie.Need-enum-known-judged
-enum-known-judged c = search needs
 
 enum-told : tie.Need-enum-told
 enum-told c = search needs
@@ -80,10 +74,4 @@ pub judge-reading-spec : {M : Type 1} → statement M
 judge-reading-spec =
     tie.close
     (tie.spec
-    judge-sheet-requires
-    enum-known-judged
-    enum-told
-    head-of-requires
-    judge-short-requires
-    returns
-    returns-2)
+    (λ c κs. search needs) (λ c. search needs) enum-told head-of-requires judge-short-requires returns returns-2)

@@ -6,17 +6,11 @@ use Rattle.tables.specs.Answers.{wordOf, foundBy}
 use Rattle.sheet_reading.proofs.judging.judge_short.Statement.{statement}
 use Rattle.sheet_reading.proofs.judging.judge_short.Tie as tie
 
-control-short-requires : tie.Need-control-short-requires
-control-short-requires c κs = search needs
-
 returns : tie.Need-returns
 unfolding foundBy wordOf firstOf
 returns c = λ leafSize.
     let g = c .before .before .args in
     rw (sym (c .before .control-short .ensures (g .samples) (g .nodes) (g .links) (g .work)) ∙ c .if1 .taken)
-
-tables-short-requires : tie.Need-tables-short-requires
-tables-short-requires c κs = search needs
 
 returns-2 : tie.Need-returns-2
 unfolding foundBy wordOf firstOf
@@ -41,4 +35,7 @@ returns-3 c = λ leafSize.
     )
 
 pub judge-short-spec : {M : Type 1} → statement M
-judge-short-spec = tie.close (tie.spec control-short-requires returns tables-short-requires returns-2 returns-3)
+judge-short-spec =
+    tie.close
+    (tie.spec
+    (λ c κs. search needs) returns (λ c κs. search needs) returns-2 returns-3)

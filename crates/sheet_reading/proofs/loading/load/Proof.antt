@@ -1,4 +1,5 @@
--- `sheet_reading::loading::load` meets its contract. The loop's invariant: the tables are those that the first traces, added in order, leave.
+-- `sheet_reading::loading::load` meets its contract. The loop's invariant: the tables are those that the first traces, added in order,
+-- leave.
 use mathlib.Core.Path.{_≡_, refl, sym, ap, _∙_}
 use mathlib.Core.List.{List, [], foldl}
 use Prim.Native.Nat.{ℕ, _-_, _≤_, _<_}
@@ -18,7 +19,8 @@ use Rattle.sheet_reading.proofs.loading.load.Tie as tie
 abbrev Inv-loop : tie.InvT-loop
 Inv-loop control₀ samples₀ nodes₀ links₀ sheet n count number₀ control samples nodes links number =
     (number ≤ count)
-    × ((work : List ℕ) → tables control samples nodes links work ≡ foldl addedTo (tables control₀ samples₀ nodes₀ links₀ work) (take number (tracesOf sheet)))
+    × ((work : List ℕ) → tables control samples nodes links work
+    ≡ foldl addedTo (tables control₀ samples₀ nodes₀ links₀ work) (take number (tracesOf sheet)))
     × (length control ≡ length control₀)
     × (length samples ≡ length samples₀)
     × (length nodes ≡ length nodes₀)
@@ -64,14 +66,17 @@ put-one-requires c κs =
       sound = p .sound;
       size = p .size;
       inside = inside i;
-      takes = takes-next (bytes (at i)) (p .sound) (known (at i)) (lent (at i) []) (p .empty) (number i) (inside i) (l .control) (l .samples) (l .nodes) (l .links) (l .inv .1 []);
+      takes = takes-next (bytes (at i)) (p .sound) (known (at i)) (lent (at i) []) (p .empty) (number i) (inside i) (l .control)
+          (l .samples) (l .nodes) (l .links) (l .inv .1 []);
     }
 
 add-number : tie.Need-add-number Inv-loop μ-loop
-add-number c = let i = c .before .before .before .before .before .before .before .before .before .before .before in omega (arith, i .loop-test .taken, start (at i) .fits .count)
+add-number c =
+    let i = c .before .before .before .before .before .before .before .before .before .before .before in omega (arith, i .loop-test .taken, start (at i) .fits .count)
 
 loop-less : tie.Need-loop-less Inv-loop μ-loop
-loop-less c = let i = c .before .before .before .before .before .before .before .before .before .before .before in omega (arith, i .loop-test .taken)
+loop-less c =
+    let i = c .before .before .before .before .before .before .before .before .before .before .before in omega (arith, i .loop-test .taken)
 
 loop-again : tie.Need-loop-again Inv-loop μ-loop
 loop-again c =

@@ -27,22 +27,8 @@ put-requires : tie.Need-put-requires
 put-requires c κs =
     let r = c .before .before .before .before .before .before in
     let g = start r .args in
-    subst (λ (x : Trace). Takes (now (g .control)) (now (g .samples)) (now (g .nodes)) (now (g .links)) x) (sym (trace-is r)) (start r .pre .takes)
-
-same-length : tie.Need-same-length
-same-length c = search needs
-
-same-length-2 : tie.Need-same-length-2
-same-length-2 c = search needs
-
-same-length-3 : tie.Need-same-length-3
-same-length-3 c = search needs
-
-same-length-4 : tie.Need-same-length-4
-same-length-4 c = search needs
-
-same-length-5 : tie.Need-same-length-5
-same-length-5 c = search needs
+    subst (λ (x : Trace). Takes (now (g .control)) (now (g .samples)) (now (g .nodes)) (now (g .links)) x) (sym (trace-is r))
+    (start r .pre .takes)
 
 returns : tie.Need-returns
 returns c = λ work.
@@ -55,11 +41,5 @@ pub put-next-spec : {M : Type 1} → statement M
 put-next-spec =
     tie.close
     (tie.spec
-    read-trace-requires
-    put-requires
-    same-length
-    same-length-2
-    same-length-3
-    same-length-4
-    same-length-5
-    returns)
+    read-trace-requires put-requires (λ c. search needs) (λ c. search needs) (λ c. search needs) (λ c. search needs)
+    (λ c. search needs) returns)

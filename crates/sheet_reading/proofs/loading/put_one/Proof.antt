@@ -32,19 +32,8 @@ put-next-requires : tie.Need-put-next-requires
 put-next-requires c κs =
     let a = c .before in
     let g = start a .args in
-    subst (λ (k : ℕ). Next (now (g .control)) (now (g .samples)) (now (g .nodes)) (now (g .links)) (now (g .sheet)) k (g .number)) (length-is a) (start a .pre)
-
-same-length : tie.Need-same-length
-same-length c = search needs
-
-same-length-2 : tie.Need-same-length-2
-same-length-2 c = search needs
-
-same-length-3 : tie.Need-same-length-3
-same-length-3 c = search needs
-
-same-length-4 : tie.Need-same-length-4
-same-length-4 c = search needs
+    subst (λ (k : ℕ). Next (now (g .control)) (now (g .samples)) (now (g .nodes)) (now (g .links)) (now (g .sheet)) k (g .number))
+    (length-is a) (start a .pre)
 
 returns : tie.Need-returns
 returns c = c .before .before .before .before .before .before .before .put-next .ensures
@@ -53,11 +42,5 @@ pub put-one-spec : {M : Type 1} → statement M
 put-one-spec =
     tie.close
     (tie.spec
-    array-borrow-prefix-trace
-    slice-aggregate-put-next
-    put-next-requires
-    same-length
-    same-length-2
-    same-length-3
-    same-length-4
-    returns)
+    array-borrow-prefix-trace slice-aggregate-put-next put-next-requires (λ c. search needs) (λ c. search needs) (λ c. search needs)
+    (λ c. search needs) returns)

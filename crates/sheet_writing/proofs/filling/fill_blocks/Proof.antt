@@ -12,7 +12,8 @@ use Rattle.sheet_writing.proofs.filling.fill_blocks.Statement.{statemen
 use Rattle.sheet_writing.proofs.filling.fill_blocks.Tie as tie
 
 abbrev Inv-loop : tie.InvT-loop
-Inv-loop sheet₀ samples count total i₀ sheet i = (i ≤ count) × (sheet ≡ withSamples sheet₀ i (take total samples)) × (length sheet ≡ length sheet₀)
+Inv-loop sheet₀ samples count total i₀ sheet i =
+    (i ≤ count) × (sheet ≡ withSamples sheet₀ i (take total samples)) × (length sheet ≡ length sheet₀)
 
 abbrev μ-loop : tie.MeasureT-loop
 μ-loop sheet₀ samples count total i₀ sheet i = count - i
@@ -21,13 +22,7 @@ loop-holds : tie.Need-loop-holds Inv-loop μ-loop
 loop-holds c = let a = c .before .args in (omega arith, none-yet (take (a .total) (now (a .samples))) (now (a .sheet)), refl)
 
 fill-block-requires : tie.Need-fill-block-requires Inv-loop μ-loop
-fill-block-requires c κs = (omega arith, omega arith, omega arith, omega arith, omega arith)
-
-add-i : tie.Need-add-i Inv-loop μ-loop
-add-i c = omega arith
-
-loop-less : tie.Need-loop-less Inv-loop μ-loop
-loop-less c = omega arith
+fill-block-requires c κs = (omega arith, omega arith, omega arith, omega arith)
 
 loop-again : tie.Need-loop-again Inv-loop μ-loop
 loop-again c =
@@ -42,9 +37,6 @@ loop-again c =
       c .before .before .fill-block .kept .0 ∙ l .inv .2,
     )
 
-same-length : tie.Need-same-length Inv-loop μ-loop
-same-length c = search needs
-
 returns : tie.Need-returns Inv-loop μ-loop
 returns c =
     let l = c .before .loop in
@@ -56,12 +48,4 @@ pub fill-blocks-spec : {M : Type 1} → statement M
 fill-blocks-spec =
     tie.close
     (tie.spec
-    Inv-loop
-    μ-loop
-    loop-holds
-    fill-block-requires
-    add-i
-    loop-less
-    loop-again
-    same-length
-    returns)
+    Inv-loop μ-loop loop-holds fill-block-requires (λ c. omega arith) (λ c. omega arith) loop-again (λ c. search needs) returns)

@@ -2,14 +2,16 @@
 use mathlib.Core.Path.{_≡_, ap, ap₂, _∙_}
 use mathlib.Core.List.{List, []}
 use Prim.Native.Nat.{ℕ, _+_, _*_, _≤_}
+use native.Mathlib.Nat.{mul-le-mul}
 use native.Mathlib.Omega.{arith}
 use lib.ListN.{length, take}
 use denote.Ref.{now}
-use Rattle.dstree.specs.Sheet.{block, headOf, sampleBlocksNeeded, blocksNeeded}
+use Rattle.dstree.specs.Measures.{sampleLimit}
+use Rattle.dstree.specs.Sheet.{blockSize, narrow, block, headOf, sampleBlocksNeeded, blocksNeeded}
 use Rattle.tables.specs.Layout.{nPlace, traceCountPlace}
 use Rattle.tables.specs.Tables.{tables, field, measuresOf, traceCount}
 use Rattle.sheet_writing.specs.Filled.{withBlock, withSamples}
-use Rattle.sheet_writing.proofs.Needed.{most-samples, needed-tight}
+use Rattle.dstree.proofs.SheetFormat.{narrow-sound, needed-tight}
 use Rattle.sheet_writing.proofs.Stored.{filled-is}
 use borrow.Author.Needs.{needs}
 use Rattle.sheet_writing.proofs.filling.fill_sheet.Statement.{statement}
@@ -34,30 +36,15 @@ module _ (b : tie.After-sample-blocks) where
   total-is : b .before .wide2 .result * b .before .before .before .wide .result ≡ k * n
   total-is = ap₂ (λ (x y : ℕ). x * y) k-is n-is
 
-  count-is : b .sample-blocks .result ≡ sampleBlocksNeeded k n
-  count-is = b .sample-blocks .ensures .0 ∙ ap₂ sampleBlocksNeeded k-is n-is
+  count-is : b .sample-blocks .result ≡ sampleBlocksNeeded narrow k n
+  count-is = b .sample-blocks .ensures .0 ∙ ap₂ (sampleBlocksNeeded narrow) k-is n-is
 
   few : k * n ≤ 1048576
-  few = most-samples k n (start .pre .few) (start .pre .narrow)
+  few = mul-le-mul {n₁ = k} {m₁ = n} {n₂ = 4096} {m₂ = 256} (start .pre .count-few) (start .pre .n-few)
 
-  long : 512 * sampleBlocksNeeded k n + 512 ≤ length (now (start .args .sheet))
+  long : blockSize * sampleBlocksNeeded narrow k n + blockSize ≤ length (now (start .args .sheet))
   unfolding blocksNeeded
   long = omega (arith, start .pre .sheet-long)
-
-field-requires : tie.Need-field-requires
-field-requires c κs = search needs
-
-wide-requires : tie.Need-wide-requires
-wide-requires c κs = search needs
-
-field-requires-2 : tie.Need-field-requires-2
-field-requires-2 c κs = search needs
-
-wide-requires-2 : tie.Need-wide-requires-2
-wide-requires-2 c κs = search needs
-
-sample-blocks-requires : tie.Need-sample-blocks-requires
-sample-blocks-requires c κs = search needs
 
 fill-head-requires : tie.Need-fill-head-requires
 fill-head-requires c κs = omega (arith, long (c .before))
@@ -69,17 +56,10 @@ fill-blocks-requires : tie.Need-fill-blocks-requires
 fill-blocks-requires c κs =
     let b = c .before .before .before .before .before in (
       b .sample-blocks .ensures .1,
-      omega (arith, count-is b, total-is b, needed-tight (k b) (n b)),
-      omega (arith, total-is b, few b),
+      omega (arith, count-is b, total-is b, needed-tight narrow sampleLimit narrow-sound (k b) (n b)),
       omega (arith, total-is b, start b .pre .samples-long),
       omega (arith, count-is b, long b),
     )
-
-add-result : tie.Need-add-result
-add-result c = search needs
-
-same-length : tie.Need-same-length
-same-length c = search needs
 
 returns : tie.Need-returns
 unfolding blocksNeeded
@@ -89,10 +69,11 @@ returns c =
     let sheet = now (a .sheet) in
     let samples = now (a .samples) in
     let t = tables (now (a .control)) samples [] [] [] in
-    let headed = withBlock sheet 0 (block 0 (headOf (measuresOf t) (traceCount t))) in (
+    let headed = withBlock sheet 0 (block (narrow .headKind) 0 (headOf (measuresOf t) (traceCount t))) in (
       omega (arith, count-is b),
       c .before .before .fill-blocks .ensures
-          ∙ ap (λ (x : List ℕ). withSamples x (b .sample-blocks .result) (take (b .before .wide2 .result * b .before .before .before .wide .result) samples)) (c .before .before .before .before .before .before .fill-head .ensures)
+          ∙ ap (λ (x : List ℕ). withSamples x (b .sample-blocks .result) (take (b .before .wide2 .result * b .before .before .before .wide .result) samples))
+          (c .before .before .before .before .before .before .fill-head .ensures)
           ∙ ap₂ (λ (count total : ℕ). withSamples headed count (take total samples)) (count-is b) (total-is b)
           ∙ filled-is t sheet,
     )
@@ -101,14 +82,5 @@ pub fill-sheet-spec : {M : Type 1} → statement M
 fill-sheet-spec =
     tie.close
     (tie.spec
-    field-requires
-    wide-requires
-    field-requires-2
-    wide-requires-2
-    sample-blocks-requires
-    fill-head-requires
-    mul-fill-blocks
-    fill-blocks-requires
-    add-result
-    same-length
-    returns)
+    (λ c κs. search needs) (λ c κs. search needs) (λ c κs. search needs) (λ c κs. search needs) (λ c κs. search needs)
+    fill-head-requires mul-fill-blocks fill-blocks-requires (λ c. search needs) (λ c. search needs) returns)

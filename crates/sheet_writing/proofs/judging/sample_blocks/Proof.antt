@@ -1,22 +1,24 @@
 -- `sheet_writing::judging::sample_blocks` meets its contract: the code says the rounding as the definition does.
+use Prim.Native.Nat.{_*_, _≤_}
 use mathlib.Core.Path.{refl}
 use native.Mathlib.Omega.{arith}
+use native.Mathlib.Nat.{mul-le-mul}
 use Rattle.integer.specs.Words.{roundedUp}
+use Rattle.dstree.specs.Measures.{sampleLimit}
 use Rattle.dstree.specs.Sheet.{narrow, sampleBlocksNeeded}
-use Rattle.dstree.proofs.SheetWritten.{needed-most}
-use Rattle.sheet_writing.proofs.Needed.{most-samples}
+use Rattle.dstree.proofs.SheetFormat.{narrow-sound, needed-most}
 use Rattle.sheet_writing.proofs.judging.sample_blocks.Statement.{statement}
 use Rattle.sheet_writing.proofs.judging.sample_blocks.Tie as tie
 
-mul-result : tie.Need-mul-result
-mul-result c = omega (arith, most-samples (c .args .k) (c .args .n) (c .pre .0) (c .pre .1))
-
-add-result : tie.Need-add-result
-add-result c = omega (arith, most-samples (c .args .k) (c .args .n) (c .pre .0) (c .pre .1))
+few : (s : tie.Start) → s .args .k * s .args .n ≤ 1048576
+few s = mul-le-mul {n₁ = s .args .k} {m₁ = s .args .n} {n₂ = 4096} {m₂ = 256} (s .pre .0) (s .pre .1)
 
 returns : tie.Need-returns
-unfolding sampleBlocksNeeded roundedUp narrow
-returns c = (refl, needed-most (c .args .k) (c .args .n) (c .pre .0) (c .pre .1))
+unfolding sampleBlocksNeeded roundedUp
+returns c = (refl, needed-most narrow sampleLimit narrow-sound (c .args .k) (c .args .n) (c .pre .0) (c .pre .1))
 
 pub sample-blocks-spec : {M : Type 1} → statement M
-sample-blocks-spec = tie.close (tie.spec mul-result add-result returns)
+sample-blocks-spec =
+    tie.close
+    (tie.spec
+    (λ c. omega (arith, few c)) (λ c. omega (arith, few c)) returns)

@@ -5,7 +5,7 @@ use mathlib.Core.List.{_∷_}
 use Prim.Native.Nat.{_+_, _-_, _≤_}
 use native.Mathlib.Omega.{arith}
 use lib.ListN.{getD, take, drop}
-use Rattle.leaf_figures.specs.Walk.{storedIn, numbersOf}
+use Rattle.tables.specs.Walk.{storedIn, numbersOf}
 use Rattle.leaf_figures.specs.Ends.{endsOf}
 use Rattle.leaf_figures.proofs.Placed.{end-at, no-end}
 use Rattle.split_choice.proofs.Going.{Going, going-start, going-end, Turn, turn}
@@ -13,7 +13,8 @@ use Rattle.split_choice.proofs.choice.choose.Statement.{statement}
 use Rattle.split_choice.proofs.choice.choose.Tie as tie
 
 abbrev Inv-loop : tie.InvT-loop
-Inv-loop samples links n k head e whole at count found₀ first₀ i₀ found first i = (i ≤ count) × Going n (storedIn samples n k) (take count at) (numbersOf links k head) found first (drop i (take count at))
+Inv-loop samples links n k head e whole at count found₀ first₀ i₀ found first i = (i ≤ count)
+    × Going n (storedIn samples n k) (take count at) (numbersOf links k head) found first (drop i (take count at))
 
 abbrev μ-loop : tie.MeasureT-loop
 μ-loop samples links n k head e whole at count found₀ first₀ i₀ found first i = count - i
@@ -37,7 +38,8 @@ array-read-last c = omega (arith, c .before .before .before .before .before .pre
 going : (c : tie.In-loop Inv-loop μ-loop) →
     let a = c .before .before .before .before .before .args in
     let l = c .before .loop in
-    Going (a .n) (storedIn (a .samples .now) (a .n) (a .k)) (endsOf (a .e)) (numbersOf (a .links .now) (a .k) (a .head)) (l .found) (l .first) (getD (a .e .at) (l .i) 0 ∷ drop (l .i + 1) (endsOf (a .e)))
+    Going (a .n) (storedIn (a .samples .now) (a .n) (a .k)) (endsOf (a .e)) (numbersOf (a .links .now) (a .k) (a .head)) (l .found) (l .first)
+    (getD (a .e .at) (l .i) 0 ∷ drop (l .i + 1) (endsOf (a .e)))
 going c =
     let s = c .before .before .before .before .before in
     let a = s .args in
@@ -69,9 +71,6 @@ add-first c = omega (arith, turned (c .before) .inside .to-n, c .before .before 
 add-i : tie.Need-add-i Inv-loop μ-loop
 add-i c = omega (arith, c .before .before .before .before .before .before .pre .1 .few)
 
-loop-less : tie.Need-loop-less Inv-loop μ-loop
-loop-less c = omega arith
-
 loop-again : tie.Need-loop-again Inv-loop μ-loop
 loop-again c = (omega arith, turned (c .before) .on (c .before .before .loop .found) (c .try-segment .result) (going (c .before)) (c .try-segment .ensures .is) (c .try-segment .ensures .sound))
 
@@ -89,15 +88,5 @@ pub choose-spec : {M : Type 1} → statement M
 choose-spec =
     tie.close
     (tie.spec
-    Inv-loop
-    μ-loop
-    whole-spread-requires
-    loop-holds
-    mul-last
-    array-read-last
-    try-segment-requires
-    add-first
-    add-i
-    loop-less
-    loop-again
-    returns)
+    Inv-loop μ-loop whole-spread-requires loop-holds mul-last array-read-last try-segment-requires add-first add-i
+    (λ c. omega arith) loop-again returns)

@@ -4,7 +4,7 @@ use mathlib.Core.Bool.{true}
 use mathlib.Core.Option.{Option}
 use mathlib.Core.List.{[], _∷_}
 use Rattle.dstree.specs.Adding.{Split, byEither}
-use Rattle.leaf_figures.specs.Walk.{storedIn, numbersOf}
+use Rattle.tables.specs.Walk.{storedIn, numbersOf}
 use Rattle.leaf_figures.specs.Ends.{endsOf}
 use Rattle.split_choice.specs.Choosing.{candidateBy, tried}
 use Rattle.split_choice.proofs.choice.try_both.Statement.{statement}
@@ -25,7 +25,8 @@ returns c =
     let numbers = numbersOf (a .links .now) (a .k) (a .head) in
     record {
       is = c .try-one2 .ensures .is
-          ∙ ap (λ (o : Option Split). tried stored (endsOf (a .e)) numbers o (candidateBy (endsOf (a .e)) (record { first = a .first; last = a .last; «by_scatter» = true; cut = a .cut }) ∷ [])) (c .before .try-one .ensures .is);
+          ∙ ap (λ (o : Option Split). tried stored (endsOf (a .e)) numbers o
+          (candidateBy (endsOf (a .e)) (record { first = a .first; last = a .last; «by_scatter» = true; cut = a .cut }) ∷ [])) (c .before .try-one .ensures .is);
       sound = c .try-one2 .ensures .sound;
     }
 

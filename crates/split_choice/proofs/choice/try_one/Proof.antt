@@ -16,8 +16,8 @@ use Rattle.integer.proofs.Width.{of-mag, small, read}
 use Rattle.dstree.specs.Figures.{run}
 use Rattle.dstree.specs.Node.{figureOf}
 use Rattle.dstree.specs.Adding.{tracesOf, thresholdOf}
-use Rattle.leaf_figures.specs.Walk.{storedIn, numbersOf}
-use Rattle.leaf_figures.specs.Runs.{figureBy}
+use Rattle.tables.specs.Walk.{storedIn, numbersOf}
+use Rattle.tables.specs.Runs.{figureBy}
 use Rattle.leaf_figures.specs.Ends.{endsOf}
 use Rattle.leaf_figures.specs.declared.range.Range.{Range}
 use Rattle.split_choice.specs.Choosing.{chosenBy, choiceOf, betterOf, Sound}
@@ -60,9 +60,6 @@ add-threshold c = let r = c .before .before .before .before .before .leaf-range 
 gain-of-requires : tie.Need-gain-of-requires
 gain-of-requires c κs = let s = c .before .before .before .before .before .before .before in (s .pre .0, s .pre .1)
 
-better-requires : tie.Need-better-requires
-better-requires c κs = tt
-
 returns : tie.Need-returns
 unfolding thresholdOf
 returns c =
@@ -81,7 +78,8 @@ returns c =
     c .better .ensures ∙ ap (λ (z : ℤ). betterOf (a .old) (choiceOf (a .c) t z)) (toZ-ofZ (of-mag {w = w64} (g .result) (g .ok))) in
     record {
       is = ap (chosenBy stored (endsOf (a .e)) numbers) e ∙ one-chosen stored (endsOf (a .e)) numbers (a .n) (a .old) (s .pre .2) (a .c) t (g .result) above t-is (g .ensures) small-t (s .pre .1);
-      sound = subst (Sound (a .n) stored (endsOf (a .e)) numbers) (sym e) (one-sound stored (endsOf (a .e)) numbers (a .n) (a .old) (s .pre .2) (a .c) t (g .result) above t-is (g .ensures) small-t (s .pre .1));
+      sound = subst (Sound (a .n) stored (endsOf (a .e)) numbers) (sym e)
+          (one-sound stored (endsOf (a .e)) numbers (a .n) (a .old) (s .pre .2) (a .c) t (g .result) above t-is (g .ensures) small-t (s .pre .1));
     }
 
 returns-2 : tie.Need-returns-2
@@ -94,6 +92,4 @@ returns-2 c =
     record { is = one-whole (storedIn (a .samples .now) (a .n) (a .k)) (endsOf (a .e)) (numbersOf (a .links .now) (a .k) (a .head)) (a .n) (a .old) (s .pre .2) (a .c) below; sound = s .pre .2 }
 
 pub try-one-spec : {M : Type 1} → statement M
-try-one-spec =
-    tie.close
-    (tie.spec leaf-range-requires add-threshold gain-of-requires better-requires returns returns-2)
+try-one-spec = tie.close (tie.spec leaf-range-requires add-threshold gain-of-requires (λ c κs. tt) returns returns-2)

@@ -9,7 +9,7 @@ use lib.Seq.{length-take-le}
 use borrow.Author.Tests.{ne-eqb}
 use Rattle.dstree.specs.Figures.{run}
 use Rattle.dstree.specs.Adding.{Candidate, Split, byEither, halves}
-use Rattle.leaf_figures.specs.Walk.{storedIn, numbersOf}
+use Rattle.tables.specs.Walk.{storedIn, numbersOf}
 use Rattle.leaf_figures.specs.Ends.{endsOf, Rise}
 use Rattle.split_choice.specs.Choosing.{chosenBy, childEnds, tryOne, tried}
 use Rattle.split_choice.proofs.Tried.{fold-append}
@@ -30,10 +30,12 @@ before s = let a = s .args in chosenBy (storedIn (a .samples .now) (a .n) (a .k)
 
 -- with no halves the whole segment is all
 whole-only : (s : tie.Start) → let a = s .args in halves (endsOf (a .e)) (run (a .first) (a .last)) ≡ []
-    → after s (before s) (byEither (run (a .first) (a .last)) (endsOf (a .e))) ≡ after s (before s) (byEither (run (a .first) (a .last)) (endsOf (a .e)) ++ halves (endsOf (a .e)) (run (a .first) (a .last)))
+    → after s (before s) (byEither (run (a .first) (a .last)) (endsOf (a .e)))
+    ≡ after s (before s) (byEither (run (a .first) (a .last)) (endsOf (a .e)) ++ halves (endsOf (a .e)) (run (a .first) (a .last)))
 whole-only s e =
     let a = s .args in
-    sym (fold-append (tryOne (storedIn (a .samples .now) (a .n) (a .k)) (endsOf (a .e)) (numbersOf (a .links .now) (a .k) (a .head))) (before s) (byEither (run (a .first) (a .last)) (endsOf (a .e))) (halves (endsOf (a .e)) (run (a .first) (a .last)))
+    sym (fold-append (tryOne (storedIn (a .samples .now) (a .n) (a .k)) (endsOf (a .e)) (numbersOf (a .links .now) (a .k) (a .head))) (before s)
+    (byEither (run (a .first) (a .last)) (endsOf (a .e))) (halves (endsOf (a .e)) (run (a .first) (a .last)))
     ∙ ap (λ (h : List Candidate). after s (after s (before s) (byEither (run (a .first) (a .last)) (endsOf (a .e)))) h) e)
 
 -- the halves' ends
@@ -52,15 +54,18 @@ try-both-requires c κs =
 returns : tie.Need-returns
 returns c =
     let s = c .before .before .before in
-    record { is = c .before .try-both .ensures .is ∙ whole-only s (no-room (endsOf (s .args .e)) (s .args .first) (s .args .last) (omega (arith, count-is s, c .if1 .taken))); sound = c .before .try-both .ensures .sound }
+    record {
+      is = c .before .try-both .ensures .is ∙ whole-only s (no-room (endsOf (s .args .e)) (s .args .first) (s .args .last) (omega (arith, count-is s, c .if1 .taken)));
+      sound = c .before .try-both .ensures .sound;
+    }
 
 returns-2 : tie.Need-returns-2
 returns-2 c =
     let s = c .before .before .before .before in
-    record { is = c .before .before .try-both .ensures .is ∙ whole-only s (no-width (endsOf (s .args .e)) (s .args .first) (s .args .last) (c .if2 .taken)); sound = c .before .before .try-both .ensures .sound }
-
-sub-mid : tie.Need-sub-mid
-sub-mid c = omega arith
+    record {
+      is = c .before .before .try-both .ensures .is ∙ whole-only s (no-width (endsOf (s .args .e)) (s .args .first) (s .args .last) (c .if2 .taken));
+      sound = c .before .before .try-both .ensures .sound;
+    }
 
 add-mid : tie.Need-add-mid
 add-mid c = omega (arith, c .before .before .before .before .pre .1 .to-n, c .before .before .before .before .pre .0 .stored .narrow)
@@ -113,13 +118,15 @@ returns-3 c =
     let lefts = byEither (run (a .first) m) (childEnds m all) in
     let rights = byEither (run (m + 1) (a .last)) (childEnds m all) in
     let one = tryOne (storedIn (a .samples .now) (a .n) (a .k)) all (numbersOf (a .links .now) (a .k) (a .head)) in
-    let e : halves all (run (a .first) (a .last)) ≡ lefts ++ rights = both-halves all (a .first) (a .last) (s .pre .1 .from-1) (c .before .before .if2 .left) (omega (arith, count-is s, c .before .before .before .if1 .left)) in
+    let e : halves all (run (a .first) (a .last)) ≡ lefts ++ rights = both-halves all (a .first) (a .last) (s .pre .1 .from-1) (c .before .before .if2 .left)
+    (omega (arith, count-is s, c .before .before .before .if1 .left)) in
     let split : after s (before s) (wholes ++ halves all (run (a .first) (a .last))) ≡ after s (after s (after s (before s) wholes) lefts) rights =
     fold-append one (before s) wholes (halves all (run (a .first) (a .last)))
     ∙ (ap (λ (h : List Candidate). after s (after s (before s) wholes) h) e ∙ fold-append one (after s (before s) wholes) lefts rights) in
     record {
       is = c .try-both3 .ensures .is
-          ∙ (ap (λ (o : Option Split). after s o rights) (c .before .try-both2 .ensures .is ∙ ap (λ (o : Option Split). after s o lefts) (c .before .before .before .before .try-both .ensures .is)) ∙ sym split);
+          ∙ (ap (λ (o : Option Split). after s o rights) (c .before .try-both2 .ensures .is
+          ∙ ap (λ (o : Option Split). after s o lefts) (c .before .before .before .before .try-both .ensures .is)) ∙ sym split);
       sound = c .try-both3 .ensures .sound;
     }
 
@@ -127,14 +134,5 @@ pub try-segment-spec : {M : Type 1} → statement M
 try-segment-spec =
     tie.close
     (tie.spec
-    try-both-requires
-    returns
-    returns-2
-    sub-mid
-    add-mid
-    add-mid-2
-    sub-mid-2
-    add-next
-    try-both-requires-2
-    try-both-requires-3
-    returns-3)
+    try-both-requires returns returns-2 (λ c. omega arith) add-mid add-mid-2 sub-mid-2 add-next try-both-requires-2
+    try-both-requires-3 returns-3)

@@ -19,18 +19,6 @@ back m h = toZ-ofZ (small {w = w64} {z = pos m} (omega arith))
 fits : (m n : ℕ) → m ≤ 2 ^ 62 → n ≤ 2 ^ 62 → SFits w64 (pos m -ℤ pos n)
 fits m n h k = small {w = w64} (omega (arith, natAbs-diff (pos m) (pos n)))
 
-mul-result : tie.Need-mul-result
-mul-result c = search needs
-
-cast-result : tie.Need-cast-result
-cast-result c = search needs
-
-add-result : tie.Need-add-result
-add-result c = search needs
-
-cast-result-2 : tie.Need-cast-result-2
-cast-result-2 c = search needs
-
 sub-result : tie.Need-sub-result
 sub-result c =
     let a = c .args in
@@ -42,4 +30,7 @@ returns c =
     rw (back (2 * a .whole) (omega arith), back (a .left + a .right) (omega arith)) (toZ-ofZ (fits (2 * a .whole) (a .left + a .right) (omega arith) (omega arith)))
 
 pub gain-spec : {M : Type 1} → statement M
-gain-spec = tie.close (tie.spec mul-result cast-result add-result cast-result-2 sub-result returns)
+gain-spec =
+    tie.close
+    (tie.spec
+    (λ c. search needs) (λ c. search needs) (λ c. search needs) (λ c. search needs) sub-result returns)

@@ -15,11 +15,12 @@ use Rattle.integer.proofs.Width.{of-mag}
 use Rattle.integer.proofs.Lists.{In}
 use Rattle.dstree.specs.Node.{goesLeft}
 use Rattle.dstree.specs.Adding.{gain, tracesOf, spread}
-use Rattle.leaf_figures.specs.Walk.{storedIn, numbersOf}
+use Rattle.tables.specs.Walk.{storedIn, numbersOf}
 use Rattle.leaf_figures.specs.Sides.{marked}
 use Rattle.leaf_figures.specs.Ends.{endsOf, Rise}
-use Rattle.leaf_figures.proofs.Listed.{numbers-below}
-use Rattle.split_choice.specs.Marking.{testBy, marksBy}
+use Rattle.tables.proofs.Listed.{numbers-below}
+use Rattle.tables.specs.Runs.{testBy}
+use Rattle.split_choice.specs.Marking.{marksBy}
 use Rattle.split_choice.specs.Choosing.{childEnds}
 use Rattle.split_choice.proofs.Marked.{left-side, right-side}
 use Rattle.split_choice.proofs.gains.gain_of.Statement.{statement}
@@ -40,7 +41,8 @@ marks-are : (c : tie.After-mark-sides) → marks c ≡ marksBy (left (c .before 
 marks-are c =
     let s = c .before .before .before in
     let a = s .args in
-    subst (λ (z : ℤ). marks c ≡ marksBy (λ (t : ℕ). goesLeft (testBy (a .c .first) (a .c .last) (a .c .«by_scatter») z) (getD (storedIn (a .samples .now) (a .n) (a .k)) t [])) (replicate 4096 0) (numbers s)) (toZ-ofZ (s .fits .threshold)) (c .mark-sides .ensures .0)
+    subst (λ (z : ℤ). marks c ≡ marksBy (λ (t : ℕ). goesLeft (testBy (a .c .first) (a .c .last) (a .c .«by_scatter») z) (getD (storedIn (a .samples .now) (a .n) (a .k)) t []))
+    (replicate 4096 0) (numbers s)) (toZ-ofZ (s .fits .threshold)) (c .mark-sides .ensures .0)
 
 room : (s : tie.Start) (u : ℕ) → In u (numbers s) → u < length (replicate {A = ℕ} 4096 0)
 room s u i =

@@ -11,9 +11,10 @@ use mir.Val.{toZ}
 use mir.Facts.{toZ-ofZ}
 use Rattle.integer.proofs.Width.{read}
 use Rattle.dstree.specs.Node.{goesLeft}
-use Rattle.leaf_figures.specs.Walk.{storedIn, numbersOf}
-use Rattle.leaf_figures.proofs.Listed.{metFrom, met-start, behind-rises, fold-more, fold-end, stored-at, run-in}
-use Rattle.split_choice.specs.Marking.{testBy, codeOf, marksBy}
+use Rattle.tables.specs.Walk.{storedIn, numbersOf}
+use Rattle.tables.proofs.Listed.{metFrom, met-start, behind-rises, fold-more, fold-end, stored-at, run-in}
+use Rattle.tables.specs.Runs.{testBy}
+use Rattle.split_choice.specs.Marking.{codeOf, marksBy}
 use Rattle.split_choice.proofs.marking.mark_sides.Statement.{statement}
 use Rattle.split_choice.proofs.marking.mark_sides.Tie as tie
 
@@ -27,7 +28,8 @@ step samples n k first last by-scatter threshold m t = set m t (codeOf (left sam
 abbrev Inv-loop : tie.InvT-loop
 Inv-loop samples links n k head first last by-scatter threshold marks₀ t₀ marks t =
     (t ≤ k)
-    × (marksBy (left samples n k first last by-scatter (toZ w64 threshold)) marks (metFrom links k t) ≡ marksBy (left samples n k first last by-scatter (toZ w64 threshold)) marks₀ (numbersOf links k head))
+    × (marksBy (left samples n k first last by-scatter (toZ w64 threshold)) marks (metFrom links k t)
+    ≡ marksBy (left samples n k first last by-scatter (toZ w64 threshold)) marks₀ (numbersOf links k head))
     × (length marks ≡ 4096)
 
 abbrev μ-loop : tie.MeasureT-loop
@@ -36,8 +38,12 @@ abbrev μ-loop : tie.MeasureT-loop
 loop-holds : tie.Need-loop-holds Inv-loop μ-loop
 loop-holds c =
     let s = c .before in
-    let a = s .args in
-    (omega (arith, s .pre .0 .inside), ap (marksBy (left (a .samples .now) (a .n) (a .k) (a .first) (a .last) (a .by-scatter) (read w64 (a .threshold))) (a .marks .now)) (met-start (a .links .now) (a .k) (a .head) (s .pre .0 .inside)), s .pre .2)
+    let a = s .args in (
+      omega (arith, s .pre .0 .inside),
+      ap (marksBy (left (a .samples .now) (a .n) (a .k) (a .first) (a .last) (a .by-scatter) (read w64 (a .threshold))) (a .marks .now))
+          (met-start (a .links .now) (a .k) (a .head) (s .pre .0 .inside)),
+      s .pre .2,
+    )
 
 side-of-requires : tie.Need-side-of-requires Inv-loop μ-loop
 side-of-requires c κs = run-in (c .before .before .before .pre .0) (c .before .before .before .pre .1) (c .before .loop .t) (c .loop-test .taken)
@@ -63,7 +69,8 @@ loop-again c =
     let e : set (l .marks) (l .t) (c .before .side-of .result) ≡ put (l .marks) (l .t) =
     ap (set (l .marks) (l .t)) (rw (stored-at (a .samples .now) (a .n) (a .k) (l .t) h) (c .before .side-of .ensures)) in (
       omega (arith, c .behind .ensures, behind-rises (a .links .now) (a .k) (s .pre .0 .rising) (l .t) h),
-      ap₂ (λ (m : List ℕ) (u : ℕ). foldl put m (metFrom (a .links .now) (a .k) u)) e (c .behind .ensures) ∙ (sym (fold-more put (a .links .now) (a .k) (s .pre .0 .rising) (l .marks) (l .t) h) ∙ l .inv .1),
+      ap₂ (λ (m : List ℕ) (u : ℕ). foldl put m (metFrom (a .links .now) (a .k) u)) e (c .behind .ensures)
+          ∙ (sym (fold-more put (a .links .now) (a .k) (s .pre .0 .rising) (l .marks) (l .t) h) ∙ l .inv .1),
       length-set (l .marks) (l .t) (c .before .side-of .result) ∙ l .inv .2,
     )
 
@@ -75,7 +82,8 @@ returns c =
     let put = step (a .samples .now) (a .n) (a .k) (a .first) (a .last) (a .by-scatter) (read w64 (a .threshold)) in
     let all : l .marks ≡ marksBy (left (a .samples .now) (a .n) (a .k) (a .first) (a .last) (a .by-scatter) (read w64 (a .threshold))) (a .marks .now) (numbersOf (a .links .now) (a .k) (a .head)) =
     sym (fold-end put (a .links .now) (a .k) (l .marks) (l .t) (c .loop-test .left)) ∙ l .inv .1 in (
-      subst (λ (z : ℤ). l .marks ≡ marksBy (left (a .samples .now) (a .n) (a .k) (a .first) (a .last) (a .by-scatter) z) (a .marks .now) (numbersOf (a .links .now) (a .k) (a .head))) (toZ-ofZ (s .fits .threshold)) all,
+      subst (λ (z : ℤ). l .marks ≡ marksBy (left (a .samples .now) (a .n) (a .k) (a .first) (a .last) (a .by-scatter) z) (a .marks .now) (numbersOf (a .links .now) (a .k) (a .head)))
+          (toZ-ofZ (s .fits .threshold)) all,
       l .inv .2,
     )
 

@@ -17,7 +17,7 @@ use Rattle.dstree.specs.Figures.{run}
 use Rattle.dstree.specs.Node.{Segment}
 use Rattle.dstree.specs.Adding.{segmentOf, segmentsFrom, tracesOf}
 use Rattle.tables.specs.Layout.{recordPlaces}
-use Rattle.leaf_figures.specs.Walk.{storedIn, numbersOf}
+use Rattle.tables.specs.Walk.{storedIn, numbersOf}
 use Rattle.leaf_figures.specs.Sides.{marked, Small}
 use Rattle.leaf_figures.specs.Ends.{Rise}
 use Rattle.leaf_figures.specs.declared.sides.Figures.{Figures}
@@ -89,7 +89,8 @@ module _ (c : tie.After-loop Inv-loop μ-loop) where
   written = segmentsFrom 1 ends (side (start .args .samples .now) (start .args .links .now) (start .args .n) (start .args .k) (start .args .head) (start .args .marks .now) (start .args .mark))
 
   written-length : length written ≡ start .args .e .count
-  written-length = segments-length 1 ends (side (start .args .samples .now) (start .args .links .now) (start .args .n) (start .args .k) (start .args .head) (start .args .marks .now) (start .args .mark)) ∙ length-take-le (start .args .e .count) (start .args .e .at) (omega (arith, start .pre .3 .places, start .pre .3 .few))
+  written-length = segments-length 1 ends (side (start .args .samples .now) (start .args .links .now) (start .args .n) (start .args .k) (start .args .head)
+      (start .args .marks .now) (start .args .mark)) ∙ length-take-le (start .args .e .count) (start .args .e .at) (omega (arith, start .pre .3 .places, start .pre .3 .few))
 
   all : take (c .before .loop .i) written ≡ written
   all = take-all (c .before .loop .i) written (omega (arith, written-length, c .loop-test .left))
@@ -123,12 +124,6 @@ write-segment-requires c κs =
 add-first : tie.Need-add-first Inv-loop μ-loop
 add-first c = let k = c .before .before .before .before .before .before in omega (arith, next k .to-n, k .before .before .before .before .pre .1 .narrow)
 
-add-i : tie.Need-add-i Inv-loop μ-loop
-add-i c = omega arith
-
-loop-less : tie.Need-loop-less Inv-loop μ-loop
-loop-less c = omega arith
-
 loop-again : tie.Need-loop-again Inv-loop μ-loop
 loop-again c =
     let a = c .before .before .before .before .before in
@@ -140,9 +135,12 @@ loop-again c =
     let m = a .side-figures .ensures .1 in
     let r = now (g .«record») in
     let new : Segment = segmentOf (traces k) (run (l .first) end) in
-    let p = passed-more (segments k) (l .i) new (segmentsFrom (end + 1) (drop (l .i + 1) (take (g .e .count) (g .e .at))) (traces k)) (sym (l .inv .3) ∙ segment-next (g .e .at) (g .e .count) (room k) (l .i) (k .loop-test .taken) (l .first) (traces k)) in
-    let after : c .before .write-segment .last .0 ≡ withSegment (l .«record») (l .i) (segmentBy end (read w64 (f .«least_sum»)) (read w64 (f .«greatest_sum»)) (f .«least_scatter») (f .«greatest_scatter»)) = c .before .write-segment .ensures in
-    let same : segmentBy end (read w64 (f .«least_sum»)) (read w64 (f .«greatest_sum»)) (f .«least_scatter») (f .«greatest_scatter») ≡ new = rw (least-back f m, greatest-back f m) (a .side-figures .ensures .0) in
+    let p = passed-more (segments k) (l .i) new (segmentsFrom (end + 1) (drop (l .i + 1) (take (g .e .count) (g .e .at))) (traces k))
+    (sym (l .inv .3) ∙ segment-next (g .e .at) (g .e .count) (room k) (l .i) (k .loop-test .taken) (l .first) (traces k)) in
+    let after : c .before .write-segment .last .0 ≡ withSegment (l .«record») (l .i)
+    (segmentBy end (read w64 (f .«least_sum»)) (read w64 (f .«greatest_sum»)) (f .«least_scatter») (f .«greatest_scatter»)) = c .before .write-segment .ensures in
+    let same : segmentBy end (read w64 (f .«least_sum»)) (read w64 (f .«greatest_sum»)) (f .«least_scatter») (f .«greatest_scatter»)
+    ≡ new = rw (least-back f m, greatest-back f m) (a .side-figures .ensures .0) in
     let more : withSegment (l .«record») (l .i) new ≡ withSegments r (take (l .i + 1) (segments k)) =
     ap₂ (λ (w : List ℤ) (j : ℕ). withSegment w j new) (l .inv .4) (sym (done-is k))
     ∙ (with-more r (s k .pre .0) (take (l .i) (segments k)) new (omega (arith, done-is k, k .loop-test .taken, s k .pre .3 .few))
@@ -153,7 +151,8 @@ same-length : tie.Need-same-length Inv-loop μ-loop
 same-length c =
     let s = c .before .before .before .before in
     let l = c .before .loop in
-    ap length (l .inv .4 ∙ ap (withSegments (now (s .args .«record»))) (all c)) ∙ (with-length (now (s .args .«record»)) (s .pre .0) (written c) (omega (arith, written-length c, s .pre .3 .few)) ∙ sym (s .pre .0))
+    ap length (l .inv .4 ∙ ap (withSegments (now (s .args .«record»))) (all c))
+    ∙ (with-length (now (s .args .«record»)) (s .pre .0) (written c) (omega (arith, written-length c, s .pre .3 .few)) ∙ sym (s .pre .0))
 
 returns : tie.Need-returns Inv-loop μ-loop
 returns c = let s = c .before .before .before .before in c .before .loop .inv .4 ∙ ap (withSegments (now (s .args .«record»))) (all c)
@@ -162,16 +161,5 @@ pub write-segments-spec : {M : Type 1} → statement M
 write-segments-spec =
     tie.close
     (tie.spec
-    Inv-loop
-    μ-loop
-    loop-holds
-    mul-end
-    array-read-end
-    side-figures-requires
-    write-segment-requires
-    add-first
-    add-i
-    loop-less
-    loop-again
-    same-length
-    returns)
+    Inv-loop μ-loop loop-holds mul-end array-read-end side-figures-requires write-segment-requires add-first
+    (λ c. omega arith) (λ c. omega arith) loop-again same-length returns)

@@ -5,9 +5,9 @@ use Prim.Native.Nat.{ℕ, _-_, _≤_, _<_}
 use native.Mathlib.Omega.{arith}
 use lib.ListN.{getD}
 use borrow.Author.Tests.{eq-eqb, ne-eqb}
-use Rattle.leaf_figures.specs.Walk.{numbersOf}
+use Rattle.tables.specs.Walk.{numbersOf}
 use Rattle.leaf_figures.specs.Sides.{marked}
-use Rattle.leaf_figures.proofs.Listed.{metFrom, met-start, behind-rises}
+use Rattle.tables.proofs.Listed.{metFrom, met-start, behind-rises}
 use Rattle.splitting.proofs.Walks.{side-more, side-end}
 use Rattle.splitting.proofs.lists.first_on_side.Statement.{statement}
 use Rattle.splitting.proofs.lists.first_on_side.Tie as tie
@@ -30,9 +30,6 @@ loop-holds c =
     let s = c .before in
     (omega arith, ap (λ (l : List ℕ). getD (marked (s .args .marks .now) (s .args .mark) l) 0 (s .args .k)) (met-start (s .args .links .now) (s .args .k) (s .args .head) (s .pre .0)))
 
-element-copy-out-if1 : tie.Need-element-copy-out-if1 Inv-loop μ-loop
-element-copy-out-if1 c = omega arith
-
 returns : tie.Need-returns Inv-loop μ-loop
 returns c =
     let k = c .before .before in
@@ -42,12 +39,6 @@ returns c =
     let more = side-more (s .args .links .now) (s .args .k) (s .pre .3) (s .args .marks .now) (s .args .mark) (l .t) (k .loop-test .taken) in
     (sym (ap (λ (m : List ℕ). getD m 0 (s .args .k)) (rw b at more)) ∙ l .inv .1, omega arith)
 
-behind-requires : tie.Need-behind-requires Inv-loop μ-loop
-behind-requires c κs = omega arith
-
-loop-less : tie.Need-loop-less Inv-loop μ-loop
-loop-less c = let h = further c in omega arith
-
 loop-again : tie.Need-loop-again Inv-loop μ-loop
 loop-again c =
     let k = c .before .before .before in
@@ -55,8 +46,11 @@ loop-again c =
     let l = k .before .loop in
     let h = further c in
     let b = ne-eqb (getD (s .args .marks .now) (l .t) 0) (s .args .mark) (c .before .if1 .left) in
-    let more = side-more (s .args .links .now) (s .args .k) (s .pre .3) (s .args .marks .now) (s .args .mark) (l .t) (k .loop-test .taken) in
-    (omega arith, ap (λ (u : ℕ). getD (marked (s .args .marks .now) (s .args .mark) (metFrom (s .args .links .now) (s .args .k) u)) 0 (s .args .k)) (c .behind .ensures) ∙ (sym (ap (λ (m : List ℕ). getD m 0 (s .args .k)) (rw b at more)) ∙ l .inv .1))
+    let more = side-more (s .args .links .now) (s .args .k) (s .pre .3) (s .args .marks .now) (s .args .mark) (l .t) (k .loop-test .taken) in (
+      omega arith,
+      ap (λ (u : ℕ). getD (marked (s .args .marks .now) (s .args .mark) (metFrom (s .args .links .now) (s .args .k) u)) 0 (s .args .k)) (c .behind .ensures)
+          ∙ (sym (ap (λ (m : List ℕ). getD m 0 (s .args .k)) (rw b at more)) ∙ l .inv .1),
+    )
 
 returns-2 : tie.Need-returns-2 Inv-loop μ-loop
 returns-2 c =
@@ -68,12 +62,5 @@ pub first-on-side-spec : {M : Type 1} → statement M
 first-on-side-spec =
     tie.close
     (tie.spec
-    Inv-loop
-    μ-loop
-    loop-holds
-    element-copy-out-if1
-    returns
-    behind-requires
-    loop-less
-    loop-again
-    returns-2)
+    Inv-loop μ-loop loop-holds (λ c. omega arith) returns (λ c κs. omega arith) (λ c. let h = further c in omega arith)
+    loop-again returns-2)

@@ -33,42 +33,6 @@ inside-last c =
     let h : s .args .count - 1 < s .args .count = omega (arith, s .pre .0) in
     omega (arith, c .wide2 .ensures, s .pre .3 (s .args .count - 1) h, k .loop .inv .1)
 
-sub-last : tie.Need-sub-last Inv-loop μ-loop
-sub-last c = omega arith
-
-loop-holds : tie.Need-loop-holds Inv-loop μ-loop
-loop-holds c = (omega arith, refl, refl)
-
-mul-wide : tie.Need-mul-wide Inv-loop μ-loop
-mul-wide c = omega arith
-
-element-copy-out-wide : tie.Need-element-copy-out-wide Inv-loop μ-loop
-element-copy-out-wide c = omega arith
-
-wide-requires : tie.Need-wide-requires Inv-loop μ-loop
-wide-requires c κs = search needs
-
-add-links : tie.Need-add-links Inv-loop μ-loop
-add-links c = omega arith
-
-mul-links : tie.Need-mul-links Inv-loop μ-loop
-mul-links c = omega arith
-
-element-copy-out-links : tie.Need-element-copy-out-links Inv-loop μ-loop
-element-copy-out-links c = omega arith
-
-mul-links-2 : tie.Need-mul-links-2 Inv-loop μ-loop
-mul-links-2 c = let h = inside (c .before) in omega arith
-
-slice-write-links : tie.Need-slice-write-links Inv-loop μ-loop
-slice-write-links c = let h = inside (c .before) in omega arith
-
-add-i : tie.Need-add-i Inv-loop μ-loop
-add-i c = omega arith
-
-loop-less : tie.Need-loop-less Inv-loop μ-loop
-loop-less c = omega arith
-
 loop-again : tie.Need-loop-again Inv-loop μ-loop
 loop-again c =
     let k = c .before .before .before .before in
@@ -78,27 +42,14 @@ loop-again c =
     let order = take (a .count) (a .order .now) in
     let long : length order ≡ a .count = length-take-le (a .count) (a .order .now) (omega (arith, s .pre .2)) in
     let here : c .before .wide .result ≡ getD order (l .i) 0 = c .before .wide .ensures ∙ sym (getD-take (a .count) (a .order .now) (l .i) 0 (omega arith)) in
-    let next : getD (a .order .now) (l .i + 1) 0 ≡ getD order (suc (l .i)) 0 = ap (λ (j : ℕ). getD (a .order .now) j 0) (add-one (l .i)) ∙ sym (getD-take (a .count) (a .order .now) (suc (l .i)) 0 (omega arith)) in (
+    let next : getD (a .order .now) (l .i + 1) 0 ≡ getD order (suc (l .i)) 0 = ap (λ (j : ℕ). getD (a .order .now) j 0) (add-one (l .i))
+    ∙ sym (getD-take (a .count) (a .order .now) (suc (l .i)) 0 (omega arith)) in (
       omega arith,
       length-set (l .links) (c .before .wide .result) (getD (a .order .now) (l .i + 1) 0) ∙ l .inv .1,
       ap₂ (λ (x y : ℕ). linked (drop (l .i + 1) order) (set (l .links) x y)) here next
-          ∙ (ap (λ (j : ℕ). linked (drop j order) (set (l .links) (getD order (l .i) 0) (getD order (suc (l .i)) 0))) (add-one (l .i)) ∙ (sym (lay-more order (l .links) (l .i) (omega (arith, long))) ∙ l .inv .2)),
+          ∙ (ap (λ (j : ℕ). linked (drop j order) (set (l .links) (getD order (l .i) 0) (getD order (suc (l .i)) 0))) (add-one (l .i))
+          ∙ (sym (lay-more order (l .links) (l .i) (omega (arith, long))) ∙ l .inv .2)),
     )
-
-mul-wide-2 : tie.Need-mul-wide-2 Inv-loop μ-loop
-mul-wide-2 c = omega arith
-
-element-copy-out-wide-2 : tie.Need-element-copy-out-wide-2 Inv-loop μ-loop
-element-copy-out-wide-2 c = omega arith
-
-wide-requires-2 : tie.Need-wide-requires-2 Inv-loop μ-loop
-wide-requires-2 c κs = search needs
-
-mul-links-3 : tie.Need-mul-links-3 Inv-loop μ-loop
-mul-links-3 c = let h = inside-last c in omega arith
-
-slice-write-links-2 : tie.Need-slice-write-links-2 Inv-loop μ-loop
-slice-write-links-2 c = let h = inside-last c in omega arith
 
 same-length : tie.Need-same-length Inv-loop μ-loop
 same-length c = length-set (c .before .before .before .loop .links) (c .wide2 .result) 0 ∙ c .before .before .before .loop .inv .1
@@ -119,25 +70,8 @@ pub lay-spec : {M : Type 1} → statement M
 lay-spec =
     tie.close
     (tie.spec
-    Inv-loop
-    μ-loop
-    sub-last
-    loop-holds
-    mul-wide
-    element-copy-out-wide
-    wide-requires
-    add-links
-    mul-links
-    element-copy-out-links
-    mul-links-2
-    slice-write-links
-    add-i
-    loop-less
-    loop-again
-    mul-wide-2
-    element-copy-out-wide-2
-    wide-requires-2
-    mul-links-3
-    slice-write-links-2
-    same-length
-    returns)
+    Inv-loop μ-loop (λ c. omega arith) (λ c. (omega arith, refl, refl)) (λ c. omega arith) (λ c. omega arith)
+    (λ c κs. search needs) (λ c. omega arith) (λ c. omega arith) (λ c. omega arith)
+    (λ c. let h = inside (c .before) in omega arith) (λ c. let h = inside (c .before) in omega arith) (λ c. omega arith)
+    (λ c. omega arith) loop-again (λ c. omega arith) (λ c. omega arith) (λ c κs. search needs)
+    (λ c. let h = inside-last c in omega arith) (λ c. let h = inside-last c in omega arith) same-length returns)

@@ -5,8 +5,8 @@ use Prim.Native.Nat.{ℕ, suc, _+_, _-_, _≤_, _<_}
 use native.Mathlib.Omega.{arith}
 use lib.ListN.{length}
 use lib.Dec.{ltb}
-use Rattle.leaf_figures.specs.Walk.{numbersOf, behindOf}
-use Rattle.leaf_figures.proofs.Listed.{metFrom, met-start, met-end, met-more, behind-rises}
+use Rattle.tables.specs.Walk.{numbersOf, behindOf}
+use Rattle.tables.proofs.Listed.{metFrom, met-start, met-end, met-more, behind-rises}
 use Rattle.splitting.proofs.lists.leaf_longer.Statement.{statement}
 use Rattle.splitting.proofs.lists.leaf_longer.Tie as tie
 
@@ -19,14 +19,9 @@ abbrev μ-loop : tie.MeasureT-loop
 loop-holds : tie.Need-loop-holds Inv-loop μ-loop
 loop-holds c =
     let s = c .before in
-    let start : length (metFrom (s .args .links .now) (s .args .k) (s .args .head)) ≡ length (numbersOf (s .args .links .now) (s .args .k) (s .args .head)) = ap length (met-start (s .args .links .now) (s .args .k) (s .args .head) (s .pre .0)) in
+    let start : length (metFrom (s .args .links .now) (s .args .k) (s .args .head)) ≡ length (numbersOf (s .args .links .now) (s .args .k) (s .args .head)) =
+    ap length (met-start (s .args .links .now) (s .args .k) (s .args .head) (s .pre .0)) in
     (omega arith, omega arith, omega (arith, start))
-
-add-seen : tie.Need-add-seen Inv-loop μ-loop
-add-seen c = omega arith
-
-behind-requires : tie.Need-behind-requires Inv-loop μ-loop
-behind-requires c κs = omega arith
 
 -- how far the walk goes on
 further : (c : tie.After-behind Inv-loop μ-loop) → (c .before .before .loop .t < c .behind .result) × (c .behind .result ≤ c .before .before .before .before .args .k)
@@ -34,9 +29,6 @@ further c =
     let s = c .before .before .before .before in
     let h = behind-rises (s .args .links .now) (s .args .k) (s .pre .2) (c .before .before .loop .t) (c .before .loop-test .taken) in
     (omega (arith, h, c .behind .ensures), omega (arith, h, c .behind .ensures))
-
-loop-less : tie.Need-loop-less Inv-loop μ-loop
-loop-less c = let h = further c in omega arith
 
 loop-again : tie.Need-loop-again Inv-loop μ-loop
 loop-again c =
@@ -60,4 +52,6 @@ returns c =
 pub leaf-longer-spec : {M : Type 1} → statement M
 leaf-longer-spec =
     tie.close
-    (tie.spec Inv-loop μ-loop loop-holds add-seen behind-requires loop-less loop-again returns)
+    (tie.spec
+    Inv-loop μ-loop loop-holds (λ c. omega arith) (λ c κs. omega arith) (λ c. let h = further c in omega arith)
+    loop-again returns)

@@ -3,20 +3,21 @@
 use mathlib.Core.Path.{_≡_, sym, ap, ap₂, _∙_}
 use mathlib.Core.Bool.{Bool}
 use mathlib.Core.List.{List, _++_, append-nil}
-use Prim.Native.Nat.{ℕ, suc, _+_, _-_, _≤_, _<_}
+use Prim.Native.Nat.{ℕ, suc, _-_, _≤_, _<_}
 use native.Mathlib.Omega.{arith}
 use lib.ListN.{length, getD, set, take, length-set}
 use lib.Dec.{eqb}
 use Rattle.integer.specs.Words.{if_then_else_}
-use Rattle.leaf_figures.specs.Walk.{numbersOf, behindOf}
+use Rattle.tables.specs.Walk.{numbersOf, behindOf}
 use Rattle.leaf_figures.specs.Sides.{marked}
-use Rattle.leaf_figures.proofs.Listed.{metFrom, met-start, behind-rises}
+use Rattle.tables.proofs.Listed.{metFrom, met-start, behind-rises}
 use Rattle.splitting.proofs.Walks.{side-more, side-end, listed-more, counted-most, withMarked}
 use Rattle.splitting.proofs.lists.list_side.Statement.{statement}
 use Rattle.splitting.proofs.lists.list_side.Tie as tie
 
 abbrev Inv-loop : tie.InvT-loop
-Inv-loop links k head marks mark order₀ count₀ t₀ order count t = (t ≤ k) × (count ≤ t) × (length order ≡ 4096) × (take count order ++ marked marks mark (metFrom links k t) ≡ marked marks mark (numbersOf links k head))
+Inv-loop links k head marks mark order₀ count₀ t₀ order count t = (t ≤ k) × (count ≤ t) × (length order ≡ 4096)
+    × (take count order ++ marked marks mark (metFrom links k t) ≡ marked marks mark (numbersOf links k head))
 
 abbrev μ-loop : tie.MeasureT-loop
 μ-loop links k head marks mark order₀ count₀ t₀ order count t = k - t
@@ -33,27 +34,6 @@ loop-holds c =
     let s = c .before in
     (omega arith, omega arith, s .pre .5, ap (marked (s .args .marks .now) (s .args .mark)) (met-start (s .args .links .now) (s .args .k) (s .args .head) (s .pre .0)))
 
-cast-order : tie.Need-cast-order Inv-loop μ-loop
-cast-order c = omega arith
-
-mul-order : tie.Need-mul-order Inv-loop μ-loop
-mul-order c = omega arith
-
-element-write-order : tie.Need-element-write-order Inv-loop μ-loop
-element-write-order c = omega arith
-
-element-copy-out-counted : tie.Need-element-copy-out-counted Inv-loop μ-loop
-element-copy-out-counted c = omega arith
-
-counted-requires : tie.Need-counted-requires Inv-loop μ-loop
-counted-requires c κs = omega arith
-
-behind-requires : tie.Need-behind-requires Inv-loop μ-loop
-behind-requires c κs = omega arith
-
-loop-less : tie.Need-loop-less Inv-loop μ-loop
-loop-less c = let h = further c in omega arith
-
 loop-again : tie.Need-loop-again Inv-loop μ-loop
 loop-again c =
     let s = c .before .before .before .before .before .before in
@@ -63,7 +43,8 @@ loop-again c =
     let b : Bool = eqb (getD (a .marks .now) (l .t) 0) (a .mark) in
     let e : c .before .counted .result ≡ (if b then suc (l .count) else l .count) = c .before .counted .ensures in
     let after = marked (a .marks .now) (a .mark) (metFrom (a .links .now) (a .k) (behindOf (a .links .now) (a .k) (l .t))) in
-    let more : marked (a .marks .now) (a .mark) (metFrom (a .links .now) (a .k) (l .t)) ≡ withMarked b (l .t) after = side-more (a .links .now) (a .k) (s .pre .3) (a .marks .now) (a .mark) (l .t) (c .before .before .before .loop-test .taken) in (
+    let more : marked (a .marks .now) (a .mark) (metFrom (a .links .now) (a .k) (l .t)) ≡ withMarked b (l .t) after =
+    side-more (a .links .now) (a .k) (s .pre .3) (a .marks .now) (a .mark) (l .t) (c .before .before .before .loop-test .taken) in (
       omega arith,
       omega (arith, e, counted-most b (l .count)),
       length-set (l .order) (l .count) (l .t) ∙ l .inv .2,
@@ -82,15 +63,5 @@ pub list-side-spec : {M : Type 1} → statement M
 list-side-spec =
     tie.close
     (tie.spec
-    Inv-loop
-    μ-loop
-    loop-holds
-    cast-order
-    mul-order
-    element-write-order
-    element-copy-out-counted
-    counted-requires
-    behind-requires
-    loop-less
-    loop-again
-    returns)
+    Inv-loop μ-loop loop-holds (λ c. omega arith) (λ c. omega arith) (λ c. omega arith) (λ c. omega arith)
+    (λ c κs. omega arith) (λ c κs. omega arith) (λ c. let h = further c in omega arith) loop-again returns)

@@ -6,7 +6,7 @@ use native.Mathlib.Omega.{arith}
 use lib.ListN.{length, take}
 use denote.Ref.{now}
 use borrow.Author.Needs.{needs}
-use Rattle.leaf_figures.specs.Walk.{numbersOf}
+use Rattle.tables.specs.Walk.{numbersOf}
 use Rattle.leaf_figures.specs.Sides.{marked}
 use Rattle.insertion_memory.specs.Links.{linked}
 use Rattle.splitting.proofs.Walks.{side-length, side-inside, marked-below, laid-length}
@@ -54,12 +54,6 @@ module _ (a : tie.After-list-side2) where
   right-room : rights ≤ length rightOrder
   right-room = omega (arith, a .list-side2 .ensures .1 .0, a .list-side2 .ensures .1 .1)
 
-list-side-requires : tie.Need-list-side-requires
-list-side-requires c κs = search needs
-
-list-side-requires-2 : tie.Need-list-side-requires-2
-list-side-requires-2 c κs = search needs
-
 lay-requires : tie.Need-lay-requires
 lay-requires c κs =
     let a = c .before .before in
@@ -67,7 +61,12 @@ lay-requires c κs =
       omega (arith, side-length (leftOrder a) (left a) (lefts a) (left-is a) (left-room a), p .5),
       omega (arith, a .before .before .before .list-side .ensures .1 .0),
       a .before .before .before .list-side .ensures .1 .1,
-      λ i h. omega (arith, side-inside (leftOrder a) (left a) (lefts a) (left-is a) (left-room a) (s a .args .k) (λ t j. marked-below (links a) (s a .args .k) (p .3) (s a .args .head) (p .0) (now (s a .args .marks)) 1 t j) i h, p .2),
+      λ i h. omega (
+        arith,
+        side-inside (leftOrder a) (left a) (lefts a) (left-is a) (left-room a) (s a .args .k)
+            (λ t j. marked-below (links a) (s a .args .k) (p .3) (s a .args .head) (p .0) (now (s a .args .marks)) 1 t j) i h,
+        p .2,
+      ),
     )
 
 lay-requires-2 : tie.Need-lay-requires-2
@@ -79,11 +78,14 @@ lay-requires-2 c κs =
       omega (arith, side-length (rightOrder a) (right a) (rights a) (right-is a) (right-room a), p .6),
       omega (arith, a .list-side2 .ensures .1 .0),
       a .list-side2 .ensures .1 .1,
-      λ i h. omega (arith, side-inside (rightOrder a) (right a) (rights a) (right-is a) (right-room a) (s a .args .k) (λ t j. marked-below (links a) (s a .args .k) (p .3) (s a .args .head) (p .0) (now (s a .args .marks)) 2 t j) i h, p .2, e),
+      λ i h. omega (
+        arith,
+        side-inside (rightOrder a) (right a) (rights a) (right-is a) (right-room a) (s a .args .k)
+            (λ t j. marked-below (links a) (s a .args .k) (p .3) (s a .args .head) (p .0) (now (s a .args .marks)) 2 t j) i h,
+        p .2,
+        e,
+      ),
     )
-
-same-length : tie.Need-same-length
-same-length c = search needs
 
 returns : tie.Need-returns
 returns c =
@@ -97,9 +99,4 @@ pub relink-spec : {M : Type 1} → statement M
 relink-spec =
     tie.close
     (tie.spec
-    list-side-requires
-    list-side-requires-2
-    lay-requires
-    lay-requires-2
-    same-length
-    returns)
+    (λ c κs. search needs) (λ c κs. search needs) lay-requires lay-requires-2 (λ c. search needs) returns)

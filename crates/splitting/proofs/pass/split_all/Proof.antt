@@ -5,10 +5,10 @@ use Prim.Native.Nat.{ℕ, _*_}
 use lib.ListN.{length}
 use denote.Ref.{now}
 use borrow.Author.Needs.{needs}
-use Rattle.leaf_figures.specs.Walk.{storedIn}
+use Rattle.tables.specs.Walk.{storedIn}
 use Rattle.insertion_memory.specs.Memory.{Held, held, splitAt, splitOn, splitAllOf}
 use Rattle.splitting.specs.Standing.{Standing}
-use Rattle.splitting.proofs.Tried.{stored-count}
+use Rattle.tables.proofs.Listed.{stored-size}
 use Rattle.splitting.proofs.Kept.{tries, stands-on}
 use Rattle.splitting.proofs.pass.split_all.Statement.{statement}
 use Rattle.splitting.proofs.pass.split_all.Tie as tie
@@ -18,7 +18,9 @@ module _ (a : tie.After-split-at) where
   abbrev start : tie.Start
   start = a .before .before .before .before
 
-  tried : held (a .split-at .last .0) (a .split-at .last .1 .0) (a .split-at .result) ≡ splitAt (start .args .leaf-size) (storedIn (now (start .args .samples)) (start .args .n) (start .args .k)) (held (now (start .args .nodes)) (now (start .args .links)) (start .args .count)) (start .args .at)
+  tried : held (a .split-at .last .0) (a .split-at .last .1 .0) (a .split-at .result)
+      ≡ splitAt (start .args .leaf-size) (storedIn (now (start .args .samples)) (start .args .n) (start .args .k))
+      (held (now (start .args .nodes)) (now (start .args .links)) (start .args .count)) (start .args .at)
   tried = a .split-at .ensures
 
   after : Standing (a .split-at .last .0) (a .split-at .last .1 .0) (now (start .args .samples)) (start .args .n) (start .args .k) (a .split-at .result)
@@ -27,15 +29,6 @@ module _ (a : tie.After-split-at) where
 split-at-requires : tie.Need-split-at-requires
 split-at-requires c κs = let s = c .before .before .before in tries (s .pre .0) (s .args .at) (s .pre .1)
 
-split-pass-requires : tie.Need-split-pass-requires
-split-pass-requires c κs = after (c .before .before .before .before .before)
-
-same-length : tie.Need-same-length
-same-length c = search needs
-
-same-length-2 : tie.Need-same-length-2
-same-length-2 c = search needs
-
 returns : tie.Need-returns
 unfolding splitAllOf
 returns c =
@@ -43,10 +36,13 @@ returns c =
     let a = b .before .before .before .before .before .before in
     let g = start a .args in
     let t = storedIn (now (g .samples)) (g .n) (g .k) in
-    let size : g .k ≡ length t = sym (stored-count (now (g .samples)) (g .n) (g .k)) in
+    let size : g .k ≡ length t = sym (stored-size (now (g .samples)) (g .n) (g .k)) in
     b .split-pass .ensures
     ∙ ap₂ (λ (f : ℕ) (h : Held). splitOn (2 * f) (g .leaf-size) t h (g .count)) size (tried a)
 
 pub split-all-spec : {M : Type 1} → statement M
 split-all-spec =
-    tie.close (tie.spec split-at-requires split-pass-requires same-length same-length-2 returns)
+    tie.close
+    (tie.spec
+    split-at-requires (λ c κs. after (c .before .before .before .before .before)) (λ c. search needs)
+    (λ c. search needs) returns)

@@ -6,7 +6,7 @@ use native.Mathlib.Omega.{arith}
 use native.Mathlib.Numerals.{add-one}
 use lib.ListN.{length}
 use denote.Ref.{now}
-use Rattle.leaf_figures.specs.Walk.{storedIn}
+use Rattle.tables.specs.Walk.{storedIn}
 use Rattle.insertion_memory.specs.Memory.{Held, held, splitAt, splitOn}
 use Rattle.insertion_memory.proofs.Splitting.{pass-over, pass-turn}
 use Rattle.splitting.specs.Standing.{Standing}
@@ -60,12 +60,6 @@ loop-again c =
       links-stay (l .inv .1) (l .at) (i .loop-test .taken) (g .leaf-size) (a .split-at .last .0) (a .split-at .last .1 .0) (a .split-at .result) e ∙ l .inv .4,
     )
 
-same-length : tie.Need-same-length Inv-loop μ-loop
-same-length c = c .before .loop .inv .3
-
-same-length-2 : tie.Need-same-length-2 Inv-loop μ-loop
-same-length-2 c = c .before .loop .inv .4
-
 returns : tie.Need-returns Inv-loop μ-loop
 returns c =
     let l = c .before .loop in
@@ -76,13 +70,5 @@ pub split-pass-spec : {M : Type 1} → statement M
 split-pass-spec =
     tie.close
     (tie.spec
-    Inv-loop
-    μ-loop
-    loop-holds
-    split-at-requires
-    add-at
-    loop-less
-    loop-again
-    same-length
-    same-length-2
-    returns)
+    Inv-loop μ-loop loop-holds split-at-requires add-at loop-less loop-again (λ c. c .before .loop .inv .3)
+    (λ c. c .before .loop .inv .4) returns)

@@ -3,7 +3,7 @@
 use mathlib.Core.Path.{_≡_, sym, ap, ap₂, subst, _∙_}
 use mathlib.Core.Bool.{Bool, not}
 use mathlib.Core.List.{List, []}
-use Prim.Native.Nat.{ℕ, suc, _+_, _<_}
+use Prim.Native.Nat.{ℕ, suc, _<_}
 use native.Mathlib.Omega.{arith}
 use native.Mathlib.Numerals.{add-one}
 use lib.IntN.{ℤ}
@@ -17,22 +17,20 @@ use Rattle.integer.specs.Words.{those}
 use Rattle.integer.proofs.Width.{small, read}
 use Rattle.integer.proofs.Lists.{In}
 use Rattle.dstree.specs.Measures.{Trace}
-use Rattle.dstree.specs.Figures.{run}
-use Rattle.dstree.specs.Node.{Figure, goesLeft}
+use Rattle.dstree.specs.Node.{goesLeft}
 use Rattle.dstree.specs.Adding.{segmentsOf, tracesOf}
 use Rattle.tables.specs.Tables.{withRecord}
-use Rattle.leaf_figures.specs.Walk.{storedIn, numbersOf}
+use Rattle.tables.specs.Walk.{storedIn, numbersOf}
 use Rattle.leaf_figures.specs.Sides.{marked}
 use Rattle.leaf_figures.specs.Ends.{endsOf, Rise}
-use Rattle.leaf_figures.proofs.Listed.{numbers-below}
-use Rattle.insertion.specs.Heads.{testOn}
+use Rattle.tables.proofs.Listed.{numbers-below}
 use Rattle.insertion_memory.specs.Records.{leafRecord, innerRecord}
 use Rattle.insertion_memory.specs.Links.{linked}
 use Rattle.insertion_memory.specs.Memory.{held, onRecord, splitTo}
-use Rattle.split_choice.specs.Marking.{testBy, marksBy}
+use Rattle.tables.specs.Runs.{testBy}
+use Rattle.split_choice.specs.Marking.{marksBy}
 use Rattle.split_choice.specs.Choosing.{childEnds}
 use Rattle.split_choice.proofs.Marked.{left-side, right-side}
-use Rattle.splitting.proofs.Tried.{figure-same}
 use Rattle.splitting.proofs.splits.split_by.Statement.{statement}
 use Rattle.splitting.proofs.splits.split_by.Tie as tie
 
@@ -73,7 +71,8 @@ module _ (a : tie.After-mark-sides) where
   marks-are : marks ≡ marksBy (left start) (replicate 4096 0) (numbers start)
   marks-are =
       let g = start .args in
-      subst (λ (z : ℤ). marks ≡ marksBy (λ (t : ℕ). goesLeft (testBy (g .c .first) (g .c .last) (g .c .«by_scatter») z) (getD (storedIn (now (g .samples)) (g .n) (g .k)) t [])) (replicate 4096 0) (numbers start)) (back start) (a .mark-sides .ensures .0)
+      subst (λ (z : ℤ). marks ≡ marksBy (λ (t : ℕ). goesLeft (testBy (g .c .first) (g .c .last) (g .c .«by_scatter») z) (getD (storedIn (now (g .samples)) (g .n) (g .k)) t []))
+      (replicate 4096 0) (numbers start)) (back start) (a .mark-sides .ensures .0)
 
   left-is : marked marks 1 (numbers start) ≡ lefts start
   left-is = ap (λ (m : List ℕ). marked m 1 (numbers start)) marks-are ∙ left-side (left start) (numbers start) (replicate 4096 0) (room start)
@@ -87,20 +86,11 @@ module _ (a : tie.After-mark-sides) where
   right-some : 0 < length (marked marks 2 (numbers start))
   right-some = omega (arith, ap length right-is, start .pre .parted .right-some)
 
-mark-sides-requires : tie.Need-mark-sides-requires
-mark-sides-requires c κs = search needs
-
 child-ends-requires : tie.Need-child-ends-requires
 child-ends-requires c κs =
     let s = start c in
     let p = s .pre .room in
     (p, λ f. omega (arith, s .pre .fit .room f, length-take-le (s .args .e .count) (s .args .e .at) (omega (arith, p .places, p .few))))
-
-add-right : tie.Need-add-right
-add-right c = search needs
-
-become-inner-at-requires : tie.Need-become-inner-at-requires
-become-inner-at-requires c κs = search needs
 
 write-sides-requires : tie.Need-write-sides-requires
 write-sides-requires c κs =
@@ -121,12 +111,6 @@ relink-requires c κs =
     let p = s .pre .stored in
     (p .inside, p .few, p .links-room, p .rising, a .mark-sides .ensures .1, left-some a, right-some a)
 
-same-length : tie.Need-same-length
-same-length c = search needs
-
-same-length-2 : tie.Need-same-length-2
-same-length-2 c = search needs
-
 returns : tie.Need-returns
 unfolding splitTo
 returns c =
@@ -142,10 +126,9 @@ returns c =
     let L = now (g .links) in
     let m = g .count in
     let test = testBy (g .c .first) (g .c .last) (g .c .«by_scatter») (g .c .threshold) in
-    let P : b .become-inner-at .last .0 ≡ onRecord (innerRecord test m (suc m)) N (g .at) =
-    b .become-inner-at .ensures
-    ∙ (ap (λ (z : ℤ). onRecord (innerRecord (testOn (g .c .«by_scatter») (g .c .first) (g .c .last) z) m (m + 1)) N (g .at)) (back s)
-    ∙ ap₂ (λ (f : Figure) (j : ℕ). onRecord (innerRecord (record { on = run (g .c .first) (g .c .last); figure = f; threshold = g .c .threshold }) m j) N (g .at)) (figure-same (g .c .«by_scatter»)) (add-one m)) in
+    let P : b .become-inner .last .0 ≡ onRecord (innerRecord test m (suc m)) N (g .at) =
+    b .become-inner .ensures
+    ∙ ap₂ (λ (z : ℤ) (j : ℕ). onRecord (innerRecord (testBy (g .c .first) (g .c .last) (g .c .«by_scatter») z) m j) N (g .at)) (back s) (add-one m) in
     let nodes : w .write-sides .last .0 ≡ both t m (onRecord (innerRecord test m (suc m)) N (g .at)) (childEnds (g .c .cut) (endsOf (g .e))) (lefts s) (rights s) =
     w .write-sides .ensures
     ∙ (ap (λ (q : List ℤ). both t m q (endsOf (d .child-ends .result)) (marked (marks a) 1 (numbers s)) (marked (marks a) 2 (numbers s))) P
@@ -158,12 +141,5 @@ pub split-by-spec : {M : Type 1} → statement M
 split-by-spec =
     tie.close
     (tie.spec
-    mark-sides-requires
-    child-ends-requires
-    add-right
-    become-inner-at-requires
-    write-sides-requires
-    relink-requires
-    same-length
-    same-length-2
-    returns)
+    (λ c κs. search needs) child-ends-requires (λ c. search needs) (λ c κs. search needs) write-sides-requires
+    relink-requires (λ c. search needs) (λ c. search needs) returns)

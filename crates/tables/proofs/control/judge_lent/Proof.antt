@@ -20,9 +20,6 @@ lengths s = lent (s .args .control) (s .args .samples) (s .args .nodes) (s .args
 abbrev asked : tie.Start → Measures
 asked s = measures (s .args .n) (s .args .capacity) (s .args .leaf-size)
 
-control-short-requires : tie.Need-control-short-requires
-control-short-requires c κs = search needs
-
 -- the first test
 control-is : (c : tie.After-control-short) → controlShort layout (lengths (c .before)) ≡ c .control-short .result
 control-is c = let a = c .before .args in sym (c .control-short .ensures (a .samples) (a .nodes) (a .links) (a .work))
@@ -33,9 +30,6 @@ returns c = rw (control-is (c .before) ∙ c .if1 .taken)
 
 long : (c : tie.Else1) → controlShort layout (lengths (c .before .before)) ≡ false
 long c = control-is (c .before) ∙ c .if1 .left
-
-measures-fit-requires : tie.Need-measures-fit-requires
-measures-fit-requires c κs = search needs
 
 -- the second
 fit-is : (c : tie.After-measures-fit) → inRange (asked (c .before .before .before)) ≡ c .measures-fit .result
@@ -65,4 +59,7 @@ unfolding firstOf lentConditionsOf foundBy wordOf
 returns-4 c = let e = c .before .before in rw (long (e .before .before), fit e, ← third (c .before), c .if3 .left)
 
 pub judge-lent-spec : {M : Type 1} → statement M
-judge-lent-spec = tie.close (tie.spec control-short-requires returns measures-fit-requires returns-2 tables-short-requires returns-3 returns-4)
+judge-lent-spec =
+    tie.close
+    (tie.spec
+    (λ c κs. search needs) returns (λ c κs. search needs) returns-2 tables-short-requires returns-3 returns-4)

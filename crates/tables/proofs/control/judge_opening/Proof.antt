@@ -20,9 +20,6 @@ lengths s = lent (s .args .control) (s .args .samples) (s .args .nodes) (s .args
 abbrev asked : tie.Start → Measures
 asked s = measures (s .args .n) (s .args .capacity) (s .args .leaf-size)
 
-measures-fit-requires : tie.Need-measures-fit-requires
-measures-fit-requires c κs = search needs
-
 -- the first test
 fit-is : (c : tie.After-measures-fit) → inRange (asked (c .before)) ≡ c .measures-fit .result
 fit-is c = sym (c .measures-fit .ensures)
@@ -33,9 +30,6 @@ returns c = rw (fit-is (c .before) ∙ not-true _ (c .if1 .taken))
 
 fit : (c : tie.Else1) → inRange (asked (c .before .before)) ≡ true
 fit c = fit-is (c .before) ∙ not-false _ (c .if1 .left)
-
-control-short-requires : tie.Need-control-short-requires
-control-short-requires c κs = search needs
 
 -- the second
 control-is : (c : tie.After-control-short) → controlShort layout (lengths (c .before .before .before)) ≡ c .control-short .result
@@ -65,4 +59,7 @@ unfolding firstOf openingConditionsOf foundBy wordOf
 returns-4 c = let e = c .before .before in rw (fit (e .before .before), long e, ← third (c .before), c .if3 .left)
 
 pub judge-opening-spec : {M : Type 1} → statement M
-judge-opening-spec = tie.close (tie.spec measures-fit-requires returns control-short-requires returns-2 tables-short-requires returns-3 returns-4)
+judge-opening-spec =
+    tie.close
+    (tie.spec
+    (λ c κs. search needs) returns (λ c κs. search needs) returns-2 tables-short-requires returns-3 returns-4)

@@ -19,15 +19,18 @@ returns-3 c = let a = c .before .before .before .args in simp (le-leb 1 (a .n) (
 
 returns-4 : tie.Need-returns-4
 unfolding inRange
-returns-4 c = let a = c .before .before .before .before .args in simp (le-leb 1 (a .n) (omega arith), le-leb (a .n) 256 (omega arith), le-leb 1 (a .capacity) (omega arith), lt-leb (a .capacity) 4096 (omega arith))
+returns-4 c = let a = c .before .before .before .before .args in
+    simp (le-leb 1 (a .n) (omega arith), le-leb (a .n) 256 (omega arith), le-leb 1 (a .capacity) (omega arith), lt-leb (a .capacity) 4096 (omega arith))
 
 returns-5 : tie.Need-returns-5
 unfolding inRange
-returns-5 c = let a = c .before .before .before .before .before .args in simp (le-leb 1 (a .n) (omega arith), le-leb (a .n) 256 (omega arith), le-leb 1 (a .capacity) (omega arith), le-leb (a .capacity) 4096 (omega arith), lt-leb 1 (a .leaf-size) (omega arith))
+returns-5 c = let a = c .before .before .before .before .before .args in
+    simp (le-leb 1 (a .n) (omega arith), le-leb (a .n) 256 (omega arith), le-leb 1 (a .capacity) (omega arith), le-leb (a .capacity) 4096 (omega arith), lt-leb 1 (a .leaf-size) (omega arith))
 
 returns-6 : tie.Need-returns-6
 unfolding inRange
-returns-6 c = let a = c .before .before .before .before .before .args in simp (le-leb 1 (a .n) (omega arith), le-leb (a .n) 256 (omega arith), le-leb 1 (a .capacity) (omega arith), le-leb (a .capacity) 4096 (omega arith), le-leb 1 (a .leaf-size) (omega arith))
+returns-6 c = let a = c .before .before .before .before .before .args in
+    simp (le-leb 1 (a .n) (omega arith), le-leb (a .n) 256 (omega arith), le-leb 1 (a .capacity) (omega arith), le-leb (a .capacity) 4096 (omega arith), le-leb 1 (a .leaf-size) (omega arith))
 
 pub measures-fit-spec : {M : Type 1} → statement M
 measures-fit-spec = tie.close (tie.spec returns returns-2 returns-3 returns-4 returns-5 returns-6)

@@ -9,15 +9,9 @@ returns : tie.Need-returns
 unfolding recordsNeeded
 returns c = λ n leafSize. omega arith
 
-mul-result : tie.Need-mul-result
-mul-result c = search needs
-
-sub-result : tie.Need-sub-result
-sub-result c = search needs
-
 returns-2 : tie.Need-returns-2
 unfolding recordsNeeded
 returns-2 c = λ n leafSize. omega arith
 
 pub records-needed-spec : {M : Type 1} → statement M
-records-needed-spec = tie.close (tie.spec returns mul-result sub-result returns-2)
+records-needed-spec = tie.close (tie.spec returns (λ c. search needs) (λ c. search needs) returns-2)

@@ -12,9 +12,6 @@ use Rattle.tables.specs.Layout.{recordPlaces}
 use Rattle.tables.proofs.control.tables_short.Statement.{statement}
 use Rattle.tables.proofs.control.tables_short.Tie as tie
 
-samples-needed-requires : tie.Need-samples-needed-requires
-samples-needed-requires c κs = search needs
-
 returns : tie.Need-returns
 unfolding tablesShort
 returns c = λ control leafSize.
@@ -22,9 +19,6 @@ returns c = λ control leafSize.
     let need = samplesNeeded (measures (a .n) (a .capacity) leafSize) in
     let short : ltb (a .samples) need ≡ true = lt-ltb (a .samples) need (omega (arith, c .before .samples-needed .ensures leafSize)) in
     rw short
-
-records-needed-requires : tie.Need-records-needed-requires
-records-needed-requires c κs = search needs
 
 -- the tests that were passed
 module _ (c : tie.After-records-needed) (leafSize : ℕ) where
@@ -65,4 +59,7 @@ returns-4 c = λ control leafSize.
     rw (samples-enough (c .before .before) leafSize, nodes-enough (c .before .before) leafSize (c .before .if2 .left), le-ltb _ _ (c .if3 .left), records-are (c .before .before) leafSize)
 
 pub tables-short-spec : {M : Type 1} → statement M
-tables-short-spec = tie.close (tie.spec samples-needed-requires returns records-needed-requires mul-if2 returns-2 returns-3 returns-4)
+tables-short-spec =
+    tie.close
+    (tie.spec
+    (λ c κs. search needs) returns (λ c κs. search needs) mul-if2 returns-2 returns-3 returns-4)

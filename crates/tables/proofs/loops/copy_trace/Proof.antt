@@ -23,27 +23,6 @@ abbrev μ-loop : tie.MeasureT-loop
 loop-holds : tie.Need-loop-holds Inv-loop μ-loop
 loop-holds c = (omega arith, paste-zero (now (c .args .samples)) (c .args .at) (now (c .args .trace)), refl)
 
-mul-samples : tie.Need-mul-samples Inv-loop μ-loop
-mul-samples c = omega arith
-
-shared-slice-copy-out-samples : tie.Need-shared-slice-copy-out-samples Inv-loop μ-loop
-shared-slice-copy-out-samples c = omega arith
-
-add-t9 : tie.Need-add-t9 Inv-loop μ-loop
-add-t9 c = omega arith
-
-mul-t10 : tie.Need-mul-t10 Inv-loop μ-loop
-mul-t10 c = omega arith
-
-slice-set-from-samples : tie.Need-slice-set-from-samples Inv-loop μ-loop
-slice-set-from-samples c = omega arith
-
-add-j : tie.Need-add-j Inv-loop μ-loop
-add-j c = omega arith
-
-loop-less : tie.Need-loop-less Inv-loop μ-loop
-loop-less c = omega arith
-
 loop-again : tie.Need-loop-again Inv-loop μ-loop
 loop-again c =
     let l = c .before .before .loop in
@@ -53,9 +32,6 @@ loop-again c =
     let z = getD (now (a .trace)) (l .j) (pos 0) in
     let f : SFits w16 z = sfits-of {w = w16} {z = z} (c .samples .given) in
     (omega arith, rw (l .inv .1, add-one (l .j), toZ-ofZ w16 z f) (paste-suc (now (a .samples)) (a .at) (now (a .trace)) (l .j) (pos 0) h k), simp length-set (l .inv .2))
-
-same-length : tie.Need-same-length Inv-loop μ-loop
-same-length c = search needs
 
 returns : tie.Need-returns Inv-loop μ-loop
 returns c =
@@ -68,16 +44,5 @@ pub copy-trace-spec : {M : Type 1} → statement M
 copy-trace-spec =
     tie.close
     (tie.spec
-    Inv-loop
-    μ-loop
-    loop-holds
-    mul-samples
-    shared-slice-copy-out-samples
-    add-t9
-    mul-t10
-    slice-set-from-samples
-    add-j
-    loop-less
-    loop-again
-    same-length
-    returns)
+    Inv-loop μ-loop loop-holds (λ c. omega arith) (λ c. omega arith) (λ c. omega arith) (λ c. omega arith)
+    (λ c. omega arith) (λ c. omega arith) (λ c. omega arith) loop-again (λ c. search needs) returns)

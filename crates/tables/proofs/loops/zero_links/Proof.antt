@@ -14,29 +14,11 @@ Inv-loop links₀ k link₀ links link = Filling k 0 links₀ links link
 abbrev μ-loop : tie.MeasureT-loop
 μ-loop links₀ k link₀ links link = k - link
 
-loop-holds : tie.Need-loop-holds Inv-loop μ-loop
-loop-holds c = (omega arith, refl, refl)
-
-mul-links : tie.Need-mul-links Inv-loop μ-loop
-mul-links c = omega arith
-
-slice-write-links : tie.Need-slice-write-links Inv-loop μ-loop
-slice-write-links c = omega arith
-
-add-link : tie.Need-add-link Inv-loop μ-loop
-add-link c = omega arith
-
-loop-less : tie.Need-loop-less Inv-loop μ-loop
-loop-less c = omega arith
-
 loop-again : tie.Need-loop-again Inv-loop μ-loop
 loop-again c =
     let s = c .before .before in
     let l = c .before .loop in
     fill-turn (s .args .k) 0 (now (s .args .links)) (l .links) (l .link) (s .pre) (omega arith) (l .inv)
-
-same-length : tie.Need-same-length Inv-loop μ-loop
-same-length c = search needs
 
 returns : tie.Need-returns Inv-loop μ-loop
 returns c =
@@ -45,4 +27,8 @@ returns c =
     fill-end (s .args .k) 0 (now (s .args .links)) (l .links) (l .link) (omega arith) (l .inv)
 
 pub zero-links-spec : {M : Type 1} → statement M
-zero-links-spec = tie.close (tie.spec Inv-loop μ-loop loop-holds mul-links slice-write-links add-link loop-less loop-again same-length returns)
+zero-links-spec =
+    tie.close
+    (tie.spec
+    Inv-loop μ-loop (λ c. (omega arith, refl, refl)) (λ c. omega arith) (λ c. omega arith) (λ c. omega arith)
+    (λ c. omega arith) loop-again (λ c. search needs) returns)

@@ -15,29 +15,11 @@ Inv-loop nodes₀ k place₀ nodes place = Filling k (pos 0) nodes₀ nodes plac
 abbrev μ-loop : tie.MeasureT-loop
 μ-loop nodes₀ k place₀ nodes place = k - place
 
-loop-holds : tie.Need-loop-holds Inv-loop μ-loop
-loop-holds c = (omega arith, refl, refl)
-
-mul-nodes : tie.Need-mul-nodes Inv-loop μ-loop
-mul-nodes c = omega arith
-
-slice-set-of-nodes : tie.Need-slice-set-of-nodes Inv-loop μ-loop
-slice-set-of-nodes c = omega arith
-
-add-place : tie.Need-add-place Inv-loop μ-loop
-add-place c = omega arith
-
-loop-less : tie.Need-loop-less Inv-loop μ-loop
-loop-less c = omega arith
-
 loop-again : tie.Need-loop-again Inv-loop μ-loop
 loop-again c =
     let s = c .before .before in
     let l = c .before .loop in
     fill-turn (s .args .k) (pos 0) (now (s .args .nodes)) (l .nodes) (l .place) (s .pre) (omega arith) (l .inv)
-
-same-length : tie.Need-same-length Inv-loop μ-loop
-same-length c = search needs
 
 returns : tie.Need-returns Inv-loop μ-loop
 returns c =
@@ -46,4 +28,8 @@ returns c =
     fill-end (s .args .k) (pos 0) (now (s .args .nodes)) (l .nodes) (l .place) (omega arith) (l .inv)
 
 pub zero-nodes-spec : {M : Type 1} → statement M
-zero-nodes-spec = tie.close (tie.spec Inv-loop μ-loop loop-holds mul-nodes slice-set-of-nodes add-place loop-less loop-again same-length returns)
+zero-nodes-spec =
+    tie.close
+    (tie.spec
+    Inv-loop μ-loop (λ c. (omega arith, refl, refl)) (λ c. omega arith) (λ c. omega arith) (λ c. omega arith)
+    (λ c. omega arith) loop-again (λ c. search needs) returns)

@@ -15,29 +15,11 @@ Inv-loop samples₀ k sample₀ samples sample = Filling k (pos 0) samples₀ sa
 abbrev μ-loop : tie.MeasureT-loop
 μ-loop samples₀ k sample₀ samples sample = k - sample
 
-loop-holds : tie.Need-loop-holds Inv-loop μ-loop
-loop-holds c = (omega arith, refl, refl)
-
-mul-samples : tie.Need-mul-samples Inv-loop μ-loop
-mul-samples c = omega arith
-
-slice-set-of-samples : tie.Need-slice-set-of-samples Inv-loop μ-loop
-slice-set-of-samples c = omega arith
-
-add-sample : tie.Need-add-sample Inv-loop μ-loop
-add-sample c = omega arith
-
-loop-less : tie.Need-loop-less Inv-loop μ-loop
-loop-less c = omega arith
-
 loop-again : tie.Need-loop-again Inv-loop μ-loop
 loop-again c =
     let s = c .before .before in
     let l = c .before .loop in
     fill-turn (s .args .k) (pos 0) (now (s .args .samples)) (l .samples) (l .sample) (s .pre) (omega arith) (l .inv)
-
-same-length : tie.Need-same-length Inv-loop μ-loop
-same-length c = search needs
 
 returns : tie.Need-returns Inv-loop μ-loop
 returns c =
@@ -46,4 +28,8 @@ returns c =
     fill-end (s .args .k) (pos 0) (now (s .args .samples)) (l .samples) (l .sample) (omega arith) (l .inv)
 
 pub zero-samples-spec : {M : Type 1} → statement M
-zero-samples-spec = tie.close (tie.spec Inv-loop μ-loop loop-holds mul-samples slice-set-of-samples add-sample loop-less loop-again same-length returns)
+zero-samples-spec =
+    tie.close
+    (tie.spec
+    Inv-loop μ-loop (λ c. (omega arith, refl, refl)) (λ c. omega arith) (λ c. omega arith) (λ c. omega arith)
+    (λ c. omega arith) loop-again (λ c. search needs) returns)

@@ -14,29 +14,11 @@ Inv-loop work₀ k place₀ work place = Filling k 0 work₀ work place
 abbrev μ-loop : tie.MeasureT-loop
 μ-loop work₀ k place₀ work place = k - place
 
-loop-holds : tie.Need-loop-holds Inv-loop μ-loop
-loop-holds c = (omega arith, refl, refl)
-
-mul-work : tie.Need-mul-work Inv-loop μ-loop
-mul-work c = omega arith
-
-slice-write-work : tie.Need-slice-write-work Inv-loop μ-loop
-slice-write-work c = omega arith
-
-add-place : tie.Need-add-place Inv-loop μ-loop
-add-place c = omega arith
-
-loop-less : tie.Need-loop-less Inv-loop μ-loop
-loop-less c = omega arith
-
 loop-again : tie.Need-loop-again Inv-loop μ-loop
 loop-again c =
     let s = c .before .before in
     let l = c .before .loop in
     fill-turn (s .args .k) 0 (now (s .args .work)) (l .work) (l .place) (s .pre) (omega arith) (l .inv)
-
-same-length : tie.Need-same-length Inv-loop μ-loop
-same-length c = search needs
 
 returns : tie.Need-returns Inv-loop μ-loop
 returns c =
@@ -45,4 +27,8 @@ returns c =
     fill-end (s .args .k) 0 (now (s .args .work)) (l .work) (l .place) (omega arith) (l .inv)
 
 pub zero-work-spec : {M : Type 1} → statement M
-zero-work-spec = tie.close (tie.spec Inv-loop μ-loop loop-holds mul-work slice-write-work add-place loop-less loop-again same-length returns)
+zero-work-spec =
+    tie.close
+    (tie.spec
+    Inv-loop μ-loop (λ c. (omega arith, refl, refl)) (λ c. omega arith) (λ c. omega arith) (λ c. omega arith)
+    (λ c. omega arith) loop-again (λ c. search needs) returns)

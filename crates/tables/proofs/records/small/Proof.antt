@@ -1,10 +1,9 @@
 -- `tables::records::small` meets its contract: the two tests, on the parameter itself, tell the definition's cases apart.
 use mathlib.Core.Path.{_≡_, sym, ap, _∙_, subst}
-use mathlib.Core.Bool.{true, false}
 use native.Mathlib.Omega.{arith}
 use lib.Dec.{T}
-use lib.IntN.{ℤ, pos, natAbs}
-use lib.Signed.{ltZ, nonNeg}
+use lib.IntN.{ℤ, natAbs}
+use lib.Signed.{nonNeg}
 use mir.Syntax.{w64}
 use mir.Val.{Fits, toZ, ofZ}
 use mir.ValLaws.{toZ-ofZ}

@@ -11,15 +11,6 @@ use Rattle.tables.specs.View.{smallOf}
 use Rattle.tables.proofs.records.small_at.Statement.{statement}
 use Rattle.tables.proofs.records.small_at.Tie as tie
 
-mul-small : tie.Need-mul-small
-mul-small c = search needs
-
-shared-slice-copy-out-small : tie.Need-shared-slice-copy-out-small
-shared-slice-copy-out-small c = search needs
-
-small-requires : tie.Need-small-requires
-small-requires c κs = search needs
-
 returns : tie.Need-returns
 returns c =
     let a = c .before .before .args in
@@ -28,4 +19,4 @@ returns c =
     e ∙ ap smallOf (toZ-ofZ w64 z (sfits-of {w = w64} {z = z} (c .before .small-arg .given)))
 
 pub small-at-spec : {M : Type 1} → statement M
-small-at-spec = tie.close (tie.spec mul-small shared-slice-copy-out-small small-requires returns)
+small-at-spec = tie.close (tie.spec (λ c. search needs) (λ c. search needs) (λ c κs. search needs) returns)

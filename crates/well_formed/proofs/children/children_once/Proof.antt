@@ -21,12 +21,6 @@ returns c =
 returns-2 : tie.Need-returns-2
 returns-2 c = let s = c .before .before .before .before in no-children (now (s .args .nodes)) (s .args .m) (c .if2 .taken)
 
-sub-all-marked : tie.Need-sub-all-marked
-sub-all-marked c = omega (arith, c .before .if2 .left)
-
-all-marked-requires : tie.Need-all-marked-requires
-all-marked-requires c κs = omega (arith, c .before .before .before .before .before .pre .low)
-
 returns-3 : tie.Need-returns-3
 returns-3 c =
     let e = c .before .before .before in
@@ -35,4 +29,8 @@ returns-3 c =
     c .all-marked .ensures ∙ children-marked (now (s .args .nodes)) (s .args .m) (s .pre) (d .mark-all .ensures .new (not-false (d .mark-all .result) (e .if1 .left)))
 
 pub children-once-spec : {M : Type 1} → statement M
-children-once-spec = tie.close (tie.spec mark-all-requires returns returns-2 sub-all-marked all-marked-requires returns-3)
+children-once-spec =
+    tie.close
+    (tie.spec
+    mark-all-requires returns returns-2 (λ c. omega (arith, c .before .if2 .left))
+    (λ c κs. omega (arith, c .before .before .before .before .before .pre .low)) returns-3)

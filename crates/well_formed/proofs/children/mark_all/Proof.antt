@@ -30,13 +30,8 @@ returns c =
     let d = c .before in
     let L = d .before .before .before .loop in
     let s = d .before .before .before .before in
-    took-old (again-firsts (childrenAt (now (s .args .nodes))) (L .inv .1) (s .args .m) (d .before .before .loop-test .taken) (d .mark-children .ensures .old (not-true (d .mark-children .result) (c .if1 .taken))))
-
-add-j : tie.Need-add-j Inv-loop μ-loop
-add-j c = omega (arith, c .before .before .before .before .before .pre .0 .low)
-
-loop-less : tie.Need-loop-less Inv-loop μ-loop
-loop-less c = omega arith
+    took-old (again-firsts (childrenAt (now (s .args .nodes))) (L .inv .1) (s .args .m) (d .before .before .loop-test .taken)
+    (d .mark-children .ensures .old (not-true (d .mark-children .result) (c .if1 .taken))))
 
 loop-again : tie.Need-loop-again Inv-loop μ-loop
 loop-again c =
@@ -56,12 +51,5 @@ pub mark-all-spec : {M : Type 1} → statement M
 mark-all-spec =
     tie.close
     (tie.spec
-    Inv-loop
-    μ-loop
-    loop-holds
-    mark-children-requires
-    returns
-    add-j
-    loop-less
-    loop-again
-    returns-2)
+    Inv-loop μ-loop loop-holds mark-children-requires returns
+    (λ c. omega (arith, c .before .before .before .before .before .pre .0 .low)) (λ c. omega arith) loop-again returns-2)

@@ -18,9 +18,6 @@ returns c =
     let s = d .before .before .before in
     leaves-fail (now (s .args .nodes)) (s .args .m) (now (s .args .links)) (s .args .k) (d .mark-all .ensures) (not-true (d .mark-all .result) (c .if1 .taken))
 
-all-marked-requires : tie.Need-all-marked-requires
-all-marked-requires c κs = omega (arith, c .before .before .before .before .before .pre .2)
-
 returns-2 : tie.Need-returns-2
 returns-2 c =
     let e = c .before .before in
@@ -29,4 +26,7 @@ returns-2 c =
     c .all-marked .ensures ∙ leaves-marked (now (s .args .nodes)) (s .args .m) (now (s .args .links)) (s .args .k) (d .mark-all .ensures) (not-false (d .mark-all .result) (e .if1 .left)) (s .pre .2)
 
 pub leaves-hold-spec : {M : Type 1} → statement M
-leaves-hold-spec = tie.close (tie.spec mark-all-requires returns all-marked-requires returns-2)
+leaves-hold-spec =
+    tie.close
+    (tie.spec
+    mark-all-requires returns (λ c κs. omega (arith, c .before .before .before .before .before .pre .2)) returns-2)

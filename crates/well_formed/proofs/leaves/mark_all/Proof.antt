@@ -29,12 +29,6 @@ returns c =
     let s = d .before .before .before .before .before in
     leaves-refused (L .inv .1) (d .mark-leaf .ensures) (s .args .m) (d .before .before .loop-test .taken) (not-true (d .mark-leaf .result) (c .if1 .taken))
 
-add-j : tie.Need-add-j Inv-loop μ-loop
-add-j c = omega (arith, c .before .before .before .before .before .before .pre .0 .low)
-
-loop-less : tie.Need-loop-less Inv-loop μ-loop
-loop-less c = omega arith
-
 loop-again : tie.Need-loop-again Inv-loop μ-loop
 loop-again c =
     let d = c .before in
@@ -51,12 +45,5 @@ pub mark-all-spec : {M : Type 1} → statement M
 mark-all-spec =
     tie.close
     (tie.spec
-    Inv-loop
-    μ-loop
-    loop-holds
-    mark-leaf-requires
-    returns
-    add-j
-    loop-less
-    loop-again
-    returns-2)
+    Inv-loop μ-loop loop-holds mark-leaf-requires returns
+    (λ c. omega (arith, c .before .before .before .before .before .before .pre .0 .low)) (λ c. omega arith) loop-again returns-2)

@@ -65,7 +65,8 @@ returns-2 c =
     let d = c .before .before in
     let s = d .before .before .before .before in
     let e : kindAt (nodes s) (links s) (k s) (j s) ≡ leaf (numbersFrom (links s) (suc (k s)) (d .node-small2 .result)) =
-    is-leaf (nodes s) (j s) (links s) (k s) (sym (d .before .before .node-small .ensures) ∙ d .before .if1 .left) ∙ ap (λ (x : ℕ). leaf (numbersFrom (links s) (suc (k s)) x)) (sym (d .node-small2 .ensures)) in
+    is-leaf (nodes s) (j s) (links s) (k s) (sym (d .before .before .node-small .ensures) ∙ d .before .if1 .left)
+    ∙ ap (λ (x : ℕ). leaf (numbersFrom (links s) (suc (k s)) x)) (sym (d .node-small2 .ensures)) in
     held-as (ap leafFits e) (ap numbersIn e ∙ leaf-numbers (numbersFrom (links s) (suc (k s)) (d .node-small2 .result))) (c .mark-list .ensures)
 
 pub mark-leaf-spec : {M : Type 1} → statement M

@@ -28,15 +28,6 @@ returns c =
     let d = c .before in
     walk-meets (d .before .before .before .loop .inv) (d .mark .ensures .old (not-true (d .mark .result) (c .if1 .taken)))
 
-mul-wide : tie.Need-mul-wide Inv-loop μ-loop
-mul-wide c = omega arith
-
-shared-slice-read-wide : tie.Need-shared-slice-read-wide Inv-loop μ-loop
-shared-slice-read-wide c = omega arith
-
-wide-requires : tie.Need-wide-requires Inv-loop μ-loop
-wide-requires c κs = search needs
-
 -- what is known once the link is read
 module _ (c : tie.After-wide Inv-loop μ-loop) where
   abbrev e : tie.Else1 Inv-loop μ-loop
@@ -65,9 +56,6 @@ returns-3 c =
     let d = c .before .before in
     walk-falls (l d .loop .inv) (more d) (λ z. c .before .if2 .left (read d ∙ z)) (omega (arith, read d, c .if3 .taken))
 
-loop-less : tie.Need-loop-less Inv-loop μ-loop
-loop-less c = omega arith
-
 loop-again : tie.Need-loop-again Inv-loop μ-loop
 loop-again c =
     let d = c .before .before in
@@ -83,16 +71,5 @@ pub mark-list-spec : {M : Type 1} → statement M
 mark-list-spec =
     tie.close
     (tie.spec
-    Inv-loop
-    μ-loop
-    loop-holds
-    mark-requires
-    returns
-    mul-wide
-    shared-slice-read-wide
-    wide-requires
-    returns-2
-    returns-3
-    loop-less
-    loop-again
-    returns-4)
+    Inv-loop μ-loop loop-holds mark-requires returns (λ c. omega arith) (λ c. omega arith) (λ c κs. search needs) returns-2
+    returns-3 (λ c. omega arith) loop-again returns-4)

@@ -7,22 +7,10 @@ use Rattle.well_formed.proofs.Growth.{grown-one, met-again}
 use Rattle.well_formed.proofs.marks.mark.Statement.{statement}
 use Rattle.well_formed.proofs.marks.mark.Tie as tie
 
-mul-if1 : tie.Need-mul-if1
-mul-if1 c = omega arith
-
-element-copy-out-if1 : tie.Need-element-copy-out-if1
-element-copy-out-if1 c = omega arith
-
 returns : tie.Need-returns
 returns c =
     let s = c .before .before in
     record { new = λ e. clash (sym e); old = λ _. met-again (now (s .args .marks)) (s .args .number) (s .pre .1) (s .pre .0) (omega arith) }
-
-mul-marks : tie.Need-mul-marks
-mul-marks c = omega arith
-
-element-write-marks : tie.Need-element-write-marks
-element-write-marks c = omega arith
 
 returns-2 : tie.Need-returns-2
 returns-2 c =
@@ -30,4 +18,7 @@ returns-2 c =
     record { new = λ _. grown-one (now (s .args .marks)) (s .args .number) (s .pre .1) (s .pre .0) (omega arith); old = λ e. clash e }
 
 pub mark-spec : {M : Type 1} → statement M
-mark-spec = tie.close (tie.spec mul-if1 element-copy-out-if1 returns mul-marks element-write-marks returns-2)
+mark-spec =
+    tie.close
+    (tie.spec
+    (λ c. omega arith) (λ c. omega arith) returns (λ c. omega arith) (λ c. omega arith) returns-2)

@@ -1,0 +1,38 @@
+-- The key of a node: bound × 8,192 + number, so that keys are in the order "by bound, then by number". The bound of a child is known on the way down:
+-- the greater of its own and its parent's.
+use Prim.Native.Nat.{ℕ, _+_, _*_, _/_, _%_, max}
+use mathlib.Core.List.{List}
+use Rattle.heap.specs.Keys.{insertKey}
+use Rattle.dstree.specs.Measures.{Trace}
+use Rattle.dstree.specs.Node.{Tree, nodeAt}
+use Rattle.dstree.specs.Matching.{ownBound, bound, LeafBound}
+
+-- a key, and the bound and the number that it holds. No tree has more than 8,192 nodes
+abbrev pub keyOf : ℕ → ℕ → ℕ
+keyOf bound number = bound * 8192 + number
+
+abbrev pub boundIn : ℕ → ℕ
+boundIn key = key / 8192
+
+abbrev pub numberIn : ℕ → ℕ
+numberIn key = key % 8192
+
+-- the leaf that a key is of
+abbrev pub leafIn : ℕ → LeafBound
+leafIn key = record { number = numberIn key; bound = boundIn key }
+
+module _ (tree : Tree) (query : Trace) where
+  abbrev pub nodeKey : ℕ → ℕ
+  nodeKey number = keyOf (bound tree query number) number
+
+  -- the same, of a node whose parent has the bound `above`
+  abbrev pub childKey : ℕ → ℕ → ℕ
+  childKey above number = keyOf (max (ownBound query (nodeAt tree number)) above) number
+
+  -- node 0 has no parent
+  abbrev pub firstKey : ℕ
+  firstKey = childKey 0 0
+
+  -- the keys that wait once an inner node's key is taken: its children's in its stead
+  abbrev pub inStead : ℕ → ℕ → ℕ → List ℕ → List ℕ
+  inStead key left right waiting = insertKey (childKey (boundIn key) left) (insertKey (childKey (boundIn key) right) waiting)

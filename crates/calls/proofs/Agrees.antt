@@ -1,0 +1,244 @@
+-- Call by call: what the book says of a call, and what the call does to tables lent of a memory that keeps the book, agree. An opening and
+-- a reading agree with every book, whatever the memory held before.
+use Prim.Native.Nat.{ℕ, _*_, _≤_, _<_}
+use mathlib.Core.Path.{_≡_, refl, ap, ap₂, _∙_}
+use mathlib.Core.Bool.{true, false, not}
+use mathlib.Core.Option.{none, some}
+use mathlib.Core.Logic.{_⊎_, inl, inr}
+use mathlib.Core.List.{List, [], _∷_, _++_}
+use native.Mathlib.Omega.{arith}
+use lib.ListN.{length, drop, replicate, length-append}
+use lib.Seq.{take-append-seam}
+use lib.Dec.{T, leb, ltb, eqb, le→leb, leb→le}
+use borrow.Author.Tests.{not-false, ne-eqb, eqb-true, eqb-false}
+use Rattle.integer.specs.Words.{every, isEmpty}
+use Rattle.integer.proofs.Tests.{passed, passes, is-true, eq→eqb}
+use Rattle.integer.specs.Lists.{In}
+use Rattle.integer.proofs.Lists.{in-snoc, every-of, from-every, strict}
+use Rattle.dstree.specs.Measures.{Trace, Measures, sampleLimit, inRange, isTrace, isLibrary, workNeeded}
+use Rattle.dstree.specs.Matching.{leaves, matchBySteps, matchOf}
+use Rattle.dstree.specs.Refusals.{Condition, _refuses_, firstOf, measure, wrongTrace, full, empty, shortTrail, sheetLength}
+use Rattle.dstree.specs.Sheet.{blockSize, blocksNeeded, sheetOf, Judged, refused, holds, judgeSheet}
+use Rattle.dstree.specs.Book.{Ask, opening, adding, matching, writing, reading, Book, book, bookTree, Entry, added, written, over}
+use Rattle.dstree.specs.Book.{shortConditions}
+use Rattle.dstree.specs.Book.{readingConditions, putRead, openingEntry, addingEntry, matchingEntry, writingEntry, readingEntry, entryOf}
+use Rattle.dstree.proofs.Conditions.{none-first, none-both}
+use Rattle.dstree.proofs.Laws.{claims}
+use Rattle.dstree.proofs.RoundTrips.{is-library}
+use Rattle.tables.specs.Layout.{layout}
+use Rattle.tables.specs.Tables.{Tables, lentOf}
+use Rattle.tables.specs.View.{treeIn, tracesIn}
+use Rattle.tables.specs.Judge.{openingConditionsOf, Room}
+use Rattle.tables.specs.Beginning.{left, Begins}
+use Rattle.tables.specs.Answers.{openingConditions}
+use Rattle.tables.proofs.Beginning.{tables-same, left-same, left-begins, begins-on}
+use Rattle.insertion_memory.specs.Memory.{addedTo}
+use Rattle.tables.specs.Holds.{Holds}
+use Rattle.insertion_memory.proofs.Made.{takes-more}
+use Rattle.insertion_memory.proofs.AddedBeginnings.{added-begins}
+use Rattle.calls.specs.Outcome.{Effect}
+use Rattle.calls.specs.Library.{loaded, libraryTables, Keeps}
+use Rattle.calls.specs.Effects.{opens, adds, resultOf, trailOf, cleared, matches, writes, loadedBy, reads, effectOf}
+use Rattle.calls.specs.Follows.{areSamples, Typed}
+use Rattle.calls.proofs.Finds.{last-never}
+use Rattle.calls.proofs.Library.{library-holds, library-work, loaded-more, loaded-begins}
+use Rattle.calls.proofs.Kept.{short-room, library-begins, part-holds, made-same, counted}
+
+pub record Agrees (memory : Tables) (e : Effect) (n : Entry) : Type 0 where
+  -- the same refusal, or none
+  pub judged : firstOf (e .conditions) ≡ firstOf (n .conditions)
+  -- and if none: the same answer, the same beside the tables, and the memory then keeps what the book puts
+  pub result-is : firstOf (n .conditions) ≡ none → e .result ≡ n .result
+  pub beside-is : firstOf (n .conditions) ≡ none → e .beside ≡ n .beside
+  pub puts : firstOf (n .conditions) ≡ none → Keeps (left (e .after) memory) (n .puts)
+
+-- ---- opening and reading
+
+module _ (memory part : Tables) (m : Measures) (traces : List Trace) (library : T (isLibrary sampleLimit m traces)) where
+  -- what is loaded is kept
+  loads : Room (lentOf part) m → Keeps (left (loaded part m traces) memory) (book m traces)
+  loads room = record {
+    library = library;
+    needed-places = begins-on (libraryTables m traces) (loaded part m traces) (left (loaded part m traces) memory)
+        (loaded-begins part m room traces library) (left-begins (loaded part m traces) memory);
+  }
+
+module _ (memory part : Tables) (b : Book) where
+  pub opening-agrees : (m : Measures) → Agrees memory (opens part m) (openingEntry layout (lentOf part) b m)
+  unfolding opens openingEntry openingConditions openingConditionsOf loaded isLibrary every
+  opening-agrees m = record {
+    judged = refl;
+    result-is = λ e. refl;
+    beside-is = λ e. refl;
+    puts = λ e.
+        let one = none-first (not (inRange m)) measure (shortConditions layout (lentOf part) m) e in
+        let none-stored = passes (inRange m) (leb 0 (m .capacity) ∷ true ∷ [])
+        (is-true {b = inRange m} (not-false _ (one .0)), (le→leb 0 (m .capacity) (omega arith), tt)) in
+        loads memory part m [] none-stored (short-room (lentOf part) m [] (one .1));
+  }
+
+  reading-puts : (j : Judged) → ((m : Measures) (traces : List Trace) → j ≡ holds m traces → T (isLibrary sampleLimit m traces))
+      → firstOf (readingConditions layout (lentOf part) j) ≡ none → Keeps (left (loadedBy part j) memory) (putRead b j)
+  unfolding readingConditions firstOf loadedBy putRead
+  reading-puts (refused why) is e = let z : _≡_ {A = ℕ} 0 1 = cc in absurd (omega arith)
+  reading-puts (holds m traces) is e = loads memory part m traces (is m traces refl) (short-room (lentOf part) m [] e)
+
+  pub reading-agrees : (bytes : List ℕ) → Typed (reading bytes)
+      → Agrees memory (reads part bytes) (readingEntry layout (lentOf part) b bytes)
+  unfolding reads readingEntry Typed
+  reading-agrees bytes typed = record {
+    judged = refl;
+    result-is = λ e. refl;
+    beside-is = λ e. refl;
+    puts = reading-puts (judgeSheet bytes) (λ m traces e. is-library bytes m traces typed e);
+  }
+
+-- ---- the others
+
+-- one trace of n samples more, where there is room, is a library
+library-grows : (m : Measures) (traces : List Trace) (x : Trace) → T (isLibrary sampleLimit m traces) → T (areSamples x) → length x ≡ m .n
+    → length traces < m .capacity
+    → T (isLibrary sampleLimit m (traces ++ (x ∷ [])))
+unfolding isLibrary isTrace
+library-grows m traces x library samples size less =
+    let p = passed (inRange m) (leb (length traces) (m .capacity) ∷ every (isTrace sampleLimit (m .n)) traces ∷ []) library in
+    let room : T (leb (length (traces ++ (x ∷ []))) (m .capacity)) = le→leb (length (traces ++ (x ∷ []))) (m .capacity)
+    (omega (arith, length-append traces (x ∷ []))) in
+    passes (inRange m) (leb (length (traces ++ (x ∷ []))) (m .capacity) ∷ every (isTrace sampleLimit (m .n)) (traces ++ (x ∷ [])) ∷ [])
+    (p .0, (room, every-of (isTrace sampleLimit (m .n)) (traces ++ (x ∷ [])) (λ y i. each y (in-snoc traces i) (p .1 .1))))
+  where
+    each : (y : Trace) → In y traces ⊎ (y ≡ x) → T (every (isTrace sampleLimit (m .n)) traces) → T (isTrace sampleLimit (m .n) y)
+    each y (inl i) all = from-every (isTrace sampleLimit (m .n)) traces all i
+    each y (inr e) all = rw e (passes (eqb (length x) (m .n)) (areSamples x ∷ []) (eq→eqb size, samples))
+
+empty-is : (l : List Trace) → eqb (length l) 0 ≡ isEmpty l
+unfolding isEmpty
+empty-is [] = refl
+empty-is (x ∷ l) = ne-eqb (length (x ∷ l)) 0 (λ e. omega (arith, e))
+
+some-of : (l : List Trace) → isEmpty l ≡ false → 0 < length l
+unfolding isEmpty
+some-of [] e = let z : _≡_ {A = ℕ} 0 1 = cc in absurd (omega arith)
+some-of (x ∷ l) e = omega arith
+
+module _ (memory part : Tables) (begins : Begins part memory) (b : Book) (keeps : Keeps memory b) where
+  abbrev m : Measures
+  m = b .measures
+
+  abbrev own : Tables
+  own = libraryTables (b .measures) (b .traces)
+
+  -- where the book refuses nothing, the tables hold the book's library
+  holds-it : (rest : List Condition) → firstOf (shortConditions layout (lentOf part) m ++ rest) ≡ none → Holds part m (b .traces)
+  holds-it rest e = part-holds keeps part begins (short-room (lentOf part) m rest e)
+
+  -- what begins with the library's tables is kept
+  kept : (b′ : Book) (part′ : Tables) → T (isLibrary sampleLimit (b′ .measures) (b′ .traces))
+      → Begins (libraryTables (b′ .measures) (b′ .traces)) part′ → Keeps (left part′ memory) b′
+  kept b′ part′ library on = record {
+    library = library;
+    needed-places = begins-on (libraryTables (b′ .measures) (b′ .traces)) part′ (left part′ memory) on (left-begins part′ memory);
+  }
+
+  abbrev addingRest : Trace → List Condition
+  addingRest x = not (eqb (length x) (m .n)) refuses wrongTrace ∷ eqb (length (b .traces)) (m .capacity) refuses full ∷ []
+
+  adding-puts : (x : Trace) → T (areSamples x) → firstOf (shortConditions layout (lentOf part) m ++ addingRest x) ≡ none
+      → Keeps (left (addedTo part x) memory) (book m (b .traces ++ (x ∷ [])))
+  unfolding isLibrary
+  adding-puts x samples e =
+      let parts = none-both (shortConditions layout (lentOf part) m) (addingRest x) e in
+      let one = none-first (not (eqb (length x) (m .n))) wrongTrace _ (parts .1) in
+      let two = none-first (eqb (length (b .traces)) (m .capacity)) full _ (one .1) in
+      let most : length (b .traces) ≤ m .capacity = leb→le (length (b .traces)) (m .capacity)
+      (passed (inRange m) (leb (length (b .traces)) (m .capacity) ∷ every (isTrace sampleLimit (m .n)) (b .traces) ∷ [])
+      (keeps .library) .1 .0) in
+      let grows = library-grows m (b .traces) x (keeps .library) samples (eqb-true (length x) (m .n) (not-false _ (one .0)))
+      (strict most (λ q. eqb-false (length (b .traces)) (m .capacity) (two .0) q)) in
+      let h = library-holds m (b .traces) (keeps .library) in
+      let takes = takes-more m own (b .traces) x h grows in
+      let room = short-room (lentOf part) m (addingRest x) e in
+      kept (book m (b .traces ++ (x ∷ []))) (addedTo part x) grows
+      (rw (loaded-more _ m (b .traces) x) (added-begins own part x (library-begins keeps part begins room) (h .formed) (h .long)
+      (takes .0) (takes .1)))
+
+  pub adding-agrees : (x : Trace) → Typed (adding x) → Agrees memory (adds part x) (addingEntry layout (lentOf part) b x)
+  unfolding adds addingEntry Typed
+  adding-agrees x typed = record {
+    judged = made-same keeps part begins _ (addingRest x)
+        (λ h. rw (
+          ap (λ (k : Measures). k .n) (h .measures-are),
+          ap (λ (k : Measures). k .capacity)
+              (h .measures-are),
+          counted keeps part begins h,
+        ));
+    result-is = λ e. ap added (counted keeps part begins (holds-it (addingRest x) e));
+    beside-is = λ e. refl;
+    puts = adding-puts x typed;
+  }
+
+  module _ (query : Trace) (trail : List ℕ) where
+    abbrev matchingRest : List Condition
+    matchingRest =
+        not (eqb (length query) (m .n)) refuses wrongTrace
+        ∷ isEmpty (b .traces) refuses empty
+        ∷ ltb (length trail) (length (leaves (bookTree b))) refuses shortTrail
+        ∷ []
+
+    matching-judged : firstOf (matches part query trail .conditions) ≡ firstOf (shortConditions layout (lentOf part) m ++ matchingRest)
+    matching-judged = last-never part query trail ∙ made-same keeps part begins _ matchingRest
+        (λ h. rw (ap (λ (k : Measures). k .n) (h .measures-are), counted keeps part begins h, empty-is (b .traces), h .tree-is))
+
+    steps-give : firstOf (shortConditions layout (lentOf part) m ++ matchingRest) ≡ none
+        → matchBySteps (tracesIn part) (treeIn part) query ≡ some (matchOf (b .traces) (bookTree b) query)
+    steps-give e =
+        let parts = none-both (shortConditions layout (lentOf part) m) matchingRest e in
+        let one = none-first (not (eqb (length query) (m .n))) wrongTrace _ (parts .1) in
+        let two = none-first (isEmpty (b .traces)) empty _ (one .1) in
+        let h = holds-it matchingRest e in
+        let c = claims sampleLimit m (b .traces) (keeps .library) query (some-of (b .traces) (two .0))
+        (eqb-true (length query) (m .n) (not-false _ (one .0))) in
+        rw (h .traces-are, h .tree-is) (c .steps-give-it)
+
+    -- "The needed search work is left zero", as it was
+    cleared-begins : Room (lentOf part) m → Begins own (cleared part)
+    cleared-begins room =
+        let on = library-begins keeps part begins room in
+        let k : ℕ = workNeeded m in
+        tables-same (ap (λ (t : Tables). t .control) on) (ap (λ (t : Tables). t .samples) on) (ap (λ (t : Tables). t .nodes) on)
+        (ap (λ (t : Tables). t .links) on)
+        (rw (library-work m (b .traces), part-holds keeps part begins room .measures-are)
+        (take-append-seam (replicate {A = ℕ} k 0) (drop k (part .work))))
+
+    pub matching-agrees : Agrees memory (matches part query trail) (matchingEntry layout (lentOf part) b query trail)
+    unfolding matches matchingEntry resultOf trailOf
+    matching-agrees = record {
+      judged = matching-judged;
+      result-is = λ e. rw (steps-give e);
+      beside-is = λ e. rw (steps-give e);
+      puts = λ e. kept b (cleared part) (keeps .library) (cleared-begins (short-room (lentOf part) m matchingRest e));
+    }
+
+  pub writing-agrees : (sheet : List ℕ) → Agrees memory (writes part sheet) (writingEntry layout (lentOf part) b sheet)
+  unfolding writes writingEntry
+  writing-agrees sheet = record {
+    judged = made-same keeps part begins _ rest (λ h. rw (ap (λ (k : Measures). k .n) (h .measures-are), counted keeps part begins h));
+    result-is = λ e. let h = holds-it rest e in
+        ap₂ written (ap₂ blocksNeeded (counted keeps part begins h) (ap (λ (k : Measures). k .n) (h .measures-are)))
+        (ap₂ sheetOf (h .measures-are) (h .traces-are));
+    beside-is = λ e. let h = holds-it rest e in ap (λ (l : List ℕ). over l sheet ∷ []) (ap₂ sheetOf (h .measures-are) (h .traces-are));
+    puts = λ e. rw (left-same part memory begins) keeps;
+  }
+    where
+      rest : List Condition
+      rest = ltb (length sheet) (blockSize * blocksNeeded (length (b .traces)) (m .n)) refuses sheetLength ∷ []
+
+  -- ---- any call
+
+  pub agrees : (ask : Ask) → Typed ask → Agrees memory (effectOf ask part) (entryOf layout (lentOf part) b ask)
+  unfolding effectOf entryOf
+  agrees (opening m) typed = opening-agrees memory part b m
+  agrees (adding x) typed = adding-agrees x typed
+  agrees (matching query trail) typed = matching-agrees query trail
+  agrees (writing sheet) typed = writing-agrees sheet
+  agrees (reading bytes) typed = reading-agrees memory part b bytes typed

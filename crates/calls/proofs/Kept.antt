@@ -1,0 +1,107 @@
+-- Tables lent of a memory that keeps a book have its measures, are well formed where they are long enough, and count its traces. So what
+-- every call on made tables refuses first is what the book refuses, and 3 never holds.
+use Prim.Native.Nat.{ℕ, _≤_, _<_}
+use mathlib.Core.Path.{_≡_, refl, sym, ap, subst, _∙_}
+use mathlib.Core.Bool.{Bool, true, false}
+use mathlib.Core.Option.{none}
+use mathlib.Core.List.{List, _++_}
+use native.Mathlib.Omega.{arith}
+use lib.ListN.{length, getD}
+use lib.Seq.{getD-take}
+use borrow.Author.Tests.{ltb-false}
+use Rattle.integer.proofs.Tests.{test-true}
+use Rattle.dstree.specs.Measures.{Measures, inRange}
+use Rattle.dstree.specs.Refusals.{Condition, firstOf, shortTable}
+use Rattle.dstree.specs.Book.{Lent, Book, controlShort, tablesShort, shortConditions}
+use Rattle.dstree.proofs.Conditions.{none-first}
+use Rattle.tables.specs.Layout.{layout, controlFields}
+use Rattle.tables.specs.Tables.{Tables, lentOf, field, measuresOf, traceCount}
+use Rattle.tables.specs.View.{wellFormed}
+use Rattle.tables.specs.Judge.{lentConditionsOf, Room}
+use Rattle.tables.specs.Beginning.{Begins, Within}
+use Rattle.tables.specs.Answers.{madeConditions}
+use Rattle.tables.proofs.Judged.{room-of}
+use Rattle.tables.proofs.Beginning.{begins-between}
+use Rattle.tables.specs.Holds.{Holds}
+use Rattle.insertion_memory.proofs.Made.{count-is}
+use Rattle.insertion_memory.proofs.Beginnings.{holds-whole}
+use Rattle.calls.specs.Library.{libraryTables, Keeps}
+use Rattle.calls.proofs.Library.{need, room-within, library-range, library-holds, library-lent}
+
+-- where lengths are not refused, there is room
+pub short-room : (lengths : Lent) (m : Measures) (rest : List Condition) → firstOf (shortConditions layout lengths m ++ rest) ≡ none
+    → Room lengths m
+short-room lengths m rest e =
+    let one = none-first (controlShort layout lengths) shortTable _ e in
+    let two = none-first (tablesShort layout lengths m) shortTable _ (one .1) in
+    room-of lengths m (one .0) (two .0)
+
+-- ---- the conditions before a call's own, by what lengths and measures decide
+
+-- the two lists refuse the same first
+abbrev Same : List Condition → List Condition → Tables → Measures → Type 0
+Same rest others t m = firstOf (madeConditions t ++ rest) ≡ firstOf (shortConditions layout (lentOf t) m ++ others)
+
+module _ (rest others : List Condition) (t : Tables) (m : Measures) where
+  by-short : controlShort layout (lentOf t) ≡ true → Same rest others t m
+  unfolding madeConditions lentConditionsOf firstOf
+  by-short e = rw e
+
+  -- with a long enough control record that has these measures
+  by-long : controlShort layout (lentOf t) ≡ false → measuresOf t ≡ m → inRange m ≡ true → (c : Bool) → tablesShort layout (lentOf t) m ≡ c
+      → (c ≡ false → (wellFormed t ≡ true) × (firstOf rest ≡ firstOf others)) → Same rest others t m
+  unfolding madeConditions lentConditionsOf firstOf
+  by-long long measured range true e f = rw (long, measured, range, e)
+  by-long long measured range false e f = rw (long, measured, range, e, f refl .0) (f refl .1)
+
+-- ---- tables lent of a memory that keeps a book
+
+module _ {memory : Tables} {b : Book} (keeps : Keeps memory b) (part : Tables) (begins : Begins part memory) where
+  abbrev m : Measures
+  m = b .measures
+
+  abbrev own : Tables
+  own = libraryTables (b .measures) (b .traces)
+
+  own-holds : Holds own m (b .traces)
+  own-holds = library-holds m (b .traces) (keeps .library)
+
+  own-lent : lentOf own ≡ need m
+  own-lent = library-lent m (b .traces) (keeps .library)
+
+  -- long enough, they begin with the library's tables, and hold what these hold
+  pub library-begins : Room (lentOf part) m → Begins own part
+  library-begins r = begins-between own part memory (keeps .needed-places) begins
+      (subst (λ (l : Lent). Within l (lentOf part)) (sym own-lent) (room-within r))
+
+  pub part-holds : Room (lentOf part) m → Holds part m (b .traces)
+  part-holds r = holds-whole (library-begins r) own-holds
+
+  -- a field of the control record is the memory's
+  field-of : (t : Tables) → Begins t memory → (i : ℕ) → i < length (t .control) → field (t .control) i ≡ field (memory .control) i
+  field-of t e i h = ap (λ (l : List ℕ). getD l i 0) (sym (ap (λ (t : Tables). t .control) e))
+      ∙ getD-take (length (t .control)) (memory .control) i 0 h
+
+  -- a long enough control record has the book's measures, whatever the other tables' lengths
+  measures-are : controlFields ≤ length (part .control) → measuresOf part ≡ m
+  measures-are long =
+      let own-long : length (own .control) ≡ controlFields = ap (λ (l : Lent). l .control) own-lent in
+      let of : (i : ℕ) → i < controlFields → field (part .control) i ≡ field (own .control) i =
+      λ i h. field-of part begins i (omega arith) ∙ sym (field-of own (keeps .needed-places) i (omega arith)) in
+      rw (of 0 (omega arith), of 1 (omega arith), of 2 (omega arith)) (own-holds .measures-are)
+
+  -- so what is refused before a call's own conditions is what the book refuses, where those then refuse the same
+  pub made-same : (rest others : List Condition) → (Holds part m (b .traces) → firstOf rest ≡ firstOf others) → Same rest others part m
+  unfolding controlShort
+  made-same rest others same = by (controlShort layout (lentOf part)) refl
+    where
+      by : (c : Bool) → controlShort layout (lentOf part) ≡ c → Same rest others part m
+      by true e = by-short rest others part m e
+      by false e =
+          by-long rest others part m e (measures-are (ltb-false (length (part .control)) controlFields e))
+          (test-true (inRange m) (library-range m (b .traces) (keeps .library)))
+          (tablesShort layout (lentOf part) m) refl
+          (λ f. let h = part-holds (room-of (lentOf part) m e f) in (test-true (wellFormed part) (h .formed), same h))
+
+  pub counted : Holds part m (b .traces) → traceCount part ≡ length (b .traces)
+  counted h = count-is part ∙ ap length (h .traces-are)

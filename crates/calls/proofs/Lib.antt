@@ -1,0 +1,12 @@
+-- What each call does to tables is what the book says of it: the step of the theorem over lists of calls, once for all calls.
+pub mod Finds
+pub mod Library
+pub mod Kept
+pub mod Agrees
+pub mod Ends
+pub mod Steps
+pub mod OneCall
+pub mod NeverSpoiled
+pub mod RoundTrips
+pub mod OffTrail
+pub mod Demands

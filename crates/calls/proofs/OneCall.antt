@@ -1,0 +1,186 @@
+-- Demand 1, of every call on every memory: its definition refuses with the first condition that holds and hands back what it was lent, or
+-- does its work within the places that the measures need.
+use Prim.Native.Nat.{ℕ, _*_, _<_}
+use mathlib.Core.Path.{_≡_, refl, sym, ap, subst, _∙_}
+use mathlib.Core.Bool.{not}
+use mathlib.Core.Option.{Option, none, some}
+use mathlib.Core.List.{List, [], _++_}
+use native.Mathlib.Omega.{arith}
+use lib.ListN.{length, drop, List·getD-append}
+use lib.Seq.{drop-append-le}
+use lib.Dec.{T, eqb}
+use borrow.Author.Tests.{not-false, eqb-true, eqb-false}
+use Rattle.integer.proofs.Lists.{strict}
+use Rattle.dstree.specs.Measures.{Trace, Measures, sampleLimit, inRange, isLibrary, samplesNeeded, recordsNeeded, linksNeeded, workNeeded}
+use Rattle.dstree.specs.Refusals.{Refusal, _refuses_, firstOf, measure, wrongTrace, full}
+use Rattle.dstree.specs.Sheet.{Judged, refused, holds, judgeSheet}
+use Rattle.dstree.specs.Book.{Ask, opening, adding, matching, writing, reading, Call, besideOf, Reply, reply}
+use Rattle.dstree.specs.Book.{shortConditions, readingConditions}
+use Rattle.dstree.proofs.Conditions.{none-first, none-both}
+use Rattle.dstree.proofs.RoundTrips.{is-library}
+use Rattle.tables.specs.Layout.{layout, controlFields, recordPlaces, nPlace, capacityPlace, leafSizePlace}
+use Rattle.tables.specs.Tables.{Tables, lentOf, field, measuresOf, traceCount}
+use Rattle.tables.specs.Judge.{openingConditionsOf, Room}
+use Rattle.tables.specs.Beginning.{firstPlaces, left, Begins}
+use Rattle.tables.specs.Answers.{openingConditions, madeConditions, opened}
+use Rattle.tables.proofs.Views.{tree-formed}
+use Rattle.tables.proofs.Beginning.{extended, behindOf, begins-is, tables-same, left-same, left-extended, left-lent, begins-within}
+use Rattle.tables.proofs.Beginning.{first-begins, fill-length, opened-lent}
+use Rattle.insertion_memory.specs.Memory.{addedTo}
+use Rattle.insertion_memory.proofs.FromTables.{long-of}
+use Rattle.insertion_memory.proofs.Meaning.{meaning}
+use Rattle.calls.specs.Outcome.{Effect, unlessRefused}
+use Rattle.calls.specs.Library.{loaded, beyond}
+use Rattle.calls.specs.Effects.{opens, adds, cleared, matches, writes, loadedBy, reads, effectOf}
+use Rattle.calls.specs.Follows.{Typed, Follows}
+use Rattle.calls.specs.Demands.{OneCall}
+use Rattle.calls.proofs.Library.{opened-beyond, loaded-holds, loaded-lent, loaded-beyond, fill-behind}
+use Rattle.calls.proofs.Finds.{accepted}
+use Rattle.calls.proofs.Kept.{short-room}
+use Rattle.calls.proofs.Steps.{reply-is, memory-is}
+
+-- ---- what a call that is not refused leaves
+
+-- tables after a call, whose measures are those of the library that they then hold
+pub record Untouched (t after : Tables) : Type 0 where
+  pub lengths-same : lentOf after ≡ lentOf t
+  pub room : Room (lentOf t) (measuresOf after)
+  pub beyond-same : beyond (measuresOf after) after ≡ beyond (measuresOf after) t
+
+module _ (t : Tables) where
+  opening-untouched : (m : Measures) → firstOf (opens t m .conditions) ≡ none → Untouched t (opened t m)
+  unfolding opens openingConditions openingConditionsOf opened
+  opening-untouched m e =
+      let r = short-room (lentOf t) m [] (none-first (not (inRange m)) measure (shortConditions layout (lentOf t) m) e .1) in
+      record { lengths-same = opened-lent t m r; room = r; beyond-same = opened-beyond t m r }
+
+  adding-untouched : (x : Trace) → firstOf (adds t x .conditions) ≡ none → Untouched t (addedTo t x)
+  unfolding adds
+  adding-untouched x e =
+      let own = none-both (madeConditions t) _ e .1 in
+      let one = none-first (not (eqb (length x) (measuresOf t .n))) wrongTrace _ own in
+      let two = none-first (eqb (traceCount t) (measuresOf t .capacity)) full _ (one .1) in
+      let ok = accepted t _ e in
+      let size = eqb-true (length x) (measuresOf t .n) (not-false _ (one .0)) in
+      let less = strict (tree-formed t (ok .formed) .room) (λ q. eqb-false (traceCount t) (measuresOf t .capacity) (two .0) q) in
+      let a = meaning t x (ok .formed) (long-of t (ok .room)) size less in
+      record {
+        lengths-same = a .lengths-stay;
+        room = rw (a .measures-stay) (ok .room);
+        beyond-same = rw (a .measures-stay)
+            (tables-same (a .control-behind) (a .samples-behind) (a .nodes-behind) (a .links-behind)
+            (ap (drop (workNeeded (measuresOf t))) (a .work-stays)));
+      }
+
+  matching-untouched : (query : Trace) (trail : List ℕ) → firstOf (matches t query trail .conditions) ≡ none → Untouched t (cleared t)
+  unfolding matches
+  matching-untouched query trail e =
+      let r = accepted t _ e .room in
+      let k : ℕ = workNeeded (measuresOf t) in
+      record {
+        lengths-same = rw (fill-length {A = ℕ} k 0 (t .work) (r .work-room));
+        room = r;
+        beyond-same = tables-same refl refl refl refl (fill-behind {A = ℕ} k 0 (t .work));
+      }
+
+  writing-untouched : (sheet : List ℕ) → firstOf (writes t sheet .conditions) ≡ none → Untouched t t
+  unfolding writes
+  writing-untouched sheet e = record { lengths-same = refl; room = accepted t _ e .room; beyond-same = refl }
+
+  reading-by : (j : Judged) → ((m : Measures) (traces : List Trace) → j ≡ holds m traces → T (isLibrary sampleLimit m traces))
+      → firstOf (readingConditions layout (lentOf t) j) ≡ none → Untouched t (loadedBy t j)
+  unfolding readingConditions firstOf loadedBy
+  reading-by (refused why) is e = let z : _≡_ {A = ℕ} 0 1 = cc in absurd (omega arith)
+  reading-by (holds m traces) is e =
+      let r = short-room (lentOf t) m [] e in
+      let library = is m traces refl in
+      let m-is : measuresOf (loaded t m traces) ≡ m = loaded-holds t m r traces library .measures-are in
+      record {
+        lengths-same = loaded-lent t m r traces library;
+        room = rw m-is r;
+        beyond-same = rw m-is
+            (loaded-beyond t m r traces library);
+      }
+
+  pub after-untouched : (ask : Ask) → Typed ask → firstOf (effectOf ask t .conditions) ≡ none → Untouched t (effectOf ask t .after)
+  unfolding effectOf opens adds matches writes reads Typed
+  after-untouched (opening m) typed e = opening-untouched m e
+  after-untouched (adding x) typed e = adding-untouched x e
+  after-untouched (matching query trail) typed e = matching-untouched query trail e
+  after-untouched (writing sheet) typed e = writing-untouched sheet e
+  after-untouched (reading bytes) typed e = reading-by (judgeSheet bytes) (λ m traces j. is-library bytes m traces typed j) e
+
+-- ---- the same of a memory whose first places are lent
+
+-- more places behind: measures, and the places beyond the needed ones
+module _ (t more : Tables) (m : Measures) (room : Room (lentOf t) m) where
+  extended-measures : measuresOf (extended t more) ≡ measuresOf t
+  extended-measures = rw (of nPlace (omega arith), of capacityPlace (omega arith), of leafSizePlace (omega arith))
+    where
+      of : (i : ℕ) → i < controlFields → field (t .control ++ more .control) i ≡ field (t .control) i
+      of i h = List·getD-append (t .control) (more .control) 0 i (omega (arith, room .control-room))
+
+  extended-beyond : beyond m (extended t more) ≡ extended (beyond m t) more
+  extended-beyond = tables-same
+      (drop-append-le controlFields (t .control) (more .control) (room .control-room))
+      (drop-append-le (samplesNeeded m) (t .samples) (more .samples) (room .samples-room))
+      (drop-append-le (recordsNeeded m * recordPlaces) (t .nodes) (more .nodes) (room .nodes-room))
+      (drop-append-le (linksNeeded m) (t .links) (more .links) (room .links-room))
+      (drop-append-le (workNeeded m) (t .work) (more .work) (room .work-room))
+
+abbrev Whole : Tables → Tables → Type 0
+Whole memory memory′ = (lentOf memory′ ≡ lentOf memory) × (beyond (measuresOf memory′) memory′ ≡ beyond (measuresOf memory′) memory)
+
+whole : (part after memory : Tables) → Begins part memory → Untouched part after → Whole memory (left after memory)
+whole part after memory begins u =
+    let e : memory ≡ extended part more = begins-is part memory begins in (
+      left-lent after memory (rw (u .lengths-same) (begins-within part memory begins)),
+      by memory (left after memory) e
+          (ap (left after) e ∙ left-extended part after more (u .lengths-same)),
+    )
+  where
+    more : Tables
+    more = behindOf part memory
+
+    m : Measures
+    m = measuresOf after
+
+    room : Room (lentOf after) m
+    room = rw (u .lengths-same) (u .room)
+
+    by : (k k′ : Tables) → k ≡ extended part more → k′ ≡ extended after more → beyond (measuresOf k′) k′ ≡ beyond (measuresOf k′) k
+    by k k′ e e′ = rw (e, e′)
+        (subst (λ (n : Measures). beyond n (extended after more) ≡ beyond n (extended part more))
+        (sym (extended-measures after more m room))
+        (extended-beyond after more m room ∙ (ap (λ (t : Tables). extended t more) (u .beyond-same)
+        ∙ sym (extended-beyond part more m (u .room)))))
+
+-- ---- demand 1
+
+pub one-call : (c : Call) (memory memory′ : Tables) (said : Reply) → Follows c memory said memory′ → OneCall c memory said memory′
+unfolding unlessRefused
+one-call c memory memory′ said f = by (firstOf (e .conditions)) refl (reply-is f) (memory-is f)
+  where
+    part : Tables
+    part = firstPlaces (c .lent) memory
+
+    e : Effect
+    e = effectOf (c .ask) part
+
+    begins : Begins part memory
+    begins = first-begins (c .lent) memory
+
+    by : (o : Option Refusal) → firstOf (e .conditions) ≡ o → let r = unlessRefused o part (besideOf (c .ask)) e in
+        said ≡ reply (r .answer) (r .beside) → memory′ ≡ left (r .after) memory → OneCall c memory said memory′
+    by (some w) q r k = record {
+      refuses = λ why p. ap (λ (x : Reply). x .answer) r ∙ cc;
+      works = λ p. let z : _≡_ {A = ℕ} 0 1 = cc in absurd (omega arith);
+      as-before = λ why p. (k ∙ left-same part memory begins, ap (λ (x : Reply). x .beside) r);
+      untouched = λ result p. let z : _≡_ {A = ℕ} 0 1 = cc (ap (λ (x : Reply). x .answer) r) in absurd (omega arith);
+    }
+    by none q r k = record {
+      refuses = λ why p. let z : _≡_ {A = ℕ} 0 1 = cc in absurd (omega arith);
+      works = λ p. (r, k);
+      as-before = λ why p. let z : _≡_ {A = ℕ} 0 1 = cc (ap (λ (x : Reply). x .answer) r) in absurd (omega arith);
+      untouched = λ result p. rw k (whole part (e .after) memory begins (after-untouched part (c .ask) (f .typed) q));
+    }

@@ -1,0 +1,148 @@
+-- The three demands, of calls that follow their definitions: demand 1 of every call on every memory; demand 2 and document 01's "Demand 3,
+-- over a list of calls", a field for each sentence, of what a list of calls leaves. `proofs/Demands` proves them.
+use Prim.Native.Nat.{ℕ, _≤_, _<_}
+use mathlib.Core.Path.{_≡_}
+use mathlib.Core.Bool.{not}
+use mathlib.Core.Option.{none, some}
+use mathlib.Core.List.{List, [], _∷_}
+use lib.ListN.{length, getD}
+use lib.Dec.{T}
+use Rattle.integer.specs.Words.{every, isIn}
+use Rattle.integer.specs.Lists.{In}
+use Rattle.segment.specs.Figures.{distance}
+use Rattle.dstree.specs.Measures.{Trace}
+use Rattle.dstree.specs.Matching.{bound, leaves, leastDistance, Match, matchOf}
+use Rattle.dstree.specs.Refusals.{Refusal, spoiled, firstOf}
+use Rattle.dstree.specs.Book.{Lent, matching, writing, reading, Call, call, besideOf, Result, done, matched, written, refusing, Reply}
+use Rattle.dstree.specs.Book.{answering, reply}
+use Rattle.dstree.specs.Book.{over, Book, bookTree, shortConditions, judge, after, repliesOf, start}
+use Rattle.dstree.specs.Claims.{Below, numbersAmong, LeavesOutOnlyAbove}
+use Rattle.tables.specs.Layout.{layout}
+use Rattle.tables.specs.Tables.{Tables, lentOf, measuresOf}
+use Rattle.tables.specs.View.{traceIn, treeIn}
+use Rattle.tables.specs.Beginning.{firstPlaces, left}
+use Rattle.tables.specs.Holds.{Holds}
+use Rattle.calls.specs.Outcome.{Effect}
+use Rattle.calls.specs.Library.{Keeps, beyond}
+use Rattle.calls.specs.Effects.{effectOf}
+use Rattle.calls.specs.Follows.{Follows, Ran}
+
+-- ---- demand 1
+
+-- a call's conditions and work, on the places of a memory that it is lent
+abbrev pub effectIn : Call → Tables → Effect
+effectIn c memory = effectOf (c .ask) (firstPlaces (c .lent) memory)
+
+-- a call on any memory, whatever it holds
+pub record OneCall (c : Call) (memory : Tables) (said : Reply) (memory′ : Tables) : Type 0 where
+  -- "the one refusal that document 01 fixes"
+  pub refuses : (why : Refusal) → firstOf (effectIn c memory .conditions) ≡ some why → said .answer ≡ refusing why
+  -- "does its work": "No condition, no refusal"
+  pub works : firstOf (effectIn c memory .conditions) ≡ none
+      → (said ≡ reply (answering (effectIn c memory .result)) (effectIn c memory .beside))
+      × (memory′ ≡ left (effectIn c memory .after) memory)
+  -- "with all lent memory then as before the call"
+  pub as-before : (why : Refusal) → said .answer ≡ refusing why → (memory′ ≡ memory) × (said .beside ≡ besideOf (c .ask))
+  -- "All calls leave places beyond the needed ones untouched"
+  pub untouched : (r : Result) → said .answer ≡ answering r
+      → (lentOf memory′ ≡ lentOf memory) × (beyond (measuresOf memory′) memory′ ≡ beyond (measuresOf memory′) memory)
+
+-- ---- "Samples in leaves off the trail don't bear on a search"
+
+-- tables that differ "only in samples of traces outside" some leaves: what is not a sample is the same, and so are the samples of the
+-- traces in these leaves. (Samples behind the stored traces may differ as well)
+pub record DifferOutside (set : List ℕ) (these other : Tables) : Type 0 where
+  pub control-same : other .control ≡ these .control
+  pub nodes-same : other .nodes ≡ these .nodes
+  pub links-same : other .links ≡ these .links
+  pub work-same : other .work ≡ these .work
+  pub as-long : length (other .samples) ≡ length (these .samples)
+  pub samples-same : (trace : ℕ) → T (isIn trace (numbersAmong (treeIn these) set))
+      → traceIn (other .samples) (measuresOf these .n) trace ≡ traceIn (these .samples) (measuresOf these .n) trace
+
+-- "well-formed tables that differ only there give the same answer and the same trail": of a match that is not refused, so that its tables
+-- are well formed, whoever made them
+abbrev pub SamplesOffTrail : Type 0
+SamplesOffTrail = (lent : Lent) (query : Trace) (trail : List ℕ) (these these′ : Tables) (said : Reply)
+    → Follows (call lent (matching query trail)) these said these′ → (m : Match) → said .answer ≡ answering (matched m)
+    → (other other′ : Tables) (also : Reply) → DifferOutside (m .trail) these other
+    → Follows (call lent (matching query trail)) other also other′
+    → also ≡ said
+
+-- ---- demands 2 and 3
+
+-- the match of a query in a book: number, distance, counts, and the trail, which is R
+abbrev pub matchIn : Book → Trace → Match
+matchIn b query = matchOf (b .traces) (bookTree b) query
+
+-- a match on some memory, whatever it is lent there, "that the table doesn't refuse", gives this answer and this trail
+abbrev pub MatchGives : Book → Trace → Tables → Match → Type 0
+MatchGives b query memory m = (lent : Lent) (trail : List ℕ) (said : Reply) (memory′ : Tables)
+    → Follows (call lent (matching query trail)) memory said memory′
+    → judge layout b (call lent (matching query trail)) ≡ none → said ≡ reply (answering (matched m)) (over (m .trail) trail ∷ [])
+
+-- "take any query of n samples. Let d be its least distance to the book's traces, and R the leaves with a bound at most d"
+pub record OfAnyQuery (b : Book) (query : Trace) (memory : Tables) : Type 0 where
+  -- "No node's bound exceeds the query's distance to a trace below it"
+  pub bound-at-most : (number trace : ℕ) → Below (bookTree b) trace number
+      → bound (bookTree b) query number ≤ distance query (getD (b .traces) trace [])
+  -- "A match of this query that the table doesn't refuse answers the lowest trace number at distance d, d, the number of leaves in R, and
+  -- the number of traces in them; the trail begins with R, by bound, then by number"
+  pub match-gives : MatchGives b query memory (matchIn b query)
+  -- demand 2: "the match is the stored trace with the least sum of squared sample differences, the lowest number among equals"
+  pub is-stored : matchIn b query .trace < length (b .traces)
+  pub has-distance : distance query (getD (b .traces) (matchIn b query .trace) []) ≡ matchIn b query .distance
+  pub is-least : (trace : ℕ) → trace < length (b .traces) → matchIn b query .distance ≤ distance query (getD (b .traces) trace [])
+  pub is-lowest : (trace : ℕ) → trace < matchIn b query .trace → matchIn b query .distance < distance query (getD (b .traces) trace [])
+  -- "The same match on tables that differ from these only in samples of traces outside R, still well formed, gives that answer and that
+  -- trail"
+  pub others-do-not-bear : (other : Tables) → DifferOutside (matchIn b query .trail) memory other
+      → MatchGives b query other (matchIn b query)
+  -- "R leaves out only bounds above d"
+  pub out-of-R : (number : ℕ) → T (isIn number (leaves (bookTree b))) → T (not (isIn number (matchIn b query .trail)))
+      → leastDistance (b .traces) query < bound (bookTree b) query number
+  -- "Any set of one leaf or more that leaves out only bounds above the least distance in the set contains R, so it has at least as many
+  -- leaves as the answer counts"
+  pub contains-R : (set : List ℕ) → LeavesOutOnlyAbove (b .traces) (bookTree b) query set
+      → T (every (λ number. isIn number set) (matchIn b query .trail))
+  pub fewest : (set : List ℕ) → LeavesOutOnlyAbove (b .traces) (bookTree b) query set → matchIn b query .leaves ≤ length set
+
+-- demand 2: "Such a library, written to a sheet and read back, is the same library": in whatever memory that is long enough, at every
+-- needed place
+abbrev pub WrittenAndRead : Book → Tables → Type 0
+WrittenAndRead b memory = (lent : Lent) (sheet : List ℕ) (said₁ : Reply) (memory₁ : Tables)
+    → Follows (call lent (writing sheet)) memory said₁ memory₁
+    → (blocks : ℕ) (bytes : List ℕ) → said₁ .answer ≡ answering (written blocks bytes)
+    → (lent′ : Lent) (memory₂ : Tables) (said₃ : Reply) (memory₃ : Tables) → Follows (call lent′ (reading bytes)) memory₂ said₃ memory₃
+    → firstOf (shortConditions layout lent′ (b .measures)) ≡ none → (said₃ .answer ≡ answering done) × Keeps memory₃ b
+
+-- what holds after a list of calls, from a book on
+pub record AfterList (b : Book) (calls : List Call) (said : List Reply) (memory : Tables) : Type 0 where
+  -- "What is stored, a book says": every needed place is as the book's library has it ..
+  pub keeps : Keeps memory (after layout b calls)
+  -- .. so that the tables stand for its measures, its traces and its tree, "the one that the published DSTree insertion .. builds from the
+  -- same traces in the same order", and are well formed
+  pub holds : Holds memory (after layout b calls .measures) (after layout b calls .traces)
+  -- "Refusals follow the table, judged by arguments and book", and every answer is the book's; "a refused call changes nothing"
+  pub replies-are : said ≡ repliesOf layout b calls
+  pub written-and-read : WrittenAndRead (after layout b calls) memory
+  -- "3 never arises from these tables"
+  pub never-spoiled : (r : Reply) → In r said → r .answer ≡ refusing spoiled → ⊥
+  -- "After the list, if the book has a trace, take any query of n samples"
+  pub any-query : (query : Trace) → 0 < length (after layout b calls .traces) → length query ≡ after layout b calls .measures .n
+      → OfAnyQuery (after layout b calls) query memory
+
+-- ---- all of it
+
+pub record Demands : Type 0 where
+  pub one-call : (c : Call) (memory memory′ : Tables) (said : Reply) → Follows c memory said memory′ → OneCall c memory said memory′
+  pub off-trail : SamplesOffTrail
+  -- "An opening or a sheet reading has just succeeded when it starts": the first call is one that answers `done`
+  pub after-list : (first : Call) (calls : List Call) (memory₀ memory : Tables) (said₀ : Reply) (said : List Reply)
+      → Ran memory₀ (first ∷ calls) (said₀ ∷ said) memory → said₀ .answer ≡ answering done
+      → AfterList (start layout first) calls said memory
+  -- demand 2: "an accepted sheet is written again byte for byte"
+  pub read-and-written : (lent : Lent) (bytes : List ℕ) (memory₀ memory₁ : Tables) (said₁ : Reply)
+      → Follows (call lent (reading bytes)) memory₀ said₁ memory₁ → said₁ .answer ≡ answering done
+      → (lent′ : Lent) (sheet : List ℕ) (said₂ : Reply) (memory₂ : Tables) → Follows (call lent′ (writing sheet)) memory₁ said₂ memory₂
+      → (blocks : ℕ) (again : List ℕ) → said₂ .answer ≡ answering (written blocks again) → again ≡ bytes

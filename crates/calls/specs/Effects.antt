@@ -1,0 +1,118 @@
+-- The calls, one by one, on tables that hold anything. A contract says that a call's answer, and all that it leaves, is `outcomeOn` what it
+-- asked.
+use Prim.Native.Nat.{ℕ, _*_}
+use mathlib.Core.Bool.{Bool, true, false, not}
+use mathlib.Core.Option.{Option, none, some}
+use mathlib.Core.List.{List, [], _∷_, _++_}
+use lib.ListN.{length}
+use lib.Dec.{eqb, ltb}
+use Rattle.dstree.specs.Measures.{Trace, Measures, workNeeded}
+use Rattle.dstree.specs.Matching.{leaves, Match, matchBySteps}
+use Rattle.dstree.specs.Refusals.{_refuses_, wrongTrace, full, empty, shortTrail, sheetLength}
+use Rattle.dstree.specs.Sheet.{blockSize, blocksNeeded, sheetOf, Judged, refused, holds, judgeSheet}
+use Rattle.dstree.specs.Book.{Ask, opening, adding, matching, writing, reading, besideOf, Result, done, added, matched, written, over}
+use Rattle.dstree.specs.Book.{readingConditions}
+use Rattle.tables.specs.Layout.{layout}
+use Rattle.tables.specs.Tables.{Tables, tables, lentOf, measuresOf, traceCount, filled}
+use Rattle.tables.specs.View.{treeIn, tracesIn}
+use Rattle.tables.specs.Answers.{madeConditions, openingConditions, opened}
+use Rattle.insertion_memory.specs.Memory.{addedTo}
+use Rattle.calls.specs.Outcome.{Effect, Outcome, outcomeOf}
+pub use Rattle.calls.specs.Library.{loaded}
+
+-- ---- opening: "1; .. other tables (2)"
+
+unfoldable pub opens : Tables → Measures → Effect
+opens t m = record { conditions = openingConditions t m; result = done; after = opened t m; beside = [] }
+
+-- ---- adding: "control record too short (2); its measures (3); other tables (2); the rest of 3; then 4", 5
+
+unfoldable pub adds : Tables → Trace → Effect
+adds t x = record {
+  conditions =
+      madeConditions t
+      ++ not (eqb (length x) (measuresOf t .n)) refuses wrongTrace
+      ∷ eqb (traceCount t) (measuresOf t .capacity) refuses full
+      ∷ [];
+  result = added (traceCount t);
+  after = addedTo t x;
+  beside = [];
+}
+
+-- ---- a match: the same; then 4, 6, 7
+
+-- the match that a search found, and its trail. A search that finds none is refused before (below), so that its answer here does not matter
+unfoldable pub resultOf : Option Match → Result
+resultOf none = done
+resultOf (some m) = matched m
+
+unfoldable pub trailOf : Option Match → List ℕ
+trailOf none = []
+trailOf (some m) = m .trail
+
+unfoldable pub isNone : {A : Type 0} → Option A → Bool
+isNone none = true
+isNone (some a) = false
+
+-- "The needed search work is left zero"
+abbrev pub cleared : Tables → Tables
+cleared t = tables (t .control) (t .samples) (t .nodes) (t .links) (filled (workNeeded (measuresOf t)) 0 (t .work))
+
+-- "With well-formed tables that somebody altered, calls follow the steps above on what is recorded". The last condition never holds behind
+-- the others (`proofs/Finds`): well-formed tables with a trace have a leaf, and no leaf is empty (docs/DECISIONS.md, M7)
+unfoldable pub matches : Tables → Trace → List ℕ → Effect
+matches t query trail =
+    let found = matchBySteps (tracesIn t) (treeIn t) query in
+    record {
+      conditions =
+          madeConditions t
+          ++ not (eqb (length query) (measuresOf t .n)) refuses wrongTrace
+          ∷ eqb (traceCount t) 0 refuses empty
+          ∷ ltb (length trail) (length (leaves (treeIn t))) refuses shortTrail
+          ∷ isNone found refuses empty
+          ∷ [];
+      result = resultOf found;
+      after = cleared t;
+      beside = over (trailOf found) trail ∷ [];
+    }
+
+-- ---- writing: the same; then 8, "below the need"
+
+unfoldable pub writes : Tables → List ℕ → Effect
+writes t sheet =
+    let blocks = blocksNeeded (traceCount t) (measuresOf t .n) in
+    let bytes = sheetOf (measuresOf t) (tracesIn t) in
+    record {
+      conditions = madeConditions t ++ ltb (length sheet) (blockSize * blocks) refuses sheetLength ∷ [];
+      result = written blocks bytes;
+      after = t;
+      beside = over bytes sheet ∷ [];
+    }
+
+-- ---- reading: "8; 9 over all blocks; 10; 2"
+
+-- "Reading opens the library and adds the traces in order"
+unfoldable pub loadedBy : Tables → Judged → Tables
+loadedBy t (refused why) = t
+loadedBy t (holds m traces) = loaded t m traces
+
+unfoldable pub reads : Tables → List ℕ → Effect
+reads t bytes = record {
+  conditions = readingConditions layout (lentOf t) (judgeSheet bytes);
+  result = done;
+  after = loadedBy t (judgeSheet bytes);
+  beside = [];
+}
+
+-- ---- any call
+
+unfoldable pub effectOf : Ask → Tables → Effect
+effectOf (opening m) t = opens t m
+effectOf (adding x) t = adds t x
+effectOf (matching query trail) t = matches t query trail
+effectOf (writing sheet) t = writes t sheet
+effectOf (reading bytes) t = reads t bytes
+
+-- what a call answers and leaves that asks this of these tables
+unfoldable pub outcomeOn : Ask → Tables → Outcome
+outcomeOn ask t = outcomeOf t (besideOf ask) (effectOf ask t)

@@ -1,0 +1,8 @@
+-- What each call refuses, answers and leaves in every lent place, on tables that hold anything: the equations that the calls' contracts
+-- cite.
+pub mod Outcome
+pub mod Numbers
+pub mod Library
+pub mod Effects
+pub mod Follows
+pub mod Demands

@@ -1,0 +1,259 @@
+-- Every call that its types allow has a reply and a memory after it: slices that hold what the memory has, and what the definition leaves,
+-- are one.
+use Prim.Native.Nat.{ℕ, zero, suc, _*_}
+use mathlib.Core.Path.{_≡_, refl, sym, ap, _∙_}
+use mathlib.Core.Bool.{false}
+use mathlib.Core.Option.{Option, none, some}
+use mathlib.Core.List.{List, [], _∷_}
+use native.Mathlib.Omega.{arith}
+use lib.ListN.{length, take, drop}
+use lib.Seq.{take-at}
+use denote.Ref.{RefT}
+use contract.Lifetimes.{Lfts}
+use Rattle.dstree.specs.Measures.{Trace, Measures}
+use Rattle.dstree.specs.Matching.{Search, Near, answerOf, searched, Match, matchBySteps}
+use Rattle.dstree.specs.Refusals as word
+use Rattle.dstree.specs.Refusals.{firstOf}
+use Rattle.dstree.specs.Sheet.{blockSize, blocksNeeded, sheetOf}
+use Rattle.dstree.specs.Book.{Ask, opening, adding, matching, writing, reading, Call, besideOf, Answer, answering, reply}
+use Rattle.dstree.specs.Book.{over}
+use Rattle.dstree.proofs.RoundTrips.{sheet-length}
+use Rattle.tables.specs.Tables.{Tables, tables, lentOf, measuresOf, traceCount}
+use Rattle.tables.specs.View.{treeIn, tracesIn}
+use Rattle.tables.specs.Beginning.{firstPlaces, left}
+use Rattle.tables.specs.Answers.{wordOf}
+use Rattle.tables.specs.declared.Refusal.{Refusal}
+use Rattle.tables.specs.declared.Refusal.the-variants as r
+use Rattle.insertion_memory.specs.Memory.{addedTo}
+use Rattle.insertion_memory.proofs.Made.{count-is}
+use Rattle.calls.specs.Outcome.{Outcome, outcome, unlessRefused}
+use Rattle.calls.specs.Effects.{opens, adds, resultOf, trailOf, isNone, cleared, matches, writes, reads, effectOf, outcomeOn}
+use Rattle.calls.specs.Follows.{Typed}
+use Rattle.calls.proofs.Finds.{found, last-never}
+use Rattle.opening.specs.declared.Opened.{Opened}
+use Rattle.opening.specs.declared.Opened.the-variants as o
+use Rattle.opening.specs.Opened as opening-answer
+use Rattle.adding.specs.declared.Added.{Added}
+use Rattle.adding.specs.declared.Added.the-variants as a
+use Rattle.adding.specs.Answered as adding-answer
+use Rattle.matching.specs.declared.Found.{Found}
+use Rattle.matching.specs.declared.Found.the-variants as f
+use Rattle.matching.specs.Answered as matching-answer
+use Rattle.sheet_writing.specs.declared.Written.{Written}
+use Rattle.sheet_writing.specs.declared.Written.the-variants as w
+use Rattle.sheet_writing.specs.Answered as writing-answer
+use Rattle.sheet_reading.specs.declared.Read.{Read}
+use Rattle.sheet_reading.specs.declared.Read.the-variants as d
+use Rattle.sheet_reading.specs.Answered as reading-answer
+use Rattle.demands.specs.Did.{WithTables, Made, by-open, by-add, by-nearest, by-write, by-read}
+use Rattle.demands.specs.Theorem.{Replied}
+
+-- ---- slices
+
+-- a slice that holds this, somewhere
+abbrev slice : {A : Type 0} → List A → RefT (List A)
+slice l = record { ptr = (0, 0); name = 0; now = l }
+
+abbrev slices : {Own : Type 0} → Tables → Own → WithTables Own
+slices t own = (slice (t .control), (slice (t .samples), (slice (t .nodes), (slice (t .links), (slice (t .work), own)))))
+
+-- ---- results
+
+-- a word of the table as the enum has it
+abbrev caseOf : word.Refusal → Refusal
+caseOf word.measure = r.Measure
+caseOf word.shortTable = r.ShortTable
+caseOf word.spoiled = r.Spoiled
+caseOf word.wrongTrace = r.WrongTrace
+caseOf word.full = r.Full
+caseOf word.empty = r.Empty
+caseOf word.shortTrail = r.ShortTrail
+caseOf word.sheetLength = r.SheetLength
+caseOf (word.tornBlock block) = r.TornBlock block
+caseOf word.badSheet = r.BadSheet
+
+case-word : (why : word.Refusal) → wordOf (caseOf why) ≡ why
+unfolding wordOf
+case-word word.measure = refl
+case-word word.shortTable = refl
+case-word word.spoiled = refl
+case-word word.wrongTrace = refl
+case-word word.full = refl
+case-word word.empty = refl
+case-word word.shortTrail = refl
+case-word word.sheetLength = refl
+case-word (word.tornBlock block) = refl
+case-word word.badSheet = refl
+
+-- a result, and what is left beside the tables, with which code says an outcome
+record Said {R : Type 0} (outcomeBy : R → List ℕ → Outcome) (o : Outcome) : Type 0 where
+  pub result : R
+  pub beside : List ℕ
+  pub is : outcomeBy result beside ≡ o
+
+opening-said : (t : Tables) (m : Measures) (o : Option word.Refusal) → let e = unlessRefused o t [] (opens t m) in
+    Said (λ (r : Opened) l. outcome (opening-answer.answerOf r) (e .after) []) e
+unfolding unlessRefused opens opening-answer.answerOf
+opening-said t m (some why) = record { result = o.Refused (caseOf why); beside = []; is = rw (case-word why) }
+opening-said t m none = record { result = o.Done; beside = []; is = refl }
+
+reading-said : (t : Tables) (bytes : List ℕ) (o : Option word.Refusal) → let e = unlessRefused o t [] (reads t bytes) in
+    Said (λ (r : Read) l. outcome (reading-answer.answerOf r) (e .after) []) e
+unfolding unlessRefused reads reading-answer.answerOf
+reading-said t bytes (some why) = record { result = d.Refused (caseOf why); beside = []; is = rw (case-word why) }
+reading-said t bytes none = record { result = d.Done; beside = []; is = refl }
+
+adding-said : (t : Tables) (x : Trace) (o : Option word.Refusal) → let e = unlessRefused o t [] (adds t x) in
+    Said (λ (r : Added) l. outcome (adding-answer.answerOf r)
+    (tables (e .after .control) (e .after .samples) (e .after .nodes) (e .after .links) (t .work)) []) e
+unfolding unlessRefused adds addedTo adding-answer.answerOf
+adding-said t x (some why) = record { result = a.Refused (caseOf why); beside = []; is = rw (case-word why) }
+adding-said t x none = record { result = a.At (traceCount t); beside = []; is = refl }
+
+-- the trail that code answers is as long as it counts
+trail-read : (s : Search) (o : Option Near) (m : Match) (trail : List ℕ) → answerOf s o ≡ some m
+    → take (m .leaves) (over (m .trail) trail) ≡ m .trail
+unfolding answerOf
+trail-read s none m trail e = let z : _≡_ {A = ℕ} 0 1 = cc in absurd (omega arith)
+trail-read s (some best) m trail e =
+    let counted : length (m .trail) ≡ m .leaves = cc in
+    take-at (m .trail) (drop (length (m .trail)) trail) (m .leaves) counted
+
+matching-said : (t : Tables) (query : Trace) (trail : List ℕ) (o : Option word.Refusal) → firstOf (matches t query trail .conditions) ≡ o
+    → let e = unlessRefused o t (trail ∷ []) (matches t query trail) in
+    Said (λ (r : Found) l. outcome (matching-answer.answerBy r l)
+    (tables (t .control) (t .samples) (t .nodes) (t .links) (e .after .work)) (l ∷ [])) e
+unfolding unlessRefused matches matching-answer.answerBy resultOf trailOf isNone matchBySteps
+matching-said t query trail (some why) q = record { result = f.Refused (caseOf why); beside = trail; is = rw (case-word why) }
+matching-said t query trail none q = by (matchBySteps (tracesIn t) (treeIn t) query) refl
+    (found t query trail (sym (last-never t query trail) ∙ q))
+  where
+    s : Search
+    s = searched (tracesIn t) (treeIn t) query
+
+    by : (x : Option Match) → answerOf s (s .best) ≡ x → isNone x ≡ false
+        → Said (λ (r : Found) l. outcome (matching-answer.answerBy r l) (cleared t) (l ∷ []))
+        (outcome (answering (resultOf x)) (cleared t) (over (trailOf x) trail ∷ []))
+    by none e n = let z : _≡_ {A = ℕ} 0 1 = cc in absurd (omega arith)
+    by (some m) e n = record {
+      result = f.At (m .trace) (m .distance) (m .leaves) (m .traces);
+      beside = over (m .trail) trail;
+      is = rw (trail-read s (s .best) m trail e);
+    }
+
+writing-said : (t : Tables) (sheet : List ℕ) (o : Option word.Refusal) → let e = unlessRefused o t (sheet ∷ []) (writes t sheet) in
+    Said (λ (r : Written) l. outcome (writing-answer.answerBy r l) t (l ∷ [])) e
+unfolding unlessRefused writes writing-answer.answerBy
+writing-said t sheet (some why) = record { result = w.Refused (caseOf why); beside = sheet; is = rw (case-word why) }
+writing-said t sheet none = record {
+  result = w.Blocks blocks;
+  beside = over bytes sheet;
+  is = rw
+      (take-at bytes (drop (length bytes) sheet) (blockSize * blocks) size);
+}
+  where
+    blocks : ℕ
+    blocks = blocksNeeded (traceCount t) (measuresOf t .n)
+
+    bytes : List ℕ
+    bytes = sheetOf (measuresOf t) (tracesIn t)
+
+    size : length bytes ≡ blockSize * blocks
+    size = sheet-length (measuresOf t) (tracesIn t) ∙ ap (λ (k : ℕ). blockSize * blocksNeeded k (measuresOf t .n)) (sym (count-is t))
+
+-- ---- any call
+
+-- lifetimes, whichever
+abbrev lifetimes : (n : ℕ) → Lfts n
+lifetimes zero = tt
+lifetimes (suc n) = ([], lifetimes n)
+
+module _ (c : Call) (memory : Tables) (places : lentOf (firstPlaces (c .lent) memory) ≡ c .lent) where
+  abbrev t : Tables
+  t = firstPlaces (c .lent) memory
+
+  in-place : {ask : Ask} (answer : Answer) (after : Tables) (beside : List (List ℕ)) → c .ask ≡ ask → Typed ask
+      → Made ask t answer after beside c memory (reply answer beside) (left after memory)
+  in-place answer after beside asked typed = record { asks = asked; typed = typed; first-places = refl; so-many = places; says = refl; leaves = refl }
+
+  by-ask : (ask : Ask) → c .ask ≡ ask → Typed ask → Replied c memory
+  unfolding outcomeOn effectOf besideOf
+  by-ask (opening m) asked typed =
+      let s = opening-said t m (firstOf (opens t m .conditions)) in
+      let after = outcomeOn (opening m) t .after in
+      record {
+        said = reply (opening-answer.answerOf (s .result)) [];
+        memory′ = left after memory;
+        did = by-open (record {
+          κs = lifetimes 5;
+          args = slices t (m .n, (m .capacity, (m .leafSize, tt)));
+          exits = slices after (m .n, (m .capacity, (m .leafSize, tt)));
+          result = s .result;
+          claim = s .is;
+          made = in-place _ after [] asked typed;
+        });
+      }
+  by-ask (adding x) asked typed =
+      let s = adding-said t x (firstOf (adds t x .conditions)) in
+      let after = outcomeOn (adding x) t .after in
+      let kept = tables (after .control) (after .samples) (after .nodes) (after .links) (t .work) in
+      record {
+        said = reply (adding-answer.answerOf (s .result)) [];
+        memory′ = left kept memory;
+        did = by-add (record {
+          κs = lifetimes 6;
+          args = slices t (slice x, tt);
+          exits = slices after (slice x, tt);
+          result = s .result;
+          claim = s .is;
+          made = in-place _ kept [] asked typed;
+        });
+      }
+  by-ask (matching query trail) asked typed =
+      let s = matching-said t query trail (firstOf (matches t query trail .conditions)) refl in
+      let after = outcomeOn (matching query trail) t .after in
+      let kept = tables (t .control) (t .samples) (t .nodes) (t .links) (after .work) in
+      record {
+        said = reply (matching-answer.answerBy (s .result) (s .beside)) (s .beside ∷ []);
+        memory′ = left kept memory;
+        did = by-nearest (record {
+          κs = lifetimes 7;
+          args = slices t (slice trail, (slice query, tt));
+          exits = slices after (slice (s .beside), (slice query, tt));
+          result = s .result;
+          claim = s .is;
+          made = in-place _ kept (s .beside ∷ []) asked typed;
+        });
+      }
+  by-ask (writing sheet) asked typed =
+      let s = writing-said t sheet (firstOf (writes t sheet .conditions)) in
+      record {
+        said = reply (writing-answer.answerBy (s .result) (s .beside)) (s .beside ∷ []);
+        memory′ = left t memory;
+        did = by-write (record {
+          κs = lifetimes 6;
+          args = slices t (slice sheet, tt);
+          exits = slices t (slice (s .beside), tt);
+          result = s .result;
+          claim = s .is;
+          made = in-place _ t (s .beside ∷ []) asked typed;
+        });
+      }
+  by-ask (reading bytes) asked typed =
+      let s = reading-said t bytes (firstOf (reads t bytes .conditions)) in
+      let after = outcomeOn (reading bytes) t .after in
+      record {
+        said = reply (reading-answer.answerOf (s .result)) [];
+        memory′ = left after memory;
+        did = by-read (record {
+          κs = lifetimes 6;
+          args = slices t (slice bytes, tt);
+          exits = slices after (slice bytes, tt);
+          result = s .result;
+          claim = s .is;
+          made = in-place _ after [] asked typed;
+        });
+      }
+
+pub replies : (c : Call) (memory : Tables) → lentOf (firstPlaces (c .lent) memory) ≡ c .lent → Typed (c .ask) → Replied c memory
+replies c memory places typed = by-ask c memory places (c .ask) refl typed

@@ -1,0 +1,22 @@
+-- The theorem, from the contracts that the code meets and the demands over definitions.
+use Rattle.opening.proofs.open.Met as open-met
+use Rattle.adding.proofs.add.Met as add-met
+use Rattle.matching.proofs.nearest.Met as nearest-met
+use Rattle.sheet_writing.proofs.write_sheet.Met as write-met
+use Rattle.sheet_reading.proofs.read_sheet.Met as read-met
+use Rattle.calls.proofs.Demands.{demands}
+use Rattle.demands.specs.Theorem.{Theorem}
+use Rattle.demands.proofs.Follows.{follows}
+use Rattle.demands.proofs.Replies.{replies}
+
+pub theorem : Theorem
+theorem = record {
+  open-meets = open-met.met;
+  add-meets = add-met.met;
+  nearest-meets = nearest-met.met;
+  write-meets = write-met.met;
+  read-meets = read-met.met;
+  follows = follows;
+  replies = replies;
+  demands = demands;
+}

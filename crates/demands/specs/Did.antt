@@ -1,0 +1,138 @@
+-- What a call of the code did: its arguments and what it left, of which its contract speaks, and where its slices lie in a memory.
+use Prim.Native.Nat.{ℕ}
+use mathlib.Core.Path.{_≡_}
+use mathlib.Core.List.{List, [], _∷_}
+use lib.IntN.{ℤ}
+use denote.Ref.{RefT, now}
+use denote.Triple.Clauses.{AtExit}
+use borrow.Fn.Kinds.{Dens, endedOf}
+use contract.Lifetimes.{Lfts}
+use Rattle.dstree.specs.Measures.{measures}
+use Rattle.dstree.specs.Book.{Ask, opening, adding, matching, writing, reading, Call, Answer, Reply, reply}
+use Rattle.tables.specs.Tables.{Tables, tables, lentOf}
+use Rattle.tables.specs.Beginning.{firstPlaces, left}
+use Rattle.calls.specs.Follows.{Typed}
+use Rattle.opening.specs.declared.Opened.{Opened}
+use Rattle.opening.specs.Opened as opening-answer
+use Rattle.opening.proofs.open.Kinds as open-kinds
+use Rattle.opening.proofs.open.Reads as open-reads
+use Rattle.adding.specs.declared.Added.{Added}
+use Rattle.adding.specs.Answered as adding-answer
+use Rattle.adding.proofs.add.Kinds as add-kinds
+use Rattle.adding.proofs.add.Reads as add-reads
+use Rattle.matching.specs.declared.Found.{Found}
+use Rattle.matching.specs.Answered as matching-answer
+use Rattle.matching.proofs.nearest.Kinds as nearest-kinds
+use Rattle.matching.proofs.nearest.Reads as nearest-reads
+use Rattle.sheet_writing.specs.declared.Written.{Written}
+use Rattle.sheet_writing.specs.Answered as writing-answer
+use Rattle.sheet_writing.proofs.write_sheet.Kinds as write-kinds
+use Rattle.sheet_writing.proofs.write_sheet.Reads as write-reads
+use Rattle.sheet_reading.specs.declared.Read.{Read}
+use Rattle.sheet_reading.specs.Answered as reading-answer
+use Rattle.sheet_reading.proofs.read_sheet.Kinds as read-kinds
+use Rattle.sheet_reading.proofs.read_sheet.Reads as read-reads
+
+-- ---- slices
+
+-- every call is lent the five tables first, to write or to read, and then what is its own. The same stands at its end
+abbrev pub WithTables : Type 0 → Type 0
+WithTables Own = RefT (List ℕ) × (RefT (List ℤ) × (RefT (List ℤ) × (RefT (List ℕ) × (RefT (List ℕ) × Own))))
+
+module _ {Own : Type 0} (s : WithTables Own) where
+  abbrev pub control : List ℕ
+  control = now (s .0)
+
+  abbrev pub samples : List ℤ
+  samples = now (s .1 .0)
+
+  abbrev pub nodes : List ℤ
+  nodes = now (s .1 .1 .0)
+
+  abbrev pub links : List ℕ
+  links = now (s .1 .1 .1 .0)
+
+  abbrev pub work : List ℕ
+  work = now (s .1 .1 .1 .1 .0)
+
+  abbrev pub own : Own
+  own = s .1 .1 .1 .1 .1
+
+  abbrev pub tablesOf : Tables
+  tablesOf = tables control samples nodes links work
+
+-- ---- a call in a memory
+
+-- a call c on a memory is this ask of tables that held `before` and then `after`: "Each call gets the tables as the last one left them",
+-- the first so many places of each
+pub record Made (ask : Ask) (before : Tables) (answer : Answer) (after : Tables) (beside : List (List ℕ))
+    (c : Call) (memory : Tables) (said : Reply) (memory′ : Tables) : Type 0 where
+  pub asks : c .ask ≡ ask
+  -- what the types of lent slices say of it
+  pub typed : Typed ask
+  pub first-places : before ≡ firstPlaces (c .lent) memory
+  pub so-many : lentOf before ≡ c .lent
+  pub says : said ≡ reply answer beside
+  pub leaves : memory′ ≡ left after memory
+
+-- ---- call by call, with the claim of its contract (`claim`), which the code meets (`Theorem`)
+
+pub record Opens (c : Call) (memory : Tables) (said : Reply) (memory′ : Tables) : Type 0 where
+  pub κs : Lfts 5
+  pub args : Dens κs open-kinds.ps
+  pub exits : AtExit (endedOf 5 open-kinds.ps open-kinds.r) κs
+  pub result : Opened
+  pub claim : open-reads.Learnt κs args result exits
+  pub made : Made (opening (measures (own args .0) (own args .1 .0) (own args .1 .1 .0))) (tablesOf args)
+      (opening-answer.answerOf result) (tablesOf exits) [] c memory said memory′
+
+-- adding is lent the search work to read, and leaves it
+pub record Adds (c : Call) (memory : Tables) (said : Reply) (memory′ : Tables) : Type 0 where
+  pub κs : Lfts 6
+  pub args : Dens κs add-kinds.ps
+  pub exits : AtExit (endedOf 6 add-kinds.ps add-kinds.r) κs
+  pub result : Added
+  pub claim : add-reads.Learnt κs args result exits
+  pub made : Made (adding (now (own args .0))) (tablesOf args)
+      (adding-answer.answerOf result) (tables (control exits) (samples exits) (nodes exits) (links exits)
+      (work args)) [] c memory said memory′
+
+-- a match is lent all but search work and trail to read
+pub record Matches (c : Call) (memory : Tables) (said : Reply) (memory′ : Tables) : Type 0 where
+  pub κs : Lfts 7
+  pub args : Dens κs nearest-kinds.ps
+  pub exits : AtExit (endedOf 7 nearest-kinds.ps nearest-kinds.r) κs
+  pub result : Found
+  pub claim : nearest-reads.Learnt κs args result exits
+  pub made : let trail = now (own exits .0) in
+      Made (matching (now (own args .1 .0)) (now (own args .0))) (tablesOf args)
+      (matching-answer.answerBy result trail) (tables (control args) (samples args) (nodes args) (links args) (work exits))
+      (trail ∷ []) c memory said memory′
+
+-- a writing is lent all tables to read, and leaves them
+pub record Writes (c : Call) (memory : Tables) (said : Reply) (memory′ : Tables) : Type 0 where
+  pub κs : Lfts 6
+  pub args : Dens κs write-kinds.ps
+  pub exits : AtExit (endedOf 6 write-kinds.ps write-kinds.r) κs
+  pub result : Written
+  pub claim : write-reads.Learnt κs args result exits
+  pub made : let sheet = now (own exits .0) in
+      Made (writing (now (own args .0))) (tablesOf args) (writing-answer.answerBy result sheet) (tablesOf args)
+      (sheet ∷ []) c memory said memory′
+
+-- a reading is lent its sheet to read
+pub record Reads (c : Call) (memory : Tables) (said : Reply) (memory′ : Tables) : Type 0 where
+  pub κs : Lfts 6
+  pub args : Dens κs read-kinds.ps
+  pub exits : AtExit (endedOf 6 read-kinds.ps read-kinds.r) κs
+  pub result : Read
+  pub claim : read-reads.Learnt κs args result exits
+  pub made : Made (reading (now (own args .0))) (tablesOf args) (reading-answer.answerOf result) (tablesOf exits) [] c memory said memory′
+
+-- a call on a memory, what it answered, and the memory after it
+pub data Did (c : Call) (memory : Tables) (said : Reply) (memory′ : Tables) : Type 0 where
+  by-open : Opens c memory said memory′ → Did c memory said memory′
+  by-add : Adds c memory said memory′ → Did c memory said memory′
+  by-nearest : Matches c memory said memory′ → Did c memory said memory′
+  by-write : Writes c memory said memory′ → Did c memory said memory′
+  by-read : Reads c memory said memory′ → Did c memory said memory′

@@ -1,0 +1,32 @@
+-- The theorem. The code meets the contracts, so that each call ends and stays inside the lent memory; what a call does by its contract is
+-- what is defined; and of calls that follow their definitions the demands hold.
+use mathlib.Core.Path.{_≡_}
+use Rattle.dstree.specs.Book.{Call, Reply}
+use Rattle.tables.specs.Tables.{Tables, lentOf}
+use Rattle.tables.specs.Beginning.{firstPlaces}
+use Rattle.opening.proofs.open.Statement as open-statement
+use Rattle.adding.proofs.add.Statement as add-statement
+use Rattle.matching.proofs.nearest.Statement as nearest-statement
+use Rattle.sheet_writing.proofs.write_sheet.Statement as write-statement
+use Rattle.sheet_reading.proofs.read_sheet.Statement as read-statement
+use Rattle.calls.specs.Follows.{Typed, Follows}
+use Rattle.calls.specs.Demands.{Demands}
+use Rattle.demands.specs.Did.{Did}
+
+-- a reply to a call on a memory, and the memory after it
+pub record Replied (c : Call) (memory : Tables) : Type 0 where
+  pub said : Reply
+  pub memory′ : Tables
+  pub did : Did c memory said memory′
+
+pub record Theorem : Type 2 where
+  pub open-meets : {M : Type 1} → open-statement.statement M
+  pub add-meets : {M : Type 1} → add-statement.statement M
+  pub nearest-meets : {M : Type 1} → nearest-statement.statement M
+  pub write-meets : {M : Type 1} → write-statement.statement M
+  pub read-meets : {M : Type 1} → read-statement.statement M
+  -- demand 1: the reply and the memory after are those that the definition makes of the call and the memory before
+  pub follows : (c : Call) (memory memory′ : Tables) (said : Reply) → Did c memory said memory′ → Follows c memory said memory′
+  -- every call that its types allow has a reply and a memory after it, on every memory that has the places that it is lent
+  pub replies : (c : Call) (memory : Tables) → lentOf (firstPlaces (c .lent) memory) ≡ c .lent → Typed (c .ask) → Replied c memory
+  pub demands : Demands

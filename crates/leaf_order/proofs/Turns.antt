@@ -1,0 +1,171 @@
+-- A turn of `next_leaf`, by the least key: its node is past the limit, and then so are all leaves to come; or a leaf, which is the next; or an inner
+-- node, in whose stead its children wait, for the same leaves.
+use Prim.Native.Nat.{ℕ, suc, _+_, _-_, _≤_, _<_}
+use mathlib.Core.Path.{_≡_, sym, _∙_, ap, subst}
+use mathlib.Core.Bool.{Bool, true, false}
+use mathlib.Core.List.{List, [], _∷_, map}
+use native.Mathlib.Omega.{arith}
+use lib.ListN.{length, take}
+use lib.Seq.{length-take-le}
+use borrow.Author.Tests.{ltb-true, lt-ltb}
+use Rattle.integer.proofs.Tests.{is-true}
+use Rattle.integer.proofs.Lists.{All, all-none, all-more}
+use Rattle.heap.specs.Keys.{insertKey}
+use Rattle.heap.specs.Heap.{IsHeap, Least, Pushed, Popped}
+use Rattle.heap.proofs.Sorting.{Above, sorted-pour, pour-nil, insert-nil, length-pour, length-insert}
+use Rattle.dstree.specs.Measures.{Trace}
+use Rattle.dstree.specs.Node.{Test, leaf, inner, Tree, nodeAt}
+use Rattle.dstree.specs.Matching.{isLeaf}
+use Rattle.best_first.specs.NodeKeys.{boundIn, numberIn, leafIn, childKey, firstKey, inStead}
+use Rattle.best_first.specs.Branching.{Branching}
+use Rattle.best_first.specs.Waiting.{toCome, load}
+use Rattle.best_first.proofs.Order.{Front, length-load, number-inside, come-first, come-leaf, load-leaf, front-leaf}
+use Rattle.best_first.proofs.Order.{come-inner, load-inner, front-inner, come-start, load-start, front-start}
+use Rattle.best_first.proofs.Reading.{leaves-in-order}
+use Rattle.leaf_order.specs.Waits.{keysIn, Waits, remaining, Begun}
+use Rattle.leaf_order.specs.Handed.{isPast, Past, HandedLeaf}
+
+-- ---- limits
+
+past-more : (limited : Bool) (limit a b : ℕ) → a ≤ b → isPast limited limit a ≡ true → isPast limited limit b ≡ true
+unfolding isPast
+past-more true limit a b h e = lt-ltb limit b (omega (arith, ltb-true limit a e))
+past-more false limit a b h e = absurd (is-true e)
+
+-- ---- keys
+
+keys-count : (n : ℕ) (l : List ℕ) → n ≤ length l → length (keysIn n l) ≡ n
+keys-count n l h = omega (arith, length-pour (take n l) [], length-take-le n l h)
+
+module _ (tree : Tree) (b : Branching tree) (query : Trace) where
+  -- the first key is put into an empty heap
+  pub begun : (entry work : List ℕ) → length tree ≡ length work → Pushed 0 (firstKey tree query) entry work → Begun tree query work
+  unfolding remaining
+  begun entry work whole p =
+      let keys : keysIn 1 work ≡ firstKey tree query ∷ [] = p .keys ∙ ap (insertKey (firstKey tree query)) (pour-nil []) ∙ insert-nil (firstKey tree query) in
+      record {
+        waits = record {
+          heap = p .heap;
+          keyed = rw keys (front-start tree b query .keyed);
+          fits = omega (arith, b .some-node);
+          room = rw keys (omega (arith, load-start tree b query));
+        };
+        all = rw keys (ap (map leafIn) (come-start tree b query) ∙ leaves-in-order tree query (b .few));
+      }
+
+  -- no key waits
+  pub none-remain : (work : List ℕ) (n : ℕ) → n ≤ 0 → remaining tree query n work ≡ []
+  unfolding remaining
+  none-remain work n h =
+      let e : n ≡ 0 = omega arith in
+      let keys : keysIn n work ≡ [] = rw e (pour-nil []) in
+      rw keys
+
+-- ---- the least key that waits, x
+
+module _ {tree : Tree} {query : Trace} {n : ℕ} {work : List ℕ} (w : Waits tree query n work) {x : ℕ} {others : List ℕ} (keys : keysIn n work ≡ x ∷ others) where
+  front : Front tree query (x ∷ others)
+  front = subst (Front tree query) keys (record { sorted = sorted-pour (take n work) [] tt; keyed = w .keyed })
+
+  room : load tree (x ∷ others) ≤ length work
+  room = subst (λ (l : List ℕ). load tree l ≤ length work) keys (w .room)
+
+  remain : remaining tree query n work ≡ map leafIn (toCome tree query (x ∷ others))
+  unfolding remaining
+  remain = ap (λ (l : List ℕ). map leafIn (toCome tree query l)) keys
+
+  -- if its bound is past the limit, so is that of every leaf to come
+  pub least-past : Branching tree → (limited : Bool) (limit : ℕ) → isPast limited limit (boundIn x) ≡ true → All (Past limited limit) (remaining tree query n work)
+  least-past b limited limit e = rw remain (by (toCome tree query (x ∷ others)) (come-first tree b query x others front))
+    where
+      by : (l : List ℕ) → Above x l → All (Past limited limit) (map leafIn l)
+      by [] a = all-none
+      by (y ∷ l) a = all-more (past-more limited limit (boundIn x) (boundIn y) (omega (arith, a .0)) e) (by l (a .1))
+
+-- ---- .. is out
+
+pub record Took (tree : Tree) (query : Trace) (n : ℕ) (work : List ℕ) (x : ℕ) (left : List ℕ) : Type 0 where
+  pub branching : Branching tree
+  pub whole : length tree ≡ length work
+  pub waits : Waits tree query n work
+  pub some-key : 0 < n
+  pub long : length left ≡ length work
+  pub popped : Popped n x work left
+
+-- the key that is taken out is the least one
+pub same-least : {n x y : ℕ} {work left : List ℕ} → Least n work x → Popped n y work left → Popped n x work left
+same-least {n} {x} {y} {work} {left} l p =
+    let e : x ∷ l .others ≡ y ∷ keysIn (n - 1) left = sym (l .keys) ∙ p .keys in
+    let h : x ≡ y = cc in
+    rw h p
+
+module _ {tree : Tree} {query : Trace} {n : ℕ} {work : List ℕ} {x : ℕ} {left : List ℕ} (c : Took tree query n work x left) where
+  abbrev others : List ℕ
+  others = keysIn (n - 1) left
+
+  abbrev ahead : Front tree query (x ∷ others)
+  ahead = front (c .waits) (c .popped .keys)
+
+  pub took-number : numberIn x < length work
+  took-number = omega (arith, number-inside tree (c .branching) query x others ahead, c .whole)
+
+  -- its node is a leaf
+  module _ {ns : List ℕ} (e : nodeAt tree (numberIn x) .kind ≡ leaf ns) where
+    pub took-leaf : (limited : Bool) (limit : ℕ) → isPast limited limit (boundIn x) ≡ false → HandedLeaf tree query limited limit n work left (boundIn x) (numberIn x) (n - 1)
+    unfolding remaining isLeaf
+    took-leaf limited limit p = record {
+      first = remain (c .waits) (c .popped .keys) ∙ ap (map leafIn) (come-leaf tree (c .branching) query x others ahead e);
+      inside = number-inside tree (c .branching) query x others ahead;
+      is-leaf = rw e tt;
+      within = p;
+      waits = record {
+        heap = c .popped .heap;
+        keyed = front-leaf tree (c .branching) query x others ahead e .keyed;
+        fits = omega (arith, c .waits .fits, c .long);
+        room = omega (arith, room (c .waits) (c .popped .keys), c .long, load-leaf tree (c .branching) query x others ahead e);
+      };
+    }
+
+  -- its node has two children
+  module _ {test : Test} {l r : ℕ} (e : nodeAt tree (numberIn x) .kind ≡ inner test l r) where
+    after : List ℕ
+    after = inStead tree query x l r others
+
+    after-load : load tree (x ∷ others) ≡ suc (load tree after)
+    unfolding after
+    after-load = load-inner tree (c .branching) query x others ahead e
+
+    after-length : length after ≡ n + 1
+    unfolding after
+    after-length =
+        let kr = childKey tree query (boundIn x) r in
+        omega (arith, c .some-key, length-insert (childKey tree query (boundIn x) l) (insertKey kr others), length-insert kr others, keys-count (n - 1) left (omega (arith, c .waits .fits, c .long)))
+
+    -- there is room for both keys
+    pub took-room : n - 1 + 2 ≤ length work
+    took-room = omega (arith, c .some-key, after-length, length-load tree after, after-load, room (c .waits) (c .popped .keys))
+
+    module _ (between work′ : List ℕ) (long : length work′ ≡ length left) (q : Pushed (n - 1) (childKey tree query (boundIn x) r) left between)
+        (t : Pushed (n - 1 + 1) (childKey tree query (boundIn x) l) between work′) where
+      after-keys : keysIn (n - 1 + 2) work′ ≡ after
+      unfolding after
+      after-keys =
+          let k : n - 1 + 2 ≡ n - 1 + 1 + 1 = omega arith in
+          rw k (t .keys ∙ ap (insertKey (childKey tree query (boundIn x) l)) (q .keys))
+
+      pub took-less : load tree (keysIn (n - 1 + 2) work′) < load tree (keysIn n work)
+      took-less = rw (c .popped .keys, after-keys) (omega (arith, after-load))
+
+      pub took-inner : Waits tree query (n - 1 + 2) work′
+      unfolding after
+      took-inner = record {
+        heap = let k : n - 1 + 1 + 1 ≡ n - 1 + 2 = omega arith in subst (λ (i : ℕ). IsHeap i work′) k (t .heap);
+        keyed = rw after-keys (front-inner tree (c .branching) query x others ahead e .keyed);
+        fits = omega (arith, took-room, long, c .long);
+        room = rw after-keys (omega (arith, after-load, room (c .waits) (c .popped .keys), long, c .long));
+      }
+
+      pub took-same : remaining tree query (n - 1 + 2) work′ ≡ remaining tree query n work
+      unfolding remaining after
+      took-same = sym (remain (c .waits) (c .popped .keys) ∙ ap (map leafIn) (come-inner tree (c .branching) query x others ahead e)
+          ∙ ap (λ (k : List ℕ). map leafIn (toCome tree query k)) (sym after-keys))

@@ -1,0 +1,25 @@
+-- `leaf_order::keys::node_key` meets its contract: the own bound is that of node j's record.
+use mathlib.Core.Path.{sym, ap, subst, _∙_}
+use mathlib.Core.List.{List}
+use lib.IntN.{ℤ}
+use lib.ListN.{length}
+use denote.Ref.{now}
+use borrow.Author.Needs.{needs}
+use Rattle.query.specs.Bounded.{Bounded, boundBy}
+use Rattle.leaf_order.proofs.keys.node_key.Statement.{statement}
+use Rattle.leaf_order.proofs.keys.node_key.Tie as tie
+
+own-bound-requires : tie.Need-own-bound-requires
+own-bound-requires c κs =
+    let s = c .before in
+    (s .pre .3, subst (λ (r : List ℤ). Bounded r (length (now (s .args .query)))) (sym (c .record-at .ensures)) (s .pre .4))
+
+returns : tie.Need-returns
+returns c =
+    let b = c .before in
+    let s = b .before .before in
+    let own = b .own-bound .ensures .0 ∙ ap (boundBy (now (s .args .query))) (b .before .record-at .ensures) in
+    rw (c .larger .ensures, own)
+
+pub node-key-spec : {M : Type 1} → statement M
+node-key-spec = tie.close (tie.spec (λ c κs. search needs) own-bound-requires (λ c κs. search needs) (λ c. search needs) (λ c. search needs) returns)

@@ -1,0 +1,45 @@
+-- `leaf_order::leaves::begin` meets its contract: node 0's key stands for all leaves (`Turns`).
+use mathlib.Core.Path.{_∙_, sym}
+use native.Mathlib.Nat.{not-suc-le-zero}
+use native.Mathlib.Omega.{arith}
+use borrow.Author.Needs.{needs}
+use lib.ListN.{length}
+use denote.Ref.{now}
+use Rattle.heap.specs.Heap.{Pushed}
+use Rattle.best_first.specs.NodeKeys.{firstKey}
+use Rattle.leaf_order.specs.Waits.{shapeIn}
+use Rattle.leaf_order.proofs.Records.{shape-length, key-is, some-node}
+use Rattle.leaf_order.proofs.Turns.{begun}
+use Rattle.leaf_order.proofs.leaves.begin.Statement.{statement}
+use Rattle.leaf_order.proofs.leaves.begin.Tie as tie
+
+node-key-requires : tie.Need-node-key-requires
+node-key-requires c κs =
+    let s = c .before in
+    let h = some-node (now (s .args .nodes)) (length (now (s .args .work))) (now (s .args .query)) (s .pre .0) in
+    (s .pre .0 .record-room 0 h, omega arith, omega arith, s .pre .1, s .pre .0 .bounded 0 h)
+
+push-requires : tie.Need-push-requires
+push-requires c κs =
+    let s = c .before .before .before in
+    let h = some-node (now (s .args .nodes)) (length (now (s .args .work))) (now (s .args .query)) (s .pre .0) in
+    (omega (arith, h), λ i j p q r. absurd (not-suc-le-zero r))
+
+returns : tie.Need-returns
+returns c =
+    let p = c .before .before in
+    let k = p .before .before in
+    let s = k .before .before in
+    let nodes = now (s .args .nodes) in
+    let m = length (now (s .args .work)) in
+    let query = now (s .args .query) in
+    let h = some-node nodes m query (s .pre .0) in
+    let e = k .node-key .ensures ∙ key-is nodes m query 0 0 h in
+    let first : Pushed 0 (firstKey (shapeIn nodes m) query) (now (s .args .work)) (p .push .last .0) = rw (← e) (p .push .ensures) in
+    begun (shapeIn nodes m) (s .pre .0 .branching) query (now (s .args .work)) (p .push .last .0) (shape-length nodes m ∙ sym (p .push .kept .0)) first
+
+pub begin-spec : {M : Type 1} → statement M
+begin-spec =
+    tie.close
+    (tie.spec
+    node-key-requires push-requires (λ c. search needs) returns)

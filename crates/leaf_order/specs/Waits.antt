@@ -1,0 +1,62 @@
+-- Keys that wait in search work, and the leaves that they stand for: those still to come, in the order of reading.
+use Prim.Native.Nat.{ℕ, _+_, _*_, _≤_, _<_}
+use mathlib.Core.Path.{_≡_}
+use mathlib.Core.List.{List, [], map}
+use lib.IntN.{ℤ}
+use lib.ListN.{length, take}
+use Rattle.integer.specs.Words.{counting}
+use Rattle.heap.specs.Keys.{sortedOf}
+use Rattle.heap.specs.Heap.{IsHeap, Pushed}
+use Rattle.dstree.specs.Measures.{Trace}
+use Rattle.dstree.specs.Node.{Tree}
+use Rattle.dstree.specs.Matching.{LeafBound, readingOrder}
+use Rattle.tables.specs.Layout.{kindPlace, firstPlace, rightPlace, recordPlaces}
+use Rattle.tables.specs.Tables.{recordOf}
+use Rattle.tables.specs.View.{smallAt, nodeIn}
+use Rattle.query.specs.Bounded.{Bounded}
+use Rattle.best_first.specs.NodeKeys.{leafIn, childKey}
+use Rattle.best_first.specs.Branching.{Branching}
+use Rattle.best_first.specs.Waiting.{toCome, load, Keyed}
+
+-- ---- records
+
+-- the tree of the first m records. What a leaf holds does not bear on the order of reading, so that no links are asked for
+unfoldable pub shapeIn : List ℤ → ℕ → Tree
+shapeIn nodes m = map (λ j. nodeIn [] 0 (recordOf nodes j)) (counting m 0)
+
+-- records that a search may go through
+pub record Walkable (nodes : List ℤ) (m : ℕ) (query : Trace) : Type 0 where
+  pub branching : Branching (shapeIn nodes m)
+  pub record-room : (j : ℕ) → j < m → j * recordPlaces + recordPlaces ≤ length nodes
+  pub named : (j : ℕ) → j < m → smallAt (recordOf nodes j) kindPlace ≤ 2
+  pub bounded : (j : ℕ) → j < m → Bounded (recordOf nodes j) (length query)
+
+-- ---- keys
+
+abbrev pub keysIn : ℕ → List ℕ → List ℕ
+keysIn n work = sortedOf (take n work)
+
+-- n keys of nodes wait in `work`, and there is room for all nodes still to be taken
+pub record Waits (tree : Tree) (query : Trace) (n : ℕ) (work : List ℕ) : Type 0 where
+  pub heap : IsHeap n work
+  pub keyed : Keyed tree query (keysIn n work)
+  pub fits : n ≤ length work
+  pub room : load tree (keysIn n work) ≤ length work
+
+-- the leaves that they stand for
+unfoldable pub remaining : Tree → Trace → ℕ → List ℕ → List LeafBound
+remaining tree query n work = map leafIn (toCome tree query (keysIn n work))
+
+-- ---- what calls leave
+
+-- all leaves are to come: "by bound, then by number"
+pub record Begun (tree : Tree) (query : Trace) (work : List ℕ) : Type 0 where
+  pub waits : Waits tree query 1 work
+  pub all : remaining tree query 1 work ≡ readingOrder tree query
+
+-- the right child's key is put in first, then the left one's
+pub record Opened (tree : Tree) (query : Trace) (n : ℕ) (r : List ℤ) (above : ℕ) (work work′ : List ℕ) : Type 0 where
+  pub between : List ℕ
+  pub long : length between ≡ length work
+  pub right : Pushed n (childKey tree query above (smallAt r rightPlace)) work between
+  pub left : Pushed (n + 1) (childKey tree query above (smallAt r firstPlace)) between work′

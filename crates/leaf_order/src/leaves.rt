@@ -1,0 +1,96 @@
+// The leaves of a tree, by bound and then by number, one at a time.
+use tables::places::FIRST;
+use tables::places::KIND;
+use tables::places::RIGHT;
+use tables::records::node_small;
+ghost use Prim.Native.Nat.{_+_, _≤_, _<_};
+ghost use lib.ListN.{length};
+ghost use Rattle.heap.specs.Heap.{IsHeap};
+ghost use Rattle.tables.specs.Layout.{kindPlace};
+ghost use Rattle.tables.specs.Tables.{recordOf};
+ghost use Rattle.tables.specs.View.{smallAt};
+ghost use Rattle.query.specs.Prefixes.{Prefixes};
+ghost use Rattle.leaf_order.specs.Waits.{shapeIn, Walkable, Waits, Begun, Opened};
+ghost use Rattle.leaf_order.specs.Handed.{Handed};
+
+// The next leaf: its bound, its number, and how many keys wait then. Or the end: no leaf comes whose bound is within the limit, and so many keys wait.
+pub enum Next {
+    Leaf(u64, usize, usize),
+    End(usize),
+}
+
+// Search work has a place for each node. What stands in it before does not matter; one key waits then, for all leaves.
+pub fn begin(
+    nodes: &[i64],
+    query: &[i16],
+    sums: &[i64; 257],
+    squares: &[u64; 257],
+    work: &mut [u64],
+)
+    requires { ⌜ Walkable (now nodes) (length (now work)) (now query) × Prefixes (now query) (now sums) (now squares) ⌝ }
+    ensures { λ _. ⌜ Begun (shapeIn (now (nodes .entry)) (length (now (work .entry)))) (now (query .entry)) (now (work .exit)) ⌝ }
+{
+    let root = crate::keys::node_key(nodes, 0, 0, query, sums, squares);
+    heap::push(work, 0, root);
+}
+
+// The keys of an inner node's children wait.
+fn open_node(
+    nodes: &[i64],
+    query: &[i16],
+    sums: &[i64; 257],
+    squares: &[u64; 257],
+    work: &mut [u64],
+    n: usize,
+    j: usize,
+    above: u64,
+)
+    requires { ⌜ Walkable (now nodes) (length (now work)) (now query) × Prefixes (now query) (now sums) (now squares) × (n + 2 ≤ length (now work)) × IsHeap n (now work) ⌝ }
+    requires inner { ⌜ (j < length (now work)) × (above < 2251799813685248) × (1 ≤ smallAt (recordOf (now nodes) j) kindPlace) ⌝ }
+    ensures { λ _. ⌜ Opened (shapeIn (now (nodes .entry)) (length (now (work .entry)))) (now (query .entry)) n (recordOf (now (nodes .entry)) j) above (now (work .entry)) (now (work .exit)) ⌝ }
+{
+    let first = node_small(nodes, j, FIRST);
+    let second = node_small(nodes, j, RIGHT);
+    let right = crate::keys::node_key(nodes, second, above, query, sums, squares);
+    let left = crate::keys::node_key(nodes, first, above, query, sums, squares);
+    heap::push(work, n, right);
+    heap::push(work, n + 1, left);
+}
+
+// Hands out the next leaf, if its bound is within the limit. A node whose bound is past the limit is not opened.
+//
+// Two wrong programs that the contract rules out: one that ends at a bound equal to the limit, and one that hands out a leaf before an inner node with a
+// lesser key.
+pub fn next_leaf(
+    nodes: &[i64],
+    query: &[i16],
+    sums: &[i64; 257],
+    squares: &[u64; 257],
+    work: &mut [u64],
+    waiting: usize,
+    limited: bool,
+    limit: u64,
+) -> Next
+    requires { ⌜ Walkable (now nodes) (length (now work)) (now query) × Prefixes (now query) (now sums) (now squares)
+        × Waits (shapeIn (now nodes) (length (now work))) (now query) waiting (now work) ⌝ }
+    ensures { λ r. ⌜ Handed (shapeIn (now (nodes .entry)) (length (now (work .entry)))) (now (query .entry)) limited limit waiting (now (work .entry)) (now (work .exit)) r ⌝ }
+{
+    let mut n = waiting;
+    while 0 < n {
+        let x = heap::least(work, n);
+        let bound = x / 8192;
+        if crate::keys::is_past(bound, limited, limit) {
+            return Next::End(n);
+        }
+        heap::pop(work, n);
+        n -= 1;
+        let j = (x % 8192) as usize;
+        let kind = node_small(nodes, j, KIND);
+        if kind == 0 {
+            return Next::Leaf(bound, j, n);
+        }
+        open_node(nodes, query, sums, squares, work, n, j, bound);
+        n += 2;
+    }
+    Next::End(n)
+}

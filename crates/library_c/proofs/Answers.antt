@@ -1,0 +1,126 @@
+-- What a caller gets, answer by answer; and that a call's own equation, with what is returned of its answer, is the exported call's.
+use Prim.Native.Nat.{ℕ, _*_}
+use mathlib.Core.Path.{_≡_, refl, sym, ap, ap₂, _∙_}
+use mathlib.Core.List.{List, [], _∷_}
+use lib.ListN.{set, take}
+use Rattle.dstree.specs.Refusals.{Refusal, numberOf, placeOf}
+use Rattle.dstree.specs.Matching.{Match}
+use Rattle.dstree.specs.Sheet.{blockSize}
+use Rattle.dstree.specs.Book.{done, added, matched, written, Answer, refusing, answering}
+use Rattle.tables.specs.Tables.{Tables}
+use Rattle.tables.specs.Answers.{wordOf}
+use Rattle.tables.specs.declared.Refusal as r
+use Rattle.opening.specs.Opened as opened
+use Rattle.opening.specs.declared.Opened.{Opened}
+use Rattle.opening.specs.declared.Opened.the-variants as o
+use Rattle.adding.specs.Answered as added
+use Rattle.adding.specs.declared.Added.{Added}
+use Rattle.adding.specs.declared.Added.the-variants as a
+use Rattle.matching.specs.Answered as found
+use Rattle.matching.specs.declared.Found.{Found}
+use Rattle.matching.specs.declared.Found.the-variants as f
+use Rattle.sheet_writing.specs.Answered as writing
+use Rattle.sheet_writing.specs.declared.Written.{Written}
+use Rattle.sheet_writing.specs.declared.Written.the-variants as w
+use Rattle.sheet_reading.specs.Answered as reading
+use Rattle.sheet_reading.specs.declared.Read.{Read}
+use Rattle.sheet_reading.specs.declared.Read.the-variants as d
+use Rattle.calls.specs.Outcome.{Outcome, outcome}
+use Rattle.calls.specs.Numbers.{codeOf, resultValues, valuesOf, laid}
+use Rattle.library_c.specs.Exported.{Returned, returned, returnedOf, Exported, exported, exportedOf}
+
+one-laid : (x : ℕ) (out : List ℕ) → set out 0 x ≡ laid (x ∷ []) out
+unfolding laid
+one-laid x [] = refl
+one-laid x (place ∷ out) = refl
+
+four-laid : (a b c d : ℕ) (out : List ℕ) → set (set (set (set out 0 a) 1 b) 2 c) 3 d ≡ laid (a ∷ b ∷ c ∷ d ∷ []) out
+unfolding laid
+four-laid a b c d [] = refl
+four-laid a b c d (p ∷ []) = refl
+four-laid a b c d (p ∷ q ∷ []) = refl
+four-laid a b c d (p ∷ q ∷ r ∷ []) = refl
+four-laid a b c d (p ∷ q ∷ r ∷ s ∷ out) = refl
+
+pub done-returned : (out : List ℕ) → returned 0 out ≡ returnedOf (answering done) out
+unfolding returnedOf codeOf valuesOf resultValues laid
+done-returned out = refl
+
+pub refusal-returned : (why : Refusal) (number place : ℕ) (out out′ : List ℕ)
+    → number ≡ numberOf why → place ≡ placeOf why → out′ ≡ set out 0 place → returned number out′ ≡ returnedOf (refusing why) out
+unfolding returnedOf codeOf valuesOf resultValues
+refusal-returned why number place out out′ e f g = ap₂ (λ (k : ℕ) (l : List ℕ). returned k l) e (g ∙ (one-laid place out ∙ ap (λ (p : ℕ). laid (p ∷ []) out) f))
+
+pub added-returned : (number : ℕ) (out out′ : List ℕ) → out′ ≡ set out 0 number → returned 0 out′ ≡ returnedOf (answering (added number)) out
+unfolding returnedOf codeOf valuesOf resultValues
+added-returned number out out′ g = ap (λ (l : List ℕ). returned 0 l) (g ∙ one-laid number out)
+
+pub written-returned : (blocks : ℕ) (sheet out out′ : List ℕ) → out′ ≡ set out 0 blocks → returned 0 out′ ≡ returnedOf (answering (written blocks sheet)) out
+unfolding returnedOf codeOf valuesOf resultValues
+written-returned blocks sheet out out′ g = ap (λ (l : List ℕ). returned 0 l) (g ∙ one-laid blocks out)
+
+pub matched-returned : (found : Match) (out out′ : List ℕ) → out′ ≡ set (set (set (set out 0 (found .trace)) 1 (found .distance)) 2 (found .leaves)) 3 (found .traces)
+    → returned 0 out′ ≡ returnedOf (answering (matched found)) out
+unfolding returnedOf codeOf valuesOf resultValues
+matched-returned found out out′ g = ap (λ (l : List ℕ). returned 0 l) (g ∙ four-laid (found .trace) (found .distance) (found .leaves) (found .traces) out)
+
+-- four stores, one after the other
+pub four-stores : (out a b c d : List ℕ) (w x y z : ℕ) → a ≡ set out 0 w → b ≡ set a 1 x → c ≡ set b 2 y → d ≡ set c 3 z → d ≡ set (set (set (set out 0 w) 1 x) 2 y) 3 z
+four-stores out a b c d w x y z e f g h =
+    h ∙ ap (λ (l : List ℕ). set l 3 z) (g ∙ ap (λ (l : List ℕ). set l 2 y) (f ∙ ap (λ (l : List ℕ). set l 1 x) e))
+
+pub exported-call : (code : ℕ) (out out′ : List ℕ) (answer : Answer) (after : Tables) (beside : List (List ℕ)) (o : Outcome)
+    → returned code out′ ≡ returnedOf answer out → outcome answer after beside ≡ o → exported code out′ after beside ≡ exportedOf o out
+exported-call code out out′ answer after beside o e f =
+    ap {B = Exported} (λ (x : Returned). record { answer = x; after = after; beside = beside }) e ∙ ap (λ (x : Outcome). exportedOf x out) f
+
+-- ---- the answers of the calls, case by case
+
+pub opened-done : (answer : Opened) (out : List ℕ) → answer ≡ o.Done → returned 0 out ≡ returnedOf (opened.answerOf answer) out
+unfolding opened.answerOf
+opened-done answer out e = done-returned out ∙ ap (λ (x : Opened). returnedOf (opened.answerOf x) out) (sym e)
+
+pub opened-refused : (answer : Opened) (why : r.Refusal) (out : List ℕ) → answer ≡ o.Refused why → returnedOf (refusing (wordOf why)) out ≡ returnedOf (opened.answerOf answer) out
+unfolding opened.answerOf
+opened-refused answer why out e = ap (λ (x : Opened). returnedOf (opened.answerOf x) out) (sym e)
+
+pub added-at : (answer : Added) (number : ℕ) (out out′ : List ℕ) → out′ ≡ set out 0 number → answer ≡ a.At number → returned 0 out′ ≡ returnedOf (added.answerOf answer) out
+unfolding added.answerOf
+added-at answer number out out′ g e = added-returned number out out′ g ∙ ap (λ (x : Added). returnedOf (added.answerOf x) out) (sym e)
+
+pub added-refused : (answer : Added) (why : r.Refusal) (out : List ℕ) → answer ≡ a.Refused why → returnedOf (refusing (wordOf why)) out ≡ returnedOf (added.answerOf answer) out
+unfolding added.answerOf
+added-refused answer why out e = ap (λ (x : Added). returnedOf (added.answerOf x) out) (sym e)
+
+pub found-at : (answer : Found) (trail : List ℕ) (trace distance leaves traces : ℕ) (out p q s t : List ℕ)
+    → p ≡ set out 0 trace → q ≡ set p 1 distance → s ≡ set q 2 leaves → t ≡ set s 3 traces → answer ≡ f.At trace distance leaves traces
+    → returned 0 t ≡ returnedOf (found.answerBy answer trail) out
+unfolding found.answerBy
+found-at answer trail trace distance leaves traces out p q s t e g h i is =
+    matched-returned (record { trace = trace; distance = distance; leaves = leaves; traces = traces; trail = take leaves trail }) out t
+    (four-stores out p q s t trace distance leaves traces e g h i)
+    ∙ ap (λ (x : Found). returnedOf (found.answerBy x trail) out) (sym is)
+
+pub found-refused : (answer : Found) (trail : List ℕ) (why : r.Refusal) (out : List ℕ) → answer ≡ f.Refused why
+    → returnedOf (refusing (wordOf why)) out ≡ returnedOf (found.answerBy answer trail) out
+unfolding found.answerBy
+found-refused answer trail why out e = ap (λ (x : Found). returnedOf (found.answerBy x trail) out) (sym e)
+
+pub written-blocks : (answer : Written) (blocks : ℕ) (sheet out out′ : List ℕ)
+    → out′ ≡ set out 0 blocks → answer ≡ w.Blocks blocks → returned 0 out′ ≡ returnedOf (writing.answerBy answer sheet) out
+unfolding writing.answerBy
+written-blocks answer blocks sheet out out′ g e =
+    written-returned blocks (take (blockSize * blocks) sheet) out out′ g ∙ ap (λ (x : Written). returnedOf (writing.answerBy x sheet) out) (sym e)
+
+pub written-refused : (answer : Written) (sheet : List ℕ) (why : r.Refusal) (out : List ℕ) → answer ≡ w.Refused why
+    → returnedOf (refusing (wordOf why)) out ≡ returnedOf (writing.answerBy answer sheet) out
+unfolding writing.answerBy
+written-refused answer sheet why out e = ap (λ (x : Written). returnedOf (writing.answerBy x sheet) out) (sym e)
+
+pub read-done : (answer : Read) (out : List ℕ) → answer ≡ d.Done → returned 0 out ≡ returnedOf (reading.answerOf answer) out
+unfolding reading.answerOf
+read-done answer out e = done-returned out ∙ ap (λ (x : Read). returnedOf (reading.answerOf x) out) (sym e)
+
+pub read-refused : (answer : Read) (why : r.Refusal) (out : List ℕ) → answer ≡ d.Refused why → returnedOf (refusing (wordOf why)) out ≡ returnedOf (reading.answerOf answer) out
+unfolding reading.answerOf
+read-refused answer why out e = ap (λ (x : Read). returnedOf (reading.answerOf x) out) (sym e)

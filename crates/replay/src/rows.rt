@@ -1,0 +1,78 @@
+// The numbers of a call.
+
+use crate::Lengths;
+ghost use mathlib.Core.Path.{_≡_};
+ghost use mathlib.Core.List.{_∷_};
+ghost use Prim.Native.Nat.{_+_, _-_, _≤_, _<_};
+ghost use lib.ListN.{length, take, drop};
+ghost use Rattle.replay.specs.Script.{rowsOf, numberAt, lentBy, lengthsBy, fitsIn};
+
+// A number as a length: both have 64 bits.
+pub fn places(x: u64) -> usize
+    ensures { λ r. ⌜ r ≡ x ⌝ }
+{
+    x as usize
+}
+
+// A number of a row, and 0 behind its end.
+pub fn number(row: &[u64], place: usize) -> u64
+    ensures { λ r. ⌜ r ≡ numberAt (now (row .entry)) place ⌝ }
+{
+    if place < row.len() { row[place] } else { 0 }
+}
+
+// The lengths that a row says.
+pub fn lengths(row: &[u64]) -> Lengths
+    ensures { λ r. ⌜ lengthsBy r ≡ lentBy (now (row .entry)) ⌝ }
+{
+    Lengths {
+        control: places(number(row, 1)),
+        samples: places(number(row, 2)),
+        nodes: places(number(row, 3)),
+        links: places(number(row, 4)),
+        work: places(number(row, 5)),
+    }
+}
+
+// No table is lent longer than it is.
+pub fn fits(
+    control: usize,
+    samples: usize,
+    nodes: usize,
+    links: usize,
+    work: usize,
+    lent: Lengths,
+) -> bool
+    ensures { λ r. ⌜ r ≡ fitsIn (lengthsBy lent) (record { control = control; samples = samples; nodes = nodes; links = links; work = work }) ⌝ }
+{
+    if control < lent.control {
+        return false;
+    }
+    if samples < lent.samples {
+        return false;
+    }
+    if nodes < lent.nodes {
+        return false;
+    }
+    if links < lent.links {
+        return false;
+    }
+    if work < lent.work {
+        return false;
+    }
+    true
+}
+
+// Where the row ends whose length stands at a place: at the script's end, if it says that it is longer than what is left.
+pub fn row_end(script: &[u64], place: usize) -> usize
+    requires { ⌜ place < length (now script) ⌝ }
+    ensures { λ r. ⌜ (place + 1 ≤ r) × (r ≤ length (now (script .entry)))
+        × (rowsOf (drop place (now (script .entry))) ≡ take (r - (place + 1)) (drop (place + 1) (now (script .entry))) ∷ rowsOf (drop r (now (script .entry)))) ⌝ }
+{
+    let many = places(script[place]);
+    let from = place + 1;
+    if script.len() - from < many {
+        return script.len();
+    }
+    from + many
+}

@@ -1,0 +1,140 @@
+-- What the conditions say of the program's line: a refusal's, or that of the last trace's match among the earlier ones.
+use Prim.Native.Nat.{ℕ, _+_, _*_, _-_, _≤_}
+use mathlib.Core.Path.{_≡_, refl, sym, _∙_, ap}
+use mathlib.Core.Bool.{Bool, true, false, _||_}
+use mathlib.Core.Option.{Option, none, some}
+use mathlib.Core.List.{List, [], _++_}
+use native.Mathlib.Omega.{arith}
+use native.Mathlib.Nat.{mul-le-mul}
+use lib.ListN.{length, getD, take}
+use lib.Dec.{ltb, leb}
+use borrow.Author.Tests.{ltb-false, leb-false}
+use Rattle.integer.specs.Words.{if_then_else_}
+use Rattle.integer.proofs.Tests.{neither}
+use Rattle.dstree.specs.Measures.{Trace, Measures, samplesNeeded, recordsNeeded, linksNeeded, workNeeded}
+use Rattle.dstree.specs.Refusals.{Refusal, Condition, firstOf, shortTable, empty, sheetLength}
+use Rattle.dstree.specs.Sheet.{holds, judgedBy, judgeAs, judgeSheet, sheetConditions}
+use Rattle.dstree.specs.Program.{Line, refusalLine, lineOf, judgedLine, programLine}
+use Rattle.dstree.specs.Book.{Lent}
+use Rattle.tables.specs.Answers.{foundBy}
+use Rattle.tables.specs.declared.Refusal.{Refusal as Word}
+use Rattle.tables.specs.declared.Verdict.the-variants as v
+use Rattle.tables.specs.Judge.{Accepted}
+use Rattle.dstree.proofs.Conditions.{none-first, first-some, first-none, none-both}
+use Rattle.matching.specs.declared.Found.the-variants as f
+use Rattle.sheet_judging.specs.Traces.{countOf, tracesOf}
+use Rattle.sheet_judging.proofs.Samples.{range, fine as good}
+use Rattle.sheet_reading.proofs.Ends.{said, judged-holds}
+use Rattle.sheet_reading.proofs.Library.{traces-count}
+use Rattle.sheet_line.specs.Conditions.{smallConditions, programConditions}
+use Rattle.sheet_line.specs.Lines.{lineBy}
+use Rattle.sheet_line.specs.Stored.{Roomy}
+
+-- a refusal's line, or another
+unfoldable lineUnless : Option Refusal → Line → Line
+lineUnless (some why) line = refusalLine why
+lineUnless none line = line
+
+small-line : (m : Measures) (traces : List Trace) (count : ℕ) → length traces ≡ count
+    → judgedLine (holds m traces) ≡ lineUnless (firstOf (smallConditions m count)) (lineOf m (take (count - 1) traces) (getD traces (count - 1) []))
+unfolding judgedLine smallConditions firstOf lineUnless
+small-line m traces count e =
+    rw e (by (ltb 64 (m .n) || ltb 64 (m .capacity)) (leb count 1) (lineOf m (take (count - 1) traces) (getD traces (count - 1) [])))
+  where
+    by : (large few : Bool) (line : Line)
+        → (if large then refusalLine shortTable else if few then refusalLine empty else line)
+        ≡ lineUnless (if large then some shortTable else if few then some empty else none) line
+    by true few line = refl
+    by false true line = refl
+    by false false line = refl
+
+module _ (bytes : List ℕ) where
+  -- "Its last trace is the query, the earlier ones the library"
+  abbrev pub lastLine : ℕ → Line
+  lastLine last = lineOf (said bytes) (take last (tracesOf bytes)) (getD (tracesOf bytes) last [])
+
+  -- a refusal's line, or that of the last trace
+  abbrev unless : Option Refusal → Line
+  unless why = lineUnless why (lastLine (countOf bytes - 1))
+
+  abbrev small : List Condition
+  small = smallConditions (said bytes) (countOf bytes)
+
+  at-some : (why : Refusal) → firstOf (sheetConditions bytes) ≡ some why → judgedLine (judgeSheet bytes) ≡ unless (firstOf (sheetConditions bytes ++ small))
+  unfolding judgeAs judgedBy judgedLine lineUnless
+  at-some why e = rw (e, first-some (sheetConditions bytes) small why e)
+
+  sheet-line : judgedLine (judgeSheet bytes) ≡ unless (firstOf (sheetConditions bytes ++ small))
+  sheet-line = by (firstOf (sheetConditions bytes)) refl
+    where
+      by : (o : Option Refusal) → firstOf (sheetConditions bytes) ≡ o → judgedLine (judgeSheet bytes) ≡ unless (firstOf (sheetConditions bytes ++ small))
+      by (some why) e = at-some why e
+      by none e =
+          ap judgedLine (judged-holds bytes e)
+          ∙ (small-line (said bytes) (tracesOf bytes) (countOf bytes) (traces-count bytes)
+          ∙ ap unless (sym (first-none (sheetConditions bytes) small e)))
+
+  program-line : programLine bytes ≡ unless (firstOf (programConditions bytes))
+  unfolding programLine programConditions firstOf lineUnless
+  program-line = by (ltb 65536 (length bytes)) sheet-line
+    where
+      by : (long : Bool) → judgedLine (judgeSheet bytes) ≡ unless (firstOf (sheetConditions bytes ++ small))
+          → (if long then refusalLine sheetLength else judgedLine (judgeSheet bytes))
+          ≡ unless (if long then some sheetLength else firstOf (sheetConditions bytes ++ small))
+      by true e = refl
+      by false e = e
+
+  -- what is refused
+  pub refused-line : (why : Word) → foundBy (v.Refused why) ≡ firstOf (programConditions bytes) → lineBy (f.Refused why) ≡ programLine bytes
+  unfolding foundBy lineBy lineUnless
+  refused-line why e = ap unless e ∙ sym program-line
+
+  -- nothing is refused
+  module _ (fine : firstOf (programConditions bytes) ≡ none) where
+    pub last-line : (last : ℕ) → last + 1 ≡ countOf bytes → lastLine last ≡ programLine bytes
+    unfolding lineUnless
+    last-line last h =
+        let e : last ≡ countOf bytes - 1 = omega (arith, h) in
+        ap lastLine e ∙ sym (program-line ∙ ap unless fine)
+
+    parts : (firstOf (sheetConditions bytes) ≡ none) × (firstOf small ≡ none)
+    unfolding programConditions
+    parts = none-both (sheetConditions bytes) small (none-first (ltb 65536 (length bytes)) sheetLength _ fine .1)
+
+    pub sound : firstOf (sheetConditions bytes) ≡ none
+    sound = parts .0
+
+    abbrev large : Bool
+    large = ltb 64 (said bytes .n) || ltb 64 (said bytes .capacity)
+
+    neither-large : (ltb 64 (said bytes .n) ≡ false) × (ltb 64 (said bytes .capacity) ≡ false)
+    unfolding smallConditions
+    neither-large = neither (ltb 64 (said bytes .n)) _ (none-first large shortTable _ (parts .1) .0)
+
+    pub n-small : said bytes .n ≤ 64
+    n-small = ltb-false 64 (said bytes .n) (neither-large .0)
+
+    pub capacity-small : said bytes .capacity ≤ 64
+    capacity-small = ltb-false 64 (said bytes .capacity) (neither-large .1)
+
+    pub two-traces : 2 ≤ countOf bytes
+    unfolding smallConditions
+    two-traces = leb-false (countOf bytes) 1 (none-first (leb (countOf bytes) 1) empty _ (none-first large shortTable _ (parts .1) .1) .0)
+
+-- tables with room for n ≤ 64 and capacity ≤ 64 have room for what the sheet says
+pub roomy : (lengths : Lent) (bytes : List ℕ) → Roomy lengths bytes → Accepted lengths (said bytes)
+unfolding samplesNeeded recordsNeeded linksNeeded workNeeded
+roomy lengths bytes r =
+    let n = n-small bytes (r .fine) in
+    let c = capacity-small bytes (r .fine) in
+    let product : said bytes .capacity * said bytes .n ≤ 4096 = mul-le-mul {n₁ = said bytes .capacity} {m₁ = said bytes .n} {n₂ = 64} {m₂ = 64} c n in
+    record {
+      range = range bytes (good bytes (sound bytes (r .fine)));
+      room = record {
+        control-room = r .control-room;
+        samples-room = omega (arith, product, r .samples-room);
+        nodes-room = omega (arith, c, r .nodes-room);
+        links-room = omega (arith, c, r .links-room);
+        work-room = omega (arith, c, r .work-room);
+      };
+    }

@@ -1,0 +1,5 @@
+pub mod Digits
+pub mod Texts
+pub mod Judged
+pub mod Matched
+pub mod Room

@@ -1,0 +1,33 @@
+-- What has to hold so that the last trace of a sheet can be matched among the earlier ones.
+use Prim.Native.Nat.{ℕ, _+_, _≤_}
+use mathlib.Core.Path.{_≡_}
+use mathlib.Core.Option.{none}
+use mathlib.Core.List.{List, []}
+use lib.IntN.{ℤ}
+use lib.ListN.{length, take}
+use Rattle.dstree.specs.Measures.{workNeeded}
+use Rattle.dstree.specs.Refusals.{firstOf}
+use Rattle.dstree.specs.Sheet.{measuresIn}
+use Rattle.dstree.specs.Book.{Lent}
+use Rattle.tables.specs.Tables.{tables}
+use Rattle.tables.specs.Holds.{Holds}
+use Rattle.sheet_judging.specs.Blocks.{blockAt}
+use Rattle.sheet_judging.specs.Traces.{sizeOf, countOf, tracesOf}
+use Rattle.sheet_line.specs.Conditions.{programConditions}
+
+-- tables with the places that n ≤ 64 and capacity ≤ 64 need, and a sheet that the program does not refuse
+pub record Roomy (lengths : Lent) (sheet : List ℕ) : Type 0 where
+  pub fine : firstOf (programConditions sheet) ≡ none
+  pub control-room : 5 ≤ lengths .control
+  pub samples-room : 4096 ≤ lengths .samples
+  pub nodes-room : 11049 ≤ lengths .nodes
+  pub links-room : 64 ≤ lengths .links
+  pub work-room : 127 ≤ lengths .work
+
+-- tables that hold the traces before the last one of such a sheet
+pub record Stored (control : List ℕ) (samples nodes : List ℤ) (links work sheet : List ℕ) (n last : ℕ) : Type 0 where
+  pub fine : firstOf (programConditions sheet) ≡ none
+  pub size : n ≡ sizeOf sheet
+  pub before-last : last + 1 ≡ countOf sheet
+  pub earlier : Holds (tables control samples nodes links []) (measuresIn (blockAt sheet 0)) (take last (tracesOf sheet))
+  pub work-long : workNeeded (measuresIn (blockAt sheet 0)) ≤ length work

@@ -1,5 +1,0 @@
-pub mod Digits
-pub mod Texts
-pub mod Told
-pub mod Matched
-pub mod Room

@@ -4,7 +4,7 @@ use crate::printing::added;
 use crate::printing::found;
 use crate::printing::number;
 use crate::printing::opened;
-use crate::printing::wide;
+use tables::numbers::wider;
 
 // A match, in a line that begins with its query. The trail holds junk, and has places behind its leaves.
 pub fn match_of(
@@ -33,7 +33,7 @@ fn add_to(
 ) {
     added(adding::add(control, samples, nodes, links, work, trace));
     io::write_all(1, b"  nodes ");
-    number(wide(tables::control::field(control, 4)));
+    number(wider(tables::control::field(control, 4)));
     io::write_all(1, b"\n");
 }
 

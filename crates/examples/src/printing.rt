@@ -6,6 +6,7 @@ use opening::Opened;
 use sheet_reading::Read;
 use sheet_writing::Written;
 use tables::Refusal;
+use tables::numbers::wider;
 
 pub fn number(n: u64) {
     io::print_decimal(1, n);
@@ -39,10 +40,6 @@ pub fn added(answer: Added) {
     io::write_all(1, b"\n");
 }
 
-pub fn wide(x: u16) -> u64 {
-    x as u64
-}
-
 fn place(trail: &[u16], i: usize) -> u16 {
     if i < trail.len() { trail[i] } else { 0 }
 }
@@ -52,7 +49,7 @@ fn read_on(trail: &[u16], leaves: u64) {
     let mut i: usize = 0;
     while (i as u64) < leaves {
         io::write_all(1, b" ");
-        number(wide(place(trail, i)));
+        number(wider(place(trail, i)));
         i += 1;
     }
 }

@@ -16,8 +16,8 @@ loop-holds c = tt
 place-requires : tie.Need-place-requires Inv-loop μ-loop
 place-requires c κs = tt
 
-wide-requires : tie.Need-wide-requires Inv-loop μ-loop
-wide-requires c κs = tt
+wider-requires : tie.Need-wider-requires Inv-loop μ-loop
+wider-requires c κs = tt
 
 number-requires : tie.Need-number-requires Inv-loop μ-loop
 number-requires c κs = tt
@@ -32,5 +32,5 @@ pub read-on-spec : {M : Type 1} → statement M
 read-on-spec =
     tie.close
     (tie.spec
-    Inv-loop μ-loop loop-holds (λ c. search needs) (λ c κs. search needs) place-requires wide-requires number-requires
+    Inv-loop μ-loop loop-holds (λ c. search needs) (λ c κs. search needs) place-requires wider-requires number-requires
     (λ c. search needs) (λ c. search needs) loop-again returns)

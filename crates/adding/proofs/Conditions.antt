@@ -13,7 +13,7 @@ use Rattle.dstree.proofs.Conditions.{none-first, none-both}
 use Rattle.tables.specs.Tables.{Tables, measuresOf, traceCount}
 use Rattle.tables.specs.View.{treeIn, kindsNamed, wellFormed}
 use Rattle.tables.specs.Answers.{madeConditions}
-use Rattle.well_formed.proofs.Accepted.{accepted}
+use Rattle.tables.proofs.Judged.{accepted}
 use Rattle.tables.proofs.Views.{tree-formed}
 use Rattle.insertion_memory.proofs.FromTables.{long-of}
 use Rattle.calls.specs.Effects.{adds}

@@ -24,9 +24,9 @@ use Rattle.tables.specs.Tables.{Tables, measuresOf, traceCount, nodeCount, reco
 use Rattle.tables.specs.View.{smallAt, segmentIn, segmentsIn, testIn, treeIn, wellFormed}
 use Rattle.insertion.specs.Widening.{endIn, startIn, SegmentReadable, Readable}
 use Rattle.insertion.specs.Way.{Passable, Descendable}
-use Rattle.insertion_memory.specs.Memory.{held}
+use Rattle.insertion_memory.specs.Memory.{treeTables}
 use Rattle.dstree.proofs.Nodes.{nodes-most}
-use Rattle.insertion_memory.proofs.Stands.{Means, m-leaf, m-inner, Stands, kind-named}
+use Rattle.insertion_memory.proofs.Represents.{Means, m-leaf, m-inner, Represents, kind-named}
 use Rattle.insertion_memory.proofs.FromTables.{Long, facts, node-count, space, tables-stand}
 
 -- ---- ends and figures, the first of them
@@ -95,15 +95,15 @@ module _ (t : Tables) (w : T (wellFormed t)) (long : Long t) (some : 0 < length 
   abbrev tree : Tree
   tree = treeIn t
 
-  pub stands : Stands n (measuresOf t .capacity) (t .nodes) (t .links) (traceCount t) (held (t .nodes) (t .links) (nodeCount t)) tree
-  stands = tables-stand t w long
+  pub represents : Represents n (measuresOf t .capacity) (t .nodes) (t .links) (traceCount t) (treeTables (t .nodes) (t .links) (nodeCount t)) tree
+  represents = tables-stand t w long
 
   here : (j : ℕ) → j < nodeCount t → j < length tree
   here j h = omega (arith, h, node-count t w)
 
   readable-at : (j : ℕ) → j < nodeCount t → Readable (recordOf (t .nodes) j) n
   readable-at j h =
-      let d = stands .reads j (here j h) in
+      let d = represents .reads j (here j h) in
       readable (recordOf (t .nodes) j) n (space t w long .narrow) (d .size)
       (subst (λ (l : List Segment). Fits n (ends l)) (sym (d .segments)) (facts t w .shape .fits j (here j h)))
       (subst (λ (l : List Segment). AllLimited sampleLimit 1 l) (sym (d .segments)) (facts t w .limits .figures j (here j h)))
@@ -138,9 +138,9 @@ module _ (t : Tables) (w : T (wellFormed t)) (long : Long t) (some : 0 < length 
   pub descendable : Descendable (t .nodes) (nodeCount t) n
   descendable = record {
     some-node = omega (arith, some, node-count t w);
-    few = omega (arith, node-count t w, nodes-most (stands .shape), stands .few, space t w long .small);
-    room = omega (arith, node-count t w, nodes-most (stands .shape), stands .few, space t w long .nodes-room);
+    few = omega (arith, node-count t w, nodes-most (represents .shape), represents .few, space t w long .small);
+    room = omega (arith, node-count t w, nodes-most (represents .shape), represents .few, space t w long .nodes-room);
     readable = readable-at;
-    kind = λ j h. kind-named (stands .reads j (here j h) .kind);
-    passable = λ j h. passes j (stands .reads j (here j h) .size) (stands .reads j (here j h) .kind) refl;
+    kind = λ j h. kind-named (represents .reads j (here j h) .kind);
+    passable = λ j h. passes j (represents .reads j (here j h) .size) (represents .reads j (here j h) .kind) refl;
   }

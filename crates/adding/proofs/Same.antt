@@ -23,16 +23,16 @@ use Rattle.insertion.specs.Way.{wayIn, Descendable}
 use Rattle.insertion.proofs.Down.{way-same}
 use Rattle.insertion_memory.specs.Records.{widenRecord}
 use Rattle.insertion_memory.specs.Links.{joined}
-use Rattle.insertion_memory.specs.Memory.{Held, held, onRecord, splitAllOf, firstHeld, joinedHeld, heldAfter}
+use Rattle.insertion_memory.specs.Memory.{TreeTables, treeTables, onRecord, splitAllOf, firstTables, joinedTables, treeTablesAfter}
 use Rattle.insertion_memory.proofs.Storing.{stored-more, stored-length}
 use Rattle.dstree.proofs.Change.{LeafAt, way-inside, way-leaf, widen-length, widen-kind}
-use Rattle.insertion_memory.proofs.Stands.{Means, m-leaf, Stands, kind-read, links-rise}
-use Rattle.insertion_memory.proofs.Widening.{widen-stands}
+use Rattle.insertion_memory.proofs.Represents.{Means, m-leaf, Represents, kind-read, links-rise}
+use Rattle.insertion_memory.proofs.Widening.{widen-represents}
 use Rattle.insertion_memory.proofs.FromTables.{Long, facts, node-count, space}
-use Rattle.insertion_memory.proofs.Meaning.{joined-held}
-use Rattle.splitting.specs.Standing.{Standing}
+use Rattle.insertion_memory.proofs.Meaning.{joined-tables}
+use Rattle.splitting.specs.Represented.{Represented}
 use Rattle.adding.specs.Inserting.{leafBy, widenedBy, headBy, linkedBy, joinedBy, insertedBy, Joins, Inserts}
-use Rattle.adding.proofs.Ready.{stands, descendable}
+use Rattle.adding.proofs.Ready.{represents, descendable}
 
 leaf-zero : {links : List ℕ} {r : List ℤ} {ns : List ℕ} → Means links r (leaf ns) → smallAt r kindPlace ≡ 0
 leaf-zero (m-leaf e q w) = e
@@ -86,8 +86,8 @@ module _ (t : Tables) (x : Trace) (w : T (wellFormed t)) (long : Long t) (size :
     abbrev W : List ℤ
     W = foldl (onRecord (widenRecord x)) (t .nodes) met
 
-    widened : Stands n c (t .nodes) (t .links) k (held W (t .links) m) wide
-    widened = widen-stands (space t w long) x met (way-inside (treeIn t) x (facts t w .shape .child) some) (stands t w long some)
+    widened : Represents n c (t .nodes) (t .links) k (treeTables W (t .links) m) wide
+    widened = widen-represents (space t w long) x met (way-inside (treeIn t) x (facts t w .shape .child) some) (represents t w long some)
 
     inside : at < length wide
     inside = omega (arith, widen-length x met (treeIn t), end .inside)
@@ -106,7 +106,7 @@ module _ (t : Tables) (x : Trace) (w : T (wellFormed t)) (long : Long t) (size :
     numbers-are = leaf-numbers (t .links) k (recordOf W at) (smallAt (recordOf W at) kindPlace) (end .numbers) kind-zero (kind-read widened at inside ∙ is-leaf) ∙ sym (ap numbersIn (end .is))
 
     head-low : head < k
-    head-low = stands t w long some .shape .numbers head at (in-is (subst (λ (l : List ℕ). In head l) numbers-are (starts (t .links) k head)))
+    head-low = represents t w long some .shape .numbers head at (in-is (subst (λ (l : List ℕ). In head l) numbers-are (starts (t .links) k head)))
 
     -- by the records as by the tree
     leaf-is : leafBy (t .nodes) x m ≡ at
@@ -121,29 +121,29 @@ module _ (t : Tables) (x : Trace) (w : T (wellFormed t)) (long : Long t) (size :
     links-are : linkedBy (t .nodes) (t .links) k x m ≡ joined (t .links) (numbersIn (nodeAt (treeIn t) at .kind)) k
     links-are = ap (λ (h : ℕ). joined (t .links) (numbersOf (t .links) k h) k) head-is ∙ ap (λ (l : List ℕ). joined (t .links) l k) numbers-are
 
-    joined-is : joinedBy (t .nodes) (t .links) k x m ≡ joinedHeld t x
-    unfolding joinedHeld
-    joined-is = ap₂ (λ (u : List ℤ) (v : List ℕ). held u v m) nodes-are links-are
+    joined-is : joinedBy (t .nodes) (t .links) k x m ≡ joinedTables t x
+    unfolding joinedTables
+    joined-is = ap₂ (λ (u : List ℤ) (v : List ℕ). treeTables u v m) nodes-are links-are
 
-    joined-stands : Stands n c (t .nodes) (t .links) (suc k) (joinedBy (t .nodes) (t .links) k x m) (join k at wide)
-    joined-stands = subst (λ (h : Held). Stands n c (t .nodes) (t .links) (suc k) h (join k at wide)) (sym joined-is) (joined-held t x w long size less some)
+    joined-represents : Represents n c (t .nodes) (t .links) (suc k) (joinedBy (t .nodes) (t .links) k x m) (join k at wide)
+    joined-represents = subst (λ (h : TreeTables). Represents n c (t .nodes) (t .links) (suc k) h (join k at wide)) (sym joined-is) (joined-tables t x w long size less some)
 
-    standing : Standing (widenedBy (t .nodes) x m) (linkedBy (t .nodes) (t .links) k x m) stored n (suc k) m
-    standing = record {
+    represented : Represented (widenedBy (t .nodes) x m) (linkedBy (t .nodes) (t .links) k x m) stored n (suc k) m
+    represented = record {
       capacity = c;
       tree = join k at wide;
       space = record {
         wide = space t w long .wide;
         narrow = space t w long .narrow;
         small = space t w long .small;
-        nodes-room = omega (arith, space t w long .nodes-room, joined-stands .nodes-size);
-        links-room = omega (arith, space t w long .links-room, joined-stands .links-size);
+        nodes-room = omega (arith, space t w long .nodes-room, joined-represents .nodes-size);
+        links-room = omega (arith, space t w long .links-room, joined-represents .links-size);
       };
-      stands = record {
-        few = joined-stands .few;
-        count = joined-stands .count;
-        reads = joined-stands .reads;
-        shape = joined-stands .shape;
+      represents = record {
+        few = joined-represents .few;
+        count = joined-represents .count;
+        reads = joined-represents .reads;
+        shape = joined-represents .shape;
         nodes-size = refl;
         nodes-behind = refl;
         links-size = refl;
@@ -159,8 +159,8 @@ module _ (t : Tables) (x : Trace) (w : T (wellFormed t)) (long : Long t) (size :
       head-inside = omega (arith, head-is, head-low);
       links-room = omega (arith, less, space t w long .links-room);
       few = omega (arith, less, space t w long .small);
-      rising = links-rise (stands t w long some);
-      standing = standing;
+      rising = links-rise (represents t w long some);
+      represented = represented;
     }
 
   -- it can be inserted
@@ -174,14 +174,14 @@ module _ (t : Tables) (x : Trace) (w : T (wellFormed t)) (long : Long t) (size :
   }
 
   -- .. and that is what adding does
-  pub inserted-is : insertedBy (t .nodes) (t .links) stored n k (measuresOf t .leafSize) x m ≡ heldAfter t x m
-  unfolding insertedBy heldAfter firstHeld tracesIn samplesNeeded
+  pub inserted-is : insertedBy (t .nodes) (t .links) stored n k (measuresOf t .leafSize) x m ≡ treeTablesAfter t x m
+  unfolding insertedBy treeTablesAfter firstTables tracesIn samplesNeeded
   inserted-is = by m refl
     where
-      by : (j : ℕ) → m ≡ j → insertedBy (t .nodes) (t .links) stored n k (measuresOf t .leafSize) x j ≡ heldAfter t x j
+      by : (j : ℕ) → m ≡ j → insertedBy (t .nodes) (t .links) stored n k (measuresOf t .leafSize) x j ≡ treeTablesAfter t x j
       by zero e = refl
       by (suc j) e =
           let some : 0 < length (treeIn t) = omega (arith, e, node-count t w) in
           ap (λ (i : ℕ). splitAllOf (measuresOf t .leafSize) (storedIn stored n (suc k)) (joinedBy (t .nodes) (t .links) k x i) (leafBy (t .nodes) x i)) (sym e)
-          ∙ (ap₂ (λ (h : Held) (i : ℕ). splitAllOf (measuresOf t .leafSize) (storedIn stored n (suc k)) h i) (joined-is some) (leaf-is some)
-          ∙ ap (λ (l : List Trace). splitAllOf (measuresOf t .leafSize) l (joinedHeld t x) (at some)) (stored-more (t .samples) n k c x size less (long .samples-long)))
+          ∙ (ap₂ (λ (h : TreeTables) (i : ℕ). splitAllOf (measuresOf t .leafSize) (storedIn stored n (suc k)) h i) (joined-is some) (leaf-is some)
+          ∙ ap (λ (l : List Trace). splitAllOf (measuresOf t .leafSize) l (joinedTables t x) (at some)) (stored-more (t .samples) n k c x size less (long .samples-long)))

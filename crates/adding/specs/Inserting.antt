@@ -14,8 +14,8 @@ use Rattle.tables.specs.Walk.{storedIn, numbersOf, Rising}
 use Rattle.insertion.specs.Way.{wayIn, Descendable}
 use Rattle.insertion_memory.specs.Records.{leafRecord, widenRecord}
 use Rattle.insertion_memory.specs.Links.{joined}
-use Rattle.insertion_memory.specs.Memory.{Held, held, onRecord, splitAllOf}
-use Rattle.splitting.specs.Standing.{Standing}
+use Rattle.insertion_memory.specs.Memory.{TreeTables, treeTables, onRecord, splitAllOf}
+use Rattle.splitting.specs.Represented.{Represented}
 
 -- the leaf that a trace comes to, and the records widened on the way
 abbrev pub leafBy : List ℤ → Trace → ℕ → ℕ
@@ -32,12 +32,12 @@ abbrev pub linkedBy : List ℤ → List ℕ → ℕ → Trace → ℕ → List �
 linkedBy nodes links k x count = joined links (numbersOf links k (headBy nodes x count)) k
 
 -- trace k has joined its leaf
-abbrev pub joinedBy : List ℤ → List ℕ → ℕ → Trace → ℕ → Held
-joinedBy nodes links k x count = held (widenedBy nodes x count) (linkedBy nodes links k x count) count
+abbrev pub joinedBy : List ℤ → List ℕ → ℕ → Trace → ℕ → TreeTables
+joinedBy nodes links k x count = treeTables (widenedBy nodes x count) (linkedBy nodes links k x count) count
 
 -- .. and leaves above the leaf size have split; with no node yet, the trace makes leaf 0
-unfoldable pub insertedBy : List ℤ → List ℕ → List ℤ → ℕ → ℕ → ℕ → Trace → ℕ → Held
-insertedBy nodes links samples n k leafSize x zero = held (withRecord nodes 0 (leafRecord (segmentsOf (n ∷ []) (x ∷ [])) 0)) (set links 0 0) 1
+unfoldable pub insertedBy : List ℤ → List ℕ → List ℤ → ℕ → ℕ → ℕ → Trace → ℕ → TreeTables
+insertedBy nodes links samples n k leafSize x zero = treeTables (withRecord nodes 0 (leafRecord (segmentsOf (n ∷ []) (x ∷ [])) 0)) (set links 0 0) 1
 insertedBy nodes links samples n k leafSize x (suc count) =
     splitAllOf leafSize (storedIn samples n (suc k)) (joinedBy nodes links k x (suc count)) (leafBy nodes x (suc count))
 
@@ -51,7 +51,7 @@ pub record Joins (nodes : List ℤ) (links : List ℕ) (samples : List ℤ) (n k
   pub links-room : k < length links
   pub few : k ≤ 4096
   pub rising : Rising links k
-  pub standing : Standing (widenedBy nodes x count) (linkedBy nodes links k x count) samples n (suc k) count
+  pub represented : Represented (widenedBy nodes x count) (linkedBy nodes links k x count) samples n (suc k) count
 
 pub record Inserts (nodes : List ℤ) (links : List ℕ) (samples : List ℤ) (n k : ℕ) (x : Trace) (count : ℕ) : Type 0 where
   pub size : length x ≡ n

@@ -8,7 +8,7 @@ ghost use Prim.Native.Nat.{suc, _≤_};
 ghost use lib.ListN.{length, set};
 ghost use Rattle.tables.specs.Layout.{controlFields, traceCountPlace, nodeCountPlace};
 ghost use Rattle.tables.specs.Walk.{storedIn};
-ghost use Rattle.insertion_memory.specs.Memory.{held, splitAllOf};
+ghost use Rattle.insertion_memory.specs.Memory.{treeTables, splitAllOf};
 ghost use Rattle.adding.specs.Inserting.{leafBy, joinedBy, insertedBy, Joins, Inserts};
 
 // A later trace. Its number is k, the number of traces before it, and its samples are stored. The answer is how many nodes there are then.
@@ -23,7 +23,7 @@ pub fn insert_more(
     count: usize,
 ) -> usize
     requires { ⌜ Joins (now nodes) (now links) (now samples) n k (now trace) count ⌝ }
-    ensures { λ r. ⌜ held (now (nodes .exit)) (now (links .exit)) r
+    ensures { λ r. ⌜ treeTables (now (nodes .exit)) (now (links .exit)) r
         ≡ splitAllOf «leaf_size» (storedIn (now (samples .entry)) n (suc k))
         (joinedBy (now (nodes .entry)) (now (links .entry)) k (now (trace .entry)) count)
         (leafBy (now (nodes .entry)) (now (trace .entry)) count) ⌝ }
@@ -47,7 +47,7 @@ pub fn insert(
     count: usize,
 ) -> usize
     requires { ⌜ Inserts (now nodes) (now links) (now samples) n k (now trace) count ⌝ }
-    ensures { λ r. ⌜ held (now (nodes .exit)) (now (links .exit)) r
+    ensures { λ r. ⌜ treeTables (now (nodes .exit)) (now (links .exit)) r
         ≡ insertedBy (now (nodes .entry)) (now (links .entry)) (now (samples .entry)) n k «leaf_size» (now (trace .entry)) count ⌝ }
 {
     if count == 0 {

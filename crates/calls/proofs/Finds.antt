@@ -25,7 +25,7 @@ use Rattle.dstree.proofs.Reading.{from-leaves, in-leaves, reading-of, in-readin
 use Rattle.tables.specs.Tables.{Tables, lentOf, measuresOf, traceCount}
 use Rattle.tables.specs.View.{treeIn, tracesIn, wellFormed}
 use Rattle.tables.specs.Judge.{lentConditionsOf, Room}
-use Rattle.tables.proofs.Judged.{lent-accepted}
+use Rattle.tables.proofs.Judged.{accepted}
 use Rattle.tables.specs.Answers.{madeConditions}
 use Rattle.tables.proofs.Views.{tree-formed}
 use Rattle.calls.specs.Effects.{isNone, matches}
@@ -132,19 +132,6 @@ module _ (t : Tables) (w : T (wellFormed t)) (some-trace : 0 < traceCount t) (qu
 
 -- ---- the conditions of a match
 
--- tables that every call takes: well formed, with measures that they are long enough for
-pub record Accepted (t : Tables) : Type 0 where
-  pub room : Room (lentOf t) (measuresOf t)
-  pub formed : T (wellFormed t)
-
-pub accepted : (t : Tables) (rest : List Condition) → firstOf (madeConditions t ++ rest) ≡ none → Accepted t
-unfolding madeConditions
-accepted t rest e =
-    let made = none-both (madeConditions t) rest e .0 in
-    let parts = none-both (lentConditionsOf (lentOf t) (measuresOf t)) (not (wellFormed t) refuses spoiled ∷ []) made in
-    let one = none-first (not (wellFormed t)) spoiled [] (parts .1) in
-    record { room = lent-accepted (lentOf t) (measuresOf t) (parts .0) .room; formed = is-true {b = wellFormed t} (not-false _ (one .0)) }
-
 module _ (t : Tables) (query : Trace) (trail : List ℕ) where
   abbrev own : List Condition
   own =
@@ -165,7 +152,7 @@ module _ (t : Tables) (query : Trace) (trail : List ℕ) where
   found e =
       let two = none-first (not (eqb (length query) (measuresOf t .n))) wrongTrace _ (none-both (madeConditions t) own e .1) in
       let three = none-first (eqb (traceCount t) 0) empty _ (two .1) in
-      finds t (accepted t own e .formed) (some-of (traceCount t) (λ q. eqb-false (traceCount t) 0 (three .0) q)) query
+      finds t (accepted t (none-both (madeConditions t) own e .0) .formed) (some-of (traceCount t) (λ q. eqb-false (traceCount t) 0 (three .0) q)) query
 
   -- .. so that the last never decides
   pub last-never : firstOf (matches t query trail .conditions) ≡ firstOf testedConditions

@@ -21,6 +21,7 @@ use Rattle.dstree.specs.Claims.{numbersAmong}
 use Rattle.dstree.proofs.OffTrail as trees
 use Rattle.tables.specs.Tables.{Tables, tables, measuresOf, traceCount}
 use Rattle.tables.specs.View.{traceIn, treeIn, tracesIn, kindsNamed, wellFormed}
+use Rattle.dstree.proofs.Conditions.{none-both}
 use Rattle.tables.specs.Answers.{madeConditions}
 use Rattle.tables.specs.Beginning.{firstPlaces, Begins}
 use Rattle.tables.proofs.Views.{trace-at, traces-size, tree-formed}
@@ -32,7 +33,8 @@ use Rattle.calls.specs.Outcome.{unlessRefused}
 use Rattle.calls.specs.Effects.{resultOf, trailOf, matches, effectOf, outcomeOn}
 use Rattle.calls.specs.Follows.{Follows}
 use Rattle.calls.specs.Demands.{DifferOutside, SamplesOffTrail}
-use Rattle.calls.proofs.Finds.{Accepted, accepted, last-never}
+use Rattle.tables.proofs.Judged.{Accepted, accepted}
+use Rattle.calls.proofs.Finds.{last-never}
 use Rattle.calls.proofs.Steps.{reply-is}
 
 -- ---- what a match that finds this answers
@@ -108,7 +110,7 @@ module _ {lent : Lent} {query : Trace} {trail : List ℕ} {these these′ : Tabl
       (sym (ap (λ (r : Reply). r .answer) (reply-is f)) ∙ answers)
 
   ok : Accepted part
-  ok = accepted part _ (sym (last-never part query trail) ∙ known .0)
+  ok = accepted part (none-both (madeConditions part) _ (sym (last-never part query trail) ∙ known .0) .0)
 
   long : Long part
   long = long-of part (ok .room)

@@ -24,7 +24,7 @@ use Rattle.tables.specs.Judge.{openingConditionsOf, Room}
 use Rattle.tables.specs.Beginning.{firstPlaces, left, Begins}
 use Rattle.tables.specs.Answers.{openingConditions, madeConditions, opened}
 use Rattle.tables.proofs.Views.{tree-formed}
-use Rattle.tables.proofs.Beginning.{extended, behindOf, begins-is, tables-same, left-same, left-extended, left-lent, begins-within}
+use Rattle.tables.proofs.Beginning.{extended, restOf, begins-is, tables-same, left-same, left-extended, left-lent, begins-within}
 use Rattle.tables.proofs.Beginning.{first-begins, fill-length, opened-lent}
 use Rattle.insertion_memory.specs.Memory.{addedTo}
 use Rattle.insertion_memory.proofs.FromTables.{long-of}
@@ -34,8 +34,8 @@ use Rattle.calls.specs.Library.{loaded, beyond}
 use Rattle.calls.specs.Effects.{opens, adds, cleared, matches, writes, loadedBy, reads, effectOf}
 use Rattle.calls.specs.Follows.{Typed, Follows}
 use Rattle.calls.specs.Demands.{OneCall}
+use Rattle.tables.proofs.Judged.{accepted}
 use Rattle.calls.proofs.Library.{opened-beyond, loaded-holds, loaded-lent, loaded-beyond, fill-behind}
-use Rattle.calls.proofs.Finds.{accepted}
 use Rattle.calls.proofs.Kept.{short-room}
 use Rattle.calls.proofs.Steps.{reply-is, memory-is}
 
@@ -60,7 +60,7 @@ module _ (t : Tables) where
       let own = none-both (madeConditions t) _ e .1 in
       let one = none-first (not (eqb (length x) (measuresOf t .n))) wrongTrace _ own in
       let two = none-first (eqb (traceCount t) (measuresOf t .capacity)) full _ (one .1) in
-      let ok = accepted t _ e in
+      let ok = accepted t (none-both (madeConditions t) _ e .0) in
       let size = eqb-true (length x) (measuresOf t .n) (not-false _ (one .0)) in
       let less = strict (tree-formed t (ok .formed) .room) (λ q. eqb-false (traceCount t) (measuresOf t .capacity) (two .0) q) in
       let a = meaning t x (ok .formed) (long-of t (ok .room)) size less in
@@ -75,7 +75,7 @@ module _ (t : Tables) where
   matching-untouched : (query : Trace) (trail : List ℕ) → firstOf (matches t query trail .conditions) ≡ none → Untouched t (cleared t)
   unfolding matches
   matching-untouched query trail e =
-      let r = accepted t _ e .room in
+      let r = accepted t (none-both (madeConditions t) _ e .0) .room in
       let k : ℕ = workNeeded (measuresOf t) in
       record {
         lengths-same = rw (fill-length {A = ℕ} k 0 (t .work) (r .work-room));
@@ -85,7 +85,7 @@ module _ (t : Tables) where
 
   writing-untouched : (sheet : List ℕ) → firstOf (writes t sheet .conditions) ≡ none → Untouched t t
   unfolding writes
-  writing-untouched sheet e = record { lengths-same = refl; room = accepted t _ e .room; beyond-same = refl }
+  writing-untouched sheet e = record { lengths-same = refl; room = accepted t (none-both (madeConditions t) _ e .0) .room; beyond-same = refl }
 
   reading-by : (j : Judged) → ((m : Measures) (traces : List Trace) → j ≡ holds m traces → T (isLibrary sampleLimit m traces))
       → firstOf (readingConditions layout (lentOf t) j) ≡ none → Untouched t (loadedBy t j)
@@ -140,7 +140,7 @@ whole part after memory begins u =
     )
   where
     more : Tables
-    more = behindOf part memory
+    more = restOf part memory
 
     m : Measures
     m = measuresOf after

@@ -19,7 +19,7 @@ use Rattle.dstree.specs.Measures.{Trace}
 use Rattle.dstree.specs.Figures.{Run, run, width, samplesOn}
 use Rattle.dstree.specs.Node.{Segment, Node, Tree, nodeAt, ends, totalOver}
 use Rattle.dstree.specs.Matching.{boundOn, ownBound, hasChild, parentFrom, boundFrom, bound}
-use Rattle.dstree.specs.Claims.{Below, under}
+use Rattle.dstree.specs.Claims.{Below, of-child}
 use Rattle.dstree.proofs.Ranges.{CoveredOn, Covered, covered-none, covered-more}
 use Rattle.dstree.specs.Formed.{RunIn}
 use Rattle.dstree.proofs.Cuts.{Rises, rises-none, rises-more, parted-rises}
@@ -167,7 +167,7 @@ module _ (n : ℕ) (stored : List Trace) (tree : Tree) (c : Containing n stored 
           → ((p : ℕ) → Below tree t p → boundFrom fuel tree query p ≤ distance query (getD stored t []))
           → elim o [ none ↦ 0 | some parent ↦ boundFrom fuel tree query parent ] ≤ distance query (getD stored t [])
       by none e ih = omega arith
-      by (some p) e ih = ih p (under (parent-has tree k p e) b)
+      by (some p) e ih = ih p (of-child (parent-has tree k p e) b)
 
   -- "No node's bound exceeds the query's distance to a trace below it"
   pub bound-at-most : (number trace : ℕ) → Below tree trace number → bound tree query number ≤ distance query (getD stored trace [])

@@ -21,7 +21,7 @@ use Rattle.dstree.specs.Node.{Kind, leaf, inner, Tree, nodeAt}
 use Rattle.dstree.specs.Adding.{tracesOf}
 use Rattle.dstree.specs.Matching.{bound, LeafBound, isLeaf, numbersIn, leaves, readingOrder, Near, Search, distancesIn, searchOn}
 use Rattle.dstree.specs.Matching.{searched, answerOf, matchBySteps, leastDistance, lowestAt, leavesR, matchOf}
-use Rattle.dstree.specs.Claims.{held, numbersAmong, LeavesOutOnlyAbove, ClaimsOf, ClaimsOfExact}
+use Rattle.dstree.specs.Claims.{of-leaf, numbersAmong, LeavesOutOnlyAbove, ClaimsOf, ClaimsOfExact}
 use Rattle.dstree.proofs.Formed.{Kept, number-node, formed}
 use Rattle.dstree.proofs.Containing.{Containing, of-exact}
 use Rattle.dstree.proofs.Bounds.{bound-at-most}
@@ -170,7 +170,7 @@ module _ (n : ℕ) (stored : List Trace) (tree : Tree) (c : Containing n stored 
         at = k .at;
         is-leaf = in-leaves tree (number-node tree t (k .at) (k .holds)) (leafy (nodeAt tree (k .at) .kind) (k .holds));
         holds = is-in t (numbersIn (nodeAt tree (k .at) .kind)) (k .holds);
-        low = bound-at-most n stored tree c query all-n lq (k .at) t (held (k .holds));
+        low = bound-at-most n stored tree c query all-n lq (k .at) t (of-leaf (k .holds));
       }
 
   in-distances : (t k : ℕ) → In t (numbersIn (nodeAt tree k .kind)) → In (near stored query t) (distancesIn stored tree query k)

@@ -1,6 +1,6 @@
 -- The first condition that holds, of a list and of two lists; and when none does.
 use Prim.Native.Nat.{ℕ}
-use mathlib.Core.Path.{_≡_, refl}
+use mathlib.Core.Path.{_≡_, refl, sym, ap, _∙_}
 use mathlib.Core.Bool.{Bool, true, false}
 use mathlib.Core.Option.{Option, none, some}
 use mathlib.Core.List.{List, [], _∷_, _++_}
@@ -20,27 +20,38 @@ none-first b why rest e = past b why (firstOf rest) e
 
 -- ---- of two lists, one behind the other
 
-pub first-some : (a b : List Condition) (why : Refusal) → firstOf a ≡ some why → firstOf (a ++ b) ≡ some why
-unfolding firstOf
-first-some [] b why e = let z : _≡_ {A = ℕ} 0 1 = cc in absurd (omega arith)
-first-some (c ∷ a) b why e = by (c .holds) e (first-some a b why)
+-- the one, or, where there is none, the other
+unfoldable orElse : Option Refusal → Option Refusal → Option Refusal
+orElse (some why) later = some why
+orElse none later = later
+
+-- the first condition of two lists is the first list's, or else the second's
+first-append : (a b : List Condition) → firstOf (a ++ b) ≡ orElse (firstOf a) (firstOf b)
+unfolding firstOf orElse
+first-append [] b = refl
+first-append (c ∷ a) b = by (c .holds) (first-append a b)
   where
-    by : (t : Bool) → (if t then some (c .refusal) else firstOf a) ≡ some why → (firstOf a ≡ some why → firstOf (a ++ b) ≡ some why) → (if t then some (c .refusal) else firstOf (a ++ b)) ≡ some why
-    by true e ih = e
-    by false e ih = ih e
+    by : (t : Bool) → firstOf (a ++ b) ≡ orElse (firstOf a) (firstOf b)
+        → (if t then some (c .refusal) else firstOf (a ++ b)) ≡ orElse (if t then some (c .refusal) else firstOf a) (firstOf b)
+    by true later = refl
+    by false later = later
+
+-- .. read forwards and backwards
+pub first-some : (a b : List Condition) (why : Refusal) → firstOf a ≡ some why → firstOf (a ++ b) ≡ some why
+unfolding orElse
+first-some a b why e = first-append a b ∙ ap (λ (o : Option Refusal). orElse o (firstOf b)) e
 
 pub first-none : (a b : List Condition) → firstOf a ≡ none → firstOf (a ++ b) ≡ firstOf b
-unfolding firstOf
-first-none [] b e = refl
-first-none (c ∷ a) b e = let both = none-first (c .holds) (c .refusal) a e in rw (both .0) (first-none a b (both .1))
+unfolding orElse
+first-none a b e = first-append a b ∙ ap (λ (o : Option Refusal). orElse o (firstOf b)) e
+
+neither-one : (first later : Option Refusal) → orElse first later ≡ none → (first ≡ none) × (later ≡ none)
+unfolding orElse
+neither-one (some why) later e = let z : _≡_ {A = ℕ} 0 1 = cc in absurd (omega arith)
+neither-one none later e = (refl, e)
 
 pub none-both : (a b : List Condition) → firstOf (a ++ b) ≡ none → (firstOf a ≡ none) × (firstOf b ≡ none)
-unfolding firstOf
-none-both [] b e = (refl, e)
-none-both (c ∷ a) b e =
-    let one = none-first (c .holds) (c .refusal) (a ++ b) e in
-    let both = none-both a b (one .1) in
-    (rw (one .0) (both .0), both .1)
+none-both a b e = neither-one (firstOf a) (firstOf b) (sym (first-append a b) ∙ e)
 
 -- ---- none of a list
 

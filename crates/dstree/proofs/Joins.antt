@@ -19,7 +19,7 @@ use Rattle.dstree.specs.Node.{Test, Kind, leaf, inner, Node, Tree, nodeA
 use Rattle.dstree.specs.Adding.{nextNode, wayFrom, way, widenAll, join}
 use Rattle.dstree.specs.Matching.{hasChild, numbersIn}
 use Rattle.dstree.specs.Formed.{Parent, Kept, Shape}
-use Rattle.dstree.specs.Claims.{Below, held, under}
+use Rattle.dstree.specs.Claims.{Below, of-leaf, of-child}
 use Rattle.dstree.proofs.Ranges.{Covered}
 use Rattle.dstree.proofs.Change.{next-child, has-left, has-right, ParentIn, way-closed, way-last, LeafAt, way-leaf}
 use Rattle.dstree.proofs.Change.{widen-length, widen-kind, widen-keeps, widen-gets, join-length, join-segments, join-kinds}
@@ -179,20 +179,20 @@ module _ {n : ℕ} {stored : List Trace} {root : Node} {rest : Tree} (x : Trace)
           (subst (λ (j : ℕ). In j met) e (q .met), subst (λ (j : ℕ). nextNode (nodeAt tree j .kind) x ≡ some c) e (q .next))
 
   below-back : {t k : ℕ} → Below new t k → Below tree t k ⊎ ((t ≡ length stored) × In k met)
-  below-back {t} (held {number} h) = by (numbers-back s x met at (ending .numbers) (ending .inside) (ending .is) t number h)
+  below-back {t} (of-leaf {number} h) = by (numbers-back s x met at (ending .numbers) (ending .inside) (ending .is) t number h)
     where
       by : T (isIn t (numbersIn (nodeAt tree number .kind))) ⊎ ((t ≡ length stored) × (number ≡ at)) → Below tree t number ⊎ ((t ≡ length stored) × In number met)
-      by (inl i) = inl (held i)
+      by (inl i) = inl (of-leaf i)
       by (inr (e, p)) = inr (e, subst (λ (j : ℕ). In j met) (sym p) (way-last (length rest) tree x 0))
-  below-back {t} (under {parent} {child} h b) = by (below-back b)
+  below-back {t} (of-child {parent} {child} h b) = by (below-back b)
     where
       by : Below tree t child ⊎ ((t ≡ length stored) × In child met) → Below tree t parent ⊎ ((t ≡ length stored) × In parent met)
-      by (inl i) = inl (under (child-back s x met at (ending .numbers) (ending .inside) (ending .is) child parent h) i)
+      by (inl i) = inl (of-child (child-back s x met at (ending .numbers) (ending .inside) (ending .is) child parent h) i)
       by (inr (e, i)) = inr (e, came-from child parent i (child-back s x met at (ending .numbers) (ending .inside) (ending .is) child parent h) .0)
 
   below-on : {t k : ℕ} → Below tree t k → Below new t k
-  below-on {t} (held {number} h) = held (numbers-on s x met at (ending .numbers) (ending .inside) (ending .is) t number h)
-  below-on (under {parent} {child} h b) = under (child-on s x met at (ending .numbers) (ending .inside) (ending .is) child parent h) (below-on b)
+  below-on {t} (of-leaf {number} h) = of-leaf (numbers-on s x met at (ending .numbers) (ending .inside) (ending .is) t number h)
+  below-on (of-child {parent} {child} h b) = of-child (child-on s x met at (ending .numbers) (ending .inside) (ending .is) child parent h) (below-on b)
 
   -- the new trace is below each node of the way to a leaf that holds it
   way-below : (fuel at : ℕ) → Below new (length stored) (lastOf (wayFrom fuel tree x at)) → {k : ℕ} → In k (wayFrom fuel tree x at) → Below new (length stored) k
@@ -205,7 +205,7 @@ module _ {n : ℕ} {stored : List Trace} {root : Node} {rest : Tree} (x : Trace)
           ((c : ℕ) → Below new (length stored) (lastOf (wayFrom fuel tree x c)) → (j : ℕ) → In j (wayFrom fuel tree x c) → Below new (length stored) j) → Below new (length stored) k
       on zero c h b (inl e) ih = rw e b
       on zero c h b (inr j) ih = elim j [ ]
-      on (suc fuel) c h b (inl e) ih = rw e (under {child = c} (child-on s x met (lastOf met) (ending .numbers) (ending .inside) (ending .is) c at h) (ih c b c first))
+      on (suc fuel) c h b (inl e) ih = rw e (of-child {child = c} (child-on s x met (lastOf met) (ending .numbers) (ending .inside) (ending .is) c at h) (ih c b c first))
       on (suc fuel) c h b (inr j) ih = ih c b k j
 
       by : (o : Option ℕ) → nextNode (nodeAt tree at .kind) x ≡ o
@@ -264,7 +264,7 @@ module _ {n : ℕ} {stored : List Trace} {root : Node} {rest : Tree} (x : Trace)
   join-reached k =
       rw (join-segments (length stored) at (widenAll x met tree) k)
       (widen-reached more x (length stored) (new-trace refl) (λ (k t : ℕ). Below new t k) met tree
-      (λ k i. way-below (length tree) 0 (held (holds-new s x met at (ending .numbers) (ending .inside) (ending .is))) i)
+      (λ k i. way-below (length tree) 0 (of-leaf (holds-new s x met at (ending .numbers) (ending .inside) (ending .is))) i)
       (λ k. reached-by-more stored more (λ (t : ℕ). Below tree t k) (λ (t : ℕ). Below new t k) (λ t b. below-on b) (λ t b. old-trace (below-stored s b)) (old .reached k)) k)
 
   join-ranges : (t k : ℕ) → Below tree t k ⊎ ((t ≡ length stored) × In k met) → Covered (getD more t []) 1 (nodeAt new k .segments)

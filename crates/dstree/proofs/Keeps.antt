@@ -18,7 +18,7 @@ use Rattle.dstree.specs.Node.{Test, leaf, inner, Node, Tree, nodeAt, end
 use Rattle.dstree.specs.Adding.{way, widenAll, join, newLeaf, Split, splitInto, split, insertion}
 use Rattle.dstree.specs.Matching.{hasChild, numbersIn}
 use Rattle.dstree.specs.Formed.{p-last, Fits, Shape, AllLimited, Limits, Formed}
-use Rattle.dstree.specs.Claims.{Below, held, under}
+use Rattle.dstree.specs.Claims.{Below, of-leaf, of-child}
 use Rattle.dstree.proofs.Ranges.{Covered, covered-none, new-covered}
 use Rattle.dstree.proofs.Change.{LeafAt, way-leaf}
 use Rattle.dstree.proofs.Cuts.{new-ends}
@@ -103,14 +103,14 @@ module _ (n : ℕ) (x : Trace) (wide : 1 ≤ n) where
     where
       reach : (k : ℕ) → AllReached (x ∷ []) (λ (t : ℕ). Below one t k) 1 (nodeAt one k .segments)
       reach zero =
-          reached-by-more (x ∷ []) (x ∷ []) (λ (t : ℕ). In t (0 ∷ [])) (λ (t : ℕ). Below one t 0) (λ t i. held {number = 0} (in-is i))
+          reached-by-more (x ∷ []) (x ∷ []) (λ (t : ℕ). In t (0 ∷ [])) (λ (t : ℕ). Below one t 0) (λ t i. of-leaf {number = 0} (in-is i))
           (λ t i. refl)
           (new-reached (x ∷ []) (0 ∷ []) (omega arith) (n ∷ []))
       reach (suc k) = reached-none
 
       covers : (t k : ℕ) → Below one t k → Covered (getD (x ∷ []) t []) 1 (nodeAt one k .segments)
-      covers t zero (held h) = new-covered (x ∷ []) (n ∷ []) (0 ∷ []) t h
-      covers t zero (under {child} h b) = no-child zero child h
+      covers t zero (of-leaf h) = new-covered (x ∷ []) (n ∷ []) (0 ∷ []) t h
+      covers t zero (of-child {child} h b) = no-child zero child h
       covers t (suc k) b = covered-none
 
   first-limits : (limit : ℕ) → T (isTrace limit n x) → Limits limit n one

@@ -159,16 +159,16 @@ module _ (f : Format) (bs : List (List ℕ)) (s : Sized blockSize bs) where
 -- ---- a sheet that is not refused
 
 -- its blocks
-pub record Accepted (f : Format) (bytes : List ℕ) (bs : List (List ℕ)) : Type 0 where
+pub record AcceptedSheet (f : Format) (bytes : List ℕ) (bs : List (List ℕ)) : Type 0 where
   pub whole : flatten bs ≡ bytes
   pub sized : Sized blockSize bs
   pub each-bytes : All Bytes bs
   pub untorn : NoneOf (tornConditions f 0 bs)
   pub good : NoneOf (badConditions f bs)
 
-accepted : (f : Format) (bytes : List ℕ) → T (areBytes bytes) → NoneOf (conditionsAs f bytes) → Accepted f bytes (blocksIn bytes)
+accepted-sheet : (f : Format) (bytes : List ℕ) → T (areBytes bytes) → NoneOf (conditionsAs f bytes) → AcceptedSheet f bytes (blocksIn bytes)
 unfolding conditionsAs blocksIn
-accepted f bytes t (all-more l rest) =
+accepted-sheet f bytes t (all-more l rest) =
     let count : ℕ = length bytes / blockSize in
     let c : count * blockSize ≡ length bytes = in-blocks (length bytes) l .all-whole in
     let both = all-parts (tornConditions f 0 (pieces blockSize count bytes)) rest in
@@ -188,13 +188,13 @@ judged-none none otherwise m traces e = (refl, e)
 
 -- what is said of all that blocks hold, is said of what a sheet holds
 module _ (f : Format) (P : Measures → List Trace → Type 0) (bytes : List ℕ) (t : T (areBytes bytes))
-    (said : (first : List ℕ) (others : List (List ℕ)) → Accepted f bytes (first ∷ others)
+    (said : (first : List ℕ) (others : List (List ℕ)) → AcceptedSheet f bytes (first ∷ others)
     → P (measuresIn first) (tracesIn f (countIn first) (measuresIn first .n) others)) where
   abbrev Said : Judged → Type 0
   Said (refused r) = ⊥
   Said (holds m traces) = P m traces
 
-  library-said : (bs : List (List ℕ)) (m : Measures) (traces : List Trace) → Accepted f bytes bs → libraryIn f bs ≡ holds m traces
+  library-said : (bs : List (List ℕ)) (m : Measures) (traces : List Trace) → AcceptedSheet f bytes bs → libraryIn f bs ≡ holds m traces
       → P m traces
   unfolding libraryIn
   library-said [] m traces a e = let z : _≡_ {A = ℕ} 0 1 = cc in absurd (omega arith)
@@ -204,4 +204,4 @@ module _ (f : Format) (P : Measures → List Trace → Type 0) (bytes : List ℕ
   unfolding judgeAs
   of-accepted m traces e =
       let both = judged-none (firstOf (conditionsAs f bytes)) (libraryIn f (blocksIn bytes)) m traces e in
-      library-said (blocksIn bytes) m traces (accepted f bytes t (none-of (conditionsAs f bytes) (both .0))) (both .1)
+      library-said (blocksIn bytes) m traces (accepted-sheet f bytes t (none-of (conditionsAs f bytes) (both .0))) (both .1)

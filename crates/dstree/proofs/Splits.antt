@@ -24,7 +24,7 @@ use Rattle.dstree.specs.Measures.{Trace}
 use Rattle.dstree.specs.Node.{Test, Kind, leaf, inner, Node, node, Tree, nodeAt, figureOf, goesLeft, ends}
 use Rattle.dstree.specs.Adding.{newLeaf, Candidate, candidates, tracesOf, thresholdOf, testOf, Split, splitBy, parts, gain, bestOf, best, splitInto, splitKind, split, splitNew}
 use Rattle.dstree.specs.Matching.{hasChild, numbersIn}
-use Rattle.dstree.specs.Claims.{Below, held, under}
+use Rattle.dstree.specs.Claims.{Below, of-leaf, of-child}
 use Rattle.dstree.proofs.Ranges.{Covered, covered-none, new-covered}
 use Rattle.dstree.specs.Formed.{Fits, RunIn, Parent, Kept, Shape}
 use Rattle.dstree.proofs.Formed.{nothing, number-node}
@@ -88,13 +88,13 @@ module _ (stored : List Trace) (tree : Tree) (at : ℕ) (s : Split) where
 
 -- ---- the shape
 
-module _ {n count : ℕ} {tree : Tree} (shape : Shape n count tree) (stored : List Trace) (at : ℕ) (held-there : List ℕ)
-    (is-leaf : nodeAt tree at .kind ≡ leaf held-there) (s : Split) (good : Good n stored (ends (nodeAt tree at .segments)) held-there s) where
+module _ {n count : ℕ} {tree : Tree} (shape : Shape n count tree) (stored : List Trace) (at : ℕ) (its-numbers : List ℕ)
+    (is-leaf : nodeAt tree at .kind ≡ leaf its-numbers) (s : Split) (good : Good n stored (ends (nodeAt tree at .segments)) its-numbers s) where
   abbrev new : Tree
   new = splitInto stored tree at (some s)
 
   here-in : at < length tree
-  here-in = leaf-in tree at held-there is-leaf (omega (arith, good .lengths, good .left-some))
+  here-in = leaf-in tree at its-numbers is-leaf (omega (arith, good .lengths, good .left-some))
 
   new-length : length new ≡ suc (suc (length tree))
   new-length = split-length stored tree at s
@@ -148,23 +148,23 @@ module _ {n count : ℕ} {tree : Tree} (shape : Shape n count tree) (stored : Li
     in-left : k ≡ length tree → T (isIn t (s .left))
     in-right : k ≡ suc (length tree) → T (isIn t (s .right))
 
-  there : (t k : ℕ) → k ≡ at → T (isIn t held-there) → Below tree t k
+  there : (t k : ℕ) → k ≡ at → T (isIn t its-numbers) → Below tree t k
   unfolding numbersIn
-  there t k e i = held {number = k} (rw (e, is-leaf) i)
+  there t k e i = of-leaf {number = k} (rw (e, is-leaf) i)
 
   below-was : {t k : ℕ} → Below new t k → Was t k
   unfolding newLeaf hasChild numbersIn isIn
-  below-was {t} (held {number = k} h) =
+  below-was {t} (of-leaf {number = k} h) =
       new-cases (λ (a : Node). T (isIn t (numbersIn (a .kind))) → Was t k) k
-      (λ e h t. absurd t) (λ f h i. record { old = λ g. held i; in-left = λ e. absurd (omega arith); in-right = λ e. absurd (omega arith) })
+      (λ e h t. absurd t) (λ f h i. record { old = λ g. of-leaf i; in-left = λ e. absurd (omega arith); in-right = λ e. absurd (omega arith) })
       (λ e i. record { old = λ g. absurd (omega arith); in-left = λ e. i; in-right = λ f. absurd (omega arith) })
       (λ e i. record { old = λ g. absurd (omega arith); in-left = λ f. absurd (omega arith); in-right = λ f. i })
       (λ g i. absurd i) h
-  below-was {t} (under {parent = p} {child = c} h b) = by (child-was c p h) (below-was b)
+  below-was {t} (of-child {parent = p} {child = c} h b) = by (child-was c p h) (below-was b)
     where
       by : ChildWas c p → Was t c → Was t p
       by (was i) w = record {
-        old = λ g. under i (w .old (shape .child p c i .1));
+        old = λ g. of-child i (w .old (shape .child p c i .1));
         in-left = λ e. absurd
             (omega (arith, shape .child p c i));
         in-right = λ e. absurd (omega (arith, shape .child p c i));
@@ -181,21 +181,21 @@ module _ {n count : ℕ} {tree : Tree} (shape : Shape n count tree) (stored : Li
   in-right-leaf t i = rw at-right i
 
   -- what was below still is
-  held-on : (t k : ℕ) → T (isIn t (numbersIn (nodeAt tree k .kind))) → Below new t k
+  leaf-on : (t k : ℕ) → T (isIn t (numbersIn (nodeAt tree k .kind))) → Below new t k
   unfolding numbersIn
-  held-on t k i = by (same-or-not k at)
+  leaf-on t k i = by (same-or-not k at)
     where
       side : k ≡ at → T (isIn t (s .left)) ⊎ T (isIn t (s .right)) → Below new t k
-      side e (inl j) = under {parent = k} {child = length tree} (rw (e, at-turned) (has-left (s .test) (length tree) (suc (length tree)))) (held (in-left-leaf t j))
-      side e (inr j) = under {parent = k} {child = suc (length tree)} (rw (e, at-turned) (has-right (s .test) (length tree) (suc (length tree)))) (held (in-right-leaf t j))
+      side e (inl j) = of-child {parent = k} {child = length tree} (rw (e, at-turned) (has-left (s .test) (length tree) (suc (length tree)))) (of-leaf (in-left-leaf t j))
+      side e (inr j) = of-child {parent = k} {child = suc (length tree)} (rw (e, at-turned) (has-right (s .test) (length tree) (suc (length tree)))) (of-leaf (in-right-leaf t j))
 
       by : Dec (k ≡ at) → Below new t k
       by (yes e) = side e (good .either t (subst (λ (a : Kind). T (isIn t (numbersIn a))) is-leaf (subst (λ (j : ℕ). T (isIn t (numbersIn (nodeAt tree j .kind)))) e i)))
-      by (no f) = held {number = k} (rw (at-same k (number-node tree t k i) f) i)
+      by (no f) = of-leaf {number = k} (rw (at-same k (number-node tree t k i) f) i)
 
   split-on : {t k : ℕ} → Below tree t k → Below new t k
-  split-on {t} (held {number} i) = held-on t number i
-  split-on (under {parent = p} {child = c} h b) = under {parent = p} {child = c} (rw (at-same p (omega (arith, shape .child p c h)) (inner-not c p h)) h) (split-on b)
+  split-on {t} (of-leaf {number} i) = leaf-on t number i
+  split-on (of-child {parent = p} {child = c} h b) = of-child {parent = p} {child = c} (rw (at-same p (omega (arith, shape .child p c h)) (inner-not c p h)) h) (split-on b)
 
   -- ---- leaves
 
@@ -210,7 +210,7 @@ module _ {n count : ℕ} {tree : Tree} (shape : Shape n count tree) (stored : Li
       new-cases (λ (a : Node). T (isIn t (numbersIn (a .kind))) → NumberWas t k) k
       (λ e h i. absurd i) (λ f h i. stays f i) (λ e i. to-left e i) (λ e i. to-right e i) (λ g i. absurd i)
 
-  was-there : (t k : ℕ) → (k ≡ at → ⊥) → T (isIn t (numbersIn (nodeAt tree k .kind))) → T (isIn t held-there) → ⊥
+  was-there : (t k : ℕ) → (k ≡ at → ⊥) → T (isIn t (numbersIn (nodeAt tree k .kind))) → T (isIn t its-numbers) → ⊥
   unfolding numbersIn
   was-there t k f h i = f (shape .one-leaf t k at h (rw is-leaf i))
 
@@ -225,7 +225,7 @@ module _ {n count : ℕ} {tree : Tree} (shape : Shape n count tree) (stored : Li
   one-there t j k (to-right e i) (to-left f h) = absurd (sides-apart good t h i)
   one-there t j k (to-right e i) (to-right f h) = e ∙ sym f
 
-  stored-there : (t : ℕ) → T (isIn t held-there) → t < count
+  stored-there : (t : ℕ) → T (isIn t its-numbers) → t < count
   unfolding numbersIn
   stored-there t i = shape .numbers t at (rw is-leaf i)
 
@@ -290,8 +290,8 @@ module _ {n count : ℕ} {tree : Tree} (shape : Shape n count tree) (stored : Li
     rises = λ k.
         new-cases (λ (a : Node). (ns : List ℕ) → a .kind ≡ leaf ns → Up 0 ns) k
         (λ e h ns q. let z : _≡_ {A = ℕ} 0 1 = cc in absurd (omega arith)) (λ f h. shape .rises k)
-        (λ e ns q. let p : s .left ≡ ns = cc in subst (Up 0) p (good .sides-rise (shape .rises at held-there is-leaf) .0))
-        (λ e ns q. let p : s .right ≡ ns = cc in subst (Up 0) p (good .sides-rise (shape .rises at held-there is-leaf) .1))
+        (λ e ns q. let p : s .left ≡ ns = cc in subst (Up 0) p (good .sides-rise (shape .rises at its-numbers is-leaf) .0))
+        (λ e ns q. let p : s .right ≡ ns = cc in subst (Up 0) p (good .sides-rise (shape .rises at its-numbers is-leaf) .1))
         (λ g ns q. let p : [] ≡ ns = cc in subst (Up 0) p u-none);
     kept = λ t h. split-kept t (shape .kept t h);
     fits = λ k h.
@@ -323,9 +323,9 @@ module _ {n count : ℕ} {tree : Tree} (shape : Shape n count tree) (stored : Li
         new-cases (λ (a : Node). AllReached stored (λ (t : ℕ). Below new t k) 1 (a .segments)) k
         (λ e h. subst (λ (j : ℕ). AllReached stored (λ (t : ℕ). Below new t k) 1 (nodeAt tree j .segments)) e old) (λ f h. old)
         (λ e. reached-by-more stored stored (λ (t : ℕ). In t (s .left)) (λ (t : ℕ). Below new t k)
-        (λ t i. rw e (held (in-left-leaf t (in-is i)))) (λ t i. refl) (new-reached stored (s .left) (good .left-some) (s .childEnds)))
+        (λ t i. rw e (of-leaf (in-left-leaf t (in-is i)))) (λ t i. refl) (new-reached stored (s .left) (good .left-some) (s .childEnds)))
         (λ e. reached-by-more stored stored (λ (t : ℕ). In t (s .right)) (λ (t : ℕ). Below new t k)
-        (λ t i. rw e (held (in-right-leaf t (in-is i)))) (λ t i. refl) (new-reached stored (s .right) (good .right-some) (s .childEnds)))
+        (λ t i. rw e (of-leaf (in-right-leaf t (in-is i)))) (λ t i. refl) (new-reached stored (s .right) (good .right-some) (s .childEnds)))
         (λ g. reached-none)
       where
         old : AllReached stored (λ (t : ℕ). Below new t k) 1 (nodeAt tree k .segments)

@@ -20,7 +20,7 @@ use Rattle.dstree.proofs.SheetFields.{Bytes, said, coded-all, decoded-a
 use Rattle.dstree.proofs.SheetFormat.{Sound, needed-room}
 use Rattle.dstree.proofs.SheetBlocks.{blocks-back}
 use Rattle.dstree.proofs.SheetWritten.{carried-is}
-use Rattle.dstree.proofs.SheetRead.{Good, none-good, Accepted}
+use Rattle.dstree.proofs.SheetRead.{Good, none-good, AcceptedSheet}
 
 -- ---- block 0
 
@@ -177,7 +177,7 @@ module _ (f : Format) (half : ℕ) (sound : Sound f half) (first : List ℕ) (ot
 -- ---- all blocks
 
 module _ (f : Format) (half : ℕ) (sound : Sound f half) (bytes first : List ℕ) (others : List (List ℕ))
-    (a : Accepted f bytes (first ∷ others)) where
+    (a : AcceptedSheet f bytes (first ∷ others)) where
   abbrev said-measures : Measures
   said-measures = measuresIn first
 

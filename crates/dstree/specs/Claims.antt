@@ -20,8 +20,8 @@ use Rattle.dstree.specs.WellFormed.{wellFormed}
 
 -- "what is below a node": a leaf has its traces below it, an inner node what is below a child
 pub data Below (tree : Tree) (trace : ℕ) : ℕ → Type 0 where
-  held : {number : ℕ} → T (isIn trace (numbersIn (nodeAt tree number .kind))) → Below tree trace number
-  under : {parent child : ℕ} → T (hasChild child (nodeAt tree parent .kind)) → Below tree trace child → Below tree trace parent
+  of-leaf : {number : ℕ} → T (isIn trace (numbersIn (nodeAt tree number .kind))) → Below tree trace number
+  of-child : {parent child : ℕ} → T (hasChild child (nodeAt tree parent .kind)) → Below tree trace child → Below tree trace parent
 
 -- ---- the shape of the tree
 

@@ -18,24 +18,24 @@ use Rattle.tables.specs.Layout.{traceCountPlace, nodeCountPlace}
 use Rattle.tables.specs.Tables.{Tables, measuresOf, traceCount, nodeCount, withRecord}
 use Rattle.tables.specs.View.{treeIn, tracesIn, wellFormed}
 use Rattle.tables.specs.Beginning.{left, Begins}
-use Rattle.tables.proofs.Beginning.{extended, behindOf, begins-is, tables-same, left-begins, left-extended}
+use Rattle.tables.proofs.Beginning.{extended, restOf, begins-is, tables-same, left-begins, left-extended}
 use Rattle.insertion_memory.specs.Records.{leafRecord, widenRecord}
 use Rattle.insertion_memory.specs.Links.{joined}
-use Rattle.insertion_memory.specs.Memory.{Held, held, onRecord, splitAllOf, firstHeld, joinedHeld, heldAfter, addedTo}
+use Rattle.insertion_memory.specs.Memory.{TreeTables, treeTables, onRecord, splitAllOf, firstTables, joinedTables, treeTablesAfter, addedTo}
 use Rattle.insertion_memory.proofs.Placing.{record-inside}
-use Rattle.insertion_memory.specs.Stands.{Space}
+use Rattle.insertion_memory.specs.Represents.{Space}
 use Rattle.dstree.proofs.Change.{LeafAt, way-inside, way-leaf, widen-length, join-length}
 use Rattle.insertion_memory.proofs.Joining.{last-low}
 use Rattle.insertion_memory.proofs.FromTables.{Long, facts, node-count, space, tables-stand}
-use Rattle.insertion_memory.proofs.Meaning.{joined-held, meaning}
+use Rattle.insertion_memory.proofs.Meaning.{joined-tables, meaning}
 use Rattle.insertion_memory.proofs.Made.{count-is}
 use Rattle.insertion_memory.proofs.Beginnings.{Agree, measures-same, traces-counted, nodes-counted, tree-same, traces-same, extended-agree}
 use Rattle.insertion_memory.proofs.Longer.{with-more, paste-more, joined-more, longer, widen-more, split-all-more}
 
 -- what the joined nodes and links are, by what the tables are read as
-abbrev joinedBy : Trace → Tree → ℕ → ℕ → List ℤ → List ℕ → Held
+abbrev joinedBy : Trace → Tree → ℕ → ℕ → List ℤ → List ℕ → TreeTables
 joinedBy x tree k count nodes links =
-    held (foldl (onRecord (widenRecord x)) nodes (way tree x)) (joined links (numbersIn (nodeAt tree (lastOf (way tree x)) .kind)) k) count
+    treeTables (foldl (onRecord (widenRecord x)) nodes (way tree x)) (joined links (numbersIn (nodeAt tree (lastOf (way tree x)) .kind)) k) count
 
 module _ (part more : Tables) (x : Trace) (w : T (wellFormed part)) (long : Long part) (size : length x ≡ measuresOf part .n) (less : traceCount part < measuresOf part .capacity) where
   abbrev n : ℕ
@@ -51,7 +51,7 @@ module _ (part more : Tables) (x : Trace) (w : T (wellFormed part)) (long : Long
   whole = extended part more
 
   -- with more places behind
-  abbrev wide : Held → Held
+  abbrev wide : TreeTables → TreeTables
   wide = longer (more .nodes) (more .links)
 
   same : Agree part whole
@@ -62,11 +62,11 @@ module _ (part more : Tables) (x : Trace) (w : T (wellFormed part)) (long : Long
 
   -- ---- nodes and links
 
-  first-more : firstHeld whole x ≡ wide (firstHeld part x)
-  unfolding firstHeld
+  first-more : firstTables whole x ≡ wide (firstTables part x)
+  unfolding firstTables
   first-more =
-      ap (λ (m : Measures). held (withRecord (part .nodes ++ more .nodes) 0 (leafRecord (segmentsOf (m .n ∷ []) (x ∷ [])) 0)) (set (part .links ++ more .links) 0 0) 1) (measures-same same)
-      ∙ ap₂ (λ (a : List ℤ) (b : List ℕ). held a b 1)
+      ap (λ (m : Measures). treeTables (withRecord (part .nodes ++ more .nodes) 0 (leafRecord (segmentsOf (m .n ∷ []) (x ∷ [])) 0)) (set (part .links ++ more .links) 0 0) 1) (measures-same same)
+      ∙ ap₂ (λ (a : List ℤ) (b : List ℕ). treeTables a b 1)
       (with-more (part .nodes) (more .nodes) 0 (leafRecord (segmentsOf (n ∷ []) (x ∷ [])) 0) (record-inside (2 * c - 1) 0 (part .nodes) (room .nodes-room) (omega (arith, less))))
       (set-append-left (part .links) (more .links) 0 0 (omega (arith, less, room .links-room)))
 
@@ -92,13 +92,13 @@ module _ (part more : Tables) (x : Trace) (w : T (wellFormed part)) (long : Long
         let g : lastOf numbers < k = last-low k numbers numbers-some (λ t i. tables-stand part w long .shape .numbers t at (in-is i)) in
         omega (arith, g, less, room .links-room)
 
-    joined-more-held : joinedHeld whole x ≡ wide (joinedHeld part x)
-    unfolding joinedHeld
-    joined-more-held =
+    joined-more-tables : joinedTables whole x ≡ wide (joinedTables part x)
+    unfolding joinedTables
+    joined-more-tables =
         ap (λ (tree : Tree). joinedBy x tree (traceCount whole) (nodeCount whole) (whole .nodes) (whole .links)) (tree-same same w long)
         ∙ ap (λ (j : ℕ). joinedBy x tree j (nodeCount whole) (whole .nodes) (whole .links)) (traces-counted same)
         ∙ ap (λ (count : ℕ). joinedBy x tree k count (whole .nodes) (whole .links)) (nodes-counted same)
-        ∙ ap₂ (λ (a : List ℤ) (b : List ℕ). held a b (nodeCount part))
+        ∙ ap₂ (λ (a : List ℤ) (b : List ℕ). treeTables a b (nodeCount part))
         (widen-more room (more .nodes) (more .links) x (way tree x) (way-inside tree x (facts part w .shape .child) some) (tables-stand part w long))
         (joined-more (part .links) (more .links) numbers k last-inside (omega (arith, less, room .links-room)))
 
@@ -108,23 +108,23 @@ module _ (part more : Tables) (x : Trace) (w : T (wellFormed part)) (long : Long
     stored-size : length stored ≡ suc k
     stored-size = length-append (tracesIn part) (x ∷ []) ∙ (let e : length (tracesIn part) + 1 ≡ suc k = omega (arith, count-is part) in e)
 
-    split-more-held : splitAllOf (measuresOf whole .leafSize) (tracesIn whole ++ (x ∷ [])) (joinedHeld whole x) (lastOf (way
-        (treeIn whole) x)) ≡ wide (splitAllOf (measuresOf part .leafSize) stored (joinedHeld part x) at)
-    split-more-held =
+    split-more-tables : splitAllOf (measuresOf whole .leafSize) (tracesIn whole ++ (x ∷ [])) (joinedTables whole x) (lastOf (way
+        (treeIn whole) x)) ≡ wide (splitAllOf (measuresOf part .leafSize) stored (joinedTables part x) at)
+    split-more-tables =
         let there : at < length (join k at (widenAll x (way tree x) tree)) = omega (arith, end .inside, widen-length x (way tree x) tree, join-length k at (widenAll x (way tree x) tree)) in
-        ap (λ (m : Measures). splitAllOf (m .leafSize) (tracesIn whole ++ (x ∷ [])) (joinedHeld whole x) (lastOf (way (treeIn whole) x))) (measures-same same)
-        ∙ ap (λ (l : List Trace). splitAllOf (measuresOf part .leafSize) (l ++ (x ∷ [])) (joinedHeld whole x) (lastOf (way (treeIn whole) x))) (traces-same same w long)
-        ∙ ap (λ (t : Tree). splitAllOf (measuresOf part .leafSize) stored (joinedHeld whole x) (lastOf (way t x))) (tree-same same w long)
-        ∙ ap (λ (h : Held). splitAllOf (measuresOf part .leafSize) stored h at) joined-more-held
-        ∙ split-all-more room (more .nodes) (more .links) stored (measuresOf part .leafSize) stored-size (joined-held part x w long size less some) at there
+        ap (λ (m : Measures). splitAllOf (m .leafSize) (tracesIn whole ++ (x ∷ [])) (joinedTables whole x) (lastOf (way (treeIn whole) x))) (measures-same same)
+        ∙ ap (λ (l : List Trace). splitAllOf (measuresOf part .leafSize) (l ++ (x ∷ [])) (joinedTables whole x) (lastOf (way (treeIn whole) x))) (traces-same same w long)
+        ∙ ap (λ (t : Tree). splitAllOf (measuresOf part .leafSize) stored (joinedTables whole x) (lastOf (way t x))) (tree-same same w long)
+        ∙ ap (λ (h : TreeTables). splitAllOf (measuresOf part .leafSize) stored h at) joined-more-tables
+        ∙ split-all-more room (more .nodes) (more .links) stored (measuresOf part .leafSize) stored-size (joined-tables part x w long size less some) at there
 
-  held-more : heldAfter whole x (nodeCount whole) ≡ wide (heldAfter part x (nodeCount part))
-  unfolding heldAfter
-  held-more = ap (λ (m : ℕ). heldAfter whole x m) (nodes-counted same) ∙ by (nodeCount part) (node-count part w)
+  tree-tables-more : treeTablesAfter whole x (nodeCount whole) ≡ wide (treeTablesAfter part x (nodeCount part))
+  unfolding treeTablesAfter
+  tree-tables-more = ap (λ (m : ℕ). treeTablesAfter whole x m) (nodes-counted same) ∙ by (nodeCount part) (node-count part w)
     where
-      by : (m : ℕ) → m ≡ length (treeIn part) → heldAfter whole x m ≡ wide (heldAfter part x m)
+      by : (m : ℕ) → m ≡ length (treeIn part) → treeTablesAfter whole x m ≡ wide (treeTablesAfter part x m)
       by zero e = first-more
-      by (suc m) e = split-more-held (omega arith)
+      by (suc m) e = split-more-tables (omega arith)
 
   -- ---- the other tables
 
@@ -144,12 +144,12 @@ module _ (part more : Tables) (x : Trace) (w : T (wellFormed part)) (long : Long
   pub added-extended : addedTo (extended part more) x ≡ extended (addedTo part x) more
   unfolding addedTo
   added-extended = tables-same
-      (ap (λ (j : ℕ). set (set (whole .control) traceCountPlace (suc j)) nodeCountPlace (heldAfter whole x (nodeCount whole) .count)) (traces-counted same)
-      ∙ ap (λ (h : Held). set (set (whole .control) traceCountPlace (suc k)) nodeCountPlace (h .count)) held-more
-      ∙ control-more (heldAfter part x (nodeCount part) .count))
+      (ap (λ (j : ℕ). set (set (whole .control) traceCountPlace (suc j)) nodeCountPlace (treeTablesAfter whole x (nodeCount whole) .count)) (traces-counted same)
+      ∙ ap (λ (h : TreeTables). set (set (whole .control) traceCountPlace (suc k)) nodeCountPlace (h .count)) tree-tables-more
+      ∙ control-more (treeTablesAfter part x (nodeCount part) .count))
       samples-more
-      (ap (λ (h : Held). h .nodes) held-more)
-      (ap (λ (h : Held). h .links) held-more)
+      (ap (λ (h : TreeTables). h .nodes) tree-tables-more)
+      (ap (λ (h : TreeTables). h .links) tree-tables-more)
       refl
 
 -- ---- a memory and its first places
@@ -157,7 +157,7 @@ module _ (part more : Tables) (x : Trace) (w : T (wellFormed part)) (long : Long
 -- what adding to the first places leaves in the memory is what adding to the memory does
 pub added-left : (part memory : Tables) (x : Trace) → Begins part memory → T (wellFormed part) → Long part → length x ≡ measuresOf part .n → traceCount part < measuresOf part .capacity
     → left (addedTo part x) memory ≡ addedTo memory x
-added-left part memory x b w long size less = by memory (behindOf part memory) (begins-is part memory b)
+added-left part memory x b w long size less = by memory (restOf part memory) (begins-is part memory b)
   where
     by : (memory more : Tables) → memory ≡ extended part more → left (addedTo part x) memory ≡ addedTo memory x
     by memory more e = rw e (left-extended part (addedTo part x) more (meaning part x w long size less .lengths-stay) ∙ sym (added-extended part more x w long size less))

@@ -21,21 +21,21 @@ use Rattle.tables.specs.Tables.{Tables, field, measuresOf, traceCount, nodeCoun
 use Rattle.tables.specs.View.{smallAt, nodeIn, treeIn, traceIn, tracesIn, kindsNamed, wellFormed}
 use Rattle.tables.specs.Beginning.{Begins}
 use Rattle.tables.proofs.Frame.{partOf}
-use Rattle.tables.proofs.Beginning.{extended, behindOf, begins-is}
-use Rattle.insertion_memory.specs.Memory.{Held, held}
+use Rattle.tables.proofs.Beginning.{extended, restOf, begins-is}
+use Rattle.insertion_memory.specs.Memory.{TreeTables, treeTables}
 use Rattle.dstree.proofs.Nodes.{nodes-most}
 use Rattle.insertion_memory.proofs.Placing.{record-inside}
-use Rattle.insertion_memory.proofs.Stands.{Reads, reads-same, kind-named, Stands, node-read}
+use Rattle.insertion_memory.proofs.Represents.{Reads, reads-same, kind-named, Represents, node-read}
 use Rattle.insertion_memory.proofs.FromTables.{Long, facts, node-count, tables-stand}
 use Rattle.insertion_memory.proofs.Made.{Holds}
 
 -- ---- nodes and links that agree on the needed places
 
 -- stand for the same tree
-pub stands-like : {n c k : ℕ} {nodes : List ℤ} {links : List ℕ} {h : Held} {tree : Tree} (h′ : Held) → Stands n c nodes links k h tree → h′ .count ≡ h .count
+pub represents-like : {n c k : ℕ} {nodes : List ℤ} {links : List ℕ} {h : TreeTables} {tree : Tree} (h′ : TreeTables) → Represents n c nodes links k h tree → h′ .count ≡ h .count
     → ((j : ℕ) → j < 2 * c - 1 → recordOf (h′ .nodes) j ≡ recordOf (h .nodes) j) → ((t : ℕ) → t < c → getD (h′ .links) t 0 ≡ getD (h .links) t 0)
-    → Stands n c (h′ .nodes) (h′ .links) k h′ tree
-stands-like {c} {tree} h′ s count records same = record {
+    → Represents n c (h′ .nodes) (h′ .links) k h′ tree
+represents-like {c} {tree} h′ s count records same = record {
   few = s .few;
   count = count ∙ s .count;
   reads = λ j g. subst (λ (r : List ℤ). Reads (h′ .links) r (nodeAt tree j)) (sym (records j (omega (arith, g, nodes-most (s .shape), s .few))))
@@ -67,8 +67,8 @@ module _ {t s : Tables} (a : Agree t s) where
 
   module _ (w : T (wellFormed t)) (long : Long t) where
     -- the nodes and links of s, with the same counts, stand for the tree of t
-    like : 0 < length (treeIn t) → Stands (measuresOf t .n) (measuresOf t .capacity) (s .nodes) (s .links) (traceCount t) (held (s .nodes) (s .links) (nodeCount t)) (treeIn t)
-    like some = stands-like (held (s .nodes) (s .links) (nodeCount t)) (tables-stand t w long) refl (a .nodes-agree) (a .links-agree)
+    like : 0 < length (treeIn t) → Represents (measuresOf t .n) (measuresOf t .capacity) (s .nodes) (s .links) (traceCount t) (treeTables (s .nodes) (s .links) (nodeCount t)) (treeIn t)
+    like some = represents-like (treeTables (s .nodes) (s .links) (nodeCount t)) (tables-stand t w long) refl (a .nodes-agree) (a .links-agree)
 
     pub tree-same : treeIn s ≡ treeIn t
     unfolding treeIn
@@ -148,10 +148,10 @@ module _ (part more : Tables) (long : Long part) where
 -- ---- a memory and its first places
 
 pub begins-agree : {part memory : Tables} → Begins part memory → Long part → Agree part memory
-begins-agree {part} {memory} b long = subst (λ (t : Tables). Agree part t) (sym (begins-is part memory b)) (extended-agree part (behindOf part memory) long)
+begins-agree {part} {memory} b long = subst (λ (t : Tables). Agree part t) (sym (begins-is part memory b)) (extended-agree part (restOf part memory) long)
 
 pub begins-long : {part memory : Tables} → Begins part memory → Long part → Long memory
-begins-long {part} {memory} b long = subst Long (sym (begins-is part memory b)) (extended-long part (behindOf part memory) long)
+begins-long {part} {memory} b long = subst Long (sym (begins-is part memory b)) (extended-long part (restOf part memory) long)
 
 -- the memory holds what its first places do
 pub holds-whole : {part memory : Tables} {m : Measures} {traces : List Trace} → Begins part memory → Holds part m traces → Holds memory m traces

@@ -13,11 +13,11 @@ use Rattle.dstree.specs.Formed.{Fits}
 use Rattle.dstree.proofs.Keeps.{firstTree, first-shape}
 use Rattle.tables.specs.Tables.{recordOf, withRecord}
 use Rattle.insertion_memory.specs.Records.{leafRecord}
-use Rattle.insertion_memory.specs.Memory.{held}
+use Rattle.insertion_memory.specs.Memory.{treeTables}
 use Rattle.tables.proofs.Linked.{Linked, l-end}
 use Rattle.insertion_memory.proofs.Placing.{Placed, placed}
-use Rattle.insertion_memory.specs.Stands.{Space}
-use Rattle.insertion_memory.proofs.Stands.{Reads, reads-leaf, Stands}
+use Rattle.insertion_memory.specs.Represents.{Space}
+use Rattle.insertion_memory.proofs.Represents.{Reads, reads-leaf, Represents}
 
 module _ (n : ℕ) (x : Trace) (wide : 1 ≤ n) where
   fits-ends : Fits n (ends (newLeaf (x ∷ []) (n ∷ []) (0 ∷ []) .segments))
@@ -37,8 +37,8 @@ module _ (n : ℕ) (x : Trace) (wide : 1 ≤ n) where
     p : Placed (2 * c - 1) nodes (withRecord nodes 0 new) 0 new
     p = placed (2 * c - 1) 0 nodes new (space .nodes-room) (omega arith) (reads-new .size)
 
-    pub first-stands : Stands n c nodes links 1 (held (withRecord nodes 0 new) (set links 0 0) 1) (firstTree n x)
-    first-stands = record {
+    pub first-represents : Represents n c nodes links 1 (treeTables (withRecord nodes 0 new) (set links 0 0) 1) (firstTree n x)
+    first-represents = record {
       few = some;
       count = refl;
       reads = reads;

@@ -17,10 +17,10 @@ use Rattle.tables.proofs.Frame.{record-length}
 use Rattle.tables.specs.Judge.{InRange, Room}
 pub use Rattle.tables.specs.Holds.{Long}
 use Rattle.tables.proofs.Views.{tree-size, tree-node, tree-kind, tree-formed, measures-fit, kind-named}
-use Rattle.insertion_memory.specs.Memory.{held}
+use Rattle.insertion_memory.specs.Memory.{treeTables}
 use Rattle.insertion_memory.proofs.Placing.{record-inside}
-use Rattle.insertion_memory.specs.Stands.{Space}
-use Rattle.insertion_memory.proofs.Stands.{kind-means, Reads, Stands}
+use Rattle.insertion_memory.specs.Represents.{Space}
+use Rattle.insertion_memory.proofs.Represents.{kind-means, Reads, Represents}
 
 -- tables are long enough by what a call finds that refuses short ones
 pub long-of : (t : Tables) → Room (lentOf t) (measuresOf t) → Long t
@@ -54,7 +54,7 @@ module _ (t : Tables) (w : T (wellFormed t)) where
               (λ s i. facts .shape .numbers s j (in-is (subst (λ (a : Kind). In s (numbersIn a)) (sym kind) i)));
         })
 
-    pub tables-stand : Stands (measuresOf t .n) (measuresOf t .capacity) (t .nodes) (t .links) (traceCount t) (held (t .nodes) (t .links) (nodeCount t)) (treeIn t)
+    pub tables-stand : Represents (measuresOf t .n) (measuresOf t .capacity) (t .nodes) (t .links) (traceCount t) (treeTables (t .nodes) (t .links) (nodeCount t)) (treeIn t)
     tables-stand = record {
       few = facts .room;
       count = node-count;

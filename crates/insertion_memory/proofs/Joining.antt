@@ -14,10 +14,10 @@ use Rattle.dstree.proofs.Formed.{numbers-up}
 use Rattle.dstree.proofs.Joins.{join-shape}
 use Rattle.tables.specs.Tables.{recordOf}
 use Rattle.insertion_memory.specs.Links.{joined}
-use Rattle.insertion_memory.specs.Memory.{Held, held}
+use Rattle.insertion_memory.specs.Memory.{TreeTables, treeTables}
 use Rattle.insertion_memory.proofs.Following.{join-at-other, joined-linked, joined-length, joined-behind}
-use Rattle.insertion_memory.specs.Stands.{Space}
-use Rattle.insertion_memory.proofs.Stands.{Means, m-leaf, Low, Reads, reads-same, Stands}
+use Rattle.insertion_memory.specs.Represents.{Space}
+use Rattle.insertion_memory.proofs.Represents.{Means, m-leaf, Low, Reads, reads-same, Represents}
 
 means-join : {links : List ℕ} {r : List ℤ} {ns : List ℕ} (k : ℕ) → Means links r (leaf ns) → Up 0 ns → Low k ns → k < length links → Means (joined links ns k) r (leaf (ns ++ (k ∷ [])))
 means-join {links} k (m-leaf {x} {l} e q w) u low h = m-leaf e q (joined-linked links x l k h w u low)
@@ -35,10 +35,10 @@ unfolding join joinKind
 join-is k at tree ns is = rw is
 
 module _ {n c : ℕ} {nodes : List ℤ} {links : List ℕ} (space : Space n c nodes links) where
-  pub join-stands : {k : ℕ} {h : Held} {tree : Tree} (at : ℕ) (ns : List ℕ) → at < length tree → nodeAt tree at .kind ≡ leaf ns → k < c → Stands n c nodes links k h tree
-      → Stands n c nodes links (suc k) (held (h .nodes) (joined (h .links) ns k) (h .count)) (join k at tree)
+  pub join-represents : {k : ℕ} {h : TreeTables} {tree : Tree} (at : ℕ) (ns : List ℕ) → at < length tree → nodeAt tree at .kind ≡ leaf ns → k < c → Represents n c nodes links k h tree
+      → Represents n c nodes links (suc k) (treeTables (h .nodes) (joined (h .links) ns k) (h .count)) (join k at tree)
   unfolding numbersIn widenAll
-  join-stands {k} {h} {tree} at ns inside is less s =
+  join-represents {k} {h} {tree} at ns inside is less s =
       let full : k < length (h .links) = omega (arith, space .links-room, s .links-size) in
       let some : 0 < length ns = s .shape .full at inside ns is in
       let numbers : numbersIn (nodeAt tree at .kind) ≡ ns = ap numbersIn is in

@@ -1,7 +1,7 @@
 pub mod ReadBack
 pub mod Following
 pub mod Placing
-pub mod Stands
+pub mod Represents
 pub mod Widening
 pub mod Joining
 pub mod Splitting

@@ -28,15 +28,15 @@ use Rattle.tables.specs.View.{smallAt, segmentsIn, kindIn}
 use Rattle.tables.proofs.Frame.{with-length}
 use Rattle.insertion_memory.specs.Records.{leafRecord, widenRecord, innerRecord}
 use Rattle.insertion_memory.specs.Links.{joined, linked}
-use Rattle.insertion_memory.specs.Memory.{Held, held, onRecord, splitTo, splitLeaf, splitAt, splitOn, splitAllOf}
+use Rattle.insertion_memory.specs.Memory.{TreeTables, treeTables, onRecord, splitTo, splitLeaf, splitAt, splitOn, splitAllOf}
 use Rattle.insertion_memory.proofs.ReadBack.{leaf-length, inner-length}
 use Rattle.insertion_memory.proofs.Following.{laid-length}
 use Rattle.insertion_memory.proofs.Placing.{record-inside}
-use Rattle.insertion_memory.specs.Stands.{Space}
-use Rattle.insertion_memory.proofs.Stands.{Stands, kind-read}
+use Rattle.insertion_memory.specs.Represents.{Space}
+use Rattle.insertion_memory.proofs.Represents.{Represents, kind-read}
 use Rattle.insertion_memory.proofs.Widening.{widen-one}
 use Rattle.insertion_memory.proofs.Splitting.{split-at}
-use Rattle.insertion_memory.proofs.Beginnings.{stands-like, record-more}
+use Rattle.insertion_memory.proofs.Beginnings.{represents-like, record-more}
 
 -- ---- of a list
 
@@ -74,24 +74,24 @@ linked-more (x ∷ (y ∷ l)) links q low =
 -- ---- of nodes and links
 
 -- with more places behind both
-abbrev pub longer : List ℤ → List ℕ → Held → Held
-longer nodes links h = held (h .nodes ++ nodes) (h .links ++ links) (h .count)
+abbrev pub longer : List ℤ → List ℕ → TreeTables → TreeTables
+longer nodes links h = treeTables (h .nodes ++ nodes) (h .links ++ links) (h .count)
 
 module _ {n c : ℕ} {nodes : List ℤ} {links : List ℕ} (space : Space n c nodes links) (ns : List ℤ) (ls : List ℕ) where
   -- a record of the c traces' nodes lies inside
-  node-inside : {k : ℕ} {h : Held} {tree : Tree} → Stands n c nodes links k h tree → (j : ℕ) → j < 2 * c - 1 → j * recordPlaces + recordPlaces ≤ length (h .nodes)
+  node-inside : {k : ℕ} {h : TreeTables} {tree : Tree} → Represents n c nodes links k h tree → (j : ℕ) → j < 2 * c - 1 → j * recordPlaces + recordPlaces ≤ length (h .nodes)
   node-inside {h} s j g = record-inside (2 * c - 1) j (h .nodes) (omega (arith, space .nodes-room, s .nodes-size)) g
 
   -- a node of the tree is one of them
-  few-nodes : {k : ℕ} {h : Held} {tree : Tree} → Stands n c nodes links k h tree → (j : ℕ) → j < length tree → j < 2 * c - 1
+  few-nodes : {k : ℕ} {h : TreeTables} {tree : Tree} → Represents n c nodes links k h tree → (j : ℕ) → j < length tree → j < 2 * c - 1
   few-nodes s j g = omega (arith, g, nodes-most (s .shape), s .few)
 
-  longer-stands : {k : ℕ} {h : Held} {tree : Tree} → Stands n c nodes links k h tree → Stands n c (h .nodes ++ ns) (h .links ++ ls) k (longer ns ls h) tree
-  longer-stands {h} s = stands-like (longer ns ls h) s refl
+  longer-represents : {k : ℕ} {h : TreeTables} {tree : Tree} → Represents n c nodes links k h tree → Represents n c (h .nodes ++ ns) (h .links ++ ls) k (longer ns ls h) tree
+  longer-represents {h} s = represents-like (longer ns ls h) s refl
       (λ j g. record-more (h .nodes) ns j (node-inside s j g))
       (λ t g. List·getD-append (h .links) ls 0 t (omega (arith, g, space .links-room, s .links-size)))
 
-  pub widen-more : {k : ℕ} {h : Held} {tree : Tree} (x : Trace) (met : List ℕ) → ((j : ℕ) → In j met → j < length tree) → Stands n c nodes links k h tree
+  pub widen-more : {k : ℕ} {h : TreeTables} {tree : Tree} (x : Trace) (met : List ℕ) → ((j : ℕ) → In j met → j < length tree) → Represents n c nodes links k h tree
       → foldl (onRecord (widenRecord x)) (h .nodes ++ ns) met ≡ foldl (onRecord (widenRecord x)) (h .nodes) met ++ ns
   widen-more x [] inside s = refl
   widen-more {k} {h} {tree} x (at ∷ met) inside s =
@@ -107,7 +107,7 @@ module _ {n c : ℕ} {nodes : List ℤ} {links : List ℕ} (space : Space n c no
         let segments : List Segment = segmentsOf (cut .childEnds) (tracesOf traces numbers) in
         leaf-length segments (getD numbers 0 0) (omega (arith, f .few, ap length (new-ends traces (cut .childEnds) numbers), length-map segments (λ (a : Segment). a .end)))
 
-    module _ {k : ℕ} {h : Held} {tree : Tree} (s : Stands n c nodes links k h tree) (at : ℕ) (numbers : List ℕ)
+    module _ {k : ℕ} {h : TreeTables} {tree : Tree} (s : Represents n c nodes links k h tree) (at : ℕ) (numbers : List ℕ)
         (inside : at < length tree) (is : nodeAt tree at .kind ≡ leaf numbers) (cut : Split) (good : Good n traces (ends (nodeAt tree at .segments)) numbers cut) where
       abbrev m : ℕ
       m = h .count
@@ -162,11 +162,11 @@ module _ {n c : ℕ} {nodes : List ℤ} {links : List ℕ} (space : Space n c no
 
       split-some-more : splitTo traces (longer ns ls h) at (some cut) ≡ longer ns ls (splitTo traces h at (some cut))
       unfolding splitTo
-      split-some-more = ap₂ (λ (a : List ℤ) (b : List ℕ). held a b (suc (suc m))) split-nodes split-links
+      split-some-more = ap₂ (λ (a : List ℤ) (b : List ℕ). treeTables a b (suc (suc m))) split-nodes split-links
 
     -- ---- a split, or none
 
-    split-to-more : {k : ℕ} {h : Held} {tree : Tree} → Stands n c nodes links k h tree → (at : ℕ) (numbers : List ℕ) → at < length tree
+    split-to-more : {k : ℕ} {h : TreeTables} {tree : Tree} → Represents n c nodes links k h tree → (at : ℕ) (numbers : List ℕ) → at < length tree
         → nodeAt tree at .kind ≡ leaf numbers → (o : Option Split) → ((cut : Split) → o ≡ some cut → Good n traces (ends (nodeAt tree at .segments)) numbers cut)
         → splitTo traces (longer ns ls h) at o ≡ longer ns ls (splitTo traces h at o)
     unfolding splitTo
@@ -176,7 +176,7 @@ module _ {n c : ℕ} {nodes : List ℤ} {links : List ℕ} (space : Space n c no
     -- ---- a node, tried
 
     module _ (leafSize : ℕ) where
-      split-leaf-more : {k : ℕ} {h : Held} {tree : Tree} → Stands n c nodes links k h tree → (at : ℕ) → at < length tree → (kind : Kind) → nodeAt tree at .kind ≡ kind
+      split-leaf-more : {k : ℕ} {h : TreeTables} {tree : Tree} → Represents n c nodes links k h tree → (at : ℕ) → at < length tree → (kind : Kind) → nodeAt tree at .kind ≡ kind
           → splitLeaf leafSize traces (longer ns ls h) at kind ≡ longer ns ls (splitLeaf leafSize traces h at kind)
       unfolding splitLeaf
       split-leaf-more s at inside (inner test left right) is = refl
@@ -195,11 +195,11 @@ module _ {n c : ℕ} {nodes : List ℤ} {links : List ℕ} (space : Space n c no
               (best-is-good n traces (ends (segmentsIn (recordOf (h .nodes) at))) numbers fits e))
           by false = refl
 
-      split-at-more : {k : ℕ} {h : Held} {tree : Tree} → length traces ≡ k → Stands n c nodes links k h tree → (at : ℕ) → at < length tree
+      split-at-more : {k : ℕ} {h : TreeTables} {tree : Tree} → length traces ≡ k → Represents n c nodes links k h tree → (at : ℕ) → at < length tree
           → splitAt leafSize traces (longer ns ls h) at ≡ longer ns ls (splitAt leafSize traces h at)
       unfolding splitAt
       split-at-more {k} {h} {tree} size s at inside =
-          ap (λ (kind : Kind). splitLeaf leafSize traces (longer ns ls h) at kind) (kind-of (h .links ++ ls) (recordOf (h .nodes ++ ns) at) (kind-read (longer-stands s) at inside))
+          ap (λ (kind : Kind). splitLeaf leafSize traces (longer ns ls h) at kind) (kind-of (h .links ++ ls) (recordOf (h .nodes ++ ns) at) (kind-read (longer-represents s) at inside))
           ∙ split-leaf-more s at inside (nodeAt tree at .kind) refl
           ∙ ap (λ (kind : Kind). longer ns ls (splitLeaf leafSize traces h at kind)) (sym (kind-of (h .links) (recordOf (h .nodes) at) (kind-read s at inside)))
         where
@@ -208,7 +208,7 @@ module _ {n c : ℕ} {nodes : List ℤ} {links : List ℕ} (space : Space n c no
 
       -- ---- the pass
 
-      split-on-more : {k : ℕ} {h : Held} {tree : Tree} (fuel : ℕ) → length traces ≡ k → Stands n c nodes links k h tree → (at : ℕ)
+      split-on-more : {k : ℕ} {h : TreeTables} {tree : Tree} (fuel : ℕ) → length traces ≡ k → Represents n c nodes links k h tree → (at : ℕ)
           → splitOn fuel leafSize traces (longer ns ls h) at ≡ longer ns ls (splitOn fuel leafSize traces h at)
       unfolding splitOn
       split-on-more zero size s at = refl
@@ -222,13 +222,13 @@ module _ {n c : ℕ} {nodes : List ℤ} {links : List ℕ} (space : Space n c no
               (suc at) else longer ns ls h) ≡ longer ns ls (if b then splitOn fuel leafSize traces (splitAt leafSize traces h at) (suc at) else h)
           by true e ih =
               let inside : at < length tree = omega (arith, ltb-true at (h .count) e, s .count) in
-              ap (λ (g : Held). splitOn fuel leafSize traces g (suc at)) (split-at-more size s at inside) ∙ ih inside
+              ap (λ (g : TreeTables). splitOn fuel leafSize traces g (suc at)) (split-at-more size s at inside) ∙ ih inside
           by false e ih = refl
 
       -- the joined leaf, then the new ones
-      pub split-all-more : {k : ℕ} {h : Held} {tree : Tree} → length traces ≡ k → Stands n c nodes links k h tree → (at : ℕ) → at < length tree
+      pub split-all-more : {k : ℕ} {h : TreeTables} {tree : Tree} → length traces ≡ k → Represents n c nodes links k h tree → (at : ℕ) → at < length tree
           → splitAllOf leafSize traces (longer ns ls h) at ≡ longer ns ls (splitAllOf leafSize traces h at)
       unfolding splitAllOf
       split-all-more {k} {h} {tree} size s at inside =
-          ap (λ (g : Held). splitOn (2 * length traces) leafSize traces g (h .count)) (split-at-more size s at inside)
+          ap (λ (g : TreeTables). splitOn (2 * length traces) leafSize traces g (h .count)) (split-at-more size s at inside)
           ∙ split-on-more (2 * length traces) size (split-at space traces leafSize size s at inside) (h .count)

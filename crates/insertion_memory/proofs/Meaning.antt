@@ -22,16 +22,16 @@ use Rattle.tables.specs.Tables.{Tables, lentOf, field, measuresOf, traceCount, 
 use Rattle.tables.specs.View.{smallAt, nodeIn, treeIn, traceIn, tracesIn, kindsNamed, wellFormed}
 use Rattle.tables.specs.Walk.{Rising}
 use Rattle.tables.proofs.Views.{traces-size}
-use Rattle.insertion_memory.specs.Memory.{Held, splitAllOf, firstHeld, joinedHeld, heldAfter, addedTo}
+use Rattle.insertion_memory.specs.Memory.{TreeTables, splitAllOf, firstTables, joinedTables, treeTablesAfter, addedTo}
 use Rattle.insertion_memory.proofs.Storing.{stored-more, stored-length, stored-behind}
 use Rattle.dstree.proofs.Change.{LeafAt, way-inside, way-leaf, widen-length, widen-kind, join-length}
-use Rattle.insertion_memory.specs.Stands.{Space}
-use Rattle.insertion_memory.proofs.Stands.{kind-named, Stands, tree-read, links-rise}
-use Rattle.insertion_memory.proofs.Widening.{widen-stands}
-use Rattle.insertion_memory.proofs.Joining.{join-stands}
+use Rattle.insertion_memory.specs.Represents.{Space}
+use Rattle.insertion_memory.proofs.Represents.{kind-named, Represents, tree-read, links-rise}
+use Rattle.insertion_memory.proofs.Widening.{widen-represents}
+use Rattle.insertion_memory.proofs.Joining.{join-represents}
 use Rattle.insertion_memory.proofs.Splitting.{split-all}
 use Rattle.insertion_memory.proofs.FromTables.{Long, facts, range, node-count, space, tables-stand}
-use Rattle.insertion_memory.proofs.First.{first-stands}
+use Rattle.insertion_memory.proofs.First.{first-represents}
 
 -- the tree after a trace was added to a tree with a node
 insertion-on : (m : Measures) (stored : List Trace) (tree : Tree) (x : Trace) → 0 < length tree
@@ -92,14 +92,14 @@ module _ (t : Tables) (x : Trace) (w : T (wellFormed t)) (long : Long t) (size :
 
   -- ---- nodes and links
 
-  pub first-held : length (treeIn t) ≡ 0 → Stands n c (t .nodes) (t .links) (suc k) (firstHeld t x) result
-  unfolding firstHeld
-  first-held e =
+  pub first-tables : length (treeIn t) ≡ 0 → Represents n c (t .nodes) (t .links) (suc k) (firstTables t x) result
+  unfolding firstTables
+  first-tables e =
       let none : k ≡ 0 = facts t w .shape .no-trace e in
-      let s : Stands n c (t .nodes) (t .links) 1 (firstHeld t x) (newLeaf (x ∷ []) (n ∷ []) (0 ∷ []) ∷ []) = first-stands n x
+      let s : Represents n c (t .nodes) (t .links) 1 (firstTables t x) (newLeaf (x ∷ []) (n ∷ []) (0 ∷ []) ∷ []) = first-represents n x
       (range t w .n-low) (t .nodes) (t .links) space-of (range t w .capacity-low) in
-      subst (λ (j : ℕ). Stands n c (t .nodes) (t .links) (suc j) (firstHeld t x) result) (sym none)
-      (subst (λ (tree : Tree). Stands n c (t .nodes) (t .links) 1 (firstHeld t x) tree) (sym (insertion-first (measuresOf t) (tracesIn t) (treeIn t) x e)) s)
+      subst (λ (j : ℕ). Represents n c (t .nodes) (t .links) (suc j) (firstTables t x) result) (sym none)
+      (subst (λ (tree : Tree). Represents n c (t .nodes) (t .links) 1 (firstTables t x) tree) (sym (insertion-first (measuresOf t) (tracesIn t) (treeIn t) x e)) s)
 
   module _ (some : 0 < length (treeIn t)) where
     abbrev met : List ℕ
@@ -120,10 +120,10 @@ module _ (t : Tables) (x : Trace) (w : T (wellFormed t)) (long : Long t) (size :
     is-leaf : nodeAt wide at .kind ≡ leaf (numbersIn (nodeAt (treeIn t) at .kind))
     is-leaf = widen-kind x met (treeIn t) at ∙ leaf-is (nodeAt (treeIn t) at .kind) (end .numbers) (end .is)
 
-    pub joined-held : Stands n c (t .nodes) (t .links) (suc k) (joinedHeld t x) (join k at wide)
-    unfolding joinedHeld
-    joined-held = join-stands space-of at (numbersIn (nodeAt (treeIn t) at .kind)) inside is-leaf less
-        (widen-stands space-of x met (way-inside (treeIn t) x (facts t w .shape .child) some) (tables-stand t w long))
+    pub joined-tables : Represents n c (t .nodes) (t .links) (suc k) (joinedTables t x) (join k at wide)
+    unfolding joinedTables
+    joined-tables = join-represents space-of at (numbersIn (nodeAt (treeIn t) at .kind)) inside is-leaf less
+        (widen-represents space-of x met (way-inside (treeIn t) x (facts t w .shape .child) some) (tables-stand t w long))
 
     abbrev stored : List Trace
     stored = tracesIn t ++ (x ∷ [])
@@ -131,25 +131,25 @@ module _ (t : Tables) (x : Trace) (w : T (wellFormed t)) (long : Long t) (size :
     stored-length′ : length stored ≡ suc k
     stored-length′ = length-append (tracesIn t) (x ∷ []) ∙ (let e : length (tracesIn t) + 1 ≡ suc k = omega (arith, traces-length) in e)
 
-    split-held : Stands n c (t .nodes) (t .links) (suc k) (splitAllOf (measuresOf t .leafSize) stored (joinedHeld t x) at) result
-    split-held =
+    split-tables : Represents n c (t .nodes) (t .links) (suc k) (splitAllOf (measuresOf t .leafSize) stored (joinedTables t x) at) result
+    split-tables =
         let there : at < length (join k at wide) = omega (arith, inside, join-length k at wide) in
-        subst (λ (tree : Tree). Stands n c (t .nodes) (t .links) (suc k) (splitAllOf (measuresOf t .leafSize) stored (joinedHeld t x) at) tree)
+        subst (λ (tree : Tree). Represents n c (t .nodes) (t .links) (suc k) (splitAllOf (measuresOf t .leafSize) stored (joinedTables t x) at) tree)
         (sym (insertion-on (measuresOf t) (tracesIn t) (treeIn t) x some ∙ ap (λ (j : ℕ). splitAll (measuresOf t .leafSize) stored (join j at wide) at) traces-length))
-        (split-all space-of stored (measuresOf t .leafSize) stored-length′ joined-held at there)
+        (split-all space-of stored (measuresOf t .leafSize) stored-length′ joined-tables at there)
 
-  pub held-stands : Stands n c (t .nodes) (t .links) (suc k) (heldAfter t x (nodeCount t)) result
-  unfolding heldAfter
-  held-stands = by (nodeCount t) (node-count t w)
+  pub after-represents : Represents n c (t .nodes) (t .links) (suc k) (treeTablesAfter t x (nodeCount t)) result
+  unfolding treeTablesAfter
+  after-represents = by (nodeCount t) (node-count t w)
     where
-      by : (m : ℕ) → m ≡ length (treeIn t) → Stands n c (t .nodes) (t .links) (suc k) (heldAfter t x m) result
-      by zero e = first-held (sym e)
-      by (suc m) e = split-held (omega arith)
+      by : (m : ℕ) → m ≡ length (treeIn t) → Represents n c (t .nodes) (t .links) (suc k) (treeTablesAfter t x m) result
+      by zero e = first-tables (sym e)
+      by (suc m) e = split-tables (omega arith)
 
   -- ---- the control record
 
-  abbrev after : Held
-  after = heldAfter t x (nodeCount t)
+  abbrev after : TreeTables
+  after = treeTablesAfter t x (nodeCount t)
 
   abbrev control₁ : List ℕ
   control₁ = set (t .control) traceCountPlace (suc k)
@@ -180,7 +180,7 @@ module _ (t : Tables) (x : Trace) (w : T (wellFormed t)) (long : Long t) (size :
   tree-after =
       ap (λ (j : ℕ). map (λ i. nodeIn (after .links) j (recordOf (after .nodes) i)) (counting (nodeCount (addedTo t x)) 0)) count-after
       ∙ ap (λ (m : ℕ). map (λ i. nodeIn (after .links) (suc k) (recordOf (after .nodes) i)) (counting m 0)) nodes-after
-      ∙ tree-read held-stands
+      ∙ tree-read after-represents
 
   traces-after : tracesIn (addedTo t x) ≡ tracesIn t ++ (x ∷ [])
   unfolding tracesIn addedTo samplesNeeded
@@ -193,7 +193,7 @@ module _ (t : Tables) (x : Trace) (w : T (wellFormed t)) (long : Long t) (size :
   unfolding kindsNamed addedTo
   kinds-after = is-true (every (λ j. leb (smallAt (recordOf (after .nodes) j) kindPlace) 2) (counting (nodeCount (addedTo t x)) 0))
       (every-of (λ j. leb (smallAt (recordOf (after .nodes) j) kindPlace) 2) (counting (nodeCount (addedTo t x)) 0)
-      (λ j i. le→leb _ 2 (kind-named (held-stands .reads j (omega (arith, from-counting (nodeCount (addedTo t x)) 0 i .1, nodes-after, held-stands .count)) .kind))))
+      (λ j i. le→leb _ 2 (kind-named (after-represents .reads j (omega (arith, from-counting (nodeCount (addedTo t x)) 0 i .1, nodes-after, after-represents .count)) .kind))))
     where
       is-true : (b : Bool) → T b → b ≡ true
       is-true true t = refl
@@ -206,8 +206,8 @@ module _ (t : Tables) (x : Trace) (w : T (wellFormed t)) (long : Long t) (size :
   lengths-after = rw (
     length-set control₁ nodeCountPlace (after .count) ∙ control-size,
     stored-length (t .samples) n k c x size less (long .samples-long),
-    held-stands .nodes-size,
-    held-stands .links-size,
+    after-represents .nodes-size,
+    after-represents .links-size,
   )
 
   pub meaning : Added t x
@@ -217,15 +217,15 @@ module _ (t : Tables) (x : Trace) (w : T (wellFormed t)) (long : Long t) (size :
     tree = tree-after;
     measures-stay = measures-after;
     trace-count = count-after;
-    node-count = nodes-after ∙ held-stands .count;
+    node-count = nodes-after ∙ after-represents .count;
     kinds = kinds-after;
-    links-rise = subst (λ (j : ℕ). Rising (after .links) j) (sym count-after) (links-rise held-stands);
+    links-rise = subst (λ (j : ℕ). Rising (after .links) j) (sym count-after) (links-rise after-represents);
     lengths-stay = lengths-after;
     work-stays = refl;
     control-behind = drop-set-lt controlFields control₁ nodeCountPlace (after .count) (omega arith) ∙ drop-set-lt controlFields (t .control) traceCountPlace (suc k) (omega arith);
     samples-behind = stored-behind (t .samples) n k c x size less (long .samples-long);
-    nodes-behind = held-stands .nodes-behind;
-    links-behind = held-stands .links-behind;
+    nodes-behind = after-represents .nodes-behind;
+    links-behind = after-represents .links-behind;
   }
 
   -- the tables stay well formed if the tree does

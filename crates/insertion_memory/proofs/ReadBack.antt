@@ -17,7 +17,7 @@ use Rattle.dstree.specs.Adding.{widenSegment}
 use Rattle.tables.specs.Layout.{kindPlace, segmentsPlace, firstPlace, rightPlace, segmentAt, headPlaces, segmentPlaces, recordPlaces}
 use Rattle.tables.specs.View.{smallOf, scatterIn, placeOf, smallAt, segmentIn, segmentsIn, testIn}
 use Rattle.insertion_memory.specs.Records.{segmentFields, fieldsOf, leafRecord, widenRecord, innerKind, innerRecord}
-unfoldable pub use Rattle.insertion_memory.specs.Stands.{kindNumber}
+unfoldable pub use Rattle.insertion_memory.specs.Represents.{kindNumber}
 
 -- ---- fields
 

@@ -27,22 +27,22 @@ use Rattle.tables.specs.Tables.{recordOf, withRecord}
 use Rattle.tables.specs.View.{smallAt, segmentsIn, kindIn}
 use Rattle.insertion_memory.specs.Records.{leafRecord, innerRecord}
 use Rattle.insertion_memory.specs.Links.{linked}
-use Rattle.insertion_memory.specs.Memory.{Held, held, splitTo, splitLeaf, splitAt, splitOn, splitAllOf}
+use Rattle.insertion_memory.specs.Memory.{TreeTables, treeTables, splitTo, splitLeaf, splitAt, splitOn, splitAllOf}
 use Rattle.insertion_memory.proofs.Following.{laid-length, laid-other, laid-behind, laid-linked}
 use Rattle.tables.proofs.Linked.{Linked, linked-same}
 use Rattle.insertion_memory.proofs.Placing.{Placed, placed}
-use Rattle.insertion_memory.specs.Stands.{Space}
-use Rattle.insertion_memory.proofs.Stands.{Low, Reads, reads-same, reads-leaf, reads-inner, Stands, kind-read}
+use Rattle.insertion_memory.specs.Represents.{Space}
+use Rattle.insertion_memory.proofs.Represents.{Low, Reads, reads-same, reads-leaf, reads-inner, Represents, kind-read}
 
 -- ---- the pass, turn by turn
 
 -- past the last node it is over
-pub pass-over : (fuel leafSize : ℕ) (traces : List Trace) (h : Held) (at : ℕ) → h .count ≤ at → splitOn fuel leafSize traces h at ≡ h
+pub pass-over : (fuel leafSize : ℕ) (traces : List Trace) (h : TreeTables) (at : ℕ) → h .count ≤ at → splitOn fuel leafSize traces h at ≡ h
 unfolding splitOn
 pass-over zero leafSize traces h at g = refl
 pass-over (suc fuel) leafSize traces h at g = rw (le-ltb at (h .count) g)
 
-pub pass-turn : (fuel leafSize : ℕ) (traces : List Trace) (h : Held) (at : ℕ) → at < h .count
+pub pass-turn : (fuel leafSize : ℕ) (traces : List Trace) (h : TreeTables) (at : ℕ) → at < h .count
     → splitOn (suc fuel) leafSize traces h at ≡ splitOn fuel leafSize traces (splitAt leafSize traces h at) (suc at)
 unfolding splitOn
 pass-turn fuel leafSize traces h at g = rw (lt-ltb at (h .count) g)
@@ -61,7 +61,7 @@ reads-side narrow segments (x ∷ l) f h low w = reads-leaf narrow segments f (o
 module _ {n c : ℕ} {nodes : List ℤ} {links : List ℕ} (space : Space n c nodes links) (traces : List Trace) where
   -- ---- one leaf
 
-  module _ {k : ℕ} {tree : Tree} (N : List ℤ) (L : List ℕ) (s : Stands n c nodes links k (held N L (length tree)) tree) (at : ℕ)
+  module _ {k : ℕ} {tree : Tree} (N : List ℤ) (L : List ℕ) (s : Represents n c nodes links k (treeTables N L (length tree)) tree) (at : ℕ)
       (ns : List ℕ) (inside : at < length tree) (is : nodeAt tree at .kind ≡ leaf ns) (cut : Split) (good : Good n traces (ends (nodeAt tree at .segments)) ns cut) where
     abbrev m : ℕ
     m = length tree
@@ -181,7 +181,7 @@ module _ {n c : ℕ} {nodes : List ℤ} {links : List ℕ} (space : Space n c no
         (λ e. subst (λ (r : List ℤ). Reads L₂ r (newLeaf traces (cut .childEnds) (cut .right))) (sym (ap (λ (i : ℕ). recordOf N₃ i) e ∙ p₃ .here)) reads-right)
         (λ q. absurd (omega (arith, q, g)))
 
-    split-some : Stands n c nodes links k (splitTo traces (held N L m) at (some cut)) after
+    split-some : Represents n c nodes links k (splitTo traces (treeTables N L m) at (some cut)) after
     unfolding splitTo
     split-some = record {
       few = s .few;
@@ -197,20 +197,20 @@ module _ {n c : ℕ} {nodes : List ℤ} {links : List ℕ} (space : Space n c no
 
   -- ---- a split, or none
 
-  split-to : {k : ℕ} {h : Held} {tree : Tree} → Stands n c nodes links k h tree → (at : ℕ) (ns : List ℕ) → at < length tree
+  split-to : {k : ℕ} {h : TreeTables} {tree : Tree} → Represents n c nodes links k h tree → (at : ℕ) (ns : List ℕ) → at < length tree
       → nodeAt tree at .kind ≡ leaf ns → (o : Option Split) → ((cut : Split) → o ≡ some cut → Good n traces (ends (nodeAt tree at .segments)) ns cut)
-      → Stands n c nodes links k (splitTo traces h at o) (splitInto traces tree at o)
+      → Represents n c nodes links k (splitTo traces h at o) (splitInto traces tree at o)
   unfolding splitTo splitInto
   split-to s at ns inside is none good = s
   split-to {k} {h} {tree} s at ns inside is (some cut) good =
-      subst (λ (count : ℕ). Stands n c nodes links k (splitTo traces (held (h .nodes) (h .links) count) at (some cut)) (splitInto traces tree at (some cut))) (sym (s .count))
-      (split-some (h .nodes) (h .links) (subst (λ (count : ℕ). Stands n c nodes links k (held (h .nodes) (h .links) count) tree) (s .count) s) at ns inside is cut (good cut refl))
+      subst (λ (count : ℕ). Represents n c nodes links k (splitTo traces (treeTables (h .nodes) (h .links) count) at (some cut)) (splitInto traces tree at (some cut))) (sym (s .count))
+      (split-some (h .nodes) (h .links) (subst (λ (count : ℕ). Represents n c nodes links k (treeTables (h .nodes) (h .links) count) tree) (s .count) s) at ns inside is cut (good cut refl))
 
   -- ---- a node, tried
 
   module _ (leafSize : ℕ) where
-    split-leaf : {k : ℕ} {h : Held} {tree : Tree} → Stands n c nodes links k h tree → (at : ℕ) → at < length tree → (kind : Kind) → nodeAt tree at .kind ≡ kind
-        → Stands n c nodes links k (splitLeaf leafSize traces h at kind) (splitKind leafSize traces tree at kind)
+    split-leaf : {k : ℕ} {h : TreeTables} {tree : Tree} → Represents n c nodes links k h tree → (at : ℕ) → at < length tree → (kind : Kind) → nodeAt tree at .kind ≡ kind
+        → Represents n c nodes links k (splitLeaf leafSize traces h at kind) (splitKind leafSize traces tree at kind)
     unfolding splitLeaf splitKind
     split-leaf s at inside (inner test left right) is = s
     split-leaf {k} {h} {tree} s at inside (leaf ns) is = by (ltb leafSize (length ns))
@@ -218,48 +218,48 @@ module _ {n c : ℕ} {nodes : List ℤ} {links : List ℕ} (space : Space n c no
         same : best traces (ends (segmentsIn (recordOf (h .nodes) at))) ns ≡ best traces (ends (nodeAt tree at .segments)) ns
         same = ap (λ (l : List Segment). best traces (ends l) ns) (s .reads at inside .segments)
 
-        result : Stands n c nodes links k (splitTo traces h at (best traces (ends (segmentsIn (recordOf (h .nodes) at))) ns))
+        result : Represents n c nodes links k (splitTo traces h at (best traces (ends (segmentsIn (recordOf (h .nodes) at))) ns))
             (splitInto traces tree at (best traces (ends (nodeAt tree at .segments)) ns))
-        result = subst (λ (o : Option Split). Stands n c nodes links k (splitTo traces h at o) (splitInto traces tree at (best traces (ends (nodeAt tree at .segments)) ns))) (sym same)
+        result = subst (λ (o : Option Split). Represents n c nodes links k (splitTo traces h at o) (splitInto traces tree at (best traces (ends (nodeAt tree at .segments)) ns))) (sym same)
             (split-to s at ns inside is (best traces (ends (nodeAt tree at .segments)) ns) (λ cut e. best-is-good n traces (ends (nodeAt tree at .segments)) ns (s .shape .fits at inside) e))
 
-        by : (t : Bool) → Stands n c nodes links k (if t then splitTo traces h at (best traces (ends (segmentsIn (recordOf
+        by : (t : Bool) → Represents n c nodes links k (if t then splitTo traces h at (best traces (ends (segmentsIn (recordOf
             (h .nodes) at))) ns) else h) (if t then splitInto traces tree at (best traces (ends (nodeAt tree at .segments)) ns) else tree)
         by true = result
         by false = s
 
-    pub split-at : {k : ℕ} {h : Held} {tree : Tree} → length traces ≡ k → Stands n c nodes links k h tree → (at : ℕ) → at < length tree
-        → Stands n c nodes links k (splitAt leafSize traces h at) (split leafSize traces tree at)
+    pub split-at : {k : ℕ} {h : TreeTables} {tree : Tree} → length traces ≡ k → Represents n c nodes links k h tree → (at : ℕ) → at < length tree
+        → Represents n c nodes links k (splitAt leafSize traces h at) (split leafSize traces tree at)
     unfolding splitAt
     split-at {k} {h} {tree} size s at inside =
         let r : List ℤ = recordOf (h .nodes) at in
         let read : kindIn (h .links) (length traces) r (smallAt r kindPlace) ≡ nodeAt tree at .kind = ap (λ (j : ℕ). kindIn (h .links) j r (smallAt r kindPlace)) size ∙ kind-read s at inside in
-        subst (λ (kind : Kind). Stands n c nodes links k (splitLeaf leafSize traces h at kind) (split leafSize traces tree at)) (sym read) (split-leaf s at inside (nodeAt tree at .kind) refl)
+        subst (λ (kind : Kind). Represents n c nodes links k (splitLeaf leafSize traces h at kind) (split leafSize traces tree at)) (sym read) (split-leaf s at inside (nodeAt tree at .kind) refl)
 
     -- ---- the pass
 
-    pub split-on : {k : ℕ} {h : Held} {tree : Tree} (fuel : ℕ) → length traces ≡ k → Stands n c nodes links k h tree → (at : ℕ)
-        → Stands n c nodes links k (splitOn fuel leafSize traces h at) (splitNew fuel leafSize traces tree at)
+    pub split-on : {k : ℕ} {h : TreeTables} {tree : Tree} (fuel : ℕ) → length traces ≡ k → Represents n c nodes links k h tree → (at : ℕ)
+        → Represents n c nodes links k (splitOn fuel leafSize traces h at) (splitNew fuel leafSize traces tree at)
     unfolding splitOn splitNew
     split-on zero size s at = s
     split-on {k} {h} {tree} (suc fuel) size s at =
-        subst (λ (t : Bool). Stands n c nodes links k
+        subst (λ (t : Bool). Represents n c nodes links k
         (if t then splitOn fuel leafSize traces (splitAt leafSize traces h at) (suc at) else h)
         (if ltb at (length tree) then splitNew fuel leafSize traces (split leafSize traces tree at) (suc at) else tree)) (sym (ap (λ (m : ℕ). ltb at m) (s .count)))
         (by (ltb at (length tree)) refl (λ (inside : at < length tree). split-on fuel size (split-at size s at inside) (suc at)))
       where
         by : (t : Bool) → ltb at (length tree) ≡ t
-            → (at < length tree → Stands n c nodes links k (splitOn fuel leafSize traces (splitAt leafSize traces h at) (suc at))
+            → (at < length tree → Represents n c nodes links k (splitOn fuel leafSize traces (splitAt leafSize traces h at) (suc at))
             (splitNew fuel leafSize traces (split leafSize traces tree at) (suc at)))
-            → Stands n c nodes links k (if t then splitOn fuel leafSize traces (splitAt leafSize traces h at) (suc at) else h)
+            → Represents n c nodes links k (if t then splitOn fuel leafSize traces (splitAt leafSize traces h at) (suc at) else h)
             (if t then splitNew fuel leafSize traces (split leafSize traces tree at) (suc at) else tree)
         by true e ih = ih (ltb-true at (length tree) e)
         by false e ih = s
 
     -- the joined leaf, then the new ones
-    pub split-all : {k : ℕ} {h : Held} {tree : Tree} → length traces ≡ k → Stands n c nodes links k h tree → (at : ℕ) → at < length tree
-        → Stands n c nodes links k (splitAllOf leafSize traces h at) (splitAll leafSize traces tree at)
+    pub split-all : {k : ℕ} {h : TreeTables} {tree : Tree} → length traces ≡ k → Represents n c nodes links k h tree → (at : ℕ) → at < length tree
+        → Represents n c nodes links k (splitAllOf leafSize traces h at) (splitAll leafSize traces tree at)
     unfolding splitAllOf
     split-all {k} {h} {tree} size s at inside =
-        subst (λ (m : ℕ). Stands n c nodes links k (splitOn (2 * length traces) leafSize traces (splitAt leafSize traces h at) m)
+        subst (λ (m : ℕ). Represents n c nodes links k (splitOn (2 * length traces) leafSize traces (splitAt leafSize traces h at) m)
         (splitAll leafSize traces tree at)) (sym (s .count)) (split-on (2 * length traces) size (split-at size s at inside) (length tree))

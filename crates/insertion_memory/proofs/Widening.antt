@@ -11,16 +11,16 @@ use Rattle.dstree.specs.Node.{leaf, Node, node, Tree, nodeAt, changeAt}
 use Rattle.dstree.specs.Adding.{widen, widenAll}
 use Rattle.tables.specs.Tables.{recordOf}
 use Rattle.insertion_memory.specs.Records.{widenRecord}
-use Rattle.insertion_memory.specs.Memory.{Held, held, onRecord}
+use Rattle.insertion_memory.specs.Memory.{TreeTables, treeTables, onRecord}
 use Rattle.dstree.proofs.Nodes.{nodes-most}
 use Rattle.dstree.proofs.Joins.{widen-shape}
 use Rattle.insertion_memory.proofs.Placing.{Placed, placed}
-use Rattle.insertion_memory.specs.Stands.{Space}
-use Rattle.insertion_memory.proofs.Stands.{Reads, reads-widen, Stands}
+use Rattle.insertion_memory.specs.Represents.{Space}
+use Rattle.insertion_memory.proofs.Represents.{Reads, reads-widen, Represents}
 
 module _ {n c : ℕ} {nodes : List ℤ} {links : List ℕ} (space : Space n c nodes links) (x : Trace) where
-  pub widen-one : {k : ℕ} {h : Held} {tree : Tree} (at : ℕ) → at < length tree → Stands n c nodes links k h tree
-      → Stands n c nodes links k (held (onRecord (widenRecord x) (h .nodes) at) (h .links) (h .count)) (changeAt tree at (widen x))
+  pub widen-one : {k : ℕ} {h : TreeTables} {tree : Tree} (at : ℕ) → at < length tree → Represents n c nodes links k h tree
+      → Represents n c nodes links k (treeTables (onRecord (widenRecord x) (h .nodes) at) (h .links) (h .count)) (changeAt tree at (widen x))
   unfolding widenAll
   widen-one {k} {h} {tree} at inside s =
       let b : ℕ = 2 * c - 1 in
@@ -44,9 +44,9 @@ module _ {n c : ℕ} {nodes : List ℤ} {links : List ℕ} (space : Space n c no
         links-behind = s .links-behind;
       }
 
-  pub widen-stands : {k : ℕ} {h : Held} {tree : Tree} (met : List ℕ) → ((j : ℕ) → In j met → j < length tree) → Stands n c nodes links k h tree
-      → Stands n c nodes links k (held (foldl (onRecord (widenRecord x)) (h .nodes) met) (h .links) (h .count)) (widenAll x met tree)
+  pub widen-represents : {k : ℕ} {h : TreeTables} {tree : Tree} (met : List ℕ) → ((j : ℕ) → In j met → j < length tree) → Represents n c nodes links k h tree
+      → Represents n c nodes links k (treeTables (foldl (onRecord (widenRecord x)) (h .nodes) met) (h .links) (h .count)) (widenAll x met tree)
   unfolding widenAll
-  widen-stands [] inside s = s
-  widen-stands {k} {h} {tree} (at ∷ met) inside s =
-      widen-stands met (λ j i. let g : j < length tree = inside j (later i) in omega (arith, length-set tree at (widen x (nodeAt tree at)))) (widen-one at (inside at first) s)
+  widen-represents [] inside s = s
+  widen-represents {k} {h} {tree} (at ∷ met) inside s =
+      widen-represents met (λ j i. let g : j < length tree = inside j (later i) in omega (arith, length-set tree at (widen x (nodeAt tree at)))) (widen-one at (inside at first) s)

@@ -2,4 +2,4 @@
 pub mod Records
 pub mod Links
 pub mod Memory
-pub mod Stands
+pub mod Represents

@@ -19,13 +19,13 @@ use Rattle.insertion_memory.specs.Links.{joined, linked}
 
 -- ---- nodes and links, and how many nodes there are
 
-pub record Held : Type 0 where
+pub record TreeTables : Type 0 where
   pub nodes : List ℤ
   pub links : List ℕ
   pub count : ℕ
 
-abbrev pub held : List ℤ → List ℕ → ℕ → Held
-held nodes links count = record { nodes = nodes; links = links; count = count }
+abbrev pub treeTables : List ℤ → List ℕ → ℕ → TreeTables
+treeTables nodes links count = record { nodes = nodes; links = links; count = count }
 
 -- node j's record changed
 abbrev pub onRecord : (List ℤ → List ℤ) → List ℤ → ℕ → List ℤ
@@ -35,58 +35,58 @@ onRecord change nodes j = withRecord nodes j (change (recordOf nodes j))
 
 -- "The leaf keeps its number and becomes inner; left, then right child take the next two numbers", their records from their own traces.
 -- With no split the leaf "stays whole"
-unfoldable pub splitTo : List Trace → Held → ℕ → Option Split → Held
+unfoldable pub splitTo : List Trace → TreeTables → ℕ → Option Split → TreeTables
 splitTo traces h at none = h
 splitTo traces h at (some s) =
     let parent = onRecord (innerRecord (s .test) (h .count) (suc (h .count))) (h .nodes) at in
     let left = withRecord parent (h .count) (leafRecord (segmentsOf (s .childEnds) (tracesOf traces (s .left))) (getD (s .left) 0 0)) in
     let right = withRecord left (suc (h .count)) (leafRecord (segmentsOf (s .childEnds) (tracesOf traces (s .right))) (getD (s .right) 0 0)) in
-    held right (linked (s .right) (linked (s .left) (h .links))) (suc (suc (h .count)))
+    treeTables right (linked (s .right) (linked (s .left) (h .links))) (suc (suc (h .count)))
 
 -- a leaf that "holds more than the leaf size .. splits"
-unfoldable pub splitLeaf : ℕ → List Trace → Held → ℕ → Kind → Held
+unfoldable pub splitLeaf : ℕ → List Trace → TreeTables → ℕ → Kind → TreeTables
 splitLeaf leafSize traces h at (inner test left right) = h
 splitLeaf leafSize traces h at (leaf numbers) =
     let result = splitTo traces h at (best traces (ends (segmentsIn (recordOf (h .nodes) at))) numbers) in
     if ltb leafSize (length numbers) then result else h
 
 -- the node at a number, tried
-unfoldable pub splitAt : ℕ → List Trace → Held → ℕ → Held
+unfoldable pub splitAt : ℕ → List Trace → TreeTables → ℕ → TreeTables
 splitAt leafSize traces h at =
     let r = recordOf (h .nodes) at in
     splitLeaf leafSize traces h at (kindIn (h .links) (length traces) r (smallAt r kindPlace))
 
 -- "New leaves above the leaf size split likewise, lowest number first"
-unfoldable pub splitOn : ℕ → ℕ → List Trace → Held → ℕ → Held
+unfoldable pub splitOn : ℕ → ℕ → List Trace → TreeTables → ℕ → TreeTables
 splitOn zero leafSize traces h at = h
 splitOn (suc fuel) leafSize traces h at =
     let onward = splitOn fuel leafSize traces (splitAt leafSize traces h at) (suc at) in
     if ltb at (h .count) then onward else h
 
 -- the joined leaf, then the new ones
-unfoldable pub splitAllOf : ℕ → List Trace → Held → ℕ → Held
+unfoldable pub splitAllOf : ℕ → List Trace → TreeTables → ℕ → TreeTables
 splitAllOf leafSize traces h at = splitOn (2 * length traces) leafSize traces (splitAt leafSize traces h at) (h .count)
 
 -- ---- adding
 
 -- "its first trace makes leaf 0 with one segment"
-unfoldable pub firstHeld : Tables → Trace → Held
-firstHeld t x = held (withRecord (t .nodes) 0 (leafRecord (segmentsOf (measuresOf t .n ∷ []) (x ∷ [])) 0)) (set (t .links) 0 0) 1
+unfoldable pub firstTables : Tables → Trace → TreeTables
+firstTables t x = treeTables (withRecord (t .nodes) 0 (leafRecord (segmentsOf (measuresOf t .n ∷ []) (x ∷ [])) 0)) (set (t .links) 0 0) 1
 
 -- "Otherwise the trace goes down by the tests, widening least and greatest at every node it meets, the leaf too, .. and joins a leaf"
-unfoldable pub joinedHeld : Tables → Trace → Held
-joinedHeld t x =
+unfoldable pub joinedTables : Tables → Trace → TreeTables
+joinedTables t x =
     let met = way (treeIn t) x in
-    held (foldl (onRecord (widenRecord x)) (t .nodes) met) (joined (t .links) (numbersIn (nodeAt (treeIn t) (lastOf met) .kind)) (traceCount t)) (nodeCount t)
+    treeTables (foldl (onRecord (widenRecord x)) (t .nodes) met) (joined (t .links) (numbersIn (nodeAt (treeIn t) (lastOf met) .kind)) (traceCount t)) (nodeCount t)
 
-unfoldable pub heldAfter : Tables → Trace → ℕ → Held
-heldAfter t x zero = firstHeld t x
-heldAfter t x (suc nodes) = splitAllOf (measuresOf t .leafSize) (tracesIn t ++ (x ∷ [])) (joinedHeld t x) (lastOf (way (treeIn t) x))
+unfoldable pub treeTablesAfter : Tables → Trace → ℕ → TreeTables
+treeTablesAfter t x zero = firstTables t x
+treeTablesAfter t x (suc nodes) = splitAllOf (measuresOf t .leafSize) (tracesIn t ++ (x ∷ [])) (joinedTables t x) (lastOf (way (treeIn t) x))
 
 -- the tables after an accepted adding. "Adding .. leave[s] search work as it was"
 unfoldable pub addedTo : Tables → Trace → Tables
 addedTo t x =
-    let h = heldAfter t x (nodeCount t) in
+    let h = treeTablesAfter t x (nodeCount t) in
     tables (set (set (t .control) traceCountPlace (suc (traceCount t))) nodeCountPlace (h .count))
     (paste (t .samples) (traceCount t * measuresOf t .n) x (measuresOf t .n))
     (h .nodes) (h .links) (t .work)

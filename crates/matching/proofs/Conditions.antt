@@ -15,7 +15,7 @@ use Rattle.dstree.proofs.Conditions.{none-first, none-both}
 use Rattle.tables.specs.Tables.{Tables, measuresOf, traceCount}
 use Rattle.tables.specs.View.{treeIn, tracesIn, kindsNamed, wellFormed}
 use Rattle.tables.specs.Answers.{madeConditions}
-use Rattle.well_formed.proofs.Accepted.{accepted}
+use Rattle.tables.proofs.Judged.{accepted}
 use Rattle.search.specs.Searched.{made, Ready}
 use Rattle.calls.specs.Effects.{isNone, matches}
 

@@ -1,3 +1,3 @@
 pub mod Counted
 pub mod Conditions
-pub mod Told
+pub mod Answers

@@ -14,15 +14,15 @@ use Rattle.dstree.specs.Book.{Lent, controlShort, tablesShort}
 use Rattle.dstree.proofs.Conditions.{none-first}
 use Rattle.tables.specs.Layout.{layout, recordPlaces, controlFields}
 use Rattle.tables.specs.Tables.{Tables, tables, filled}
-use Rattle.tables.specs.Judge.{openingConditionsOf, Accepted}
+use Rattle.tables.specs.Judge.{openingConditionsOf, LongEnough}
 use Rattle.tables.specs.Answers.{opened}
 use Rattle.tables.proofs.Range.{in-range}
 use Rattle.tables.proofs.Judged.{room-of}
 
 -- what it says of lengths and measures that opening refuses nothing
-pub opening-accepted : (lengths : Lent) (m : Measures) → firstOf (openingConditionsOf lengths m) ≡ none → Accepted lengths m
+pub opening-long-enough : (lengths : Lent) (m : Measures) → firstOf (openingConditionsOf lengths m) ≡ none → LongEnough lengths m
 unfolding openingConditionsOf
-opening-accepted lengths m e =
+opening-long-enough lengths m e =
     let one = none-first (not (inRange m)) _ _ e in
     let two = none-first (controlShort layout lengths) _ _ (one .1) in
     let three = none-first (tablesShort layout lengths m) _ _ (two .1) in

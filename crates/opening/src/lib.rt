@@ -24,7 +24,7 @@ ghost use Rattle.dstree.specs.Book.{opening};
 ghost use Rattle.tables.specs.Layout.{controlFields};
 ghost use Rattle.tables.specs.Tables.{tables, lentOf};
 ghost use Rattle.tables.specs.Answers.{opened};
-ghost use Rattle.tables.specs.Judge.{Accepted};
+ghost use Rattle.tables.specs.Judge.{LongEnough};
 ghost use Rattle.calls.specs.Outcome.{outcome};
 ghost use Rattle.calls.specs.Effects.{outcomeOn};
 ghost use Rattle.opening.specs.Opened.{answerOf};
@@ -58,7 +58,7 @@ pub fn put_empty(
     capacity: u64,
     leaf_size: u64,
 )
-    requires { ⌜ Accepted (lentOf (tables (now control) (now samples) (now nodes) (now links) (now work))) (measures n capacity «leaf_size») ⌝ }
+    requires { ⌜ LongEnough (lentOf (tables (now control) (now samples) (now nodes) (now links) (now work))) (measures n capacity «leaf_size») ⌝ }
     ensures { λ _. ⌜ tables (now (control .exit)) (now (samples .exit)) (now (nodes .exit)) (now (links .exit)) (now (work .exit))
         ≡ opened
         (tables (now (control .entry)) (now (samples .entry)) (now (nodes .entry)) (now (links .entry)) (now (work .entry)))

@@ -73,7 +73,7 @@ allKept m nodes = every (keptAt nodes) (counting m 0)
 pub record AllFit (m : ℕ) (nodes : List ℤ) : Type 0 where
   pub n : ℕ
   pub fit : recordsFit n m nodes ≡ true
-  pub held : m * recordPlaces ≤ length nodes
+  pub room : m * recordPlaces ≤ length nodes
   pub low : m ≤ 8191
 
 -- node j is one of them

@@ -19,7 +19,7 @@ use Rattle.dstree.specs.Book.{Lent}
 use Rattle.tables.specs.Answers.{foundBy}
 use Rattle.tables.specs.declared.Refusal.{Refusal as Word}
 use Rattle.tables.specs.declared.Verdict.the-variants as v
-use Rattle.tables.specs.Judge.{Accepted}
+use Rattle.tables.specs.Judge.{LongEnough}
 use Rattle.dstree.proofs.Conditions.{none-first, first-some, first-none, none-both}
 use Rattle.matching.specs.declared.Found.the-variants as f
 use Rattle.sheet_judging.specs.Traces.{countOf, tracesOf}
@@ -122,7 +122,7 @@ module _ (bytes : List ℕ) where
     two-traces = leb-false (countOf bytes) 1 (none-first (leb (countOf bytes) 1) empty _ (none-first large shortTable _ (parts .1) .1) .0)
 
 -- tables with room for n ≤ 64 and capacity ≤ 64 have room for what the sheet says
-pub roomy : (lengths : Lent) (bytes : List ℕ) → Roomy lengths bytes → Accepted lengths (said bytes)
+pub roomy : (lengths : Lent) (bytes : List ℕ) → Roomy lengths bytes → LongEnough lengths (said bytes)
 unfolding samplesNeeded recordsNeeded linksNeeded workNeeded
 roomy lengths bytes r =
     let n = n-small bytes (r .fine) in

@@ -15,7 +15,7 @@ use Rattle.tables.specs.Answers.{foundBy}
 use Rattle.tables.specs.declared.Refusal.{Refusal}
 use Rattle.tables.specs.declared.Verdict.the-variants as v
 use Rattle.dstree.proofs.Conditions.{none-first}
-use Rattle.tables.specs.Judge.{Accepted}
+use Rattle.tables.specs.Judge.{LongEnough}
 use Rattle.tables.proofs.Judged.{room-of}
 use Rattle.sheet_judging.specs.Blocks.{blockAt}
 use Rattle.sheet_judging.specs.Traces.{tracesOf}
@@ -62,7 +62,7 @@ module _ (bytes : List ℕ) where
         by (some why) p = let z : _≡_ {A = ℕ} 0 1 = cc (refused-first why p, e) in absurd (omega arith)
 
     -- .. and the tables then have room for its measures
-    pub accepted : firstOf (readingConditions layout lengths (judgeSheet bytes)) ≡ none → Accepted lengths said
+    pub accepted : firstOf (readingConditions layout lengths (judgeSheet bytes)) ≡ none → LongEnough lengths said
     accepted e =
         let sound = sheet-fine e in
         let short : firstOf (shortConditions layout lengths said) ≡ none = ap firstOf (sym (short-only sound)) ∙ e in

@@ -15,7 +15,7 @@ use Rattle.dstree.specs.Sheet.{blockSize, blocksNeeded}
 use Rattle.dstree.proofs.Conditions.{none-first, none-both}
 use Rattle.tables.specs.Tables.{Tables, measuresOf, traceCount}
 use Rattle.tables.specs.Answers.{madeConditions}
-use Rattle.well_formed.proofs.Accepted.{accepted}
+use Rattle.tables.proofs.Judged.{accepted}
 use Rattle.insertion_memory.proofs.FromTables.{facts}
 use Rattle.calls.specs.Effects.{writes}
 use Rattle.sheet_writing.specs.Filled.{Fillable}

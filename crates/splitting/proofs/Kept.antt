@@ -24,15 +24,15 @@ use Rattle.tables.specs.Tables.{recordOf}
 use Rattle.tables.specs.View.{smallAt, segmentIn, segmentsIn, numbersFrom}
 use Rattle.tables.specs.Walk.{storedIn, numbersOf, Stored}
 use Rattle.leaf_figures.specs.Ends.{Rise, r-none, r-more}
-use Rattle.insertion_memory.specs.Memory.{Held, held, splitTo, splitAt}
+use Rattle.insertion_memory.specs.Memory.{TreeTables, treeTables, splitTo, splitAt}
 use Rattle.insertion_memory.proofs.ReadBack.{kindNumber}
 use Rattle.dstree.proofs.Nodes.{nodes-most}
 use Rattle.dstree.proofs.Splits.{best-is-good}
-use Rattle.insertion_memory.proofs.Stands.{Means, m-leaf, m-inner, Low, Stands, links-rise}
+use Rattle.insertion_memory.proofs.Represents.{Means, m-leaf, m-inner, Low, Represents, links-rise}
 use Rattle.insertion_memory.proofs.Splitting.{split-at}
 use Rattle.splitting.specs.Splits as needs
 use Rattle.splitting.specs.Splits.{IsLeaf, Splits}
-use Rattle.splitting.specs.Standing.{Standing}
+use Rattle.splitting.specs.Represented.{Represented}
 use Rattle.tables.proofs.Listed.{stored-size}
 use Rattle.splitting.proofs.Tried.{long-splits}
 
@@ -67,7 +67,7 @@ numbers-some links k x = omega arith
 
 -- ---- one node
 
-module _ {nodes : List ℤ} {links : List ℕ} {samples : List ℤ} {n k count : ℕ} (s : Standing nodes links samples n k count) where
+module _ {nodes : List ℤ} {links : List ℕ} {samples : List ℤ} {n k count : ℕ} (s : Represented nodes links samples n k count) where
   abbrev c : ℕ
   c = s .capacity
 
@@ -79,31 +79,31 @@ module _ {nodes : List ℤ} {links : List ℕ} {samples : List ℤ} {n k count :
 
   -- fewer nodes than twice the traces
   pub count-most : count ≤ 2 * k - 1
-  count-most = omega (arith, s .stands .count, nodes-most (s .stands .shape))
+  count-most = omega (arith, s .represents .count, nodes-most (s .represents .shape))
 
   module _ (at : ℕ) (inside : at < count) where
     abbrev r : List ℤ
     r = recordOf nodes at
 
     here : at < length tree
-    here = omega (arith, inside, s .stands .count)
+    here = omega (arith, inside, s .represents .count)
 
     fits : Fits n (ends (segmentsIn r))
-    fits = subst (λ (l : List Segment). Fits n (ends l)) (sym (s .stands .reads at here .segments)) (s .stands .shape .fits at here)
+    fits = subst (λ (l : List Segment). Fits n (ends l)) (sym (s .represents .reads at here .segments)) (s .represents .shape .fits at here)
 
-    after : (leafSize : ℕ) → Stands n c nodes links k (splitAt leafSize traces (held nodes links count) at) (split leafSize traces tree at)
-    after leafSize = split-at (s .space) traces leafSize (stored-size samples n k) (s .stands) at here
+    after : (leafSize : ℕ) → Represents n c nodes links k (splitAt leafSize traces (treeTables nodes links count) at) (split leafSize traces tree at)
+    after leafSize = split-at (s .space) traces leafSize (stored-size samples n k) (s .represents) at here
 
     module _ (is : smallAt r kindPlace ≡ 0) where
       stored : Stored samples links n k (smallAt r firstPlace)
       stored = record {
         wide = s .space .wide;
         narrow = s .space .narrow;
-        few = omega (arith, s .stands .few, s .space .small);
+        few = omega (arith, s .represents .few, s .space .small);
         samples-room = s .samples-room;
-        links-room = omega (arith, s .stands .few, s .space .links-room);
-        rising = links-rise (s .stands);
-        inside = leaf-first k is (s .stands .reads at here .kind) (λ t i. s .stands .shape .numbers t at (in-is i));
+        links-room = omega (arith, s .represents .few, s .space .links-room);
+        rising = links-rise (s .represents);
+        inside = leaf-first k is (s .represents .reads at here .kind) (λ t i. s .represents .shape .numbers t at (in-is i));
       }
 
       parted : (cut : Split) → best traces (ends (segmentsIn r)) (numbersOf links k (smallAt r firstPlace)) ≡ some cut → needs.Parted nodes count cut
@@ -111,15 +111,15 @@ module _ {nodes : List ℤ} {links : List ℕ} {samples : List ℤ} {n k count :
       parted cut e =
           let good = best-is-good n traces (ends (segmentsIn r)) (numbersOf links k (smallAt r firstPlace)) fits e in
           let long : ltb 0 (length (numbersOf links k (smallAt r firstPlace))) ≡ true = lt-ltb 0 (length (numbersOf links k (smallAt r firstPlace))) (numbers-some links k (smallAt r firstPlace)) in
-          let made : splitAt 0 traces (held nodes links count) at ≡ splitTo traces (held nodes links count) at (some cut) =
+          let made : splitAt 0 traces (treeTables nodes links count) at ≡ splitTo traces (treeTables nodes links count) at (some cut) =
           long-splits 0 traces nodes links count at k (stored-size samples n k) is long (some cut) e in
-          let two : splitAt 0 traces (held nodes links count) at .count ≡ suc (suc count) = ap (λ (h : Held). h .count) made in
+          let two : splitAt 0 traces (treeTables nodes links count) at .count ≡ suc (suc count) = ap (λ (h : TreeTables). h .count) made in
           let most : suc (suc count) ≤ 2 * k - 1 = omega (arith, two, after 0 .count, nodes-most (after 0 .shape)) in
           record {
             left-some = good .left-some;
             right-some = good .right-some;
-            room = omega (arith, most, s .stands .few, s .space .nodes-room);
-            few = omega (arith, most, s .stands .few, s .space .small);
+            room = omega (arith, most, s .represents .few, s .space .nodes-room);
+            few = omega (arith, most, s .represents .few, s .space .small);
           }
 
       is-leaf : IsLeaf nodes links samples n k count at
@@ -129,24 +129,24 @@ module _ {nodes : List ℤ} {links : List ℕ} {samples : List ℤ} {n k count :
     pub tries : Splits nodes links samples n k count at
     tries = record {
       inside = inside;
-      room = omega (arith, count-most, s .stands .few, s .space .nodes-room);
-      few = omega (arith, count-most, s .stands .few, s .space .small);
+      room = omega (arith, count-most, s .represents .few, s .space .nodes-room);
+      few = omega (arith, count-most, s .represents .few, s .space .small);
       is-leaf = is-leaf;
     }
 
     -- .. and nodes and links stand for a tree then
-    module _ (leafSize : ℕ) (nodes′ : List ℤ) (links′ : List ℕ) (count′ : ℕ) (e : held nodes′ links′ count′ ≡ splitAt leafSize traces (held nodes links count) at) where
-      stands′ : Stands n c nodes links k (held nodes′ links′ count′) (split leafSize traces tree at)
-      stands′ = subst (λ (h : Held). Stands n c nodes links k h (split leafSize traces tree at)) (sym e) (after leafSize)
+    module _ (leafSize : ℕ) (nodes′ : List ℤ) (links′ : List ℕ) (count′ : ℕ) (e : treeTables nodes′ links′ count′ ≡ splitAt leafSize traces (treeTables nodes links count) at) where
+      represents′ : Represents n c nodes links k (treeTables nodes′ links′ count′) (split leafSize traces tree at)
+      represents′ = subst (λ (h : TreeTables). Represents n c nodes links k h (split leafSize traces tree at)) (sym e) (after leafSize)
 
       pub nodes-stay : length nodes′ ≡ length nodes
-      nodes-stay = stands′ .nodes-size
+      nodes-stay = represents′ .nodes-size
 
       pub links-stay : length links′ ≡ length links
-      links-stay = stands′ .links-size
+      links-stay = represents′ .links-size
 
-      pub stands-on : Standing nodes′ links′ samples n k count′
-      stands-on = record {
+      pub represents-on : Represented nodes′ links′ samples n k count′
+      represents-on = record {
         capacity = c;
         tree = split leafSize traces tree at;
         space = record {
@@ -156,11 +156,11 @@ module _ {nodes : List ℤ} {links : List ℕ} {samples : List ℤ} {n k count :
           nodes-room = omega (arith, s .space .nodes-room, nodes-stay);
           links-room = omega (arith, s .space .links-room, links-stay);
         };
-        stands = record {
-          few = stands′ .few;
-          count = stands′ .count;
-          reads = stands′ .reads;
-          shape = stands′ .shape;
+        represents = record {
+          few = represents′ .few;
+          count = represents′ .count;
+          reads = represents′ .reads;
+          shape = represents′ .shape;
           nodes-size = refl;
           nodes-behind = refl;
           links-size = refl;

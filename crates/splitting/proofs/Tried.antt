@@ -17,11 +17,11 @@ use Rattle.tables.specs.Layout.{kindPlace, firstPlace}
 use Rattle.tables.specs.Tables.{recordOf}
 use Rattle.tables.specs.View.{smallAt, segmentsIn, kindIn}
 use Rattle.tables.specs.Walk.{numbersOf}
-use Rattle.insertion_memory.specs.Memory.{Held, held, splitTo, splitLeaf, splitAt}
+use Rattle.insertion_memory.specs.Memory.{TreeTables, treeTables, splitTo, splitLeaf, splitAt}
 
 module _ (leafSize : ℕ) (traces : List Trace) (nodes : List ℤ) (links : List ℕ) (count at : ℕ) where
-  abbrev h : Held
-  h = held nodes links count
+  abbrev h : TreeTables
+  h = treeTables nodes links count
 
   abbrev r : List ℤ
   r = recordOf nodes at

@@ -1,4 +1,4 @@
 -- What splitting needs said of records, sides and tables.
 pub mod Leaves
 pub mod Splits
-pub mod Standing
+pub mod Represented

@@ -3,8 +3,8 @@
 ghost use mathlib.Core.Path.{_≡_};
 ghost use Prim.Native.Nat.{_*_, _<_};
 ghost use Rattle.tables.specs.Walk.{storedIn};
-ghost use Rattle.insertion_memory.specs.Memory.{held, splitOn, splitAllOf};
-ghost use Rattle.splitting.specs.Standing.{Standing};
+ghost use Rattle.insertion_memory.specs.Memory.{treeTables, splitOn, splitAllOf};
+ghost use Rattle.splitting.specs.Represented.{Represented};
 
 // Every node from `from` on is tried, in order. New leaves come last, so that this takes them too. The answer is how many nodes there are then.
 pub fn split_pass(
@@ -17,8 +17,8 @@ pub fn split_pass(
     many: usize,
     from: usize,
 ) -> usize
-    requires { ⌜ Standing (now nodes) (now links) (now samples) n k many ⌝ }
-    ensures { λ r. ⌜ held (now (nodes .exit)) (now (links .exit)) r ≡ splitOn (2 * k) «leaf_size» (storedIn (now (samples .entry)) n k) (held (now (nodes .entry)) (now (links .entry)) many) from ⌝ }
+    requires { ⌜ Represented (now nodes) (now links) (now samples) n k many ⌝ }
+    ensures { λ r. ⌜ treeTables (now (nodes .exit)) (now (links .exit)) r ≡ splitOn (2 * k) «leaf_size» (storedIn (now (samples .entry)) n k) (treeTables (now (nodes .entry)) (now (links .entry)) many) from ⌝ }
 {
     let mut count = many;
     let mut at = from;
@@ -40,8 +40,8 @@ pub fn split_all(
     count: usize,
     at: usize,
 ) -> usize
-    requires { ⌜ Standing (now nodes) (now links) (now samples) n k count × (at < count) ⌝ }
-    ensures { λ r. ⌜ held (now (nodes .exit)) (now (links .exit)) r ≡ splitAllOf «leaf_size» (storedIn (now (samples .entry)) n k) (held (now (nodes .entry)) (now (links .entry)) count) at ⌝ }
+    requires { ⌜ Represented (now nodes) (now links) (now samples) n k count × (at < count) ⌝ }
+    ensures { λ r. ⌜ treeTables (now (nodes .exit)) (now (links .exit)) r ≡ splitAllOf «leaf_size» (storedIn (now (samples .entry)) n k) (treeTables (now (nodes .entry)) (now (links .entry)) count) at ⌝ }
 {
     let more = crate::splits::split_at(nodes, links, samples, n, k, leaf_size, count, at);
     split_pass(nodes, links, samples, n, k, leaf_size, more, count)

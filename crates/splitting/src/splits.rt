@@ -13,7 +13,7 @@ ghost use Rattle.tables.specs.Layout.{recordPlaces};
 ghost use Rattle.tables.specs.Tables.{withRecord};
 ghost use Rattle.tables.specs.Walk.{storedIn, numbersOf};
 ghost use Rattle.leaf_figures.specs.Ends.{endsOf};
-ghost use Rattle.insertion_memory.specs.Memory.{held, splitTo, splitAt};
+ghost use Rattle.insertion_memory.specs.Memory.{treeTables, splitTo, splitAt};
 ghost use Rattle.split_choice.specs.Choosing.{splitOf};
 ghost use Rattle.splitting.specs.Leaves.{Side, sideRecord};
 ghost use Rattle.splitting.specs.Splits.{Parts, Splits};
@@ -57,8 +57,8 @@ fn split_by(
     c: split_choice::choice::Choice,
 )
     requires { ⌜ Parts (now nodes) (now links) (now samples) n k count at head e c ⌝ }
-    ensures { λ _. ⌜ held (now (nodes .exit)) (now (links .exit)) (suc (suc count)) ≡ splitTo (storedIn (now (samples .entry)) n k)
-        (held (now (nodes .entry)) (now (links .entry)) count) at (some (splitOf (storedIn (now (samples .entry)) n k) (endsOf e) (numbersOf (now (links .entry)) k head) c)) ⌝ }
+    ensures { λ _. ⌜ treeTables (now (nodes .exit)) (now (links .exit)) (suc (suc count)) ≡ splitTo (storedIn (now (samples .entry)) n k)
+        (treeTables (now (nodes .entry)) (now (links .entry)) count) at (some (splitOf (storedIn (now (samples .entry)) n k) (endsOf e) (numbersOf (now (links .entry)) k head) c)) ⌝ }
 {
     let first = c.first;
     let last = c.last;
@@ -96,7 +96,7 @@ pub fn split_at(
     at: usize,
 ) -> usize
     requires { ⌜ Splits (now nodes) (now links) (now samples) n k count at ⌝ }
-    ensures { λ r. ⌜ held (now (nodes .exit)) (now (links .exit)) r ≡ splitAt «leaf_size» (storedIn (now (samples .entry)) n k) (held (now (nodes .entry)) (now (links .entry)) count) at ⌝ }
+    ensures { λ r. ⌜ treeTables (now (nodes .exit)) (now (links .exit)) r ≡ splitAt «leaf_size» (storedIn (now (samples .entry)) n k) (treeTables (now (nodes .entry)) (now (links .entry)) count) at ⌝ }
 {
     let kind = node_small(nodes, at, KIND);
     if kind != 0 {

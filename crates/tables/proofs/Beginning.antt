@@ -57,8 +57,8 @@ abbrev pub extended : Tables → Tables → Tables
 extended part more = tables (part .control ++ more .control) (part .samples ++ more .samples) (part .nodes ++ more .nodes) (part .links ++ more .links) (part .work ++ more .work)
 
 -- the places of a memory behind as many as some tables have
-abbrev pub behindOf : Tables → Tables → Tables
-behindOf part memory =
+abbrev pub restOf : Tables → Tables → Tables
+restOf part memory =
     tables (drop (length (part .control)) (memory .control))
     (drop (length (part .samples)) (memory .samples))
     (drop (length (part .nodes)) (memory .nodes))
@@ -66,7 +66,7 @@ behindOf part memory =
     (drop (length (part .work)) (memory .work))
 
 -- a memory that begins with some tables is these, with what is behind them
-pub begins-is : (part memory : Tables) → Begins part memory → memory ≡ extended part (behindOf part memory)
+pub begins-is : (part memory : Tables) → Begins part memory → memory ≡ extended part (restOf part memory)
 begins-is part memory b = tables-same
     (begin-split (part .control) (memory .control) (ap (λ (t : Tables). t .control) b))
     (begin-split (part .samples) (memory .samples) (ap (λ (t : Tables). t .samples) b))
@@ -84,7 +84,7 @@ extended-begins part more = tables-same
 
 -- what a call leaves where it was lent are the memory's first places then
 pub left-begins : (part memory : Tables) → Begins part (left part memory)
-left-begins part memory = extended-begins part (behindOf part memory)
+left-begins part memory = extended-begins part (restOf part memory)
 
 -- a call that leaves all as it was leaves the memory as it was
 pub left-same : (part memory : Tables) → Begins part memory → left part memory ≡ memory

@@ -1,19 +1,21 @@
--- What it says of lengths and measures that nothing was refused.
+-- What it says of lengths, measures and contents that nothing was refused.
 use mathlib.Core.Path.{_≡_}
 use mathlib.Core.Bool.{false, not, _||_}
 use mathlib.Core.Option.{none}
+use mathlib.Core.List.{[], _∷_}
 use Prim.Native.Nat.{_*_}
-use lib.Dec.{ltb}
+use lib.Dec.{T, ltb}
 use borrow.Author.Tests.{ltb-false, not-false}
-use Rattle.integer.proofs.Tests.{neither}
+use Rattle.integer.proofs.Tests.{is-true, neither}
 use Rattle.dstree.specs.Measures.{Measures, inRange, samplesNeeded, recordsNeeded, linksNeeded}
-use Rattle.dstree.specs.Refusals.{firstOf}
+use Rattle.dstree.specs.Refusals.{_refuses_, firstOf, spoiled}
 use Rattle.dstree.specs.Book.{Lent, controlShort, tablesShort}
-use Rattle.dstree.proofs.Conditions.{none-first}
+use Rattle.dstree.proofs.Conditions.{none-first, none-both}
 use Rattle.tables.specs.Layout.{layout, recordPlaces}
 use Rattle.tables.specs.Tables.{Tables, lentOf, measuresOf}
-use Rattle.tables.specs.Judge.{lentConditionsOf, Room, Accepted}
-use Rattle.tables.specs.Answers.{Lends}
+use Rattle.tables.specs.View.{wellFormed}
+use Rattle.tables.specs.Judge.{lentConditionsOf, InRange, Room, LongEnough}
+use Rattle.tables.specs.Answers.{madeConditions, Lends}
 use Rattle.tables.proofs.Range.{in-range}
 
 pub room-of : (lengths : Lent) (m : Measures) → controlShort layout lengths ≡ false → tablesShort layout lengths m ≡ false → Room lengths m
@@ -30,9 +32,9 @@ room-of lengths m control others =
       work-room = ltb-false _ _ (three .1);
     }
 
-pub lent-accepted : (lengths : Lent) (m : Measures) → firstOf (lentConditionsOf lengths m) ≡ none → Accepted lengths m
+pub lent-long-enough : (lengths : Lent) (m : Measures) → firstOf (lentConditionsOf lengths m) ≡ none → LongEnough lengths m
 unfolding lentConditionsOf
-lent-accepted lengths m e =
+lent-long-enough lengths m e =
     let one = none-first (controlShort layout lengths) _ _ e in
     let two = none-first (not (inRange m)) _ _ (one .1) in
     let three = none-first (tablesShort layout lengths m) _ _ (two .1) in
@@ -44,5 +46,19 @@ unfolding lentConditionsOf recordsNeeded linksNeeded
 lends t e =
     let one = none-first (controlShort layout (lentOf t)) _ _ e in
     let two = none-first (not (inRange (measuresOf t))) _ _ (one .1) in
-    let ok = lent-accepted (lentOf t) (measuresOf t) e in
+    let ok = lent-long-enough (lentOf t) (measuresOf t) e in
     record { control-long = ok .room .control-room; measured = not-false _ (two .0); nodes-long = ok .room .nodes-room; links-long = ok .room .links-room }
+
+-- what holds of tables that every call takes: well formed, with measures in range that they are long enough for
+pub record Accepted (t : Tables) : Type 0 where
+  pub range : InRange (measuresOf t)
+  pub room : Room (lentOf t) (measuresOf t)
+  pub formed : T (wellFormed t)
+
+pub accepted : (t : Tables) → firstOf (madeConditions t) ≡ none → Accepted t
+unfolding madeConditions
+accepted t e =
+    let parts = none-both (lentConditionsOf (lentOf t) (measuresOf t)) (not (wellFormed t) refuses spoiled ∷ []) e in
+    let lent = lent-long-enough (lentOf t) (measuresOf t) (parts .0) in
+    let one = none-first (not (wellFormed t)) spoiled [] (parts .1) in
+    record { range = lent .range; room = lent .room; formed = is-true {b = wellFormed t} (not-false _ (one .0)) }

@@ -47,6 +47,6 @@ pub record Room (lengths : Lent) (m : Measures) : Type 0 where
   pub links-room : linksNeeded m ≤ lengths .links
   pub work-room : workNeeded m ≤ lengths .work
 
-pub record Accepted (lengths : Lent) (m : Measures) : Type 0 where
+pub record LongEnough (lengths : Lent) (m : Measures) : Type 0 where
   pub range : InRange m
   pub room : Room lengths m

@@ -3,4 +3,4 @@ pub mod Chains
 pub mod ByKind
 pub mod Once
 pub mod Equal
-pub mod Accepted
+pub mod Refused

@@ -16,7 +16,7 @@ use Rattle.calls.specs.Effects.{matches, effectOf, outcomeOn}
 use Rattle.calls.proofs.Ends.{ends-refused}
 use Rattle.matching.specs.Answered.{answerBy}
 use Rattle.matching.proofs.Conditions.{Taken, taken}
-use Rattle.matching.proofs.Told.{found-one, found-answer}
+use Rattle.matching.proofs.Answers.{found-one, found-answer}
 use Rattle.matching.proofs.nearest.Statement.{statement}
 use Rattle.matching.proofs.nearest.Tie as tie
 

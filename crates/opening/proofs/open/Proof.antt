@@ -13,7 +13,7 @@ use Rattle.dstree.specs.Book.{done, besideOf}
 use Rattle.calls.specs.Effects.{opens, effectOf, outcomeOn}
 use Rattle.calls.proofs.Ends.{ends-refused, ends-done}
 use Rattle.opening.specs.Opened.{answerOf}
-use Rattle.opening.proofs.Answered.{opening-accepted}
+use Rattle.opening.proofs.Answered.{opening-long-enough}
 use Rattle.opening.proofs.open.Statement.{statement}
 use Rattle.opening.proofs.open.Tie as tie
 
@@ -50,7 +50,7 @@ told c = c .before .before .before .before .before
 put-empty-requires : tie.Need-put-empty-requires
 put-empty-requires c κs =
     let e = told c in
-    opening-accepted (lentOf (lentTables (origin e))) (asked (origin e)) (nothing e)
+    opening-long-enough (lentOf (lentTables (origin e))) (asked (origin e)) (nothing e)
 
 returns : tie.Need-returns
 unfolding answerOf outcomeOn effectOf besideOf opens openingConditions

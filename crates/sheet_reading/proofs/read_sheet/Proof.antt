@@ -15,7 +15,7 @@ use Rattle.dstree.specs.Book.{readingConditions}
 use Rattle.tables.specs.Layout.{layout}
 use Rattle.tables.specs.Tables.{Tables, tables, lentOf}
 use Rattle.tables.specs.Answers.{foundBy, opened}
-use Rattle.tables.specs.Judge.{Accepted}
+use Rattle.tables.specs.Judge.{LongEnough}
 use Rattle.insertion_memory.specs.Memory.{addedTo}
 use Rattle.sheet_judging.specs.Traces.{tracesOf}
 use Rattle.sheet_judging.proofs.Places.{first-inside}
@@ -58,7 +58,7 @@ module _ (e : tie.After-enum-told) where
   sound : firstOf (sheetConditions (bytes judge)) ≡ none
   sound = sheet-fine (bytes judge) (lentOf (lent judge)) nothing
 
-  room : Accepted (lentOf (lent judge)) (said (bytes judge))
+  room : LongEnough (lentOf (lent judge)) (said (bytes judge))
   room = accepted (bytes judge) (lentOf (lent judge)) nothing
 
 head-of-requires : tie.Need-head-of-requires
@@ -75,7 +75,7 @@ module _ (h : tie.After-head-of) where
 put-empty-requires : tie.Need-put-empty-requires
 put-empty-requires c κs =
     let h = c .before .before .before .before .before in
-    subst (Accepted (lentOf (lent (judge (passed h))))) (said-is h) (room (passed h))
+    subst (LongEnough (lentOf (lent (judge (passed h))))) (said-is h) (room (passed h))
 
 -- once the library is opened
 module _ (p : tie.After-put-empty) where

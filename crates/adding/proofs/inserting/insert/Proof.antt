@@ -11,7 +11,7 @@ use Rattle.dstree.specs.Adding.{segmentsOf}
 use Rattle.tables.specs.Tables.{withRecord}
 use Rattle.tables.specs.Walk.{storedIn}
 use Rattle.insertion_memory.specs.Records.{leafRecord}
-use Rattle.insertion_memory.specs.Memory.{held, splitAllOf}
+use Rattle.insertion_memory.specs.Memory.{treeTables, splitAllOf}
 use Rattle.adding.specs.Inserting.{leafBy, joinedBy, insertedBy}
 use Rattle.adding.proofs.inserting.insert.Statement.{statement}
 use Rattle.adding.proofs.inserting.insert.Tie as tie
@@ -38,7 +38,7 @@ returns c =
     let x = now (g .trace) in
     let made : f .first-leaf .last .0 ≡ withRecord N 0 (leafRecord (segmentsOf (g .n ∷ []) (x ∷ [])) 0) =
     f .first-leaf .ensures .0 ∙ ap (λ (m : ℕ). withRecord N 0 (leafRecord (segmentsOf (m ∷ []) (x ∷ [])) 0)) (s .pre .size) in
-    ap₂ (λ (u : List ℤ) (v : List ℕ). held u v 1) made (f .first-leaf .ensures .1)
+    ap₂ (λ (u : List ℤ) (v : List ℕ). treeTables u v 1) made (f .first-leaf .ensures .1)
     ∙ ap (λ (m : ℕ). insertedBy N L (now (g .samples)) (g .n) (g .k) (g .leaf-size) x m) (sym (t .if1 .taken))
 
 insert-more-requires : tie.Need-insert-more-requires

@@ -13,8 +13,8 @@ use Rattle.tables.specs.Tables.{recordOf}
 use Rattle.tables.specs.View.{smallAt}
 use Rattle.tables.specs.Walk.{storedIn, numbersOf, Rising}
 use Rattle.insertion_memory.specs.Links.{joined}
-use Rattle.insertion_memory.specs.Memory.{held, splitAllOf}
-use Rattle.splitting.specs.Standing.{Standing}
+use Rattle.insertion_memory.specs.Memory.{treeTables, splitAllOf}
+use Rattle.splitting.specs.Represented.{Represented}
 use Rattle.adding.specs.Inserting.{headBy, linkedBy, joinedBy}
 use Rattle.adding.proofs.inserting.insert_more.Statement.{statement}
 use Rattle.adding.proofs.inserting.insert_more.Tie as tie
@@ -47,10 +47,10 @@ split-all-requires c κs =
     let N = now (g .nodes) in
     let L = now (g .links) in
     let x = now (g .trace) in (
-      subst (λ (m : ℕ). Standing (a .before .before .before .descend .last .0) (j .join .last .0) (now (g .samples)) (g .n) m (g .count)) (sym (add-one (g .k)))
-          (subst (λ (l : List ℕ). Standing (a .before .before .before .descend .last .0) l (now (g .samples)) (g .n) (suc (g .k)) (g .count)) (sym (links-are j))
-          (subst (λ (l : List ℤ). Standing l (linkedBy N L (g .k) x (g .count)) (now (g .samples)) (g .n) (suc (g .k)) (g .count))
-          (sym (a .before .before .before .descend .ensures .1)) (s .pre .standing))),
+      subst (λ (m : ℕ). Represented (a .before .before .before .descend .last .0) (j .join .last .0) (now (g .samples)) (g .n) m (g .count)) (sym (add-one (g .k)))
+          (subst (λ (l : List ℕ). Represented (a .before .before .before .descend .last .0) l (now (g .samples)) (g .n) (suc (g .k)) (g .count)) (sym (links-are j))
+          (subst (λ (l : List ℤ). Represented l (linkedBy N L (g .k) x (g .count)) (now (g .samples)) (g .n) (suc (g .k)) (g .count))
+          (sym (a .before .before .before .descend .ensures .1)) (s .pre .represented))),
       omega (arith, a .before .before .before .descend .ensures .0, s .pre .leaf-inside),
     )
 
@@ -67,8 +67,8 @@ returns c =
     let x = now (g .trace) in
     let S = now (g .samples) in
     m .split-all .ensures
-    ∙ (ap (λ (i : ℕ). splitAllOf (g .leaf-size) (storedIn S (g .n) i) (held (d .descend .last .0) (j .join .last .0) (g .count)) (d .descend .result)) (add-one (g .k))
-    ∙ (ap₂ (λ (u : List ℤ) (v : List ℕ). splitAllOf (g .leaf-size) (storedIn S (g .n) (suc (g .k))) (held u v (g .count)) (d .descend .result)) (d .descend .ensures .1) (links-are j)
+    ∙ (ap (λ (i : ℕ). splitAllOf (g .leaf-size) (storedIn S (g .n) i) (treeTables (d .descend .last .0) (j .join .last .0) (g .count)) (d .descend .result)) (add-one (g .k))
+    ∙ (ap₂ (λ (u : List ℤ) (v : List ℕ). splitAllOf (g .leaf-size) (storedIn S (g .n) (suc (g .k))) (treeTables u v (g .count)) (d .descend .result)) (d .descend .ensures .1) (links-are j)
     ∙ ap (λ (i : ℕ). splitAllOf (g .leaf-size) (storedIn S (g .n) (suc (g .k))) (joinedBy N L (g .k) x (g .count)) i) (d .descend .ensures .0)))
 
 pub insert-more-spec : {M : Type 1} → statement M

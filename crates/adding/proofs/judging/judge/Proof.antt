@@ -12,7 +12,7 @@ use Rattle.dstree.specs.Refusals.{Condition, _refuses_, firstOf}
 use Rattle.dstree.proofs.Conditions.{first-none}
 use Rattle.tables.specs.Tables.{Tables, tables, measuresOf, traceCount}
 use Rattle.tables.specs.Answers.{wordOf, foundBy, madeConditions}
-use Rattle.well_formed.proofs.Accepted.{refused-first}
+use Rattle.well_formed.proofs.Refused.{refused-first}
 use Rattle.calls.specs.Effects.{adds}
 use Rattle.adding.proofs.judging.judge.Statement.{statement}
 use Rattle.adding.proofs.judging.judge.Tie as tie

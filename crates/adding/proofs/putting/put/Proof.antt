@@ -16,10 +16,10 @@ use Rattle.tables.specs.Layout.{traceCountPlace, nodeCountPlace}
 use Rattle.tables.specs.Tables.{Tables, tables, measuresOf, traceCount, nodeCount}
 use Rattle.tables.specs.View.{treeIn, kindsNamed, wellFormed}
 use Rattle.tables.proofs.Range.{samples-fit}
-use Rattle.insertion_memory.specs.Memory.{Held, held, heldAfter, addedTo}
+use Rattle.insertion_memory.specs.Memory.{TreeTables, treeTables, treeTablesAfter, addedTo}
 use Rattle.dstree.proofs.Nodes.{nodes-most}
 use Rattle.insertion_memory.proofs.FromTables.{Long, range}
-use Rattle.insertion_memory.proofs.Meaning.{held-stands}
+use Rattle.insertion_memory.proofs.Meaning.{after-represents}
 use Rattle.adding.specs.Inserting.{insertedBy, Inserts}
 use Rattle.adding.proofs.Same.{inserts, inserted-is}
 use Rattle.adding.proofs.putting.put.Statement.{statement}
@@ -29,8 +29,8 @@ use Rattle.adding.proofs.putting.put.Tie as tie
 four : (P : List ℤ → ℕ → ℕ → ℕ → Type 0) {s s′ : List ℤ} {a a′ b b′ c c′ : ℕ} → s ≡ s′ → a ≡ a′ → b ≡ b′ → c ≡ c′ → P s′ a′ b′ c′ → P s a b c
 four P p q r u h = rw (p, q, r, u) h
 
-same-held : (f : List ℤ → ℕ → ℕ → ℕ → ℕ → Held) {s s′ : List ℤ} {a a′ b b′ c c′ d d′ : ℕ} → s ≡ s′ → a ≡ a′ → b ≡ b′ → c ≡ c′ → d ≡ d′ → f s a b c d ≡ f s′ a′ b′ c′ d′
-same-held f p q r u v = rw (p, q, r, u, v)
+same-tree-tables : (f : List ℤ → ℕ → ℕ → ℕ → ℕ → TreeTables) {s s′ : List ℤ} {a a′ b b′ c c′ d d′ : ℕ} → s ≡ s′ → a ≡ a′ → b ≡ b′ → c ≡ c′ → d ≡ d′ → f s a b c d ≡ f s′ a′ b′ c′ d′
+same-tree-tables f p q r u v = rw (p, q, r, u, v)
 
 same-tables : (work : List ℕ) {c c′ : List ℕ} {s s′ n n′ : List ℤ} {l l′ : List ℕ} → c ≡ c′ → s ≡ s′ → n ≡ n′ → l ≡ l′ → tables c s n l work ≡ tables c′ s′ n′ l′ work
 same-tables work p q r u = rw (p, q, r, u)
@@ -92,13 +92,13 @@ module _ (i : tie.After-insert) where
   abbrev wideOf : tie.After-wide4
   wideOf = copyOf .before .before
 
-  after-is : (work : List ℕ) → held (i .insert .last .0) (i .insert .last .1 .0) (i .insert .result)
-      ≡ heldAfter (lent (start wideOf) work) (now (start wideOf .args .trace)) (nodeCount (lent (start wideOf) work))
+  after-is : (work : List ℕ) → treeTables (i .insert .last .0) (i .insert .last .1 .0) (i .insert .result)
+      ≡ treeTablesAfter (lent (start wideOf) work) (now (start wideOf .args .trace)) (nodeCount (lent (start wideOf) work))
   after-is work =
       let g = start wideOf .args in
       let p = takesOf (start wideOf) work in
       i .insert .ensures
-      ∙ (same-held (λ (s : List ℤ) (u v l w : ℕ). insertedBy (now (g .nodes)) (now (g .links)) s u v l (now (g .trace)) w)
+      ∙ (same-tree-tables (λ (s : List ℤ) (u v l w : ℕ). insertedBy (now (g .nodes)) (now (g .links)) s u v l (now (g .trace)) w)
       (stored-is copyOf) (n-is wideOf) (k-is wideOf) (leaf-size-is wideOf) (count-is wideOf)
       ∙ inserted-is (lent (start wideOf) work) (now (g .trace)) (p .formed) (p .long) (p .size) (p .less))
 
@@ -133,9 +133,9 @@ write-counts-requires c κs =
     let t = lent (start a) [] in
     let x = now (start a .args .trace) in
     let p = takesOf (start a) [] in
-    let after = held-stands t x (p .formed) (p .long) (p .size) (p .less) in
+    let after = after-represents t x (p .formed) (p .long) (p .size) (p .less) in
     let few = range t (p .formed) .capacity-high in
-    let count : i .insert .result ≡ heldAfter t x (nodeCount t) .count = ap (λ (h : Held). h .count) (after-is i []) in
+    let count : i .insert .result ≡ treeTablesAfter t x (nodeCount t) .count = ap (λ (h : TreeTables). h .count) (after-is i []) in
     (p .long .control-long, omega (arith, k-is a, p .less, few), omega (arith, count, after .count, nodes-most (after .shape), p .less, few))
 
 returns : tie.Need-returns
@@ -147,11 +147,11 @@ returns c =
     let a = wideOf i in
     let t = lent (start a) work in
     let g = start a .args in
-    let h = heldAfter t (now (g .trace)) (nodeCount t) in
+    let h = treeTablesAfter t (now (g .trace)) (nodeCount t) in
     let next : a .before .before .before .wide3 .result + 1 ≡ suc (traceCount t) = add-one (a .before .before .before .wide3 .result) ∙ ap suc (k-is a) in
     let control : u .write-counts .last .0 ≡ set (set (t .control) traceCountPlace (suc (traceCount t))) nodeCountPlace (h .count) =
-    u .write-counts .ensures ∙ ap₂ (λ (v w : ℕ). set (set (t .control) traceCountPlace v) nodeCountPlace w) next (ap (λ (q : Held). q .count) (after-is i work)) in
-    same-tables work control (stored-is (copyOf i)) (ap (λ (q : Held). q .nodes) (after-is i work)) (ap (λ (q : Held). q .links) (after-is i work))
+    u .write-counts .ensures ∙ ap₂ (λ (v w : ℕ). set (set (t .control) traceCountPlace v) nodeCountPlace w) next (ap (λ (q : TreeTables). q .count) (after-is i work)) in
+    same-tables work control (stored-is (copyOf i)) (ap (λ (q : TreeTables). q .nodes) (after-is i work)) (ap (λ (q : TreeTables). q .links) (after-is i work))
 
 pub put-spec : {M : Type 1} → statement M
 put-spec =

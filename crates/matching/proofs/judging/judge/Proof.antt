@@ -18,7 +18,8 @@ use Rattle.dstree.proofs.Conditions.{first-none}
 use Rattle.tables.specs.Tables.{Tables, tables, measuresOf, traceCount, nodeCount}
 use Rattle.tables.specs.View.{treeIn}
 use Rattle.tables.specs.Answers.{wordOf, foundBy, madeConditions}
-use Rattle.well_formed.proofs.Accepted.{accepted, refused-first}
+use Rattle.tables.proofs.Judged.{accepted}
+use Rattle.well_formed.proofs.Refused.{refused-first}
 use Rattle.matching.specs.Leaves.{leafCount}
 use Rattle.calls.specs.Effects.{matches}
 use Rattle.calls.proofs.Finds.{last-never}

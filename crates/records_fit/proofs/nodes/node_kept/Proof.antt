@@ -42,10 +42,10 @@ module _ (s : tie.Start) where
   -- what `kept` asks, for a child that is one of m nodes
   askable : (child : ℕ) → child < m → (child * recordPlaces + recordPlaces ≤ length nodes) × (child ≤ 8191)
       × (smallAt (recordOf nodes child) segmentsPlace ≤ 16) × (j * recordPlaces + recordPlaces ≤ length nodes) × (j ≤ 8191) × (smallAt (recordOf nodes j) segmentsPlace ≤ 16)
-  askable child h = (omega (arith, s .pre .all .held), omega (arith, s .pre .all .low), few child h, omega (arith, s .pre .all .held), omega (arith, s .pre .all .low), few j (s .pre .inside))
+  askable child h = (omega (arith, s .pre .all .room), omega (arith, s .pre .all .low), few child h, omega (arith, s .pre .all .room), omega (arith, s .pre .all .low), few j (s .pre .inside))
 
   mine : (j * recordPlaces + recordPlaces ≤ length nodes) × (j ≤ 8191)
-  mine = (omega (arith, s .pre .all .held, s .pre .inside), omega (arith, s .pre .all .low, s .pre .inside))
+  mine = (omega (arith, s .pre .all .room, s .pre .inside), omega (arith, s .pre .all .low, s .pre .inside))
 
   named : smallAt r kindPlace ≤ 2
   named = kind-named n m j r (fits j (s .pre .inside))

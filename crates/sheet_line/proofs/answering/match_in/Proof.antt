@@ -13,7 +13,7 @@ use Rattle.dstree.specs.Refusals.{firstOf}
 use Rattle.dstree.specs.Sheet.{areBytes, sheetConditions}
 use Rattle.tables.specs.Tables.{Tables, tables, lentOf}
 use Rattle.tables.specs.Answers.{opened}
-use Rattle.tables.specs.Judge.{Accepted}
+use Rattle.tables.specs.Judge.{LongEnough}
 use Rattle.insertion_memory.proofs.Made.{Holds}
 use Rattle.sheet_judging.specs.Traces.{countOf, tracesOf}
 use Rattle.sheet_judging.proofs.Places.{first-inside}
@@ -42,7 +42,7 @@ module _ (k : tie.After-shared-slice-known) where
   known : T (areBytes bytes)
   known = known-bytes bytes (λ i. k .shared-slice-known .given i .fits)
 
-  accepted : Accepted (lentOf lent) (said bytes)
+  accepted : LongEnough (lentOf lent) (said bytes)
   accepted = roomy (lentOf lent) bytes (start .pre)
 
 head-of-requires : tie.Need-head-of-requires
@@ -67,7 +67,7 @@ sub-last : tie.Need-sub-last
 sub-last c = omega (arith, c .head-of .ensures .count-is, two-traces (bytes (at c)) (start (at c) .pre .fine))
 
 put-empty-requires : tie.Need-put-empty-requires
-put-empty-requires c κs = let h = c .before .before .before .before .before in subst (Accepted (lentOf (lent (at h)))) (said-is h) (accepted (at h))
+put-empty-requires c κs = let h = c .before .before .before .before .before in subst (LongEnough (lentOf (lent (at h)))) (said-is h) (accepted (at h))
 
 -- once the library is opened
 module _ (p : tie.After-put-empty) where

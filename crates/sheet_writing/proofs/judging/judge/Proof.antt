@@ -15,7 +15,8 @@ use Rattle.dstree.specs.Sheet.{blockSize, narrow, sampleBlocksNeeded, blocksNee
 use Rattle.dstree.proofs.Conditions.{first-none}
 use Rattle.tables.specs.Tables.{Tables, tables, measuresOf, traceCount}
 use Rattle.tables.specs.Answers.{wordOf, foundBy, madeConditions}
-use Rattle.well_formed.proofs.Accepted.{Accepted, accepted, refused-first}
+use Rattle.tables.proofs.Judged.{Accepted, accepted}
+use Rattle.well_formed.proofs.Refused.{refused-first}
 use Rattle.insertion_memory.proofs.FromTables.{facts}
 use Rattle.calls.specs.Effects.{writes}
 use Rattle.sheet_writing.proofs.judging.judge.Statement.{statement}

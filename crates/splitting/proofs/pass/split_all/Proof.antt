@@ -6,10 +6,10 @@ use lib.ListN.{length}
 use denote.Ref.{now}
 use borrow.Author.Needs.{needs}
 use Rattle.tables.specs.Walk.{storedIn}
-use Rattle.insertion_memory.specs.Memory.{Held, held, splitAt, splitOn, splitAllOf}
-use Rattle.splitting.specs.Standing.{Standing}
+use Rattle.insertion_memory.specs.Memory.{TreeTables, treeTables, splitAt, splitOn, splitAllOf}
+use Rattle.splitting.specs.Represented.{Represented}
 use Rattle.tables.proofs.Listed.{stored-size}
-use Rattle.splitting.proofs.Kept.{tries, stands-on}
+use Rattle.splitting.proofs.Kept.{tries, represents-on}
 use Rattle.splitting.proofs.pass.split_all.Statement.{statement}
 use Rattle.splitting.proofs.pass.split_all.Tie as tie
 
@@ -18,13 +18,13 @@ module _ (a : tie.After-split-at) where
   abbrev start : tie.Start
   start = a .before .before .before .before
 
-  tried : held (a .split-at .last .0) (a .split-at .last .1 .0) (a .split-at .result)
+  tried : treeTables (a .split-at .last .0) (a .split-at .last .1 .0) (a .split-at .result)
       ≡ splitAt (start .args .leaf-size) (storedIn (now (start .args .samples)) (start .args .n) (start .args .k))
-      (held (now (start .args .nodes)) (now (start .args .links)) (start .args .count)) (start .args .at)
+      (treeTables (now (start .args .nodes)) (now (start .args .links)) (start .args .count)) (start .args .at)
   tried = a .split-at .ensures
 
-  after : Standing (a .split-at .last .0) (a .split-at .last .1 .0) (now (start .args .samples)) (start .args .n) (start .args .k) (a .split-at .result)
-  after = stands-on (start .pre .0) (start .args .at) (start .pre .1) (start .args .leaf-size) (a .split-at .last .0) (a .split-at .last .1 .0) (a .split-at .result) tried
+  after : Represented (a .split-at .last .0) (a .split-at .last .1 .0) (now (start .args .samples)) (start .args .n) (start .args .k) (a .split-at .result)
+  after = represents-on (start .pre .0) (start .args .at) (start .pre .1) (start .args .leaf-size) (a .split-at .last .0) (a .split-at .last .1 .0) (a .split-at .result) tried
 
 split-at-requires : tie.Need-split-at-requires
 split-at-requires c κs = let s = c .before .before .before in tries (s .pre .0) (s .args .at) (s .pre .1)
@@ -38,7 +38,7 @@ returns c =
     let t = storedIn (now (g .samples)) (g .n) (g .k) in
     let size : g .k ≡ length t = sym (stored-size (now (g .samples)) (g .n) (g .k)) in
     b .split-pass .ensures
-    ∙ ap₂ (λ (f : ℕ) (h : Held). splitOn (2 * f) (g .leaf-size) t h (g .count)) size (tried a)
+    ∙ ap₂ (λ (f : ℕ) (h : TreeTables). splitOn (2 * f) (g .leaf-size) t h (g .count)) size (tried a)
 
 pub split-all-spec : {M : Type 1} → statement M
 split-all-spec =

@@ -7,18 +7,18 @@ use native.Mathlib.Numerals.{add-one}
 use lib.ListN.{length}
 use denote.Ref.{now}
 use Rattle.tables.specs.Walk.{storedIn}
-use Rattle.insertion_memory.specs.Memory.{Held, held, splitAt, splitOn}
+use Rattle.insertion_memory.specs.Memory.{TreeTables, treeTables, splitAt, splitOn}
 use Rattle.insertion_memory.proofs.Splitting.{pass-over, pass-turn}
-use Rattle.splitting.specs.Standing.{Standing}
-use Rattle.splitting.proofs.Kept.{count-most, tries, nodes-stay, links-stay, stands-on}
+use Rattle.splitting.specs.Represented.{Represented}
+use Rattle.splitting.proofs.Kept.{count-most, tries, nodes-stay, links-stay, represents-on}
 use Rattle.splitting.proofs.pass.split_pass.Statement.{statement}
 use Rattle.splitting.proofs.pass.split_pass.Tie as tie
 
 abbrev Inv-loop : tie.InvT-loop
 Inv-loop nodes₀ links₀ samples n k leaf-size many from count₀ at₀ nodes links count at =
     (from ≤ at)
-    × Standing nodes links samples n k count
-    × (splitOn (2 * k - (at - from)) leaf-size (storedIn samples n k) (held nodes links count) at ≡ splitOn (2 * k) leaf-size (storedIn samples n k) (held nodes₀ links₀ many) from)
+    × Represented nodes links samples n k count
+    × (splitOn (2 * k - (at - from)) leaf-size (storedIn samples n k) (treeTables nodes links count) at ≡ splitOn (2 * k) leaf-size (storedIn samples n k) (treeTables nodes₀ links₀ many) from)
     × (length nodes ≡ length nodes₀)
     × (length links ≡ length links₀)
 
@@ -30,7 +30,7 @@ loop-holds c =
     let s = c .before in
     let g = s .args in
     let e : 2 * g .k - (g .from - g .from) ≡ 2 * g .k = omega arith in
-    (omega arith, s .pre, ap (λ (f : ℕ). splitOn f (g .leaf-size) (storedIn (now (g .samples)) (g .n) (g .k)) (held (now (g .nodes)) (now (g .links)) (g .many)) (g .from)) e, refl, refl)
+    (omega arith, s .pre, ap (λ (f : ℕ). splitOn f (g .leaf-size) (storedIn (now (g .samples)) (g .n) (g .k)) (treeTables (now (g .nodes)) (now (g .links)) (g .many)) (g .from)) e, refl, refl)
 
 split-at-requires : tie.Need-split-at-requires Inv-loop μ-loop
 split-at-requires c κs = let i = c .before .before in let l = i .before .loop in tries (l .inv .1) (l .at) (i .loop-test .taken)
@@ -48,14 +48,14 @@ loop-again c =
     let l = i .before .loop in
     let g = i .before .before .before .args in
     let t = storedIn (now (g .samples)) (g .n) (g .k) in
-    let e : held (a .split-at .last .0) (a .split-at .last .1 .0) (a .split-at .result) ≡ splitAt (g .leaf-size) t (held (l .nodes) (l .links) (l .count)) (l .at) = a .split-at .ensures in
+    let e : treeTables (a .split-at .last .0) (a .split-at .last .1 .0) (a .split-at .result) ≡ splitAt (g .leaf-size) t (treeTables (l .nodes) (l .links) (l .count)) (l .at) = a .split-at .ensures in
     let f = 2 * g .k - (l .at + 1 - g .from) in
     let fuel : suc f ≡ 2 * g .k - (l .at - g .from) = omega (arith, i .loop-test .taken, count-most (l .inv .1), l .inv .0) in (
       omega arith,
-      stands-on (l .inv .1) (l .at) (i .loop-test .taken) (g .leaf-size) (a .split-at .last .0) (a .split-at .last .1 .0) (a .split-at .result) e,
-      ap₂ (λ (h : Held) (j : ℕ). splitOn f (g .leaf-size) t h j) e (add-one (l .at))
-          ∙ (sym (pass-turn f (g .leaf-size) t (held (l .nodes) (l .links) (l .count)) (l .at) (i .loop-test .taken))
-          ∙ (ap (λ (m : ℕ). splitOn m (g .leaf-size) t (held (l .nodes) (l .links) (l .count)) (l .at)) fuel ∙ l .inv .2)),
+      represents-on (l .inv .1) (l .at) (i .loop-test .taken) (g .leaf-size) (a .split-at .last .0) (a .split-at .last .1 .0) (a .split-at .result) e,
+      ap₂ (λ (h : TreeTables) (j : ℕ). splitOn f (g .leaf-size) t h j) e (add-one (l .at))
+          ∙ (sym (pass-turn f (g .leaf-size) t (treeTables (l .nodes) (l .links) (l .count)) (l .at) (i .loop-test .taken))
+          ∙ (ap (λ (m : ℕ). splitOn m (g .leaf-size) t (treeTables (l .nodes) (l .links) (l .count)) (l .at)) fuel ∙ l .inv .2)),
       nodes-stay (l .inv .1) (l .at) (i .loop-test .taken) (g .leaf-size) (a .split-at .last .0) (a .split-at .last .1 .0) (a .split-at .result) e ∙ l .inv .3,
       links-stay (l .inv .1) (l .at) (i .loop-test .taken) (g .leaf-size) (a .split-at .last .0) (a .split-at .last .1 .0) (a .split-at .result) e ∙ l .inv .4,
     )
@@ -64,7 +64,7 @@ returns : tie.Need-returns Inv-loop μ-loop
 returns c =
     let l = c .before .loop in
     let g = c .before .before .before .args in
-    sym (pass-over (2 * g .k - (l .at - g .from)) (g .leaf-size) (storedIn (now (g .samples)) (g .n) (g .k)) (held (l .nodes) (l .links) (l .count)) (l .at) (c .loop-test .left)) ∙ l .inv .2
+    sym (pass-over (2 * g .k - (l .at - g .from)) (g .leaf-size) (storedIn (now (g .samples)) (g .n) (g .k)) (treeTables (l .nodes) (l .links) (l .count)) (l .at) (c .loop-test .left)) ∙ l .inv .2
 
 pub split-pass-spec : {M : Type 1} → statement M
 split-pass-spec =

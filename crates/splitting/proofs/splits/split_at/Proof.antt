@@ -20,7 +20,7 @@ use Rattle.tables.specs.Walk.{storedIn, numbersOf, Rising, Stored}
 use Rattle.tables.proofs.Frame.{record-length}
 use Rattle.tables.proofs.Listed.{stored-size}
 use Rattle.leaf_figures.specs.Ends.{endsOf, Rise}
-use Rattle.insertion_memory.specs.Memory.{held, splitTo}
+use Rattle.insertion_memory.specs.Memory.{treeTables, splitTo}
 use Rattle.split_choice.specs.Choosing.{splitOf, chosenBy}
 use Rattle.split_choice.specs.declared.choice.Choice.{Choice}
 use Rattle.splitting.specs.Splits.{IsLeaf}
@@ -170,7 +170,7 @@ returns-4 c =
     let g = start a .args in
     let found = not-false (b .choose .result .found) (d .if3 .left) in
     let two : g .count + 2 ≡ suc (suc (g .count)) = omega arith in
-    ap (λ (j : ℕ). held (m .split-by .last .0) (m .split-by .last .1 .0) j) two
+    ap (λ (j : ℕ). treeTables (m .split-by .last .0) (m .split-by .last .1 .0) j) two
     ∙ (m .split-by .ensures ∙ sym (long-splits (g .leaf-size) (stored a) (now (g .nodes)) (now (g .links)) (g .count) (g .at) (g .k)
     (stored-size (now (g .samples)) (g .n) (g .k)) (kind-is a) (longer b) (some (cut b)) (best-is b found)))
 

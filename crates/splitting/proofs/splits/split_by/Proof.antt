@@ -26,7 +26,7 @@ use Rattle.leaf_figures.specs.Ends.{endsOf, Rise}
 use Rattle.tables.proofs.Listed.{numbers-below}
 use Rattle.insertion_memory.specs.Records.{leafRecord, innerRecord}
 use Rattle.insertion_memory.specs.Links.{linked}
-use Rattle.insertion_memory.specs.Memory.{held, onRecord, splitTo}
+use Rattle.insertion_memory.specs.Memory.{treeTables, onRecord, splitTo}
 use Rattle.tables.specs.Runs.{testBy}
 use Rattle.split_choice.specs.Marking.{marksBy}
 use Rattle.split_choice.specs.Choosing.{childEnds}
@@ -135,7 +135,7 @@ returns c =
     ∙ (ap (λ (es : List ℕ). both t m (onRecord (innerRecord test m (suc m)) N (g .at)) es (marked (marks a) 1 (numbers s)) (marked (marks a) 2 (numbers s))) (d .child-ends .ensures .0)
     ∙ ap₂ (λ (x y : List ℕ). both t m (onRecord (innerRecord test m (suc m)) N (g .at)) (childEnds (g .c .cut) (endsOf (g .e))) x y) (left-is a) (right-is a))) in
     let links : l .relink .last .0 ≡ linked (rights s) (linked (lefts s) L) = l .relink .ensures ∙ ap₂ (λ (x y : List ℕ). linked y (linked x L)) (left-is a) (right-is a) in
-    ap₂ (λ (x : List ℤ) (y : List ℕ). held x y (suc (suc m))) nodes links
+    ap₂ (λ (x : List ℤ) (y : List ℕ). treeTables x y (suc (suc m))) nodes links
 
 pub split-by-spec : {M : Type 1} → statement M
 split-by-spec =

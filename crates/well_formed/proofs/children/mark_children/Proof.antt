@@ -37,7 +37,7 @@ module _ (s : tie.Start) where
   fits = record-fits-at (s .pre .0 .all .n) m nodes (s .pre .0 .all .fit) j (s .pre .0 .inside)
 
   held : j * recordPlaces + recordPlaces ≤ length nodes
-  held = omega (arith, s .pre .0 .all .held, s .pre .0 .inside)
+  held = omega (arith, s .pre .0 .all .room, s .pre .0 .inside)
 
   low : j ≤ 8191
   low = omega (arith, s .pre .0 .all .low, s .pre .0 .inside)

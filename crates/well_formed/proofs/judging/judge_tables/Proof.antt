@@ -13,7 +13,7 @@ use Rattle.tables.specs.View.{wellFormed}
 use Rattle.tables.specs.Judge.{lentConditionsOf}
 use Rattle.tables.specs.Answers.{wordOf, foundBy, madeConditions}
 use Rattle.tables.proofs.Judged.{lends}
-use Rattle.well_formed.proofs.Accepted.{by-contents, refused-first}
+use Rattle.well_formed.proofs.Refused.{by-contents, refused-first}
 use Rattle.well_formed.proofs.judging.judge_tables.Statement.{statement}
 use Rattle.well_formed.proofs.judging.judge_tables.Tie as tie
 

@@ -37,7 +37,7 @@ module _ (s : tie.Start) where
   r = recordOf nodes j
 
   held : j * recordPlaces + recordPlaces ≤ length nodes
-  held = omega (arith, s .pre .0 .all .held, s .pre .0 .inside)
+  held = omega (arith, s .pre .0 .all .room, s .pre .0 .inside)
 
   low : j ≤ 8191
   low = omega (arith, s .pre .0 .all .low, s .pre .0 .inside)

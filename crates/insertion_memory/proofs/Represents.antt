@@ -21,8 +21,8 @@ use Rattle.tables.specs.Tables.{recordOf}
 use Rattle.tables.specs.View.{smallOf, placeOf, smallAt, segmentsIn, testIn, numbersFrom, kindIn, nodeIn}
 use Rattle.tables.specs.Walk.{Rising}
 use Rattle.insertion_memory.specs.Records.{leafRecord, widenRecord, innerRecord}
-use Rattle.insertion_memory.specs.Memory.{Held}
-pub use Rattle.insertion_memory.specs.Stands.{Means, m-leaf, m-inner, Reads, Stands}
+use Rattle.insertion_memory.specs.Memory.{TreeTables}
+pub use Rattle.insertion_memory.specs.Represents.{Means, m-leaf, m-inner, Reads, Represents}
 use Rattle.insertion_memory.proofs.ReadBack.{SmallEnds, leaf-kind, leaf-first, leaf-segments, leaf-length, widen-head}
 use Rattle.insertion_memory.proofs.ReadBack.{widen-segments, widen-length, kindNumber, inner-kind, inner-left, inner-right}
 use Rattle.insertion_memory.proofs.ReadBack.{inner-test, inner-segments, inner-length}
@@ -125,7 +125,7 @@ reads-inner {r} test left right from to l g d = record {
 
 -- ---- nodes and links as a tree
 
-module _ {n c : ℕ} {nodes : List ℤ} {links : List ℕ} {k : ℕ} {h : Held} {tree : Tree} (s : Stands n c nodes links k h tree) where
+module _ {n c : ℕ} {nodes : List ℤ} {links : List ℕ} {k : ℕ} {h : TreeTables} {tree : Tree} (s : Represents n c nodes links k h tree) where
   low-at : (j : ℕ) → Low k (numbersIn (nodeAt tree j .kind))
   low-at j t i = s .shape .numbers t j (in-is i)
 

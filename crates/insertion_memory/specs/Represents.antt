@@ -11,7 +11,7 @@ use Rattle.tables.specs.Layout.{kindPlace, firstPlace, rightPlace, recordPlaces
 use Rattle.tables.specs.Tables.{recordOf}
 use Rattle.tables.specs.View.{smallAt, segmentsIn, testIn}
 use Rattle.tables.specs.Walk.{Linked}
-use Rattle.insertion_memory.specs.Memory.{Held}
+use Rattle.insertion_memory.specs.Memory.{TreeTables}
 
 -- what an inner node's kind field holds
 unfoldable pub kindNumber : Figure → ℕ
@@ -39,7 +39,7 @@ pub record Space (n c : ℕ) (nodes : List ℤ) (links : List ℕ) : Type 0 wher
   pub links-room : c ≤ length links
 
 -- h stands for a tree over k traces; behind what c traces need it is as the tables `nodes` and `links` are
-pub record Stands (n c : ℕ) (nodes : List ℤ) (links : List ℕ) (k : ℕ) (h : Held) (tree : Tree) : Type 0 where
+pub record Represents (n c : ℕ) (nodes : List ℤ) (links : List ℕ) (k : ℕ) (h : TreeTables) (tree : Tree) : Type 0 where
   pub few : k ≤ c
   pub count : h .count ≡ length tree
   pub reads : (j : ℕ) → j < length tree → Reads (h .links) (recordOf (h .nodes) j) (nodeAt tree j)

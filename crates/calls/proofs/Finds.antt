@@ -8,23 +8,21 @@ use mathlib.Core.List.{List, [], _∷_, _++_, foldl, append-assoc}
 use native.Mathlib.Omega.{arith}
 use lib.ListN.{length, length-map}
 use lib.Dec.{T, eqb, ltb}
-use borrow.Author.Tests.{not-false, eqb-false}
+use borrow.Author.Tests.{eqb-false}
 use Rattle.integer.specs.Words.{if_then_else_, isIn}
-use Rattle.integer.proofs.Tests.{is-true}
 use Rattle.integer.specs.Lists.{In, first}
 use Rattle.integer.proofs.Lists.{in-nil}
 use Rattle.dstree.specs.Measures.{Trace}
 use Rattle.dstree.specs.Node.{Kind, leaf, inner, Tree, nodeAt}
 use Rattle.dstree.specs.Matching.{LeafBound, isLeaf, numbersIn, leaves, readingOrder, Near, nearer, bestWith, Search, distancesIn, readLeaf}
 use Rattle.dstree.specs.Matching.{isAbove, searchOn, searched, Match, answerOf, matchBySteps}
-use Rattle.dstree.specs.Refusals.{Refusal, Condition, _refuses_, firstOf, spoiled, wrongTrace, empty, shortTrail}
+use Rattle.dstree.specs.Refusals.{Refusal, Condition, _refuses_, firstOf, wrongTrace, empty, shortTrail}
 use Rattle.dstree.proofs.Conditions.{none-first, first-some, first-none, none-both}
 use Rattle.dstree.proofs.Formed.{Kept, number-node}
 use Rattle.dstree.proofs.Search.{near}
 use Rattle.dstree.proofs.Reading.{from-leaves, in-leaves, reading-of, in-reading}
-use Rattle.tables.specs.Tables.{Tables, lentOf, measuresOf, traceCount}
+use Rattle.tables.specs.Tables.{Tables, measuresOf, traceCount}
 use Rattle.tables.specs.View.{treeIn, tracesIn, wellFormed}
-use Rattle.tables.specs.Judge.{lentConditionsOf, Room}
 use Rattle.tables.proofs.Judged.{accepted}
 use Rattle.tables.specs.Answers.{madeConditions}
 use Rattle.tables.proofs.Views.{tree-formed}

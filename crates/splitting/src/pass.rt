@@ -18,7 +18,8 @@ pub fn split_pass(
     from: usize,
 ) -> usize
     requires { ⌜ Represented (now nodes) (now links) (now samples) n k many ⌝ }
-    ensures { λ r. ⌜ treeTables (now (nodes .exit)) (now (links .exit)) r ≡ splitOn (2 * k) «leaf_size» (storedIn (now (samples .entry)) n k) (treeTables (now (nodes .entry)) (now (links .entry)) many) from ⌝ }
+    ensures { λ r. ⌜ treeTables (now (nodes .exit)) (now (links .exit)) r
+        ≡ splitOn (2 * k) «leaf_size» (storedIn (now (samples .entry)) n k) (treeTables (now (nodes .entry)) (now (links .entry)) many) from ⌝ }
 {
     let mut count = many;
     let mut at = from;
@@ -41,7 +42,8 @@ pub fn split_all(
     at: usize,
 ) -> usize
     requires { ⌜ Represented (now nodes) (now links) (now samples) n k count × (at < count) ⌝ }
-    ensures { λ r. ⌜ treeTables (now (nodes .exit)) (now (links .exit)) r ≡ splitAllOf «leaf_size» (storedIn (now (samples .entry)) n k) (treeTables (now (nodes .entry)) (now (links .entry)) count) at ⌝ }
+    ensures { λ r. ⌜ treeTables (now (nodes .exit)) (now (links .exit)) r
+        ≡ splitAllOf «leaf_size» (storedIn (now (samples .entry)) n k) (treeTables (now (nodes .entry)) (now (links .entry)) count) at ⌝ }
 {
     let more = crate::splits::split_at(nodes, links, samples, n, k, leaf_size, count, at);
     split_pass(nodes, links, samples, n, k, leaf_size, more, count)

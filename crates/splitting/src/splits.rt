@@ -96,7 +96,8 @@ pub fn split_at(
     at: usize,
 ) -> usize
     requires { ⌜ Splits (now nodes) (now links) (now samples) n k count at ⌝ }
-    ensures { λ r. ⌜ treeTables (now (nodes .exit)) (now (links .exit)) r ≡ splitAt «leaf_size» (storedIn (now (samples .entry)) n k) (treeTables (now (nodes .entry)) (now (links .entry)) count) at ⌝ }
+    ensures { λ r. ⌜ treeTables (now (nodes .exit)) (now (links .exit)) r
+        ≡ splitAt «leaf_size» (storedIn (now (samples .entry)) n k) (treeTables (now (nodes .entry)) (now (links .entry)) count) at ⌝ }
 {
     let kind = node_small(nodes, at, KIND);
     if kind != 0 {

@@ -7,6 +7,7 @@ use lib.Dec.{leb, ltb, eqb}
 use lib.IntN.{ℤ}
 use lib.Signed.{mag}
 use Rattle.integer.specs.Words.{every}
+use Rattle.segment.specs.Limits.{sampleMost}
 
 -- "A trace is n signed .. samples"
 abbrev pub Trace : Type 0
@@ -14,7 +15,7 @@ Trace = List ℤ
 
 -- "signed 16-bit": every sample is from −limit to limit − 1. Laws take the limit as a parameter; this is its number
 unfoldable pub sampleLimit : ℕ
-sampleLimit = 32768
+sampleLimit = sampleMost
 
 -- n, capacity and leaf size: document 01's "measures"
 pub record Measures : Type 0 where

@@ -7,6 +7,10 @@ use lib.IntN.{ℤ, pos}
 use lib.Signed.{mag}
 use Rattle.segment.specs.Figures.{distance}
 
+-- document 01's limit, of signed 16-bit samples. Laws take the limit as a parameter; this is its number
+abbrev pub sampleMost : ℕ
+sampleMost = 32768
+
 -- every sample is from −limit to limit − 1. (`mag` of −1 − m is m)
 abbrev pub Within : ℕ → List ℤ → Type 0
 Within limit xs = (i : ℕ) → i < length xs → mag (getD xs i (pos 0)) < limit
@@ -18,6 +22,24 @@ sumLimit limit w = w * limit
 -- "scatters 0 to w² × 2^30"
 unfoldable pub scatterLimit : ℕ → ℕ → ℕ
 scatterLimit limit w = w * w * (limit * limit)
+
+-- ---- what code counts on, of w samples of 16 bits: these compute, so that they are numbers wherever they stand
+
+-- the size of a sum
+abbrev pub sumMost : ℕ → ℕ
+sumMost w = sampleMost * w
+
+abbrev pub squaresMost : ℕ → ℕ
+squaresMost w = sampleMost * sampleMost * w
+
+abbrev pub scatterMost : ℕ → ℕ
+scatterMost w = sampleMost * sampleMost * (w * w)
+
+-- two samples are less than twice the limit apart
+abbrev pub distanceMost : ℕ → ℕ
+distanceMost w = 2 * sampleMost * (2 * sampleMost) * w
+
+-- ---- the largest distance
 
 -- "Its largest is 1,099,478,073,600", of n samples: the distance between −limit and limit − 1 at each
 unfoldable pub largestDistance : ℕ → ℕ → ℕ

@@ -4,6 +4,7 @@ ghost use Prim.Native.Nat.{_+_, _*_, _-_, _^_, _≤_};
 ghost use lib.ListN.{length, take};
 ghost use lib.IntN.{natAbs, _-ℤ_};
 ghost use Rattle.integer.specs.Words as words;
+ghost use Rattle.segment.specs.Limits.{sumMost, squaresMost, scatterMost, distanceMost};
 ghost use Rattle.segment.specs.Figures as figure;
 
 // The square of a number of at most 28 bits, the most that a difference of two sums has.
@@ -19,7 +20,7 @@ pub fn square(z: i64) -> u64
 pub fn sum(samples: &[i16]) -> i64
     requires { do ⌜ (← ⟦samples.len()⟧) ≤ 256 ⌝ }
     ensures { λ r. ⌜ r ≡ figure.sum (now (samples .entry)) ⌝ }
-    ensures size { λ r. ⌜ natAbs r ≤ 32768 * length (now (samples .entry)) ⌝ }
+    ensures size { λ r. ⌜ natAbs r ≤ sumMost (length (now (samples .entry))) ⌝ }
 {
     let mut total: i32 = 0;
     let mut i: usize = 0;
@@ -35,7 +36,7 @@ pub fn sum(samples: &[i16]) -> i64
 fn squares_beside(samples: &[i16], h: usize) -> u64
     requires { ⌜ (h + h ≤ length (now samples)) × (h ≤ 128) ⌝ }
     ensures { λ r. ⌜ r ≡ figure.sumOfSquares (take (h + h) (now (samples .entry))) ⌝ }
-    ensures size { λ r. ⌜ r ≤ 2 ^ 31 * h ⌝ }
+    ensures size { λ r. ⌜ r ≤ squaresMost 2 * h ⌝ }
 {
     let mut total: u64 = 0;
     let mut i: usize = 0;
@@ -51,7 +52,7 @@ fn squares_beside(samples: &[i16], h: usize) -> u64
 pub fn sum_of_squares(samples: &[i16]) -> u64
     requires { do ⌜ (← ⟦samples.len()⟧) ≤ 256 ⌝ }
     ensures { λ r. ⌜ r ≡ figure.sumOfSquares (now (samples .entry)) ⌝ }
-    ensures size { λ r. ⌜ r ≤ 2 ^ 30 * length (now (samples .entry)) ⌝ }
+    ensures size { λ r. ⌜ r ≤ squaresMost (length (now (samples .entry))) ⌝ }
 {
     let h = samples.len() / 2;
     let m = h + h;
@@ -79,9 +80,9 @@ pub struct Figures {
 // A segment's sum and scatter. There is a loop for each total: of one loop with totals of two widths the compiler makes no vector code.
 pub fn figures_of(samples: &[i16]) -> Figures
     requires { do ⌜ (← ⟦samples.len()⟧) ≤ 256 ⌝ }
-    ensures sum { λ r. ⌜ (r .sum ≡ figure.sum (now (samples .entry))) × (natAbs (r .sum) ≤ 32768 * length (now (samples .entry))) ⌝ }
+    ensures sum { λ r. ⌜ (r .sum ≡ figure.sum (now (samples .entry))) × (natAbs (r .sum) ≤ sumMost (length (now (samples .entry)))) ⌝ }
     ensures scatter { λ r. ⌜ r .scatter ≡ figure.scatter (now (samples .entry)) ⌝ }
-    ensures size { λ r. ⌜ r .scatter ≤ 2 ^ 30 * (length (now (samples .entry)) * length (now (samples .entry))) ⌝ }
+    ensures size { λ r. ⌜ r .scatter ≤ scatterMost (length (now (samples .entry))) ⌝ }
 {
     let w = samples.len() as u64;
     let sum = sum(samples);
@@ -96,7 +97,7 @@ pub fn figures_of(samples: &[i16]) -> Figures
 pub fn scatter(samples: &[i16]) -> u64
     requires { do ⌜ (← ⟦samples.len()⟧) ≤ 256 ⌝ }
     ensures { λ r. ⌜ r ≡ figure.scatter (now (samples .entry)) ⌝ }
-    ensures size { λ r. ⌜ r ≤ 2 ^ 30 * (length (now (samples .entry)) * length (now (samples .entry))) ⌝ }
+    ensures size { λ r. ⌜ r ≤ scatterMost (length (now (samples .entry))) ⌝ }
 {
     figures_of(samples).scatter
 }
@@ -105,7 +106,7 @@ pub fn scatter(samples: &[i16]) -> u64
 // of several at a time.
 pub fn square_difference(a: i16, b: i16) -> u64
     ensures { λ r. ⌜ r ≡ words.square (a -ℤ b) ⌝ }
-    ensures size { λ r. ⌜ r ≤ 2 ^ 32 ⌝ }
+    ensures size { λ r. ⌜ r ≤ distanceMost 1 ⌝ }
 {
     let d = crate::samples::apart(a, b) as u32;
     (d * d) as u64
@@ -117,7 +118,7 @@ fn stretch(x: &[i16], y: &[i16], from: usize, end: usize) -> u64
     requires { ⌜ (length (now x) ≡ length (now y)) × (from ≤ end) × (end ≤ length (now x)) × (end ≤ 256) ⌝ }
     ensures { λ r. ⌜ figure.distance (take from (now (x .entry))) (take from (now (y .entry))) + r
         ≡ figure.distance (take end (now (x .entry))) (take end (now (y .entry))) ⌝ }
-    ensures size { λ r. ⌜ r ≤ 2 ^ 32 * (end - from) ⌝ }
+    ensures size { λ r. ⌜ r ≤ distanceMost (end - from) ⌝ }
 {
     let mut total: u64 = 0;
     let mut i = from;
@@ -134,7 +135,7 @@ fn stretch(x: &[i16], y: &[i16], from: usize, end: usize) -> u64
 pub fn distance(x: &[i16], y: &[i16]) -> u64
     requires { do ⌜ ((← ⟦x.len()⟧) ≡ (← ⟦y.len()⟧)) × ((← ⟦x.len()⟧) ≤ 256) ⌝ }
     ensures { λ r. ⌜ r ≡ figure.distance (now (x .entry)) (now (y .entry)) ⌝ }
-    ensures size { λ r. ⌜ r ≤ 2 ^ 32 * length (now (x .entry)) ⌝ }
+    ensures size { λ r. ⌜ r ≤ distanceMost (length (now (x .entry))) ⌝ }
 {
     let n = x.len();
     let mut total: u64 = 0;

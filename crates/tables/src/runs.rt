@@ -2,9 +2,10 @@
 // trace lies, or where a run does.
 
 ghost use mathlib.Core.Path.{_≡_};
-ghost use Prim.Native.Nat.{_+_, _*_, _^_, _≤_};
+ghost use Prim.Native.Nat.{_+_, _*_, _≤_};
 ghost use lib.IntN.{natAbs};
 ghost use lib.ListN.{length};
+ghost use Rattle.segment.specs.Limits.{sumMost, scatterMost};
 ghost use Rattle.dstree.specs.Figures.{run, sumOn, scatterOn};
 ghost use Rattle.dstree.specs.Node.{figureOf, goesLeft};
 ghost use Rattle.tables.specs.View.{traceIn};
@@ -23,7 +24,7 @@ pub fn trace_at(samples: &[i16], n: usize, t: usize) -> &[i16]
 pub fn sum_on(trace: &[i16], first: usize, last: usize) -> i64
     requires { ⌜ RunOf (length (now trace)) first last ⌝ }
     ensures { λ r. ⌜ r ≡ sumOn (run first last) (now (trace .entry)) ⌝ }
-    ensures size { λ r. ⌜ natAbs r ≤ 2 ^ 23 ⌝ }
+    ensures size { λ r. ⌜ natAbs r ≤ sumMost 256 ⌝ }
 {
     let before = first - 1;
     segment::figures::sum(&trace[before..last])
@@ -32,7 +33,7 @@ pub fn sum_on(trace: &[i16], first: usize, last: usize) -> i64
 pub fn scatter_on(trace: &[i16], first: usize, last: usize) -> u64
     requires { ⌜ RunOf (length (now trace)) first last ⌝ }
     ensures { λ r. ⌜ r ≡ scatterOn (run first last) (now (trace .entry)) ⌝ }
-    ensures size { λ r. ⌜ r ≤ 2 ^ 46 ⌝ }
+    ensures size { λ r. ⌜ r ≤ scatterMost 256 ⌝ }
 {
     let before = first - 1;
     segment::figures::scatter(&trace[before..last])
@@ -42,7 +43,7 @@ pub fn scatter_on(trace: &[i16], first: usize, last: usize) -> u64
 pub fn figure_on(trace: &[i16], first: usize, last: usize, by_scatter: bool) -> i64
     requires { ⌜ RunOf (length (now trace)) first last ⌝ }
     ensures { λ r. ⌜ r ≡ figureOf (figureBy «by_scatter») (run first last) (now (trace .entry)) ⌝ }
-    ensures size { λ r. ⌜ natAbs r ≤ 2 ^ 46 ⌝ }
+    ensures size { λ r. ⌜ natAbs r ≤ scatterMost 256 ⌝ }
 {
     if by_scatter {
         scatter_on(trace, first, last) as i64

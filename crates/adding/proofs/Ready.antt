@@ -61,7 +61,7 @@ many-ends r k a = length-map (map (segmentIn r) (counting k a)) (λ (s : Segment
 module _ (r : List ℤ) (n : ℕ) (narrow : n ≤ 256) where
   one-readable : (a begin : ℕ) → 1 ≤ begin → (begin ≤ endIn r a) × (endIn r a ≤ n) → Limited sampleLimit (width (run begin (endIn r a))) (segmentIn r a) → SegmentReadable r a begin n
   one-readable a begin low p l = record {
-    on = record { narrow = narrow; inside = record { from-1 = low; rises = p .0; to-n = p .1 } };
+    on = record { from-1 = low; rises = p .0; to-n = p .1 };
     least-scatter = omega (arith, l .scatters, scatter-few (width (run begin (endIn r a))) (segmentIn r a .greatestScatter) (omega (arith, low, p .1)) (l .greatest-scatter));
     greatest-scatter = scatter-few (width (run begin (endIn r a))) (segmentIn r a .greatestScatter) (omega (arith, low, p .1)) (l .greatest-scatter);
   }
@@ -122,12 +122,7 @@ module _ (t : Tables) (w : T (wellFormed t)) (long : Long t) (some : 0 < length 
       record {
         test = record {
           size = size;
-          on =
-              record {
-                narrow = space t w long .narrow;
-                inside =
-                    record { from-1 = omega (arith, from, ok .from-1); rises = omega (arith, from, to, ok .run-rises); to-n = omega (arith, to, ok .to-n) };
-              };
+          on = record { from-1 = omega (arith, from, ok .from-1); rises = omega (arith, from, to, ok .run-rises); to-n = omega (arith, to, ok .to-n) };
         };
         left-above = omega (arith, p, l);
         left-below = omega (arith, p, l, node-count t w);
@@ -139,6 +134,7 @@ module _ (t : Tables) (w : T (wellFormed t)) (long : Long t) (some : 0 < length 
   descendable = record {
     some-node = omega (arith, some, node-count t w);
     few = omega (arith, node-count t w, nodes-most (represents .shape), represents .few, space t w long .small);
+    narrow = space t w long .narrow;
     room = omega (arith, node-count t w, nodes-most (represents .shape), represents .few, space t w long .nodes-room);
     readable = readable-at;
     kind = λ j h. kind-named (represents .reads j (here j h) .kind);

@@ -6,10 +6,11 @@ use lib.Dec.{T}
 use Rattle.dstree.specs.Node.{Test, inner, Tree, nodeAt}
 use Rattle.dstree.specs.Matching.{hasChild}
 use Rattle.dstree.specs.Formed.{Parent}
+use Rattle.best_first.specs.NodeKeys.{keyBase}
 
 pub record Branching (tree : Tree) : Type 0 where
   pub some-node : 0 < length tree
-  pub few : length tree ≤ 8192
+  pub few : length tree ≤ keyBase
   pub child : (p c : ℕ) → T (hasChild c (nodeAt tree p .kind)) → (p < c) × (c < length tree)
   pub parented : (k : ℕ) → 0 < k → k < length tree → Parent tree k
   pub one-parent : (p q c : ℕ) → T (hasChild c (nodeAt tree p .kind)) → T (hasChild c (nodeAt tree q .kind)) → p ≡ q

@@ -1,21 +1,29 @@
 -- The key of a node: bound × 8,192 + number, so that keys are in the order "by bound, then by number". The bound of a child is known on the way down:
 -- the greater of its own and its parent's.
-use Prim.Native.Nat.{ℕ, _+_, _*_, _/_, _%_, max}
+use Prim.Native.Nat.{ℕ, _+_, _*_, _/_, _%_, _^_, max}
 use mathlib.Core.List.{List}
 use Rattle.heap.specs.Keys.{insertKey}
 use Rattle.dstree.specs.Measures.{Trace}
 use Rattle.dstree.specs.Node.{Tree, nodeAt}
 use Rattle.dstree.specs.Matching.{ownBound, bound, LeafBound}
 
--- a key, and the bound and the number that it holds. No tree has more than 8,192 nodes
+-- Ours: no tree has more than so many nodes, so that a key holds a number beside a bound
+abbrev pub keyBase : ℕ
+keyBase = 8192
+
+-- a key, and the bound and the number that it holds
 abbrev pub keyOf : ℕ → ℕ → ℕ
-keyOf bound number = bound * 8192 + number
+keyOf bound number = bound * keyBase + number
 
 abbrev pub boundIn : ℕ → ℕ
-boundIn key = key / 8192
+boundIn key = key / keyBase
 
 abbrev pub numberIn : ℕ → ℕ
-numberIn key = key % 8192
+numberIn key = key % keyBase
+
+-- every bound that a key of 64 bits holds is below this
+abbrev pub boundsBelow : ℕ
+boundsBelow = 2 ^ 64 / keyBase
 
 -- the leaf that a key is of
 abbrev pub leafIn : ℕ → LeafBound

@@ -14,7 +14,7 @@ use Rattle.dstree.specs.Node.{Segment, changeAll}
 use Rattle.dstree.specs.Adding.{widenSegment}
 use Rattle.tables.specs.Layout.{segmentsPlace, headPlaces, segmentPlaces, segmentAt, recordPlaces}
 use Rattle.tables.specs.View.{smallOf, scatterIn, placeOf, smallAt, segmentIn, segmentsIn}
-use Rattle.tables.specs.Runs.{RunOf}
+use Rattle.tables.specs.Runs.{Inside}
 use Rattle.tables.proofs.Small.{small-back, scatter-back, lesser-pos, greater-pos}
 use Rattle.insertion_memory.specs.Records.{segmentFields, fieldsOf, widenRecord}
 use Rattle.insertion.specs.Widening.{rangeWith, withSegment, endIn, startIn, SegmentReadable}
@@ -40,7 +40,7 @@ later r p q a b k g h = getD-set-other (set r p a) q k b (pos 0) (λ e. omega ar
 fields : {e e′ a b b′ c c′ d d′ : ℤ} → e ≡ e′ → b ≡ b′ → c ≡ c′ → d ≡ d′ → _≡_ {A = List ℤ} (e ∷ a ∷ b ∷ c ∷ d ∷ []) (e′ ∷ a ∷ b′ ∷ c′ ∷ d′ ∷ [])
 fields p q u v = cc
 
-module _ (r : List ℤ) (i first n : ℕ) (size : length r ≡ recordPlaces) (h : i < 16) (ok : SegmentReadable r i first n) (x : Trace) where
+module _ (r : List ℤ) (i first n : ℕ) (narrow : n ≤ 256) (size : length r ≡ recordPlaces) (h : i < 16) (ok : SegmentReadable r i first n) (x : Trace) where
   abbrev on : Run
   on = run first (endIn r i)
 
@@ -58,7 +58,7 @@ module _ (r : List ℤ) (i first n : ℕ) (size : length r ≡ recordPlaces) (h 
       let high = placeOf r (place + 4) in
       let greatest-place : place + 1 + 1 ≡ place + 2 = omega arith in
       let high-place : place + 3 + 1 ≡ place + 4 = omega arith in
-      let end-back : placeOf r place ≡ pos (endIn r i) = sym (small-back (placeOf r place) (omega (arith, ok .on .inside .to-n, ok .on .narrow))) in
+      let end-back : placeOf r place ≡ pos (endIn r i) = sym (small-back (placeOf r place) (omega (arith, ok .on .to-n, narrow))) in
       let greatest : greater (placeOf r (place + 1 + 1)) (sumOn on x) ≡ greater (placeOf r (place + 2)) (sumOn on x) = rw greatest-place in
       let least-scatter : lesser (placeOf sums (place + 3)) (pos v) ≡ pos (min (scatterIn low) v) =
       ap (λ (z : ℤ). lesser z (pos v)) (later r (place + 1) (place + 1 + 1) (lesser (placeOf r (place + 1)) (sumOn on x)) (greater (placeOf r (place + 1 + 1)) (sumOn on x))
@@ -120,7 +120,7 @@ module _ (x : Trace) (r : List ℤ) where
 
     pub readable-later : (first n : ℕ) → SegmentReadable r i first n → SegmentReadable (partly x r i) i first n
     readable-later first n ok = record {
-      on = subst (λ (end : ℕ). RunOf n first end) (sym end-later) (ok .on);
+      on = subst (λ (end : ℕ). Inside n first end) (sym end-later) (ok .on);
       least-scatter = subst (λ (s : Segment). s .leastScatter ≤ 2 ^ 54) (sym segment-later) (ok .least-scatter);
       greatest-scatter = subst (λ (s : Segment). s .greatestScatter ≤ 2 ^ 54) (sym segment-later) (ok .greatest-scatter);
     }

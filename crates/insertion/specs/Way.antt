@@ -13,7 +13,7 @@ use Rattle.dstree.specs.Node.{Figure, bySum, byScatter, goesLeft}
 use Rattle.tables.specs.Layout.{kindPlace, firstPlace, rightPlace, runFirstPlace, runLastPlace, recordPlaces}
 use Rattle.tables.specs.Tables.{recordOf}
 use Rattle.tables.specs.View.{smallAt, testIn}
-use Rattle.tables.specs.Runs.{figureBy, RunOf}
+use Rattle.tables.specs.Runs.{figureBy, Inside}
 use Rattle.insertion.specs.Widening.{Readable}
 
 -- sum or scatter, by a kind field: 1 by sum, 2 by scatter
@@ -45,7 +45,7 @@ wayIn nodes (suc fuel) x at = at ∷ elim (nextIn (recordOf nodes at) x) [ none 
 -- a record's test is on a run inside 1 to n
 pub record TestReadable (r : List ℤ) (n : ℕ) : Type 0 where
   pub size : length r ≡ recordPlaces
-  pub on : RunOf n (smallAt r runFirstPlace) (smallAt r runLastPlace)
+  pub on : Inside n (smallAt r runFirstPlace) (smallAt r runLastPlace)
 
 -- an inner node's record j of a table of `count`: its test, and "children numbered above their parent"
 pub record Passable (r : List ℤ) (n j count : ℕ) : Type 0 where
@@ -59,6 +59,7 @@ pub record Passable (r : List ℤ) (n j count : ℕ) : Type 0 where
 pub record Descendable (nodes : List ℤ) (count n : ℕ) : Type 0 where
   pub some-node : 0 < count
   pub few : count ≤ 8191
+  pub narrow : n ≤ 256
   pub room : count * recordPlaces ≤ length nodes
   pub readable : (j : ℕ) → j < count → Readable (recordOf nodes j) n
   pub kind : (j : ℕ) → j < count → smallAt (recordOf nodes j) kindPlace ≤ 2

@@ -8,7 +8,7 @@ use Rattle.integer.specs.Words.{lesser, greater}
 use Rattle.dstree.specs.Node.{Segment}
 use Rattle.tables.specs.Layout.{segmentsPlace, segmentPlaces, segmentAt, recordPlaces}
 use Rattle.tables.specs.View.{placeOf, smallAt, segmentIn}
-use Rattle.tables.specs.Runs.{RunOf}
+use Rattle.tables.specs.Runs.{Inside}
 use Rattle.insertion_memory.specs.Records.{segmentFields}
 
 -- a range of a record, its least at a place and its greatest behind that, with a figure in it too
@@ -29,7 +29,7 @@ startIn r (suc i) = suc (endIn r i)
 
 -- a segment whose run is inside 1 to n, with scatters that are no larger than any limit
 pub record SegmentReadable (r : List ℤ) (i first n : ℕ) : Type 0 where
-  pub on : RunOf n first (endIn r i)
+  pub on : Inside n first (endIn r i)
   pub least-scatter : segmentIn r i .leastScatter ≤ 2 ^ 54
   pub greatest-scatter : segmentIn r i .greatestScatter ≤ 2 ^ 54
 

@@ -106,10 +106,9 @@ fn first_record(record: &mut [i64], trace: &[i16])
 {
     tables::loops::zero_nodes(record, RECORD_PLACES);
     write_leaf_head(record, 1, 0);
-    let sum = segment::figures::sum(trace);
-    let scatter = segment::figures::scatter(trace);
+    let f = segment::figures::figures_of(trace);
     let n = trace.len();
-    write_segment(record, 0, n, sum, sum, scatter, scatter);
+    write_segment(record, 0, n, f.sum, f.sum, f.scatter, f.scatter);
 }
 
 // The first trace makes leaf 0 with one segment, and its list is trace 0 alone.

@@ -20,20 +20,21 @@ ghost use Rattle.integer.specs.Words.{if_then_else_, lastOf};
 ghost use Rattle.dstree.specs.Node.{goesLeft};
 ghost use Rattle.tables.specs.Layout.{kindPlace, recordPlaces};
 ghost use Rattle.tables.specs.View.{smallAt, testIn};
+ghost use Rattle.prefixes.specs.Prefixes.{Prefixes};
 ghost use Rattle.insertion_memory.specs.Records.{widenRecord};
 ghost use Rattle.insertion_memory.specs.Memory.{onRecord};
 ghost use Rattle.insertion.specs.Way.{figureIn, nextIn, orZero, wayIn, TestReadable, Descendable};
 
 // Whether a trace goes left at an inner node's record.
-pub fn goes_left(record: &[i64], trace: &[i16]) -> bool
-    requires { ⌜ TestReadable (now «record») (length (now trace)) ⌝ }
+pub fn goes_left(record: &[i64], trace: &[i16], sums: &[i64; 257], squares: &[u64; 257]) -> bool
+    requires { ⌜ Prefixes (now trace) (now sums) (now squares) × TestReadable (now «record») (length (now trace)) ⌝ }
     ensures { λ r. ⌜ r ≡ goesLeft (testIn (now («record» .entry)) (figureIn (now («record» .entry)))) (now (trace .entry)) ⌝ }
 {
     let by_scatter = small_at(record, KIND) == 2;
     let first = small_at(record, RUN_FIRST);
     let last = small_at(record, RUN_LAST);
-    let threshold = value_at(record, THRESHOLD);
-    tables::runs::goes_left(trace, first, last, by_scatter, threshold)
+    let figure = prefixes::figure_on(trace, sums, squares, first, last, by_scatter);
+    2 * figure <= value_at(record, THRESHOLD)
 }
 
 // One of two numbers, by a test.
@@ -47,8 +48,10 @@ fn either(test: bool, a: usize, b: usize) -> usize
 }
 
 // The child that a trace goes to from a record. It is 0 at a leaf: no node has node 0 for a child.
-pub fn next_of(record: &[i64], trace: &[i16]) -> usize
-    requires { ⌜ (length (now «record») ≡ recordPlaces) × (smallAt (now «record») kindPlace ≤ 2) × (1 ≤ smallAt (now «record») kindPlace → TestReadable (now «record») (length (now trace))) ⌝ }
+pub fn next_of(record: &[i64], trace: &[i16], sums: &[i64; 257], squares: &[u64; 257]) -> usize
+    requires { ⌜ Prefixes (now trace) (now sums) (now squares) ⌝ }
+    requires readable { ⌜ (length (now «record») ≡ recordPlaces) × (smallAt (now «record») kindPlace ≤ 2)
+        × (1 ≤ smallAt (now «record») kindPlace → TestReadable (now «record») (length (now trace))) ⌝ }
     ensures { λ r. ⌜ r ≡ orZero (nextIn (now («record» .entry)) (now (trace .entry))) ⌝ }
 {
     let kind = small_at(record, KIND);
@@ -57,25 +60,44 @@ pub fn next_of(record: &[i64], trace: &[i16]) -> usize
     }
     let left = small_at(record, FIRST);
     let right = small_at(record, RIGHT);
-    let goes = goes_left(record, trace);
+    let goes = goes_left(record, trace, sums, squares);
     either(goes, left, right)
 }
 
-// Down from node 0 by the tests, widening every node met, the leaf too. The answer is the leaf's number.
-pub fn descend(nodes: &mut [i64], count: usize, trace: &[i16]) -> usize
-    requires { ⌜ Descendable (now nodes) count (length (now trace)) ⌝ }
+// Down from node 0 by the tests, with the trace's sums over its first samples.
+fn descend_by(
+    nodes: &mut [i64],
+    count: usize,
+    trace: &[i16],
+    sums: &[i64; 257],
+    squares: &[u64; 257],
+) -> usize
+    requires { ⌜ Descendable (now nodes) count (length (now trace)) × Prefixes (now trace) (now sums) (now squares) ⌝ }
     ensures { λ r. ⌜ r ≡ lastOf (wayIn (now (nodes .entry)) count (now (trace .entry)) 0) ⌝ }
     ensures widened { λ _. ⌜ now (nodes .exit) ≡ foldl (onRecord (widenRecord (now (trace .entry)))) (now (nodes .entry)) (wayIn (now (nodes .entry)) count (now (trace .entry)) 0) ⌝ }
 {
     let mut at: usize = 0;
     loop {
-        let next = next_of(record_at(nodes, at), trace);
+        let next = next_of(record_at(nodes, at), trace, sums, squares);
         let a = record_start(at);
         let e = record_end(at);
-        widen_record(&mut nodes[a..e], trace);
+        widen_record(&mut nodes[a..e], trace, sums, squares);
         if next == 0 {
             return at;
         }
         at = next;
     }
+}
+
+// Down from node 0 by the tests, widening every node met, the leaf too. The answer is the leaf's number. The trace's samples are looked at
+// once, whatever the number of nodes.
+pub fn descend(nodes: &mut [i64], count: usize, trace: &[i16]) -> usize
+    requires { ⌜ Descendable (now nodes) count (length (now trace)) ⌝ }
+    ensures { λ r. ⌜ r ≡ lastOf (wayIn (now (nodes .entry)) count (now (trace .entry)) 0) ⌝ }
+    ensures widened { λ _. ⌜ now (nodes .exit) ≡ foldl (onRecord (widenRecord (now (trace .entry)))) (now (nodes .entry)) (wayIn (now (nodes .entry)) count (now (trace .entry)) 0) ⌝ }
+{
+    let mut sums: [i64; 257] = [0; 257];
+    let mut squares: [u64; 257] = [0; 257];
+    prefixes::prefix_sums(trace, &mut sums, &mut squares);
+    descend_by(nodes, count, trace, &sums, &squares)
 }

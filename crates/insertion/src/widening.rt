@@ -8,7 +8,6 @@ use tables::places::LEAST_SUM;
 use tables::places::SEGMENT;
 use tables::places::SEGMENTS;
 use tables::records::small_at;
-use tables::runs::figure_on;
 ghost use mathlib.Core.Path.{_≡_};
 ghost use Prim.Native.Nat.{_+_, _<_};
 ghost use lib.ListN.{length};
@@ -16,6 +15,7 @@ ghost use Rattle.dstree.specs.Figures.{run};
 ghost use Rattle.dstree.specs.Adding.{widenSegment};
 ghost use Rattle.tables.specs.Layout.{recordPlaces};
 ghost use Rattle.tables.specs.View.{segmentIn};
+ghost use Rattle.prefixes.specs.Prefixes.{Prefixes};
 ghost use Rattle.insertion_memory.specs.Records.{widenRecord};
 ghost use Rattle.insertion.specs.Widening.{rangeWith, withSegment, endIn, SegmentReadable, Readable};
 
@@ -29,22 +29,30 @@ pub fn widen_range(record: &mut [i64], place: usize, v: i64)
 }
 
 // Segment i of a record, whose run starts at sample `first`: four places are written, and its end stays.
-pub fn widen_segment(record: &mut [i64], i: usize, first: usize, trace: &[i16])
-    requires { ⌜ (length (now «record») ≡ recordPlaces) × (i < 16) × SegmentReadable (now «record») i first (length (now trace)) ⌝ }
+pub fn widen_segment(
+    record: &mut [i64],
+    i: usize,
+    first: usize,
+    trace: &[i16],
+    sums: &[i64; 257],
+    squares: &[u64; 257],
+)
+    requires { ⌜ Prefixes (now trace) (now sums) (now squares) ⌝ }
+    requires readable { ⌜ (length (now «record») ≡ recordPlaces) × (i < 16) × SegmentReadable (now «record») i first (length (now trace)) ⌝ }
     ensures { λ _. ⌜ now («record» .exit)
         ≡ withSegment (now («record» .entry)) i (widenSegment (now (trace .entry)) (run first (endIn (now («record» .entry)) i)) (segmentIn (now («record» .entry)) i)) ⌝ }
 {
     let at = HEAD + i * SEGMENT;
     let end = small_at(record, at);
-    let sum = figure_on(trace, first, end, false);
-    let scatter = figure_on(trace, first, end, true);
-    widen_range(record, at + LEAST_SUM, sum);
+    let f = prefixes::figures_on(trace, sums, squares, first, end);
+    let scatter = f.scatter as i64;
+    widen_range(record, at + LEAST_SUM, f.sum);
     widen_range(record, at + LEAST_SCATTER, scatter);
 }
 
 // Every segment of a record.
-pub fn widen_record(record: &mut [i64], trace: &[i16])
-    requires { ⌜ Readable (now «record») (length (now trace)) ⌝ }
+pub fn widen_record(record: &mut [i64], trace: &[i16], sums: &[i64; 257], squares: &[u64; 257])
+    requires { ⌜ Prefixes (now trace) (now sums) (now squares) × Readable (now «record») (length (now trace)) ⌝ }
     ensures { λ _. ⌜ now («record» .exit) ≡ widenRecord (now (trace .entry)) (now («record» .entry)) ⌝ }
 {
     let count = small_at(record, SEGMENTS);
@@ -52,7 +60,7 @@ pub fn widen_record(record: &mut [i64], trace: &[i16])
     let mut i: usize = 0;
     while i < count {
         let end = small_at(record, HEAD + i * SEGMENT);
-        widen_segment(record, i, first, trace);
+        widen_segment(record, i, first, trace, sums, squares);
         first = end + 1;
         i += 1;
     }

@@ -4,12 +4,14 @@ ghost use Prim.Native.Nat.{_+_, _*_, _≤_, _<_, max};
 ghost use lib.ListN.{length};
 ghost use Rattle.tables.specs.Layout.{recordPlaces};
 ghost use Rattle.tables.specs.Tables.{recordOf};
-ghost use Rattle.query.specs.Prefixes.{Prefixes};
+ghost use Rattle.prefixes.specs.Prefixes.{Prefixes};
 ghost use Rattle.query.specs.Bounded.{Bounded, boundBy};
-ghost use Rattle.best_first.specs.NodeKeys.{keyOf};
+ghost use Rattle.best_first.specs.NodeKeys.{keyBase, keyOf, boundsBelow};
 ghost use Rattle.leaf_order.specs.Handed.{isPast};
 
-// The key of node j, whose parent has the bound `above`. Every bound that a 64-bit key holds is below 2^51, so that a child's key fits too.
+pub const KEY_BASE: u64 = 8192; // a key is bound * KEY_BASE + number
+
+// The key of node j, whose parent has the bound `above`. That bound is one that a key holds, and so a child's key fits too.
 pub fn node_key(
     nodes: &[i64],
     j: usize,
@@ -18,13 +20,13 @@ pub fn node_key(
     sums: &[i64; 257],
     squares: &[u64; 257],
 ) -> u64
-    requires { ⌜ (j * recordPlaces + recordPlaces ≤ length (now nodes)) × (j ≤ 8191) × (above < 2251799813685248)
+    requires { ⌜ (j * recordPlaces + recordPlaces ≤ length (now nodes)) × (j < keyBase) × (above < boundsBelow)
         × Prefixes (now query) (now sums) (now squares) × Bounded (recordOf (now nodes) j) (length (now query)) ⌝ }
     ensures { λ r. ⌜ r ≡ keyOf (max (boundBy (now (query .entry)) (recordOf (now (nodes .entry)) j)) above) j ⌝ }
 {
     let record = tables::records::record_at(nodes, j);
     let own = query::bound::own_bound(record, query, sums, squares);
-    tables::numbers::larger(own, above) * 8192 + j as u64
+    tables::numbers::larger(own, above) * KEY_BASE + j as u64
 }
 
 // The bound is above the limit, if there is one. An equal bound is not.

@@ -1,4 +1,5 @@
 // The leaves of a tree, by bound and then by number, one at a time.
+use crate::keys::KEY_BASE;
 use tables::places::FIRST;
 use tables::places::KIND;
 use tables::places::RIGHT;
@@ -9,7 +10,8 @@ ghost use Rattle.heap.specs.Heap.{IsHeap};
 ghost use Rattle.tables.specs.Layout.{kindPlace};
 ghost use Rattle.tables.specs.Tables.{recordOf};
 ghost use Rattle.tables.specs.View.{smallAt};
-ghost use Rattle.query.specs.Prefixes.{Prefixes};
+ghost use Rattle.prefixes.specs.Prefixes.{Prefixes};
+ghost use Rattle.best_first.specs.NodeKeys.{boundsBelow};
 ghost use Rattle.leaf_order.specs.Waits.{shapeIn, Walkable, Waits, Begun, Opened};
 ghost use Rattle.leaf_order.specs.Handed.{Handed};
 
@@ -46,7 +48,7 @@ fn open_node(
     above: u64,
 )
     requires { ⌜ Walkable (now nodes) (length (now work)) (now query) × Prefixes (now query) (now sums) (now squares) × (n + 2 ≤ length (now work)) × IsHeap n (now work) ⌝ }
-    requires inner { ⌜ (j < length (now work)) × (above < 2251799813685248) × (1 ≤ smallAt (recordOf (now nodes) j) kindPlace) ⌝ }
+    requires inner { ⌜ (j < length (now work)) × (above < boundsBelow) × (1 ≤ smallAt (recordOf (now nodes) j) kindPlace) ⌝ }
     ensures { λ _. ⌜ Opened (shapeIn (now (nodes .entry)) (length (now (work .entry)))) (now (query .entry)) n (recordOf (now (nodes .entry)) j) above (now (work .entry)) (now (work .exit)) ⌝ }
 {
     let first = node_small(nodes, j, FIRST);
@@ -78,13 +80,13 @@ pub fn next_leaf(
     let mut n = waiting;
     while 0 < n {
         let x = heap::least(work, n);
-        let bound = x / 8192;
+        let bound = x / KEY_BASE;
         if crate::keys::is_past(bound, limited, limit) {
             return Next::End(n);
         }
         heap::pop(work, n);
         n -= 1;
-        let j = (x % 8192) as usize;
+        let j = (x % KEY_BASE) as usize;
         let kind = node_small(nodes, j, KIND);
         if kind == 0 {
             return Next::Leaf(bound, j, n);

@@ -1,4 +1,2 @@
-pub mod Passed
-pub mod Cut
 pub mod Own
 pub mod FromRules

@@ -1,4 +1,4 @@
--- A node's own bound, segment by segment, and how large it gets: a term of w samples is at most 2^33 × w.
+-- A node's own bound, segment by segment, and how large it gets: a term of w samples is at most `boundLimit`.
 use mathlib.Core.Path.{_≡_, refl, sym, subst, _∙_}
 use mathlib.Core.List.{List, [], _∷_, map}
 use Prim.Native.Nat.{ℕ, suc, _+_, _*_, _-_, _/_, _^_, _≤_, _<_}
@@ -6,16 +6,21 @@ use native.Mathlib.Nat.{mul-le-mul, div-lt-iff-lt-mul}
 use native.Mathlib.Numerals.{add-one}
 use native.Mathlib.Omega.{arith}
 use lib.IntN.{ℤ, natAbs}
+use lib.ListN.{length, length-map}
 use Rattle.integer.specs.Words.{roundedUp, counting}
+use Rattle.integer.proofs.Times.{counting-length}
+use Rattle.segment.specs.Limits.{sumLimit, scatterLimit}
 use Rattle.segment.specs.Terms.{sumGap, scatterGap, boundTerm}
 use Rattle.segment.proofs.Limits.{sum-gap-limit, scatter-gap-limit}
-use Rattle.dstree.specs.Measures.{Trace}
+use Rattle.dstree.specs.Measures.{Trace, sampleLimit}
 use Rattle.dstree.specs.Figures.{run, width}
-use Rattle.dstree.specs.Node.{Segment, totalOver}
+use Rattle.dstree.specs.Node.{Segment, ends, totalOver}
+use Rattle.dstree.specs.Formed.{Limited, AllLimited, l-more}
 use Rattle.dstree.specs.Matching.{boundOn, ownBound}
+use Rattle.dstree.proofs.Cuts.{Rises, rises-more, parted-rises}
 use Rattle.tables.specs.Layout.{segmentsPlace, segmentAt}
 use Rattle.tables.specs.View.{smallAt, segmentIn, segmentsIn, nodeIn}
-use Rattle.query.specs.Bounded.{Limited, AllLimited, l-more, boundBy}
+use Rattle.query.specs.Bounded.{Bounded, boundBy, boundLimit}
 
 -- the own bound of the node that a record stands for, whatever its kind
 pub own-bound-in : (query : Trace) (links : List ℕ) (count : ℕ) (r : List ℤ) → ownBound query (nodeIn links count r) ≡ boundBy query r
@@ -23,34 +28,50 @@ unfolding ownBound nodeIn
 own-bound-in query links count r = refl
 
 -- ---- sizes
-term-size : (w g h : ℕ) → 0 < w → g ≤ w * 65536 → h ≤ w * 32768 → boundTerm w g h ≤ 2 ^ 33 * w
-unfolding boundTerm roundedUp
+term-size : (w g h : ℕ) → 0 < w → g ≤ w * 65536 → h ≤ w * 32768 → boundTerm w g h ≤ boundLimit sampleLimit w
+unfolding boundTerm roundedUp sampleLimit boundLimit
 term-size w g h p hg hh =
     let most : g * g + h * h + (w - 1) < (2 ^ 33 * w + 1) * w = omega (arith, mul-le-mul hg hg, mul-le-mul hh hh) in
     let below : (g * g + h * h + (w - 1)) / w < 2 ^ 33 * w + 1 = div-lt-iff-lt-mul {k = w} {x = g * g + h * h + (w - 1)} {y = 2 ^ 33 * w + 1} p .1 most in
     omega arith
 
-pub gaps-size : (w : ℕ) (t : ℤ) (u : ℕ) (s : Segment) → 0 < w → natAbs t ≤ 32768 * w → u ≤ 2 ^ 30 * (w * w) → Limited w s
-    → boundTerm w (sumGap t (s .leastSum) (s .greatestSum)) (scatterGap u (s .leastScatter) (s .greatestScatter)) ≤ 2 ^ 33 * w
+pub gaps-size : (w : ℕ) (t : ℤ) (u : ℕ) (s : Segment) → 0 < w → natAbs t ≤ sumLimit sampleLimit w → u ≤ scatterLimit sampleLimit w → Limited sampleLimit w s
+    → boundTerm w (sumGap t (s .leastSum) (s .greatestSum)) (scatterGap u (s .leastScatter) (s .greatestScatter)) ≤ boundLimit sampleLimit w
+unfolding sampleLimit sumLimit scatterLimit
 gaps-size w t u s p ht hu l =
     term-size w (sumGap t (s .leastSum) (s .greatestSum)) (scatterGap u (s .leastScatter) (s .greatestScatter)) p
     (sum-gap-limit t (s .leastSum) (s .greatestSum) (w * 65536) (omega (arith, l .least-sum)) (omega (arith, l .greatest-sum)))
-    (scatter-gap-limit u (s .leastScatter) (s .greatestScatter) (w * 32768) (omega arith) (omega (arith, l .least-scatter)))
+    (scatter-gap-limit u (s .leastScatter) (s .greatestScatter) (w * 32768) (omega arith) (omega (arith, l .scatters, l .greatest-scatter)))
 
 -- ---- the segments from number i on
 abbrev pub segmentsAfter : List ℤ → ℕ → ℕ → List Segment
 segmentsAfter r count i = map (segmentIn r) (counting (count - i) i)
 
--- what is known of segment i, which ends at `last`, and of those behind it
+-- what is known of these: ends that rise to n at most, and figures within the limits
+pub record Left (r : List ℤ) (n count first i : ℕ) : Type 0 where
+  pub rises : Rises n first (ends (segmentsAfter r count i))
+  pub limited : AllLimited sampleLimit first (segmentsAfter r count i)
+
+-- .. of segment i, which ends at `last`, and of those behind it
 pub record Next (r : List ℤ) (n count first i last : ℕ) : Type 0 where
   pub rises : first ≤ last
   pub to-n : last ≤ n
-  pub limited : Limited (width (run first last)) (segmentIn r i)
-  pub on : AllLimited n (last + 1) (segmentsAfter r count (i + 1))
+  pub limited : Limited sampleLimit (width (run first last)) (segmentIn r i)
+  pub on : Left r n count (last + 1) (i + 1)
 
-next-of : {r : List ℤ} {n count first i : ℕ} → AllLimited n first (segmentIn r i ∷ segmentsAfter r count (i + 1)) → Next r n count first i (segmentIn r i .end)
-next-of {r} {n} {count} {first} {i} (l-more a b c d) =
-    record { rises = a; to-n = b; limited = c; on = subst (λ (x : ℕ). AllLimited n x (segmentsAfter r count (i + 1))) (sym (add-one (segmentIn r i .end))) d }
+next-of : {r : List ℤ} {n count first i : ℕ} → Rises n first (ends (segmentIn r i ∷ segmentsAfter r count (i + 1)))
+    → AllLimited sampleLimit first (segmentIn r i ∷ segmentsAfter r count (i + 1)) → Next r n count first i (segmentIn r i .end)
+next-of {r} {n} {count} {first} {i} (rises-more a b p) (l-more c d) =
+    let e : suc (segmentIn r i .end) ≡ segmentIn r i .end + 1 = sym (add-one (segmentIn r i .end)) in
+    record {
+      rises = a;
+      to-n = b;
+      limited = c;
+      on = record {
+        rises = subst (λ (x : ℕ). Rises n x (ends (segmentsAfter r count (i + 1)))) e p;
+        limited = subst (λ (x : ℕ). AllLimited sampleLimit x (segmentsAfter r count (i + 1))) e d;
+      };
+    }
 
 end-is : (r : List ℤ) (i : ℕ) → segmentIn r i .end ≡ smallAt r (segmentAt i)
 unfolding segmentIn
@@ -71,8 +92,10 @@ module _ (r : List ℤ) (count i : ℕ) (h : i < count) where
     is-end : segmentIn r i .end ≡ last
     is-end = end-is r i ∙ sym e
 
-    pub next-at : {n first : ℕ} → AllLimited n first (segmentsAfter r count i) → Next r n count first i last
-    next-at {n} {first} l = subst (Next r n count first i) is-end (next-of (subst (AllLimited n first) after-more l))
+    pub next-at : {n first : ℕ} → Left r n count first i → Next r n count first i last
+    next-at {n} {first} l =
+        subst (Next r n count first i) is-end
+        (next-of (subst (λ (s : List Segment). Rises n first (ends s)) after-more (l .rises)) (subst (AllLimited sampleLimit first) after-more (l .limited)))
 
     pub bound-more : (query : Trace) (first : ℕ) → totalOver (boundOn query) first (segmentsAfter r count i)
         ≡ boundOn query (run first last) (segmentIn r i) + totalOver (boundOn query) (last + 1) (segmentsAfter r count (i + 1))
@@ -89,3 +112,19 @@ bound-end r count query first i h = rw (after-none r count i h)
 pub after-start : (r : List ℤ) → segmentsAfter r (smallAt r segmentsPlace) 0 ≡ segmentsIn r
 unfolding segmentsIn
 after-start r = let e : smallAt r segmentsPlace - 0 ≡ smallAt r segmentsPlace = omega arith in rw e
+
+-- ---- of a bounded record
+module _ (r : List ℤ) (n : ℕ) (b : Bounded r n) where
+  pub few-segments : smallAt r segmentsPlace ≤ 16
+  unfolding segmentsIn
+  few-segments =
+      let k = smallAt r segmentsPlace in
+      let many : length (ends (map (segmentIn r) (counting k 0))) ≡ k =
+      length-map (map (segmentIn r) (counting k 0)) (λ (s : Segment). s .end) ∙ (length-map (counting k 0) (segmentIn r) ∙ counting-length k 0) in
+      omega (arith, many, b .fits .few)
+
+  pub left-all : Left r n (smallAt r segmentsPlace) 1 0
+  left-all = record {
+    rises = subst (λ (s : List Segment). Rises n 1 (ends s)) (sym (after-start r)) (parted-rises (b .fits .parted));
+    limited = subst (AllLimited sampleLimit 1) (sym (after-start r)) (b .limited);
+  }

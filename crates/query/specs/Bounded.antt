@@ -1,34 +1,27 @@
--- A node's record whose bound is worked out: what is asked of it, and the bound.
-use Prim.Native.Nat.{ℕ, suc, _*_, _^_, _≤_}
+-- A node's record whose bound is worked out: what is asked of it, the bound, and how large it gets.
+use Prim.Native.Nat.{ℕ, _*_}
 use mathlib.Core.Path.{_≡_}
-use mathlib.Core.List.{List, [], _∷_}
-use lib.IntN.{ℤ, natAbs}
+use mathlib.Core.List.{List}
+use lib.IntN.{ℤ}
 use lib.ListN.{length}
-use Rattle.dstree.specs.Measures.{Trace}
-use Rattle.dstree.specs.Figures.{run, width}
-use Rattle.dstree.specs.Node.{Segment, totalOver}
+use Rattle.dstree.specs.Measures.{Trace, sampleLimit}
+use Rattle.dstree.specs.Node.{ends, totalOver}
+use Rattle.dstree.specs.Formed.{Fits, AllLimited}
 use Rattle.dstree.specs.Matching.{boundOn}
-use Rattle.tables.specs.Layout.{recordPlaces, segmentsPlace}
-use Rattle.tables.specs.View.{smallAt, segmentsIn}
+use Rattle.tables.specs.Layout.{recordPlaces}
+use Rattle.tables.specs.View.{segmentsIn}
 
--- the figures of a segment of w samples are within the limits of well-formed tables
-pub record Limited (w : ℕ) (s : Segment) : Type 0 where
-  pub least-sum : natAbs (s .leastSum) ≤ w * 32768
-  pub greatest-sum : natAbs (s .greatestSum) ≤ w * 32768
-  pub least-scatter : s .leastScatter ≤ w * w * 2 ^ 30
-  pub greatest-scatter : s .greatestScatter ≤ w * w * 2 ^ 30
-
--- segments from sample `first` on, with ends that rise to n at most, each within the limits
-pub data AllLimited (n : ℕ) : ℕ → List Segment → Type 0 where
-  l-none : {first : ℕ} → AllLimited n first []
-  l-more : {first : ℕ} {s : Segment} {rest : List Segment} → first ≤ s .end → s .end ≤ n → Limited (width (run first (s .end))) s → AllLimited n (suc (s .end)) rest → AllLimited n first (s ∷ rest)
-
--- a record of at most 16 such segments
+-- a record whose segments are those of well-formed tables over n samples
 pub record Bounded (r : List ℤ) (n : ℕ) : Type 0 where
   pub places : length r ≡ recordPlaces
-  pub few : smallAt r segmentsPlace ≤ 16
-  pub limited : AllLimited n 1 (segmentsIn r)
+  pub fits : Fits n (ends (segmentsIn r))
+  pub limited : AllLimited sampleLimit 1 (segmentsIn r)
 
 -- the own bound of the node that a record stands for, leaf or inner node
 abbrev pub boundBy : Trace → List ℤ → ℕ
 boundBy query r = totalOver (boundOn query) 1 (segmentsIn r)
+
+-- Ours: no term of a segment that is w wide is above this, nor a bound over w samples. g is at most 2 × w × limit and h at most w × limit, so that
+-- five times w × limit² would nearly do
+unfoldable pub boundLimit : ℕ → ℕ → ℕ
+boundLimit limit w = 8 * (w * (limit * limit))

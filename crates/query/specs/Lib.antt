@@ -1,3 +1,2 @@
--- What is known of a query before the search, and of a node's record that gets a bound.
-pub mod Prefixes
+-- What is known of a node's record that gets a bound.
 pub mod Bounded

@@ -10,15 +10,17 @@ use tables::records::scatter;
 use tables::records::small_at;
 use tables::records::value_at;
 ghost use mathlib.Core.Path.{_≡_};
-ghost use Prim.Native.Nat.{_*_, _^_, _≤_, _<_};
+ghost use Prim.Native.Nat.{_≤_, _<_};
 ghost use lib.ListN.{length};
+ghost use Rattle.dstree.specs.Measures.{sampleLimit};
 ghost use Rattle.dstree.specs.Figures.{run, width};
+ghost use Rattle.dstree.specs.Formed.{Limited};
 ghost use Rattle.dstree.specs.Matching.{boundOn};
 ghost use Rattle.tables.specs.Layout.{recordPlaces};
 ghost use Rattle.tables.specs.View.{segmentIn};
 ghost use Rattle.tables.specs.Runs.{Inside};
-ghost use Rattle.query.specs.Prefixes.{Prefixes};
-ghost use Rattle.query.specs.Bounded.{Limited, Bounded, boundBy};
+ghost use Rattle.prefixes.specs.Prefixes.{Prefixes};
+ghost use Rattle.query.specs.Bounded.{Bounded, boundBy, boundLimit};
 
 // The term of segment i, which is the samples `first` to `last`.
 fn segment_term(
@@ -31,11 +33,11 @@ fn segment_term(
     last: usize,
 ) -> u64
     requires { ⌜ Prefixes (now query) (now sums) (now squares) × Inside (length (now query)) first last × (length (now «record») ≡ recordPlaces)
-        × (i < 16) × Limited (width (run first last)) (segmentIn (now «record») i) ⌝ }
+        × (i < 16) × Limited sampleLimit (width (run first last)) (segmentIn (now «record») i) ⌝ }
     ensures { λ r. ⌜ r ≡ boundOn (now (query .entry)) (run first last) (segmentIn (now («record» .entry)) i) ⌝ }
-    ensures size { λ r. ⌜ r ≤ 2 ^ 33 * width (run first last) ⌝ }
+    ensures size { λ r. ⌜ r ≤ boundLimit sampleLimit (width (run first last)) ⌝ }
 {
-    let f = crate::prefixes::figures_on(query, sums, squares, first, last);
+    let f = prefixes::figures_on(query, sums, squares, first, last);
     let w = (last - first + 1) as u64;
     let at = HEAD + i * SEGMENT;
     let least_sum = value_at(record, at + LEAST_SUM);
@@ -53,11 +55,11 @@ fn segment_term(
     )
 }
 
-// A node's own bound: the terms of its segments, totalled. It is at most 2^41, so that a key of bound * 8192 + number fits 64 bits.
+// A node's own bound: the terms of its segments, totalled. Its size is told so that a key that holds it is known to fit 64 bits.
 pub fn own_bound(record: &[i64], query: &[i16], sums: &[i64; 257], squares: &[u64; 257]) -> u64
     requires { ⌜ Prefixes (now query) (now sums) (now squares) × Bounded (now «record») (length (now query)) ⌝ }
     ensures { λ r. ⌜ r ≡ boundBy (now (query .entry)) (now («record» .entry)) ⌝ }
-    ensures size { λ r. ⌜ r ≤ 2 ^ 41 ⌝ }
+    ensures size { λ r. ⌜ r ≤ boundLimit sampleLimit 256 ⌝ }
 {
     let count = small_at(record, SEGMENTS);
     let mut total: u64 = 0;

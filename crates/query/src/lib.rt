@@ -1,3 +1,2 @@
-// What a query needs, worked out once, and a node's own bound for it.
+// A node's own bound for a query.
 pub mod bound;
-pub mod prefixes;

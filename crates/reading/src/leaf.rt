@@ -1,7 +1,7 @@
 // The distances of a leaf's traces.
 ghost use mathlib.Core.Path.{_≡_};
 ghost use mathlib.Core.List.{map, foldl};
-ghost use Prim.Native.Nat.{_+_, _*_, _^_, _≤_};
+ghost use Prim.Native.Nat.{_+_, _*_, _≤_};
 ghost use lib.ListN.{length};
 ghost use Rattle.segment.specs.Figures as figure;
 ghost use Rattle.dstree.specs.Matching.{bestWith};
@@ -9,15 +9,12 @@ ghost use Rattle.tables.specs.View.{traceIn};
 ghost use Rattle.tables.specs.Walk.{numbersOf, Stored};
 ghost use Rattle.reading.specs.Nearest.{bestOf, nearOf};
 
-// The distance of stored trace t to the query. Trace t lies at t * n.
+// The distance of stored trace t to the query.
 pub fn trace_distance(samples: &[i16], n: usize, t: usize, query: &[i16]) -> u64
     requires { ⌜ (n ≤ 256) × (t * n + n ≤ length (now samples)) × (length (now query) ≡ n) ⌝ }
     ensures { λ r. ⌜ r ≡ figure.distance (now (query .entry)) (traceIn (now (samples .entry)) n t) ⌝ }
-    ensures size { λ r. ⌜ r ≤ 2 ^ 32 * n ⌝ }
 {
-    let a = t * n;
-    let e = a + n;
-    segment::figures::distance(query, &samples[a..e])
+    segment::figures::distance(query, tables::runs::trace_at(samples, n, t))
 }
 
 // What a leaf's reading leaves: the nearest trace, and how many traces were read.

@@ -26,7 +26,7 @@ pub fn search_all(
 {
     let mut sums: [i64; 257] = [0; 257];
     let mut squares: [u64; 257] = [0; 257];
-    query::prefixes::prefix_sums(query, &mut sums, &mut squares);
+    prefixes::prefix_sums(query, &mut sums, &mut squares);
     let count = tables::numbers::wide(field(control, NODE_COUNT));
     let seen = crate::visiting::visit(
         control,

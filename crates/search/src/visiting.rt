@@ -8,7 +8,7 @@ ghost use mathlib.Core.Path.{_≡_};
 ghost use Prim.Native.Nat.{_≤_};
 ghost use lib.ListN.{length};
 ghost use Rattle.tables.specs.Tables.{nodeCount};
-ghost use Rattle.query.specs.Prefixes.{Prefixes};
+ghost use Rattle.prefixes.specs.Prefixes.{Prefixes};
 ghost use Rattle.reading.specs.Nearest.{bestOf};
 ghost use Rattle.search.specs.Searched.{made, Ready, Visited};
 

@@ -9,8 +9,8 @@ use lib.ListN.{length, drop}
 use mir.Syntax.{w64}
 use mir.Facts.{toZ-ofZ}
 use denote.Ref.{now}
-use borrow.Author.Needs.{needs, sfits-of}
-use Rattle.integer.proofs.Width.{read}
+use borrow.Author.Needs.{needs}
+use Rattle.integer.proofs.Width.{of-mag, read}
 use Rattle.segment.specs.Figures.{sum, scatter}
 use Rattle.tables.specs.Layout.{headPlaces, recordPlaces}
 use Rattle.tables.specs.Tables.{filled}
@@ -22,31 +22,32 @@ use Rattle.insertion.proofs.heads.first_record.Tie as tie
 
 write-segment-requires : tie.Need-write-segment-requires
 write-segment-requires c κs =
-    let s = c .before .before .before .before .before .before .before .before .before in
+    let f = c .before .before .before .figures-of in
+    let s = c .before .before .before .before .before .before .before .before .before .before in
     let w : ℕ = length (now (s .args .trace)) in
     let few : w ≤ 256 = s .pre .1 in
-    let m : c .before .scatter .result ≤ 2 ^ 30 * (w * w) = c .before .scatter .ensures .1 in
-    let most : c .before .scatter .result ≤ 2 ^ 54 = omega (arith, mul-le-mul few few) in
+    let m : f .result .scatter ≤ 2 ^ 30 * (w * w) = f .ensures .1 .1 in
+    let most : f .result .scatter ≤ 2 ^ 54 = omega (arith, mul-le-mul few few) in
     (search needs, omega arith, omega arith, most, most)
 
 returns : tie.Need-returns
 returns c =
-    let k = c .before .before .before in
-    let s = k .before .before .before .before .before .before .before .before in
+    let k = c .before .before .before .before .before in
+    let f = k .figures-of .result in
+    let s = k .before .before .before .before .before .before .before in
     let r = now (s .args .«record») in
     let x = now (s .args .trace) in
-    let zeros : k .before .before .before .before .before .before .zero-nodes .last .0 ≡ filled recordPlaces (pos 0) r = k .before .before .before .before .before .before .zero-nodes .ensures in
-    let headed : k .before .before .before .write-leaf-head .last .0 ≡ leafHead 1 0 ++ drop headPlaces (filled recordPlaces (pos 0) r) =
-    k .before .before .before .write-leaf-head .ensures ∙ ap (λ (l : List ℤ). leafHead 1 0 ++ drop headPlaces l) zeros in
-    let z : read w64 (k .before .sum .result) ≡ sum x = toZ-ofZ (sfits-of {w = w64} {z = k .before .sum .result} (k .before .sum .ok)) ∙ k .before .sum .ensures .0 in
-    let v : k .scatter .result ≡ scatter x = k .scatter .ensures .0 in
-    let e : c .before .write-segment .last .0 ≡ withSegment (k .before .before .before .write-leaf-head .last .0) 0
-    (segmentBy (length x) (read w64 (k .before .sum .result)) (read w64 (k .before .sum .result)) (k .scatter .result) (k .scatter .result)) = c .before .write-segment .ensures in
+    let zeros : k .before .before .before .before .before .zero-nodes .last .0 ≡ filled recordPlaces (pos 0) r = k .before .before .before .before .before .zero-nodes .ensures in
+    let headed : k .before .before .write-leaf-head .last .0 ≡ leafHead 1 0 ++ drop headPlaces (filled recordPlaces (pos 0) r) =
+    k .before .before .write-leaf-head .ensures ∙ ap (λ (l : List ℤ). leafHead 1 0 ++ drop headPlaces l) zeros in
+    let z : read w64 (f .sum) ≡ sum x = toZ-ofZ (of-mag {w = w64} (f .sum) (c .before .before .before .struct-told .given .0 .1)) ∙ k .figures-of .ensures .0 .0 in
+    let v : f .scatter ≡ scatter x = k .figures-of .ensures .1 .0 in
+    let e : c .before .write-segment .last .0 ≡ withSegment (k .before .before .write-leaf-head .last .0) 0
+    (segmentBy (length x) (read w64 (f .sum)) (read w64 (f .sum)) (f .scatter) (f .scatter)) = c .before .write-segment .ensures in
     e ∙ rw (headed, z, v) (first-is r x (s .pre .0))
 
 pub first-record-spec : {M : Type 1} → statement M
 first-record-spec =
     tie.close
     (tie.spec
-    (λ c κs. search needs) (λ c κs. search needs) (λ c κs. search needs) (λ c κs. search needs) write-segment-requires
-    (λ c. search needs) returns)
+    (λ c κs. search needs) (λ c κs. search needs) (λ c κs. search needs) write-segment-requires (λ c. search needs) returns)

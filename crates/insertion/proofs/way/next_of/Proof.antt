@@ -22,7 +22,7 @@ goes-left-requires c κs =
     let k = c .before .before in
     let s = k .before .before in
     let e : k .before .small-at .result ≡ smallAt (now (s .args .«record»)) kindPlace = k .before .small-at .ensures in
-    s .pre .2 (omega (arith, k .if1 .left))
+    (s .pre .0, s .pre .1 .2 (omega (arith, k .if1 .left)))
 
 returns-2 : tie.Need-returns-2
 returns-2 c =
@@ -35,7 +35,7 @@ returns-2 c =
     let right : c .before .before .small-at3 .result ≡ smallAt r rightPlace = c .before .before .small-at3 .ensures in
     let goes : c .before .goes-left .result ≡ goesLeft (testIn r (figureIn r)) x = c .before .goes-left .ensures in
     let which : c .either .result ≡ (if goesLeft (testIn r (figureIn r)) x then smallAt r firstPlace else smallAt r rightPlace) = c .either .ensures ∙ rw (goes, left, right) in
-    which ∙ sym (ap orZero (child-inner r x (smallAt r kindPlace) (s .pre .1) (λ z. k .if1 .left (e ∙ z))))
+    which ∙ sym (ap orZero (child-inner r x (smallAt r kindPlace) (s .pre .1 .1) (λ z. k .if1 .left (e ∙ z))))
 
 pub next-of-spec : {M : Type 1} → statement M
 next-of-spec =

@@ -19,10 +19,10 @@ use Rattle.insertion.proofs.widening.widen_record.Statement.{statement}
 use Rattle.insertion.proofs.widening.widen_record.Tie as tie
 
 abbrev Inv-loop : tie.InvT-loop
-Inv-loop record₀ trace count first₀ i₀ «record» first i = (i ≤ count) × (first ≡ startIn record₀ i) × («record» ≡ partly trace record₀ i)
+Inv-loop record₀ trace sums squares count first₀ i₀ «record» first i = (i ≤ count) × (first ≡ startIn record₀ i) × («record» ≡ partly trace record₀ i)
 
 abbrev μ-loop : tie.MeasureT-loop
-μ-loop record₀ trace count first₀ i₀ «record» first i = count - i
+μ-loop record₀ trace sums squares count first₀ i₀ «record» first i = count - i
 
 -- what a turn of the loop knows of the record at first, and of the record as it is
 module _ (c : tie.In-loop Inv-loop μ-loop) where
@@ -36,13 +36,13 @@ module _ (c : tie.In-loop Inv-loop μ-loop) where
   inside = omega (arith, c .before .before .small-at .ensures)
 
   room : segmentAt (suc (c .before .loop .i)) ≤ length old
-  room = omega (arith, inside, c .before .before .before .before .pre .few, c .before .before .before .before .pre .size)
+  room = omega (arith, inside, c .before .before .before .before .pre .1 .few, c .before .before .before .before .pre .1 .size)
 
   long : length (c .before .loop .«record») ≡ recordPlaces
-  long = ap length (c .before .loop .inv .2) ∙ (partly-length x old (c .before .loop .i) (omega (arith, room)) ∙ c .before .before .before .before .pre .size)
+  long = ap length (c .before .loop .inv .2) ∙ (partly-length x old (c .before .loop .i) (omega (arith, room)) ∙ c .before .before .before .before .pre .1 .size)
 
   readable : SegmentReadable old (c .before .loop .i) (startIn old (c .before .loop .i)) (length x)
-  readable = c .before .before .before .before .pre .segment (c .before .loop .i) inside
+  readable = c .before .before .before .before .pre .1 .segment (c .before .loop .i) inside
 
   end-is : endIn (c .before .loop .«record») (c .before .loop .i) ≡ endIn old (c .before .loop .i)
   end-is = ap (λ (r : List ℤ). endIn r (c .before .loop .i)) (c .before .loop .inv .2) ∙ end-later x old (c .before .loop .i) room
@@ -54,17 +54,20 @@ widen-segment-requires : tie.Need-widen-segment-requires Inv-loop μ-loop
 widen-segment-requires c κs =
     let k = c .before .before .before in
     let l = k .before .loop in
-    let few = k .before .before .before .before .pre .few in (
-      long k,
-      omega (arith, inside k),
-      rw (l .inv .2, l .inv .1) (readable-later (x k) (old k) (l .i) (room k) (startIn (old k) (l .i)) (length (x k)) (readable k)),
+    let few = k .before .before .before .before .pre .1 .few in (
+      k .before .before .before .before .pre .0,
+      (
+        long k,
+        omega (arith, inside k),
+        rw (l .inv .2, l .inv .1) (readable-later (x k) (old k) (l .i) (room k) (startIn (old k) (l .i)) (length (x k)) (readable k)),
+      ),
     )
 
 add-first : tie.Need-add-first Inv-loop μ-loop
 add-first c =
     let k = c .before .before .before .before .before in
     let e : c .before .before .before .small-at2 .result ≡ endIn (k .before .loop .«record») (k .before .loop .i) = c .before .before .before .small-at2 .ensures in
-    omega (arith, e ∙ end-is k, readable k .on .inside .to-n, readable k .on .narrow)
+    omega (arith, e ∙ end-is k, readable k .on .to-n, k .before .before .before .before .pre .0 .few)
 
 loop-again : tie.Need-loop-again Inv-loop μ-loop
 loop-again c =
@@ -87,7 +90,7 @@ same-length c =
     let s = c .before .before .before .before in
     let l = c .before .loop in
     let e : c .before .before .small-at .result ≡ smallAt (now (s .args .«record»)) segmentsPlace = c .before .before .small-at .ensures in
-    ap length (l .inv .2) ∙ partly-length (now (s .args .trace)) (now (s .args .«record»)) (l .i) (omega (arith, s .pre .few, s .pre .size))
+    ap length (l .inv .2) ∙ partly-length (now (s .args .trace)) (now (s .args .«record»)) (l .i) (omega (arith, s .pre .1 .few, s .pre .1 .size))
 
 returns : tie.Need-returns Inv-loop μ-loop
 returns c =
@@ -101,6 +104,6 @@ pub widen-record-spec : {M : Type 1} → statement M
 widen-record-spec =
     tie.close
     (tie.spec
-    Inv-loop μ-loop (λ c κs. (c .before .pre .size, omega arith)) loop-holds (λ c. omega arith) (λ c. omega arith)
+    Inv-loop μ-loop (λ c κs. (c .before .pre .1 .size, omega arith)) loop-holds (λ c. omega arith) (λ c. omega arith)
     (λ c κs. (long (c .before), omega arith)) widen-segment-requires add-first (λ c. omega arith) (λ c. omega arith)
     loop-again same-length returns)

@@ -43,7 +43,7 @@ node-key-requires c κs =
     let s = c .before .before .before in
     let j = c .node-small2 .result in
     let h = right-inside c in
-    (walkable s .record-room j h, fits s j h, s .pre .1 .1, s .pre .0 .1, walkable s .bounded j h)
+    (walkable s .record-room j h, omega (arith, fits s j h), s .pre .1 .1, s .pre .0 .1, walkable s .bounded j h)
 
 node-key-requires-2 : tie.Need-node-key-requires-2
 node-key-requires-2 c κs =
@@ -51,7 +51,7 @@ node-key-requires-2 c κs =
     let s = a .before .before in
     let j = a .node-small .result in
     let h = left-inside a in
-    (walkable s .record-room j h, fits s j h, s .pre .1 .1, s .pre .0 .1, walkable s .bounded j h)
+    (walkable s .record-room j h, omega (arith, fits s j h), s .pre .1 .1, s .pre .0 .1, walkable s .bounded j h)
 
 push-requires : tie.Need-push-requires
 push-requires c κs = let s = c .before .before .before .before .before .before in (omega (arith, s .pre .0 .2), s .pre .0 .3)

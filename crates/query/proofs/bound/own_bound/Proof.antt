@@ -1,15 +1,16 @@
 -- `query::bound::own_bound` meets its contract: the total, and the terms of the segments that are left, make the whole bound. A term is at most 2^33 for
--- each of its samples.
+-- each of its samples (`boundLimit`).
 use mathlib.Core.Path.{_≡_, sym, ap, subst}
-use Prim.Native.Nat.{_+_, _*_, _-_, _^_, _≤_}
+use Prim.Native.Nat.{ℕ, _+_, _-_, _≤_}
 use native.Mathlib.Omega.{arith}
 use lib.ListN.{length}
+use Rattle.dstree.specs.Measures.{sampleLimit}
 use Rattle.dstree.specs.Node.{totalOver}
 use Rattle.dstree.specs.Matching.{boundOn}
 use Rattle.tables.specs.Layout.{segmentsPlace}
 use Rattle.tables.specs.View.{smallAt, segmentsIn}
-use Rattle.query.specs.Bounded.{AllLimited, boundBy}
-use Rattle.query.proofs.Own.{segmentsAfter, Next, next-at, bound-more, bound-end, after-start}
+use Rattle.query.specs.Bounded.{boundBy, boundLimit}
+use Rattle.query.proofs.Own.{segmentsAfter, Left, Next, next-at, bound-more, bound-end, after-start, few-segments, left-all}
 use Rattle.query.proofs.bound.own_bound.Statement.{statement}
 use Rattle.query.proofs.bound.own_bound.Tie as tie
 
@@ -18,9 +19,9 @@ Inv-loop «record» query sums squares count total₀ first₀ i₀ total first 
     (i ≤ count)
     × (1 ≤ first)
     × (total + totalOver (boundOn query) first (segmentsAfter «record» count i) ≡ boundBy query «record»)
-    × (total + 2 ^ 33 ≤ 2 ^ 33 * first)
+    × (total + boundLimit sampleLimit 1 ≤ boundLimit sampleLimit first)
     × (first ≤ length query + 1)
-    × AllLimited (length query) first (segmentsAfter «record» count i)
+    × Left «record» (length query) count first i
 
 abbrev μ-loop : tie.MeasureT-loop
 μ-loop «record» query sums squares count total₀ first₀ i₀ total first i = count - i
@@ -29,6 +30,7 @@ small-at-requires : tie.Need-small-at-requires Inv-loop μ-loop
 small-at-requires c κs = (c .pre .1 .places, omega arith)
 
 loop-holds : tie.Need-loop-holds Inv-loop μ-loop
+unfolding sampleLimit boundLimit
 loop-holds c =
     let s = c .before in
     let r = s .args .«record» .now in
@@ -39,12 +41,14 @@ loop-holds c =
       omega (arith, ap (totalOver (boundOn (s .args .query .now)) 1) a),
       omega arith,
       omega arith,
-      subst (AllLimited (length (s .args .query .now)) 1) (sym a) (s .pre .1 .limited),
+      subst (λ (k : ℕ). Left r (length (s .args .query .now)) k 1 0) (sym e) (left-all r (length (s .args .query .now)) (s .pre .1)),
     )
 
 -- no more than 16 segments
 few : (c : tie.At-loop Inv-loop μ-loop) → c .before .small-at .result ≤ 16
-few c = omega (arith, c .before .small-at .ensures, c .before .before .pre .1 .few)
+few c =
+    let s = c .before .before in
+    omega (arith, c .before .small-at .ensures, few-segments (s .args .«record» .now) (length (s .args .query .now)) (s .pre .1))
 
 mul-small-at : tie.Need-mul-small-at Inv-loop μ-loop
 mul-small-at c = omega (arith, few (c .before))
@@ -72,6 +76,7 @@ segment-term-requires c κs =
     (s .pre .0, record { from-1 = c .before .before .loop .inv .1; rises = x .rises; to-n = x .to-n }, s .pre .1 .places, omega (arith, few (c .before .before)), x .limited)
 
 add-total : tie.Need-add-total Inv-loop μ-loop
+unfolding sampleLimit boundLimit
 add-total c = omega (
   arith,
   c .segment-term .ensures .1,
@@ -88,6 +93,7 @@ add-i : tie.Need-add-i Inv-loop μ-loop
 add-i c = omega (arith, few (c .before .before .before))
 
 loop-again : tie.Need-loop-again Inv-loop μ-loop
+unfolding sampleLimit boundLimit
 loop-again c =
     let s = c .before .before .before .before .before in
     let l = c .before .before .before .loop in
@@ -97,6 +103,7 @@ loop-again c =
     (omega arith, omega arith, omega (arith, l .inv .2, more, c .segment-term .ensures .0), omega (arith, l .inv .3, c .segment-term .ensures .1, x .rises), omega (arith, x .to-n), x .on)
 
 returns : tie.Need-returns Inv-loop μ-loop
+unfolding sampleLimit boundLimit
 returns c =
     let s = c .before .before .before in
     let l = c .before .loop in

@@ -2,7 +2,6 @@
 -- limits (`Own`).
 use mathlib.Core.Path.{_≡_, ap, ap₂, _∙_}
 use Prim.Native.Nat.{ℕ, suc, _+_, _-_, _≤_}
-use native.Mathlib.Nat.{mul-le-mul}
 use native.Mathlib.Omega.{arith}
 use lib.IntN.{ℤ}
 use mir.Syntax.{w64}
@@ -13,6 +12,7 @@ use Rattle.dstree.specs.Figures.{run, width}
 use Rattle.dstree.specs.Node.{Segment}
 use Rattle.dstree.specs.Matching.{boundOn}
 use Rattle.tables.specs.View.{scatterIn, segmentIn}
+use Rattle.prefixes.proofs.Cut.{sum-most, scatter-most}
 use Rattle.query.proofs.Own.{gaps-size}
 use borrow.Author.Needs.{needs}
 use Rattle.query.proofs.bound.segment_term.Statement.{statement}
@@ -57,11 +57,11 @@ segment-bound-requires c κs =
     rw (sum-read c, least-read c, greatest-read c) (
       omega arith,
       omega (arith, s .pre .1 .from-1, s .pre .1 .to-n, s .pre .0 .few),
-      omega (arith, f .ensures .1 .1 .0),
-      omega (arith, m .least-sum),
-      omega (arith, m .greatest-sum),
-      omega (arith, f .ensures .1 .1 .1, mul-le-mul w w),
-      omega (arith, least-scatter c, m .least-scatter, mul-le-mul w w),
+      omega (arith, sum-most w (f .ensures .1 .1 .0)),
+      omega (arith, sum-most w (m .least-sum)),
+      omega (arith, sum-most w (m .greatest-sum)),
+      omega (arith, scatter-most w (f .ensures .1 .1 .1)),
+      omega (arith, least-scatter c, m .scatters, scatter-most w (m .greatest-scatter)),
     )
 
 returns : tie.Need-returns
@@ -81,7 +81,7 @@ returns c =
     (scatterGap (f .result .scatter) (g .leastScatter) (g .greatestScatter)) =
     told ∙ ap₂ (λ (a b : ℕ). boundTerm (width on) (sumGap (f .result .sum) (g .leastSum) (g .greatestSum)) (scatterGap (f .result .scatter) a b)) (least-scatter k) (greatest-scatter k) in (
       e ∙ ap₂ (λ (t : ℤ) (u : ℕ). boundTerm (width on) (sumGap t (g .leastSum) (g .greatestSum)) (scatterGap u (g .leastScatter) (g .greatestScatter))) (f .ensures .0) (f .ensures .1 .0),
-      omega (arith, e, gaps-size (width on) (f .result .sum) (f .result .scatter) g (omega (arith, s .pre .1 .rises)) (f .ensures .1 .1 .0) (f .ensures .1 .1 .1) (s .pre .4)),
+      rw e (gaps-size (width on) (f .result .sum) (f .result .scatter) g (omega (arith, s .pre .1 .rises)) (f .ensures .1 .1 .0) (f .ensures .1 .1 .1) (s .pre .4)),
     )
 
 pub segment-term-spec : {M : Type 1} → statement M

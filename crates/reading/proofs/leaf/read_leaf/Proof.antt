@@ -60,7 +60,7 @@ loop-again c =
     let l = c .before .before .before .before .loop in
     let h : l .t < a .k = omega (arith, c .before .before .before .loop-test .taken) in
     let rises = behind-rises (a .links .now) (a .k) (s .pre .0 .rising) (l .t) h in
-    let d : c .before .before .trace-distance .result ≡ distance (a .query .now) (traceIn (a .samples .now) (a .n) (l .t)) = c .before .before .trace-distance .ensures .0 in
+    let d : c .before .before .trace-distance .result ≡ distance (a .query .now) (traceIn (a .samples .now) (a .n) (l .t)) = c .before .before .trace-distance .ensures in
     let e : bestOf (c .before .with-trace .result) ≡ bestWith (bestOf (l .nearest)) (nearOf (a .samples .now) (a .n) (a .query .now) (l .t)) =
     c .before .with-trace .ensures ∙ ap (λ (x : ℕ). bestWith (bestOf (l .nearest)) (near (l .t) x)) d in (
       omega (arith, c .behind .ensures, rises),

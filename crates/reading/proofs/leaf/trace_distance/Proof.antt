@@ -1,29 +1,22 @@
 -- `reading::leaf::trace_distance` meets its contract: the part that is lent is the trace.
-use mathlib.Core.Path.{_≡_, ap, _∙_}
-use mathlib.Core.List.{List}
-use Prim.Native.Nat.{ℕ, _+_, _*_, _-_}
+use mathlib.Core.Path.{_≡_, sym, ap, _∙_}
 use native.Mathlib.Omega.{arith}
-use lib.IntN.{ℤ}
-use lib.ListN.{take, drop}
-use Rattle.segment.specs.Figures.{distance}
-use Rattle.tables.specs.View.{traceIn}
 use borrow.Author.Needs.{needs}
+use denote.Ref.{now}
+use lib.ListN.{length}
+use Rattle.segment.specs.Figures.{distance}
+use Rattle.tables.proofs.Parts.{trace-length}
 use Rattle.reading.proofs.leaf.trace_distance.Statement.{statement}
 use Rattle.reading.proofs.leaf.trace_distance.Tie as tie
 
-whole : (samples : List ℤ) (n t : ℕ) → take (t * n + n - t * n) (drop (t * n) samples) ≡ traceIn samples n t
-unfolding traceIn
-whole samples n t = let w : t * n + n - t * n ≡ n = omega arith in rw w
+distance-requires : tie.Need-distance-requires
+distance-requires c κs =
+    let s = c .before in
+    let long : length (now (c .trace-at .result)) ≡ s .args .n = ap length (c .trace-at .ensures) ∙ trace-length (now (s .args .samples)) (s .args .n) (s .args .t) (s .pre .1) in
+    (s .pre .2 ∙ sym long, omega (arith, s .pre .0, s .pre .2))
 
 returns : tie.Need-returns
-returns c =
-    let s = c .before .before in
-    let a = s .args in
-    (c .distance .ensures .0 ∙ ap (distance (a .query .now)) (whole (a .samples .now) (a .n) (a .t)), omega (arith, c .distance .ensures .1, s .pre .2))
+returns c = c .distance .ensures .0 ∙ ap (distance (now (c .before .before .args .query))) (c .before .trace-at .ensures)
 
 pub trace-distance-spec : {M : Type 1} → statement M
-trace-distance-spec =
-    tie.close
-    (tie.spec
-    (λ c. search needs) (λ c. search needs) (λ c. search needs) (λ c. search needs) (λ c. search needs) (λ c. search needs)
-    (λ c κs. search needs) returns)
+trace-distance-spec = tie.close (tie.spec (λ c κs. search needs) distance-requires returns)

@@ -1,4 +1,4 @@
--- `query::prefixes::prefix_sums` meets its contract: after i turns the places 0 to i hold the sums of the first samples (`Passed`).
+-- `prefixes::prefix_sums` meets its contract: after i turns the places 0 to i hold the sums of the first samples (`Passed`).
 use mathlib.Core.Path.{ap, ap₂, _∙_}
 use Prim.Native.Nat.{_+_, _-_}
 use native.Mathlib.Omega.{arith}
@@ -9,41 +9,41 @@ use mir.Val.{SFits}
 use mir.Facts.{toZ-ofZ}
 use Rattle.integer.specs.Words.{square}
 use Rattle.integer.proofs.Width.{of-mag}
-use Rattle.query.proofs.Passed.{Passed, passed-none, sum-size, squares-size, passed-more, passed-all}
-use Rattle.query.proofs.prefixes.prefix_sums.Statement.{statement}
-use Rattle.query.proofs.prefixes.prefix_sums.Tie as tie
+use Rattle.prefixes.proofs.Passed.{Passed, passed-none, sum-size, squares-size, passed-more, passed-all}
+use Rattle.prefixes.proofs.prefix_sums.Statement.{statement}
+use Rattle.prefixes.proofs.prefix_sums.Tie as tie
 
 abbrev Inv-loop : tie.InvT-loop
-Inv-loop query sums₀ squares₀ i₀ sums squares i = Passed query sums squares i
+Inv-loop trace sums₀ squares₀ i₀ sums squares i = Passed trace sums squares i
 
 abbrev μ-loop : tie.MeasureT-loop
-μ-loop query sums₀ squares₀ i₀ sums squares i = length query - i
+μ-loop trace sums₀ squares₀ i₀ sums squares i = length trace - i
 
 loop-holds : tie.Need-loop-holds Inv-loop μ-loop
-loop-holds c = passed-none (c .args .query .now) (c .args .sums .now) (c .args .squares .now) (c .pre .1) (c .pre .2)
+loop-holds c = passed-none (c .args .trace .now) (c .args .sums .now) (c .args .squares .now) (c .pre .1) (c .pre .2)
 
 with-sample-requires : tie.Need-with-sample-requires Inv-loop μ-loop
 with-sample-requires c κs =
     let l = c .before .before .before .loop in
     rw (toZ-ofZ (of-mag {w = w64} (getD (l .sums) (l .i) (pos 0)) (c .before .with-sample-arg .given)))
-    (omega (arith, sum-size (c .before .before .before .before .args .query .now) (l .sums) (l .squares) (l .i) (l .inv), l .inv .inside, c .before .before .before .before .pre .0))
+    (omega (arith, sum-size (c .before .before .before .before .args .trace .now) (l .sums) (l .squares) (l .i) (l .inv), l .inv .inside, c .before .before .before .before .pre .0))
 
 with-square-requires : tie.Need-with-square-requires Inv-loop μ-loop
 with-square-requires c κs =
     let l = c .before .before .before .before .before .before .loop in
     let s = c .before .before .before .before .before .before .before in
-    omega (arith, squares-size (s .args .query .now) (l .sums) (l .squares) (l .i) (l .inv), l .inv .inside, s .pre .0)
+    omega (arith, squares-size (s .args .trace .now) (l .sums) (l .squares) (l .i) (l .inv), l .inv .inside, s .pre .0)
 
 loop-again : tie.Need-loop-again Inv-loop μ-loop
 loop-again c =
     let s = c .before .before .before .before .before .before .before .before in
     let l = c .before .before .before .before .before .before .before .loop in
-    let x = getD (s .args .query .now) (l .i) (pos 0) in
+    let x = getD (s .args .trace .now) (l .i) (pos 0) in
     let a = getD (l .sums) (l .i) (pos 0) in
     let here : SFits w16 x = of-mag {w = w16} x (c .before .with-square-arg2 .given) in
     let sum : SFits w64 a = of-mag {w = w64} a (c .before .before .before .before .before .with-sample-arg .given) in
     let t = c .before .before .before .with-sample in
-    passed-more (s .args .query .now) (l .sums) (l .squares) (l .i) (l .inv) (s .pre .0) (c .before .before .before .before .before .before .loop-test .taken) (c .before .with-square-arg2 .given) _ _
+    passed-more (s .args .trace .now) (l .sums) (l .squares) (l .i) (l .inv) (s .pre .0) (c .before .before .before .before .before .before .loop-test .taken) (c .before .with-square-arg2 .given) _ _
     (toZ-ofZ (of-mag {w = w64} (t .result) (t .ok)) ∙ (t .ensures ∙ ap₂ _+ℤ_ (toZ-ofZ sum) (toZ-ofZ here)))
     (c .with-square .ensures ∙ ap (λ (z : ℤ). getD (l .squares) (l .i) 0 + square z) (toZ-ofZ here))
 
@@ -51,7 +51,7 @@ returns : tie.Need-returns Inv-loop μ-loop
 returns c =
     let s = c .before .before in
     let l = c .before .loop in
-    passed-all (s .args .query .now) (l .sums) (l .squares) (l .i) (l .inv) (s .pre .0) (c .loop-test .left)
+    passed-all (s .args .trace .now) (l .sums) (l .squares) (l .i) (l .inv) (s .pre .0) (c .loop-test .left)
 
 pub prefix-sums-spec : {M : Type 1} → statement M
 prefix-sums-spec =

@@ -1,4 +1,4 @@
--- `query::prefixes::figures_on` meets its contract: what the prefix sums at the run's two ends differ by is the run's own (`Cut`).
+-- `prefixes::figures_on` meets its contract: what the prefix sums at the run's two ends differ by is the run's own (`Cut`).
 use mathlib.Core.Path.{_≡_, refl, _∙_}
 use Prim.Native.Nat.{_+_, _-_, _^_, _<_}
 use native.Mathlib.Omega.{arith}
@@ -8,10 +8,10 @@ use mir.Syntax.{w64}
 use mir.Val.{SFits}
 use Rattle.integer.proofs.Width.{of-mag, read, fits-difference, read-difference}
 use Rattle.dstree.specs.Figures.{run, sumOn, scatterOn}
-use Rattle.query.proofs.Cut as cut
+use Rattle.prefixes.proofs.Cut as cut
 use borrow.Author.Needs.{needs}
-use Rattle.query.proofs.prefixes.figures_on.Statement.{statement}
-use Rattle.query.proofs.prefixes.figures_on.Tie as tie
+use Rattle.prefixes.proofs.figures_on.Statement.{statement}
+use Rattle.prefixes.proofs.figures_on.Tie as tie
 
 -- the two prefix sums, and what is known of their difference
 high : (c : tie.After-sum) → SFits w64 (getD (c .before .args .sums .now) (c .before .args .last) (pos 0))
@@ -23,14 +23,14 @@ low c = of-mag (getD (c .before .before .args .sums .now) (c .before .before .ar
 sizes : (c : tie.After-sum2) → let a = c .before .before .args in natAbs (getD (a .sums .now) (a .last) (pos 0)) + natAbs (getD (a .sums .now) (a .first - 1) (pos 0)) < 2 ^ 63
 sizes c =
     let s = c .before .before in
-    let size = cut.prefix-size (s .args .query .now) (s .args .sums .now) (s .args .squares .now) (s .pre .0) in
+    let size = cut.prefix-size (s .args .trace .now) (s .args .sums .now) (s .args .squares .now) (s .pre .0) in
     omega (arith, size (s .args .last) (s .pre .1 .to-n), size (s .args .first - 1) (omega (arith, s .pre .1 .rises, s .pre .1 .to-n)))
 
 sum-read : (c : tie.After-sum2) → let a = c .before .before .args in
-    read w64 (read w64 (getD (a .sums .now) (a .last) (pos 0)) -ℤ read w64 (getD (a .sums .now) (a .first - 1) (pos 0))) ≡ sumOn (run (a .first) (a .last)) (a .query .now)
+    read w64 (read w64 (getD (a .sums .now) (a .last) (pos 0)) -ℤ read w64 (getD (a .sums .now) (a .first - 1) (pos 0))) ≡ sumOn (run (a .first) (a .last)) (a .trace .now)
 sum-read c =
     let s = c .before .before in
-    read-difference (high (c .before)) (low c) (sizes c) ∙ cut.sum-is (s .args .query .now) (s .args .sums .now) (s .args .squares .now) (s .pre .0) (s .args .first) (s .args .last) (s .pre .1)
+    read-difference (high (c .before)) (low c) (sizes c) ∙ cut.sum-is (s .args .trace .now) (s .args .sums .now) (s .args .squares .now) (s .pre .0) (s .args .first) (s .args .last) (s .pre .1)
 
 sub-sum : tie.Need-sub-sum
 sub-sum c = fits-difference (high (c .before)) (low c) (sizes c)
@@ -38,25 +38,25 @@ sub-sum c = fits-difference (high (c .before)) (low c) (sizes c)
 sub-total : tie.Need-sub-total
 sub-total c =
     let s = c .before .before .before .before in
-    omega (arith, cut.squares-are (s .args .query .now) (s .args .sums .now) (s .args .squares .now) (s .pre .0) (s .args .first) (s .args .last) (s .pre .1))
+    omega (arith, cut.squares-are (s .args .trace .now) (s .args .sums .now) (s .args .squares .now) (s .pre .0) (s .args .first) (s .args .last) (s .pre .1))
 
 scatter-from-requires : tie.Need-scatter-from-requires
 scatter-from-requires c κs =
     let s = c .before .before .before .before in
     rw (sum-read (c .before .before))
-    (cut.asked (s .args .query .now) (s .args .sums .now) (s .args .squares .now) (s .pre .0) (s .args .first) (s .args .last) (s .pre .1))
+    (cut.asked (s .args .trace .now) (s .args .sums .now) (s .args .squares .now) (s .pre .0) (s .args .first) (s .args .last) (s .pre .1))
 
 returns : tie.Need-returns
 returns c =
     let s = c .before .before .before .before .before in
-    let q = s .args .query .now in
+    let q = s .args .trace .now in
     let a = s .args .sums .now in
     let b = s .args .squares .now in
     let is = sum-read (c .before .before .before) in
     let e : c .scatter-from .result ≡ scatterOn (run (s .args .first) (s .args .last)) q =
     (rw is at (c .scatter-from .ensures)) ∙ cut.answered q a b (s .pre .0) (s .args .first) (s .args .last) (s .pre .1) in
     rw is
-    (refl, (e, (cut.sum-size q a b (s .pre .0) (s .args .first) (s .args .last) (s .pre .1), omega (arith, e, cut.scatter-size q a b (s .pre .0) (s .args .first) (s .args .last) (s .pre .1)))))
+    (refl, (e, (cut.sum-size q a b (s .pre .0) (s .args .first) (s .args .last) (s .pre .1), rw e (cut.scatter-size q a b (s .pre .0) (s .args .first) (s .args .last) (s .pre .1)))))
 
 pub figures-on-spec : {M : Type 1} → statement M
 figures-on-spec =

@@ -1,4 +1,4 @@
--- `query::prefixes::with_sample` meets its contract: the sample is widened, and the sum has at most 41 bits.
+-- `prefixes::with_sample` meets its contract: the sample is widened, and the sum has at most 41 bits.
 use mathlib.Core.Path.{_≡_, ap₂}
 use native.Mathlib.Omega.{arith}
 use lib.IntN.{_+ℤ_}
@@ -7,8 +7,8 @@ use mir.Val.{SFits}
 use mir.Facts.{toZ-ofZ}
 use Rattle.integer.proofs.Order.{natAbs-add}
 use Rattle.integer.proofs.Width.{small, size, read, read-wider, fits-wider}
-use Rattle.query.proofs.prefixes.with_sample.Statement.{statement}
-use Rattle.query.proofs.prefixes.with_sample.Tie as tie
+use Rattle.prefixes.proofs.with_sample.Statement.{statement}
+use Rattle.prefixes.proofs.with_sample.Tie as tie
 
 cast-result : tie.Need-cast-result
 cast-result c = fits-wider tt (c .fits .x)

@@ -1,12 +1,12 @@
--- `query::prefixes::with_square` meets its contract: a sample of 16 bits has a square of at most 31.
+-- `prefixes::with_square` meets its contract: a sample of 16 bits has a square of at most 31.
 use mathlib.Core.Path.{_≡_, ap, _∙_}
 use native.Mathlib.Nat.{mul-le-mul}
 use native.Mathlib.Omega.{arith}
 use mir.Syntax.{w64}
 use Rattle.integer.specs.Words.{square}
 use Rattle.integer.proofs.Width.{size, read-wider, fits-wider}
-use Rattle.query.proofs.prefixes.with_square.Statement.{statement}
-use Rattle.query.proofs.prefixes.with_square.Tie as tie
+use Rattle.prefixes.proofs.with_square.Statement.{statement}
+use Rattle.prefixes.proofs.with_square.Tie as tie
 
 cast-square : tie.Need-cast-square
 cast-square c = fits-wider tt (c .fits .x)

@@ -1,0 +1,2 @@
+-- What is known of a trace's sums.
+pub mod Prefixes

@@ -1,0 +1,84 @@
+// A trace's sums over its first samples, from which its figures on any run follow without a look at the samples.
+use segment::figures::Figures;
+ghost use mathlib.Core.Path.{_≡_};
+ghost use Prim.Native.Nat.{_+_, _^_, _≤_};
+ghost use lib.IntN.{natAbs, _+ℤ_};
+ghost use lib.ListN.{length};
+ghost use Rattle.integer.specs.Words.{square};
+ghost use Rattle.segment.specs.Limits.{sumLimit, scatterLimit};
+ghost use Rattle.dstree.specs.Measures.{sampleLimit};
+ghost use Rattle.dstree.specs.Figures.{run, width, sumOn, scatterOn};
+ghost use Rattle.dstree.specs.Node.{figureOf};
+ghost use Rattle.tables.specs.Runs.{figureBy, Inside};
+ghost use Rattle.prefixes.specs.Prefixes.{Prefixes};
+
+// A sum and one sample more.
+fn with_sample(sum: i64, x: i16) -> i64
+    requires { ⌜ natAbs sum ≤ 2 ^ 40 ⌝ }
+    ensures { λ r. ⌜ r ≡ sum +ℤ x ⌝ }
+{
+    sum + (x as i64)
+}
+
+// A sum of squares and one sample's more.
+fn with_square(squares: u64, x: i16) -> u64
+    requires { ⌜ squares ≤ 2 ^ 40 ⌝ }
+    ensures { λ r. ⌜ r ≡ squares + square x ⌝ }
+{
+    squares + segment::figures::square(x as i64)
+}
+
+// The sum and the sum of squares of the first i samples, at place i, from none of them to all. Sums that start at 1 do not meet this.
+pub fn prefix_sums(trace: &[i16], sums: &mut [i64; 257], squares: &mut [u64; 257])
+    requires { ⌜ (length (now trace) ≤ 256) × (length (now sums) ≡ 257) × (length (now squares) ≡ 257) ⌝ }
+    ensures { λ _. ⌜ Prefixes (now (trace .entry)) (now (sums .exit)) (now (squares .exit)) ⌝ }
+{
+    sums[0] = 0;
+    squares[0] = 0;
+    let mut i: usize = 0;
+    while i < trace.len() {
+        sums[i + 1] = with_sample(sums[i], trace[i]);
+        squares[i + 1] = with_square(squares[i], trace[i]);
+        i += 1;
+    }
+}
+
+// The figures on the samples `first` to `last`. The trace is not read: it says whose sums these are.
+pub fn figures_on(
+    trace: &[i16],
+    sums: &[i64; 257],
+    squares: &[u64; 257],
+    first: usize,
+    last: usize,
+) -> Figures
+    requires { ⌜ Prefixes (now trace) (now sums) (now squares) × Inside (length (now trace)) first last ⌝ }
+    ensures sum { λ r. ⌜ r .sum ≡ sumOn (run first last) (now (trace .entry)) ⌝ }
+    ensures scatter { λ r. ⌜ r .scatter ≡ scatterOn (run first last) (now (trace .entry)) ⌝ }
+    ensures size { λ r. ⌜ (natAbs (r .sum) ≤ sumLimit sampleLimit (width (run first last))) × (r .scatter ≤ scatterLimit sampleLimit (width (run first last))) ⌝ }
+{
+    let before = first - 1;
+    let sum = sums[last] - sums[before];
+    let total = squares[last] - squares[before];
+    let w = (last - before) as u64;
+    Figures {
+        sum,
+        scatter: segment::figures::scatter_from(w, sum, total),
+    }
+}
+
+// The one or the other, as a number with a sign, as records hold it.
+pub fn figure_on(
+    trace: &[i16],
+    sums: &[i64; 257],
+    squares: &[u64; 257],
+    first: usize,
+    last: usize,
+    by_scatter: bool,
+) -> i64
+    requires { ⌜ Prefixes (now trace) (now sums) (now squares) × Inside (length (now trace)) first last ⌝ }
+    ensures { λ r. ⌜ r ≡ figureOf (figureBy «by_scatter») (run first last) (now (trace .entry)) ⌝ }
+    ensures size { λ r. ⌜ natAbs r ≤ scatterLimit sampleLimit 256 ⌝ }
+{
+    let f = figures_on(trace, sums, squares, first, last);
+    if by_scatter { f.scatter as i64 } else { f.sum }
+}

@@ -2,8 +2,7 @@
 -- The idea: each record reads as its node, and the rules for well-formed tables say of the node what code needs of the record.
 use mathlib.Core.Path.{_≡_, refl, sym, ap, subst, _∙_}
 use mathlib.Core.List.{List, _∷_, map}
-use Prim.Native.Nat.{ℕ, zero, suc, _+_, _*_, _^_, _≤_, _<_}
-use native.Mathlib.Nat.{mul-le-mul}
+use Prim.Native.Nat.{ℕ, zero, suc, _+_, _≤_, _<_}
 use native.Mathlib.Omega.{arith}
 use lib.IntN.{ℤ}
 use lib.ListN.{length, length-map}
@@ -11,7 +10,6 @@ use lib.Dec.{T}
 use Rattle.integer.specs.Words.{counting}
 use Rattle.integer.proofs.Lists.{first, later}
 use Rattle.integer.proofs.Times.{counting-length}
-use Rattle.segment.specs.Limits.{scatterLimit}
 use Rattle.dstree.specs.Measures.{sampleLimit}
 use Rattle.dstree.specs.Figures.{run, width}
 use Rattle.dstree.specs.Node.{Segment, Test, Kind, inner, Tree, nodeAt, ends}
@@ -22,6 +20,7 @@ use Rattle.dstree.specs.Matching.{hasChild}
 use Rattle.tables.specs.Layout.{kindPlace, segmentsPlace, runFirstPlace, runLastPlace, recordPlaces}
 use Rattle.tables.specs.Tables.{Tables, measuresOf, traceCount, nodeCount, recordOf}
 use Rattle.tables.specs.View.{smallAt, segmentIn, segmentsIn, testIn, treeIn, wellFormed}
+use Rattle.prefixes.proofs.Cut.{scatter-most}
 use Rattle.insertion.specs.Widening.{endIn, startIn, SegmentReadable, Readable}
 use Rattle.insertion.specs.Way.{Passable, Descendable}
 use Rattle.insertion_memory.specs.Memory.{treeTables}
@@ -49,10 +48,6 @@ limited-first (l-more h l) = h
 limited-rest : {limit from : ℕ} {s : Segment} {rest : List Segment} → AllLimited limit from (s ∷ rest) → AllLimited limit (suc (s .end)) rest
 limited-rest (l-more h l) = l
 
-scatter-few : (w v : ℕ) → w ≤ 256 → v ≤ scatterLimit sampleLimit w → v ≤ 2 ^ 54
-unfolding scatterLimit sampleLimit
-scatter-few w v h g = let m : w * w ≤ 256 * 256 = mul-le-mul h h in omega (arith, g, m)
-
 many-ends : (r : List ℤ) (k a : ℕ) → length (ends (map (segmentIn r) (counting k a))) ≡ k
 many-ends r k a = length-map (map (segmentIn r) (counting k a)) (λ (s : Segment). s .end) ∙ (length-map (counting k a) (segmentIn r) ∙ counting-length k a)
 
@@ -62,8 +57,8 @@ module _ (r : List ℤ) (n : ℕ) (narrow : n ≤ 256) where
   one-readable : (a begin : ℕ) → 1 ≤ begin → (begin ≤ endIn r a) × (endIn r a ≤ n) → Limited sampleLimit (width (run begin (endIn r a))) (segmentIn r a) → SegmentReadable r a begin n
   one-readable a begin low p l = record {
     on = record { from-1 = low; rises = p .0; to-n = p .1 };
-    least-scatter = omega (arith, l .scatters, scatter-few (width (run begin (endIn r a))) (segmentIn r a .greatestScatter) (omega (arith, low, p .1)) (l .greatest-scatter));
-    greatest-scatter = scatter-few (width (run begin (endIn r a))) (segmentIn r a .greatestScatter) (omega (arith, low, p .1)) (l .greatest-scatter);
+    least-scatter = omega (arith, l .scatters, scatter-most (omega (arith, low, p .1)) (l .greatest-scatter));
+    greatest-scatter = omega (arith, scatter-most (omega (arith, low, p .1)) (l .greatest-scatter));
   }
 
   all-readable : (k a : ℕ) → 1 ≤ startIn r a → Parted n (startIn r a) (ends (map (segmentIn r) (counting k a)))
@@ -122,7 +117,11 @@ module _ (t : Tables) (w : T (wellFormed t)) (long : Long t) (some : 0 < length 
       record {
         test = record {
           size = size;
-          on = record { from-1 = omega (arith, from, ok .from-1); rises = omega (arith, from, to, ok .run-rises); to-n = omega (arith, to, ok .to-n) };
+          on = record {
+            from-1 = omega (arith, from, ok .from-1);
+            rises = omega (arith, from, to, ok .run-rises);
+            to-n = omega (arith, to, ok .to-n);
+          };
         };
         left-above = omega (arith, p, l);
         left-below = omega (arith, p, l, node-count t w);

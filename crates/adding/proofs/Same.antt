@@ -19,7 +19,7 @@ use Rattle.tables.specs.Layout.{kindPlace, firstPlace}
 use Rattle.tables.specs.Tables.{Tables, measuresOf, traceCount, nodeCount, recordOf}
 use Rattle.tables.specs.View.{smallAt, numbersFrom, kindIn, treeIn, tracesIn, wellFormed}
 use Rattle.tables.specs.Walk.{storedIn, numbersOf}
-use Rattle.insertion.specs.Way.{wayIn, Descendable}
+use Rattle.insertion.specs.Way.{wayIn, leafBy, widenedBy, Descendable}
 use Rattle.insertion.proofs.Down.{way-same}
 use Rattle.insertion_memory.specs.Records.{widenRecord}
 use Rattle.insertion_memory.specs.Links.{joined}
@@ -31,7 +31,7 @@ use Rattle.insertion_memory.proofs.Widening.{widen-represents}
 use Rattle.insertion_memory.proofs.FromTables.{Long, facts, node-count, space}
 use Rattle.insertion_memory.proofs.Meaning.{joined-tables}
 use Rattle.splitting.specs.Represented.{Represented}
-use Rattle.adding.specs.Inserting.{leafBy, widenedBy, headBy, linkedBy, joinedBy, insertedBy, Joins, Inserts}
+use Rattle.adding.specs.Inserting.{headBy, linkedBy, joinedBy, insertedBy, Joins, Inserts}
 use Rattle.adding.proofs.Ready.{represents, descendable}
 
 leaf-zero : {links : List ℕ} {r : List ℤ} {ns : List ℕ} → Means links r (leaf ns) → smallAt r kindPlace ≡ 0

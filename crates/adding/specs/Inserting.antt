@@ -1,28 +1,20 @@
 -- A stored trace joins nodes and links, by the way that the records have. That this is what adding does to tables, `proofs/Same` shows.
 use Prim.Native.Nat.{ℕ, zero, suc, _≤_, _<_}
 use mathlib.Core.Path.{_≡_}
-use mathlib.Core.List.{List, [], _∷_, foldl}
+use mathlib.Core.List.{List, [], _∷_}
 use lib.IntN.{ℤ}
 use lib.ListN.{length, set}
-use Rattle.integer.specs.Words.{lastOf}
 use Rattle.dstree.specs.Measures.{Trace}
 use Rattle.dstree.specs.Adding.{segmentsOf}
 use Rattle.tables.specs.Layout.{firstPlace, recordPlaces}
 use Rattle.tables.specs.Tables.{recordOf, withRecord}
 use Rattle.tables.specs.View.{smallAt}
 use Rattle.tables.specs.Walk.{storedIn, numbersOf, Rising}
-use Rattle.insertion.specs.Way.{wayIn, Descendable}
-use Rattle.insertion_memory.specs.Records.{leafRecord, widenRecord}
+use Rattle.insertion.specs.Way.{leafBy, widenedBy, Descendable}
+use Rattle.insertion_memory.specs.Records.{leafRecord}
 use Rattle.insertion_memory.specs.Links.{joined}
-use Rattle.insertion_memory.specs.Memory.{TreeTables, treeTables, onRecord, splitAllOf}
+use Rattle.insertion_memory.specs.Memory.{TreeTables, treeTables, splitAllOf}
 use Rattle.splitting.specs.Represented.{Represented}
-
--- the leaf that a trace comes to, and the records widened on the way
-abbrev pub leafBy : List ℤ → Trace → ℕ → ℕ
-leafBy nodes x count = lastOf (wayIn nodes count x 0)
-
-abbrev pub widenedBy : List ℤ → Trace → ℕ → List ℤ
-widenedBy nodes x count = foldl (onRecord (widenRecord x)) nodes (wayIn nodes count x 0)
 
 -- the leaf's first trace
 abbrev pub headBy : List ℤ → Trace → ℕ → ℕ

@@ -9,7 +9,8 @@ ghost use lib.ListN.{length, set};
 ghost use Rattle.tables.specs.Layout.{controlFields, traceCountPlace, nodeCountPlace};
 ghost use Rattle.tables.specs.Walk.{storedIn};
 ghost use Rattle.insertion_memory.specs.Memory.{treeTables, splitAllOf};
-ghost use Rattle.adding.specs.Inserting.{leafBy, joinedBy, insertedBy, Joins, Inserts};
+ghost use Rattle.insertion.specs.Way.{leafBy};
+ghost use Rattle.adding.specs.Inserting.{joinedBy, insertedBy, Joins, Inserts};
 
 // A later trace. Its number is k, the number of traces before it, and its samples are stored. The answer is how many nodes there are then.
 pub fn insert_more(

@@ -3,17 +3,19 @@
 use Prim.Native.Nat.{ℕ, zero, suc, _*_, _≤_, _<_}
 use mathlib.Core.Path.{_≡_}
 use mathlib.Core.Option.{Option, none, some}
-use mathlib.Core.List.{List, [], _∷_}
+use mathlib.Core.List.{List, [], _∷_, foldl}
 use lib.IntN.{ℤ}
 use lib.ListN.{length}
 use lib.Dec.{eqb}
-use Rattle.integer.specs.Words.{if_then_else_}
+use Rattle.integer.specs.Words.{if_then_else_, lastOf}
 use Rattle.dstree.specs.Measures.{Trace}
 use Rattle.dstree.specs.Node.{Figure, bySum, byScatter, goesLeft}
 use Rattle.tables.specs.Layout.{kindPlace, firstPlace, rightPlace, runFirstPlace, runLastPlace, recordPlaces}
 use Rattle.tables.specs.Tables.{recordOf}
 use Rattle.tables.specs.View.{smallAt, testIn}
 use Rattle.tables.specs.Runs.{figureBy, Inside}
+use Rattle.insertion_memory.specs.Records.{widenRecord}
+use Rattle.insertion_memory.specs.Memory.{onRecord}
 use Rattle.insertion.specs.Widening.{Readable}
 
 -- sum or scatter, by a kind field: 1 by sum, 2 by scatter
@@ -39,6 +41,13 @@ orZero (some child) = child
 unfoldable pub wayIn : List ℤ → ℕ → Trace → ℕ → List ℕ
 wayIn nodes zero x at = []
 wayIn nodes (suc fuel) x at = at ∷ elim (nextIn (recordOf nodes at) x) [ none ↦ [] | some child ↦ wayIn nodes fuel x child ]
+
+-- the leaf that a trace comes to, and the records widened on the way
+abbrev pub leafBy : List ℤ → Trace → ℕ → ℕ
+leafBy nodes x count = lastOf (wayIn nodes count x 0)
+
+abbrev pub widenedBy : List ℤ → Trace → ℕ → List ℤ
+widenedBy nodes x count = foldl (onRecord (widenRecord x)) nodes (wayIn nodes count x 0)
 
 -- ---- what has to hold so that code can go down
 

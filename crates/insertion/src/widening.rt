@@ -38,7 +38,8 @@ pub fn widen_segment(
     squares: &[u64; 257],
 )
     requires { ⌜ Prefixes (now trace) (now sums) (now squares) ⌝ }
-    requires readable { ⌜ (length (now «record») ≡ recordPlaces) × (i < 16) × SegmentReadable (now «record») i first (length (now trace)) ⌝ }
+    requires readable { ⌜ (length (now «record») ≡ recordPlaces) × (i < 16)
+        × SegmentReadable (now «record») i first (length (now trace)) ⌝ }
     ensures { λ _. ⌜ now («record» .exit)
         ≡ withSegment (now («record» .entry)) i (widenSegment (now (trace .entry)) (run first (endIn (now («record» .entry)) i)) (segmentIn (now («record» .entry)) i)) ⌝ }
 {

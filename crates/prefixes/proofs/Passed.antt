@@ -24,7 +24,8 @@ pub record Passed (trace sums : List ℤ) (squares : List ℕ) (i : ℕ) : Type 
   pub sums-are : (j : ℕ) → j < i + 1 → getD sums j (pos 0) ≡ sum (take j trace)
   pub squares-are : (j : ℕ) → j < i + 1 → getD squares j 0 ≡ sumOfSquares (take j trace)
 
-pub passed-none : (trace sums : List ℤ) (squares : List ℕ) → length sums ≡ 257 → length squares ≡ 257 → Passed trace (set sums 0 (pos 0)) (set squares 0 0) 0
+pub passed-none : (trace sums : List ℤ) (squares : List ℕ) → length sums ≡ 257 → length squares ≡ 257
+    → Passed trace (set sums 0 (pos 0)) (set squares 0 0) 0
 unfolding sum sumOfSquares
 passed-none trace sums squares a b =
     record {
@@ -36,14 +37,18 @@ passed-none trace sums squares a b =
       squares-are = below-more _ 0 (λ j h. absurd (omega arith)) (getD-set-same squares 0 0 0 (omega arith));
     }
 
-module _ (trace sums : List ℤ) (squares : List ℕ) (i : ℕ) (p : Passed trace sums squares i) where
+module _ {trace sums : List ℤ} {squares : List ℕ} {i : ℕ} (p : Passed trace sums squares i) where
   pub sum-size : natAbs (getD sums i (pos 0)) ≤ 32768 * i
   unfolding sampleLimit sumLimit
-  sum-size = rw (p .sums-are i (omega arith)) (omega (arith, sum-limit sampleLimit (take i trace) (p .within), length-take-le i trace (p .inside)))
+  sum-size =
+      rw (p .sums-are i (omega arith))
+      (omega (arith, sum-limit sampleLimit (take i trace) (p .within), length-take-le i trace (p .inside)))
 
   pub squares-size : getD squares i 0 ≤ 2 ^ 30 * i
   unfolding sampleLimit
-  squares-size = rw (p .squares-are i (omega arith)) (omega (arith, squares-limit sampleLimit (take i trace) (p .within), length-take-le i trace (p .inside)))
+  squares-size =
+      rw (p .squares-are i (omega arith))
+      (omega (arith, squares-limit sampleLimit (take i trace) (p .within), length-take-le i trace (p .inside)))
 
   -- one sample more
   pub passed-more : length trace ≤ 256 → i < length trace → mag (getD trace i (pos 0)) < 2 ^ 15 → (s : ℤ) (q : ℕ)
@@ -51,8 +56,10 @@ module _ (trace sums : List ℤ) (squares : List ℕ) (i : ℕ) (p : Passed trac
       → Passed trace (set sums (i + 1) s) (set squares (i + 1) q) (i + 1)
   unfolding sampleLimit
   passed-more few l m s q es eq =
-      let e : s ≡ sum (take (i + 1) trace) = es ∙ (ap (λ (z : ℤ). z +ℤ getD trace i (pos 0)) (p .sums-are i (omega arith)) ∙ sym (sum-more trace i l)) in
-      let f : q ≡ sumOfSquares (take (i + 1) trace) = eq ∙ (ap (λ (k : ℕ). k + square (getD trace i (pos 0))) (p .squares-are i (omega arith)) ∙ sym (squares-more trace i l)) in
+      let e : s ≡ sum (take (i + 1) trace) =
+      es ∙ (ap (λ (z : ℤ). z +ℤ getD trace i (pos 0)) (p .sums-are i (omega arith)) ∙ sym (sum-more trace i l)) in
+      let f : q ≡ sumOfSquares (take (i + 1) trace) =
+      eq ∙ (ap (λ (k : ℕ). k + square (getD trace i (pos 0))) (p .squares-are i (omega arith)) ∙ sym (squares-more trace i l)) in
       record {
         inside = omega arith;
         sum-places = length-set sums (i + 1) s ∙ p .sum-places;

@@ -1,4 +1,5 @@
--- A trace's sums and sums of squares over its first samples, as code keeps them: in 257 places, of which place i is for the first i samples.
+-- A trace's sums and sums of squares over its first samples, as code keeps them: in 257 places, of which place i is for the first i
+-- samples.
 use Prim.Native.Nat.{ℕ, _≤_}
 use mathlib.Core.Path.{_≡_}
 use mathlib.Core.List.{List}

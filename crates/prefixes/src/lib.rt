@@ -54,7 +54,8 @@ pub fn figures_on(
     requires { ⌜ Prefixes (now trace) (now sums) (now squares) × Inside (length (now trace)) first last ⌝ }
     ensures sum { λ r. ⌜ r .sum ≡ sumOn (run first last) (now (trace .entry)) ⌝ }
     ensures scatter { λ r. ⌜ r .scatter ≡ scatterOn (run first last) (now (trace .entry)) ⌝ }
-    ensures size { λ r. ⌜ (natAbs (r .sum) ≤ sumLimit sampleLimit (width (run first last))) × (r .scatter ≤ scatterLimit sampleLimit (width (run first last))) ⌝ }
+    ensures size { λ r. ⌜ (natAbs (r .sum) ≤ sumLimit sampleLimit (width (run first last)))
+        × (r .scatter ≤ scatterLimit sampleLimit (width (run first last))) ⌝ }
 {
     let before = first - 1;
     let sum = sums[last] - sums[before];

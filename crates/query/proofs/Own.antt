@@ -35,7 +35,8 @@ term-size w g h p hg hh =
     let below : (g * g + h * h + (w - 1)) / w < 2 ^ 33 * w + 1 = div-lt-iff-lt-mul {k = w} {x = g * g + h * h + (w - 1)} {y = 2 ^ 33 * w + 1} p .1 most in
     omega arith
 
-pub gaps-size : (w : ℕ) (t : ℤ) (u : ℕ) (s : Segment) → 0 < w → natAbs t ≤ sumLimit sampleLimit w → u ≤ scatterLimit sampleLimit w → Limited sampleLimit w s
+pub gaps-size : (w : ℕ) (t : ℤ) (u : ℕ) (s : Segment) → 0 < w → natAbs t ≤ sumLimit sampleLimit w → u ≤ scatterLimit sampleLimit w
+    → Limited sampleLimit w s
     → boundTerm w (sumGap t (s .leastSum) (s .greatestSum)) (scatterGap u (s .leastScatter) (s .greatestScatter)) ≤ boundLimit sampleLimit w
 unfolding sampleLimit sumLimit scatterLimit
 gaps-size w t u s p ht hu l =
@@ -94,8 +95,9 @@ module _ (r : List ℤ) (count i : ℕ) (h : i < count) where
 
     pub next-at : {n first : ℕ} → Left r n count first i → Next r n count first i last
     next-at {n} {first} l =
-        subst (Next r n count first i) is-end
-        (next-of (subst (λ (s : List Segment). Rises n first (ends s)) after-more (l .rises)) (subst (AllLimited sampleLimit first) after-more (l .limited)))
+        let rises = subst (λ (s : List Segment). Rises n first (ends s)) after-more (l .rises) in
+        let limited = subst (AllLimited sampleLimit first) after-more (l .limited) in
+        subst (Next r n count first i) is-end (next-of rises limited)
 
     pub bound-more : (query : Trace) (first : ℕ) → totalOver (boundOn query) first (segmentsAfter r count i)
         ≡ boundOn query (run first last) (segmentIn r i) + totalOver (boundOn query) (last + 1) (segmentsAfter r count (i + 1))
@@ -119,8 +121,9 @@ module _ (r : List ℤ) (n : ℕ) (b : Bounded r n) where
   unfolding segmentsIn
   few-segments =
       let k = smallAt r segmentsPlace in
-      let many : length (ends (map (segmentIn r) (counting k 0))) ≡ k =
-      length-map (map (segmentIn r) (counting k 0)) (λ (s : Segment). s .end) ∙ (length-map (counting k 0) (segmentIn r) ∙ counting-length k 0) in
+      let segments = map (segmentIn r) (counting k 0) in
+      let many : length (ends segments) ≡ k =
+      length-map segments (λ (s : Segment). s .end) ∙ (length-map (counting k 0) (segmentIn r) ∙ counting-length k 0) in
       omega (arith, many, b .fits .few)
 
   pub left-all : Left r n (smallAt r segmentsPlace) 1 0

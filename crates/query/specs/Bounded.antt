@@ -21,7 +21,7 @@ pub record Bounded (r : List ℤ) (n : ℕ) : Type 0 where
 abbrev pub boundBy : Trace → List ℤ → ℕ
 boundBy query r = totalOver (boundOn query) 1 (segmentsIn r)
 
--- Ours: no term of a segment that is w wide is above this, nor a bound over w samples. g is at most 2 × w × limit and h at most w × limit, so that
--- five times w × limit² would nearly do
+-- Ours: no term of a segment that is w wide is above this, nor a bound over w samples. (g is at most 2 × w × limit and h at most
+-- w × limit, so that five times w × limit² and 1 would do)
 unfoldable pub boundLimit : ℕ → ℕ → ℕ
 boundLimit limit w = 8 * (w * (limit * limit))

@@ -29,15 +29,17 @@ returns : tie.Need-returns
 unfolding figureOf sampleLimit scatterLimit
 returns c =
     let k = c .before .before in
-    let back : toZ w64 (k .figures-on .result .scatter) ≡ pos (k .figures-on .result .scatter) = toZ-ofZ (scatter-fits k) in
-    rw (back, c .before .if1 .taken) (ap pos (k .figures-on .ensures .1 .0), scatter-size k)
+    let f = k .figures-on in
+    let back : toZ w64 (f .result .scatter) ≡ pos (f .result .scatter) = toZ-ofZ (scatter-fits k) in
+    rw (back, c .before .if1 .taken) (ap pos (f .ensures .1 .0), scatter-size k)
 
 returns-2 : tie.Need-returns-2
 unfolding figureOf sampleLimit scatterLimit
 returns-2 c =
     let k = c .before .before in
-    let back : read w64 (k .figures-on .result .sum) ≡ k .figures-on .result .sum = toZ-ofZ (of-mag {w = w64} (k .figures-on .result .sum) (c .struct-told .given .0 .1)) in
-    rw (back, c .before .if1 .left) (k .figures-on .ensures .0, omega (arith, sum-most (narrow (k .before)) (k .figures-on .ensures .1 .1 .0)))
+    let f = k .figures-on in
+    let back : read w64 (f .result .sum) ≡ f .result .sum = toZ-ofZ (of-mag {w = w64} (f .result .sum) (c .struct-told .given .0 .1)) in
+    rw (back, c .before .if1 .left) (f .ensures .0, omega (arith, sum-most (narrow (k .before)) (f .ensures .1 .1 .0)))
 
 pub figure-on-spec : {M : Type 1} → statement M
 figure-on-spec = tie.close (tie.spec (λ c κs. search needs) (λ c. scatter-fits (c .before .before)) returns returns-2)

@@ -20,17 +20,19 @@ high c = of-mag (getD (c .before .args .sums .now) (c .before .args .last) (pos 
 low : (c : tie.After-sum2) → SFits w64 (getD (c .before .before .args .sums .now) (c .before .before .args .first - 1) (pos 0))
 low c = of-mag (getD (c .before .before .args .sums .now) (c .before .before .args .first - 1) (pos 0)) (c .sum2 .given)
 
-sizes : (c : tie.After-sum2) → let a = c .before .before .args in natAbs (getD (a .sums .now) (a .last) (pos 0)) + natAbs (getD (a .sums .now) (a .first - 1) (pos 0)) < 2 ^ 63
+sizes : (c : tie.After-sum2) → let a = c .before .before .args in
+    natAbs (getD (a .sums .now) (a .last) (pos 0)) + natAbs (getD (a .sums .now) (a .first - 1) (pos 0)) < 2 ^ 63
 sizes c =
     let s = c .before .before in
-    let size = cut.prefix-size (s .args .trace .now) (s .args .sums .now) (s .args .squares .now) (s .pre .0) in
+    let size = cut.prefix-size (s .pre .0) in
     omega (arith, size (s .args .last) (s .pre .1 .to-n), size (s .args .first - 1) (omega (arith, s .pre .1 .rises, s .pre .1 .to-n)))
 
 sum-read : (c : tie.After-sum2) → let a = c .before .before .args in
-    read w64 (read w64 (getD (a .sums .now) (a .last) (pos 0)) -ℤ read w64 (getD (a .sums .now) (a .first - 1) (pos 0))) ≡ sumOn (run (a .first) (a .last)) (a .trace .now)
+    read w64 (read w64 (getD (a .sums .now) (a .last) (pos 0)) -ℤ read w64 (getD (a .sums .now) (a .first - 1) (pos 0)))
+    ≡ sumOn (run (a .first) (a .last)) (a .trace .now)
 sum-read c =
     let s = c .before .before in
-    read-difference (high (c .before)) (low c) (sizes c) ∙ cut.sum-is (s .args .trace .now) (s .args .sums .now) (s .args .squares .now) (s .pre .0) (s .args .first) (s .args .last) (s .pre .1)
+    read-difference (high (c .before)) (low c) (sizes c) ∙ cut.sum-is (s .pre .0) (s .pre .1)
 
 sub-sum : tie.Need-sub-sum
 sub-sum c = fits-difference (high (c .before)) (low c) (sizes c)
@@ -38,25 +40,21 @@ sub-sum c = fits-difference (high (c .before)) (low c) (sizes c)
 sub-total : tie.Need-sub-total
 sub-total c =
     let s = c .before .before .before .before in
-    omega (arith, cut.squares-are (s .args .trace .now) (s .args .sums .now) (s .args .squares .now) (s .pre .0) (s .args .first) (s .args .last) (s .pre .1))
+    omega (arith, cut.squares-are (s .pre .0) (s .pre .1))
 
 scatter-from-requires : tie.Need-scatter-from-requires
 scatter-from-requires c κs =
     let s = c .before .before .before .before in
     rw (sum-read (c .before .before))
-    (cut.asked (s .args .trace .now) (s .args .sums .now) (s .args .squares .now) (s .pre .0) (s .args .first) (s .args .last) (s .pre .1))
+    (cut.asked (s .pre .0) (s .pre .1))
 
 returns : tie.Need-returns
 returns c =
     let s = c .before .before .before .before .before in
-    let q = s .args .trace .now in
-    let a = s .args .sums .now in
-    let b = s .args .squares .now in
     let is = sum-read (c .before .before .before) in
-    let e : c .scatter-from .result ≡ scatterOn (run (s .args .first) (s .args .last)) q =
-    (rw is at (c .scatter-from .ensures)) ∙ cut.answered q a b (s .pre .0) (s .args .first) (s .args .last) (s .pre .1) in
-    rw is
-    (refl, (e, (cut.sum-size q a b (s .pre .0) (s .args .first) (s .args .last) (s .pre .1), rw e (cut.scatter-size q a b (s .pre .0) (s .args .first) (s .args .last) (s .pre .1)))))
+    let e : c .scatter-from .result ≡ scatterOn (run (s .args .first) (s .args .last)) (s .args .trace .now) =
+    (rw is at (c .scatter-from .ensures)) ∙ cut.answered (s .pre .0) (s .pre .1) in
+    rw is (refl, (e, (cut.sum-size (s .pre .0) (s .pre .1), rw e (cut.scatter-size (s .pre .0) (s .pre .1)))))
 
 pub figures-on-spec : {M : Type 1} → statement M
 figures-on-spec =

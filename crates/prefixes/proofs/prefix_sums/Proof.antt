@@ -26,13 +26,13 @@ with-sample-requires : tie.Need-with-sample-requires Inv-loop μ-loop
 with-sample-requires c κs =
     let l = c .before .before .before .loop in
     rw (toZ-ofZ (of-mag {w = w64} (getD (l .sums) (l .i) (pos 0)) (c .before .with-sample-arg .given)))
-    (omega (arith, sum-size (c .before .before .before .before .args .trace .now) (l .sums) (l .squares) (l .i) (l .inv), l .inv .inside, c .before .before .before .before .pre .0))
+    (omega (arith, sum-size (l .inv), l .inv .inside, c .before .before .before .before .pre .0))
 
 with-square-requires : tie.Need-with-square-requires Inv-loop μ-loop
 with-square-requires c κs =
     let l = c .before .before .before .before .before .before .loop in
     let s = c .before .before .before .before .before .before .before in
-    omega (arith, squares-size (s .args .trace .now) (l .sums) (l .squares) (l .i) (l .inv), l .inv .inside, s .pre .0)
+    omega (arith, squares-size (l .inv), l .inv .inside, s .pre .0)
 
 loop-again : tie.Need-loop-again Inv-loop μ-loop
 loop-again c =
@@ -43,7 +43,7 @@ loop-again c =
     let here : SFits w16 x = of-mag {w = w16} x (c .before .with-square-arg2 .given) in
     let sum : SFits w64 a = of-mag {w = w64} a (c .before .before .before .before .before .with-sample-arg .given) in
     let t = c .before .before .before .with-sample in
-    passed-more (s .args .trace .now) (l .sums) (l .squares) (l .i) (l .inv) (s .pre .0) (c .before .before .before .before .before .before .loop-test .taken) (c .before .with-square-arg2 .given) _ _
+    passed-more (l .inv) (s .pre .0) (c .before .before .before .before .before .before .loop-test .taken) (c .before .with-square-arg2 .given) _ _
     (toZ-ofZ (of-mag {w = w64} (t .result) (t .ok)) ∙ (t .ensures ∙ ap₂ _+ℤ_ (toZ-ofZ sum) (toZ-ofZ here)))
     (c .with-square .ensures ∙ ap (λ (z : ℤ). getD (l .squares) (l .i) 0 + square z) (toZ-ofZ here))
 
@@ -51,7 +51,7 @@ returns : tie.Need-returns Inv-loop μ-loop
 returns c =
     let s = c .before .before in
     let l = c .before .loop in
-    passed-all (s .args .trace .now) (l .sums) (l .squares) (l .i) (l .inv) (s .pre .0) (c .loop-test .left)
+    passed-all (l .inv) (s .pre .0) (c .loop-test .left)
 
 pub prefix-sums-spec : {M : Type 1} → statement M
 prefix-sums-spec =

@@ -12,7 +12,8 @@ use Rattle.tables.specs.Tables.{withRecord}
 use Rattle.tables.specs.Walk.{storedIn}
 use Rattle.insertion_memory.specs.Records.{leafRecord}
 use Rattle.insertion_memory.specs.Memory.{treeTables, splitAllOf}
-use Rattle.adding.specs.Inserting.{leafBy, joinedBy, insertedBy}
+use Rattle.insertion.specs.Way.{leafBy}
+use Rattle.adding.specs.Inserting.{joinedBy, insertedBy}
 use Rattle.adding.proofs.inserting.insert.Statement.{statement}
 use Rattle.adding.proofs.inserting.insert.Tie as tie
 

@@ -37,10 +37,12 @@ returns c =
     let s = k .before .before .before .before .before .before .before in
     let r = now (s .args .«record») in
     let x = now (s .args .trace) in
-    let zeros : k .before .before .before .before .before .zero-nodes .last .0 ≡ filled recordPlaces (pos 0) r = k .before .before .before .before .before .zero-nodes .ensures in
+    let zero = k .before .before .before .before .before .zero-nodes in
+    let zeros : zero .last .0 ≡ filled recordPlaces (pos 0) r = zero .ensures in
     let headed : k .before .before .write-leaf-head .last .0 ≡ leafHead 1 0 ++ drop headPlaces (filled recordPlaces (pos 0) r) =
     k .before .before .write-leaf-head .ensures ∙ ap (λ (l : List ℤ). leafHead 1 0 ++ drop headPlaces l) zeros in
-    let z : read w64 (f .sum) ≡ sum x = toZ-ofZ (of-mag {w = w64} (f .sum) (c .before .before .before .struct-told .given .0 .1)) ∙ k .figures-of .ensures .0 .0 in
+    let z : read w64 (f .sum) ≡ sum x =
+    toZ-ofZ (of-mag {w = w64} (f .sum) (c .before .before .before .struct-told .given .0 .1)) ∙ k .figures-of .ensures .0 .0 in
     let v : f .scatter ≡ scatter x = k .figures-of .ensures .1 .0 in
     let e : c .before .write-segment .last .0 ≡ withSegment (k .before .before .write-leaf-head .last .0) 0
     (segmentBy (length x) (read w64 (f .sum)) (read w64 (f .sum)) (f .scatter) (f .scatter)) = c .before .write-segment .ensures in

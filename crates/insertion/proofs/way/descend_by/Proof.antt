@@ -1,4 +1,5 @@
--- `insertion::way::descend_by` meets its contract: what is left to do comes to the whole (`Down`), and the node's number rises below their count.
+-- `insertion::way::descend_by` meets its contract: what is left to do comes to the whole (`Down`), and the node's number rises below their
+-- count.
 use mathlib.Core.Path.{_≡_, sym, ap, subst, _∙_}
 use mathlib.Core.List.{List}
 use Prim.Native.Nat.{ℕ, _+_, _*_, _-_, _≤_}
@@ -86,14 +87,18 @@ next-of-requires : tie.Need-next-of-requires Inv-loop μ-loop
 next-of-requires c κs =
     let l = c .before .before in
     let i = l .loop .inv .inside in
-    let P : List ℤ → Type 0 = λ r. (length r ≡ recordPlaces) × (smallAt r kindPlace ≤ 2) × (1 ≤ smallAt r kindPlace → TestReadable r (length (x l))) in
-    (l .before .pre .1, subst P (sym (read-is c ∙ same l)) (ok l .readable (at l) i .size, ok l .kind (at l) i, λ h. ok l .passable (at l) i h .test))
+    let n = length (x l) in
+    let P : List ℤ → Type 0 = λ r. (length r ≡ recordPlaces) × (smallAt r kindPlace ≤ 2) × (1 ≤ smallAt r kindPlace → TestReadable r n) in
+    let there : P (recordOf (now (l .before .args .nodes)) (at l)) =
+    (ok l .readable (at l) i .size, ok l .kind (at l) i, λ h. ok l .passable (at l) i h .test) in
+    (l .before .pre .1, subst P (sym (read-is c ∙ same l)) there)
 
 widen-record-requires : tie.Need-widen-record-requires Inv-loop μ-loop
 widen-record-requires c κs =
     let k = c .before in
     let l = turn k in
-    (l .before .pre .1, subst (λ (r : List ℤ). Readable r (length (x l))) (sym (part-is (nodes l) (at l) (a k) (e k) (starts k) (ends k) ∙ same l)) (ok l .readable (at l) (l .loop .inv .inside)))
+    let lent = part-is (nodes l) (at l) (a k) (e k) (starts k) (ends k) ∙ same l in
+    (l .before .pre .1, subst (λ (r : List ℤ). Readable r (length (x l))) (sym lent) (ok l .readable (at l) (l .loop .inv .inside)))
 
 same-length : tie.Need-same-length Inv-loop μ-loop
 same-length c =

@@ -1,5 +1,5 @@
--- `insertion::way::goes_left` meets its contract: the test is the one that the record's four fields name, and the figure on its run, doubled, is held
--- against the threshold.
+-- `insertion::way::goes_left` meets its contract: the test is the one that the record's four fields name, and the figure on its run,
+-- doubled, is held against the threshold.
 use mathlib.Core.Path.{_≡_, ap, ap₂, _∙_}
 use native.Mathlib.Omega.{arith}
 use lib.IntN.{ℤ, pos, _*ℤ_}
@@ -39,9 +39,9 @@ returns c =
     let kind : k .before .before .small-at .result ≡ smallAt r kindPlace = k .before .before .small-at .ensures in
     let first : k .before .small-at2 .result ≡ smallAt r runFirstPlace = k .before .small-at2 .ensures in
     let last : k .small-at3 .result ≡ smallAt r runLastPlace = k .small-at3 .ensures in
-    let figure : f .figure-on .result ≡ figureOf (figureIn r) (run (smallAt r runFirstPlace) (smallAt r runLastPlace)) x =
-    f .figure-on .ensures .0 ∙ rw (kind, first, last) in
-    let double : read w64 (pos 2 *ℤ read w64 (f .figure-on .result)) ≡ pos 2 *ℤ figureOf (figureIn r) (run (smallAt r runFirstPlace) (smallAt r runLastPlace)) x =
+    let on = run (smallAt r runFirstPlace) (smallAt r runLastPlace) in
+    let figure : f .figure-on .result ≡ figureOf (figureIn r) on x = f .figure-on .ensures .0 ∙ rw (kind, first, last) in
+    let double : read w64 (pos 2 *ℤ read w64 (f .figure-on .result)) ≡ pos 2 *ℤ figureOf (figureIn r) on x =
     ap (λ (z : ℤ). read w64 (pos 2 *ℤ z)) (figure-read f) ∙ (toZ-ofZ (double-fits f) ∙ ap (λ (z : ℤ). pos 2 *ℤ z) figure) in
     let value = c .value-at in
     let threshold : read w64 (value .result) ≡ placeOf r thresholdPlace = toZ-ofZ (sfits-of {w = w64} {z = value .result} (value .ok)) ∙ value .ensures in

@@ -35,9 +35,11 @@ returns c =
     let x = now (a .trace) in
     let p : ℕ = 7 + a .i * 5 in
     let end : f .before .small-at .result ≡ endIn r (a .i) = f .before .small-at .ensures in
-    let sum : read w64 (f .figures-on .result .sum) ≡ sumOn (run (a .first) (endIn r (a .i))) x =
-    toZ-ofZ (of-mag {w = w64} (f .figures-on .result .sum) (told .struct-told .given .0 .1)) ∙ (f .figures-on .ensures .0 ∙ ap (λ (last : ℕ). sumOn (run (a .first) last) x) end) in
-    let scatter : toZ w64 (f .figures-on .result .scatter) ≡ pos (scatterOn (run (a .first) (endIn r (a .i))) x) =
+    let g = f .figures-on .result in
+    let sum : read w64 (g .sum) ≡ sumOn (run (a .first) (endIn r (a .i))) x =
+    toZ-ofZ (of-mag {w = w64} (g .sum) (told .struct-told .given .0 .1))
+    ∙ (f .figures-on .ensures .0 ∙ ap (λ (last : ℕ). sumOn (run (a .first) last) x) end) in
+    let scatter : toZ w64 (g .scatter) ≡ pos (scatterOn (run (a .first) (endIn r (a .i))) x) =
     toZ-ofZ (scatter-fits f) ∙ ap pos (f .figures-on .ensures .1 .0 ∙ ap (λ (last : ℕ). scatterOn (run (a .first) last) x) end) in
     let sums : c .before .before .before .before .widen-range .last .0 ≡ rangeWith r (p + 1) (sumOn (run (a .first) (endIn r (a .i))) x) =
     c .before .before .before .before .widen-range .ensures ∙ ap (rangeWith r (p + 1)) sum in

@@ -31,4 +31,7 @@ returns c =
     rw (c .larger .ensures, own)
 
 pub node-key-spec : {M : Type 1} → statement M
-node-key-spec = tie.close (tie.spec (λ c κs. search needs) own-bound-requires (λ c κs. search needs) (λ c. omega (arith, low c)) (λ c. omega (arith, low c)) returns)
+node-key-spec =
+    tie.close
+    (tie.spec
+    (λ c κs. search needs) own-bound-requires (λ c κs. search needs) (λ c. omega (arith, low c)) (λ c. omega (arith, low c)) returns)

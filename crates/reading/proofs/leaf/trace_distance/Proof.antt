@@ -12,7 +12,8 @@ use Rattle.reading.proofs.leaf.trace_distance.Tie as tie
 distance-requires : tie.Need-distance-requires
 distance-requires c κs =
     let s = c .before in
-    let long : length (now (c .trace-at .result)) ≡ s .args .n = ap length (c .trace-at .ensures) ∙ trace-length (now (s .args .samples)) (s .args .n) (s .args .t) (s .pre .1) in
+    let long : length (now (c .trace-at .result)) ≡ s .args .n =
+    ap length (c .trace-at .ensures) ∙ trace-length (now (s .args .samples)) (s .args .n) (s .args .t) (s .pre .1) in
     (s .pre .2 ∙ sym long, omega (arith, s .pre .0, s .pre .2))
 
 returns : tie.Need-returns

@@ -1,4 +1,4 @@
-pub mod Checked
 pub mod Two
 pub mod Laid
 pub mod Coded
+pub mod Columns

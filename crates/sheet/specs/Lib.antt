@@ -1,2 +1,3 @@
 -- What the writers of a block put, piece by piece.
 pub mod Codes
+pub mod Columns

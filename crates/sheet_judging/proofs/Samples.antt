@@ -1,6 +1,6 @@
 -- The samples of an accepted sheet, and where they stand.
 use Prim.Native.Nat.{ℕ, zero, suc, _+_, _*_, _-_, _≤_, _<_}
-use mathlib.Core.Path.{_≡_, refl, sym, _∙_, ap, subst}
+use mathlib.Core.Path.{_≡_, refl, sym, _∙_, ap, ap₂, subst}
 use mathlib.Core.Option.{none}
 use mathlib.Core.List.{List, [], _∷_, _++_, map}
 use native.Mathlib.Omega.{arith}
@@ -15,13 +15,13 @@ use Rattle.dstree.specs.Refusals.{firstOf}
 use Rattle.dstree.specs.Sheet.{blockSize, narrow, sampleSize, part, pieces, decoded, blocksIn, measuresIn, sampleBytesIn, tracesIn}
 use Rattle.dstree.specs.Sheet.{sampleBlocksNeeded, tornConditions, badConditions, sheetConditions, conditionsAs}
 use Rattle.dstree.proofs.Conditions.{NoneOf, none-of}
-use Rattle.dstree.proofs.SheetPieces.{pieces-length, pieces-at, pieces-drop, pieces-take, pieces-more, drop-part}
+use Rattle.dstree.proofs.SheetPieces.{pieces-length, pieces-at, pieces-drop, pieces-take, pieces-more, drop-part, drop-take}
 use Rattle.dstree.proofs.SheetFormat.{narrow-sound, needed-room}
 use Rattle.dstree.proofs.SheetRead.{Good, none-good}
 use Rattle.tables.specs.Judge.{InRange}
 use Rattle.tables.proofs.Range.{in-range}
 use Rattle.sheet_judging.specs.Blocks.{blockCount, InBlocks, blockAt, laterBlocks}
-use Rattle.sheet_judging.specs.Traces.{sizeOf, countOf, tracesOf, IsAt, placeOf, sampleAt, samplesFrom}
+use Rattle.sheet_judging.specs.Traces.{sizeOf, countOf, tracesOf, IsAt, placeOf, samplesIn, samplesFrom}
 use Rattle.sheet_judging.proofs.Places.{blocks-are}
 use Rattle.sheet_judging.proofs.Carried.{carriedFrom, carriedAt, carried-length, carried-on}
 
@@ -70,6 +70,28 @@ module _ (bytes : List ℕ) (f : Fine bytes) where
 
 -- ---- samples
 
+module _ {A : Type 0} where
+  pieces-add : (size a b : ℕ) (xs : List A) → pieces size (a + b) xs ≡ pieces size a xs ++ pieces size b (drop (a * size) xs)
+  unfolding pieces
+  pieces-add size zero b xs =
+      let e : 0 + b ≡ b = omega arith in
+      let z : 0 * size ≡ 0 = omega arith in
+      rw (e, z) refl
+  pieces-add size (suc a) b xs =
+      let e : suc a + b ≡ suc (a + b) = omega arith in
+      let k : size + a * size ≡ suc a * size = omega (arith, suc-mul a size) in
+      rw e (ap (λ (l : List (List A)). take size xs ∷ l) (pieces-add size a b (drop size xs)
+      ∙ ap (λ (l : List A). pieces size a (drop size xs) ++ pieces size b l) (drop-drop (a * size) size xs ∙ ap (λ (i : ℕ). drop i xs) k)))
+
+  pieces-first : (size k : ℕ) (xs : List A) → pieces size k xs ≡ pieces size k (take (k * size) xs)
+  unfolding pieces
+  pieces-first size zero xs = refl
+  pieces-first size (suc k) xs =
+      let e : suc k * size - size ≡ k * size = omega (arith, suc-mul k size) in
+      ap₂ (λ (a : List A) (b : List (List A)). a ∷ b) (sym (take-take size (suc k * size) xs (omega (arith, suc-mul k size))))
+      (pieces-first size k (drop size xs)
+      ∙ ap (pieces size k) (sym (drop-take size (suc k * size) xs ∙ ap (λ (i : ℕ). take i (drop size xs)) e)))
+
 module _ {A B : Type 0} (f : A → B) where
   map-take : (k : ℕ) (l : List A) → take k (map f l) ≡ map f (take k l)
   map-take zero l = refl
@@ -81,18 +103,37 @@ module _ {A B : Type 0} (f : A → B) where
   map-drop (suc k) [] = refl
   map-drop (suc k) (x ∷ l) = map-drop k l
 
+pub samples-none : (bytes : List ℕ) → samplesIn 0 bytes ≡ []
+unfolding samplesIn pieces
+samples-none bytes = refl
+
+-- one sample more
+pub samples-more : (k : ℕ) (bytes : List ℕ)
+    → samplesIn (suc k) bytes ≡ samplesIn k bytes ++ (decoded narrow (part (k * width) width bytes) ∷ [])
+unfolding samplesIn
+samples-more k bytes =
+    ap (map (decoded narrow)) (pieces-more width k bytes)
+    ∙ map-append (decoded narrow) (pieces width k bytes) (part (k * width) width bytes ∷ [])
+
+samples-add : (a b : ℕ) (bytes : List ℕ) → samplesIn (a + b) bytes ≡ samplesIn a bytes ++ samplesIn b (drop (a * width) bytes)
+unfolding samplesIn
+samples-add a b bytes =
+    ap (map (decoded narrow)) (pieces-add width a b bytes)
+    ∙ map-append (decoded narrow) (pieces width a bytes) (pieces width b (drop (a * width) bytes))
+
+-- what stands behind them does not bear on them
+samples-first : (k : ℕ) (bytes : List ℕ) → samplesIn k bytes ≡ samplesIn k (take (k * width) bytes)
+unfolding samplesIn
+samples-first k bytes = ap (map (decoded narrow)) (pieces-first width k bytes)
+
 module _ (bytes : List ℕ) where
   abbrev taken : List ℕ
   taken = sampleBytesIn narrow (laterBlocks bytes 1)
 
-  pub samples-none : (first : ℕ) → samplesFrom bytes first 0 ≡ []
-  unfolding samplesFrom pieces
-  samples-none first = refl
-
   -- a trace is the n samples from n times its number on
   pub trace-is : (number : ℕ) → number < countOf bytes
       → getD (tracesOf bytes) number [] ≡ samplesFrom bytes (number * sizeOf bytes) (sizeOf bytes)
-  unfolding tracesIn samplesFrom
+  unfolding tracesIn samplesIn
   trace-is number h =
       let n : ℕ = sizeOf bytes in
       let all : ℕ = countOf bytes * n in
@@ -103,38 +144,41 @@ module _ (bytes : List ℕ) where
       ∙ ap (map (decoded narrow))
       (pieces-take width n (all - number * n) (drop (number * n * width) taken) (omega (arith, inside, suc-mul number n)))
 
+  -- samples behind others
+  pub samples-on : (first a b : ℕ) → samplesFrom bytes first (a + b) ≡ samplesFrom bytes first a ++ samplesFrom bytes (first + a) b
+  samples-on first a b =
+      let e : first * width + a * width ≡ (first + a) * width = omega arith in
+      samples-add a b (drop (first * width) taken)
+      ∙ ap (λ (l : List ℕ). samplesFrom bytes first a ++ samplesIn b l)
+      (drop-drop (a * width) (first * width) taken ∙ ap (λ (j : ℕ). drop j taken) e)
+
   module _ (whole : InBlocks bytes) (number used i : ℕ) (at : IsAt number used i)
       (inside : i < (blockCount bytes - 1) * narrow .samplesPerBlock) where
     pub block-in : number < blockCount bytes
     block-in = omega (arith, inside, at .counted, at .behind-head, at .within)
 
-    -- where its bytes stand
-    bytes-at : part (i * width) width taken ≡ part (placeOf number used) width bytes
-    unfolding sampleBytesIn
-    bytes-at =
-        let u : ℕ = width * used in
-        let size : ℕ = sampleSize narrow in
-        let from = carriedFrom size (narrow-sound .room) bytes whole in
-        let here = carriedAt size (narrow-sound .room) bytes whole in
-        let e : i * width ≡ (number - 1) * size + u = omega (arith, at .counted) in
-        let last : 1 + (number - 1) ≡ number = omega (arith, at .behind-head) in
-        let long : width ≤ length (drop u (here number)) =
-        omega (arith, length-drop u (here number), carried-length size (narrow-sound .room) bytes whole number block-in, at .within) in
-        ap (λ (k : ℕ). take width (drop k (from 1))) e
-        ∙ ap (take width) (carried-on size (narrow-sound .room) bytes whole (number - 1) 1 u (omega (arith, block-in, at .behind-head)) (omega (arith, at .within)))
-        ∙ ap (λ (k : ℕ). take width (drop u (here k) ++ from (suc k))) last
-        ∙ take-append-le width (drop u (here number)) (from (suc number)) long
-        ∙ ap (take width) (drop-part u (number * blockSize + 4) size bytes)
-        ∙ take-take width (size - u) (drop (placeOf number used) bytes) (omega (arith, at .within))
+    module _ (k : ℕ) (room : used + k ≤ narrow .samplesPerBlock) where
+      -- where their bytes stand
+      bytes-at : part (i * width) (k * width) taken ≡ part (placeOf number used) (k * width) bytes
+      unfolding sampleBytesIn
+      bytes-at =
+          let u : ℕ = width * used in
+          let size : ℕ = sampleSize narrow in
+          let from = carriedFrom size (narrow-sound .room) bytes whole in
+          let here = carriedAt size (narrow-sound .room) bytes whole in
+          let e : i * width ≡ (number - 1) * size + u = omega (arith, at .counted) in
+          let last : 1 + (number - 1) ≡ number = omega (arith, at .behind-head) in
+          let in-block : 1 + (number - 1) < blockCount bytes = omega (arith, block-in, at .behind-head) in
+          let in-size : u ≤ size = omega (arith, at .within) in
+          let long : k * width ≤ length (drop u (here number)) =
+          omega (arith, length-drop u (here number), carried-length size (narrow-sound .room) bytes whole number block-in, room) in
+          ap (λ (j : ℕ). take (k * width) (drop j (from 1))) e
+          ∙ ap (take (k * width)) (carried-on size (narrow-sound .room) bytes whole (number - 1) 1 u in-block in-size)
+          ∙ ap (λ (j : ℕ). take (k * width) (drop u (here j) ++ from (suc j))) last
+          ∙ take-append-le (k * width) (drop u (here number)) (from (suc number)) long
+          ∙ ap (take (k * width)) (drop-part u (number * blockSize + 4) size bytes)
+          ∙ take-take (k * width) (size - u) (drop (placeOf number used) bytes) (omega (arith, room))
 
-    -- one sample more, read there
-    pub samples-more : (first k : ℕ) → i ≡ first + k
-        → samplesFrom bytes first (suc k) ≡ samplesFrom bytes first k ++ (sampleAt bytes number used ∷ [])
-    unfolding samplesFrom
-    samples-more first k p =
-        let e : first * width + k * width ≡ i * width = omega (arith, p) in
-        ap (map (decoded narrow)) (pieces-more width k (drop (first * width) taken))
-        ∙ map-append (decoded narrow) (pieces width k (drop (first * width) taken))
-        (part (k * width) width (drop (first * width) taken) ∷ [])
-        ∙ ap (λ (l : List ℕ). samplesFrom bytes first k ++ (decoded narrow l ∷ []))
-        (ap (take width) (drop-drop (k * width) (first * width) taken ∙ ap (λ (j : ℕ). drop j taken) e) ∙ bytes-at)
+      -- a stretch of samples, by the bytes that stand there
+      pub samples-at : samplesIn k (part (placeOf number used) (k * width) bytes) ≡ samplesFrom bytes i k
+      samples-at = ap (samplesIn k) (sym bytes-at) ∙ sym (samples-first k (drop (i * width) taken))

@@ -5,7 +5,7 @@ use mathlib.Core.List.{List, map}
 use lib.IntN.{ℤ}
 use lib.ListN.{drop}
 use Rattle.dstree.specs.Measures.{Trace}
-use Rattle.dstree.specs.Sheet.{narrow, blockSize, part, pieces, decoded, measuresIn, countIn, sampleBytesIn, tracesIn}
+use Rattle.dstree.specs.Sheet.{narrow, blockSize, pieces, decoded, measuresIn, countIn, sampleBytesIn, tracesIn}
 use Rattle.sheet_judging.specs.Blocks.{blockAt, laterBlocks}
 
 -- the samples of a trace, and how many traces there are, as block 0 says
@@ -33,11 +33,10 @@ pub record IsAt (number used i : ℕ) : Type 0 where
 abbrev pub placeOf : ℕ → ℕ → ℕ
 placeOf number used = number * blockSize + 4 + narrow .sampleBytes * used
 
--- the sample there
-abbrev pub sampleAt : List ℕ → ℕ → ℕ → ℤ
-sampleAt bytes number used = decoded narrow (part (placeOf number used) (narrow .sampleBytes) bytes)
+-- so many samples, by their bytes
+unfoldable pub samplesIn : ℕ → List ℕ → List ℤ
+samplesIn k bytes = map (decoded narrow) (pieces (narrow .sampleBytes) k bytes)
 
--- so many samples, from a number on
-unfoldable pub samplesFrom : List ℕ → ℕ → ℕ → List ℤ
-samplesFrom bytes first k =
-    map (decoded narrow) (pieces (narrow .sampleBytes) k (drop (first * narrow .sampleBytes) (sampleBytesIn narrow (laterBlocks bytes 1))))
+-- so many samples of a sheet, from a number on
+abbrev pub samplesFrom : List ℕ → ℕ → ℕ → List ℤ
+samplesFrom bytes first k = samplesIn k (drop (first * narrow .sampleBytes) (sampleBytesIn narrow (laterBlocks bytes 1)))

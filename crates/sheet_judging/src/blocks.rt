@@ -6,7 +6,7 @@ use sheet::fields::wide;
 use tables::Refusal;
 use tables::Verdict;
 ghost use mathlib.Core.Path.{_≡_};
-ghost use Prim.Native.Nat.{ℕ, suc, _*_, _≤_, _<_};
+ghost use Prim.Native.Nat.{ℕ, suc, _+_, _*_, _-_, min, _≤_, _<_};
 ghost use lib.ListN.{length};
 ghost use Rattle.dstree.specs.Refusals.{firstOf};
 ghost use Rattle.dstree.specs.Sheet.{blockSize, mostBlocks, narrow, kindOf, isTorn, blocksIn, tornConditions};
@@ -65,15 +65,25 @@ impl Cursor {
         }
     }
 
-    // One sample on: behind the last of a block's, one block on.
-    pub fn step(self) -> Cursor
-        requires { ⌜ (self .number ≤ mostBlocks) × (self .used < narrow .samplesPerBlock) ⌝ }
-        ensures { λ r. ⌜ ((i : ℕ) → IsAt (self .number) (self .used) i → IsAt (r .number) (r .used) (suc i)) ⌝ }
+    // How many of so many samples lie in the block.
+    pub fn stretch(self, samples: usize) -> usize
+        requires { ⌜ self .used ≤ narrow .samplesPerBlock ⌝ }
+        ensures { λ r. ⌜ r ≡ min samples (narrow .samplesPerBlock - self .used) ⌝ }
     {
-        if self.used < 252 {
+        let left = 253 - self.used;
+        if left < samples { left } else { samples }
+    }
+
+    // Some of the block's samples on: behind the last of them, one block on.
+    pub fn pass(self, samples: usize) -> Cursor
+        requires { ⌜ (self .number ≤ mostBlocks) × (self .used + samples ≤ narrow .samplesPerBlock) ⌝ }
+        ensures { λ r. ⌜ ((i : ℕ) → IsAt (self .number) (self .used) i → IsAt (r .number) (r .used) (i + samples)) ⌝ }
+    {
+        let used = self.used + samples;
+        if used < 253 {
             return Cursor {
                 number: self.number,
-                used: self.used + 1,
+                used,
             };
         }
         self.next()

@@ -8,9 +8,9 @@ ghost use mathlib.Core.Option.{none};
 ghost use Prim.Native.Nat.{ℕ, _+_, _*_, _-_, _^_, _≤_, _<_};
 ghost use lib.ListN.{length, getD};
 ghost use Rattle.dstree.specs.Refusals.{firstOf};
-ghost use Rattle.dstree.specs.Sheet.{narrow, numberIn, decoded, sheetConditions};
+ghost use Rattle.dstree.specs.Sheet.{blockSize, narrow, numberIn, decoded, sheetConditions};
 ghost use Rattle.sheet_judging.specs.Blocks.{InBlocks, blockCount};
-ghost use Rattle.sheet_judging.specs.Traces.{sizeOf, countOf, tracesOf, numberAt, IsAt, sampleAt, samplesFrom};
+ghost use Rattle.sheet_judging.specs.Traces.{sizeOf, countOf, tracesOf, numberAt, IsAt, samplesIn, samplesFrom};
 
 // The sample that two bytes are, "two's complement": from 32,768 on, a number stands for itself less 65,536.
 fn decode(v: u64) -> i16
@@ -23,16 +23,19 @@ fn decode(v: u64) -> i16
     (v as i64 - 65536) as i16
 }
 
-// The sample that is read next.
-fn sample_at(sheet: &[u8], cursor: Cursor) -> i16
-    requires { ⌜ InBlocks (now sheet) × (cursor .number < blockCount (now sheet)) × (cursor .used < narrow .samplesPerBlock) ⌝ }
-    ensures { λ r. ⌜ r ≡ sampleAt (now (sheet .entry)) (cursor .number) (cursor .used) ⌝ }
+// Samples that stand one behind another. Of this loop the compiler makes one copy.
+fn copy_samples(bytes: &[u8], places: &mut [i16])
+    requires { ⌜ (narrow .sampleBytes * length (now places) ≤ length (now bytes)) × (length (now bytes) ≤ blockSize) ⌝ }
+    ensures { λ _. ⌜ now (places .exit) ≡ samplesIn (length (now (places .entry))) (now (bytes .entry)) ⌝ }
 {
-    let place = cursor.place();
-    decode(two_bytes(sheet, place))
+    let mut i = 0;
+    while i < places.len() {
+        places[i] = decode(two_bytes(bytes, 2 * i));
+        i += 1;
+    }
 }
 
-// As many samples as there are places, from the cursor on; and the cursor behind them.
+// As many samples as there are places, from the cursor on; and the cursor behind them. They are read by stretches, each in one block.
 pub fn read_samples(sheet: &[u8], from: Cursor, places: &mut [i16]) -> Cursor
     requires { ⌜ InBlocks (now sheet) × IsAt (from .number) (from .used) (numberAt (from .number) (from .used))
         × (numberAt (from .number) (from .used) + length (now places) ≤ (blockCount (now sheet) - 1) * narrow .samplesPerBlock) ⌝ }
@@ -43,9 +46,11 @@ pub fn read_samples(sheet: &[u8], from: Cursor, places: &mut [i16]) -> Cursor
     let mut cursor = from;
     let mut i = 0;
     while i < n {
-        places[i] = sample_at(sheet, cursor);
-        cursor = cursor.step();
-        i += 1;
+        let k = cursor.stretch(n - i);
+        let place = cursor.place();
+        copy_samples(&sheet[place..place + 2 * k], &mut places[i..i + k]);
+        cursor = cursor.pass(k);
+        i += k;
     }
     cursor
 }

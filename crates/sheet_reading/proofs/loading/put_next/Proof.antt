@@ -1,27 +1,33 @@
--- `sheet_reading::loading::put_next` meets its contract: what is put is the sheet's trace.
+-- `sheet_reading::loading::put_next` meets its contract: what is put are the samples from the cursor on.
 use mathlib.Core.Path.{_≡_, sym, ap, _∙_, subst}
-use mathlib.Core.List.{[]}
-use lib.ListN.{getD}
+use Prim.Native.Nat.{ℕ}
+use lib.ListN.{length}
 use denote.Ref.{now}
 use borrow.Author.Needs.{needs}
 use Rattle.dstree.specs.Measures.{Trace}
 use Rattle.tables.specs.Tables.{tables}
 use Rattle.insertion_memory.specs.Memory.{addedTo}
 use Rattle.adding.specs.Putting.{Takes}
-use Rattle.sheet_judging.specs.Traces.{tracesOf}
+use Rattle.sheet_judging.specs.Traces.{numberAt, samplesFrom}
+use Rattle.sheet_judging.proofs.Samples.{fine}
 use Rattle.sheet_reading.proofs.loading.put_next.Statement.{statement}
 use Rattle.sheet_reading.proofs.loading.put_next.Tie as tie
 
-read-trace-requires : tie.Need-read-trace-requires
-read-trace-requires c κs = let p = c .before .before .before .before .pre in (p .sound, p .inside, p .size)
+read-samples-requires : tie.Need-read-samples-requires
+read-samples-requires c κs =
+    let s = c .before .before .before .before in
+    (fine (now (s .args .sheet)) (s .pre .sound) .whole, s .pre .at, s .pre .inside)
 
 -- once the trace is read
-module _ (r : tie.After-read-trace) where
+module _ (r : tie.After-read-samples) where
   abbrev start : tie.Start
   start = r .before .before .before .before .before
 
-  trace-is : r .read-trace .last .1 .1 .0 ≡ getD (tracesOf (now (start .args .sheet))) (start .args .number) []
-  trace-is = r .read-trace .ensures
+  abbrev first : ℕ
+  first = numberAt (start .args .from .number) (start .args .from .used)
+
+  trace-is : r .read-samples .last .1 .1 .0 ≡ samplesFrom (now (start .args .sheet)) first (length (now (start .args .trace)))
+  trace-is = r .read-samples .ensures .0
 
 put-requires : tie.Need-put-requires
 put-requires c κs =
@@ -31,15 +37,18 @@ put-requires c κs =
     (start r .pre .takes)
 
 returns : tie.Need-returns
-returns c = λ work.
+returns c =
     let p = c .before .before .before .before .before .before in
     let r = p .before .before .before .before .before .before .before in
-    let g = start r .args in
-    p .put .ensures work ∙ ap (addedTo (tables (now (g .control)) (now (g .samples)) (now (g .nodes)) (now (g .links)) work)) (trace-is r)
+    let g = start r .args in (
+      (λ work. p .put .ensures work
+          ∙ ap (addedTo (tables (now (g .control)) (now (g .samples)) (now (g .nodes)) (now (g .links)) work)) (trace-is r)),
+      r .read-samples .ensures .1,
+    )
 
 pub put-next-spec : {M : Type 1} → statement M
 put-next-spec =
     tie.close
     (tie.spec
-    read-trace-requires put-requires (λ c. search needs) (λ c. search needs) (λ c. search needs) (λ c. search needs)
+    read-samples-requires put-requires (λ c. search needs) (λ c. search needs) (λ c. search needs) (λ c. search needs)
     (λ c. search needs) returns)

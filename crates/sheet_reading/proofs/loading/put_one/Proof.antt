@@ -1,12 +1,15 @@
 -- `sheet_reading::loading::put_one` meets its contract: a trace's samples have room in 256 places.
-use mathlib.Core.Path.{_≡_, sym, subst}
-use Prim.Native.Nat.{ℕ, _≤_}
+use mathlib.Core.Path.{_≡_, sym, ap, _∙_, subst}
+use Prim.Native.Nat.{ℕ, _+_, _≤_}
 use native.Mathlib.Omega.{arith}
 use lib.IntN.{pos}
 use lib.ListN.{length, take, replicate}
 use lib.Seq.{length-take-le}
 use denote.Ref.{now}
 use borrow.Author.Needs.{needs}
+use Rattle.tables.specs.Tables.{tables}
+use Rattle.insertion_memory.specs.Memory.{addedTo}
+use Rattle.sheet_judging.specs.Traces.{numberAt, IsAt, samplesFrom}
 use Rattle.sheet_judging.proofs.Samples.{fine, size-few}
 use Rattle.sheet_reading.specs.Loads.{Next}
 use Rattle.sheet_reading.proofs.loading.put_one.Statement.{statement}
@@ -32,11 +35,21 @@ put-next-requires : tie.Need-put-next-requires
 put-next-requires c κs =
     let a = c .before in
     let g = start a .args in
-    subst (λ (k : ℕ). Next (now (g .control)) (now (g .samples)) (now (g .nodes)) (now (g .links)) (now (g .sheet)) k (g .number))
-    (length-is a) (start a .pre)
+    let ready = Next (now (g .control)) (now (g .samples)) (now (g .nodes)) (now (g .links)) (now (g .sheet)) in
+    subst (λ (k : ℕ). ready k (g .from .number) (g .from .used)) (length-is a) (start a .pre)
 
 returns : tie.Need-returns
-returns c = c .before .before .before .before .before .before .before .put-next .ensures
+returns c =
+    let p = c .before .before .before .before .before .before .before in
+    let a = p .before .before in
+    let g = start a .args in
+    let first = numberAt (g .from .number) (g .from .used) in
+    let e = sym (length-is a) in (
+      (λ work.
+          let before = tables (now (g .control)) (now (g .samples)) (now (g .nodes)) (now (g .links)) work in
+          p .put-next .ensures .0 work ∙ ap (λ (k : ℕ). addedTo before (samplesFrom (now (g .sheet)) first k)) e),
+      subst (λ (k : ℕ). IsAt (p .put-next .result .number) (p .put-next .result .used) (first + k)) e (p .put-next .ensures .1),
+    )
 
 pub put-one-spec : {M : Type 1} → statement M
 put-one-spec =

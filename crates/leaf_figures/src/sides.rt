@@ -5,8 +5,7 @@ use tables::numbers::greater;
 use tables::numbers::larger;
 use tables::numbers::lesser;
 use tables::numbers::smaller;
-use tables::runs::scatter_on;
-use tables::runs::sum_on;
+use tables::runs::figures_on;
 use tables::runs::trace_at;
 ghost use mathlib.Core.Path.{_≡_};
 ghost use lib.ListN.{length};
@@ -66,9 +65,8 @@ fn with_trace(
 {
     if on_side {
         let trace = trace_at(samples, n, t);
-        let s = sum_on(trace, first, last);
-        let v = scatter_on(trace, first, last);
-        widened(f, s, v)
+        let own = figures_on(trace, first, last);
+        widened(f, own.sum, own.scatter)
     } else {
         f
     }

@@ -39,6 +39,16 @@ pub fn scatter_on(trace: &[i16], first: usize, last: usize) -> u64
     segment::figures::scatter(&trace[before..last])
 }
 
+// Both figures.
+pub fn figures_on(trace: &[i16], first: usize, last: usize) -> segment::figures::Figures
+    requires { ⌜ RunOf (length (now trace)) first last ⌝ }
+    ensures sum { λ r. ⌜ (r .sum ≡ sumOn (run first last) (now (trace .entry))) × (natAbs (r .sum) ≤ 2 ^ 23) ⌝ }
+    ensures scatter { λ r. ⌜ (r .scatter ≡ scatterOn (run first last) (now (trace .entry))) × (r .scatter ≤ 2 ^ 46) ⌝ }
+{
+    let before = first - 1;
+    segment::figures::figures_of(&trace[before..last])
+}
+
 // The one or the other, as a number with a sign, as records hold it.
 pub fn figure_on(trace: &[i16], first: usize, last: usize, by_scatter: bool) -> i64
     requires { ⌜ RunOf (length (now trace)) first last ⌝ }

@@ -21,18 +21,19 @@ returns : tie.Need-returns
 returns c =
     let k = c .before .before .before in
     let s = k .before .before in
-    let sums = c .before .before .sum-on in
-    let scatters = c .before .scatter-on in
+    let own = c .before .before .figures-on in
+    let r = own .result in
     let f = s .args .f in
     let on = run (s .args .first) (s .args .last) in
-    let e : c .widened .result ≡ withFigures f (sums .result) (scatters .result) = c .widened .ensures ∙ ap₂ (withFigures f) (toZ-ofZ (of-mag {w = w64} (sums .result) (sums .ok))) refl in
-    let small = with-small f (sums .result) (scatters .result) (s .pre .1) (sums .ensures .1) (scatters .ensures .1) in
+    let back = toZ-ofZ (of-mag {w = w64} (r .sum) (c .before .struct-told .given .0 .1)) in
+    let e : c .widened .result ≡ withFigures f (r .sum) (r .scatter) = c .widened .ensures ∙ ap₂ (withFigures f) back refl in
+    let small = with-small f (r .sum) (r .scatter) (s .pre .1) (own .ensures .0 .1) (own .ensures .1 .1) in
     rw (k .before .if1 .taken)
-    (e ∙ ap₂ (withFigures f) (sums .ensures .0 ∙ ap (sumOn on) (k .trace-at .ensures)) (scatters .ensures .0 ∙ ap (scatterOn on) (k .trace-at .ensures)), subst Small (sym e) small)
+    (e ∙ ap₂ (withFigures f) (own .ensures .0 .0 ∙ ap (sumOn on) (k .trace-at .ensures)) (own .ensures .1 .0 ∙ ap (scatterOn on) (k .trace-at .ensures)), subst Small (sym e) small)
 
 pub with-trace-spec : {M : Type 1} → statement M
 with-trace-spec =
     tie.close
     (tie.spec
-    (λ c κs. search needs) (λ c κs. on-trace c) (λ c κs. on-trace (c .before)) (λ c κs. search needs) returns
+    (λ c κs. search needs) (λ c κs. on-trace c) (λ c κs. search needs) returns
     (λ c. rw (c .if1 .left) (refl, c .before .pre .1)))

@@ -13,6 +13,8 @@ use Rattle.dstree.specs.Measures.{Trace}
 use Rattle.dstree.specs.Figures.{Run, sumOn, scatterOn}
 use Rattle.dstree.specs.Node.{Segment}
 use Rattle.dstree.specs.Adding.{segmentOf, tracesOf}
+use Rattle.tables.specs.View.{traceIn}
+use Rattle.leaf_figures.specs.Rows.{tracesAt}
 use Rattle.leaf_figures.specs.Sides.{marked, noFigures, withFigures, Small, segmentBy}
 use Rattle.leaf_figures.specs.declared.sides.Figures.{Figures}
 
@@ -64,6 +66,17 @@ module _ (stored : List Trace) (on : Run) (marks : List ℕ) (mark : ℕ) where
   side-taken numbers =
       ap (segmentBy (on .last)) (on-side noFigures numbers) ∙ all-taken sums scatters (on .last) (marked marks mark numbers)
       ∙ rw (map-map (sumOn on) (λ (number : ℕ). getD stored number []) (marked marks mark numbers), map-map (scatterOn on) (λ (number : ℕ). getD stored number []) (marked marks mark numbers))
+
+-- of the traces of a list
+module _ (samples : List ℤ) (n : ℕ) (on : Run) where
+  abbrev pub takingAt : Figures → ℕ → Figures
+  takingAt f t = withFigures f (sumOn on (traceIn samples n t)) (scatterOn on (traceIn samples n t))
+
+  pub along-taken : (numbers : List ℕ) → segmentBy (on .last) (foldl takingAt noFigures numbers) ≡ segmentOf (tracesAt samples n numbers) on
+  unfolding segmentOf
+  along-taken numbers =
+      all-taken (λ t. sumOn on (traceIn samples n t)) (λ t. scatterOn on (traceIn samples n t)) (on .last) numbers
+      ∙ rw (map-map (sumOn on) (traceIn samples n) numbers, map-map (scatterOn on) (traceIn samples n) numbers)
 
 -- ---- sizes
 

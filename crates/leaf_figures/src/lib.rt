@@ -1,5 +1,8 @@
 // The figures of a leaf's traces on a run of samples, and the leaf's spread.
+pub mod along;
 pub mod ends;
-pub mod range;
+pub mod filling;
+pub mod lists;
+pub mod rows;
 pub mod sides;
 pub mod spread;

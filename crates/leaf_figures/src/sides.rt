@@ -27,7 +27,7 @@ pub struct Figures {
 }
 
 // One trace's figures more.
-fn widened(f: Figures, sum: i64, scatter: u64) -> Figures
+pub fn widened(f: Figures, sum: i64, scatter: u64) -> Figures
     ensures { λ r. ⌜ r ≡ withFigures f sum scatter ⌝ }
 {
     if f.any {

@@ -1,77 +1,106 @@
-// The spread of a leaf's traces, or of one side of them.
+// The spread of the traces of a list.
 ghost use mathlib.Core.Path.{_≡_};
-ghost use Prim.Native.Nat.{_^_, _≤_};
-ghost use lib.ListN.{length};
+ghost use Prim.Native.Nat.{_^_, _≤_, _<_};
+ghost use lib.ListN.{take};
 ghost use Rattle.dstree.specs.Figures.{run};
 ghost use Rattle.dstree.specs.Adding.{segmentOf, spreadOn, spread};
-ghost use Rattle.tables.specs.Walk.{leafTraces, Stored};
 ghost use Rattle.tables.specs.Runs.{Inside};
-ghost use Rattle.leaf_figures.specs.Sides.{sideTraces};
 ghost use Rattle.leaf_figures.specs.Ends.{endsOf, Room, Rise};
+ghost use Rattle.leaf_figures.specs.Rows.{tracesAt, Listed, Rows};
 
-// One segment's term of a side's spread.
-pub fn segment_spread(
+// One segment's term of the spread.
+fn segment_spread(
     samples: &[i16],
-    links: &[u16],
     n: usize,
-    k: usize,
-    head: usize,
-    marks: &[u8; 4096],
-    mark: u8,
+    list: &[u16; 4096],
+    count: usize,
+    place: &[u16],
+    runs: &[usize; 96],
+    sums: &[i64],
+    scatters: &[u64],
+    guess: usize,
     first: usize,
     last: usize,
 ) -> u64
-    requires { ⌜ Stored (now samples) (now links) n k head × Inside n first last × (length (now marks) ≡ 4096) ⌝ }
-    ensures { λ r. ⌜ r ≡ spreadOn (run first last) (segmentOf (sideTraces (now (samples .entry)) (now (links .entry)) n k head (now (marks .entry)) mark) (run first last)) ⌝ }
+    requires { ⌜ Listed (now samples) n (now list) count × Inside n first last
+        × Rows (now samples) n (take count (now list)) (now place) (now runs) (now sums) (now scatters) ⌝ }
+    ensures { λ r. ⌜ r ≡ spreadOn (run first last) (segmentOf (tracesAt (now (samples .entry)) n (take count (now (list .entry)))) (run first last)) ⌝ }
     ensures size { λ r. ⌜ r ≤ 2 ^ 57 ⌝ }
 {
-    let f = crate::sides::side_figures(samples, links, n, k, head, marks, mark, first, last);
+    let f = crate::along::figures_along(
+        samples,
+        n,
+        list,
+        count,
+        place,
+        runs,
+        sums,
+        scatters,
+        guess,
+        first,
+        last,
+    );
     let w = (last - first + 1) as u64;
     segment::terms::spread_term(w, f.least_sum, f.greatest_sum, f.greatest_scatter)
 }
 
-// The spread of the leaf's traces with a mark, over segments with these right ends.
-pub fn side_spread(
+// The column that segment i may have, among those of segments of which the one at `halved` is cut into its halves; none is from 16 on.
+fn guess_at(i: usize, halved: usize) -> usize
+    requires { ⌜ i < 16 ⌝ }
+{
+    if i < halved {
+        return i;
+    }
+    if i == halved {
+        return 16 + i;
+    }
+    let before = i - 1;
+    if before == halved {
+        return 32 + before;
+    }
+    before
+}
+
+// The spread of the list's traces, over segments with these right ends.
+pub fn spread_along(
     samples: &[i16],
-    links: &[u16],
     n: usize,
-    k: usize,
-    head: usize,
-    marks: &[u8; 4096],
-    mark: u8,
+    list: &[u16; 4096],
+    count: usize,
+    place: &[u16],
+    runs: &[usize; 96],
+    sums: &[i64],
+    scatters: &[u64],
+    halved: usize,
     e: crate::ends::Ends,
 ) -> u64
-    requires { ⌜ Stored (now samples) (now links) n k head × (length (now marks) ≡ 4096) × Room e × Rise n 1 (endsOf e) ⌝ }
-    ensures { λ r. ⌜ r ≡ spread (endsOf e) (sideTraces (now (samples .entry)) (now (links .entry)) n k head (now (marks .entry)) mark) ⌝ }
+    requires { ⌜ Listed (now samples) n (now list) count × Rows (now samples) n (take count (now list)) (now place) (now runs) (now sums) (now scatters) × Room e × Rise n 1 (endsOf e) ⌝ }
+    ensures { λ r. ⌜ r ≡ spread (endsOf e) (tracesAt (now (samples .entry)) n (take count (now (list .entry)))) ⌝ }
     ensures size { λ r. ⌜ r ≤ 2 ^ 61 ⌝ }
 {
     let at = e.at;
-    let count = e.count;
+    let segments = e.count;
     let mut total: u64 = 0;
     let mut first: usize = 1;
     let mut i: usize = 0;
-    while i < count {
+    while i < segments {
         let last = at[i];
-        total += segment_spread(samples, links, n, k, head, marks, mark, first, last);
+        let guess = guess_at(i, halved);
+        total += segment_spread(
+            samples,
+            n,
+            list,
+            count,
+            place,
+            runs,
+            sums,
+            scatters,
+            guess,
+            first,
+            last,
+        );
         first = last + 1;
         i += 1;
     }
     total
-}
-
-// The spread of all of the leaf's traces: with mark 0 on each of them the side is the whole leaf.
-pub fn whole_spread(
-    samples: &[i16],
-    links: &[u16],
-    n: usize,
-    k: usize,
-    head: usize,
-    e: crate::ends::Ends,
-) -> u64
-    requires { ⌜ Stored (now samples) (now links) n k head × Room e × Rise n 1 (endsOf e) ⌝ }
-    ensures { λ r. ⌜ r ≡ spread (endsOf e) (leafTraces (now (samples .entry)) (now (links .entry)) n k head) ⌝ }
-    ensures size { λ r. ⌜ r ≤ 2 ^ 61 ⌝ }
-{
-    let marks = [0u8; 4096];
-    side_spread(samples, links, n, k, head, &marks, 0, e)
 }

@@ -1,4 +1,5 @@
 pub mod Marked
+pub mod Sided
 pub mod Cuts
 pub mod Tried
 pub mod Halved

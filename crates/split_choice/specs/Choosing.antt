@@ -3,19 +3,21 @@ use Prim.Native.Nat.{ℕ, _^_, _≤_, _<_}
 use mathlib.Core.Path.{_≡_}
 use mathlib.Core.Bool.{true, not}
 use mathlib.Core.Option.{Option, none, some}
-use mathlib.Core.List.{List, [], foldl}
+use mathlib.Core.List.{List, [], foldl, map}
 use lib.IntN.{ℤ, natAbs}
-use lib.ListN.{length, getD}
+use lib.ListN.{length, getD, take}
 use lib.Signed.{ltZ}
 use lib.Dec.{eqb}
-use Rattle.integer.specs.Words.{if_then_else_, those}
+use Rattle.integer.specs.Words.{if_then_else_, those, leastℤ, greatestℤ}
+use Rattle.integer.specs.Lists.{In}
 use Rattle.dstree.specs.Measures.{Trace}
 use Rattle.dstree.specs.Figures.{run}
-use Rattle.dstree.specs.Node.{Test, goesLeft}
-use Rattle.dstree.specs.Adding.{Candidate, cutAt, Split, splitBy, parts, gain, spread}
-use Rattle.tables.specs.Walk.{storedIn, numbersOf, leafTraces, Stored}
+use Rattle.dstree.specs.Node.{Test, figureOf, goesLeft}
+use Rattle.dstree.specs.Adding.{Candidate, cutAt, tracesOf, Split, splitBy, parts, gain, spread}
+use Rattle.tables.specs.Walk.{storedIn, numbersOf}
 use Rattle.tables.specs.Runs.{figureBy, Inside}
 use Rattle.leaf_figures.specs.Ends.{endsOf, Room, Rise}
+use Rattle.leaf_figures.specs.Rows.{Listed, Rows}
 use Rattle.leaf_figures.specs.declared.ends.Ends.{Ends}
 use Rattle.tables.specs.Runs.{testBy}
 use Rattle.split_choice.specs.declared.choice.Trial.{Trial}
@@ -90,15 +92,26 @@ SoundIn samples links n k head e r = Sound n (storedIn samples n k) (endsOf e) (
 abbrev pub chosenIn : List ℤ → List ℕ → ℕ → ℕ → ℕ → Ends → Choice → Option Split
 chosenIn samples links n k head e r = chosenBy (storedIn samples n k) (endsOf e) (numbersOf links k head) r
 
--- what some candidates make of the best so far
-pub record After (samples : List ℤ) (links : List ℕ) (n k head : ℕ) (e : Ends) (old : Choice) (cs : List Candidate) (r : Choice) : Type 0 where
-  pub is : chosenIn samples links n k head e r ≡ tried (storedIn samples n k) (endsOf e) (numbersOf links k head) (chosenIn samples links n k head e old) cs
-  pub sound : SoundIn samples links n k head e r
+-- ---- over the leaf's numbers in an array
 
--- a leaf, its node's right ends, and its spread over them
-pub record Leaf (samples : List ℤ) (links : List ℕ) (n k head : ℕ) (e : Ends) (whole : ℕ) : Type 0 where
-  pub stored : Stored samples links n k head
+-- what some candidates make of the best so far
+pub record After (n : ℕ) (stored : List Trace) (all numbers : List ℕ) (old : Choice) (cs : List Candidate) (r : Choice) : Type 0 where
+  pub is : chosenBy stored all numbers r ≡ tried stored all numbers (chosenBy stored all numbers old) cs
+  pub sound : Sound n stored all numbers r
+
+-- a leaf's numbers, its node's right ends, its spread over them, and the table of its figures
+pub record Leaf (samples : List ℤ) (n k : ℕ) (list : List ℕ) (count : ℕ) (place runs : List ℕ) (sums : List ℤ) (scatters : List ℕ) (e : Ends) (whole : ℕ) : Type 0 where
+  pub listed : Listed samples n list count
+  pub below : (t : ℕ) → In t (take count list) → t < k
+  pub rows : Rows samples n (take count list) place runs sums scatters
   pub room : Room e
   pub rise : Rise n 1 (endsOf e)
-  pub spread-is : whole ≡ spread (endsOf e) (leafTraces samples links n k head)
+  pub spread-is : whole ≡ spread (endsOf e) (tracesOf (storedIn samples n k) (take count list))
   pub size : whole ≤ 2 ^ 61
+
+-- the least and the greatest figure of some traces on a trial's run
+pub record Reached (traces : List Trace) (c : Trial) (low high : ℤ) : Type 0 where
+  pub low-is : low ≡ leastℤ (map (figureOf (figureBy (c .«by_scatter»)) (run (c .first) (c .last))) traces)
+  pub high-is : high ≡ greatestℤ (map (figureOf (figureBy (c .«by_scatter»)) (run (c .first) (c .last))) traces)
+  pub low-size : natAbs low ≤ 2 ^ 46
+  pub high-size : natAbs high ≤ 2 ^ 46

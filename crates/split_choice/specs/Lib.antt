@@ -1,3 +1,4 @@
--- The choice of a leaf's split: marks for the sides, gains, and the best candidate so far.
+-- The choice of a leaf's split: the sides of a test, gains, and the best candidate so far.
 pub mod Marking
+pub mod Siding
 pub mod Choosing

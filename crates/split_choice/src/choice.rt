@@ -1,22 +1,30 @@
 // The candidate with the greatest gain.
+use leaf_figures::along::figures_along;
 use leaf_figures::ends::Ends;
-use leaf_figures::range::leaf_range;
+use leaf_figures::filling::fill_rows;
+use leaf_figures::lists::list_leaf;
+use leaf_figures::lists::place_list;
+use leaf_figures::spread::spread_along;
 ghost use mathlib.Core.Path.{_≡_};
 ghost use mathlib.Core.List.{_∷_, [], _++_};
 ghost use Prim.Native.Nat.{ℕ, _≤_, _<_};
+ghost use lib.ListN.{take};
+ghost use Rattle.integer.specs.Lists.{In};
 ghost use Rattle.dstree.specs.Figures.{run};
-ghost use Rattle.dstree.specs.Adding.{byEither, halves, cutAt, best};
+ghost use Rattle.dstree.specs.Adding.{tracesOf, byEither, halves, cutAt, best};
 ghost use Rattle.tables.specs.Walk.{storedIn, numbersOf, Stored};
 ghost use Rattle.tables.specs.Runs.{Inside};
 ghost use Rattle.leaf_figures.specs.Ends.{endsOf, Room, Rise};
-ghost use Rattle.split_choice.specs.Choosing.{choiceOf, betterOf, candidateBy, childEnds, chosenIn, SoundIn, After, Fit, Leaf};
+ghost use Rattle.leaf_figures.specs.Rows.{Listed, Rows};
+ghost use Rattle.split_choice.specs.Choosing.{choiceOf, betterOf, candidateBy, childEnds, chosenBy, chosenIn, Sound, SoundIn, After, Fit, Leaf, Reached};
 
-// A candidate: a run, its figure, and where the children's segments are cut, 0 for nowhere.
+// A candidate: a run, its figure, and where the children's segments are cut, 0 for nowhere. Its column in the table of figures is a guess.
 pub struct Trial {
     pub first: usize,
     pub last: usize,
     pub by_scatter: bool,
     pub cut: usize,
+    pub column: usize,
 }
 
 // The best candidate so far, if one parts the leaf.
@@ -53,85 +61,179 @@ fn better(best: Choice, c: Trial, threshold: i64, gain: i64) -> Choice
 // One candidate tried: if its least figure is below its greatest it parts the leaf, and its gain is compared. Otherwise no spread is taken.
 fn try_one(
     samples: &[i16],
-    links: &[u16],
     n: usize,
     k: usize,
-    head: usize,
+    list: &[u16; 4096],
+    count: usize,
+    place: &[u16],
+    runs: &[usize; 96],
+    sums: &[i64],
+    scatters: &[u64],
     e: Ends,
     whole: u64,
     c: Trial,
+    low: i64,
+    high: i64,
     old: Choice,
 ) -> Choice
-    requires { ⌜ Leaf (now samples) (now links) n k head e whole × Fit n (endsOf e) (c .first) (c .last) (c .cut) × SoundIn (now samples) (now links) n k head e old ⌝ }
-    ensures { λ r. ⌜ After (now (samples .entry)) (now (links .entry)) n k head e old (candidateBy (endsOf e) c ∷ []) r ⌝ }
+    requires { ⌜ Leaf (now samples) n k (now list) count (now place) (now runs) (now sums) (now scatters) e whole × Fit n (endsOf e) (c .first) (c .last) (c .cut)
+        × Reached (tracesOf (storedIn (now samples) n k) (take count (now list))) c low high × Sound n (storedIn (now samples) n k) (endsOf e) (take count (now list)) old ⌝ }
+    ensures { λ r. ⌜ After n (storedIn (now (samples .entry)) n k) (endsOf e) (take count (now (list .entry))) old (candidateBy (endsOf e) c ∷ []) r ⌝ }
 {
-    let first = c.first;
-    let last = c.last;
-    let by_scatter = c.by_scatter;
-    let range = leaf_range(samples, links, n, k, head, first, last, by_scatter);
-    if range.least < range.greatest {
-        let threshold = range.least + range.greatest;
-        let g = crate::gains::gain_of(samples, links, n, k, head, e, whole, c, threshold);
+    if low < high {
+        let threshold = low + high;
+        let g = crate::gains::gain_of(
+            samples,
+            n,
+            k,
+            list,
+            count,
+            place,
+            runs,
+            sums,
+            scatters,
+            e,
+            whole,
+            c,
+            threshold,
+        );
         better(old, c, threshold, g)
     } else {
         old
     }
 }
 
-// A run tried by sum, then by scatter.
+// A run tried by sum, then by scatter. The least and greatest of both figures are taken once.
 fn try_both(
     samples: &[i16],
-    links: &[u16],
     n: usize,
     k: usize,
-    head: usize,
+    list: &[u16; 4096],
+    count: usize,
+    place: &[u16],
+    runs: &[usize; 96],
+    sums: &[i64],
+    scatters: &[u64],
     e: Ends,
     whole: u64,
+    column: usize,
     first: usize,
     last: usize,
     cut: usize,
     old: Choice,
 ) -> Choice
-    requires { ⌜ Leaf (now samples) (now links) n k head e whole × Fit n (endsOf e) first last cut × SoundIn (now samples) (now links) n k head e old ⌝ }
-    ensures { λ r. ⌜ After (now (samples .entry)) (now (links .entry)) n k head e old (byEither (run first last) (childEnds cut (endsOf e))) r ⌝ }
+    requires { ⌜ Leaf (now samples) n k (now list) count (now place) (now runs) (now sums) (now scatters) e whole × Fit n (endsOf e) first last cut
+        × Sound n (storedIn (now samples) n k) (endsOf e) (take count (now list)) old ⌝ }
+    ensures { λ r. ⌜ After n (storedIn (now (samples .entry)) n k) (endsOf e) (take count (now (list .entry))) old (byEither (run first last) (childEnds cut (endsOf e))) r ⌝ }
 {
+    let f = figures_along(
+        samples,
+        n,
+        list,
+        count,
+        place,
+        runs,
+        sums,
+        scatters,
+        column,
+        first,
+        last,
+    );
     let by_sum = Trial {
         first,
         last,
         by_scatter: false,
         cut,
+        column,
     };
     let by_scatter = Trial {
         first,
         last,
         by_scatter: true,
         cut,
+        column,
     };
-    let one = try_one(samples, links, n, k, head, e, whole, by_sum, old);
-    try_one(samples, links, n, k, head, e, whole, by_scatter, one)
+    let low = f.least_scatter as i64;
+    let high = f.greatest_scatter as i64;
+    let one = try_one(
+        samples,
+        n,
+        k,
+        list,
+        count,
+        place,
+        runs,
+        sums,
+        scatters,
+        e,
+        whole,
+        by_sum,
+        f.least_sum,
+        f.greatest_sum,
+        old,
+    );
+    try_one(
+        samples,
+        n,
+        k,
+        list,
+        count,
+        place,
+        runs,
+        sums,
+        scatters,
+        e,
+        whole,
+        by_scatter,
+        low,
+        high,
+        one,
+    )
 }
 
 // One segment's candidates: the whole segment, then its halves, the left one rounded down. There are halves where another end has room
-// and the segment has two samples or more.
+// and the segment has two samples or more. Segment i's columns are i, 16 + i and 32 + i.
 fn try_segment(
     samples: &[i16],
-    links: &[u16],
     n: usize,
     k: usize,
-    head: usize,
+    list: &[u16; 4096],
+    count: usize,
+    place: &[u16],
+    runs: &[usize; 96],
+    sums: &[i64],
+    scatters: &[u64],
     e: Ends,
     whole: u64,
+    i: usize,
     first: usize,
     last: usize,
     old: Choice,
 ) -> Choice
-    requires { ⌜ Leaf (now samples) (now links) n k head e whole × Inside n first last
-        × ((m : ℕ) → first ≤ m → m < last → Rise n 1 (cutAt m (endsOf e))) × SoundIn (now samples) (now links) n k head e old ⌝ }
-    ensures { λ r. ⌜ After (now (samples .entry)) (now (links .entry)) n k head e old (byEither (run first last) (endsOf e) ++ halves (endsOf e) (run first last)) r ⌝ }
+    requires { ⌜ Leaf (now samples) n k (now list) count (now place) (now runs) (now sums) (now scatters) e whole × Inside n first last
+        × ((m : ℕ) → first ≤ m → m < last → Rise n 1 (cutAt m (endsOf e))) × (i < 16) × Sound n (storedIn (now samples) n k) (endsOf e) (take count (now list)) old ⌝ }
+    ensures { λ r. ⌜ After n (storedIn (now (samples .entry)) n k) (endsOf e) (take count (now (list .entry))) old (byEither (run first last) (endsOf e) ++ halves (endsOf e) (run first last)) r ⌝ }
 {
-    let count = e.count;
-    let all = try_both(samples, links, n, k, head, e, whole, first, last, 0, old);
-    if 16 <= count {
+    let segments = e.count;
+    let all = try_both(
+        samples,
+        n,
+        k,
+        list,
+        count,
+        place,
+        runs,
+        sums,
+        scatters,
+        e,
+        whole,
+        i,
+        first,
+        last,
+        0,
+        old,
+    );
+    if 16 <= segments {
         return all;
     }
     if last <= first {
@@ -139,20 +241,68 @@ fn try_segment(
     }
     let mid = first + (last - first + 1) / 2 - 1;
     let next = mid + 1;
-    let left = try_both(samples, links, n, k, head, e, whole, first, mid, mid, all);
-    try_both(samples, links, n, k, head, e, whole, next, last, mid, left)
+    let lefts = 16 + i;
+    let rights = 32 + i;
+    let left = try_both(
+        samples,
+        n,
+        k,
+        list,
+        count,
+        place,
+        runs,
+        sums,
+        scatters,
+        e,
+        whole,
+        lefts,
+        first,
+        mid,
+        mid,
+        all,
+    );
+    try_both(
+        samples,
+        n,
+        k,
+        list,
+        count,
+        place,
+        runs,
+        sums,
+        scatters,
+        e,
+        whole,
+        rights,
+        next,
+        last,
+        mid,
+        left,
+    )
 }
 
-// The split that a leaf takes, over the right ends of its node: the greatest gain, which can be below zero, and the earliest among equals.
-// Nothing is found if no candidate parts the leaf.
-pub fn choose(samples: &[i16], links: &[u16], n: usize, k: usize, head: usize, e: Ends) -> Choice
-    requires { ⌜ Stored (now samples) (now links) n k head × Room e × Rise n 1 (endsOf e) ⌝ }
-    ensures { λ r. ⌜ chosenIn (now (samples .entry)) (now (links .entry)) n k head e r ≡ best (storedIn (now (samples .entry)) n k) (endsOf e) (numbersOf (now (links .entry)) k head) ⌝ }
-    ensures sound { λ r. ⌜ SoundIn (now (samples .entry)) (now (links .entry)) n k head e r ⌝ }
+// The best of all candidates of a leaf whose numbers are listed.
+fn best_along(
+    samples: &[i16],
+    n: usize,
+    k: usize,
+    list: &[u16; 4096],
+    count: usize,
+    place: &[u16],
+    runs: &[usize; 96],
+    sums: &[i64],
+    scatters: &[u64],
+    e: Ends,
+) -> Choice
+    requires { ⌜ Listed (now samples) n (now list) count × ((t : ℕ) → In t (take count (now list)) → t < k)
+        × Rows (now samples) n (take count (now list)) (now place) (now runs) (now sums) (now scatters) × Room e × Rise n 1 (endsOf e) ⌝ }
+    ensures { λ r. ⌜ chosenBy (storedIn (now (samples .entry)) n k) (endsOf e) (take count (now (list .entry))) r
+        ≡ best (storedIn (now (samples .entry)) n k) (endsOf e) (take count (now (list .entry))) ⌝ }
+    ensures sound { λ r. ⌜ Sound n (storedIn (now (samples .entry)) n k) (endsOf e) (take count (now (list .entry))) r ⌝ }
 {
-    let whole = leaf_figures::spread::whole_spread(samples, links, n, k, head, e);
+    let whole = spread_along(samples, n, list, count, place, runs, sums, scatters, 16, e);
     let at = e.at;
-    let count = e.count;
+    let segments = e.count;
     let mut found = Choice {
         found: false,
         first: 0,
@@ -164,11 +314,65 @@ pub fn choose(samples: &[i16], links: &[u16], n: usize, k: usize, head: usize, e
     };
     let mut first: usize = 1;
     let mut i: usize = 0;
-    while i < count {
+    while i < segments {
         let last = at[i];
-        found = try_segment(samples, links, n, k, head, e, whole, first, last, found);
+        found = try_segment(
+            samples,
+            n,
+            k,
+            list,
+            count,
+            place,
+            runs,
+            sums,
+            scatters,
+            e,
+            whole,
+            i,
+            first,
+            last,
+            found,
+        );
         first = last + 1;
         i += 1;
     }
     found
+}
+
+// The split that a leaf takes, over the right ends of its node: the greatest gain, which can be below zero, and the earliest among equals.
+// Nothing is found if no candidate parts the leaf. Its numbers are listed, and the figures of a list that is not too long are kept.
+pub fn choose(samples: &[i16], links: &[u16], n: usize, k: usize, head: usize, e: Ends) -> Choice
+    requires { ⌜ Stored (now samples) (now links) n k head × Room e × Rise n 1 (endsOf e) ⌝ }
+    ensures { λ r. ⌜ chosenIn (now (samples .entry)) (now (links .entry)) n k head e r ≡ best (storedIn (now (samples .entry)) n k) (endsOf e) (numbersOf (now (links .entry)) k head) ⌝ }
+    ensures sound { λ r. ⌜ SoundIn (now (samples .entry)) (now (links .entry)) n k head e r ⌝ }
+{
+    let mut list = [0u16; 4096];
+    let mut place = [0u16; 4096];
+    let mut runs = [0usize; 96];
+    let mut sums = [0i64; 3120];
+    let mut scatters = [0u64; 3120];
+    let count = list_leaf(links, k, head, &mut list);
+    place_list(&list, count, &mut place);
+    fill_rows(
+        samples,
+        n,
+        &list,
+        count,
+        e,
+        &mut runs,
+        &mut sums,
+        &mut scatters,
+    );
+    best_along(
+        samples,
+        n,
+        k,
+        &list,
+        count,
+        &place,
+        &runs,
+        &sums,
+        &scatters,
+        e,
+    )
 }

@@ -1,15 +1,20 @@
 // The gain of a candidate.
-use crate::marking::mark_sides;
+use crate::choice::Trial;
+use crate::siding::list_side;
 use leaf_figures::ends::Ends;
 use leaf_figures::ends::with_cut;
-use leaf_figures::spread::side_spread;
+use leaf_figures::spread::spread_along;
 ghost use mathlib.Core.Path.{_≡_};
 ghost use Prim.Native.Nat.{_+_, _*_, _^_, _<_, _≤_};
 ghost use lib.IntN.{pos, _-ℤ_};
-ghost use Rattle.tables.specs.Walk.{storedIn, numbersOf};
-ghost use Rattle.leaf_figures.specs.Ends.{endsOf, Room};
+ghost use lib.ListN.{length, take};
 ghost use Rattle.dstree.specs.Adding as adding;
-ghost use Rattle.tables.specs.Runs.{testBy};
+ghost use Rattle.dstree.specs.Adding.{spread};
+ghost use Rattle.tables.specs.Walk.{storedIn};
+ghost use Rattle.tables.specs.Runs.{Inside};
+ghost use Rattle.leaf_figures.specs.Ends.{endsOf, Room, Rise};
+ghost use Rattle.leaf_figures.specs.Rows.{tracesAt, Listed, Rows};
+ghost use Rattle.split_choice.specs.Siding.{trialTest, sideOf};
 ghost use Rattle.split_choice.specs.Choosing.{childEnds, Fit, Leaf, splitOn};
 
 // Twice the leaf's spread less both children's. It is a number with a sign: children's spreads can be the larger ones.
@@ -32,40 +37,119 @@ pub fn child_ends(e: Ends, cut: usize) -> Ends
     with_cut(e, cut)
 }
 
-// The gain of the candidate on a run with this threshold: its sides are marked, and each side's spread is over the children's ends.
+// The spread of one side of a trial, over the children's ends. `side` is room for the side's list.
+fn side_spread(
+    samples: &[i16],
+    n: usize,
+    list: &[u16; 4096],
+    count: usize,
+    place: &[u16],
+    runs: &[usize; 96],
+    sums: &[i64],
+    scatters: &[u64],
+    c: Trial,
+    threshold: i64,
+    left: bool,
+    child: Ends,
+    side: &mut [u16; 4096],
+) -> u64
+    requires { ⌜ Listed (now samples) n (now list) count × Inside n (c .first) (c .last)
+        × Rows (now samples) n (take count (now list)) (now place) (now runs) (now sums) (now scatters) × (length (now side) ≡ 4096) × Room child × Rise n 1 (endsOf child) ⌝ }
+    ensures { λ r. ⌜ r ≡ spread (endsOf child) (tracesAt (now (samples .entry)) n (sideOf (now (samples .entry)) n (trialTest c threshold) left (take count (now (list .entry))))) ⌝ }
+    ensures size { λ r. ⌜ r ≤ 2 ^ 61 ⌝ }
+    ensures room { λ _. ⌜ length (now (side .exit)) ≡ 4096 ⌝ }
+{
+    let many = list_side(
+        samples,
+        n,
+        list,
+        count,
+        place,
+        runs,
+        sums,
+        scatters,
+        c,
+        threshold,
+        left,
+        side,
+    );
+    let halved = halved_by(c.column);
+    spread_along(
+        samples,
+        n,
+        side,
+        many,
+        place,
+        runs,
+        sums,
+        scatters,
+        halved,
+        child,
+    )
+}
+
+// The segment that a column cuts into its halves; none is from 16 on.
+fn halved_by(column: usize) -> usize {
+    if column < 16 {
+        return 16;
+    }
+    if column < 32 {
+        return column - 16;
+    }
+    column - 32
+}
+
+// The gain of the candidate on a run with this threshold: the spread of each of its sides is over the children's ends.
 pub fn gain_of(
     samples: &[i16],
-    links: &[u16],
     n: usize,
     k: usize,
-    head: usize,
+    list: &[u16; 4096],
+    count: usize,
+    place: &[u16],
+    runs: &[usize; 96],
+    sums: &[i64],
+    scatters: &[u64],
     e: Ends,
     whole: u64,
-    c: crate::choice::Trial,
+    c: Trial,
     threshold: i64,
 ) -> i64
-    requires { ⌜ Leaf (now samples) (now links) n k head e whole × Fit n (endsOf e) (c .first) (c .last) (c .cut) ⌝ }
-    ensures { λ r. ⌜ r ≡ adding.gain (storedIn (now (samples .entry)) n k) (endsOf e) (numbersOf (now (links .entry)) k head)
-        (splitOn (storedIn (now (samples .entry)) n k) (numbersOf (now (links .entry)) k head) (testBy (c .first) (c .last) (c .«by_scatter») threshold) (childEnds (c .cut) (endsOf e))) ⌝ }
+    requires { ⌜ Leaf (now samples) n k (now list) count (now place) (now runs) (now sums) (now scatters) e whole × Fit n (endsOf e) (c .first) (c .last) (c .cut) ⌝ }
+    ensures { λ r. ⌜ r ≡ adding.gain (storedIn (now (samples .entry)) n k) (endsOf e) (take count (now (list .entry)))
+        (splitOn (storedIn (now (samples .entry)) n k) (take count (now (list .entry))) (trialTest c threshold) (childEnds (c .cut) (endsOf e))) ⌝ }
 {
-    let first = c.first;
-    let last = c.last;
-    let by_scatter = c.by_scatter;
-    let mut marks = [0u8; 4096];
-    mark_sides(
-        samples,
-        links,
-        n,
-        k,
-        head,
-        first,
-        last,
-        by_scatter,
-        threshold,
-        &mut marks,
-    );
     let child = child_ends(e, c.cut);
-    let left = side_spread(samples, links, n, k, head, &marks, 1, child);
-    let right = side_spread(samples, links, n, k, head, &marks, 2, child);
+    let mut side = [0u16; 4096];
+    let left = side_spread(
+        samples,
+        n,
+        list,
+        count,
+        place,
+        runs,
+        sums,
+        scatters,
+        c,
+        threshold,
+        true,
+        child,
+        &mut side,
+    );
+    let right = side_spread(
+        samples,
+        n,
+        list,
+        count,
+        place,
+        runs,
+        sums,
+        scatters,
+        c,
+        threshold,
+        false,
+        child,
+        &mut side,
+    );
     gain(whole, left, right)
 }

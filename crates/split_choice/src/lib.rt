@@ -2,3 +2,4 @@
 pub mod choice;
 pub mod gains;
 pub mod marking;
+pub mod siding;

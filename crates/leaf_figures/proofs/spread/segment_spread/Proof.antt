@@ -23,23 +23,23 @@ greatest-back f m = toZ-ofZ (small {w = w64} {z = f .«greatest_sum»} (omega (a
 
 spread-term-requires : tie.Need-spread-term-requires
 spread-term-requires c κs =
-    let s = c .before .before .before .before in
-    let f = c .before .before .side-figures .result in
-    let m = c .before .before .side-figures .ensures .1 in
+    let s = c .before .before .before .before .before in
+    let f = c .before .before .figures-along .result in
+    let m = c .before .before .figures-along .ensures .1 in
     rw (least-back f m, greatest-back f m)
     (omega arith, omega (arith, s .pre .0 .narrow, s .pre .1 .from-1, s .pre .1 .to-n), omega (arith, m .least-sum), omega (arith, m .greatest-sum), omega (arith, m .greatest-scatter))
 
 returns : tie.Need-returns
 unfolding spreadOn
 returns c =
-    let s = c .before .before .before .before .before in
-    let f = c .before .before .before .side-figures .result in
-    let m = c .before .before .before .side-figures .ensures .1 in
+    let s = c .before .before .before .before .before .before in
+    let f = c .before .before .before .figures-along .result in
+    let m = c .before .before .before .figures-along .ensures .1 in
     let on = run (s .args .first) (s .args .last) in
     let w : s .args .last - s .args .first + 1 ≡ suc (s .args .last) - s .args .first = omega (arith, s .pre .1 .rises) in
     let e : c .spread-term .result ≡ spreadTerm (s .args .last - s .args .first + 1) (f .«least_sum») (f .«greatest_sum») (f .«greatest_scatter») =
     rw (least-back f m, greatest-back f m) at (c .spread-term .ensures .0) in
-    (e ∙ (rw w (ap (spreadOn on) (c .before .before .before .side-figures .ensures .0))), c .spread-term .ensures .1)
+    (e ∙ (rw w (ap (spreadOn on) (c .before .before .before .figures-along .ensures .0))), c .spread-term .ensures .1)
 
 pub segment-spread-spec : {M : Type 1} → statement M
 segment-spread-spec =

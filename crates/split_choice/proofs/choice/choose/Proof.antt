@@ -1,92 +1,88 @@
--- `split_choice::choice::choose` meets its contract: what is found, and what the segments that are left find, is the best of all. The measure is how many
--- segments are left.
-use mathlib.Core.Path.{subst}
-use mathlib.Core.List.{_∷_}
-use Prim.Native.Nat.{_+_, _-_, _≤_}
+-- `split_choice::choice::choose` meets its contract: the list is the leaf's numbers, and what is kept are the figures of its traces.
+use mathlib.Core.Path.{_≡_, subst}
+use mathlib.Core.List.{List}
+use Prim.Native.Nat.{ℕ, _≤_, _<_}
 use native.Mathlib.Omega.{arith}
-use lib.ListN.{getD, take, drop}
+use lib.IntN.{ℤ}
+use lib.ListN.{take}
+use borrow.Author.Needs.{needs}
+use Rattle.integer.proofs.Lists.{In}
+use Rattle.dstree.specs.Adding.{best}
 use Rattle.tables.specs.Walk.{storedIn, numbersOf}
+use Rattle.tables.proofs.Listed.{numbers-below, run-in}
 use Rattle.leaf_figures.specs.Ends.{endsOf}
-use Rattle.leaf_figures.proofs.Placed.{end-at, no-end}
-use Rattle.split_choice.proofs.Going.{Going, going-start, going-end, Turn, turn}
+use Rattle.leaf_figures.specs.Rows.{Listed}
+use Rattle.leaf_figures.proofs.Filled.{no-columns, rows-of}
+use Rattle.split_choice.specs.Choosing.{chosenBy, Sound}
 use Rattle.split_choice.proofs.choice.choose.Statement.{statement}
 use Rattle.split_choice.proofs.choice.choose.Tie as tie
 
-abbrev Inv-loop : tie.InvT-loop
-Inv-loop samples links n k head e whole at count found₀ first₀ i₀ found first i = (i ≤ count)
-    × Going n (storedIn samples n k) (take count at) (numbersOf links k head) found first (drop i (take count at))
+-- what is known once the leaf's numbers are listed
+module _ (l : tie.After-list-leaf) where
+  abbrev s : tie.Start
+  s = l .before .before .before
 
-abbrev μ-loop : tie.MeasureT-loop
-μ-loop samples links n k head e whole at count found₀ first₀ i₀ found first i = count - i
+  abbrev list : List ℕ
+  list = l .list-leaf .last .1 .1 .1 .0
 
-whole-spread-requires : tie.Need-whole-spread-requires Inv-loop μ-loop
-whole-spread-requires c κs = let s = c .before in (s .pre .0, s .pre .1, s .pre .2)
+  abbrev count : ℕ
+  count = l .list-leaf .result
 
-loop-holds : tie.Need-loop-holds Inv-loop μ-loop
-loop-holds c =
-    let s = c .before .before .before in
-    let a = s .args in
-    (omega arith, going-start (a .n) (storedIn (a .samples .now) (a .n) (a .k)) (endsOf (a .e)) (numbersOf (a .links .now) (a .k) (a .head)) (s .pre .2))
+  below : (t : ℕ) → In t (take count list) → t < s .args .k
+  below t i =
+      let p = s .pre .0 in
+      numbers-below (s .args .links .now) (s .args .k) (p .rising) (s .args .head) t (p .inside) (subst (In t) (l .list-leaf .ensures .0) i)
 
-mul-last : tie.Need-mul-last Inv-loop μ-loop
-mul-last c = omega (arith, c .before .before .before .before .before .pre .1 .few)
+  listed : Listed (s .args .samples .now) (s .args .n) list count
+  listed =
+      let p = s .pre .0 in
+      record {
+        narrow = p .narrow;
+        places = l .list-leaf .ensures .1 .1;
+        few = l .list-leaf .ensures .1 .0;
+        inside = λ t i. run-in {first = 1} {last = 1} p (record { from-1 = omega arith; rises = omega arith; to-n = p .wide }) t (below t i) .room;
+      }
 
-array-read-last : tie.Need-array-read-last Inv-loop μ-loop
-array-read-last c = omega (arith, c .before .before .before .before .before .pre .1 .few)
+list-leaf-requires : tie.Need-list-leaf-requires
+list-leaf-requires c κs = let p = c .before .before .pre .0 in (p .inside, p .few, p .links-room, p .rising, omega arith)
 
--- the turn of a segment
-going : (c : tie.In-loop Inv-loop μ-loop) →
-    let a = c .before .before .before .before .before .args in
-    let l = c .before .loop in
-    Going (a .n) (storedIn (a .samples .now) (a .n) (a .k)) (endsOf (a .e)) (numbersOf (a .links .now) (a .k) (a .head)) (l .found) (l .first)
-    (getD (a .e .at) (l .i) 0 ∷ drop (l .i + 1) (endsOf (a .e)))
-going c =
-    let s = c .before .before .before .before .before in
-    let a = s .args in
-    let l = c .before .loop in
-    let p = s .pre .1 in
-    subst (Going (a .n) (storedIn (a .samples .now) (a .n) (a .k)) (endsOf (a .e)) (numbersOf (a .links .now) (a .k) (a .head)) (l .found) (l .first))
-    (end-at (a .e .at) (a .e .count) (omega (arith, p .places, p .few)) (l .i) (c .loop-test .taken)) (l .inv .1)
+place-list-requires : tie.Need-place-list-requires
+place-list-requires c κs =
+    let l = c .before .before in
+    (l .list-leaf .ensures .1 .1, l .list-leaf .ensures .1 .0, omega arith, λ t i. omega (arith, below l t i, s l .pre .0 .few))
 
-turned : (c : tie.In-loop Inv-loop μ-loop) →
-    let a = c .before .before .before .before .before .args in
-    let l = c .before .loop in
-    Turn (a .n) (storedIn (a .samples .now) (a .n) (a .k)) (endsOf (a .e)) (numbersOf (a .links .now) (a .k) (a .head)) (l .first) (getD (a .e .at) (l .i) 0) (drop (l .i + 1) (endsOf (a .e)))
-turned c = let a = c .before .before .before .before .before .args in turn (a .n) (storedIn (a .samples .now) (a .n) (a .k)) (endsOf (a .e)) (numbersOf (a .links .now) (a .k) (a .head)) (going c)
+fill-rows-requires : tie.Need-fill-rows-requires
+fill-rows-requires c κs =
+    let l = c .before .before .before .before .before .before .before in
+    (listed l, s l .pre .1, s l .pre .2, no-columns (s l .args .samples .now) (s l .args .n) (list l) (count l))
 
-try-segment-requires : tie.Need-try-segment-requires Inv-loop μ-loop
-try-segment-requires c κs =
-    let s = c .before .before .before .before .before in
-    let whole = c .before .before .before .whole-spread in
-    let t = turned c in (
-      record { stored = s .pre .0; room = s .pre .1; rise = s .pre .2; spread-is = whole .ensures .0; size = whole .ensures .1 },
-      t .inside,
-      t .cuts,
-      c .before .loop .inv .1 .sound,
+best-along-requires : tie.Need-best-along-requires
+best-along-requires c κs =
+    let f = c .before .before .before .before .before in
+    let p = f .before .before .before .before .before in
+    let l = p .before .before .before in
+    let place = p .place-list .last .1 .1 .0 in
+    let runs = f .fill-rows .last .1 .1 .1 .1 .1 .0 in
+    let sums = f .fill-rows .last .1 .1 .1 .1 .1 .1 .0 in
+    let scatters = f .fill-rows .last .1 .1 .1 .1 .1 .1 .1 .0 in (
+      listed l,
+      below l,
+      rows-of (s l .args .samples .now) (s l .args .n) (list l) (count l) place runs sums scatters (p .place-list .ensures) (f .fill-rows .ensures),
+      s l .pre .1,
+      s l .pre .2,
     )
 
-add-first : tie.Need-add-first Inv-loop μ-loop
-add-first c = omega (arith, turned (c .before) .inside .to-n, c .before .before .before .before .before .before .pre .0 .narrow)
-
-add-i : tie.Need-add-i Inv-loop μ-loop
-add-i c = omega (arith, c .before .before .before .before .before .before .pre .1 .few)
-
-loop-again : tie.Need-loop-again Inv-loop μ-loop
-loop-again c = (omega arith, turned (c .before) .on (c .before .before .loop .found) (c .try-segment .result) (going (c .before)) (c .try-segment .ensures .is) (c .try-segment .ensures .sound))
-
-returns : tie.Need-returns Inv-loop μ-loop
+returns : tie.Need-returns
 returns c =
-    let s = c .before .before .before .before .before in
-    let a = s .args in
-    let l = c .before .loop in
-    let p = s .pre .1 in
-    let none-left = no-end (a .e .at) (a .e .count) (omega (arith, p .places, p .few)) (l .i) (c .loop-test .left) in
-    let g = subst (Going (a .n) (storedIn (a .samples .now) (a .n) (a .k)) (endsOf (a .e)) (numbersOf (a .links .now) (a .k) (a .head)) (l .found) (l .first)) none-left (l .inv .1) in
-    (going-end (a .n) (storedIn (a .samples .now) (a .n) (a .k)) (endsOf (a .e)) (numbersOf (a .links .now) (a .k) (a .head)) g, l .inv .1 .sound)
+    let l = c .before .before .before .before .before .before .before .before .before .before .before .before .before .before in
+    let a = s l .args in
+    let stored = storedIn (a .samples .now) (a .n) (a .k) in
+    let r = c .best-along .result in
+    subst (λ (numbers : List ℕ). (chosenBy stored (endsOf (a .e)) numbers r ≡ best stored (endsOf (a .e)) numbers) × Sound (a .n) stored (endsOf (a .e)) numbers r)
+    (l .list-leaf .ensures .0) (c .best-along .ensures .0, c .best-along .ensures .1)
 
 pub choose-spec : {M : Type 1} → statement M
 choose-spec =
     tie.close
     (tie.spec
-    Inv-loop μ-loop whole-spread-requires loop-holds mul-last array-read-last try-segment-requires add-first add-i
-    (λ c. omega arith) loop-again returns)
+    list-leaf-requires place-list-requires fill-rows-requires (λ c. search needs) (λ c. search needs) (λ c. search needs) best-along-requires returns)

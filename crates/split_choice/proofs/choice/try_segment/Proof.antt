@@ -4,12 +4,12 @@ use mathlib.Core.Option.{Option}
 use mathlib.Core.List.{List, [], _++_}
 use Prim.Native.Nat.{_+_, _<_}
 use native.Mathlib.Omega.{arith}
-use lib.ListN.{length}
+use lib.ListN.{length, take}
 use lib.Seq.{length-take-le}
 use borrow.Author.Tests.{ne-eqb}
 use Rattle.dstree.specs.Figures.{run}
 use Rattle.dstree.specs.Adding.{Candidate, Split, byEither, halves}
-use Rattle.tables.specs.Walk.{storedIn, numbersOf}
+use Rattle.tables.specs.Walk.{storedIn}
 use Rattle.leaf_figures.specs.Ends.{endsOf, Rise}
 use Rattle.split_choice.specs.Choosing.{chosenBy, childEnds, tryOne, tried}
 use Rattle.split_choice.proofs.Tried.{fold-append}
@@ -23,10 +23,10 @@ count-is s = let p = s .pre .0 .room in length-take-le (s .args .e .count) (s .a
 
 -- the best of some candidates, from the best so far on
 abbrev after : (s : tie.Start) → Option Split → List Candidate → Option Split
-after s o cs = let a = s .args in tried (storedIn (a .samples .now) (a .n) (a .k)) (endsOf (a .e)) (numbersOf (a .links .now) (a .k) (a .head)) o cs
+after s o cs = let a = s .args in tried (storedIn (a .samples .now) (a .n) (a .k)) (endsOf (a .e)) (take (a .count) (a .list .now)) o cs
 
 abbrev before : (s : tie.Start) → Option Split
-before s = let a = s .args in chosenBy (storedIn (a .samples .now) (a .n) (a .k)) (endsOf (a .e)) (numbersOf (a .links .now) (a .k) (a .head)) (a .old)
+before s = let a = s .args in chosenBy (storedIn (a .samples .now) (a .n) (a .k)) (endsOf (a .e)) (take (a .count) (a .list .now)) (a .old)
 
 -- with no halves the whole segment is all
 whole-only : (s : tie.Start) → let a = s .args in halves (endsOf (a .e)) (run (a .first) (a .last)) ≡ []
@@ -34,7 +34,7 @@ whole-only : (s : tie.Start) → let a = s .args in halves (endsOf (a .e)) (run 
     ≡ after s (before s) (byEither (run (a .first) (a .last)) (endsOf (a .e)) ++ halves (endsOf (a .e)) (run (a .first) (a .last)))
 whole-only s e =
     let a = s .args in
-    sym (fold-append (tryOne (storedIn (a .samples .now) (a .n) (a .k)) (endsOf (a .e)) (numbersOf (a .links .now) (a .k) (a .head))) (before s)
+    sym (fold-append (tryOne (storedIn (a .samples .now) (a .n) (a .k)) (endsOf (a .e)) (take (a .count) (a .list .now))) (before s)
     (byEither (run (a .first) (a .last)) (endsOf (a .e))) (halves (endsOf (a .e)) (run (a .first) (a .last)))
     ∙ ap (λ (h : List Candidate). after s (after s (before s) (byEither (run (a .first) (a .last)) (endsOf (a .e)))) h) e)
 
@@ -48,12 +48,12 @@ half-rise s h =
 
 try-both-requires : tie.Need-try-both-requires
 try-both-requires c κs =
-    let s = c .before in
-    (s .pre .0, record { inside = s .pre .1; room = λ f. absurd (f refl); rise = s .pre .0 .rise }, s .pre .3)
+    let s = c .before .before in
+    (s .pre .0, record { inside = s .pre .1; room = λ f. absurd (f refl); rise = s .pre .0 .rise }, s .pre .4)
 
 returns : tie.Need-returns
 returns c =
-    let s = c .before .before .before in
+    let s = c .before .before .before .before in
     record {
       is = c .before .try-both .ensures .is ∙ whole-only s (no-room (endsOf (s .args .e)) (s .args .first) (s .args .last) (omega (arith, count-is s, c .if1 .taken)));
       sound = c .before .try-both .ensures .sound;
@@ -61,30 +61,30 @@ returns c =
 
 returns-2 : tie.Need-returns-2
 returns-2 c =
-    let s = c .before .before .before .before in
+    let s = c .before .before .before .before .before in
     record {
       is = c .before .before .try-both .ensures .is ∙ whole-only s (no-width (endsOf (s .args .e)) (s .args .first) (s .args .last) (c .if2 .taken));
       sound = c .before .before .try-both .ensures .sound;
     }
 
 add-mid : tie.Need-add-mid
-add-mid c = omega (arith, c .before .before .before .before .pre .1 .to-n, c .before .before .before .before .pre .0 .stored .narrow)
+add-mid c = omega (arith, c .before .before .before .before .before .pre .1 .to-n, c .before .before .before .before .before .pre .0 .listed .narrow)
 
 add-mid-2 : tie.Need-add-mid-2
-add-mid-2 c = omega (arith, c .before .before .before .before .pre .1 .to-n, c .before .before .before .before .pre .0 .stored .narrow)
+add-mid-2 c = omega (arith, c .before .before .before .before .before .pre .1 .to-n, c .before .before .before .before .before .pre .0 .listed .narrow)
 
 sub-mid-2 : tie.Need-sub-mid-2
-sub-mid-2 c = omega (arith, c .before .before .before .before .pre .1 .from-1)
+sub-mid-2 c = omega (arith, c .before .before .before .before .before .pre .1 .from-1)
 
 add-next : tie.Need-add-next
 add-next c =
-    let s = c .before .before .before .before in
+    let s = c .before .before .before .before .before in
     let i = middle-in (endsOf (s .args .e)) (s .args .first) (s .args .last) (s .pre .1 .from-1) (c .if2 .left) in
-    omega (arith, i .1, s .pre .1 .to-n, s .pre .0 .stored .narrow)
+    omega (arith, i .1, s .pre .1 .to-n, s .pre .0 .listed .narrow)
 
 try-both-requires-2 : tie.Need-try-both-requires-2
 try-both-requires-2 c κs =
-    let s = c .before .before .before .before in
+    let s = c .before .before .before .before .before in
     let i = middle-in (endsOf (s .args .e)) (s .args .first) (s .args .last) (s .pre .1 .from-1) (c .if2 .left) in (
       s .pre .0,
       record {
@@ -97,7 +97,7 @@ try-both-requires-2 c κs =
 
 try-both-requires-3 : tie.Need-try-both-requires-3
 try-both-requires-3 c κs =
-    let s = c .before .before .before .before .before in
+    let s = c .before .before .before .before .before .before in
     let i = middle-in (endsOf (s .args .e)) (s .args .first) (s .args .last) (s .pre .1 .from-1) (c .before .if2 .left) in (
       s .pre .0,
       record {
@@ -110,14 +110,14 @@ try-both-requires-3 c κs =
 
 returns-3 : tie.Need-returns-3
 returns-3 c =
-    let s = c .before .before .before .before .before .before in
+    let s = c .before .before .before .before .before .before .before in
     let a = s .args in
     let all = endsOf (a .e) in
     let m = middle all (a .first) (a .last) in
     let wholes = byEither (run (a .first) (a .last)) all in
     let lefts = byEither (run (a .first) m) (childEnds m all) in
     let rights = byEither (run (m + 1) (a .last)) (childEnds m all) in
-    let one = tryOne (storedIn (a .samples .now) (a .n) (a .k)) all (numbersOf (a .links .now) (a .k) (a .head)) in
+    let one = tryOne (storedIn (a .samples .now) (a .n) (a .k)) all (take (a .count) (a .list .now)) in
     let e : halves all (run (a .first) (a .last)) ≡ lefts ++ rights = both-halves all (a .first) (a .last) (s .pre .1 .from-1) (c .before .before .if2 .left)
     (omega (arith, count-is s, c .before .before .before .if1 .left)) in
     let split : after s (before s) (wholes ++ halves all (run (a .first) (a .last))) ≡ after s (after s (after s (before s) wholes) lefts) rights =
@@ -134,5 +134,6 @@ pub try-segment-spec : {M : Type 1} → statement M
 try-segment-spec =
     tie.close
     (tie.spec
-    try-both-requires returns returns-2 (λ c. omega arith) add-mid add-mid-2 sub-mid-2 add-next try-both-requires-2
+    try-both-requires returns returns-2 (λ c. omega arith) add-mid add-mid-2 sub-mid-2 add-next (λ c. omega (arith, c .before .before .before .before .before .pre .3))
+    (λ c. omega (arith, c .before .before .before .before .before .pre .3)) try-both-requires-2
     try-both-requires-3 returns-3)

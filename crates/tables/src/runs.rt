@@ -42,8 +42,8 @@ pub fn scatter_on(trace: &[i16], first: usize, last: usize) -> u64
 // Both figures.
 pub fn figures_on(trace: &[i16], first: usize, last: usize) -> segment::figures::Figures
     requires { ⌜ RunOf (length (now trace)) first last ⌝ }
-    ensures sum { λ r. ⌜ (r .sum ≡ sumOn (run first last) (now (trace .entry))) × (natAbs (r .sum) ≤ 2 ^ 23) ⌝ }
-    ensures scatter { λ r. ⌜ (r .scatter ≡ scatterOn (run first last) (now (trace .entry))) × (r .scatter ≤ 2 ^ 46) ⌝ }
+    ensures sum { λ r. ⌜ (r .sum ≡ sumOn (run first last) (now (trace .entry))) × (natAbs (r .sum) ≤ sumMost 256) ⌝ }
+    ensures scatter { λ r. ⌜ (r .scatter ≡ scatterOn (run first last) (now (trace .entry))) × (r .scatter ≤ scatterMost 256) ⌝ }
 {
     let before = first - 1;
     segment::figures::figures_of(&trace[before..last])

@@ -2,13 +2,15 @@
 use Prim.Native.Nat.{ℕ, zero, suc, _+_, _-_, _≤_, _<_}
 use mathlib.Core.Path.{_≡_, refl, sym, _∙_, ap}
 use mathlib.Core.Bool.{Bool, true, false, not, _&&_}
+use mathlib.Core.Logic.{_⊎_, inl, inr}
 use mathlib.Core.List.{List, [], _∷_, foldl}
 use native.Mathlib.Omega.{arith}
 use native.Mathlib.Numerals.{add-one}
 use lib.ListN.{length, length-map}
-use lib.IntN.{ℤ, pos, negsuc}
-use lib.Dec.{leb, ltb, eqb}
-use borrow.Author.Tests.{lt-ltb, le-ltb, lt-leb, le-leb, eq-eqb, ne-eqb, ltb-false, leb-true, leb-false}
+use lib.IntN.{ℤ, pos, negsuc, natAbs}
+use lib.Signed.{leZ, ltZ, nonNeg}
+use lib.Dec.{T, leb, ltb, eqb}
+use borrow.Author.Tests.{lt-ltb, le-ltb, lt-leb, le-leb, eq-eqb, ne-eqb, ltb-true, ltb-false, leb-true, leb-false}
 use Rattle.integer.specs.Words.{if_then_else_, every, counting, isIn, isEmpty, lastOf}
 use Rattle.integer.proofs.Times.{counting-length}
 use Rattle.dstree.specs.Measures.{sampleLimit}
@@ -18,16 +20,71 @@ use Rattle.dstree.specs.WellFormed.{rising, endsFit, segmentFits, segmentsFit}
 use Rattle.tables.specs.Layout.{segmentAt, segmentsPlace}
 use Rattle.tables.specs.View.{smallOf, scatterIn, placeOf, smallAt, segmentIn, segmentsIn}
 use Rattle.records_fit.proofs.Limits.{clash}
-use Rattle.records_fit.specs.Fits.{segmentsHold, segmentsFrom, restHolds, endsIn}
+use Rattle.records_fit.specs.Fits.{between, segmentsHold, segmentsFrom, restHolds, endsIn}
 
--- a field reads as 65,536 at most
-small-most : (z : ℤ) → smallOf z ≤ 65536
-small-most (pos n) = by (ltb 65535 n) refl
-  where
-    by : (b : Bool) → ltb 65535 n ≡ b → (if b then 65536 else n) ≤ 65536
-    by true e = omega arith
-    by false e = let h = ltb-false 65535 n e in omega arith
-small-most (negsuc n) = omega arith
+and-no : (a : Bool) → a && false ≡ false
+and-no true = refl
+and-no false = refl
+
+-- ---- a number in between
+
+module _ (low high : ℕ) where
+  pub between-below : (x : ℕ) → x ≤ low → between low high x ≡ 0
+  between-below x h = rw (le-ltb low x h)
+
+  pub between-above : (x : ℕ) → high < x → between low high x ≡ 0
+  between-above x h = by (ltb low x)
+    where
+      by : (b : Bool) → (if b && leb x high then x else 0) ≡ 0
+      by true = rw (lt-leb x high h)
+      by false = refl
+
+  pub between-is : (x : ℕ) → low < x → x ≤ high → between low high x ≡ x
+  between-is x g h = rw (lt-ltb low x g, le-leb x high h)
+
+  -- any but 0 is the number itself
+  pub between-some : (x : ℕ) → (between low high x ≡ 0 → ⊥) → (low < x) × (x ≤ high)
+  between-some x f = by (leb x low) (leb x high) refl refl
+    where
+      by : (a b : Bool) → leb x low ≡ a → leb x high ≡ b → (low < x) × (x ≤ high)
+      by true b e g = absurd (f (between-below x (leb-true x low e)))
+      by false true e g = (leb-false x low e, leb-true x high g)
+      by false false e g = absurd (f (between-above x (leb-false x high g)))
+
+  -- and 0 is any other
+  pub between-none : (x : ℕ) → between low high x ≡ 0 → (x ≤ low) ⊎ (high < x)
+  between-none x z = by (leb x low) (leb x high) refl refl
+    where
+      by : (a b : Bool) → leb x low ≡ a → leb x high ≡ b → (x ≤ low) ⊎ (high < x)
+      by true b e g = inl (leb-true x low e)
+      by false true e g = let h = leb-false x low e in absurd (omega (arith, between-is x h (leb-true x high g), z, h))
+      by false false e g = inr (leb-false x high g)
+
+-- a field, as it stands: what is no small number is below 0 or above any end
+module _ (low high : ℕ) (g : low ≤ high) (h : high ≤ 256) where
+  field-is : (n : ℕ) → n ≤ 65535 → smallOf (pos n) ≡ n
+  field-is n f = rw (le-ltb 65535 n f)
+
+  pub field-below : (z : ℤ) → leZ z (pos low) ≡ true → 0 ≡ between low high (smallOf z)
+  field-below (pos n) e =
+      let f = leb-true n low e in
+      sym (ap (between low high) (field-is n (omega (arith, f, g, h))) ∙ between-below low high n f)
+  field-below (negsuc n) e = sym (between-above low high 65536 (omega (arith, h)))
+
+  pub field-above : (z : ℤ) → ltZ (pos high) z ≡ true → 0 ≡ between low high (smallOf z)
+  field-above (pos n) e = by (ltb 65535 n)
+    where
+      by : (b : Bool) → 0 ≡ between low high (if b then 65536 else n)
+      by true = sym (between-above low high 65536 (omega (arith, h)))
+      by false = sym (between-above low high n (ltb-true high n e))
+  field-above (negsuc n) e = clash (sym e)
+
+  pub field-between : (z : ℤ) → leZ z (pos low) ≡ false → ltZ (pos high) z ≡ false → T (nonNeg z) × ((natAbs z ≡ between low high (smallOf z)) × (natAbs z ≤ 256))
+  field-between (pos n) e f =
+      let a = leb-false n low e in
+      let b = ltb-false high n f in
+      (tt, (sym (ap (between low high) (field-is n (omega (arith, b, h))) ∙ between-is low high n a b), omega (arith, b, h)))
+  field-between (negsuc n) e f = clash e
 
 -- ---- what is left
 
@@ -42,10 +99,6 @@ module _ (r : List ℤ) (count i : ℕ) where
 
 pub from-first : (r : List ℤ) (count : ℕ) → segmentsFrom r (count - 0) 0 ≡ segmentsFrom r count 0
 from-first r count = let e : count - 0 ≡ count = omega arith in rw e
-
-pub end-most : (r : List ℤ) (i : ℕ) → segmentIn r i .end ≤ 65536
-unfolding segmentIn
-end-most r i = small-most (placeOf r (segmentAt i))
 
 -- the figures that were read are the segment's
 pub figures-are : (w : ℕ) (r : List ℤ) (i : ℕ) {a b p q : ℤ} → a ≡ placeOf r (segmentAt i + 1) → b ≡ placeOf r (segmentAt i + 2) → p ≡ placeOf r (segmentAt i + 3) → q ≡ placeOf r (segmentAt i + 4)
@@ -91,10 +144,25 @@ ends-done child = refl
 
 -- ---- the rest holds
 
+-- ends that rise past n do not come back to it
+past : (n before : ℕ) (l : List Segment) → n < before → restHolds n before l ≡ false
+unfolding restHolds
+past n before [] h = ne-eqb before n (λ e. omega (arith, h, e))
+past n before (s ∷ rest) h = by (ltb before (s .end)) refl (past n (s .end) rest)
+  where
+    by : (b : Bool) → ltb before (s .end) ≡ b → (n < s .end → restHolds n (s .end) rest ≡ false)
+        → b && segmentFits sampleLimit (width (run (suc before) (s .end))) s && restHolds n (s .end) rest ≡ false
+    by true e ih = rw (ih (omega (arith, ltb-true before (s .end) e, h))) (and-no (segmentFits sampleLimit (width (run (suc before) (s .end))) s))
+    by false e ih = refl
+
 module _ (n before : ℕ) (s : Segment) (rest : List Segment) where
-  pub rest-falls : s .end ≤ before → restHolds n before (s ∷ rest) ≡ false
+  pub rest-falls : between before n (s .end) ≡ 0 → restHolds n before (s ∷ rest) ≡ false
   unfolding restHolds
-  rest-falls h = rw (le-ltb before (s .end) h)
+  rest-falls z = by (between-none before n (s .end) z)
+    where
+      by : (s .end ≤ before) ⊎ (n < s .end) → ltb before (s .end) && segmentFits sampleLimit (width (run (suc before) (s .end))) s && restHolds n (s .end) rest ≡ false
+      by (inl h) = rw (le-ltb before (s .end) h)
+      by (inr h) = rw (past n (s .end) rest h) (and-no (ltb before (s .end) && segmentFits sampleLimit (width (run (suc before) (s .end))) s))
 
   module _ (h : before < s .end) where
     same-width : width (run (suc before) (s .end)) ≡ s .end - before
@@ -113,10 +181,6 @@ unfolding restHolds
 rest-done n before = refl
 
 -- ---- both rules of a record's segments, from the rest's rule
-
-and-no : (a : Bool) → a && false ≡ false
-and-no true = refl
-and-no false = refl
 
 and-yes : (a : Bool) → a && true ≡ a
 and-yes true = refl

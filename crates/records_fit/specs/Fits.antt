@@ -44,6 +44,10 @@ recordFits n m j r = headFits n m j r && segmentsHold n r
 abbrev pub segmentsFrom : List ℤ → ℕ → ℕ → List Segment
 segmentsFrom r count i = map (segmentIn r) (counting count i)
 
+-- a number above `low`, `high` at most; any other as 0
+abbrev pub between : ℕ → ℕ → ℕ → ℕ
+between low high x = if ltb low x && leb x high then x else 0
+
 -- the same two rules segment by segment, `before` being the end before the first: the ends rise to n, and each segment's figures are in their limits
 unfoldable pub restHolds : ℕ → ℕ → List Segment → Bool
 restHolds n before [] = eqb before n

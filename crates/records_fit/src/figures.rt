@@ -1,25 +1,44 @@
 // The limits of a segment's figures and of a test's threshold, on plain numbers.
 
-use tables::records::scatter;
 ghost use mathlib.Core.Path.{_≡_};
-ghost use Prim.Native.Nat.{ℕ, _≤_};
-ghost use lib.IntN.{natAbs};
+ghost use Prim.Native.Nat.{ℕ, _≤_, _<_, _^_};
+ghost use lib.IntN.{pos, negℤ};
+ghost use lib.Signed.{leZ};
 ghost use Rattle.dstree.specs.Measures.{sampleLimit};
 ghost use Rattle.dstree.specs.WellFormed.{segmentFits, thresholdFits};
 ghost use Rattle.tables.specs.View.{scatterIn};
 ghost use Rattle.records_fit.specs.Fits.{figureNamed};
 
-// The size of a number, whatever its sign. The least number of 64 bits has no opposite, so that one is taken off first.
-fn size(v: i64) -> u64
-    ensures { λ r. ⌜ r ≡ natAbs v ⌝ }
+const SAMPLE_LIMIT: u64 = 32768; // samples are from −SAMPLE_LIMIT to SAMPLE_LIMIT − 1
+
+// ---- numbers with a sign
+
+fn in_order(a: i64, b: i64) -> bool
+    ensures { λ r. ⌜ r ≡ leZ a b ⌝ }
 {
-    if v < 0 {
-        return (-1 - v) as u64 + 1;
-    }
-    v as u64
+    a <= b
 }
 
-// The figures of a segment of w samples: least at most greatest, sums up to w × 32,768 either side of 0, scatters up to w² × 2^30.
+// A number is from −limit on.
+fn not_below(limit: u64, v: i64) -> bool
+    requires { ⌜ limit < 2 ^ 63 ⌝ }
+    ensures { λ r. ⌜ r ≡ leZ (negℤ (pos limit)) v ⌝ }
+{
+    -(limit as i64) <= v
+}
+
+// A number is up to a limit.
+fn not_above(limit: u64, v: i64) -> bool
+    requires { ⌜ limit < 2 ^ 63 ⌝ }
+    ensures { λ r. ⌜ r ≡ leZ v (pos limit) ⌝ }
+{
+    v <= limit as i64
+}
+
+// ---- limits
+
+// The figures of a segment of w samples: least at most greatest, sums up to a limit either side of 0, scatters from 0 to its square. A test of one side
+// is enough for each of the four, as least and greatest are in order.
 pub fn figures_fit(
     w: u64,
     least_sum: i64,
@@ -27,7 +46,7 @@ pub fn figures_fit(
     least_scatter: i64,
     greatest_scatter: i64,
 ) -> bool
-    requires { ⌜ w ≤ 65536 ⌝ }
+    requires { ⌜ w ≤ 256 ⌝ }
     ensures { λ r. ⌜ ((end : ℕ) → r ≡ segmentFits sampleLimit w (record {
       end = end;
       leastSum = «least_sum»;
@@ -36,20 +55,23 @@ pub fn figures_fit(
       greatestScatter = scatterIn «greatest_scatter»;
     })) ⌝ }
 {
-    if greatest_sum < least_sum {
+    if !in_order(least_sum, greatest_sum) {
         return false;
     }
-    let top = scatter(greatest_scatter);
-    if top < scatter(least_scatter) {
+    if !in_order(least_scatter, greatest_scatter) {
         return false;
     }
-    if w * 32768 < size(least_sum) {
+    let limit = w * SAMPLE_LIMIT;
+    if !not_below(limit, least_sum) {
         return false;
     }
-    if w * 32768 < size(greatest_sum) {
+    if !not_above(limit, greatest_sum) {
         return false;
     }
-    top <= w * w * 1073741824
+    if !not_below(0, least_scatter) {
+        return false;
+    }
+    not_above(limit * limit, greatest_scatter)
 }
 
 // A threshold on a run of w samples, by the kind of its node: twice the limits, either side of 0 for a sum, from 0 for a scatter.
@@ -57,8 +79,15 @@ pub fn threshold_fits(kind: usize, w: u64, threshold: i64) -> bool
     requires { ⌜ w ≤ 256 ⌝ }
     ensures { λ r. ⌜ r ≡ thresholdFits sampleLimit (figureNamed kind) w threshold ⌝ }
 {
+    let limit = w * SAMPLE_LIMIT;
     if kind == 1 {
-        return size(threshold) <= 2 * (w * 32768);
+        if !not_below(2 * limit, threshold) {
+            return false;
+        }
+        return not_above(2 * limit, threshold);
     }
-    scatter(threshold) <= 2 * (w * w * 1073741824)
+    if !not_below(0, threshold) {
+        return false;
+    }
+    not_above(2 * (limit * limit), threshold)
 }

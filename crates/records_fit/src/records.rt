@@ -24,22 +24,36 @@ ghost use Rattle.dstree.specs.Figures.{run};
 ghost use Rattle.dstree.specs.Node.{inner, ends};
 ghost use Rattle.dstree.specs.WellFormed.{segmentFits, testFits};
 ghost use Rattle.tables.specs.Layout.{segmentsPlace, recordPlaces};
-ghost use Rattle.tables.specs.View.{smallAt, segmentIn, segmentsIn};
-ghost use Rattle.records_fit.specs.Fits.{figureNamed, childFits, headFits, segmentsHold, recordFits, segmentsFrom, restHolds, endsIn};
+ghost use Rattle.tables.specs.View.{smallOf, smallAt, segmentIn, segmentsIn};
+ghost use Rattle.records_fit.specs.Fits.{figureNamed, between, childFits, headFits, segmentsHold, recordFits, segmentsFrom, restHolds, endsIn};
 
 // ---- segments
 
-// The right end of segment i, from 0.
-fn end_at(places: &[i64], i: usize) -> usize
-    requires { ⌜ (length (now places) ≡ recordPlaces) × (i < 16) ⌝ }
-    ensures { λ r. ⌜ r ≡ segmentIn (now (places .entry)) i .end ⌝ }
+// A field that holds a number above `low`, `high` at most; else 0. It is tested as it stands, which spares reading it as a small number first.
+fn between(low: usize, high: usize, v: i64) -> usize
+    requires { ⌜ (low ≤ high) × (high ≤ 256) ⌝ }
+    ensures { λ r. ⌜ r ≡ between low high (smallOf v) ⌝ }
 {
-    small_at(places, HEAD + i * SEGMENT)
+    if v <= low as i64 {
+        return 0;
+    }
+    if (high as i64) < v {
+        return 0;
+    }
+    v as usize
+}
+
+// The right end of segment i, from 0, if it is behind the end before it and n at most; else 0.
+fn end_behind(places: &[i64], i: usize, before: usize, n: usize) -> usize
+    requires { ⌜ (length (now places) ≡ recordPlaces) × (i < 16) × (before ≤ n) × (n ≤ 256) ⌝ }
+    ensures { λ r. ⌜ r ≡ between before n (segmentIn (now (places .entry)) i .end) ⌝ }
+{
+    between(before, n, value_at(places, HEAD + i * SEGMENT))
 }
 
 // The figures of segment i, which is w samples wide.
 fn segment_fits(places: &[i64], i: usize, w: u64) -> bool
-    requires { ⌜ (length (now places) ≡ recordPlaces) × (i < 16) × (w ≤ 65536) ⌝ }
+    requires { ⌜ (length (now places) ≡ recordPlaces) × (i < 16) × (w ≤ 256) ⌝ }
     ensures { λ r. ⌜ r ≡ segmentFits sampleLimit w (segmentIn (now (places .entry)) i) ⌝ }
 {
     let at = HEAD + i * SEGMENT;
@@ -52,14 +66,14 @@ fn segment_fits(places: &[i64], i: usize, w: u64) -> bool
 
 // The first `count` segments: their ends rise to n, and their figures are in their limits.
 fn segments_run(places: &[i64], count: usize, n: usize) -> bool
-    requires { ⌜ (length (now places) ≡ recordPlaces) × (count ≤ 16) ⌝ }
+    requires { ⌜ (length (now places) ≡ recordPlaces) × (count ≤ 16) × (n ≤ 256) ⌝ }
     ensures { λ r. ⌜ r ≡ restHolds n 0 (segmentsFrom (now (places .entry)) count 0) ⌝ }
 {
     let mut before: usize = 0;
     let mut i: usize = 0;
     while i < count {
-        let end = end_at(places, i);
-        if end <= before {
+        let end = end_behind(places, i, before, n);
+        if end == 0 {
             return false;
         }
         if !segment_fits(places, i, (end - before) as u64) {
@@ -73,7 +87,7 @@ fn segments_run(places: &[i64], count: usize, n: usize) -> bool
 
 // All segments of a record, which are 1 to 16.
 fn segments_fit(places: &[i64], n: usize) -> bool
-    requires { ⌜ length (now places) ≡ recordPlaces ⌝ }
+    requires { ⌜ (length (now places) ≡ recordPlaces) × (n ≤ 256) ⌝ }
     ensures { λ r. ⌜ r ≡ segmentsHold n (now (places .entry)) ⌝ }
 {
     let count = small_at(places, SEGMENTS);
@@ -150,6 +164,14 @@ pub fn record_fits(places: &[i64], j: usize, m: usize, n: usize) -> bool
 }
 
 // ---- ends of a node and its child
+
+// The right end of segment i, from 0.
+fn end_at(places: &[i64], i: usize) -> usize
+    requires { ⌜ (length (now places) ≡ recordPlaces) × (i < 16) ⌝ }
+    ensures { λ r. ⌜ r ≡ segmentIn (now (places .entry)) i .end ⌝ }
+{
+    small_at(places, HEAD + i * SEGMENT)
+}
 
 // One of the first `count` ends is e.
 fn has_end(places: &[i64], count: usize, e: usize) -> bool

@@ -1,94 +1,145 @@
--- `records_fit::figures::figures_fit` meets its contract: the tests are the definition's, in its order, with sizes for numbers with a sign.
-use mathlib.Core.Path.{_≡_, sym, ap, _∙_}
-use mathlib.Core.Bool.{Bool}
-use Prim.Native.Nat.{ℕ, _*_, _≤_}
+-- `records_fit::figures::figures_fit` meets its contract: its tests together are the definition's, so that the first that fails decides, and else the last.
+use mathlib.Core.Path.{_≡_, sym, ap, ap₂, _∙_}
+use mathlib.Core.Bool.{Bool, true, _&&_}
+use Prim.Native.Nat.{ℕ, _*_, _<_, _^_}
 use native.Mathlib.Omega.{arith}
-use lib.IntN.{natAbs}
-use lib.Signed.{ltZ}
-use lib.Dec.{leb}
+use lib.IntN.{ℤ, pos, negℤ}
+use lib.Signed.{leZ}
 use mir.Syntax.{w64}
 use mir.Val.{toZ, ofZ}
 use mir.ValLaws.{toZ-ofZ}
 use borrow.Author.Needs.{needs}
-use Rattle.integer.proofs.Width.{read-test}
+use borrow.Author.Tests.{not-true, not-false}
+use Rattle.dstree.specs.Measures.{sampleLimit}
+use Rattle.dstree.specs.WellFormed.{segmentFits}
 use Rattle.tables.specs.View.{scatterIn}
-use Rattle.records_fit.proofs.Limits.{sums-fall, scatters-fall, least-outside, greatest-outside, scatter-last, square-fits}
+use Rattle.records_fit.proofs.Limits.{segment-is, square-fits}
 use Rattle.records_fit.proofs.figures.figures_fit.Statement.{statement}
 use Rattle.records_fit.proofs.figures.figures_fit.Tie as tie
 
--- the test of the sums' order, on the parameters themselves
-order : (c : tie.Start) {b : Bool} → ltZ (toZ w64 (ofZ w64 (c .args .greatest-sum))) (toZ w64 (ofZ w64 (c .args .least-sum))) ≡ b → ltZ (c .args .greatest-sum) (c .args .least-sum) ≡ b
-order c e = sym (read-test (c .fits .greatest-sum) (c .fits .least-sum)) ∙ e
+-- the figures, as they are handed on
+module _ (s : tie.Start) where
+  least : toZ w64 (ofZ w64 (s .args .least-sum)) ≡ s .args .least-sum
+  least = toZ-ofZ w64 (s .args .least-sum) (s .fits .least-sum)
 
--- what the calls found, of the parameters themselves
-greatest-is : (c : tie.After-scatter) → c .scatter .result ≡ scatterIn (c .before .before .args .greatest-scatter)
-greatest-is c = c .scatter .ensures ∙ ap scatterIn (toZ-ofZ w64 (c .before .before .args .greatest-scatter) (c .before .before .fits .greatest-scatter))
+  greatest : toZ w64 (ofZ w64 (s .args .greatest-sum)) ≡ s .args .greatest-sum
+  greatest = toZ-ofZ w64 (s .args .greatest-sum) (s .fits .greatest-sum)
 
-least-is : (c : tie.After-scatter2) → c .scatter2 .result ≡ scatterIn (c .before .before .before .args .least-scatter)
-least-is c = c .scatter2 .ensures ∙ ap scatterIn (toZ-ofZ w64 (c .before .before .before .args .least-scatter) (c .before .before .before .fits .least-scatter))
+  low : toZ w64 (ofZ w64 (s .args .least-scatter)) ≡ s .args .least-scatter
+  low = toZ-ofZ w64 (s .args .least-scatter) (s .fits .least-scatter)
 
-size-is : (c : tie.After-size) → c .size .result ≡ natAbs (c .before .before .before .before .before .args .least-sum)
-size-is c = let s = c .before .before .before .before .before in c .size .ensures ∙ ap natAbs (toZ-ofZ w64 (s .args .least-sum) (s .fits .least-sum))
+  high : toZ w64 (ofZ w64 (s .args .greatest-scatter)) ≡ s .args .greatest-scatter
+  high = toZ-ofZ w64 (s .args .greatest-scatter) (s .fits .greatest-scatter)
 
-size2-is : (c : tie.After-size2) → c .size2 .result ≡ natAbs (c .before .before .before .before .before .before .before .args .greatest-sum)
-size2-is c = let s = c .before .before .before .before .before .before .before in c .size2 .ensures ∙ ap natAbs (toZ-ofZ w64 (s .args .greatest-sum) (s .fits .greatest-sum))
+  -- the square of the sums' limit fits 64 bits
+  top : (s .args .w * 32768) * (s .args .w * 32768) < 2 ^ 63
+  top = omega (arith, square-fits (s .args .w) 256 (s .pre))
+
+-- what each test says
+sums : (c : tie.After-in-order) {b : Bool} → c .in-order .result ≡ b → leZ (c .before .args .least-sum) (c .before .args .greatest-sum) ≡ b
+sums c e = sym (ap₂ leZ (least (c .before)) (greatest (c .before))) ∙ (sym (c .in-order .ensures) ∙ e)
+
+scatters : (c : tie.After-in-order2) {b : Bool} → c .in-order2 .result ≡ b → let a = c .before .before .before .args in leZ (a .least-scatter) (a .greatest-scatter) ≡ b
+scatters c e = let s = c .before .before .before in sym (ap₂ leZ (low s) (high s)) ∙ (sym (c .in-order2 .ensures) ∙ e)
+
+from-least : (c : tie.After-not-below) {b : Bool} → c .not-below .result ≡ b
+    → let a = c .before .before .before .before .before .args in leZ (negℤ (pos (a .w * 32768))) (a .least-sum) ≡ b
+from-least c e =
+    let s = c .before .before .before .before .before in
+    sym (ap (leZ (negℤ (pos (s .args .w * 32768)))) (least s)) ∙ (sym (c .not-below .ensures) ∙ e)
+
+to-greatest : (c : tie.After-not-above) {b : Bool} → c .not-above .result ≡ b
+    → let a = c .before .before .before .before .before .before .before .args in leZ (a .greatest-sum) (pos (a .w * 32768)) ≡ b
+to-greatest c e =
+    let s = c .before .before .before .before .before .before .before in
+    sym (ap (λ (z : ℤ). leZ z (pos (s .args .w * 32768))) (greatest s)) ∙ (sym (c .not-above .ensures) ∙ e)
+
+from-zero : (c : tie.After-not-below2) {b : Bool} → c .not-below2 .result ≡ b
+    → let a = c .before .before .before .before .before .before .before .before .before .args in leZ (pos 0) (a .least-scatter) ≡ b
+from-zero c e =
+    let s = c .before .before .before .before .before .before .before .before .before in
+    sym (ap (leZ (pos 0)) (low s)) ∙ (sym (c .not-below2 .ensures) ∙ e)
+
+-- the definition, as those tests
+module _ (s : tie.Start) (end : ℕ) where
+  whole : segmentFits sampleLimit (s .args .w) (record {
+    end = end;
+    leastSum = s .args .least-sum;
+    greatestSum = s .args .greatest-sum;
+    leastScatter = scatterIn (s .args .least-scatter);
+    greatestScatter = scatterIn (s .args .greatest-scatter);
+  }) ≡ leZ (s .args .least-sum) (s .args .greatest-sum) && leZ (s .args .least-scatter) (s .args .greatest-scatter)
+      && leZ (negℤ (pos (s .args .w * 32768))) (s .args .least-sum) && leZ (s .args .greatest-sum) (pos (s .args .w * 32768))
+      && leZ (pos 0) (s .args .least-scatter) && leZ (s .args .greatest-scatter) (pos ((s .args .w * 32768) * (s .args .w * 32768)))
+  whole = segment-is (s .args .w) end (s .args .least-sum) (s .args .greatest-sum) (s .args .least-scatter) (s .args .greatest-scatter) (s .pre)
 
 returns : tie.Need-returns
-returns c end =
-    let a = c .before .args in
-    sums-fall (a .w) end (a .least-sum) (a .greatest-sum) (scatterIn (a .least-scatter)) (scatterIn (a .greatest-scatter)) (order (c .before) (c .if1 .taken))
+returns c end = sym (whole (c .before .before) end ∙ rw (sums (c .before) (not-true (c .before .in-order .result) (c .if1 .taken))))
+
+-- the tests that passed
+module _ (c : tie.Else1) where
+  pass1 : leZ (c .before .before .args .least-sum) (c .before .before .args .greatest-sum) ≡ true
+  pass1 = sums (c .before) (not-false (c .before .in-order .result) (c .if1 .left))
 
 returns-2 : tie.Need-returns-2
 returns-2 c end =
-    let k = c .before .before .before in
-    let a = k .before .args in
-    scatters-fall (a .w) end (a .least-sum) (a .greatest-sum) (scatterIn (a .least-scatter)) (scatterIn (a .greatest-scatter)) (order (k .before) (k .if1 .left))
-    (omega (arith, greatest-is (c .before .before), least-is (c .before), c .if2 .taken))
+    let k = c .before .before in
+    sym (whole (k .before .before) end ∙ rw (pass1 k, scatters (c .before) (not-true (c .before .in-order2 .result) (c .if2 .taken))))
 
--- the scatters are in order
-in-order : (c : tie.Else2) → scatterIn (c .before .before .before .before .args .least-scatter) ≤ scatterIn (c .before .before .before .before .args .greatest-scatter)
-in-order c = omega (arith, greatest-is (c .before .before), least-is (c .before), c .if2 .left)
+module _ (c : tie.Else2) where
+  pass2 : let a = c .before .before .before .before .args in leZ (a .least-scatter) (a .greatest-scatter) ≡ true
+  pass2 = scatters (c .before) (not-false (c .before .in-order2 .result) (c .if2 .left))
 
 returns-3 : tie.Need-returns-3
 returns-3 c end =
-    let d = c .before .before in
-    let k = d .before .before .before in
-    let a = k .before .args in
-    least-outside (a .w) end (a .least-sum) (a .greatest-sum) (scatterIn (a .least-scatter)) (scatterIn (a .greatest-scatter)) (order (k .before) (k .if1 .left)) (in-order d)
-    (omega (arith, size-is (c .before), c .if3 .taken))
+    let f = c .before .before in
+    let k = f .before .before in
+    sym (whole (k .before .before) end ∙ rw (pass1 k, pass2 f, from-least (c .before) (not-true (c .before .not-below .result) (c .if3 .taken))))
 
--- the least sum is inside
-inside : (c : tie.Else3) → natAbs (c .before .before .before .before .before .before .args .least-sum) ≤ c .before .before .before .before .before .before .args .w * 32768
-inside c = omega (arith, size-is (c .before), c .if3 .left)
+module _ (c : tie.Else3) where
+  pass3 : let a = c .before .before .before .before .before .before .args in leZ (negℤ (pos (a .w * 32768))) (a .least-sum) ≡ true
+  pass3 = from-least (c .before) (not-false (c .before .not-below .result) (c .if3 .left))
 
 returns-4 : tie.Need-returns-4
 returns-4 c end =
-    let f = c .before .before in
-    let d = f .before .before in
-    let k = d .before .before .before in
-    let a = k .before .args in
-    greatest-outside (a .w) end (a .least-sum) (a .greatest-sum) (scatterIn (a .least-scatter)) (scatterIn (a .greatest-scatter)) (order (k .before) (k .if1 .left)) (in-order d) (inside f)
-    (omega (arith, size2-is (c .before), c .if4 .taken))
+    let g = c .before .before in
+    let f = g .before .before in
+    let k = f .before .before in
+    sym (whole (k .before .before) end ∙ rw (pass1 k, pass2 f, pass3 g, to-greatest (c .before) (not-true (c .before .not-above .result) (c .if4 .taken))))
 
-mul-result : tie.Need-mul-result
-mul-result c = let a = c .before .before .before .before .before .before .before .before .args in omega (arith, square-fits (a .w) 65536 (omega arith))
-
-mul-result-2 : tie.Need-mul-result-2
-mul-result-2 c = let a = c .before .before .before .before .before .before .before .before .args in omega (arith, square-fits (a .w) 65536 (omega arith))
+module _ (c : tie.Else4) where
+  pass4 : let a = c .before .before .before .before .before .before .before .before .args in leZ (a .greatest-sum) (pos (a .w * 32768)) ≡ true
+  pass4 = to-greatest (c .before) (not-false (c .before .not-above .result) (c .if4 .left))
 
 returns-5 : tie.Need-returns-5
 returns-5 c end =
-    let f = c .before .before in
-    let d = f .before .before in
-    let k = d .before .before .before in
-    let a = k .before .args in
-    ap (λ (q : ℕ). leb q (a .w * a .w * 1073741824)) (greatest-is (d .before .before))
-    ∙ scatter-last (a .w) end (a .least-sum) (a .greatest-sum) (scatterIn (a .least-scatter)) (scatterIn (a .greatest-scatter)) (order (k .before) (k .if1 .left)) (in-order d) (inside f)
-    (omega (arith, size2-is (c .before), c .if4 .left))
+    let h = c .before .before in
+    let g = h .before .before in
+    let f = g .before .before in
+    let k = f .before .before in
+    sym (whole (k .before .before) end ∙ rw (pass1 k, pass2 f, pass3 g, pass4 h, from-zero (c .before) (not-true (c .before .not-below2 .result) (c .if5 .taken))))
+
+mul-not-above : tie.Need-mul-not-above
+mul-not-above c = omega (arith, top (c .before .before .before .before .before .before .before .before .before .before))
+
+not-above-requires-2 : tie.Need-not-above-requires-2
+not-above-requires-2 c κs = top (c .before .before .before .before .before .before .before .before .before .before)
+
+returns-6 : tie.Need-returns-6
+returns-6 c end =
+    let i = c .before in
+    let h = i .before .before in
+    let g = h .before .before in
+    let f = g .before .before in
+    let k = f .before .before in
+    let s = k .before .before in
+    c .not-above2 .ensures
+    ∙ (ap (λ (z : ℤ). leZ z (pos ((s .args .w * 32768) * (s .args .w * 32768)))) (high s)
+    ∙ sym (whole s end ∙ rw (pass1 k, pass2 f, pass3 g, pass4 h, from-zero (i .before) (not-false (i .before .not-below2 .result) (i .if5 .left)))))
 
 pub figures-fit-spec : {M : Type 1} → statement M
 figures-fit-spec =
     tie.close
     (tie.spec
-    returns (λ c κs. search needs) (λ c κs. search needs) returns-2 (λ c. search needs) (λ c κs. search needs) returns-3
-    (λ c. search needs) (λ c κs. search needs) returns-4 mul-result mul-result-2 returns-5)
+    (λ c κs. search needs) returns (λ c κs. search needs) returns-2 (λ c. search needs) (λ c κs. search needs) returns-3
+    (λ c κs. search needs) returns-4 (λ c κs. search needs) returns-5 mul-not-above not-above-requires-2 returns-6)

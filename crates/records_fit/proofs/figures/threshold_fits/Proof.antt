@@ -1,15 +1,15 @@
--- `records_fit::figures::threshold_fits` meets its contract: twice the limit that the figure has, on sizes.
+-- `records_fit::figures::threshold_fits` meets its contract: twice the limit that the figure has, one side at a time.
 use mathlib.Core.Path.{_≡_, sym, ap, _∙_}
+use mathlib.Core.Bool.{Bool}
 use Prim.Native.Nat.{ℕ, _*_, _<_, _^_}
 use native.Mathlib.Omega.{arith}
-use lib.IntN.{natAbs}
-use lib.Dec.{leb}
+use lib.IntN.{ℤ, pos, negℤ}
+use lib.Signed.{leZ}
 use mir.Syntax.{w64}
 use mir.Val.{toZ, ofZ}
 use mir.ValLaws.{toZ-ofZ}
 use borrow.Author.Needs.{needs}
-use borrow.Author.Tests.{eq-eqb, ne-eqb}
-use Rattle.tables.specs.View.{scatterIn}
+use borrow.Author.Tests.{eq-eqb, ne-eqb, not-true, not-false}
 use Rattle.records_fit.proofs.Limits.{sum-threshold, scatter-threshold, square-fits}
 use Rattle.records_fit.proofs.figures.threshold_fits.Statement.{statement}
 use Rattle.records_fit.proofs.figures.threshold_fits.Tie as tie
@@ -17,36 +17,66 @@ use Rattle.records_fit.proofs.figures.threshold_fits.Tie as tie
 same : (c : tie.Start) → toZ w64 (ofZ w64 (c .args .threshold)) ≡ c .args .threshold
 same c = toZ-ofZ w64 (c .args .threshold) (c .fits .threshold)
 
+-- twice the limit fits 64 bits
+top : (c : tie.Start) → 2 * ((c .args .w * 32768) * (c .args .w * 32768)) < 2 ^ 63
+top c = omega (arith, square-fits (c .args .w) 256 (c .pre))
+
+-- ---- by sum
+
+from-sum : (c : tie.After-not-below) {b : Bool} → c .not-below .result ≡ b → let a = c .before .before .args in leZ (negℤ (pos (2 * (a .w * 32768)))) (a .threshold) ≡ b
+from-sum c e = let s = c .before .before in sym (ap (leZ (negℤ (pos (2 * (s .args .w * 32768))))) (same s)) ∙ (sym (c .not-below .ensures) ∙ e)
+
 returns : tie.Need-returns
 returns c =
-    let s = c .before .before in
-    let a = s .args in
-    rw (eq-eqb (a .kind) 1 (c .before .if1 .taken))
-    (ap (λ (x : ℕ). leb x (2 * (a .w * 32768))) (c .size .ensures ∙ ap natAbs (same s)) ∙ sym (sum-threshold (a .w) (a .threshold)))
-
--- twice the limit fits 64 bits
-top : (c : tie.Start) → 2 * (c .args .w * c .args .w * 1073741824) < 2 ^ 63
-top c = omega (arith, square-fits (c .args .w) 256 (omega arith))
-
-mul-result-3 : tie.Need-mul-result-3
-mul-result-3 c = omega (arith, top (c .before .before))
-
-mul-result-4 : tie.Need-mul-result-4
-mul-result-4 c = omega (arith, top (c .before .before))
-
-mul-result-5 : tie.Need-mul-result-5
-mul-result-5 c = omega (arith, top (c .before .before))
+    let k = c .before .before in
+    let a = k .before .args in
+    rw (eq-eqb (a .kind) 1 (k .if1 .taken))
+    (sym (sum-threshold (a .w) (a .threshold) ∙ rw (from-sum (c .before) (not-true (c .before .not-below .result) (c .if2 .taken)))))
 
 returns-2 : tie.Need-returns-2
 returns-2 c =
-    let s = c .before .before in
-    let a = s .args in
-    rw (ne-eqb (a .kind) 1 (c .before .if1 .left))
-    (ap (λ (x : ℕ). leb x (2 * (a .w * a .w * 1073741824))) (c .scatter .ensures ∙ ap scatterIn (same s)) ∙ sym (scatter-threshold (a .w) (a .threshold) (top s)))
+    let f = c .before in
+    let k = f .before .before in
+    let a = k .before .args in
+    rw (eq-eqb (a .kind) 1 (k .if1 .taken))
+    (c .not-above .ensures
+    ∙ (ap (λ (z : ℤ). leZ z (pos (2 * (a .w * 32768)))) (same (k .before))
+    ∙ sym (sum-threshold (a .w) (a .threshold) ∙ rw (from-sum (f .before) (not-false (f .before .not-below .result) (f .if2 .left))))))
+
+-- ---- by scatter
+
+from-zero : (c : tie.After-not-below2) {b : Bool} → c .not-below2 .result ≡ b → leZ (pos 0) (c .before .before .args .threshold) ≡ b
+from-zero c e = let s = c .before .before in sym (ap (leZ (pos 0)) (same s)) ∙ (sym (c .not-below2 .ensures) ∙ e)
+
+returns-3 : tie.Need-returns-3
+returns-3 c =
+    let k = c .before .before in
+    let a = k .before .args in
+    rw (ne-eqb (a .kind) 1 (k .if1 .left))
+    (sym (scatter-threshold (a .w) (a .threshold) ∙ rw (from-zero (c .before) (not-true (c .before .not-below2 .result) (c .if3 .taken)))))
+
+mul-not-above-2 : tie.Need-mul-not-above-2
+mul-not-above-2 c = omega (arith, top (c .before .before .before))
+
+mul-not-above-3 : tie.Need-mul-not-above-3
+mul-not-above-3 c = omega (arith, top (c .before .before .before))
+
+not-above-requires-2 : tie.Need-not-above-requires-2
+not-above-requires-2 c κs = top (c .before .before .before)
+
+returns-4 : tie.Need-returns-4
+returns-4 c =
+    let f = c .before in
+    let k = f .before .before in
+    let a = k .before .args in
+    rw (ne-eqb (a .kind) 1 (k .if1 .left))
+    (c .not-above2 .ensures
+    ∙ (ap (λ (z : ℤ). leZ z (pos (2 * ((a .w * 32768) * (a .w * 32768))))) (same (k .before))
+    ∙ sym (scatter-threshold (a .w) (a .threshold) ∙ rw (from-zero (f .before) (not-false (f .before .not-below2 .result) (f .if3 .left))))))
 
 pub threshold-fits-spec : {M : Type 1} → statement M
 threshold-fits-spec =
     tie.close
     (tie.spec
-    (λ c κs. search needs) (λ c. omega arith) (λ c. omega arith) returns (λ c κs. search needs) mul-result-3 mul-result-4
-    mul-result-5 returns-2)
+    (λ c. search needs) (λ c. search needs) (λ c κs. search needs) returns (λ c. search needs) (λ c κs. search needs) returns-2
+    (λ c κs. search needs) returns-3 mul-not-above-2 mul-not-above-3 not-above-requires-2 returns-4)

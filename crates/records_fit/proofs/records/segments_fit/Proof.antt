@@ -16,7 +16,7 @@ returns-2 : tie.Need-returns-2
 returns-2 c = let a = c .before .before .before .args in sym (many-hold (a .n) (now (a .places)) (omega (arith, c .before .before .small-at .ensures, c .if2 .taken)))
 
 segments-run-requires : tie.Need-segments-run-requires
-segments-run-requires c κs = (c .before .before .before .pre, omega arith)
+segments-run-requires c κs = let s = c .before .before .before in (s .pre .0, omega arith, s .pre .1)
 
 returns-3 : tie.Need-returns-3
 returns-3 c =

@@ -11,25 +11,25 @@ use Rattle.dstree.specs.Measures.{sampleLimit}
 use Rattle.dstree.specs.Node.{Segment}
 use Rattle.dstree.specs.WellFormed.{segmentFits}
 use Rattle.tables.specs.View.{segmentIn}
-use Rattle.records_fit.specs.Fits.{segmentsFrom, restHolds}
-use Rattle.records_fit.proofs.Segments.{end-most, from-more, from-none, from-first, rest-falls, rest-outside, rest-next, rest-done}
+use Rattle.records_fit.specs.Fits.{between, segmentsFrom, restHolds}
+use Rattle.records_fit.proofs.Segments.{between-is, between-some, from-more, from-none, from-first, rest-falls, rest-outside, rest-next, rest-done}
 use Rattle.records_fit.proofs.records.segments_run.Statement.{statement}
 use Rattle.records_fit.proofs.records.segments_run.Tie as tie
 
 abbrev Inv-loop : tie.InvT-loop
-Inv-loop places count n before₀ i₀ before i = (i ≤ count) × (restHolds n before (segmentsFrom places (count - i) i) ≡ restHolds n 0 (segmentsFrom places count 0))
+Inv-loop places count n before₀ i₀ before i = (i ≤ count) × (before ≤ n) × (restHolds n before (segmentsFrom places (count - i) i) ≡ restHolds n 0 (segmentsFrom places count 0))
 
 abbrev μ-loop : tie.MeasureT-loop
 μ-loop places count n before₀ i₀ before i = count - i
 
 loop-holds : tie.Need-loop-holds Inv-loop μ-loop
-loop-holds c = (omega arith, ap (λ (l : List Segment). restHolds (c .args .n) 0 l) (from-first (now (c .args .places)) (c .args .count)))
+loop-holds c = (omega arith, omega arith, ap (λ (l : List Segment). restHolds (c .args .n) 0 l) (from-first (now (c .args .places)) (c .args .count)))
 
-end-at-requires : tie.Need-end-at-requires Inv-loop μ-loop
-end-at-requires c κs = (c .before .before .pre .0, omega arith)
+end-behind-requires : tie.Need-end-behind-requires Inv-loop μ-loop
+end-behind-requires c κs = let s = c .before .before in (s .pre .0, omega arith, c .before .loop .inv .1, s .pre .2)
 
 -- the rest, taken apart
-module _ (c : tie.After-end-at Inv-loop μ-loop) where
+module _ (c : tie.After-end-behind Inv-loop μ-loop) where
   abbrev places : List ℤ
   places = now (c .before .before .before .args .places)
 
@@ -49,57 +49,65 @@ module _ (c : tie.After-end-at Inv-loop μ-loop) where
   rest = segmentsFrom places (count - (i + 1)) (i + 1)
 
   whole : restHolds n 0 (segmentsFrom places count 0) ≡ restHolds n before (segmentIn places i ∷ rest)
-  whole = sym (c .before .before .loop .inv .1) ∙ ap (λ (l : List Segment). restHolds n before l) (from-more places count i (omega arith))
+  whole = sym (c .before .before .loop .inv .2) ∙ ap (λ (l : List Segment). restHolds n before l) (from-more places count i (omega arith))
 
-  found : segmentIn places i .end ≡ c .end-at .result
-  found = sym (c .end-at .ensures)
-
-  most : c .end-at .result ≤ 65536
-  most = omega (arith, c .end-at .ensures, end-most places i)
+  read : c .end-behind .result ≡ between before n (segmentIn places i .end)
+  read = c .end-behind .ensures
 
 returns : tie.Need-returns Inv-loop μ-loop
 returns c =
     let d = c .before in
-    sym (whole d ∙ rest-falls (n d) (before d) (segmentIn (places d) (i d)) (rest d) (omega (arith, found d, c .if1 .taken)))
+    sym (whole d ∙ rest-falls (n d) (before d) (segmentIn (places d) (i d)) (rest d) (sym (read d) ∙ c .if1 .taken))
+
+-- an end that is behind the one before it
+module _ (c : tie.Else1 Inv-loop μ-loop) where
+  abbrev b : tie.After-end-behind Inv-loop μ-loop
+  b = c .before
+
+  inside : (before b < segmentIn (places b) (i b) .end) × (segmentIn (places b) (i b) .end ≤ n b)
+  inside = between-some (before b) (n b) (segmentIn (places b) (i b) .end) (λ z. c .if1 .left (read b ∙ z))
+
+  found : segmentIn (places b) (i b) .end ≡ b .end-behind .result
+  found = sym (read b ∙ between-is (before b) (n b) (segmentIn (places b) (i b) .end) (inside .0) (inside .1))
 
 segment-fits-requires : tie.Need-segment-fits-requires Inv-loop μ-loop
-segment-fits-requires c κs = (c .before .before .before .before .pre .0, omega arith, omega (arith, most (c .before)))
+segment-fits-requires c κs =
+    let s = c .before .before .before .before in
+    (s .pre .0, omega arith, omega (arith, found c, inside c .1, s .pre .2))
 
 -- the segment's figures, at the definition's width
 module _ (c : tie.After-segment-fits Inv-loop μ-loop) where
-  abbrev d : tie.After-end-at Inv-loop μ-loop
+  abbrev d : tie.After-end-behind Inv-loop μ-loop
   d = c .before .before
 
-  rises : before d < segmentIn (places d) (i d) .end
-  rises = omega (arith, found d, c .before .if1 .left)
-
-  fits : {b : Bool} → c .segment-fits .result ≡ b → segmentFits sampleLimit (segmentIn (places d) (i d) .end - before d) (segmentIn (places d) (i d)) ≡ b
-  fits e = ap (λ (w : ℕ). segmentFits sampleLimit (w - before d) (segmentIn (places d) (i d))) (found d) ∙ (sym (c .segment-fits .ensures) ∙ e)
+  fits : {t : Bool} → c .segment-fits .result ≡ t → segmentFits sampleLimit (segmentIn (places d) (i d) .end - before d) (segmentIn (places d) (i d)) ≡ t
+  fits e = ap (λ (w : ℕ). segmentFits sampleLimit (w - before d) (segmentIn (places d) (i d))) (found (c .before)) ∙ (sym (c .segment-fits .ensures) ∙ e)
 
 returns-2 : tie.Need-returns-2 Inv-loop μ-loop
 returns-2 c =
     let s = c .before in
     let k = s .before .before in
-    sym (whole k ∙ rest-outside (n k) (before k) (segmentIn (places k) (i k)) (rest k) (rises s) (fits s (not-true (s .segment-fits .result) (c .if2 .taken))))
+    sym (whole k ∙ rest-outside (n k) (before k) (segmentIn (places k) (i k)) (rest k) (inside (s .before) .0) (fits s (not-true (s .segment-fits .result) (c .if2 .taken))))
 
 loop-again : tie.Need-loop-again Inv-loop μ-loop
 loop-again c =
     let s = c .before in
     let k = s .before .before in (
       omega arith,
-      subst (λ (x : ℕ). restHolds (n k) x (rest k) ≡ restHolds (n k) 0 (segmentsFrom (places k) (count k) 0)) (found k)
-          (sym (whole k ∙ rest-next (n k) (before k) (segmentIn (places k) (i k)) (rest k) (rises s) (fits s (not-false (s .segment-fits .result) (c .if2 .left))))),
+      omega (arith, found (s .before), inside (s .before) .1),
+      subst (λ (x : ℕ). restHolds (n k) x (rest k) ≡ restHolds (n k) 0 (segmentsFrom (places k) (count k) 0)) (found (s .before))
+          (sym (whole k ∙ rest-next (n k) (before k) (segmentIn (places k) (i k)) (rest k) (inside (s .before) .0) (fits s (not-false (s .segment-fits .result) (c .if2 .left))))),
     )
 
 returns-3 : tie.Need-returns-3 Inv-loop μ-loop
 returns-3 c =
     let L = c .before .loop in
     let a = c .before .before .args in
-    sym (sym (L .inv .1) ∙ (ap (λ (l : List Segment). restHolds (a .n) (L .before) l) (from-none (now (a .places)) (a .count) (L .i) (omega arith)) ∙ rest-done (a .n) (L .before)))
+    sym (sym (L .inv .2) ∙ (ap (λ (l : List Segment). restHolds (a .n) (L .before) l) (from-none (now (a .places)) (a .count) (L .i) (omega arith)) ∙ rest-done (a .n) (L .before)))
 
 pub segments-run-spec : {M : Type 1} → statement M
 segments-run-spec =
     tie.close
     (tie.spec
-    Inv-loop μ-loop loop-holds end-at-requires returns (λ c. omega arith) segment-fits-requires returns-2 (λ c. omega arith)
+    Inv-loop μ-loop loop-holds end-behind-requires returns (λ c. omega (arith, found c, inside c .0)) segment-fits-requires returns-2 (λ c. omega arith)
     (λ c. omega arith) loop-again returns-3)

@@ -15,9 +15,9 @@ use Rattle.dstree.specs.WellFormed.{childrenOf, testFits}
 use Rattle.tables.specs.Layout.{kindPlace, firstPlace, rightPlace, segmentsPlace}
 use Rattle.tables.specs.Tables.{recordOf}
 use Rattle.tables.specs.View.{smallAt, segmentsIn, kindIn}
-use Rattle.records_fit.specs.Fits.{kindAlone, childFits, headFits, segmentsHold, recordFits, endsIn, keptAt, recordsFit}
+use Rattle.records_fit.specs.Fits.{kindAlone, childFits, headFits, segmentsHold, recordFits, endsIn, keptAt, recordsFit, EndsRise}
 use Rattle.records_fit.proofs.Limits.{passing}
-use Rattle.records_fit.proofs.Segments.{hold-few}
+use Rattle.records_fit.proofs.Segments.{hold-rise}
 use Rattle.records_fit.proofs.Heads.{kind-inner}
 use Rattle.records_fit.proofs.Loops.{each-passes}
 
@@ -32,8 +32,8 @@ module _ (n m j : ℕ) (r : List ℤ) (t : recordFits n m j r ≡ true) where
   unfolding headFits
   head = passed (leb (smallAt r kindPlace) 2) (every (childFits m j) (childrenOf (kindAlone r)) ∷ testFits sampleLimit n (kindAlone r) ∷ []) (parts .0)
 
-  pub few-segments : smallAt r segmentsPlace ≤ 16
-  few-segments = hold-few n r (sym (passing (parts .1)))
+  pub ends-rise : n ≤ 256 → EndsRise r (smallAt r segmentsPlace)
+  ends-rise l = hold-rise n r l (sym (passing (parts .1)))
 
   pub kind-named : smallAt r kindPlace ≤ 2
   kind-named = leb→le (smallAt r kindPlace) 2 (head .0)

@@ -1,17 +1,20 @@
 -- Segments one by one: what is left of a record's segments from segment i on, and what a rule says of it.
 use Prim.Native.Nat.{ℕ, zero, suc, _+_, _-_, _≤_, _<_}
-use mathlib.Core.Path.{_≡_, refl, sym, _∙_, ap}
+use mathlib.Core.Path.{_≡_, refl, sym, _∙_, ap, subst}
 use mathlib.Core.Bool.{Bool, true, false, not, _&&_}
 use mathlib.Core.Logic.{_⊎_, inl, inr}
 use mathlib.Core.List.{List, [], _∷_, foldl}
 use native.Mathlib.Omega.{arith}
 use native.Mathlib.Numerals.{add-one}
 use lib.ListN.{length, length-map}
-use lib.IntN.{ℤ, pos, negsuc, natAbs}
-use lib.Signed.{leZ, ltZ, nonNeg}
-use lib.Dec.{T, leb, ltb, eqb}
-use borrow.Author.Tests.{lt-ltb, le-ltb, lt-leb, le-leb, eq-eqb, ne-eqb, ltb-true, ltb-false, leb-true, leb-false}
-use Rattle.integer.specs.Words.{if_then_else_, every, counting, isIn, isEmpty, lastOf}
+use lib.IntN.{ℤ, pos, negsuc}
+use lib.Signed.{leZ}
+use lib.Dec.{T, leb, ltb, eqb, leb→le, ltb→lt}
+use mir.Facts.{and-yes as and-both}
+use borrow.Author.Tests.{lt-ltb, le-ltb, lt-leb, le-leb, eq-eqb, ne-eqb, ltb-true, leb-true, leb-false}
+use Rattle.integer.specs.Words.{if_then_else_, counting, isEmpty, lastOf}
+use Rattle.integer.proofs.Lists.{In, in-nil, in-cons, in-map, in-counting, Up, u-none, u-more}
+use Rattle.integer.proofs.Tests.{is-true, passed}
 use Rattle.integer.proofs.Times.{counting-length}
 use Rattle.dstree.specs.Measures.{sampleLimit}
 use Rattle.dstree.specs.Figures.{run, width}
@@ -20,7 +23,7 @@ use Rattle.dstree.specs.WellFormed.{rising, endsFit, segmentFits, segmentsFit}
 use Rattle.tables.specs.Layout.{segmentAt, segmentsPlace}
 use Rattle.tables.specs.View.{smallOf, scatterIn, placeOf, smallAt, segmentIn, segmentsIn}
 use Rattle.records_fit.proofs.Limits.{clash}
-use Rattle.records_fit.specs.Fits.{between, segmentsHold, segmentsFrom, restHolds, endsIn}
+use Rattle.records_fit.specs.Fits.{between, segmentsHold, segmentsFrom, restHolds, EndsRise}
 
 and-no : (a : Bool) → a && false ≡ false
 and-no true = refl
@@ -29,62 +32,43 @@ and-no false = refl
 -- ---- a number in between
 
 module _ (low high : ℕ) where
-  pub between-below : (x : ℕ) → x ≤ low → between low high x ≡ 0
+  pub between-below : (x : ℕ) → x ≤ low → false ≡ between low high x
   between-below x h = rw (le-ltb low x h)
 
-  pub between-above : (x : ℕ) → high < x → between low high x ≡ 0
-  between-above x h = by (ltb low x)
-    where
-      by : (b : Bool) → (if b && leb x high then x else 0) ≡ 0
-      by true = rw (lt-leb x high h)
-      by false = refl
+  pub between-above : (x : ℕ) → low < x → leb x high ≡ between low high x
+  between-above x h = rw (lt-ltb low x h)
 
-  pub between-is : (x : ℕ) → low < x → x ≤ high → between low high x ≡ x
-  between-is x g h = rw (lt-ltb low x g, le-leb x high h)
+  pub between-yes : (x : ℕ) → between low high x ≡ true → (low < x) × (x ≤ high)
+  between-yes x e = let p = and-both (ltb low x) (leb x high) (is-true e) in (ltb→lt low x (p .0), leb→le x high (p .1))
 
-  -- any but 0 is the number itself
-  pub between-some : (x : ℕ) → (between low high x ≡ 0 → ⊥) → (low < x) × (x ≤ high)
-  between-some x f = by (leb x low) (leb x high) refl refl
+  pub between-no : (x : ℕ) → between low high x ≡ false → (x ≤ low) ⊎ (high < x)
+  between-no x e = by (leb x low) refl
     where
-      by : (a b : Bool) → leb x low ≡ a → leb x high ≡ b → (low < x) × (x ≤ high)
-      by true b e g = absurd (f (between-below x (leb-true x low e)))
-      by false true e g = (leb-false x low e, leb-true x high g)
-      by false false e g = absurd (f (between-above x (leb-false x high g)))
-
-  -- and 0 is any other
-  pub between-none : (x : ℕ) → between low high x ≡ 0 → (x ≤ low) ⊎ (high < x)
-  between-none x z = by (leb x low) (leb x high) refl refl
-    where
-      by : (a b : Bool) → leb x low ≡ a → leb x high ≡ b → (x ≤ low) ⊎ (high < x)
-      by true b e g = inl (leb-true x low e)
-      by false true e g = let h = leb-false x low e in absurd (omega (arith, between-is x h (leb-true x high g), z, h))
-      by false false e g = inr (leb-false x high g)
+      by : (a : Bool) → leb x low ≡ a → (x ≤ low) ⊎ (high < x)
+      by true f = inl (leb-true x low f)
+      by false f = inr (leb-false x high (between-above x (leb-false x low f) ∙ e))
 
 -- a field, as it stands: what is no small number is below 0 or above any end
 module _ (low high : ℕ) (g : low ≤ high) (h : high ≤ 256) where
   field-is : (n : ℕ) → n ≤ 65535 → smallOf (pos n) ≡ n
   field-is n f = rw (le-ltb 65535 n f)
 
-  pub field-below : (z : ℤ) → leZ z (pos low) ≡ true → 0 ≡ between low high (smallOf z)
+  outside : false ≡ between low high 65536
+  outside = sym (sym (between-above low high 65536 (omega (arith, g, h))) ∙ lt-leb 65536 high (omega (arith, h)))
+
+  pub field-below : (z : ℤ) → leZ z (pos low) ≡ true → false ≡ between low high (smallOf z)
   field-below (pos n) e =
       let f = leb-true n low e in
-      sym (ap (between low high) (field-is n (omega (arith, f, g, h))) ∙ between-below low high n f)
-  field-below (negsuc n) e = sym (between-above low high 65536 (omega (arith, h)))
+      subst (λ (x : ℕ). false ≡ between low high x) (sym (field-is n (omega (arith, f, g, h)))) (between-below low high n f)
+  field-below (negsuc n) e = outside
 
-  pub field-above : (z : ℤ) → ltZ (pos high) z ≡ true → 0 ≡ between low high (smallOf z)
-  field-above (pos n) e = by (ltb 65535 n)
+  pub field-above : (z : ℤ) → leZ z (pos low) ≡ false → leZ z (pos high) ≡ between low high (smallOf z)
+  field-above (pos n) e = by (ltb 65535 n) refl
     where
-      by : (b : Bool) → 0 ≡ between low high (if b then 65536 else n)
-      by true = sym (between-above low high 65536 (omega (arith, h)))
-      by false = sym (between-above low high n (ltb-true high n e))
-  field-above (negsuc n) e = clash (sym e)
-
-  pub field-between : (z : ℤ) → leZ z (pos low) ≡ false → ltZ (pos high) z ≡ false → T (nonNeg z) × ((natAbs z ≡ between low high (smallOf z)) × (natAbs z ≤ 256))
-  field-between (pos n) e f =
-      let a = leb-false n low e in
-      let b = ltb-false high n f in
-      (tt, (sym (ap (between low high) (field-is n (omega (arith, b, h))) ∙ between-is low high n a b), omega (arith, b, h)))
-  field-between (negsuc n) e f = clash e
+      by : (b : Bool) → ltb 65535 n ≡ b → leb n high ≡ between low high (if b then 65536 else n)
+      by true f = lt-leb n high (omega (arith, ltb-true 65535 n f, h)) ∙ outside
+      by false f = between-above low high n (leb-false n low e)
+  field-above (negsuc n) e = clash e
 
 -- ---- what is left
 
@@ -112,36 +96,6 @@ pub figures-are : (w : ℕ) (r : List ℤ) (i : ℕ) {a b p q : ℤ} → a ≡ p
 unfolding segmentIn
 figures-are w r i e f g h = rw (e, f, g, h)
 
--- ---- an end among the rest
-
-module _ (e : ℕ) (s : Segment) (rest : List Segment) where
-  pub end-here : s .end ≡ e → isIn e (ends (s ∷ rest)) ≡ true
-  unfolding isIn
-  end-here h = rw (eq-eqb e (s .end) (sym h))
-
-  pub end-later : (s .end ≡ e → ⊥) → isIn e (ends (s ∷ rest)) ≡ isIn e (ends rest)
-  unfolding isIn
-  end-later h = rw (ne-eqb e (s .end) (λ q. h (sym q)))
-
-pub end-nowhere : (e : ℕ) → isIn e (ends []) ≡ false
-unfolding isIn
-end-nowhere e = refl
-
--- ---- all ends of the rest
-
-module _ (child : List Segment) (s : Segment) (rest : List Segment) where
-  pub ends-stop : isIn (s .end) (ends child) ≡ false → endsIn child (s ∷ rest) ≡ false
-  unfolding every
-  ends-stop h = rw h
-
-  pub ends-next : isIn (s .end) (ends child) ≡ true → endsIn child (s ∷ rest) ≡ endsIn child rest
-  unfolding every
-  ends-next h = rw h
-
-pub ends-done : (child : List Segment) → endsIn child [] ≡ true
-unfolding every
-ends-done child = refl
-
 -- ---- the rest holds
 
 -- ends that rise past n do not come back to it
@@ -156,9 +110,9 @@ past n before (s ∷ rest) h = by (ltb before (s .end)) refl (past n (s .end) re
     by false e ih = refl
 
 module _ (n before : ℕ) (s : Segment) (rest : List Segment) where
-  pub rest-falls : between before n (s .end) ≡ 0 → restHolds n before (s ∷ rest) ≡ false
+  pub rest-falls : between before n (s .end) ≡ false → restHolds n before (s ∷ rest) ≡ false
   unfolding restHolds
-  rest-falls z = by (between-none before n (s .end) z)
+  rest-falls e = by (between-no before n (s .end) e)
     where
       by : (s .end ≤ before) ⊎ (n < s .end) → ltb before (s .end) && segmentFits sampleLimit (width (run (suc before) (s .end))) s && restHolds n (s .end) rest ≡ false
       by (inl h) = rw (le-ltb before (s .end) h)
@@ -175,6 +129,33 @@ module _ (n before : ℕ) (s : Segment) (rest : List Segment) where
     pub rest-next : segmentFits sampleLimit (s .end - before) s ≡ true → restHolds n before (s ∷ rest) ≡ restHolds n (s .end) rest
     unfolding restHolds
     rest-next e = rw (lt-ltb before (s .end) h, same-width, e)
+
+-- of a rest that holds, the ends rise, to n
+rest-rises : (n before : ℕ) (l : List Segment) → T (restHolds n before l) → Up (suc before) (ends l)
+unfolding restHolds
+rest-rises n before [] t = u-none
+rest-rises n before (s ∷ rest) t =
+    let p = passed (ltb before (s .end)) (segmentFits sampleLimit (width (run (suc before) (s .end))) s ∷ restHolds n (s .end) rest ∷ []) t in
+    u-more (ltb→lt before (s .end) (p .0)) (rest-rises n (s .end) rest (p .1 .1))
+
+rest-low : (n before : ℕ) (l : List Segment) → T (restHolds n before l) → before ≤ n
+rest-low n before l t = by (leb before n) refl
+  where
+    by : (b : Bool) → leb before n ≡ b → before ≤ n
+    by true e = leb-true before n e
+    by false e = absurd (subst T (past n before l (leb-false before n e)) t)
+
+rest-under : (n before : ℕ) (l : List Segment) → T (restHolds n before l) → (e : ℕ) → In e (ends l) → e ≤ n
+unfolding restHolds
+rest-under n before [] t e i = absurd (in-nil i)
+rest-under n before (s ∷ rest) t e i = by (in-cons i) (rest-under n (s .end) rest (p .1 .1) e)
+  where
+    p : T (ltb before (s .end)) × (T (segmentFits sampleLimit (width (run (suc before) (s .end))) s) × T (restHolds n (s .end) rest))
+    p = passed (ltb before (s .end)) (segmentFits sampleLimit (width (run (suc before) (s .end))) s ∷ restHolds n (s .end) rest ∷ []) t
+
+    by : (e ≡ s .end) ⊎ In e (ends rest) → (In e (ends rest) → e ≤ n) → e ≤ n
+    by (inl q) ih = omega (arith, q, rest-low n (s .end) rest (p .1 .1))
+    by (inr j) ih = ih j
 
 pub rest-done : (n before : ℕ) → restHolds n before [] ≡ eqb before n
 unfolding restHolds
@@ -198,6 +179,10 @@ rest-is n before (s ∷ rest) =
     sorted (ltb before (s .end)) (rising (s .end ∷ ends rest)) (eqb (foldl (λ x y. y) (s .end) (ends rest)) n)
     (segmentFits sampleLimit (width (run (suc before) (s .end))) s) (segmentsFit sampleLimit (suc (s .end)) rest)
     ∙ ap (λ (b : Bool). (ltb before (s .end) && segmentFits sampleLimit (width (run (suc before) (s .end))) s) && b) (rest-is n (s .end) rest)
+
+up-less : {l : List ℕ} → Up 1 l → Up 0 l
+up-less u-none = u-none
+up-less (u-more {a} h u) = u-more {k = 0} {a = a} (omega arith) u
 
 -- as many ends as segments
 ends-length : (r : List ℤ) (count i : ℕ) → length (ends (segmentsFrom r count i)) ≡ count
@@ -229,10 +214,23 @@ module _ (n : ℕ) (r : List ℤ) where
   unfolding segmentsHold segmentsIn
   some-hold g h = some (smallAt r segmentsPlace) g h
 
-  -- a record whose segments hold has 16 at most
-  pub hold-few : segmentsHold n r ≡ true → smallAt r segmentsPlace ≤ 16
-  hold-few e = by (leb (smallAt r segmentsPlace) 16) refl
+  -- a record whose segments hold has at most 16, whose ends rise
+  pub hold-rise : n ≤ 256 → segmentsHold n r ≡ true → EndsRise r (smallAt r segmentsPlace)
+  hold-rise l e = by (leb (smallAt r segmentsPlace) 16) (leb 1 (smallAt r segmentsPlace)) refl refl
     where
-      by : (b : Bool) → leb (smallAt r segmentsPlace) 16 ≡ b → smallAt r segmentsPlace ≤ 16
-      by true f = leb-true (smallAt r segmentsPlace) 16 f
-      by false f = clash (sym e ∙ many-hold (leb-false (smallAt r segmentsPlace) 16 f))
+      by : (a b : Bool) → leb (smallAt r segmentsPlace) 16 ≡ a → leb 1 (smallAt r segmentsPlace) ≡ b → EndsRise r (smallAt r segmentsPlace)
+      by false b f g = clash (sym e ∙ many-hold (leb-false (smallAt r segmentsPlace) 16 f))
+      by true false f g = clash (sym e ∙ none-hold (leb-false 1 (smallAt r segmentsPlace) g))
+      by true true f g =
+          let t : T (restHolds n 0 (segmentsFrom r (smallAt r segmentsPlace) 0)) =
+          is-true (sym (some-hold (leb-true 1 (smallAt r segmentsPlace) g) (leb-true (smallAt r segmentsPlace) 16 f)) ∙ e) in
+          record {
+            few = leb-true (smallAt r segmentsPlace) 16 f;
+            rise = up-less (rest-rises n 0 (segmentsFrom r (smallAt r segmentsPlace) 0) t);
+            low = λ i h. omega (
+              arith,
+              l,
+              rest-under n 0 (segmentsFrom r (smallAt r segmentsPlace) 0) t (segmentIn r i .end)
+                  (in-map (λ (s : Segment). s .end) (in-map (segmentIn r) (in-counting (smallAt r segmentsPlace) 0 i (omega arith) (omega arith)))),
+            );
+          }

@@ -7,6 +7,7 @@ use lib.IntN.{ℤ}
 use lib.ListN.{length}
 use lib.Dec.{leb, ltb, eqb}
 use Rattle.integer.specs.Words.{if_then_else_, every, counting, isIn}
+use Rattle.integer.specs.Lists.{Up}
 use Rattle.dstree.specs.Measures.{sampleLimit}
 use Rattle.dstree.specs.Figures.{run, width}
 use Rattle.dstree.specs.Node.{Segment, Figure, bySum, byScatter, Kind, ends}
@@ -44,9 +45,9 @@ recordFits n m j r = headFits n m j r && segmentsHold n r
 abbrev pub segmentsFrom : List ℤ → ℕ → ℕ → List Segment
 segmentsFrom r count i = map (segmentIn r) (counting count i)
 
--- a number above `low`, `high` at most; any other as 0
-abbrev pub between : ℕ → ℕ → ℕ → ℕ
-between low high x = if ltb low x && leb x high then x else 0
+-- a number is above `low`, and `high` at most
+abbrev pub between : ℕ → ℕ → ℕ → Bool
+between low high x = ltb low x && leb x high
 
 -- the same two rules segment by segment, `before` being the end before the first: the ends rise to n, and each segment's figures are in their limits
 unfoldable pub restHolds : ℕ → ℕ → List Segment → Bool
@@ -73,9 +74,16 @@ allKept m nodes = every (keptAt nodes) (counting m 0)
 
 -- ---- what callers know
 
+-- the ends of a record's first segments rise
+pub record EndsRise (r : List ℤ) (count : ℕ) : Type 0 where
+  pub few : count ≤ 16
+  pub rise : Up 0 (ends (segmentsFrom r count 0))
+  pub low : (i : ℕ) → i < count → segmentIn r i .end ≤ 256
+
 -- the records of m nodes are in the table, and fit
 pub record AllFit (m : ℕ) (nodes : List ℤ) : Type 0 where
   pub n : ℕ
+  pub short : n ≤ 256
   pub fit : recordsFit n m nodes ≡ true
   pub room : m * recordPlaces ≤ length nodes
   pub low : m ≤ 8191

@@ -11,7 +11,7 @@ ghost use lib.ListN.{length};
 ghost use Rattle.tables.specs.Layout.{segmentsPlace, recordPlaces};
 ghost use Rattle.tables.specs.Tables.{recordOf};
 ghost use Rattle.tables.specs.View.{smallAt, segmentsIn};
-ghost use Rattle.records_fit.specs.Fits.{recordFits, endsIn, keptAt, recordsFit, allKept, AllFit, InUse};
+ghost use Rattle.records_fit.specs.Fits.{recordFits, endsIn, keptAt, recordsFit, allKept, EndsRise, AllFit, InUse};
 
 fn node_fits(nodes: &[i64], j: usize, m: usize, n: usize) -> bool
     requires { ⌜ (j * recordPlaces + recordPlaces ≤ length (now nodes)) × (j ≤ 8191) × (n ≤ 256) ⌝ }
@@ -36,8 +36,10 @@ pub fn records_fit(nodes: &[i64], m: usize, n: usize) -> bool
 }
 
 fn kept(nodes: &[i64], child: usize, parent: usize) -> bool
-    requires { ⌜ (child * recordPlaces + recordPlaces ≤ length (now nodes)) × (child ≤ 8191) × (smallAt (recordOf (now nodes) child) segmentsPlace ≤ 16)
-        × (parent * recordPlaces + recordPlaces ≤ length (now nodes)) × (parent ≤ 8191) × (smallAt (recordOf (now nodes) parent) segmentsPlace ≤ 16) ⌝ }
+    requires { ⌜ (child * recordPlaces + recordPlaces ≤ length (now nodes)) × (child ≤ 8191)
+        × EndsRise (recordOf (now nodes) child) (smallAt (recordOf (now nodes) child) segmentsPlace)
+        × (parent * recordPlaces + recordPlaces ≤ length (now nodes)) × (parent ≤ 8191)
+        × EndsRise (recordOf (now nodes) parent) (smallAt (recordOf (now nodes) parent) segmentsPlace) ⌝ }
     ensures { λ r. ⌜ r ≡ endsIn (segmentsIn (recordOf (now (nodes .entry)) child)) (segmentsIn (recordOf (now (nodes .entry)) parent)) ⌝ }
 {
     crate::records::ends_kept(record_at(nodes, child), record_at(nodes, parent))
@@ -60,7 +62,7 @@ fn node_kept(nodes: &[i64], j: usize) -> bool
     kept(nodes, right, j)
 }
 
-// Every child's ends include its parent's. The records fit by themselves, so that each has 16 ends at most and each child has a record.
+// Every child's ends include its parent's. The records fit by themselves, so that the ends of each rise and each child has a record.
 pub fn ends_kept(nodes: &[i64], m: usize) -> bool
     requires { ⌜ AllFit m (now nodes) ⌝ }
     ensures { λ r. ⌜ r ≡ allKept m (now (nodes .entry)) ⌝ }

@@ -16,39 +16,53 @@ use tables::places::THRESHOLD;
 use tables::records::small_at;
 use tables::records::value_at;
 ghost use mathlib.Core.Path.{_≡_};
-ghost use Prim.Native.Nat.{ℕ, _+_, _≤_, _<_};
+ghost use Prim.Native.Nat.{ℕ, suc, _≤_, _<_};
 ghost use lib.ListN.{length};
-ghost use Rattle.integer.specs.Words.{isIn};
+ghost use lib.Dec.{eqb};
+ghost use Rattle.integer.specs.Words.{if_then_else_};
 ghost use Rattle.dstree.specs.Measures.{sampleLimit};
 ghost use Rattle.dstree.specs.Figures.{run};
-ghost use Rattle.dstree.specs.Node.{inner, ends};
+ghost use Rattle.dstree.specs.Node.{inner};
 ghost use Rattle.dstree.specs.WellFormed.{segmentFits, testFits};
 ghost use Rattle.tables.specs.Layout.{segmentsPlace, recordPlaces};
 ghost use Rattle.tables.specs.View.{smallOf, smallAt, segmentIn, segmentsIn};
-ghost use Rattle.records_fit.specs.Fits.{figureNamed, between, childFits, headFits, segmentsHold, recordFits, segmentsFrom, restHolds, endsIn};
+ghost use Rattle.records_fit.specs.Fits.{figureNamed, between, childFits, headFits, segmentsHold, recordFits, segmentsFrom, restHolds, endsIn, EndsRise};
 
 // ---- segments
 
-// A field that holds a number above `low`, `high` at most; else 0. It is tested as it stands, which spares reading it as a small number first.
-fn between(low: usize, high: usize, v: i64) -> usize
+// A field holds a number above `low`, `high` at most. It is tested as it stands, which spares reading it as a small number first.
+fn between(low: usize, high: usize, v: i64) -> bool
     requires { ⌜ (low ≤ high) × (high ≤ 256) ⌝ }
     ensures { λ r. ⌜ r ≡ between low high (smallOf v) ⌝ }
 {
     if v <= low as i64 {
-        return 0;
+        return false;
     }
-    if (high as i64) < v {
-        return 0;
-    }
-    v as usize
+    v <= high as i64
 }
 
-// The right end of segment i, from 0, if it is behind the end before it and n at most; else 0.
-fn end_behind(places: &[i64], i: usize, before: usize, n: usize) -> usize
+// The right end of segment i, from 0, is behind the end before it, and n at most.
+fn end_behind(places: &[i64], i: usize, before: usize, n: usize) -> bool
     requires { ⌜ (length (now places) ≡ recordPlaces) × (i < 16) × (before ≤ n) × (n ≤ 256) ⌝ }
     ensures { λ r. ⌜ r ≡ between before n (segmentIn (now (places .entry)) i .end) ⌝ }
 {
     between(before, n, value_at(places, HEAD + i * SEGMENT))
+}
+
+// A field that is known to hold a small number.
+fn known(v: i64) -> usize
+    requires { ⌜ smallOf v ≤ 65535 ⌝ }
+    ensures { λ r. ⌜ r ≡ smallOf v ⌝ }
+{
+    v as usize
+}
+
+// The right end of segment i, which was tested.
+fn end_at(places: &[i64], i: usize) -> usize
+    requires { ⌜ (length (now places) ≡ recordPlaces) × (i < 16) × (segmentIn (now places) i .end ≤ 256) ⌝ }
+    ensures { λ r. ⌜ r ≡ segmentIn (now (places .entry)) i .end ⌝ }
+{
+    known(value_at(places, HEAD + i * SEGMENT))
 }
 
 // The figures of segment i, which is w samples wide.
@@ -72,10 +86,10 @@ fn segments_run(places: &[i64], count: usize, n: usize) -> bool
     let mut before: usize = 0;
     let mut i: usize = 0;
     while i < count {
-        let end = end_behind(places, i, before, n);
-        if end == 0 {
+        if !end_behind(places, i, before, n) {
             return false;
         }
+        let end = end_at(places, i);
         if !segment_fits(places, i, (end - before) as u64) {
             return false;
         }
@@ -165,48 +179,41 @@ pub fn record_fits(places: &[i64], j: usize, m: usize, n: usize) -> bool
 
 // ---- ends of a node and its child
 
-// The right end of segment i, from 0.
-fn end_at(places: &[i64], i: usize) -> usize
-    requires { ⌜ (length (now places) ≡ recordPlaces) × (i < 16) ⌝ }
-    ensures { λ r. ⌜ r ≡ segmentIn (now (places .entry)) i .end ⌝ }
+// One more than p if the two ends are the same, else p.
+fn passed(child: &[i64], i: usize, parent: &[i64], p: usize) -> usize
+    requires { ⌜ (length (now child) ≡ recordPlaces) × (i < 16) × (segmentIn (now child) i .end ≤ 256)
+        × (length (now parent) ≡ recordPlaces) × (p < 16) × (segmentIn (now parent) p .end ≤ 256) ⌝ }
+    ensures { λ r. ⌜ r ≡ (if eqb (segmentIn (now (child .entry)) i .end) (segmentIn (now (parent .entry)) p .end) then suc p else p) ⌝ }
 {
-    small_at(places, HEAD + i * SEGMENT)
-}
-
-// One of the first `count` ends is e.
-fn has_end(places: &[i64], count: usize, e: usize) -> bool
-    requires { ⌜ (length (now places) ≡ recordPlaces) × (count ≤ 16) ⌝ }
-    ensures { λ r. ⌜ r ≡ isIn e (ends (segmentsFrom (now (places .entry)) count 0)) ⌝ }
-{
-    let mut i: usize = 0;
-    while i < count {
-        if end_at(places, i) == e {
-            return true;
-        }
-        i += 1;
+    if end_at(child, i) == end_at(parent, p) {
+        return p + 1;
     }
-    false
+    p
 }
 
-// The first `many` ends of the parent are among the first `count` of the child.
+// The first `many` ends of the parent are among the first `count` of the child. Both rise, so that one pass over the child's is enough: each end of the
+// parent is passed when it is met, in order.
 fn ends_in(child: &[i64], count: usize, parent: &[i64], many: usize) -> bool
-    requires { ⌜ (length (now child) ≡ recordPlaces) × (count ≤ 16) × (length (now parent) ≡ recordPlaces) × (many ≤ 16) ⌝ }
+    requires { ⌜ (length (now child) ≡ recordPlaces) × EndsRise (now child) count
+        × (length (now parent) ≡ recordPlaces) × EndsRise (now parent) many ⌝ }
     ensures { λ r. ⌜ r ≡ endsIn (segmentsFrom (now (child .entry)) count 0) (segmentsFrom (now (parent .entry)) many 0) ⌝ }
 {
+    let mut p: usize = 0;
     let mut i: usize = 0;
-    while i < many {
-        if !has_end(child, count, end_at(parent, i)) {
+    while p < many {
+        if i == count {
             return false;
         }
+        p = passed(child, i, parent, p);
         i += 1;
     }
     true
 }
 
-// A child's ends include its parent's. Both have at most 16.
+// A child's ends include its parent's. Both records were tested by themselves.
 pub fn ends_kept(child: &[i64], parent: &[i64]) -> bool
-    requires { ⌜ (length (now child) ≡ recordPlaces) × (smallAt (now child) segmentsPlace ≤ 16)
-        × (length (now parent) ≡ recordPlaces) × (smallAt (now parent) segmentsPlace ≤ 16) ⌝ }
+    requires { ⌜ (length (now child) ≡ recordPlaces) × EndsRise (now child) (smallAt (now child) segmentsPlace)
+        × (length (now parent) ≡ recordPlaces) × EndsRise (now parent) (smallAt (now parent) segmentsPlace) ⌝ }
     ensures { λ r. ⌜ r ≡ endsIn (segmentsIn (now (child .entry))) (segmentsIn (now (parent .entry))) ⌝ }
 {
     let count = small_at(child, SEGMENTS);

@@ -128,7 +128,7 @@ module _ (c : tie.Else2) where
   records-pass = records (c .before) (not-false (c .before .records-fit .result) (c .if2 .left))
 
   all-fit : AllFit (w o .wide4 .result) (nodes (w o))
-  all-fit = record { n = w1 (w o) .wide .result; fit = sym (c .before .records-fit .ensures) ∙ not-false (c .before .records-fit .result) (c .if2 .left); room = held o; low = low o }
+  all-fit = record { n = w1 (w o) .wide .result; short = omega (arith, n-read (w o), ranged (w o) .n-high); fit = sym (c .before .records-fit .ensures) ∙ not-false (c .before .records-fit .result) (c .if2 .left); room = held o; low = low o }
 
 ends-kept-requires : tie.Need-ends-kept-requires
 ends-kept-requires c κs = all-fit c

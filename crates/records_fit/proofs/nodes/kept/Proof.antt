@@ -1,7 +1,6 @@
 -- `records_fit::nodes::kept` meets its contract: the parts that are lent are the two records.
 use mathlib.Core.Path.{_≡_, sym, ap₂, subst, _∙_}
 use mathlib.Core.List.{List}
-use Prim.Native.Nat.{_≤_}
 use lib.IntN.{ℤ}
 use lib.ListN.{length}
 use denote.Ref.{now}
@@ -9,7 +8,7 @@ use borrow.Author.Needs.{needs}
 use Rattle.tables.specs.Layout.{recordPlaces, segmentsPlace}
 use Rattle.tables.specs.View.{smallAt, segmentsIn}
 use Rattle.tables.proofs.Frame.{record-length}
-use Rattle.records_fit.specs.Fits.{endsIn}
+use Rattle.records_fit.specs.Fits.{endsIn, EndsRise}
 use Rattle.records_fit.proofs.nodes.kept.Statement.{statement}
 use Rattle.records_fit.proofs.nodes.kept.Tie as tie
 
@@ -17,7 +16,7 @@ ends-kept-requires : tie.Need-ends-kept-requires
 ends-kept-requires c κs =
     let s = c .before .before in
     let nodes = now (s .args .nodes) in
-    let P : List ℤ → Type 0 = λ l. (length l ≡ recordPlaces) × (smallAt l segmentsPlace ≤ 16) in
+    let P : List ℤ → Type 0 = λ l. (length l ≡ recordPlaces) × EndsRise l (smallAt l segmentsPlace) in
     let x = subst P (sym (c .before .record-at .ensures)) (record-length nodes (s .args .child) (s .pre .0), s .pre .2) in
     let y = subst P (sym (c .record-at2 .ensures)) (record-length nodes (s .args .parent) (s .pre .3), s .pre .5) in
     (x .0, x .1, y .0, y .1)

@@ -11,8 +11,8 @@ use borrow.Author.Tests.{not-true, not-false}
 use Rattle.tables.specs.Layout.{kindPlace, firstPlace, segmentsPlace, recordPlaces}
 use Rattle.tables.specs.Tables.{recordOf}
 use Rattle.tables.specs.View.{smallAt, segmentsIn}
-use Rattle.records_fit.specs.Fits.{recordFits, endsIn}
-use Rattle.records_fit.proofs.Children.{few-segments, kind-named, left-above, right-above, record-fits-at, leaf-keeps, left-loses, right-decides}
+use Rattle.records_fit.specs.Fits.{recordFits, endsIn, EndsRise}
+use Rattle.records_fit.proofs.Children.{ends-rise, kind-named, left-above, right-above, record-fits-at, leaf-keeps, left-loses, right-decides}
 use Rattle.records_fit.proofs.nodes.node_kept.Statement.{statement}
 use Rattle.records_fit.proofs.nodes.node_kept.Tie as tie
 
@@ -36,13 +36,14 @@ module _ (s : tie.Start) where
   fits : (x : ℕ) → x < m → recordFits n m x (recordOf nodes x) ≡ true
   fits x h = record-fits-at n m nodes (s .pre .all .fit) x h
 
-  few : (x : ℕ) → x < m → smallAt (recordOf nodes x) segmentsPlace ≤ 16
-  few x h = few-segments n m x (recordOf nodes x) (fits x h)
+  rise : (x : ℕ) → x < m → EndsRise (recordOf nodes x) (smallAt (recordOf nodes x) segmentsPlace)
+  rise x h = ends-rise n m x (recordOf nodes x) (fits x h) (s .pre .all .short)
 
   -- what `kept` asks, for a child that is one of m nodes
   askable : (child : ℕ) → child < m → (child * recordPlaces + recordPlaces ≤ length nodes) × (child ≤ 8191)
-      × (smallAt (recordOf nodes child) segmentsPlace ≤ 16) × (j * recordPlaces + recordPlaces ≤ length nodes) × (j ≤ 8191) × (smallAt (recordOf nodes j) segmentsPlace ≤ 16)
-  askable child h = (omega (arith, s .pre .all .room), omega (arith, s .pre .all .low), few child h, omega (arith, s .pre .all .room), omega (arith, s .pre .all .low), few j (s .pre .inside))
+      × EndsRise (recordOf nodes child) (smallAt (recordOf nodes child) segmentsPlace) × (j * recordPlaces + recordPlaces ≤ length nodes) × (j ≤ 8191)
+      × EndsRise (recordOf nodes j) (smallAt (recordOf nodes j) segmentsPlace)
+  askable child h = (omega (arith, s .pre .all .room), omega (arith, s .pre .all .low), rise child h, omega (arith, s .pre .all .room), omega (arith, s .pre .all .low), rise j (s .pre .inside))
 
   mine : (j * recordPlaces + recordPlaces ≤ length nodes) × (j ≤ 8191)
   mine = (omega (arith, s .pre .all .room, s .pre .inside), omega (arith, s .pre .all .low, s .pre .inside))

@@ -10,9 +10,6 @@ use Rattle.records_fit.specs.Fits.{between}
 use Rattle.records_fit.proofs.records.end_behind.Statement.{statement}
 use Rattle.records_fit.proofs.records.end_behind.Tie as tie
 
-value-at-requires : tie.Need-value-at-requires
-value-at-requires c κs = (c .pre .0, omega arith)
-
 returns : tie.Need-returns
 unfolding segmentIn
 returns c =
@@ -25,4 +22,4 @@ pub end-behind-spec : {M : Type 1} → statement M
 end-behind-spec =
     tie.close
     (tie.spec
-    (λ c. omega arith) (λ c. omega arith) value-at-requires (λ c κs. (c .before .pre .2, c .before .pre .3)) returns)
+    (λ c. omega arith) (λ c. omega arith) (λ c κs. (c .pre .0, omega arith)) (λ c κs. (c .before .pre .2, c .before .pre .3)) returns)

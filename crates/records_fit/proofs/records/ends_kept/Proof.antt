@@ -1,17 +1,20 @@
 -- `records_fit::records::ends_kept` meets its contract: the numbers of ends are those of the records.
-use mathlib.Core.Path.{_≡_, _∙_}
-use native.Mathlib.Omega.{arith}
+use mathlib.Core.Path.{_≡_, sym, subst, _∙_}
 use denote.Ref.{now}
 use borrow.Author.Needs.{needs}
 use Rattle.tables.specs.View.{segmentsIn}
-use Rattle.records_fit.specs.Fits.{segmentsFrom, endsIn}
+use Rattle.records_fit.specs.Fits.{segmentsFrom, endsIn, EndsRise}
 use Rattle.records_fit.proofs.records.ends_kept.Statement.{statement}
 use Rattle.records_fit.proofs.records.ends_kept.Tie as tie
 
 ends-in-requires : tie.Need-ends-in-requires
 ends-in-requires c κs =
-    let p = c .before .before .pre in
-    (p .0, omega (arith, c .before .small-at .ensures, p .1), p .2, omega (arith, c .small-at2 .ensures, p .3))
+    let p = c .before .before .pre in (
+      p .0,
+      subst (EndsRise (now (c .before .before .args .child))) (sym (c .before .small-at .ensures)) (p .1),
+      p .2,
+      subst (EndsRise (now (c .before .before .args .parent))) (sym (c .small-at2 .ensures)) (p .3),
+    )
 
 returns : tie.Need-returns
 unfolding segmentsIn

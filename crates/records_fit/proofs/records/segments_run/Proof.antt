@@ -12,7 +12,7 @@ use Rattle.dstree.specs.Node.{Segment}
 use Rattle.dstree.specs.WellFormed.{segmentFits}
 use Rattle.tables.specs.View.{segmentIn}
 use Rattle.records_fit.specs.Fits.{between, segmentsFrom, restHolds}
-use Rattle.records_fit.proofs.Segments.{between-is, between-some, from-more, from-none, from-first, rest-falls, rest-outside, rest-next, rest-done}
+use Rattle.records_fit.proofs.Segments.{between-yes, from-more, from-none, from-first, rest-falls, rest-outside, rest-next, rest-done}
 use Rattle.records_fit.proofs.records.segments_run.Statement.{statement}
 use Rattle.records_fit.proofs.records.segments_run.Tie as tie
 
@@ -51,34 +51,33 @@ module _ (c : tie.After-end-behind Inv-loop μ-loop) where
   whole : restHolds n 0 (segmentsFrom places count 0) ≡ restHolds n before (segmentIn places i ∷ rest)
   whole = sym (c .before .before .loop .inv .2) ∙ ap (λ (l : List Segment). restHolds n before l) (from-more places count i (omega arith))
 
-  read : c .end-behind .result ≡ between before n (segmentIn places i .end)
-  read = c .end-behind .ensures
+  behind : {t : Bool} → c .end-behind .result ≡ t → between before n (segmentIn places i .end) ≡ t
+  behind e = sym (c .end-behind .ensures) ∙ e
 
 returns : tie.Need-returns Inv-loop μ-loop
 returns c =
     let d = c .before in
-    sym (whole d ∙ rest-falls (n d) (before d) (segmentIn (places d) (i d)) (rest d) (sym (read d) ∙ c .if1 .taken))
+    sym (whole d ∙ rest-falls (n d) (before d) (segmentIn (places d) (i d)) (rest d) (behind d (not-true (d .end-behind .result) (c .if1 .taken))))
 
 -- an end that is behind the one before it
-module _ (c : tie.Else1 Inv-loop μ-loop) where
-  abbrev b : tie.After-end-behind Inv-loop μ-loop
-  b = c .before
+inside : (c : tie.Else1 Inv-loop μ-loop) → let d = c .before in (before d < segmentIn (places d) (i d) .end) × (segmentIn (places d) (i d) .end ≤ n d)
+inside c = let d = c .before in between-yes (before d) (n d) (segmentIn (places d) (i d) .end) (behind d (not-false (d .end-behind .result) (c .if1 .left)))
 
-  inside : (before b < segmentIn (places b) (i b) .end) × (segmentIn (places b) (i b) .end ≤ n b)
-  inside = between-some (before b) (n b) (segmentIn (places b) (i b) .end) (λ z. c .if1 .left (read b ∙ z))
+end-at-requires : tie.Need-end-at-requires Inv-loop μ-loop
+end-at-requires c κs = let s = c .before .before .before .before in (s .pre .0, omega arith, omega (arith, inside c .1, s .pre .2))
 
-  found : segmentIn (places b) (i b) .end ≡ b .end-behind .result
-  found = sym (read b ∙ between-is (before b) (n b) (segmentIn (places b) (i b) .end) (inside .0) (inside .1))
+found : (c : tie.After-end-at Inv-loop μ-loop) → let d = c .before .before in segmentIn (places d) (i d) .end ≡ c .end-at .result
+found c = sym (c .end-at .ensures)
 
 segment-fits-requires : tie.Need-segment-fits-requires Inv-loop μ-loop
 segment-fits-requires c κs =
-    let s = c .before .before .before .before in
-    (s .pre .0, omega arith, omega (arith, found c, inside c .1, s .pre .2))
+    let s = c .before .before .before .before .before in
+    (s .pre .0, omega arith, omega (arith, found c, inside (c .before) .1, s .pre .2))
 
 -- the segment's figures, at the definition's width
 module _ (c : tie.After-segment-fits Inv-loop μ-loop) where
   abbrev d : tie.After-end-behind Inv-loop μ-loop
-  d = c .before .before
+  d = c .before .before .before
 
   fits : {t : Bool} → c .segment-fits .result ≡ t → segmentFits sampleLimit (segmentIn (places d) (i d) .end - before d) (segmentIn (places d) (i d)) ≡ t
   fits e = ap (λ (w : ℕ). segmentFits sampleLimit (w - before d) (segmentIn (places d) (i d))) (found (c .before)) ∙ (sym (c .segment-fits .ensures) ∙ e)
@@ -86,17 +85,17 @@ module _ (c : tie.After-segment-fits Inv-loop μ-loop) where
 returns-2 : tie.Need-returns-2 Inv-loop μ-loop
 returns-2 c =
     let s = c .before in
-    let k = s .before .before in
-    sym (whole k ∙ rest-outside (n k) (before k) (segmentIn (places k) (i k)) (rest k) (inside (s .before) .0) (fits s (not-true (s .segment-fits .result) (c .if2 .taken))))
+    let k = s .before .before .before in
+    sym (whole k ∙ rest-outside (n k) (before k) (segmentIn (places k) (i k)) (rest k) (inside (s .before .before) .0) (fits s (not-true (s .segment-fits .result) (c .if2 .taken))))
 
 loop-again : tie.Need-loop-again Inv-loop μ-loop
 loop-again c =
     let s = c .before in
-    let k = s .before .before in (
+    let k = s .before .before .before in (
       omega arith,
-      omega (arith, found (s .before), inside (s .before) .1),
+      omega (arith, found (s .before), inside (s .before .before) .1),
       subst (λ (x : ℕ). restHolds (n k) x (rest k) ≡ restHolds (n k) 0 (segmentsFrom (places k) (count k) 0)) (found (s .before))
-          (sym (whole k ∙ rest-next (n k) (before k) (segmentIn (places k) (i k)) (rest k) (inside (s .before) .0) (fits s (not-false (s .segment-fits .result) (c .if2 .left))))),
+          (sym (whole k ∙ rest-next (n k) (before k) (segmentIn (places k) (i k)) (rest k) (inside (s .before .before) .0) (fits s (not-false (s .segment-fits .result) (c .if2 .left))))),
     )
 
 returns-3 : tie.Need-returns-3 Inv-loop μ-loop
@@ -109,5 +108,5 @@ pub segments-run-spec : {M : Type 1} → statement M
 segments-run-spec =
     tie.close
     (tie.spec
-    Inv-loop μ-loop loop-holds end-behind-requires returns (λ c. omega (arith, found c, inside c .0)) segment-fits-requires returns-2 (λ c. omega arith)
+    Inv-loop μ-loop loop-holds end-behind-requires returns end-at-requires (λ c. omega (arith, found c, inside (c .before) .0)) segment-fits-requires returns-2 (λ c. omega arith)
     (λ c. omega arith) loop-again returns-3)

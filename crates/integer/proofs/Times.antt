@@ -6,8 +6,9 @@ use mathlib.Core.List.{List, [], _∷_, _++_, map, flatten}
 use native.Mathlib.Omega.{arith}
 use lib.ListN.{length, getD}
 use lib.Dec.{T, eqb, eqb→eq, eqb-refl}
-use Rattle.integer.specs.Words.{if_then_else_, counting, timesIn}
-use Rattle.integer.proofs.Lists.{same-or-not, In, first, later, Up, u-none, u-more, up-in, in-counting, from-counting}
+use Rattle.integer.specs.Words.{if_then_else_, those, counting, timesIn}
+use Rattle.integer.proofs.Lists.{same-or-not, In, first, later, Up, u-none, u-more, up-in, up-those, in-those, from-those, in-counting, from-counting}
+use Rattle.integer.proofs.Tests.{eq→eqb}
 
 -- ---- one more element
 
@@ -194,3 +195,66 @@ once-length m a l once inside =
     sym (tally-length (counting m a) l (λ b i. up-once (counting-rises m a) (in-counting m a b (inside b i .0) (inside b i .1))))
     ∙ tally-once (counting m a) l (λ x i. once x (from-counting m a i .0) (from-counting m a i .1))
     ∙ counting-length m a
+
+-- .. and as many as that, each at most once and no other, are each in it
+
+tally-most : (xs l : List ℕ) → ((x : ℕ) → timesIn x l ≤ 1) → tally xs l ≤ length xs
+unfolding tally
+tally-most [] l h = omega arith
+tally-most (x ∷ xs) l h = omega (arith, h x, tally-most xs l h)
+
+tally-full : (xs l : List ℕ) → ((x : ℕ) → timesIn x l ≤ 1) → tally xs l ≡ length xs → {x : ℕ} → In x xs → timesIn x l ≡ 1
+unfolding tally
+tally-full (x ∷ xs) l h e first = omega (arith, h x, tally-most xs l h, e)
+tally-full (x ∷ xs) l h e (later i) = tally-full xs l h (omega (arith, h x, tally-most xs l h, e)) i
+
+pub all-once : (m a : ℕ) (l : List ℕ) → length l ≡ m → ((x : ℕ) → timesIn x l ≤ 1) → ((x : ℕ) → In x l → (a ≤ x) × (x < a + m)) → (x : ℕ) → a ≤ x → x < a + m → timesIn x l ≡ 1
+all-once m a l e most inside x g h =
+    tally-full (counting m a) l most
+    (tally-length (counting m a) l (λ b i. up-once (counting-rises m a) (in-counting m a b (inside b i .0) (inside b i .1))) ∙ e ∙ sym (counting-length m a))
+    (in-counting m a x g h)
+
+-- ---- parts of the numbers below k: a list of such numbers that has each number once whose part has x, has x as often as all parts have it
+
+module _ (f : ℕ → List ℕ) (k x : ℕ) (most : (y : ℕ) → timesIn x (f y) ≤ 1) where
+  -- the numbers whose parts have x
+  holders : List ℕ
+  holders = those (λ y. eqb (timesIn x (f y)) 1) (counting k 0)
+
+  times-holders : (b : ℕ) → b < k → timesIn b holders ≡ timesIn x (f b)
+  unfolding holders
+  times-holders b h = by (same-or-not (timesIn x (f b)) 1)
+    where
+      by : Dec (timesIn x (f b) ≡ 1) → timesIn b (those (λ y. eqb (timesIn x (f y)) 1) (counting k 0)) ≡ timesIn x (f b)
+      by (yes e) = up-once (up-those (λ y. eqb (timesIn x (f y)) 1) (counting-rises k 0)) (in-those (λ y. eqb (timesIn x (f y)) 1) (in-counting k 0 b (omega arith) (omega arith)) (eq→eqb e)) ∙ sym e
+      by (no g) = omega (
+        arith,
+        times-none b (those (λ y. eqb (timesIn x (f y)) 1) (counting k 0)) (λ i. g (eqb→eq (timesIn x (f b)) 1 (from-those (λ y. eqb (timesIn x (f y)) 1) (counting k 0) i .1))),
+        most b,
+        g,
+      )
+
+  parts-tally : (l : List ℕ) → ((b : ℕ) → In b l → b < k) → timesIn x (flatten (map f l)) ≡ tally holders l
+  unfolding flatten
+  parts-tally [] low = times-nil x ∙ sym (tally-none holders)
+  parts-tally (b ∷ l) low =
+      omega (
+        arith,
+        times-append x (f b) (flatten (map f l)),
+        tally-more holders b l,
+        times-holders b (low b first),
+        parts-tally l (λ c i. low c (later i)),
+      )
+
+  -- each of them once
+  parts-once : (l : List ℕ) → ((b : ℕ) → In b l → b < k) → ((y : ℕ) → y < k → In x (f y) → timesIn y l ≡ 1) → timesIn x (flatten (map f l)) ≡ length holders
+  unfolding holders
+  parts-once l low once = parts-tally l low ∙ tally-once holders l (λ y i. each y (from-those (λ y. eqb (timesIn x (f y)) 1) (counting k 0) i))
+    where
+      each : (y : ℕ) → In y (counting k 0) × T (eqb (timesIn x (f y)) 1) → timesIn y l ≡ 1
+      each y (i, t) = once y (omega (arith, from-counting k 0 i .1)) (times-in x (f y) (omega (arith, eqb→eq (timesIn x (f y)) 1 t)))
+
+  pub parts-same : (l : List ℕ) → ((b : ℕ) → In b l → b < k) → ((y : ℕ) → y < k → In x (f y) → timesIn y l ≡ 1) → timesIn x (flatten (map f l)) ≡ timesIn x (flatten (map f (counting k 0)))
+  parts-same l low once =
+      parts-once l low once
+      ∙ sym (parts-once (counting k 0) (λ b i. omega (arith, from-counting k 0 i .1)) (λ y h i. up-once (counting-rises k 0) (in-counting k 0 y (omega arith) (omega arith))))

@@ -6,7 +6,7 @@ use mathlib.Core.List.{List, [], _∷_, _++_, map, flatten, append-assoc, append
 use native.Mathlib.Omega.{arith}
 use native.Mathlib.Nat.{add-zero}
 use native.Mathlib.Numerals.{add-one}
-use lib.ListN.{length, length-set, getD, set, replicate, getD-replicate}
+use lib.ListN.{length, length-set, getD, set, replicate}
 use lib.Seq.{getD-set-same, getD-set-other}
 use Rattle.integer.specs.Words.{counting, timesIn}
 use Rattle.integer.proofs.Lists.{same-or-not}
@@ -20,36 +20,48 @@ times-nil x = refl
 
 -- ---- no number, one number, more numbers
 
-pub grown-none : (marks : List ℕ) → length marks ≡ 8192 → Grown marks marks []
-grown-none marks h = record { size = h; at = λ x g. omega (arith, times-nil x) }
+pub grown-none : (marks : List ℕ) → Grown marks marks []
+grown-none marks = record { size = refl; at = λ x g. omega (arith, times-nil x); single = λ h. h }
 
-module _ (marks : List ℕ) (number : ℕ) (size : length marks ≡ 8192) (h : number < 8192) where
+module _ (marks : List ℕ) (number : ℕ) (h : number < length marks) where
   pub grown-one : getD marks number 0 ≤ 0 → Grown marks (set marks number 1) (number ∷ [])
-  grown-one e = record { size = length-set marks number 1 ∙ size; at = λ x g. by x (same-or-not x number) }
+  grown-one e = record { size = length-set marks number 1; at = λ x g. by x (same-or-not x number); single = λ one x. most one x (same-or-not x number) }
     where
       by : (x : ℕ) → Dec (x ≡ number) → getD (set marks number 1) x 0 ≡ getD marks x 0 + timesIn x (number ∷ [])
       by x (yes p) =
           subst (λ (y : ℕ). getD (set marks number 1) y 0 ≡ getD marks y 0 + timesIn y (number ∷ [])) (sym p)
-          (omega (arith, getD-set-same marks number 1 0 (subst (λ (s : ℕ). number < s) (sym size) h), e, times-same number [], times-nil number))
+          (omega (arith, getD-set-same marks number 1 0 h, e, times-same number [], times-nil number))
       by x (no f) = omega (arith, getD-set-other marks number x 1 0 f, times-other x number [] f, times-nil x)
+
+      most : ((x : ℕ) → getD marks x 0 ≤ 1) → (x : ℕ) → Dec (x ≡ number) → getD (set marks number 1) x 0 ≤ 1
+      most one x (yes p) = subst (λ (y : ℕ). getD (set marks number 1) y 0 ≤ 1) (sym p) (omega (arith, getD-set-same marks number 1 0 h))
+      most one x (no f) = omega (arith, getD-set-other marks number x 1 0 f, one x)
 
   pub met-again : 0 < getD marks number 0 → Twice marks (number ∷ [])
   met-again f = record { number = number; inside = h; again = omega (arith, f, times-same number [], times-nil number) }
 
 module _ {a b : List ℕ} {xs : List ℕ} (g : Grown a b xs) where
   pub grown-then : {c : List ℕ} {ys : List ℕ} → Grown b c ys → Grown a c (xs ++ ys)
-  grown-then {c} {ys} k = record { size = k .size; at = λ x h. omega (arith, k .at x h, g .at x h, times-append x xs ys) }
+  grown-then {c} {ys} k = record {
+    size = k .size ∙ g .size;
+    at = λ x h. omega (arith, k .at x (omega (arith, h, g .size)), g .at x h, times-append x xs ys);
+    single = λ h. k .single (g .single h);
+  }
 
   pub twice-then : {ys : List ℕ} → Twice b ys → Twice a (xs ++ ys)
-  twice-then {ys} t = record { number = t .number; inside = t .inside; again = omega (arith, t .again, g .at (t .number) (t .inside), times-append (t .number) xs ys) }
+  twice-then {ys} t =
+      let h : t .number < length a = omega (arith, t .inside, g .size) in
+      record { number = t .number; inside = h; again = omega (arith, t .again, g .at (t .number) h, times-append (t .number) xs ys) }
 
 pub twice-more : {a xs : List ℕ} (ys : List ℕ) → Twice a xs → Twice a (xs ++ ys)
 twice-more {a} {xs} ys t = record { number = t .number; inside = t .inside; again = omega (arith, t .again, times-append (t .number) xs ys) }
 
 -- ---- from no marks on
 
-pub none-at : (x : ℕ) → x < 8192 → getD (replicate {A = ℕ} 8192 0) x 0 ≡ 0
-none-at x h = getD-replicate 8192 x 0 0 h
+pub none-at : (size x : ℕ) → getD (replicate {A = ℕ} size 0) x 0 ≡ 0
+none-at zero x = refl
+none-at (suc size) zero = refl
+none-at (suc size) (suc x) = none-at size x
 
 -- ---- the numbers of one node after another
 
@@ -95,8 +107,8 @@ module _ (f : ℕ → List ℕ) where
 
 -- ---- two numbers, one after the other
 
-pub took-none : (marks : List ℕ) → length marks ≡ 8192 → Took marks marks [] true
-took-none marks h = record { new = λ _. grown-none marks h; old = λ e. clash e }
+pub took-none : (marks : List ℕ) → Took marks marks [] true
+took-none marks = record { new = λ _. grown-none marks; old = λ e. clash e }
 
 module _ {a b : List ℕ} {x : ℕ} (y : ℕ) {r : Bool} (t : Took a b (x ∷ []) r) where
   pub took-first : r ≡ false → {after : List ℕ} → Took a after (x ∷ (y ∷ [])) false
@@ -112,9 +124,9 @@ took-new g = record { new = λ _. g; old = λ e. clash e }
 pub took-old : {a b xs : List ℕ} → Twice a xs → Took a b xs false
 took-old t = record { new = λ e. clash (sym e); old = λ _. t }
 
-pub firsts-none : (f : ℕ → List ℕ) (marks : List ℕ) → length marks ≡ 8192 → Grown marks marks (flatten (map f (counting 0 0)))
+pub firsts-none : (f : ℕ → List ℕ) (marks : List ℕ) → Grown marks marks (flatten (map f (counting 0 0)))
 unfolding counting flatten
-firsts-none f marks h = grown-none marks h
+firsts-none f marks = grown-none marks
 
 -- the same numbers
 pub took-as : {a b xs ys : List ℕ} {r : Bool} → xs ≡ ys → Took a b ys r → Took a b xs r

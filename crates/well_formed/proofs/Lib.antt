@@ -2,5 +2,8 @@ pub mod Growth
 pub mod Chains
 pub mod ByKind
 pub mod Once
+pub mod Naming
+pub mod Taking
+pub mod Holding
 pub mod Equal
 pub mod Refused

@@ -1,21 +1,24 @@
 -- Marks: a place for each number, which holds how often the number was met.
-use Prim.Native.Nat.{ℕ, _+_, _<_}
+use Prim.Native.Nat.{ℕ, _+_, _*_, _-_, _≤_, _<_}
 use mathlib.Core.Path.{_≡_}
+use mathlib.Core.Logic.{_⊎_}
 use mathlib.Core.Bool.{Bool, true, false}
 use mathlib.Core.List.{List}
 use lib.ListN.{length, getD}
 use lib.Dec.{T, ltb}
 use Rattle.integer.specs.Words.{every, timesIn}
+use Rattle.well_formed.specs.Tests.{notZero, linksOf}
 
--- the marks after some numbers more
+-- the marks after some numbers more, none of which is met a second time
 pub record Grown (before after numbers : List ℕ) : Type 0 where
-  pub size : length after ≡ 8192
-  pub at : (x : ℕ) → x < 8192 → getD after x 0 ≡ getD before x 0 + timesIn x numbers
+  pub size : length after ≡ length before
+  pub at : (x : ℕ) → x < length before → getD after x 0 ≡ getD before x 0 + timesIn x numbers
+  pub single : ((x : ℕ) → getD before x 0 ≤ 1) → (x : ℕ) → getD after x 0 ≤ 1
 
 -- with the marks before, one of some numbers is met again
 pub record Twice (before numbers : List ℕ) : Type 0 where
   pub number : ℕ
-  pub inside : number < 8192
+  pub inside : number < length before
   pub again : 1 < getD before number 0 + timesIn number numbers
 
 -- numbers are marked, or one of them is met again
@@ -23,9 +26,25 @@ pub record Took (before after numbers : List ℕ) (all : Bool) : Type 0 where
   pub new : all ≡ true → Grown before after numbers
   pub old : all ≡ false → Twice before numbers
 
--- the numbers of leaves that are to fit, each below the count of traces: they do, and their numbers are marked, or they do not, or a number is met again
-pub record Held (fits : Bool) (count : ℕ) (before after numbers : List ℕ) (all : Bool) : Type 0 where
-  pub fit : all ≡ true → T fits
+-- numbers that are to be below a count: they are, and are marked, or one is not, or one is met again
+pub record Named (count : ℕ) (before after numbers : List ℕ) (all : Bool) : Type 0 where
   pub below : all ≡ true → T (every (λ number. ltb number count) numbers)
   pub new : all ≡ true → Grown before after numbers
-  pub old : all ≡ false → T fits → T (every (λ number. ltb number count) numbers) → Twice before numbers
+  pub old : all ≡ false → T (every (λ number. ltb number count) numbers) → Twice before numbers
+
+-- the link of trace i, of k: 0, or the number of a later trace
+abbrev pub Rises : ℕ → ℕ → ℕ → Type 0
+Rises k i link = (link ≡ 0) ⊎ ((i < link) × (link < k))
+
+-- it is so, and is marked, or it is not, or it is met again
+pub record Follows (i link k : ℕ) (before after : List ℕ) (all : Bool) : Type 0 where
+  pub fit : all ≡ true → Rises k i link
+  pub new : all ≡ true → Grown before after (notZero link)
+  pub old : all ≡ false → Rises k i link → Twice before (notZero link)
+
+-- the links of k traces: all are so and are marked, and twice as many end a list as m + 1, or not, or one is met again
+pub record Linked (links : List ℕ) (k m : ℕ) (before after : List ℕ) (all : Bool) : Type 0 where
+  pub fit : all ≡ true → (i : ℕ) → i < k → Rises k i (getD links i 0)
+  pub new : all ≡ true → Grown before after (linksOf links k)
+  pub ends : all ≡ true → 2 * (k - length (linksOf links k)) ≡ m + 1
+  pub old : all ≡ false → ((i : ℕ) → i < k → Rises k i (getD links i 0)) → 2 * (k - length (linksOf links k)) ≡ m + 1 → Twice before (linksOf links k)

@@ -1,15 +1,15 @@
 -- The rules of "Well-formed tables" that records do not show one by one, over the numbers of the nodes in use.
 use Prim.Native.Nat.{ℕ, _*_, _-_}
 use mathlib.Core.Bool.{Bool, _&&_, Bool·beq}
-use mathlib.Core.List.{List, map, flatten}
+use mathlib.Core.List.{List, [], _∷_, map, flatten}
 use lib.IntN.{ℤ}
 use lib.ListN.{getD}
 use lib.Dec.{leb, ltb, eqb}
-use Rattle.integer.specs.Words.{every, counting, timesIn}
+use Rattle.integer.specs.Words.{if_then_else_, every, counting, timesIn}
 use Rattle.dstree.specs.Node.{Kind}
 use Rattle.dstree.specs.Matching.{numbersIn}
 use Rattle.dstree.specs.WellFormed.{childrenOf, leafFits}
-use Rattle.tables.specs.Layout.{kindPlace}
+use Rattle.tables.specs.Layout.{kindPlace, firstPlace}
 use Rattle.tables.specs.Tables.{recordOf}
 use Rattle.tables.specs.View.{smallAt, kindIn}
 use Rattle.records_fit.specs.Fits.{kindAlone}
@@ -45,6 +45,26 @@ numbersAt nodes links k j = numbersIn (kindAt nodes links k j)
 -- the trace numbers of the first m nodes
 abbrev pub numbersOfFirst : List ℤ → List ℕ → ℕ → ℕ → List ℕ
 numbersOfFirst nodes links k m = flatten (map (numbersAt nodes links k) (counting m 0))
+
+-- the first trace number of a leaf
+abbrev pub firstAt : List ℤ → ℕ → List ℕ
+firstAt nodes j = if eqb (smallAt (recordOf nodes j) kindPlace) 0 then smallAt (recordOf nodes j) firstPlace ∷ [] else []
+
+-- those of the first m nodes
+abbrev pub firstsOf : List ℤ → ℕ → List ℕ
+firstsOf nodes m = flatten (map (firstAt nodes) (counting m 0))
+
+-- a number, if it is not 0
+abbrev pub notZero : ℕ → List ℕ
+notZero x = if eqb x 0 then [] else x ∷ []
+
+-- the link of trace i, if it is one
+abbrev pub linkAt : List ℕ → ℕ → List ℕ
+linkAt links i = notZero (getD links i 0)
+
+-- those of the first k traces
+abbrev pub linksOf : List ℕ → ℕ → List ℕ
+linksOf links k = flatten (map (linkAt links) (counting k 0))
 
 -- "every trace number in one leaf, rising there, no leaf empty"
 unfoldable pub leavesHold : ℕ → List ℤ → ℕ → List ℕ → Bool

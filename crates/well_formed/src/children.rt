@@ -11,7 +11,7 @@ ghost use Rattle.well_formed.specs.Marks.{Took};
 ghost use Rattle.well_formed.specs.Tests.{childrenAt, childrenOfFirst, childrenOnce};
 
 // Marks the children of node j, if it is an inner node.
-fn mark_children(nodes: &[i64], j: usize, marks: &mut [u16; 8192]) -> bool
+fn mark_children(nodes: &[i64], j: usize, marks: &mut [u8; 8192]) -> bool
     requires { ⌜ InUse j (now nodes) × (length (now marks) ≡ 8192) ⌝ }
     ensures { λ r. ⌜ Took (now (marks .entry)) (now (marks .exit)) (childrenAt (now (nodes .entry)) j) r ⌝ }
 {
@@ -28,7 +28,7 @@ fn mark_children(nodes: &[i64], j: usize, marks: &mut [u16; 8192]) -> bool
 }
 
 // Marks the children of every node, and stops at one that was met before.
-fn mark_all(nodes: &[i64], m: usize, marks: &mut [u16; 8192]) -> bool
+fn mark_all(nodes: &[i64], m: usize, marks: &mut [u8; 8192]) -> bool
     requires { ⌜ AllFit m (now nodes) × (length (now marks) ≡ 8192) ⌝ }
     ensures { λ r. ⌜ Took (now (marks .entry)) (now (marks .exit)) (childrenOfFirst (now (nodes .entry)) m) r ⌝ }
 {
@@ -46,7 +46,7 @@ pub fn children_once(nodes: &[i64], m: usize) -> bool
     requires { ⌜ AllFit m (now nodes) ⌝ }
     ensures { λ r. ⌜ r ≡ childrenOnce m (now (nodes .entry)) ⌝ }
 {
-    let mut marks = [0u16; 8192];
+    let mut marks = [0u8; 8192];
     if !mark_all(nodes, m, &mut marks) {
         return false;
     }

@@ -1,65 +1,44 @@
-// Every trace number is in one leaf, and the numbers of a leaf rise.
+// Every trace number is in one leaf, and the numbers of a leaf rise. No leaf's list is walked: if every link rises, and every trace is named once, by a link
+// or as a leaf's first, then going back from a trace by what names it ends at one leaf, whose list it is in.
 
 use tables::numbers::wide;
 use tables::places::FIRST;
 use tables::places::KIND;
 use tables::records::node_small;
 ghost use mathlib.Core.Path.{_≡_};
-ghost use Prim.Native.Nat.{suc, _≤_};
+ghost use mathlib.Core.Bool.{true};
+ghost use Prim.Native.Nat.{_≤_};
 ghost use lib.ListN.{length};
-ghost use Rattle.integer.specs.Words.{every, counting};
-ghost use Rattle.dstree.specs.Node.{leaf};
-ghost use Rattle.dstree.specs.WellFormed.{leafFits};
-ghost use Rattle.tables.specs.View.{numbersFrom};
+ghost use Rattle.integer.specs.Words.{if_then_else_};
+ghost use lib.Dec.{eqb};
 ghost use Rattle.records_fit.specs.Fits.{AllFit, InUse};
-ghost use Rattle.well_formed.specs.Marks.{Held};
-ghost use Rattle.well_formed.specs.Tests.{leafFitsAt, numbersAt, numbersOfFirst, leavesHold};
+ghost use Rattle.well_formed.specs.Marks.{Named, Follows, Linked};
+ghost use Rattle.well_formed.specs.Tests.{childrenOnce, firstAt, firstsOf, leavesHold};
 
-// Marks the trace numbers from `first` on by the links. It stops at a number that is none of k traces, that was met before, or that does not rise: so that
-// no link is read twice, whatever they hold.
-fn mark_list(links: &[u16], k: usize, first: usize, marks: &mut [u16; 8192]) -> bool
-    requires { ⌜ (k ≤ length (now links)) × (k ≤ 8192) × (length (now marks) ≡ 8192) ⌝ }
-    ensures { λ r. ⌜ Held (leafFits (leaf (numbersFrom (now (links .entry)) (suc k) first))) k (now (marks .entry)) (now (marks .exit)) (numbersFrom (now (links .entry)) (suc k) first) r ⌝ }
-{
-    let mut at = first;
-    while at < k {
-        if !crate::marks::mark(marks, at) {
-            return false;
-        }
-        let next = wide(links[at]);
-        if next == 0 {
-            return true;
-        }
-        if next <= at {
-            return false;
-        }
-        at = next;
-    }
-    false
-}
-
-// Marks the trace numbers of node j, if it is a leaf.
-fn mark_leaf(nodes: &[i64], j: usize, links: &[u16], k: usize, marks: &mut [u16; 8192]) -> bool
-    requires { ⌜ InUse j (now nodes) × (k ≤ length (now links)) × (k ≤ 8192) × (length (now marks) ≡ 8192) ⌝ }
-    ensures { λ r. ⌜ Held (leafFitsAt (now (nodes .entry)) (now (links .entry)) k j) k (now (marks .entry)) (now (marks .exit)) (numbersAt (now (nodes .entry)) (now (links .entry)) k j) r ⌝ }
+// Marks the first trace number of node j, if it is a leaf. It has to be the number of one of k traces.
+fn mark_first(nodes: &[i64], j: usize, k: usize, marks: &mut [u8; 8192]) -> bool
+    requires { ⌜ InUse j (now nodes) × (k ≤ 4096) × (length (now marks) ≡ 8192) ⌝ }
+    ensures { λ r. ⌜ Named k (now (marks .entry)) (now (marks .exit)) (firstAt (now (nodes .entry)) j) r ⌝ }
 {
     let kind = node_small(nodes, j, KIND);
     if kind != 0 {
         return true;
     }
     let first = node_small(nodes, j, FIRST);
-    mark_list(links, k, first, marks)
+    if k <= first {
+        return false;
+    }
+    crate::marks::mark(marks, first)
 }
 
-// Marks the trace numbers of every leaf.
-fn mark_all(nodes: &[i64], m: usize, links: &[u16], k: usize, marks: &mut [u16; 8192]) -> bool
-    requires { ⌜ AllFit m (now nodes) × (k ≤ length (now links)) × (k ≤ 8192) × (length (now marks) ≡ 8192) ⌝ }
-    ensures { λ r. ⌜ Held (every (leafFitsAt (now (nodes .entry)) (now (links .entry)) k) (counting m 0)) k (now (marks .entry))
-        (now (marks .exit)) (numbersOfFirst (now (nodes .entry)) (now (links .entry)) k m) r ⌝ }
+// Marks the first trace number of every leaf.
+fn mark_firsts(nodes: &[i64], m: usize, k: usize, marks: &mut [u8; 8192]) -> bool
+    requires { ⌜ AllFit m (now nodes) × (k ≤ 4096) × (length (now marks) ≡ 8192) ⌝ }
+    ensures { λ r. ⌜ Named k (now (marks .entry)) (now (marks .exit)) (firstsOf (now (nodes .entry)) m) r ⌝ }
 {
     let mut j: usize = 0;
     while j < m {
-        if !mark_leaf(nodes, j, links, k, marks) {
+        if !mark_first(nodes, j, k, marks) {
             return false;
         }
         j += 1;
@@ -67,13 +46,56 @@ fn mark_all(nodes: &[i64], m: usize, links: &[u16], k: usize, marks: &mut [u16; 
     true
 }
 
-pub fn leaves_hold(nodes: &[i64], m: usize, links: &[u16], k: usize) -> bool
-    requires { ⌜ AllFit m (now nodes) × (k ≤ length (now links)) × (k ≤ 8192) ⌝ }
-    ensures { λ r. ⌜ r ≡ leavesHold m (now (nodes .entry)) k (now (links .entry)) ⌝ }
+// Marks the link of trace i, which is 0 behind the last of a leaf, else the number of a later trace.
+fn mark_link(i: usize, link: usize, k: usize, marks: &mut [u8; 8192]) -> bool
+    requires { ⌜ (k ≤ 4096) × (length (now marks) ≡ 8192) ⌝ }
+    ensures { λ r. ⌜ Follows i link k (now (marks .entry)) (now (marks .exit)) r ⌝ }
 {
-    let mut marks = [0u16; 8192];
-    if !mark_all(nodes, m, links, k, &mut marks) {
+    if link <= i {
+        return link == 0;
+    }
+    if k <= link {
         return false;
     }
-    crate::marks::all_marked(&marks, 0, k)
+    crate::marks::mark(marks, link)
+}
+
+// 1 for a link that ends a list.
+fn ending(link: usize) -> usize
+    ensures { λ r. ⌜ r ≡ (if eqb link 0 then 1 else 0) ⌝ }
+{
+    if link == 0 { 1 } else { 0 }
+}
+
+// Marks the links of k traces. As many of them end a list as there are leaves, of m nodes.
+fn mark_links(links: &[u16], k: usize, m: usize, marks: &mut [u8; 8192]) -> bool
+    requires { ⌜ (k ≤ length (now links)) × (k ≤ 4096) × (length (now marks) ≡ 8192) × (m ≤ 8191) ⌝ }
+    ensures { λ r. ⌜ Linked (now (links .entry)) k m (now (marks .entry)) (now (marks .exit)) r ⌝ }
+{
+    let mut ends: usize = 0;
+    let mut i: usize = 0;
+    while i < k {
+        let link = wide(links[i]);
+        if !mark_link(i, link, k, marks) {
+            return false;
+        }
+        ends += ending(link);
+        i += 1;
+    }
+    2 * ends == m + 1
+}
+
+// Of m nodes that are each a child once but for node 0, the leaves are (m + 1) / 2.
+pub fn leaves_hold(nodes: &[i64], m: usize, links: &[u16], k: usize) -> bool
+    requires { ⌜ AllFit m (now nodes) × (childrenOnce m (now nodes) ≡ true) × (k ≤ length (now links)) × (k ≤ 4096) ⌝ }
+    ensures { λ r. ⌜ r ≡ leavesHold m (now (nodes .entry)) k (now (links .entry)) ⌝ }
+{
+    if m == 0 {
+        return k == 0;
+    }
+    let mut marks = [0u8; 8192];
+    if !mark_firsts(nodes, m, k, &mut marks) {
+        return false;
+    }
+    mark_links(links, k, m, &mut marks)
 }

@@ -8,7 +8,7 @@ ghost use Rattle.well_formed.specs.Marks.{Took};
 ghost use Rattle.well_formed.specs.Tests.{markedOnce};
 
 // Marks a number, if it was not met before.
-pub fn mark(marks: &mut [u16; 8192], number: usize) -> bool
+pub fn mark(marks: &mut [u8; 8192], number: usize) -> bool
     requires { ⌜ (number < 8192) × (length (now marks) ≡ 8192) ⌝ }
     ensures { λ r. ⌜ Took (now (marks .entry)) (now (marks .exit)) (number ∷ []) r ⌝ }
 {
@@ -20,7 +20,7 @@ pub fn mark(marks: &mut [u16; 8192], number: usize) -> bool
 }
 
 // So many numbers from `first` on are each marked.
-pub fn all_marked(marks: &[u16; 8192], first: usize, count: usize) -> bool
+pub fn all_marked(marks: &[u8; 8192], first: usize, count: usize) -> bool
     requires { ⌜ first + count ≤ 8192 ⌝ }
     ensures { λ r. ⌜ r ≡ markedOnce (now (marks .entry)) first count ⌝ }
 {

@@ -98,14 +98,14 @@ module _ (c : tie.Else1) where
   m-low : m w ≤ 2 * capacity w - 1
   m-low = counted (m w) (k w) (capacity w) counts-pass .1
 
-  held : w .wide4 .result * recordPlaces ≤ length (nodes w)
-  held = omega (arith, m-read w, m-low, s w .pre .nodes-long)
+  in-table : w .wide4 .result * recordPlaces ≤ length (nodes w)
+  in-table = omega (arith, m-read w, m-low, s w .pre .nodes-long)
 
   low : w .wide4 .result ≤ 8191
   low = omega (arith, m-read w, m-low, ranged w .capacity-high)
 
 records-fit-requires : tie.Need-records-fit-requires
-records-fit-requires c κs = (held c, low c, omega (arith, n-read (w c), ranged (w c) .n-high))
+records-fit-requires c κs = (in-table c, low c, omega (arith, n-read (w c), ranged (w c) .n-high))
 
 records : (c : tie.After-records-fit) {b : Bool} → c .records-fit .result ≡ b → recordsFit (n (w (c .before))) (m (w (c .before))) (nodes (w (c .before))) ≡ b
 records c e =
@@ -128,7 +128,7 @@ module _ (c : tie.Else2) where
   records-pass = records (c .before) (not-false (c .before .records-fit .result) (c .if2 .left))
 
   all-fit : AllFit (w o .wide4 .result) (nodes (w o))
-  all-fit = record { n = w1 (w o) .wide .result; short = omega (arith, n-read (w o), ranged (w o) .n-high); fit = sym (c .before .records-fit .ensures) ∙ not-false (c .before .records-fit .result) (c .if2 .left); room = held o; low = low o }
+  all-fit = record { n = w1 (w o) .wide .result; short = omega (arith, n-read (w o), ranged (w o) .n-high); fit = sym (c .before .records-fit .ensures) ∙ not-false (c .before .records-fit .result) (c .if2 .left); room = in-table o; low = low o }
 
 ends-kept-requires : tie.Need-ends-kept-requires
 ends-kept-requires c κs = all-fit c
@@ -169,7 +169,7 @@ leaves-hold-requires : tie.Need-leaves-hold-requires
 leaves-hold-requires c κs =
     let g = c .before .before .before .before in
     let x = w (o g) in
-    (all-fit g, omega (arith, k-read x, k-room (o g), s x .pre .links-long), omega (arith, k-read x, k-room (o g), ranged x .capacity-high))
+    (all-fit g, sym (c .before .children-once .ensures) ∙ not-false (c .before .children-once .result) (c .if4 .left), omega (arith, k-read x, k-room (o g), s x .pre .links-long), omega (arith, k-read x, k-room (o g), ranged x .capacity-high))
 
 returns-5 : tie.Need-returns-5
 returns-5 c =

@@ -1,5 +1,5 @@
 -- `well_formed::children::mark_all` meets its contract. The loop's invariant: the marks have grown by the children of the nodes passed.
-use mathlib.Core.Path.{_≡_, subst}
+use mathlib.Core.Path.{_≡_, subst, _∙_}
 use Prim.Native.Nat.{ℕ, _-_, _≤_}
 use native.Mathlib.Omega.{arith}
 use denote.Ref.{now}
@@ -17,13 +17,13 @@ abbrev μ-loop : tie.MeasureT-loop
 μ-loop nodes m marks₀ j₀ marks j = m - j
 
 loop-holds : tie.Need-loop-holds Inv-loop μ-loop
-loop-holds c = (omega arith, firsts-none (childrenAt (now (c .args .nodes))) (now (c .args .marks)) (c .pre .1))
+loop-holds c = (omega arith, firsts-none (childrenAt (now (c .args .nodes))) (now (c .args .marks)))
 
 mark-children-requires : tie.Need-mark-children-requires Inv-loop μ-loop
 mark-children-requires c κs =
     let L = c .before .before .loop in
     let s = c .before .before .before in
-    (record { m = s .args .m; all = s .pre .0; inside = c .before .loop-test .taken }, L .inv .1 .size)
+    (record { m = s .args .m; all = s .pre .0; inside = c .before .loop-test .taken }, L .inv .1 .size ∙ s .pre .1)
 
 returns : tie.Need-returns Inv-loop μ-loop
 returns c =

@@ -36,8 +36,8 @@ module _ (s : tie.Start) where
   fits : recordFits (s .pre .0 .all .n) m j r ≡ true
   fits = record-fits-at (s .pre .0 .all .n) m nodes (s .pre .0 .all .fit) j (s .pre .0 .inside)
 
-  held : j * recordPlaces + recordPlaces ≤ length nodes
-  held = omega (arith, s .pre .0 .all .room, s .pre .0 .inside)
+  in-table : j * recordPlaces + recordPlaces ≤ length nodes
+  in-table = omega (arith, s .pre .0 .all .room, s .pre .0 .inside)
 
   low : j ≤ 8191
   low = omega (arith, s .pre .0 .all .low, s .pre .0 .inside)
@@ -53,18 +53,18 @@ module _ (s : tie.Start) where
     right-low = omega (arith, right-above (s .pre .0 .all .n) m j r fits f .1, s .pre .0 .all .low)
 
 node-small-requires : tie.Need-node-small-requires
-node-small-requires c κs = (held c, low c, omega arith)
+node-small-requires c κs = (in-table c, low c, omega arith)
 
 returns : tie.Need-returns
 returns c =
     let s = c .before .before in
-    took-as (no-child (nodes s) (j s) (sym (c .before .node-small .ensures) ∙ c .if1 .taken)) (took-none (now (s .args .marks)) (s .pre .1))
+    took-as (no-child (nodes s) (j s) (sym (c .before .node-small .ensures) ∙ c .if1 .taken)) (took-none (now (s .args .marks)))
 
 node-small-requires-2 : tie.Need-node-small-requires-2
-node-small-requires-2 c κs = let s = c .before .before in (held s, low s, omega arith)
+node-small-requires-2 c κs = let s = c .before .before in (in-table s, low s, omega arith)
 
 node-small-requires-3 : tie.Need-node-small-requires-3
-node-small-requires-3 c κs = let s = c .before .before .before in (held s, low s, omega arith)
+node-small-requires-3 c κs = let s = c .before .before .before in (in-table s, low s, omega arith)
 
 -- not a leaf
 inner : (c : tie.Else1) → smallAt (r (c .before .before)) kindPlace ≡ 0 → ⊥
@@ -95,7 +95,7 @@ mark-requires-2 c κs =
     let f = d .before .before in
     let k = f .before .before in
     let s = k .before .before in
-    (omega (arith, f .node-small3 .ensures, left-low s (inner k), right-low s (inner k)), d .mark .ensures .new (not-false (d .mark .result) (c .before .if2 .left)) .size)
+    (omega (arith, f .node-small3 .ensures, right-low s (inner k)), d .mark .ensures .new (not-false (d .mark .result) (c .before .if2 .left)) .size ∙ s .pre .1)
 
 returns-3 : tie.Need-returns-3
 returns-3 c =

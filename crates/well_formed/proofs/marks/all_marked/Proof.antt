@@ -48,5 +48,5 @@ pub all-marked-spec : {M : Type 1} → statement M
 all-marked-spec =
     tie.close
     (tie.spec
-    Inv-loop μ-loop loop-holds (λ c. omega arith) (λ c. omega arith) (λ c. omega arith) returns (λ c. omega arith)
+    Inv-loop μ-loop loop-holds (λ c. omega arith) (λ c. omega arith) returns (λ c. omega arith)
     (λ c. omega arith) loop-again returns-2)

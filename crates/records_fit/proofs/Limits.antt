@@ -1,16 +1,16 @@
 -- Figures and thresholds: the definitions' tests as the code makes them, one side of a limit at a time.
-use Prim.Native.Nat.{ℕ, _*_, _≤_, _<_, _^_}
+use Prim.Native.Nat.{ℕ, suc, _+_, _*_, _≤_, _<_, _^_}
 use mathlib.Core.Path.{_≡_, refl, sym, subst}
 use mathlib.Core.Bool.{Bool, true, false, _&&_}
 use mathlib.Core.List.{List, [], _∷_}
 use native.Mathlib.Omega.{arith}
 use native.Mathlib.Nat.{mul-le-mul}
-use lib.IntN.{ℤ, pos, negsuc, negℤ}
-use lib.Signed.{leZ, leZ-yes}
+use lib.IntN.{ℤ, pos, negsuc, negℤ, _+ℤ_}
+use lib.Signed.{leZ, leZ-yes, mag}
 use lib.Dec.{T, leb, leb→le, le→leb}
 use mir.Facts.{and-yes, yes-and}
-use Rattle.integer.proofs.Tests.{joined, passed, passes, test-true, test-false}
-use Rattle.integer.proofs.Order.{≤ℤ-trans}
+use Rattle.integer.proofs.Tests.{is-true, joined, passed, passes, test-true, test-false}
+use Rattle.integer.proofs.Order.{≤ℤ→, →≤ℤ, ≤ℤ-trans, up, down, sum-parts, neg-parts}
 use Rattle.segment.specs.Limits.{sumLimit, scatterLimit}
 use Rattle.dstree.specs.Measures.{sampleLimit}
 use Rattle.dstree.specs.Node.{bySum, byScatter}
@@ -35,6 +35,25 @@ same-test {a = false} {b = false} f g = refl
 -- no test both passes and fails
 pub clash : {X : Type 0} → true ≡ false → X
 clash e = let z : _≡_ {A = ℕ} 0 1 = cc in absurd (omega arith)
+
+-- a number that is at most another within a limit is so too
+pub below-both : (a b : ℤ) (limit : ℕ) → leZ a b ≡ true → leZ b (pos limit) ≡ true → T (leZ a (pos limit))
+below-both a b limit e f = ≤ℤ-trans (leZ-yes {a = a} {b = b} (is-true e)) (leZ-yes {a = b} {b = pos limit} (is-true f)) .le
+
+-- a difference of two numbers that fit
+parts-width : (z : ℤ) (a b : ℕ) → up z + a ≡ down z + b → b < 2 ^ 63 → a ≤ 2 ^ 63 → mag z < 2 ^ 63
+parts-width (pos n) a b e f g = omega arith
+parts-width (negsuc n) a b e f g = omega arith
+
+-- its sum with the limit fits 64 bits, and is not below 0 exactly if it is from −limit on
+pub sum-fits : (v : ℤ) (limit : ℕ) → mag v < 2 ^ 63 → limit < 2 ^ 62 → T (leZ v (pos limit)) → mag (v +ℤ pos limit) < 2 ^ 63
+sum-fits (pos v) limit f g t = omega (arith, leb→le v limit t, g)
+sum-fits (negsuc v) limit f g t = parts-width (negsuc v +ℤ pos limit) (suc v) limit (omega (arith, sum-parts (negsuc v) (pos limit))) (omega (arith, g)) (omega (arith, f))
+
+pub sum-sign : (v : ℤ) (limit : ℕ) → leZ (pos 0) (v +ℤ pos limit) ≡ leZ (negℤ (pos limit)) v
+sum-sign v limit = same-test
+    (λ t. →≤ℤ {a = negℤ (pos limit)} {b = v} (omega (arith, ≤ℤ→ (leZ-yes {a = pos 0} {b = v +ℤ pos limit} t), sum-parts v (pos limit), neg-parts (pos limit))) .le)
+    (λ t. →≤ℤ {a = pos 0} {b = v +ℤ pos limit} (omega (arith, ≤ℤ→ (leZ-yes {a = negℤ (pos limit)} {b = v} t), sum-parts v (pos limit), neg-parts (pos limit))) .le)
 
 -- ---- scatters: a field that is below 0 reads as 2^63, above every limit
 
@@ -64,7 +83,7 @@ module _ (w end : ℕ) (a b p q : ℤ) where
 
   -- the code's tests, in its order, but for the first
   abbrev tests : List Bool
-  tests = leZ p q ∷ leZ (negℤ (pos limit)) a ∷ leZ b (pos limit) ∷ leZ (pos 0) p ∷ leZ q (pos (limit * limit)) ∷ []
+  tests = leZ b (pos limit) ∷ leZ (negℤ (pos limit)) a ∷ leZ (pos 0) p ∷ leZ p q ∷ leZ q (pos (limit * limit)) ∷ []
 
   squared : w * w * (32768 * 32768) ≡ limit * limit
   squared = omega arith
@@ -80,7 +99,7 @@ module _ (w end : ℕ) (a b p q : ℤ) where
         let least = and-yes (leZ (negℤ (pos limit)) a) (leZ a (pos limit)) (s .1 .1 .0) in
         let greatest = and-yes (leZ (negℤ (pos limit)) b) (leZ b (pos limit)) (s .1 .1 .1 .0) in
         let z = scatters-meant (limit * limit) top p q (s .1 .0) (subst (λ (x : ℕ). T (leb (scatterIn q) x)) squared (s .1 .1 .1 .1)) in
-        passes (leZ a b) tests (s .0, (z .0, (least .0, (greatest .1, (z .1 .0, z .1 .1)))))
+        passes (leZ a b) tests (s .0, (greatest .1, (least .0, (z .1 .0, (z .0, z .1 .1)))))
 
     shown : T (joined (leZ a b) tests) → T whole
     unfolding segmentFits sumLimit scatterLimit sampleLimit withinℤ
@@ -88,8 +107,8 @@ module _ (w end : ℕ) (a b p q : ℤ) where
         let s = passed (leZ a b) tests t in
         let low = leZ-yes {a = negℤ (pos limit)} {b = a} (s .1 .1 .0) in
         let order = leZ-yes {a = a} {b = b} (s .0) in
-        let high = leZ-yes {a = b} {b = pos limit} (s .1 .1 .1 .0) in
-        let z = scatters-shown (limit * limit) top p q (s .1 .0) (s .1 .1 .1 .1 .0) (s .1 .1 .1 .1 .1) in
+        let high = leZ-yes {a = b} {b = pos limit} (s .1 .0) in
+        let z = scatters-shown (limit * limit) top p q (s .1 .1 .1 .1 .0) (s .1 .1 .1 .0) (s .1 .1 .1 .1 .1) in
         passes (leZ a b) (leb (scatterIn p) (scatterIn q) ∷ withinℤ limit a ∷ withinℤ limit b ∷ leb (scatterIn q) (w * w * (32768 * 32768)) ∷ []) (
           s .0,
           (
@@ -97,7 +116,7 @@ module _ (w end : ℕ) (a b p q : ℤ) where
             (
               yes-and (leZ (negℤ (pos limit)) a) (leZ a (pos limit)) (s .1 .1 .0) (≤ℤ-trans order high .le),
               (
-                yes-and (leZ (negℤ (pos limit)) b) (leZ b (pos limit)) (≤ℤ-trans low order .le) (s .1 .1 .1 .0),
+                yes-and (leZ (negℤ (pos limit)) b) (leZ b (pos limit)) (≤ℤ-trans low order .le) (s .1 .0),
                 subst (λ (x : ℕ). T (leb (scatterIn q) x)) (sym squared) (z .1),
               ),
             ),
@@ -107,9 +126,15 @@ module _ (w end : ℕ) (a b p q : ℤ) where
     pub segment-is : whole ≡ joined (leZ a b) tests
     segment-is = same-test meant shown
 
-pub sum-threshold : (w : ℕ) (t : ℤ) → thresholdFits sampleLimit bySum w t ≡ leZ (negℤ (pos (2 * (w * 32768)))) t && leZ t (pos (2 * (w * 32768)))
+pub sum-threshold : (w : ℕ) (t : ℤ) → thresholdFits sampleLimit bySum w t ≡ leZ t (pos (2 * (w * 32768))) && leZ (negℤ (pos (2 * (w * 32768)))) t
 unfolding thresholdFits withinℤ sumLimit sampleLimit
-sum-threshold w t = refl
+sum-threshold w t = either-way (leZ (negℤ (pos (2 * (w * 32768)))) t) (leZ t (pos (2 * (w * 32768))))
+  where
+    either-way : (a b : Bool) → a && b ≡ b && a
+    either-way true true = refl
+    either-way true false = refl
+    either-way false true = refl
+    either-way false false = refl
 
 pub scatter-threshold : (w : ℕ) (t : ℤ) → thresholdFits sampleLimit byScatter w t ≡ leZ (pos 0) t && leZ t (pos (2 * ((w * 32768) * (w * 32768))))
 unfolding thresholdFits scatterLimit sampleLimit

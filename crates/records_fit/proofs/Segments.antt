@@ -185,7 +185,7 @@ up-less u-none = u-none
 up-less (u-more {a} h u) = u-more {k = 0} {a = a} (omega arith) u
 
 -- as many ends as segments
-ends-length : (r : List ℤ) (count i : ℕ) → length (ends (segmentsFrom r count i)) ≡ count
+pub ends-length : (r : List ℤ) (count i : ℕ) → length (ends (segmentsFrom r count i)) ≡ count
 ends-length r count i = length-map (segmentsFrom r count i) (λ (s : Segment). s .end) ∙ (length-map (counting count i) (segmentIn r) ∙ counting-length count i)
 
 module _ (n : ℕ) (r : List ℤ) where

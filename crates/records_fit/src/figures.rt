@@ -4,6 +4,7 @@ ghost use mathlib.Core.Path.{_≡_};
 ghost use Prim.Native.Nat.{ℕ, _≤_, _<_, _^_};
 ghost use lib.IntN.{pos, negℤ};
 ghost use lib.Signed.{leZ};
+ghost use lib.Dec.{T};
 ghost use Rattle.dstree.specs.Measures.{sampleLimit};
 ghost use Rattle.dstree.specs.WellFormed.{segmentFits, thresholdFits};
 ghost use Rattle.tables.specs.View.{scatterIn};
@@ -19,12 +20,12 @@ fn in_order(a: i64, b: i64) -> bool
     a <= b
 }
 
-// A number is from −limit on.
+// A number that is up to a limit is from −limit on.
 fn not_below(limit: u64, v: i64) -> bool
-    requires { ⌜ limit < 2 ^ 63 ⌝ }
+    requires { ⌜ (limit < 2 ^ 62) × T (leZ v (pos limit)) ⌝ }
     ensures { λ r. ⌜ r ≡ leZ (negℤ (pos limit)) v ⌝ }
 {
-    -(limit as i64) <= v
+    0 <= v + limit as i64
 }
 
 // A number is up to a limit.
@@ -58,17 +59,17 @@ pub fn figures_fit(
     if !in_order(least_sum, greatest_sum) {
         return false;
     }
-    if !in_order(least_scatter, greatest_scatter) {
-        return false;
-    }
     let limit = w * SAMPLE_LIMIT;
-    if !not_below(limit, least_sum) {
-        return false;
-    }
     if !not_above(limit, greatest_sum) {
         return false;
     }
-    if !not_below(0, least_scatter) {
+    if !not_below(limit, least_sum) {
+        return false;
+    }
+    if !in_order(0, least_scatter) {
+        return false;
+    }
+    if !in_order(least_scatter, greatest_scatter) {
         return false;
     }
     not_above(limit * limit, greatest_scatter)
@@ -81,12 +82,12 @@ pub fn threshold_fits(kind: usize, w: u64, threshold: i64) -> bool
 {
     let limit = w * SAMPLE_LIMIT;
     if kind == 1 {
-        if !not_below(2 * limit, threshold) {
+        if !not_above(2 * limit, threshold) {
             return false;
         }
-        return not_above(2 * limit, threshold);
+        return not_below(2 * limit, threshold);
     }
-    if !not_below(0, threshold) {
+    if !in_order(0, threshold) {
         return false;
     }
     not_above(2 * (limit * limit), threshold)

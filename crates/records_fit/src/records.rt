@@ -16,10 +16,8 @@ use tables::places::THRESHOLD;
 use tables::records::small_at;
 use tables::records::value_at;
 ghost use mathlib.Core.Path.{_≡_};
-ghost use Prim.Native.Nat.{ℕ, suc, _≤_, _<_};
+ghost use Prim.Native.Nat.{ℕ, _≤_, _<_};
 ghost use lib.ListN.{length};
-ghost use lib.Dec.{eqb};
-ghost use Rattle.integer.specs.Words.{if_then_else_};
 ghost use Rattle.dstree.specs.Measures.{sampleLimit};
 ghost use Rattle.dstree.specs.Figures.{run};
 ghost use Rattle.dstree.specs.Node.{inner};
@@ -179,32 +177,27 @@ pub fn record_fits(places: &[i64], j: usize, m: usize, n: usize) -> bool
 
 // ---- ends of a node and its child
 
-// One more than p if the two ends are the same, else p.
-fn passed(child: &[i64], i: usize, parent: &[i64], p: usize) -> usize
-    requires { ⌜ (length (now child) ≡ recordPlaces) × (i < 16) × (segmentIn (now child) i .end ≤ 256)
-        × (length (now parent) ≡ recordPlaces) × (p < 16) × (segmentIn (now parent) p .end ≤ 256) ⌝ }
-    ensures { λ r. ⌜ r ≡ (if eqb (segmentIn (now (child .entry)) i .end) (segmentIn (now (parent .entry)) p .end) then suc p else p) ⌝ }
-{
-    if end_at(child, i) == end_at(parent, p) {
-        return p + 1;
-    }
-    p
-}
-
 // The first `many` ends of the parent are among the first `count` of the child. Both rise, so that one pass over the child's is enough: each end of the
-// parent is passed when it is met, in order.
+// parent is passed when it is met, in order, and any other end of the child is one to spare.
 fn ends_in(child: &[i64], count: usize, parent: &[i64], many: usize) -> bool
     requires { ⌜ (length (now child) ≡ recordPlaces) × EndsRise (now child) count
         × (length (now parent) ≡ recordPlaces) × EndsRise (now parent) many ⌝ }
     ensures { λ r. ⌜ r ≡ endsIn (segmentsFrom (now (child .entry)) count 0) (segmentsFrom (now (parent .entry)) many 0) ⌝ }
 {
+    if count < many {
+        return false;
+    }
     let mut p: usize = 0;
     let mut i: usize = 0;
     while p < many {
-        if i == count {
+        if end_at(child, i) == end_at(parent, p) {
+            p += 1;
+            i += 1;
+            continue;
+        }
+        if count + p <= many + i {
             return false;
         }
-        p = passed(child, i, parent, p);
         i += 1;
     }
     true

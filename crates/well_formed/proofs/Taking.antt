@@ -11,8 +11,8 @@ use borrow.Author.Tests.{eq-eqb, ne-eqb, eqb-true, eqb-false}
 use Rattle.integer.specs.Words.{if_then_else_, every, counting}
 use Rattle.integer.proofs.Lists.{same-or-not, In, first, in-cons, in-nil, in-append, in-flat, every-of, from-every, in-counting}
 use Rattle.records_fit.proofs.Limits.{clash}
-use Rattle.well_formed.specs.Marks.{Grown, Twice, Took, Named, Rises, Follows, Linked}
-use Rattle.well_formed.specs.Tests.{notZero, linkAt, linksOf}
+use Rattle.well_formed.specs.Marks.{Grown, Twice, Took, Named, Rises, Linked}
+use Rattle.well_formed.specs.Tests.{linkAt, linksOf}
 use Rattle.well_formed.proofs.Growth.{grown-none, grown-firsts, again-firsts, firsts-more, firsts-none}
 
 -- ---- numbers below a count
@@ -79,39 +79,6 @@ module _ (f : ℕ → List ℕ) (count : ℕ) where
     pub marked-end : (m : ℕ) → j ≡ m → Named count before marks (firsts m) true
     marked-end m e = subst (λ (y : ℕ). Named count before marks (firsts y) true) e (named-new (w .below) (w .grown))
 
--- ---- one link
-
-module _ (k i link : ℕ) where
-  refused : (Rises k i link → ⊥) → {a b : List ℕ} → Follows i link k a b false
-  refused f = record { fit = λ e. clash (sym e); new = λ e. clash (sym e); old = λ _ r. absurd (f r) }
-
-  -- a link that ends a list, or that does not rise
-  pub follows-end : (a : List ℕ) → link ≤ i → Follows i link k a a (eqb link 0)
-  follows-end a h = by (eqb link 0) refl
-    where
-      no-rise : (link ≡ 0 → ⊥) → Rises k i link → ⊥
-      no-rise f (inl e) = f e
-      no-rise f (inr p) = omega (arith, h, p .0)
-
-      by : (t : Bool) → eqb link 0 ≡ t → Follows i link k a a t
-      by true e =
-          let z = eqb-true link 0 e in
-          record { fit = λ _. inl z; new = λ _. subst (λ (t : Bool). Grown a a (if t then [] else link ∷ [])) (sym e) (grown-none a); old = λ q. clash q }
-      by false e = record { fit = λ q. clash (sym q); new = λ q. clash (sym q); old = λ _ r. absurd (no-rise (eqb-false link 0 e) r) }
-
-  module _ (h : i < link) where
-    pub follows-out : k ≤ link → {a b : List ℕ} → Follows i link k a b false
-    follows-out g = refused by
-      where
-        by : Rises k i link → ⊥
-        by (inl e) = omega (arith, h, e)
-        by (inr p) = omega (arith, g, p .1)
-
-    pub follows-on : link < k → {a b : List ℕ} {r : Bool} → Took a b (link ∷ []) r → Follows i link k a b r
-    follows-on g {a} {b} t =
-        let e : notZero link ≡ link ∷ [] = ap (λ (z : Bool). if z then [] else link ∷ []) (ne-eqb link 0 (λ z. omega (arith, h, z))) in
-        record { fit = λ _. inr (h, g); new = λ q. subst (Grown a b) (sym e) (t .new q); old = λ q _. subst (Twice a) (sym e) (t .old q) }
-
 -- ---- one link after another
 
 module _ (links : List ℕ) (k : ℕ) where
@@ -125,48 +92,62 @@ module _ (links : List ℕ) (k : ℕ) where
   unfolding counting flatten
   links-start marks = record { few = omega arith; fit = λ x h. absurd (omega arith); grown = grown-none marks; count = refl }
 
-  one-each : (link : ℕ) → (if eqb link 0 then 1 else 0) + length (notZero link) ≡ 1
-  one-each link = by (eqb link 0)
-    where
-      by : (b : Bool) → (if b then 1 else 0) + length (if b then [] else link ∷ []) ≡ 1
-      by true = refl
-      by false = refl
-
-  module _ {before marks : List ℕ} {ends i : ℕ} (w : Links before marks ends i) (h : i < k) where
-    next-links : {after : List ℕ} → Follows i (getD links i 0) k marks after true → {ending : ℕ} → ending ≡ (if eqb (getD links i 0) 0 then 1 else 0)
-        → Links before after (ends + ending) (i + 1)
-    next-links n {ending} e = record {
-      few = omega arith;
-      fit = λ x g. by x g (same-or-not x i);
-      grown = grown-firsts (linkAt links) (w .grown) (n .new refl);
-      count =
-          omega (
-            arith,
-            w .count,
-            ap length (firsts-more (linkAt links) i),
-            length-append (linksOf links i) (linkAt links i),
-            one-each (getD links i 0),
-            e,
-          );
-    }
+  -- a trace more, whose link was read
+  module _ {before marks : List ℕ} {ends i : ℕ} (w : Links before marks ends i) (h : i < k) {link : ℕ} (e : link ≡ getD links i 0) where
+    fits-on : Rises k i link → (x : ℕ) → x < i + 1 → Rises k x (getD links x 0)
+    fits-on r x g = by (same-or-not x i)
       where
-        by : (x : ℕ) → x < i + 1 → Dec (x ≡ i) → Rises k x (getD links x 0)
-        by x g (yes p) = subst (λ (y : ℕ). Rises k y (getD links y 0)) (sym p) (n .fit refl)
-        by x g (no f) = w .fit x (omega (arith, g, f))
+        by : Dec (x ≡ i) → Rises k x (getD links x 0)
+        by (yes p) = subst (λ (y : ℕ). Rises k y (getD links y 0)) (sym p) (subst (Rises k i) e r)
+        by (no f) = w .fit x (omega (arith, g, f))
 
-    -- the link as it was read
-    module _ {after : List ℕ} {link : ℕ} {r : Bool} (n : Follows i link k marks after r) (e : link ≡ getD links i 0) where
-      pub links-more : r ≡ true → {ending : ℕ} → ending ≡ (if eqb link 0 then 1 else 0) → Links before after (ends + ending) (i + 1)
-      links-more t q =
-          next-links (subst (λ (x : ℕ). Follows i x k marks after true) e (subst (Follows i link k marks after) t n)) (q ∙ ap (λ (x : ℕ). if eqb x 0 then 1 else 0) e)
+    counts : length (linksOf links (i + 1)) ≡ length (linksOf links i) + length (linkAt links i)
+    counts = ap length (firsts-more (linkAt links) i) ∙ length-append (linksOf links i) (linkAt links i)
 
-      pub links-refused : r ≡ false → (m : ℕ) → {end : List ℕ} → Linked links k m before end false
-      links-refused t m = record {
-        fit = λ z. clash (sym z);
-        new = λ z. clash (sym z);
-        ends = λ z. clash (sym z);
-        old = λ _ fit _. again-firsts (linkAt links) (w .grown) k h (subst (λ (x : ℕ). Twice marks (notZero x)) e (n .old t (subst (Rises k i) (sym e) (fit i h))));
-      }
+    -- it ends a list
+    pub links-end-here : link ≡ 0 → Links before marks (ends + 1) (i + 1)
+    links-end-here z =
+        let q : linkAt links i ≡ [] = ap (λ (b : Bool). if b then [] else getD links i 0 ∷ []) (eq-eqb (getD links i 0) 0 (sym e ∙ z)) in
+        record {
+          few = omega arith;
+          fit = fits-on (inl z);
+          grown = grown-firsts (linkAt links) (w .grown) (subst (Grown marks marks) (sym q) (grown-none marks));
+          count = omega (arith, w .count, counts, ap length q);
+        }
+
+    -- it is no number of a later trace
+    pub links-refused : (Rises k i link → ⊥) → (m : ℕ) → {end : List ℕ} → Linked links k m before end false
+    links-refused f m = record {
+      fit = λ z. clash (sym z);
+      new = λ z. clash (sym z);
+      ends = λ z. clash (sym z);
+      old = λ _ fit _. absurd (f (subst (Rises k i) (sym e) (fit i h)));
+    }
+
+    module _ (g : i < link) where
+      alone : linkAt links i ≡ link ∷ []
+      alone =
+          ap (λ (b : Bool). if b then [] else getD links i 0 ∷ []) (ne-eqb (getD links i 0) 0 (λ z. omega (arith, e, z, g)))
+          ∙ ap (λ (x : ℕ). x ∷ []) (sym e)
+
+      module _ {after : List ℕ} {r : Bool} (t : Took marks after (link ∷ []) r) where
+        -- it is marked
+        pub links-more : link < k → r ≡ true → Links before after ends (i + 1)
+        links-more l q = record {
+          few = omega arith;
+          fit = fits-on (inr (g, l));
+          grown = grown-firsts (linkAt links) (w .grown) (subst (Grown marks after) (sym alone) (t .new q));
+          count = omega (arith, w .count, counts, ap length alone);
+        }
+
+        -- it is met again
+        pub links-again : r ≡ false → (m : ℕ) → {end : List ℕ} → Linked links k m before end false
+        links-again q m = record {
+          fit = λ z. clash (sym z);
+          new = λ z. clash (sym z);
+          ends = λ z. clash (sym z);
+          old = λ _ _ _. again-firsts (linkAt links) (w .grown) k h (subst (Twice marks) (sym alone) (t .old q));
+        }
 
   module _ {before marks : List ℕ} {ends i : ℕ} (w : Links before marks ends i) (e : i ≡ k) where
     total : ends + length (linksOf links k) ≡ k

@@ -7,7 +7,7 @@ use mathlib.Core.List.{List}
 use lib.ListN.{length, getD}
 use lib.Dec.{T, ltb}
 use Rattle.integer.specs.Words.{every, timesIn}
-use Rattle.well_formed.specs.Tests.{notZero, linksOf}
+use Rattle.well_formed.specs.Tests.{linksOf}
 
 -- the marks after some numbers more, none of which is met a second time
 pub record Grown (before after numbers : List ℕ) : Type 0 where
@@ -35,12 +35,6 @@ pub record Named (count : ℕ) (before after numbers : List ℕ) (all : Bool) : 
 -- the link of trace i, of k: 0, or the number of a later trace
 abbrev pub Rises : ℕ → ℕ → ℕ → Type 0
 Rises k i link = (link ≡ 0) ⊎ ((i < link) × (link < k))
-
--- it is so, and is marked, or it is not, or it is met again
-pub record Follows (i link k : ℕ) (before after : List ℕ) (all : Bool) : Type 0 where
-  pub fit : all ≡ true → Rises k i link
-  pub new : all ≡ true → Grown before after (notZero link)
-  pub old : all ≡ false → Rises k i link → Twice before (notZero link)
 
 -- the links of k traces: all are so and are marked, and twice as many end a list as m + 1, or not, or one is met again
 pub record Linked (links : List ℕ) (k m : ℕ) (before after : List ℕ) (all : Bool) : Type 0 where

@@ -9,10 +9,8 @@ ghost use mathlib.Core.Path.{_≡_};
 ghost use mathlib.Core.Bool.{true};
 ghost use Prim.Native.Nat.{_≤_};
 ghost use lib.ListN.{length};
-ghost use Rattle.integer.specs.Words.{if_then_else_};
-ghost use lib.Dec.{eqb};
 ghost use Rattle.records_fit.specs.Fits.{AllFit, InUse};
-ghost use Rattle.well_formed.specs.Marks.{Named, Follows, Linked};
+ghost use Rattle.well_formed.specs.Marks.{Named, Linked};
 ghost use Rattle.well_formed.specs.Tests.{childrenOnce, firstAt, firstsOf, leavesHold};
 
 // Marks the first trace number of node j, if it is a leaf. It has to be the number of one of k traces.
@@ -46,28 +44,8 @@ fn mark_firsts(nodes: &[i64], m: usize, k: usize, marks: &mut [u8; 8192]) -> boo
     true
 }
 
-// Marks the link of trace i, which is 0 behind the last of a leaf, else the number of a later trace.
-fn mark_link(i: usize, link: usize, k: usize, marks: &mut [u8; 8192]) -> bool
-    requires { ⌜ (k ≤ 4096) × (length (now marks) ≡ 8192) ⌝ }
-    ensures { λ r. ⌜ Follows i link k (now (marks .entry)) (now (marks .exit)) r ⌝ }
-{
-    if link <= i {
-        return link == 0;
-    }
-    if k <= link {
-        return false;
-    }
-    crate::marks::mark(marks, link)
-}
-
-// 1 for a link that ends a list.
-fn ending(link: usize) -> usize
-    ensures { λ r. ⌜ r ≡ (if eqb link 0 then 1 else 0) ⌝ }
-{
-    if link == 0 { 1 } else { 0 }
-}
-
-// Marks the links of k traces. As many of them end a list as there are leaves, of m nodes.
+// Marks the links of k traces, each of which is 0 behind the last of a leaf, else the number of a later trace. As many end a list as there are leaves, of m
+// nodes.
 fn mark_links(links: &[u16], k: usize, m: usize, marks: &mut [u8; 8192]) -> bool
     requires { ⌜ (k ≤ length (now links)) × (k ≤ 4096) × (length (now marks) ≡ 8192) × (m ≤ 8191) ⌝ }
     ensures { λ r. ⌜ Linked (now (links .entry)) k m (now (marks .entry)) (now (marks .exit)) r ⌝ }
@@ -76,10 +54,20 @@ fn mark_links(links: &[u16], k: usize, m: usize, marks: &mut [u8; 8192]) -> bool
     let mut i: usize = 0;
     while i < k {
         let link = wide(links[i]);
-        if !mark_link(i, link, k, marks) {
+        if link <= i {
+            if link != 0 {
+                return false;
+            }
+            ends += 1;
+            i += 1;
+            continue;
+        }
+        if k <= link {
             return false;
         }
-        ends += ending(link);
+        if !crate::marks::mark(marks, link) {
+            return false;
+        }
         i += 1;
     }
     2 * ends == m + 1

@@ -1,10 +1,11 @@
 -- `records_fit::figures::figures_fit` meets its contract: its tests together are the definition's, so that the first that fails decides, and else the last.
-use mathlib.Core.Path.{_≡_, sym, ap, ap₂, _∙_}
+use mathlib.Core.Path.{_≡_, sym, ap, ap₂, subst, _∙_}
 use mathlib.Core.Bool.{Bool, true, _&&_}
 use Prim.Native.Nat.{ℕ, _*_, _<_, _^_}
 use native.Mathlib.Omega.{arith}
 use lib.IntN.{ℤ, pos, negℤ}
 use lib.Signed.{leZ}
+use lib.Dec.{T}
 use mir.Syntax.{w64}
 use mir.Val.{toZ, ofZ}
 use mir.ValLaws.{toZ-ofZ}
@@ -13,7 +14,7 @@ use borrow.Author.Tests.{not-true, not-false}
 use Rattle.dstree.specs.Measures.{sampleLimit}
 use Rattle.dstree.specs.WellFormed.{segmentFits}
 use Rattle.tables.specs.View.{scatterIn}
-use Rattle.records_fit.proofs.Limits.{segment-is, square-fits}
+use Rattle.records_fit.proofs.Limits.{below-both, segment-is, square-fits}
 use Rattle.records_fit.proofs.figures.figures_fit.Statement.{statement}
 use Rattle.records_fit.proofs.figures.figures_fit.Tie as tie
 
@@ -39,8 +40,8 @@ module _ (s : tie.Start) where
 sums : (c : tie.After-in-order) {b : Bool} → c .in-order .result ≡ b → leZ (c .before .args .least-sum) (c .before .args .greatest-sum) ≡ b
 sums c e = sym (ap₂ leZ (least (c .before)) (greatest (c .before))) ∙ (sym (c .in-order .ensures) ∙ e)
 
-scatters : (c : tie.After-in-order2) {b : Bool} → c .in-order2 .result ≡ b → let a = c .before .before .before .args in leZ (a .least-scatter) (a .greatest-scatter) ≡ b
-scatters c e = let s = c .before .before .before in sym (ap₂ leZ (low s) (high s)) ∙ (sym (c .in-order2 .ensures) ∙ e)
+to-greatest : (c : tie.After-not-above) {b : Bool} → c .not-above .result ≡ b → let a = c .before .before .before .args in leZ (a .greatest-sum) (pos (a .w * 32768)) ≡ b
+to-greatest c e = let s = c .before .before .before in sym (ap (λ (z : ℤ). leZ z (pos (s .args .w * 32768))) (greatest s)) ∙ (sym (c .not-above .ensures) ∙ e)
 
 from-least : (c : tie.After-not-below) {b : Bool} → c .not-below .result ≡ b
     → let a = c .before .before .before .before .before .args in leZ (negℤ (pos (a .w * 32768))) (a .least-sum) ≡ b
@@ -48,17 +49,16 @@ from-least c e =
     let s = c .before .before .before .before .before in
     sym (ap (leZ (negℤ (pos (s .args .w * 32768)))) (least s)) ∙ (sym (c .not-below .ensures) ∙ e)
 
-to-greatest : (c : tie.After-not-above) {b : Bool} → c .not-above .result ≡ b
-    → let a = c .before .before .before .before .before .before .before .args in leZ (a .greatest-sum) (pos (a .w * 32768)) ≡ b
-to-greatest c e =
-    let s = c .before .before .before .before .before .before .before in
-    sym (ap (λ (z : ℤ). leZ z (pos (s .args .w * 32768))) (greatest s)) ∙ (sym (c .not-above .ensures) ∙ e)
-
-from-zero : (c : tie.After-not-below2) {b : Bool} → c .not-below2 .result ≡ b
-    → let a = c .before .before .before .before .before .before .before .before .before .args in leZ (pos 0) (a .least-scatter) ≡ b
+from-zero : (c : tie.After-in-order2) {b : Bool} → c .in-order2 .result ≡ b → let a = c .before .before .before .before .before .before .before .args in leZ (pos 0) (a .least-scatter) ≡ b
 from-zero c e =
+    let s = c .before .before .before .before .before .before .before in
+    sym (ap (leZ (pos 0)) (low s)) ∙ (sym (c .in-order2 .ensures) ∙ e)
+
+scatters : (c : tie.After-in-order3) {b : Bool} → c .in-order3 .result ≡ b
+    → let a = c .before .before .before .before .before .before .before .before .before .args in leZ (a .least-scatter) (a .greatest-scatter) ≡ b
+scatters c e =
     let s = c .before .before .before .before .before .before .before .before .before in
-    sym (ap (leZ (pos 0)) (low s)) ∙ (sym (c .not-below2 .ensures) ∙ e)
+    sym (ap₂ leZ (low s) (high s)) ∙ (sym (c .in-order3 .ensures) ∙ e)
 
 -- the definition, as those tests
 module _ (s : tie.Start) (end : ℕ) where
@@ -68,27 +68,32 @@ module _ (s : tie.Start) (end : ℕ) where
     greatestSum = s .args .greatest-sum;
     leastScatter = scatterIn (s .args .least-scatter);
     greatestScatter = scatterIn (s .args .greatest-scatter);
-  }) ≡ leZ (s .args .least-sum) (s .args .greatest-sum) && leZ (s .args .least-scatter) (s .args .greatest-scatter)
-      && leZ (negℤ (pos (s .args .w * 32768))) (s .args .least-sum) && leZ (s .args .greatest-sum) (pos (s .args .w * 32768))
-      && leZ (pos 0) (s .args .least-scatter) && leZ (s .args .greatest-scatter) (pos ((s .args .w * 32768) * (s .args .w * 32768)))
+  }) ≡ leZ (s .args .least-sum) (s .args .greatest-sum) && leZ (s .args .greatest-sum) (pos (s .args .w * 32768))
+      && leZ (negℤ (pos (s .args .w * 32768))) (s .args .least-sum) && leZ (pos 0) (s .args .least-scatter)
+      && leZ (s .args .least-scatter) (s .args .greatest-scatter) && leZ (s .args .greatest-scatter) (pos ((s .args .w * 32768) * (s .args .w * 32768)))
   whole = segment-is (s .args .w) end (s .args .least-sum) (s .args .greatest-sum) (s .args .least-scatter) (s .args .greatest-scatter) (s .pre)
 
 returns : tie.Need-returns
 returns c end = sym (whole (c .before .before) end ∙ rw (sums (c .before) (not-true (c .before .in-order .result) (c .if1 .taken))))
 
 -- the tests that passed
-module _ (c : tie.Else1) where
-  pass1 : leZ (c .before .before .args .least-sum) (c .before .before .args .greatest-sum) ≡ true
-  pass1 = sums (c .before) (not-false (c .before .in-order .result) (c .if1 .left))
+pass1 : (c : tie.Else1) → leZ (c .before .before .args .least-sum) (c .before .before .args .greatest-sum) ≡ true
+pass1 c = sums (c .before) (not-false (c .before .in-order .result) (c .if1 .left))
 
 returns-2 : tie.Need-returns-2
 returns-2 c end =
     let k = c .before .before in
-    sym (whole (k .before .before) end ∙ rw (pass1 k, scatters (c .before) (not-true (c .before .in-order2 .result) (c .if2 .taken))))
+    sym (whole (k .before .before) end ∙ rw (pass1 k, to-greatest (c .before) (not-true (c .before .not-above .result) (c .if2 .taken))))
 
-module _ (c : tie.Else2) where
-  pass2 : let a = c .before .before .before .before .args in leZ (a .least-scatter) (a .greatest-scatter) ≡ true
-  pass2 = scatters (c .before) (not-false (c .before .in-order2 .result) (c .if2 .left))
+pass2 : (c : tie.Else2) → let a = c .before .before .before .before .args in leZ (a .greatest-sum) (pos (a .w * 32768)) ≡ true
+pass2 c = to-greatest (c .before) (not-false (c .before .not-above .result) (c .if2 .left))
+
+not-below-requires : tie.Need-not-below-requires
+not-below-requires c κs =
+    let k = c .before .before in
+    let s = k .before .before in
+    let a = s .args in
+    (omega (arith, s .pre), subst (λ (z : ℤ). T (leZ z (pos (a .w * 32768)))) (sym (least s)) (below-both (a .least-sum) (a .greatest-sum) (a .w * 32768) (pass1 k) (pass2 c)))
 
 returns-3 : tie.Need-returns-3
 returns-3 c end =
@@ -96,20 +101,18 @@ returns-3 c end =
     let k = f .before .before in
     sym (whole (k .before .before) end ∙ rw (pass1 k, pass2 f, from-least (c .before) (not-true (c .before .not-below .result) (c .if3 .taken))))
 
-module _ (c : tie.Else3) where
-  pass3 : let a = c .before .before .before .before .before .before .args in leZ (negℤ (pos (a .w * 32768))) (a .least-sum) ≡ true
-  pass3 = from-least (c .before) (not-false (c .before .not-below .result) (c .if3 .left))
+pass3 : (c : tie.Else3) → let a = c .before .before .before .before .before .before .args in leZ (negℤ (pos (a .w * 32768))) (a .least-sum) ≡ true
+pass3 c = from-least (c .before) (not-false (c .before .not-below .result) (c .if3 .left))
 
 returns-4 : tie.Need-returns-4
 returns-4 c end =
     let g = c .before .before in
     let f = g .before .before in
     let k = f .before .before in
-    sym (whole (k .before .before) end ∙ rw (pass1 k, pass2 f, pass3 g, to-greatest (c .before) (not-true (c .before .not-above .result) (c .if4 .taken))))
+    sym (whole (k .before .before) end ∙ rw (pass1 k, pass2 f, pass3 g, from-zero (c .before) (not-true (c .before .in-order2 .result) (c .if4 .taken))))
 
-module _ (c : tie.Else4) where
-  pass4 : let a = c .before .before .before .before .before .before .before .before .args in leZ (a .greatest-sum) (pos (a .w * 32768)) ≡ true
-  pass4 = to-greatest (c .before) (not-false (c .before .not-above .result) (c .if4 .left))
+pass4 : (c : tie.Else4) → leZ (pos 0) (c .before .before .before .before .before .before .before .before .args .least-scatter) ≡ true
+pass4 c = from-zero (c .before) (not-false (c .before .in-order2 .result) (c .if4 .left))
 
 returns-5 : tie.Need-returns-5
 returns-5 c end =
@@ -117,7 +120,7 @@ returns-5 c end =
     let g = h .before .before in
     let f = g .before .before in
     let k = f .before .before in
-    sym (whole (k .before .before) end ∙ rw (pass1 k, pass2 f, pass3 g, pass4 h, from-zero (c .before) (not-true (c .before .not-below2 .result) (c .if5 .taken))))
+    sym (whole (k .before .before) end ∙ rw (pass1 k, pass2 f, pass3 g, pass4 h, scatters (c .before) (not-true (c .before .in-order3 .result) (c .if5 .taken))))
 
 mul-not-above : tie.Need-mul-not-above
 mul-not-above c = omega (arith, top (c .before .before .before .before .before .before .before .before .before .before))
@@ -135,11 +138,11 @@ returns-6 c end =
     let s = k .before .before in
     c .not-above2 .ensures
     ∙ (ap (λ (z : ℤ). leZ z (pos ((s .args .w * 32768) * (s .args .w * 32768)))) (high s)
-    ∙ sym (whole s end ∙ rw (pass1 k, pass2 f, pass3 g, pass4 h, from-zero (i .before) (not-false (i .before .not-below2 .result) (i .if5 .left)))))
+    ∙ sym (whole s end ∙ rw (pass1 k, pass2 f, pass3 g, pass4 h, scatters (i .before) (not-false (i .before .in-order3 .result) (i .if5 .left)))))
 
 pub figures-fit-spec : {M : Type 1} → statement M
 figures-fit-spec =
     tie.close
     (tie.spec
-    (λ c κs. search needs) returns (λ c κs. search needs) returns-2 (λ c. search needs) (λ c κs. search needs) returns-3
+    (λ c κs. search needs) returns (λ c. search needs) (λ c κs. search needs) returns-2 not-below-requires returns-3
     (λ c κs. search needs) returns-4 (λ c κs. search needs) returns-5 mul-not-above not-above-requires-2 returns-6)

@@ -1,15 +1,17 @@
 -- `records_fit::figures::threshold_fits` meets its contract: twice the limit that the figure has, one side at a time.
-use mathlib.Core.Path.{_≡_, sym, ap, _∙_}
-use mathlib.Core.Bool.{Bool}
+use mathlib.Core.Path.{_≡_, sym, ap, subst, _∙_}
+use mathlib.Core.Bool.{Bool, true}
 use Prim.Native.Nat.{ℕ, _*_, _<_, _^_}
 use native.Mathlib.Omega.{arith}
 use lib.IntN.{ℤ, pos, negℤ}
 use lib.Signed.{leZ}
+use lib.Dec.{T}
 use mir.Syntax.{w64}
 use mir.Val.{toZ, ofZ}
 use mir.ValLaws.{toZ-ofZ}
 use borrow.Author.Needs.{needs}
 use borrow.Author.Tests.{eq-eqb, ne-eqb, not-true, not-false}
+use Rattle.integer.proofs.Tests.{is-true}
 use Rattle.records_fit.proofs.Limits.{sum-threshold, scatter-threshold, square-fits}
 use Rattle.records_fit.proofs.figures.threshold_fits.Statement.{statement}
 use Rattle.records_fit.proofs.figures.threshold_fits.Tie as tie
@@ -23,15 +25,24 @@ top c = omega (arith, square-fits (c .args .w) 256 (c .pre))
 
 -- ---- by sum
 
-from-sum : (c : tie.After-not-below) {b : Bool} → c .not-below .result ≡ b → let a = c .before .before .args in leZ (negℤ (pos (2 * (a .w * 32768)))) (a .threshold) ≡ b
-from-sum c e = let s = c .before .before in sym (ap (leZ (negℤ (pos (2 * (s .args .w * 32768))))) (same s)) ∙ (sym (c .not-below .ensures) ∙ e)
+to-sum : (c : tie.After-not-above) {b : Bool} → c .not-above .result ≡ b → let a = c .before .before .args in leZ (a .threshold) (pos (2 * (a .w * 32768))) ≡ b
+to-sum c e = let s = c .before .before in sym (ap (λ (z : ℤ). leZ z (pos (2 * (s .args .w * 32768)))) (same s)) ∙ (sym (c .not-above .ensures) ∙ e)
 
 returns : tie.Need-returns
 returns c =
     let k = c .before .before in
     let a = k .before .args in
     rw (eq-eqb (a .kind) 1 (k .if1 .taken))
-    (sym (sum-threshold (a .w) (a .threshold) ∙ rw (from-sum (c .before) (not-true (c .before .not-below .result) (c .if2 .taken)))))
+    (sym (sum-threshold (a .w) (a .threshold) ∙ rw (to-sum (c .before) (not-true (c .before .not-above .result) (c .if2 .taken)))))
+
+-- the threshold is up to the limit
+up-to : (c : tie.Else2) → let a = c .before .before .before .args in leZ (a .threshold) (pos (2 * (a .w * 32768))) ≡ true
+up-to c = to-sum (c .before) (not-false (c .before .not-above .result) (c .if2 .left))
+
+not-below-requires : tie.Need-not-below-requires
+not-below-requires c κs =
+    let s = c .before .before .before in
+    (omega (arith, s .pre), subst (λ (z : ℤ). T (leZ z (pos (2 * (s .args .w * 32768))))) (sym (same s)) (is-true (up-to c)))
 
 returns-2 : tie.Need-returns-2
 returns-2 c =
@@ -39,21 +50,19 @@ returns-2 c =
     let k = f .before .before in
     let a = k .before .args in
     rw (eq-eqb (a .kind) 1 (k .if1 .taken))
-    (c .not-above .ensures
-    ∙ (ap (λ (z : ℤ). leZ z (pos (2 * (a .w * 32768)))) (same (k .before))
-    ∙ sym (sum-threshold (a .w) (a .threshold) ∙ rw (from-sum (f .before) (not-false (f .before .not-below .result) (f .if2 .left))))))
+    (c .not-below .ensures ∙ (ap (leZ (negℤ (pos (2 * (a .w * 32768))))) (same (k .before)) ∙ sym (sum-threshold (a .w) (a .threshold) ∙ rw (up-to f))))
 
 -- ---- by scatter
 
-from-zero : (c : tie.After-not-below2) {b : Bool} → c .not-below2 .result ≡ b → leZ (pos 0) (c .before .before .args .threshold) ≡ b
-from-zero c e = let s = c .before .before in sym (ap (leZ (pos 0)) (same s)) ∙ (sym (c .not-below2 .ensures) ∙ e)
+from-zero : (c : tie.After-in-order) {b : Bool} → c .in-order .result ≡ b → leZ (pos 0) (c .before .before .args .threshold) ≡ b
+from-zero c e = let s = c .before .before in sym (ap (leZ (pos 0)) (same s)) ∙ (sym (c .in-order .ensures) ∙ e)
 
 returns-3 : tie.Need-returns-3
 returns-3 c =
     let k = c .before .before in
     let a = k .before .args in
     rw (ne-eqb (a .kind) 1 (k .if1 .left))
-    (sym (scatter-threshold (a .w) (a .threshold) ∙ rw (from-zero (c .before) (not-true (c .before .not-below2 .result) (c .if3 .taken)))))
+    (sym (scatter-threshold (a .w) (a .threshold) ∙ rw (from-zero (c .before) (not-true (c .before .in-order .result) (c .if3 .taken)))))
 
 mul-not-above-2 : tie.Need-mul-not-above-2
 mul-not-above-2 c = omega (arith, top (c .before .before .before))
@@ -72,11 +81,11 @@ returns-4 c =
     rw (ne-eqb (a .kind) 1 (k .if1 .left))
     (c .not-above2 .ensures
     ∙ (ap (λ (z : ℤ). leZ z (pos (2 * ((a .w * 32768) * (a .w * 32768))))) (same (k .before))
-    ∙ sym (scatter-threshold (a .w) (a .threshold) ∙ rw (from-zero (f .before) (not-false (f .before .not-below2 .result) (f .if3 .left))))))
+    ∙ sym (scatter-threshold (a .w) (a .threshold) ∙ rw (from-zero (f .before) (not-false (f .before .in-order .result) (f .if3 .left))))))
 
 pub threshold-fits-spec : {M : Type 1} → statement M
 threshold-fits-spec =
     tie.close
     (tie.spec
-    (λ c. search needs) (λ c. search needs) (λ c κs. search needs) returns (λ c. search needs) (λ c κs. search needs) returns-2
+    (λ c. search needs) (λ c. search needs) (λ c κs. search needs) returns (λ c. search needs) not-below-requires returns-2
     (λ c κs. search needs) returns-3 mul-not-above-2 mul-not-above-3 not-above-requires-2 returns-4)

@@ -1,17 +1,16 @@
 -- The call that a row asks for, and what is known of it: it is lent no more than there is, and its arguments are what the slices' types say.
 use Prim.Native.Nat.{ℕ, suc, _+_, _≤_, _<_, _^_}
 use native.Mathlib.Numerals.{add-one}
-use native.Mathlib.Omega.{arith}
 use mathlib.Core.Path.{_≡_, refl, sym, ap, subst, _∙_}
-use mathlib.Core.Bool.{Bool, true, false, _&&_}
-use mathlib.Core.Option.{Option, none, some}
+use mathlib.Core.Bool.{Bool, true, false}
+use mathlib.Core.Option.{Option, none, some, Option·none-ne-some, Option·some-injective}
 use mathlib.Core.List.{List, [], _∷_}
 use lib.IntN.{ℤ, pos}
 use lib.ListN.{length, getD, take, drop}
 use lib.Seq.{take-suc, take-all}
 use lib.Signed.{mag}
-use lib.Dec.{T, leb, ltb, eqb, leb→le}
-use borrow.Author.Tests.{lt-ltb, ne-eqb}
+use lib.Dec.{T, leb, ltb, leb→le}
+use borrow.Author.Tests.{lt-ltb}
 use Rattle.integer.specs.Words.{if_then_else_, every}
 use Rattle.integer.proofs.Tests.{passed, is-true}
 use Rattle.integer.specs.Lists.{All, all-none, all-more}
@@ -22,8 +21,12 @@ use Rattle.dstree.specs.Book.{Lent, Ask, Call}
 use Rattle.tables.specs.Tables.{lentOf}
 use Rattle.tables.specs.Beginning.{Within}
 use Rattle.calls.specs.Follows.{areSamples, Typed}
-use Rattle.replay.specs.Script.{State, numberAt, ownNumber, lentBy, fitsIn, openingBy, addingBy, matchingBy, writingBy, readingBy, askOf, asks}
-use Rattle.replay.specs.Script.{samplesOf, sheetOf, stateAfter}
+use Rattle.replay.specs.declared.Cursor.{Cursor}
+use Rattle.replay.specs.declared.Wanted.{Wanted}
+use Rattle.replay.specs.declared.Plan.{Plan}
+use Rattle.replay.specs.Script.{State, numberAt, lentBy, nextOf, aheadOf, Kind, kinds, kindAt, fitsIn, enough, ifEnough, playable, askedBy, asks}
+use Rattle.replay.specs.Script.{takesOf, moved, movedBy, wantedBy, plannedBy, takenBy, stateAfter}
+use Rattle.replay.proofs.OfKind.{of-kind}
 
 -- ---- which call
 
@@ -40,45 +43,154 @@ fits-within lent lengths e =
       work-within = leb→le (lent .work) (lengths .work) (p .1 .1 .1 .1);
     }
 
-pub asks-not : (lengths : Lent) (row : List ℕ) (s : State) → fitsIn (lentBy row) lengths ≡ false → asks lengths row s ≡ none
-unfolding asks
-asks-not lengths row s e = simp e
+if-some : {A : Type 0} (b : Bool) (o : Option A) (x : A) → (if b then o else none) ≡ some x → (b ≡ true) × (o ≡ some x)
+if-some true o x e = (refl, e)
+if-some false o x e = absurd (Option·none-ne-some x e)
 
-pub asks-it : (lengths : Lent) (row : List ℕ) (s : State) → fitsIn (lentBy row) lengths ≡ true → asks lengths row s ≡ askOf row s
-unfolding asks
-asks-it lengths row s e = simp e
+-- a row that can be played
+pub record Playable (lengths : Lent) (ahead : Cursor) (row : List ℕ) (k : Kind) : Type 0 where
+  pub is-kind : kindAt kinds (numberAt row 0) ≡ some k
+  pub within : Within (lentBy row) lengths
+  pub samples-there : k .takes row .samples ≤ ahead .samples
+  pub trails-there : k .takes row .trails ≤ ahead .trails
+  pub sheets-there : k .takes row .sheets ≤ ahead .sheets
 
-module _ (row : List ℕ) (s : State) where
-  pub asks-opening : numberAt row 0 ≡ 0 → askOf row s ≡ some (openingBy row)
-  unfolding askOf
-  asks-opening k = rw k refl
+if-enough : (o : Option Kind) (row : List ℕ) (ahead : Cursor) (k : Kind) → ifEnough o row ahead ≡ some k → (o
+    ≡ some k) × (enough (k .takes row) ahead ≡ true)
+unfolding ifEnough
+if-enough none row ahead k e = absurd (Option·none-ne-some k e)
+if-enough (some k₀) row ahead k e =
+    let f = if-some (enough (k₀ .takes row) ahead) (some k₀) k e in
+    (f .1, subst (λ (k : Kind). enough (k .takes row) ahead ≡ true) (Option·some-injective k₀ k (f .1)) (f .0))
 
-  pub asks-adding : numberAt row 0 ≡ 1 → askOf row s ≡ addingBy row s
-  unfolding askOf
-  asks-adding k = rw k refl
+pub enough-is : (size ahead : Cursor) → enough size ahead ≡ true
+    → (size .samples ≤ ahead .samples) × (size .trails ≤ ahead .trails) × (size .sheets ≤ ahead .sheets)
+unfolding enough
+enough-is size ahead e =
+    let p = passed (leb (size .samples) (ahead .samples)) (leb (size .trails) (ahead .trails) ∷ leb (size .sheets) (ahead .sheets) ∷ [])
+    (is-true e) in (
+      leb→le (size .samples) (ahead .samples) (p .0),
+      leb→le (size .trails) (ahead .trails) (p .1 .0),
+      leb→le (size .sheets) (ahead
+          .sheets) (p .1 .1),
+    )
 
-  pub asks-matching : numberAt row 0 ≡ 2 → askOf row s ≡ matchingBy row s
-  unfolding askOf
-  asks-matching k = rw k refl
+pub playable-is : (lengths : Lent) (ahead : Cursor) (row : List ℕ) (k : Kind) → playable lengths ahead row ≡ some k
+    → Playable lengths ahead row k
+unfolding playable
+playable-is lengths ahead row k e =
+    let f = if-some (fitsIn (lentBy row) lengths) (ifEnough (kindAt kinds (numberAt row 0)) row ahead) k e in
+    let g = if-enough (kindAt kinds (numberAt row 0)) row ahead k (f .1) in
+    let there = enough-is (k .takes row) ahead (g .1) in
+    record {
+      is-kind = g .0;
+      within = fits-within (lentBy row) lengths (f .0);
+      samples-there = there .0;
+      trails-there = there .1;
+      sheets-there = there .2;
+    }
 
-  pub asks-writing : numberAt row 0 ≡ 3 → askOf row s ≡ writingBy row s
-  unfolding askOf
-  asks-writing k = rw k refl
+-- .. by how much is taken behind it
+pub record Moved (o : Option Kind) (row : List ℕ) (at to : Cursor) : Type 0 where
+  pub kind : Kind
+  pub is : o ≡ some kind
+  pub to-is : to ≡ moved at (kind .takes row)
 
-  pub asks-reading : numberAt row 0 ≡ 4 → askOf row s ≡ readingBy row s
-  unfolding askOf
-  asks-reading k = rw k refl
+pub moved-is : (o : Option Kind) (row : List ℕ) (at to : Cursor) → some to ≡ movedBy o row at → Moved o row at to
+unfolding movedBy
+moved-is none row at to e = absurd (Option·none-ne-some to (sym e))
+moved-is (some k) row at to e = record { kind = k; is = refl; to-is = Option·some-injective to (moved at (k .takes row)) e }
 
-  pub asks-nothing : (numberAt row 0 ≡ 0 → ⊥) → (numberAt row 0 ≡ 1 → ⊥) → (numberAt row 0 ≡ 2 → ⊥) → (numberAt row 0 ≡ 3 → ⊥) → (numberAt row 0 ≡ 4 → ⊥)
-      → askOf row s ≡ none
-  unfolding askOf
-  asks-nothing a b c d e = simp (
-    ne-eqb (numberAt row 0) 0 a,
-    ne-eqb (numberAt row 0) 1 b,
-    ne-eqb (numberAt row 0) 2 c,
-    ne-eqb (numberAt row 0) 3 d,
-    ne-eqb (numberAt row 0) 4 e,
-  )
+pub asks-it : (lengths : Lent) (row : List ℕ) (s : State) (k : Kind) → playable lengths (aheadOf s) row ≡ some k
+    → asks lengths row s ≡ some (k .ask row (nextOf (k .takes row) s))
+unfolding asks askedBy
+asks-it lengths row s k e = ap (λ (o : Option Kind). askedBy o row s) e
+
+pub asks-not : (lengths : Lent) (row : List ℕ) (s : State) (at : Cursor) → movedBy (playable lengths (aheadOf s) row) row at ≡ none
+    → asks lengths row s ≡ none
+unfolding asks movedBy askedBy
+asks-not lengths row s at e = by (playable lengths (aheadOf s) row) e
+  where
+    by : (o : Option Kind) → movedBy o row at ≡ none → askedBy o row s ≡ none
+    by none e = refl
+    by (some k) e = absurd (Option·none-ne-some (moved at (k .takes row)) (sym e))
+
+-- ---- what code finds of a row
+
+pub wanted-some : (r : Wanted) → r .known ≡ true → wantedBy r ≡ some (r .size)
+wanted-some r e = rw e refl
+
+pub wanted-none : (r : Wanted) → r .known ≡ false → wantedBy r ≡ none
+wanted-none r e = rw e refl
+
+pub planned-some : (r : Plan) → r .made ≡ true → plannedBy r ≡ some (r .to)
+planned-some r e = rw e refl
+
+pub planned-none : (r : Plan) → r .made ≡ false → plannedBy r ≡ none
+planned-none r e = rw e refl
+
+module _ (lengths : Lent) (ahead : Cursor) (row : List ℕ) (at : Cursor) (lent : Lent) (l : lent ≡ lentBy row) where
+  pub not-lent : fitsIn lent lengths ≡ false → none ≡ movedBy (playable lengths ahead row) row at
+  unfolding playable movedBy
+  not-lent e = sym (ap (λ (b : Bool). movedBy (if b then ifEnough (kindAt kinds (numberAt row 0)) row ahead else none) row at) (ap (λ (l
+      : Lent). fitsIn l lengths) (sym l) ∙ e))
+
+  -- that the tables are long enough leaves the kind, and what is ahead
+  long-enough : fitsIn lent lengths ≡ true → movedBy (ifEnough (kindAt kinds (numberAt row 0)) row ahead) row at
+      ≡ movedBy (playable lengths ahead row) row at
+  unfolding playable
+  long-enough e = sym (ap (λ (b : Bool). movedBy (if b then ifEnough (kindAt kinds (numberAt row 0)) row ahead else none) row at) (ap (λ
+      (l : Lent). fitsIn l lengths) (sym l) ∙ e))
+
+  pub no-kind : fitsIn lent lengths ≡ true → takesOf (kindAt kinds (numberAt row 0)) row ≡ none → none
+      ≡ movedBy (playable lengths ahead row) row at
+  unfolding takesOf ifEnough movedBy
+  no-kind f e = by (kindAt kinds (numberAt row 0)) e ∙ long-enough f
+    where
+      by : (o : Option Kind) → takesOf o row ≡ none → none ≡ movedBy (ifEnough o row ahead) row at
+      by none e = refl
+      by (some k) e = absurd (Option·none-ne-some (k .takes row) (sym e))
+
+  pub too-few : fitsIn lent lengths ≡ true → (size : Cursor) → takesOf (kindAt kinds (numberAt row 0)) row ≡ some size
+      → enough size ahead ≡ false
+      → none ≡ movedBy (playable lengths ahead row) row at
+  unfolding takesOf ifEnough movedBy
+  too-few f size e g = by (kindAt kinds (numberAt row 0)) e ∙ long-enough f
+    where
+      by : (o : Option Kind) → takesOf o row ≡ some size → none ≡ movedBy (ifEnough o row ahead) row at
+      by none e = absurd (Option·none-ne-some size e)
+      by (some k) e =
+          let h : enough (k .takes row) ahead ≡ false = ap (λ (z : Cursor). enough z ahead) (Option·some-injective (k .takes row) size e)
+          ∙ g in
+          sym (ap (λ (b : Bool). movedBy (if b then some k else none) row at) h)
+
+  pub goes : fitsIn lent lengths ≡ true → (size : Cursor) → takesOf (kindAt kinds (numberAt row 0)) row ≡ some size → enough size ahead
+      ≡ true
+      → some (moved at size) ≡ movedBy (playable lengths ahead row) row at
+  unfolding takesOf ifEnough movedBy
+  goes f size e g = by (kindAt kinds (numberAt row 0)) e ∙ long-enough f
+    where
+      by : (o : Option Kind) → takesOf o row ≡ some size → some (moved at size) ≡ movedBy (ifEnough o row ahead) row at
+      by none e = absurd (Option·none-ne-some size e)
+      by (some k) e =
+          let q = Option·some-injective (k .takes row) size e in
+          let h : enough (k .takes row) ahead ≡ true = ap (λ (z : Cursor). enough z ahead) q ∙ g in
+          ap (λ (z : Cursor). some (moved at z)) (sym q) ∙ sym (ap (λ (b : Bool). movedBy (if b then some k else none) row at) h)
+
+-- ---- the call that is asked for
+
+record Asked (lengths : Lent) (row : List ℕ) (s : State) (ask : Ask) : Type 0 where
+  pub kind : Kind
+  pub can : playable lengths (aheadOf s) row ≡ some kind
+  pub ask-is : kind .ask row (nextOf (kind .takes row) s) ≡ ask
+
+asked-is : (lengths : Lent) (row : List ℕ) (s : State) (ask : Ask) → asks lengths row s ≡ some ask → Asked lengths row s ask
+unfolding asks askedBy
+asked-is lengths row s ask e = by (playable lengths (aheadOf s) row) refl e
+  where
+    by : (o : Option Kind) → playable lengths (aheadOf s) row ≡ o → askedBy o row s ≡ some ask → Asked lengths row s ask
+    by none f e = absurd (Option·none-ne-some ask e)
+    by (some k) f e = record { kind = k; can = f; ask-is = Option·some-injective (k .ask row (nextOf (k .takes row) s)) ask e }
 
 -- ---- what is known of it
 
@@ -87,15 +199,6 @@ pub record Sound (lengths : Lent) (s : State) : Type 0 where
   pub as-long : lentOf (s .memory) ≡ lengths
   pub of-samples : T (areSamples (s .samples))
   pub of-bytes : T (areBytes (s .sheets .ahead))
-
--- of the call that is asked for, if any
-TypedIf : Option Ask → Type 0
-TypedIf none = Unit
-TypedIf (some ask) = Typed ask
-
-typed-by : (test : Bool) (yes′ no′ : Option Ask) → (test ≡ true → TypedIf yes′) → TypedIf no′ → TypedIf (if test then yes′ else no′)
-typed-by true yes′ no′ f g = f refl
-typed-by false yes′ no′ f g = g
 
 module _ {A : Type 0} (passes : A → Bool) (k : ℕ) (l : List A) (t : T (every passes l)) where
   every-take : T (every passes (take k l))
@@ -110,53 +213,42 @@ isSample sample = ltb (mag sample) sampleLimit
 abbrev pub isByte : ℕ → Bool
 isByte byte = ltb byte 256
 
-module _ (lengths : Lent) (row : List ℕ) (s : State) (sound : Sound lengths s) where
-  typed-ask : TypedIf (askOf row s)
-  unfolding askOf addingBy matchingBy writingBy readingBy TypedIf Typed areBytes
-  typed-ask =
-      typed-by (eqb (numberAt row 0) 0) _ _ (λ _. tt)
-      (typed-by (eqb (numberAt row 0) 1) _ _
-      (λ _. typed-by (leb (ownNumber row 0) (length (s .samples))) _ _ (λ _. every-take isSample (ownNumber row 0) (s .samples) (sound .of-samples)) tt)
-      (typed-by (eqb (numberAt row 0) 2) _ _
-      (λ _. typed-by (leb (ownNumber row 0) (length (s .samples)) && leb (ownNumber row 1) (length (s .trails .ahead))) _ _ (λ _. tt) tt)
-      (typed-by (eqb (numberAt row 0) 3) _ _ (λ _. typed-by (leb (ownNumber row 0) (length (s .sheets .ahead))) _ _ (λ _. tt) tt)
-      (typed-by (eqb (numberAt row 0) 4) _ _
-      (λ _. typed-by (leb (ownNumber row 0) (length (s .sheets .ahead))) _ _ (λ _. every-take isByte (ownNumber row 0) (s .sheets .ahead) (sound .of-bytes)) tt)
-      tt))))
-
-  typed-asks : TypedIf (asks lengths row s)
-  unfolding asks TypedIf
-  typed-asks = typed-by (fitsIn (lentBy row) lengths) (askOf row s) none (λ _. typed-ask) tt
-
-  pub asked-typed : (ask : Ask) → asks lengths row s ≡ some ask → Typed ask
-  unfolding TypedIf
-  asked-typed ask e = subst TypedIf e typed-asks
+pub asked-typed : (lengths : Lent) (row : List ℕ) (s : State) → Sound lengths s → (ask : Ask) → asks lengths row s ≡ some ask → Typed ask
+unfolding areBytes
+asked-typed lengths row s sound ask e =
+    let a = asked-is lengths row s ask e in
+    let k = a .kind in
+    let size = k .takes row in
+    subst Typed (a .ask-is)
+    (of-kind (numberAt row 0) k (playable-is lengths (aheadOf s) row k (a .can) .is-kind) .typed row (nextOf size s)
+    (every-take isSample (size .samples) (s .samples) (sound .of-samples)) (every-take isByte (size .sheets) (s .sheets .ahead) (sound
+    .of-bytes)))
 
 -- a call is asked for only where it is lent no more than there is
 pub asked-within : (lengths : Lent) (row : List ℕ) (s : State) (ask : Ask) → asks lengths row s ≡ some ask → Within (lentBy row) lengths
-unfolding asks
-asked-within lengths row s ask e = by (fitsIn (lentBy row) lengths) refl e
-  where
-    by : (b : Bool) → fitsIn (lentBy row) lengths ≡ b → (if b then askOf row s else none) ≡ some ask → Within (lentBy row) lengths
-    by true f g = fits-within (lentBy row) lengths f
-    by false f g = let z : _≡_ {A = ℕ} 0 1 = cc in absurd (omega arith)
+asked-within lengths row s ask e =
+    let a = asked-is lengths row s ask e in
+    playable-is lengths (aheadOf s) row (a .kind) (a .can) .within
 
 -- a call takes from what is ahead
-pub sound-after : (lengths : Lent) (s : State) → Sound lengths s → (c : Call) → lentOf (stateAfter c s .memory) ≡ lengths → Sound lengths (stateAfter c s)
+pub sound-after : (lengths : Lent) (s : State) → Sound lengths s → (c : Call) → lentOf (stateAfter c s .memory) ≡ lengths
+    → Sound lengths (stateAfter c s)
 unfolding stateAfter areBytes
 sound-after lengths s sound c e = record {
   as-long = e;
-  of-samples = every-drop isSample (length (samplesOf (c .ask))) (s .samples) (sound .of-samples);
-  of-bytes = every-drop isByte (length (sheetOf (c .ask))) (s .sheets .ahead) (sound .of-bytes);
+  of-samples = every-drop isSample (length (takenBy (c .ask) .samples)) (s .samples) (sound .of-samples);
+  of-bytes = every-drop isByte (length (takenBy (c .ask) .sheet)) (s .sheets .ahead) (sound .of-bytes);
 }
 
 -- ---- the samples of a lent slice, looked at one by one
 
-pub one-more-sample : (pool : List ℤ) (i : ℕ) → i < length pool → T (areSamples (take i pool)) → mag (getD pool i (pos 0)) < 2 ^ 15 → T (areSamples (take (i + 1) pool))
+pub one-more-sample : (pool : List ℤ) (i : ℕ) → i < length pool → T (areSamples (take i pool)) → mag (getD pool i (pos 0)) < 2 ^ 15
+    → T (areSamples (take (i + 1) pool))
 unfolding sampleLimit
 one-more-sample pool i h t m =
     subst (λ (l : List ℤ). T (areSamples l)) (sym (ap (λ (k : ℕ). take k pool) (add-one i) ∙ take-suc pool i (pos 0) h))
-    (all-every isSample (all-append (every-all isSample (take i pool) t) (all-more (is-true (lt-ltb (mag (getD pool i (pos 0))) 32768 m)) all-none)))
+    (all-every isSample (all-append (every-all isSample (take i pool) t) (all-more (is-true (lt-ltb (mag (getD pool i (pos 0))) 32768 m))
+    all-none)))
 
 pub all-samples : (pool : List ℤ) (i : ℕ) → length pool ≤ i → T (areSamples (take i pool)) → T (areSamples pool)
 all-samples pool i h t = subst (λ (l : List ℤ). T (areSamples l)) (take-all i pool h) t

@@ -4,7 +4,7 @@ use mathlib.Core.Path.{_≡_, sym, ap, subst, _∙_}
 use mathlib.Core.List.{List, _++_, append-assoc}
 use native.Mathlib.Omega.{arith}
 use lib.ListN.{length, take, drop, length-append, length-drop}
-use lib.Seq.{length-take-le, take-at, drop-at, take-add, drop-drop}
+use lib.Seq.{length-take-le, take-at, drop-at, drop-drop}
 use Rattle.dstree.specs.Book.{Lent}
 use Rattle.tables.specs.Tables.{Tables, tables, lentOf}
 use Rattle.tables.specs.Beginning.{over, left, Within}
@@ -67,11 +67,3 @@ supply-moved from many l beside h m e =
       ap (λ (k : List ℕ). take (from + many) k) parts ∙ take-at (take from l ++ beside) (drop (from + many) l) (from + many) n,
       ap (λ (k : List ℕ). drop (from + many) k) parts ∙ (drop-at (take from l ++ beside) (drop (from + many) l) (from + many) n ∙ ahead-moved from many l m),
     )
-
--- what is taken to be read stays as it was
-pub supply-passed : (from many : ℕ) (l : List ℕ) → many ≤ length l - from → supplyAt (from + many) l
-    ≡ supply (take from l ++ take many (drop from l)) (drop (length (take many (drop from l))) (drop from l))
-supply-passed from many l m = rw (take-add from many l, ahead-moved from many l m)
-
-pub still-inside : (from many all : ℕ) → from ≤ all → many ≤ all - from → from + many ≤ all
-still-inside from many all h m = omega arith

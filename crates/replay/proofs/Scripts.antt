@@ -1,16 +1,17 @@
 -- Every list of calls that code can be asked to make has a script: the calls' rows, samples, trails and sheets, each one behind another.
-use Prim.Native.Nat.{ℕ}
+use Prim.Native.Nat.{ℕ, _<_, _^_}
 use native.Mathlib.Nat.{lt-of-le-of-lt}
 use native.Mathlib.Omega.{arith}
 use mathlib.Core.Path.{_≡_, refl, sym, ap, _∙_}
-use mathlib.Core.Bool.{true}
-use mathlib.Core.Option.{Option, some}
+use mathlib.Core.Bool.{Bool, true}
+use mathlib.Core.Option.{Option, none, some}
 use mathlib.Core.List.{List, [], _∷_, _++_, map, foldl, append-assoc, append-nil}
 use lib.IntN.{ℤ}
 use lib.ListN.{length, take, drop, length-append}
 use lib.Seq.{take-append-seam, drop-append-seam}
 use lib.Dec.{T, leb, le→leb, lit<}
 use borrow.Author.Tests.{le-leb}
+use Rattle.integer.specs.Words.{if_then_else_}
 use Rattle.integer.proofs.Tests.{passes, test-true}
 use Rattle.integer.specs.Lists.{All, all-none, all-more}
 use Rattle.integer.proofs.Lists.{all-append, every-all, all-every}
@@ -18,8 +19,9 @@ use Rattle.dstree.specs.Sheet.{areBytes}
 use Rattle.dstree.specs.Book.{Lent, Ask, opening, adding, matching, writing, reading, Call, call}
 use Rattle.tables.specs.Tables.{Tables, lentOf}
 use Rattle.tables.specs.Beginning.{Within}
-use Rattle.replay.specs.Script.{State, lentBy, fitsIn, addingBy, matchingBy, writingBy, readingBy, askOf, asks}
-use Rattle.replay.specs.Script.{samplesOf, trailOf, sheetOf, stateAfter, made, Played, begun, playedOne, playedRow}
+use Rattle.replay.specs.Script.{State, lentBy, Taken, sizeOf, nextOf, aheadOf, Kind, openings, addings, matchings, writings, readings, kinds, kindAt}
+use Rattle.replay.specs.Script.{fitsIn, enough, ifEnough, playable, askedBy, asks, takenBy, stateAfter, made, Played, begun, playedOne, playedRow}
+use Rattle.replay.specs.declared.Cursor.{Cursor}
 use Rattle.replay.specs.Scripts.{Word, Mark, Sized, Possible, Long, Script}
 use Rattle.replay.proofs.ReadBack.{scriptOf, rows-of-script}
 use Rattle.replay.proofs.Asking.{isSample, isByte}
@@ -29,16 +31,108 @@ use Rattle.replay.proofs.Asking.{isSample, isByte}
 lengthsAnd : Lent → List ℕ → List ℕ
 lengthsAnd lent own = lent .control ∷ lent .samples ∷ lent .nodes ∷ lent .links ∷ lent .work ∷ own
 
+-- by the number of its kind and its own numbers
+record Row (ask : Ask) : Type 0 where
+  pub number : ℕ
+  pub own : List ℕ
+  pub kind : Kind
+  pub is-kind : kindAt kinds number ≡ some kind
+  pub takes-that : (lent : Lent) → kind .takes (number ∷ lengthsAnd lent own) ≡ sizeOf (takenBy ask)
+  pub asks-that : (lent : Lent) → kind .ask (number ∷ lengthsAnd lent own) (takenBy ask) ≡ ask
+  pub short : length own < 2 ^ 63
+  pub numbers-fit : Sized ask → All Word own
+  pub number-fits : Word number
+  pub samples-fit : Sized ask → All (λ z. T (isSample z)) (takenBy ask .samples)
+  pub marks-fit : Sized ask → All Mark (takenBy ask .trail)
+  pub bytes-fit : Sized ask → All (λ b. T (isByte b)) (takenBy ask .sheet)
+
+rowFor : (ask : Ask) → Row ask
+unfolding kindAt lengthsAnd takenBy Sized areBytes
+rowFor (opening m) = record {
+  number = 0;
+  own = m .n ∷ m .capacity ∷ m .leafSize ∷ [];
+  kind = openings;
+  is-kind = refl;
+  takes-that = λ lent. refl;
+  asks-that = λ lent. refl;
+  short = lit< tt;
+  numbers-fit = λ s. all-more (s .0) (all-more (s .1) (all-more (s .2) all-none));
+  number-fits = lit< tt;
+  samples-fit = λ s. all-none;
+  marks-fit = λ s. all-none;
+  bytes-fit = λ s. all-none;
+}
+rowFor (adding x) = record {
+  number = 1;
+  own = length x ∷ [];
+  kind = addings;
+  is-kind = refl;
+  takes-that = λ lent. refl;
+  asks-that = λ lent. refl;
+  short = lit< tt;
+  numbers-fit = λ s. all-more (s .1) all-none;
+  number-fits = lit< tt;
+  samples-fit = λ s. every-all isSample x (s .0);
+  marks-fit = λ s. all-none;
+  bytes-fit = λ s. all-none;
+}
+rowFor (matching x trail) = record {
+  number = 2;
+  own = length x ∷ length trail ∷ [];
+  kind = matchings;
+  is-kind = refl;
+  takes-that = λ lent. refl;
+  asks-that = λ lent. refl;
+  short = lit< tt;
+  numbers-fit = λ s. all-more (s .1) (all-more (s .3) all-none);
+  number-fits = lit< tt;
+  samples-fit = λ s. every-all isSample x (s .0);
+  marks-fit = λ s. s .2;
+  bytes-fit = λ s. all-none;
+}
+rowFor (writing sheet) = record {
+  number = 3;
+  own = length sheet ∷ [];
+  kind = writings;
+  is-kind = refl;
+  takes-that = λ lent. refl;
+  asks-that = λ lent. refl;
+  short = lit< tt;
+  numbers-fit = λ s. all-more (s .1) all-none;
+  number-fits = lit< tt;
+  samples-fit = λ s. all-none;
+  marks-fit = λ s. all-none;
+  bytes-fit = λ s. every-all isByte sheet (s .0);
+}
+rowFor (reading bytes) = record {
+  number = 4;
+  own = length bytes ∷ [];
+  kind = readings;
+  is-kind = refl;
+  takes-that = λ lent. refl;
+  asks-that = λ lent. refl;
+  short = lit< tt;
+  numbers-fit = λ s. all-more (s .1) all-none;
+  number-fits = lit< tt;
+  samples-fit = λ s. all-none;
+  marks-fit = λ s. all-none;
+  bytes-fit = λ s. every-all isByte bytes (s .0);
+}
+
 rowBy : Lent → Ask → List ℕ
-unfolding lengthsAnd
-rowBy lent (opening m) = 0 ∷ lengthsAnd lent (m .n ∷ m .capacity ∷ m .leafSize ∷ [])
-rowBy lent (adding x) = 1 ∷ lengthsAnd lent (length x ∷ [])
-rowBy lent (matching x trail) = 2 ∷ lengthsAnd lent (length x ∷ length trail ∷ [])
-rowBy lent (writing sheet) = 3 ∷ lengthsAnd lent (length sheet ∷ [])
-rowBy lent (reading bytes) = 4 ∷ lengthsAnd lent (length bytes ∷ [])
+rowBy lent ask = rowFor ask .number ∷ lengthsAnd lent (rowFor ask .own)
 
 abbrev rowOf : Call → List ℕ
 rowOf c = rowBy (c .lent) (c .ask)
+
+abbrev samplesOf : Ask → List ℤ
+samplesOf ask = takenBy ask .samples
+
+abbrev trailOf : Ask → List ℕ
+trailOf ask = takenBy ask .trail
+
+abbrev sheetOf : Ask → List ℕ
+sheetOf ask = takenBy ask .sheet
 
 -- what the calls of a list take, one behind another
 behind : {A : Type 0} → (Ask → List A) → List Call → List A
@@ -52,7 +146,8 @@ unfolding fitsIn
 within-fits lent lengths w =
     test-true (fitsIn lent lengths)
     (passes (leb (lent .control) (lengths .control))
-    (leb (lent .samples) (lengths .samples) ∷ leb (lent .nodes) (lengths .nodes) ∷ leb (lent .links) (lengths .links) ∷ leb (lent .work) (lengths .work) ∷ []) (
+    (leb (lent .samples) (lengths .samples) ∷ leb (lent .nodes) (lengths .nodes) ∷ leb (lent .links) (lengths .links) ∷ leb (lent .work)
+    (lengths .work) ∷ []) (
       le→leb (lent .control) (lengths .control) (w .control-within),
       (
         le→leb (lent .samples) (lengths .samples) (w .samples-within),
@@ -68,11 +163,7 @@ within-fits lent lengths w =
 
 lent-by : (lent : Lent) (ask : Ask) → lentBy (rowBy lent ask) ≡ lent
 unfolding rowBy lengthsAnd
-lent-by lent (opening m) = refl
-lent-by lent (adding x) = refl
-lent-by lent (matching x trail) = refl
-lent-by lent (writing sheet) = refl
-lent-by lent (reading bytes) = refl
+lent-by lent ask = refl
 
 module _ {A : Type 0} (x more all : List A) (e : all ≡ x ++ more) where
   there : leb (length x) (length all) ≡ true
@@ -86,51 +177,88 @@ module _ {A : Type 0} (x more all : List A) (e : all ≡ x ++ more) where
 
 -- what a call takes is next
 record Next (s : State) (ask : Ask) (pool : List ℤ) (trails sheets : List ℕ) : Type 0 where
-  pub samples-next : s .samples ≡ samplesOf ask ++ pool
-  pub trail-next : s .trails .ahead ≡ trailOf ask ++ trails
-  pub sheet-next : s .sheets .ahead ≡ sheetOf ask ++ sheets
+  pub samples-next : s .samples ≡ takenBy ask .samples ++ pool
+  pub trail-next : s .trails .ahead ≡ takenBy ask .trail ++ trails
+  pub sheet-next : s .sheets .ahead ≡ takenBy ask .sheet ++ sheets
 
-module _ (lent lengths : Lent) (w : Within lent lengths) (s : State) (pool : List ℤ) (trails sheets : List ℕ) where
-  asks-it : (ask : Ask) → Next s ask pool trails sheets → asks lengths (rowBy lent ask) s ≡ some ask
-  unfolding asks askOf addingBy matchingBy writingBy readingBy rowBy lengthsAnd samplesOf trailOf sheetOf fitsIn
-  asks-it (opening m) n = simp (within-fits lent lengths w)
-  asks-it (adding x) n =
-      simp (within-fits lent lengths w, there x pool (s .samples) (n .samples-next)) (ap (λ (l : List ℤ). some (adding l)) (the-next x pool (s .samples) (n .samples-next)))
-  asks-it (matching x trail) n =
-      simp (within-fits lent lengths w, there x pool (s .samples) (n .samples-next), there trail trails (s .trails .ahead) (n .trail-next))
-      (ap (λ (l : List ℤ). some (matching l (take (length trail) (s .trails .ahead)))) (the-next x pool (s .samples) (n .samples-next))
-      ∙ ap (λ (l : List ℕ). some (matching x l)) (the-next trail trails (s .trails .ahead) (n .trail-next)))
-  asks-it (writing sheet) n =
-      simp (within-fits lent lengths w, there sheet sheets (s .sheets .ahead) (n .sheet-next))
-      (ap (λ (l : List ℕ). some (writing l)) (the-next sheet sheets (s .sheets .ahead) (n .sheet-next)))
-  asks-it (reading bytes) n =
-      simp (within-fits lent lengths w, there bytes sheets (s .sheets .ahead) (n .sheet-next))
-      (ap (λ (l : List ℕ). some (reading l)) (the-next bytes sheets (s .sheets .ahead) (n .sheet-next)))
+module _ (lent lengths : Lent) (w : Within lent lengths) (s : State) (pool : List ℤ) (trails sheets : List ℕ) (ask : Ask) (n : Next s ask
+    pool trails sheets) where
+  abbrev x : Taken
+  x = takenBy ask
+
+  there-all : enough (sizeOf x) (aheadOf s) ≡ true
+  unfolding enough
+  there-all = simp (
+    there (x .samples) pool (s .samples) (n .samples-next),
+    there (x .trail) trails (s .trails .ahead) (n .trail-next),
+    there (x .sheet) sheets (s .sheets .ahead) (n .sheet-next),
+  )
+
+  the-next-all : nextOf (sizeOf x) s ≡ x
+  the-next-all = rw (
+    the-next (x .samples) pool (s .samples) (n .samples-next),
+    the-next (x .trail) trails (s .trails .ahead) (n .trail-next),
+    the-next (x .sheet) sheets (s .sheets .ahead) (n .sheet-next),
+  ) refl
+
+  is-playable : playable lengths (aheadOf s) (rowBy lent ask) ≡ some (rowFor ask .kind)
+  unfolding playable ifEnough rowBy lengthsAnd
+  is-playable =
+      let row = rowFor ask in
+      let numbers = row .number ∷ lengthsAnd lent (row .own) in
+      ap (λ (b : Bool). if b then ifEnough (kindAt kinds (row .number)) numbers (aheadOf s) else none) (within-fits lent lengths w)
+      ∙ (ap (λ (o : Option Kind). ifEnough o numbers (aheadOf s)) (row .is-kind)
+      ∙ (ap (λ (size : Cursor). if enough size (aheadOf s) then some (row .kind) else none) (row .takes-that lent)
+      ∙ ap (λ (b : Bool). if b then some (row .kind) else none) there-all))
+
+  asks-it : asks lengths (rowBy lent ask) s ≡ some ask
+  unfolding asks askedBy rowBy
+  asks-it =
+      let row = rowFor ask in
+      let numbers = rowBy lent ask in
+      let can : playable lengths (aheadOf s) numbers ≡ some (row .kind) = is-playable in
+      ap (λ (o : Option Kind). askedBy o numbers s) can
+      ∙ ap (λ (a : Ask). some a)
+      (ap (λ (size : Cursor). row .kind .ask numbers (nextOf size s)) (row .takes-that lent)
+      ∙ (ap (λ (y : Taken). row .kind .ask numbers y) the-next-all ∙ row .asks-that lent))
 
   -- and what is ahead then
-  leaves-rest : (ask : Ask) → Next s ask pool trails sheets
-      → (stateAfter (call lent ask) s .samples ≡ pool) × (stateAfter (call lent ask) s .trails .ahead ≡ trails) × (stateAfter (call lent ask) s .sheets .ahead ≡ sheets)
+  leaves-rest : (stateAfter (call lent ask) s .samples ≡ pool) × (stateAfter (call lent ask) s .trails .ahead
+      ≡ trails) × (stateAfter (call lent ask) s .sheets .ahead ≡ sheets)
   unfolding stateAfter
-  leaves-rest ask n =
-      (the-rest (samplesOf ask) pool (s .samples) (n .samples-next), the-rest (trailOf ask) trails (s .trails .ahead) (n .trail-next), the-rest (sheetOf ask) sheets (s .sheets .ahead) (n .sheet-next))
+  leaves-rest = (
+    the-rest (x .samples) pool (s .samples) (n .samples-next),
+    the-rest (x .trail) trails (s .trails .ahead) (n .trail-next),
+    the-rest
+        (x .sheet) sheets (s .sheets .ahead) (n .sheet-next),
+  )
 
 -- ---- all calls
 
 -- a row that asks for a call is that call, played
-row-played : (lengths : Lent) (c : Call) (p : Played) → asks lengths (rowOf c) (p .now) ≡ some (c .ask) → playedRow lengths p (rowOf c) ≡ playedOne (c .lent) (some (c .ask)) p
+row-played : (lengths : Lent) (c : Call) (p : Played) → asks lengths (rowOf c) (p .now) ≡ some (c .ask) → playedRow lengths p (rowOf c)
+    ≡ playedOne (c .lent) (some (c .ask)) p
 unfolding playedRow
 row-played lengths c p e =
-    ap (λ (o : Option Ask). playedOne (lentBy (rowOf c)) o p) e ∙ ap (λ (l : Lent). playedOne l (some (c .ask)) p) (lent-by (c .lent) (c .ask))
+    ap (λ (o : Option Ask). playedOne (lentBy (rowOf c)) o p) e
+    ∙ ap (λ (l : Lent). playedOne l (some (c .ask)) p) (lent-by (c .lent) (c .ask))
 
 asks-all : (lengths : Lent) (calls : List Call) (p : Played) → All (Possible lengths) calls
-    → p .now .samples ≡ behind samplesOf calls → p .now .trails .ahead ≡ behind trailOf calls → p .now .sheets .ahead ≡ behind sheetOf calls
+    → p .now .samples ≡ behind samplesOf calls → p .now .trails .ahead ≡ behind trailOf calls → p .now .sheets .ahead
+    ≡ behind sheetOf calls
     → foldl (playedRow lengths) p (map rowOf calls) .asked ≡ p .asked ++ calls
 unfolding behind playedOne made
 asks-all lengths [] p possible a b c = sym (append-nil (p .asked))
 asks-all lengths (q ∷ calls) p (all-more h others) a b c =
-    let next : Next (p .now) (q .ask) (behind samplesOf calls) (behind trailOf calls) (behind sheetOf calls) = record { samples-next = a; trail-next = b; sheet-next = c } in
-    let asked = asks-it (q .lent) lengths (h .within) (p .now) (behind samplesOf calls) (behind trailOf calls) (behind sheetOf calls) (q .ask) next in
-    let rest = leaves-rest (q .lent) lengths (h .within) (p .now) (behind samplesOf calls) (behind trailOf calls) (behind sheetOf calls) (q .ask) next in
+    let next : Next (p .now) (q .ask) (behind samplesOf calls) (behind trailOf calls) (behind sheetOf calls) = record {
+      samples-next = a;
+      trail-next = b;
+      sheet-next = c;
+    } in
+    let asked = asks-it (q .lent) lengths (h .within) (p .now) (behind samplesOf calls) (behind trailOf calls) (behind sheetOf calls) (q
+    .ask) next in
+    let rest = leaves-rest (q .lent) lengths (h .within) (p .now) (behind samplesOf calls) (behind trailOf calls) (behind sheetOf calls)
+    (q .ask) next in
     ap (λ (x : Played). foldl (playedRow lengths) x (map rowOf calls) .asked) (row-played lengths q p asked)
     ∙ (asks-all lengths calls (playedOne (q .lent) (some (q .ask)) p) others (rest .0) (rest .1) (rest .2)
     ∙ append-assoc (p .asked) (q ∷ []) calls)
@@ -154,50 +282,18 @@ module _ (lengths : Lent) (long : Long lengths) where
       (all-more (lt-of-le-of-lt (w .work-within) (long .work-long)) h))))
 
   row-fits : (lent : Lent) (ask : Ask) → Within lent lengths → Sized ask → All Word (rowBy lent ask)
-  unfolding rowBy Sized
-  row-fits lent (opening m) w s = all-more (lit< tt) (lengths-fit lent w _ (all-more (s .0) (all-more (s .1) (all-more (s .2) all-none))))
-  row-fits lent (adding x) w s = all-more (lit< tt) (lengths-fit lent w _ (all-more (s .1) all-none))
-  row-fits lent (matching x trail) w s = all-more (lit< tt) (lengths-fit lent w _ (all-more (s .1) (all-more (s .3) all-none)))
-  row-fits lent (writing sheet) w s = all-more (lit< tt) (lengths-fit lent w _ (all-more (s .1) all-none))
-  row-fits lent (reading bytes) w s = all-more (lit< tt) (lengths-fit lent w _ (all-more (s .1) all-none))
+  unfolding rowBy
+  row-fits lent ask w s = all-more (rowFor ask .number-fits) (lengths-fit lent w _ (rowFor ask .numbers-fit s))
 
   row-short : (lent : Lent) (ask : Ask) → Word (length (rowBy lent ask))
   unfolding rowBy lengthsAnd
-  row-short lent (opening m) = lit< tt
-  row-short lent (adding x) = lit< tt
-  row-short lent (matching x trail) = lit< tt
-  row-short lent (writing sheet) = lit< tt
-  row-short lent (reading bytes) = lit< tt
+  row-short lent ask = omega (arith, rowFor ask .short)
 
   script-fits : (calls : List Call) → All (Possible lengths) calls → All Word (scriptOf (map rowOf calls))
   unfolding scriptOf
   script-fits [] all-none = all-none
   script-fits (c ∷ calls) (all-more h others) =
       all-more (row-short (c .lent) (c .ask)) (all-append (row-fits (c .lent) (c .ask) (h .within) (h .sized)) (script-fits calls others))
-
-samples-fit : (ask : Ask) → Sized ask → All (λ z. T (isSample z)) (samplesOf ask)
-unfolding samplesOf Sized
-samples-fit (opening m) s = all-none
-samples-fit (adding x) s = every-all isSample x (s .0)
-samples-fit (matching x trail) s = every-all isSample x (s .0)
-samples-fit (writing sheet) s = all-none
-samples-fit (reading bytes) s = all-none
-
-marks-fit : (ask : Ask) → Sized ask → All Mark (trailOf ask)
-unfolding trailOf Sized
-marks-fit (opening m) s = all-none
-marks-fit (adding x) s = all-none
-marks-fit (matching x trail) s = s .2
-marks-fit (writing sheet) s = all-none
-marks-fit (reading bytes) s = all-none
-
-bytes-fit : (ask : Ask) → Sized ask → All (λ b. T (isByte b)) (sheetOf ask)
-unfolding sheetOf Sized areBytes
-bytes-fit (opening m) s = all-none
-bytes-fit (adding x) s = all-none
-bytes-fit (matching x trail) s = all-none
-bytes-fit (writing sheet) s = every-all isByte sheet (s .0)
-bytes-fit (reading bytes) s = every-all isByte bytes (s .0)
 
 -- ---- the lemma
 
@@ -215,10 +311,11 @@ every-list memory calls long possible =
       trails = trails;
       sheets = sheets;
       asks-them =
-          ap (λ (rows : List (List ℕ)). foldl (playedRow lengths) (begun memory pool trails sheets) rows .asked) (rows-of-script (map rowOf calls))
+          ap (λ (rows : List (List ℕ)). foldl (playedRow lengths) (begun memory pool trails sheets) rows .asked) (rows-of-script (map
+          rowOf calls))
           ∙ asks-all lengths calls (begun memory pool trails sheets) possible refl refl refl;
       numbers-fit = script-fits lengths long calls possible;
-      pool-fits = all-every isSample (behind-all lengths samplesOf (λ c h. samples-fit (c .ask) (h .sized)) calls possible);
-      trails-fit = behind-all lengths trailOf (λ c h. marks-fit (c .ask) (h .sized)) calls possible;
-      sheets-fit = all-every isByte (behind-all lengths sheetOf (λ c h. bytes-fit (c .ask) (h .sized)) calls possible);
+      pool-fits = all-every isSample (behind-all lengths samplesOf (λ c h. rowFor (c .ask) .samples-fit (h .sized)) calls possible);
+      trails-fit = behind-all lengths trailOf (λ c h. rowFor (c .ask) .marks-fit (h .sized)) calls possible;
+      sheets-fit = all-every isByte (behind-all lengths sheetOf (λ c h. rowFor (c .ask) .bytes-fit (h .sized)) calls possible);
     }

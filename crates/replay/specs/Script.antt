@@ -1,21 +1,25 @@
 -- A script: calls one behind another, each a row of numbers, with the samples, trails and sheets that they are lent. What a script asks for never depends
 -- on what was answered.
 use Prim.Native.Nat.{ℕ, zero, suc, _+_, _≤_}
-use mathlib.Core.Bool.{Bool, _&&_}
+use mathlib.Core.Path.{_≡_}
+use mathlib.Core.Bool.{Bool, true, false, _&&_}
 use mathlib.Core.Option.{Option, none, some}
 use mathlib.Core.List.{List, [], _∷_, _++_, map, flatten, foldl}
 use lib.IntN.{ℤ}
 use lib.ListN.{length, getD, take, drop}
-use lib.Dec.{leb, eqb}
+use lib.Dec.{leb}
 use Rattle.integer.specs.Words.{if_then_else_}
 use Rattle.dstree.specs.Measures.{measures}
 use Rattle.dstree.specs.Book.{Lent, Ask, opening, adding, matching, writing, reading, Call, call, Answer, Reply, reply}
 use Rattle.tables.specs.Tables.{Tables, lentOf}
+use Rattle.calls.specs.Effects.{outcomeOn}
 use Rattle.calls.specs.Follows.{outcomeIn}
 use Rattle.replay.specs.Numbers.{replyRow, withRow}
 use Rattle.replay.specs.declared.Lengths.{Lengths}
 use Rattle.replay.specs.declared.Cursor.{Cursor}
 use Rattle.replay.specs.declared.Turn.{Turn}
+use Rattle.replay.specs.declared.Wanted.{Wanted}
+use Rattle.replay.specs.declared.Plan.{Plan}
 
 -- ---- rows
 
@@ -34,7 +38,14 @@ abbrev pub numberAt : List ℕ → ℕ → ℕ
 numberAt row place = getD row place 0
 
 abbrev pub lentBy : List ℕ → Lent
-lentBy row = record { control = numberAt row 1; samples = numberAt row 2; nodes = numberAt row 3; links = numberAt row 4; work = numberAt row 5 }
+lentBy row = record {
+  control = numberAt row 1;
+  samples = numberAt row 2;
+  nodes = numberAt row 3;
+  links = numberAt row 4;
+  work = numberAt
+      row 5;
+}
 
 -- the lengths as code has them
 abbrev pub lengthsBy : Lengths → Lent
@@ -74,7 +85,8 @@ abbrev pub supplyAt : ℕ → List ℕ → Supply
 supplyAt place l = supply (take place l) (drop place l)
 
 abbrev pub stateAt : Tables → List ℤ → List ℕ → List ℕ → Cursor → State
-stateAt memory pool trails sheets at = state memory (drop (at .samples) pool) (supplyAt (at .trails) trails) (supplyAt (at .sheets) sheets)
+stateAt memory pool trails sheets at = state memory (drop (at .samples) pool) (supplyAt (at .trails) trails) (supplyAt (at .sheets)
+    sheets)
 
 -- no more is taken than there is
 pub record Inside (at : Cursor) (pool : List ℤ) (trails sheets : List ℕ) : Type 0 where
@@ -82,40 +94,80 @@ pub record Inside (at : Cursor) (pool : List ℤ) (trails sheets : List ℕ) : T
   pub trails-inside : at .trails ≤ length trails
   pub sheets-inside : at .sheets ≤ length sheets
 
+-- ---- what a row takes
+
+abbrev pub cursor : ℕ → ℕ → ℕ → Cursor
+cursor samples trails sheets = record { samples = samples; trails = trails; sheets = sheets }
+
+-- what a call takes of the samples, of the trails and of the sheets
+pub record Taken : Type 0 where
+  pub samples : List ℤ
+  pub trail : List ℕ
+  pub sheet : List ℕ
+
+abbrev pub taken : List ℤ → List ℕ → List ℕ → Taken
+taken samples trail sheet = record { samples = samples; trail = trail; sheet = sheet }
+
+-- how much that is
+abbrev pub sizeOf : Taken → Cursor
+sizeOf x = cursor (length (x .samples)) (length (x .trail)) (length (x .sheet))
+
+-- .. of the next that is ahead
+abbrev pub nextOf : Cursor → State → Taken
+nextOf size s = taken (take (size .samples) (s .samples)) (take (size .trails) (s .trails .ahead)) (take (size .sheets) (s .sheets
+    .ahead))
+
+-- how much is ahead
+abbrev pub aheadOf : State → Cursor
+aheadOf s = cursor (length (s .samples)) (length (s .trails .ahead)) (length (s .sheets .ahead))
+
+-- ---- the kinds of rows
+
+-- whether its calls change tables (and not search work alone); how much a row of this kind takes, by its numbers; and the call that it makes of that
+pub record Kind : Type 0 where
+  pub changes : Bool
+  pub takes : List ℕ → Cursor
+  pub ask : List ℕ → Taken → Ask
+
+-- an opening, of n, capacity and leaf size
+abbrev pub openings : Kind
+openings = record {
+  changes = true;
+  takes = λ row. cursor 0 0 0;
+  ask = λ row x. opening (measures (ownNumber row 0) (ownNumber row 1) (ownNumber row 2));
+}
+
+-- an adding of the next so many samples
+abbrev pub addings : Kind
+addings = record { changes = true; takes = λ row. cursor (ownNumber row 0) 0 0; ask = λ row x. adding (x .samples) }
+
+-- a match of the next so many samples, with a trail of the next so many places
+abbrev pub matchings : Kind
+matchings = record {
+  changes = false;
+  takes = λ row. cursor (ownNumber row 0) (ownNumber row 1) 0;
+  ask = λ row x. matching (x .samples)
+      (x .trail);
+}
+
+-- a writing to a sheet of the next so many bytes
+abbrev pub writings : Kind
+writings = record { changes = false; takes = λ row. cursor 0 0 (ownNumber row 0); ask = λ row x. writing (x .sheet) }
+
+-- a reading of a sheet of the next so many bytes
+abbrev pub readings : Kind
+readings = record { changes = true; takes = λ row. cursor 0 0 (ownNumber row 0); ask = λ row x. reading (x .sheet) }
+
+-- a row's first number is its kind's place here
+abbrev pub kinds : List Kind
+kinds = openings ∷ addings ∷ matchings ∷ writings ∷ readings ∷ []
+
+unfoldable pub kindAt : List Kind → ℕ → Option Kind
+kindAt [] n = none
+kindAt (k ∷ others) zero = some k
+kindAt (k ∷ others) (suc n) = kindAt others n
+
 -- ---- the call that a row asks for
-
--- 0: an opening, of n, capacity and leaf size
-abbrev pub openingBy : List ℕ → Ask
-openingBy row = opening (measures (ownNumber row 0) (ownNumber row 1) (ownNumber row 2))
-
--- 1: an adding of the next so many samples, if there are as many
-unfoldable pub addingBy : List ℕ → State → Option Ask
-addingBy row s = if leb (ownNumber row 0) (length (s .samples)) then some (adding (take (ownNumber row 0) (s .samples))) else none
-
--- 2: a match of the next so many samples, with a trail of the next so many places
-unfoldable pub matchingBy : List ℕ → State → Option Ask
-matchingBy row s =
-    if leb (ownNumber row 0) (length (s .samples)) && leb (ownNumber row 1) (length (s .trails .ahead))
-    then some (matching (take (ownNumber row 0) (s .samples)) (take (ownNumber row 1) (s .trails .ahead)))
-    else none
-
--- 3: a writing to a sheet of the next so many bytes
-unfoldable pub writingBy : List ℕ → State → Option Ask
-writingBy row s = if leb (ownNumber row 0) (length (s .sheets .ahead)) then some (writing (take (ownNumber row 0) (s .sheets .ahead))) else none
-
--- 4: a reading of a sheet of the next so many bytes
-unfoldable pub readingBy : List ℕ → State → Option Ask
-readingBy row s = if leb (ownNumber row 0) (length (s .sheets .ahead)) then some (reading (take (ownNumber row 0) (s .sheets .ahead))) else none
-
--- by the row's first number. Nothing is asked for by another one, nor where more is asked for than is ahead
-unfoldable pub askOf : List ℕ → State → Option Ask
-askOf row s =
-    if eqb (numberAt row 0) 0 then some (openingBy row)
-    else (if eqb (numberAt row 0) 1 then addingBy row s
-    else (if eqb (numberAt row 0) 2 then matchingBy row s
-    else (if eqb (numberAt row 0) 3 then writingBy row s
-    else (if eqb (numberAt row 0) 4 then readingBy row s
-    else none))))
 
 -- no table is lent longer than it is
 unfoldable pub fitsIn : Lent → Lent → Bool
@@ -126,50 +178,68 @@ fitsIn lent lengths =
     && leb (lent .links) (lengths .links)
     && leb (lent .work) (lengths .work)
 
+-- no more is taken than is ahead
+unfoldable pub enough : Cursor → Cursor → Bool
+enough size ahead =
+    leb (size .samples) (ahead .samples)
+    && leb (size .trails) (ahead .trails)
+    && leb (size .sheets) (ahead .sheets)
+
+-- what a row takes that is of this kind, if there is as much
+unfoldable pub takesOf : Option Kind → List ℕ → Option Cursor
+takesOf none row = none
+takesOf (some k) row = some (k .takes row)
+
+unfoldable pub ifEnough : Option Kind → List ℕ → Cursor → Option Kind
+ifEnough none row ahead = none
+ifEnough (some k) row ahead = if enough (k .takes row) ahead then some k else none
+
+-- the kind of a row that can be played. A row of no kind cannot, nor one that lends more than there is or takes more than is ahead
+unfoldable pub playable : Lent → Cursor → List ℕ → Option Kind
+playable lengths ahead row = if fitsIn (lentBy row) lengths then ifEnough (kindAt kinds (numberAt row 0)) row ahead else none
+
+unfoldable pub askedBy : Option Kind → List ℕ → State → Option Ask
+askedBy none row s = none
+askedBy (some k) row s = some (k .ask row (nextOf (k .takes row) s))
+
 unfoldable pub asks : Lent → List ℕ → State → Option Ask
-asks lengths row s = if fitsIn (lentBy row) lengths then askOf row s else none
+asks lengths row s = askedBy (playable lengths (aheadOf s) row) row s
+
+-- how much is taken behind such a row
+abbrev pub moved : Cursor → Cursor → Cursor
+moved at size = cursor (at .samples + size .samples) (at .trails + size .trails) (at .sheets + size .sheets)
+
+unfoldable pub movedBy : Option Kind → List ℕ → Cursor → Option Cursor
+movedBy none row at = none
+movedBy (some k) row at = some (moved at (k .takes row))
+
+-- .. as code has it
+abbrev pub wantedBy : Wanted → Option Cursor
+wantedBy r = if r .known then some (r .size) else none
+
+abbrev pub plannedBy : Plan → Option Cursor
+plannedBy r = if r .made then some (r .to) else none
 
 -- ---- what a call leaves
 
 abbrev pub replyIn : Call → Tables → Reply
 replyIn c memory = reply (outcomeIn c memory .answer) (outcomeIn c memory .beside)
 
--- what a call takes of the samples, of the trails and of the sheets
-unfoldable pub samplesOf : Ask → List ℤ
-samplesOf (opening m) = []
-samplesOf (adding x) = x
-samplesOf (matching query trail) = query
-samplesOf (writing sheet) = []
-samplesOf (reading bytes) = []
+-- what a call takes
+unfoldable pub takenBy : Ask → Taken
+takenBy (opening m) = taken [] [] []
+takenBy (adding x) = taken x [] []
+takenBy (matching query trail) = taken query trail []
+takenBy (writing sheet) = taken [] [] sheet
+takenBy (reading bytes) = taken [] [] bytes
 
-unfoldable pub trailOf : Ask → List ℕ
-trailOf (opening m) = []
-trailOf (adding x) = []
-trailOf (matching query trail) = trail
-trailOf (writing sheet) = []
-trailOf (reading bytes) = []
-
-unfoldable pub sheetOf : Ask → List ℕ
-sheetOf (opening m) = []
-sheetOf (adding x) = []
-sheetOf (matching query trail) = []
-sheetOf (writing sheet) = sheet
-sheetOf (reading bytes) = bytes
-
--- .. and how it leaves the places of trails and sheets that it took, by what it leaves beside the tables
-unfoldable pub trailLeft : Ask → List (List ℕ) → List ℕ
-trailLeft (opening m) beside = []
-trailLeft (adding x) beside = []
-trailLeft (matching query trail) beside = flatten beside
-trailLeft (writing sheet) beside = []
-trailLeft (reading bytes) beside = []
-
-unfoldable pub sheetLeft : Ask → List (List ℕ) → List ℕ
-sheetLeft (opening m) beside = []
-sheetLeft (adding x) beside = []
-sheetLeft (matching query trail) beside = []
-sheetLeft (writing sheet) beside = flatten beside
-sheetLeft (reading bytes) beside = bytes
+-- .. and how it leaves that, by what it leaves beside the tables
+unfoldable pub leftBy : Ask → List (List ℕ) → Taken
+leftBy (opening m) beside = taken [] [] []
+leftBy (adding x) beside = taken x [] []
+leftBy (matching query trail) beside = taken query (flatten beside) []
+leftBy (writing sheet) beside = taken [] [] (flatten beside)
+leftBy (reading bytes) beside = taken [] [] bytes
 
 -- the places that a call took are used, as it left them
 abbrev pub used : Supply → List ℕ → List ℕ → Supply
@@ -178,10 +248,29 @@ used s taken left = supply (s .used ++ left) (drop (length taken) (s .ahead))
 unfoldable pub stateAfter : Call → State → State
 stateAfter c s =
     let o = outcomeIn c (s .memory) in
-    state (o .after)
-    (drop (length (samplesOf (c .ask))) (s .samples))
-    (used (s .trails) (trailOf (c .ask)) (trailLeft (c .ask) (o .beside)))
-    (used (s .sheets) (sheetOf (c .ask)) (sheetLeft (c .ask) (o .beside)))
+    let x = takenBy (c .ask) in
+    let y = leftBy (c .ask) (o .beside) in
+    state (o .after) (drop (length (x .samples)) (s .samples)) (used (s .trails) (x .trail) (y .trail)) (used (s .sheets) (x .sheet) (y
+    .sheet))
+
+-- a call that is lent all that it takes: the numbers of its reply, and what it leaves
+pub record Called : Type 0 where
+  pub told : List ℕ
+  pub after : Tables
+  pub left : Taken
+
+abbrev pub called : List ℕ → Tables → Taken → Called
+called told after left = record { told = told; after = after; left = left }
+
+abbrev pub calledBy : Ask → Tables → Called
+calledBy ask t =
+    let o = outcomeOn ask t in
+    called (replyRow (o .answer)) (o .after) (leftBy ask (o .beside))
+
+-- .. as a row makes it that has this number, and whose kind changes tables or does not
+abbrev pub Plays : Bool → ℕ → List ℕ → Taken → Tables → Called → Type 0
+Plays changes number row x t c = (k : Kind) → kindAt kinds number ≡ some k → k .changes ≡ changes → sizeOf x ≡ k .takes row → c
+    ≡ calledBy (k .ask row x) t
 
 -- a row that is played: the numbers of the call's reply, if a call is made, and the state after it
 pub record Turned : Type 0 where

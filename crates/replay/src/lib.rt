@@ -1,9 +1,11 @@
 // Scripts of calls, played on lent tables.
 
-pub mod rows; // the numbers of a call
+pub mod rows; // the numbers of a row
+pub mod plans; // how much a row takes, and whether it can be played
 pub mod replies; // the numbers of a reply
-pub mod playing; // a call of each kind
-pub mod turns; // the call that a row asks for
+pub mod changes; // kinds whose calls change tables
+pub mod asks; // the other kinds
+pub mod turns; // a row, played
 
 use crate::replies::tell;
 use crate::rows::row_end;
@@ -16,7 +18,7 @@ ghost use Rattle.replay.specs.Numbers.{repliesLaid};
 ghost use Rattle.replay.specs.Script.{answersOf, played, whole};
 ghost use Rattle.replay.specs.Demanded.{Demanded};
 
-// The lengths of the five tables that a call is lent.
+// The lengths of the five tables, or of what a call is lent of them.
 pub struct Lengths {
     pub control: usize,
     pub samples: usize,
@@ -25,11 +27,23 @@ pub struct Lengths {
     pub work: usize,
 }
 
-// How much of the samples, the trails and the sheets the calls have taken.
+// How much of the samples, the trails and the sheets: what calls have taken, what a row takes, or all that there is.
 pub struct Cursor {
     pub samples: usize,
     pub trails: usize,
     pub sheets: usize,
+}
+
+// How much a row takes, if it is of a kind.
+pub struct Wanted {
+    pub known: bool,
+    pub size: Cursor,
+}
+
+// Whether a row can be played, and how much is taken then.
+pub struct Plan {
+    pub made: bool,
+    pub to: Cursor,
 }
 
 // What playing a row comes to: whether a call was made; its reply as numbers, which are 0 or the refusal's number, then the answer's values or the

@@ -1,24 +1,13 @@
 // The numbers of a reply.
 
 use crate::Turn;
-use adding::Added;
-use matching::Found;
-use opening::Opened;
-use sheet_reading::Read;
-use sheet_writing::Written;
 use tables::Refusal;
 use tables::answers::number;
 use tables::answers::place;
-ghost use mathlib.Core.List.{List};
 ghost use Rattle.dstree.specs.Book.{refusing};
 ghost use Rattle.tables.specs.Answers.{wordOf};
-ghost use Rattle.opening.specs.Opened as opened;
-ghost use Rattle.adding.specs.Answered as added;
-ghost use Rattle.matching.specs.Answered as matched;
-ghost use Rattle.sheet_writing.specs.Answered as writing;
-ghost use Rattle.sheet_reading.specs.Answered as reading;
 ghost use mathlib.Core.Path.{_≡_};
-ghost use Prim.Native.Nat.{ℕ, _+_, _^_, _≤_, _<_};
+ghost use Prim.Native.Nat.{_+_, _^_, _≤_, _<_};
 ghost use lib.ListN.{length};
 ghost use lib.Seq.{paste};
 ghost use Rattle.replay.specs.Numbers.{withRow, replyRow};
@@ -61,57 +50,9 @@ pub fn tell(replies: &mut [u64], k: usize, turn: Turn) -> usize
     k + 1
 }
 
-// ---- answers as numbers
-
-fn of_refusal(why: Refusal) -> [u64; 5]
+// A refusal, as numbers.
+pub fn of_refusal(why: Refusal) -> [u64; 5]
     ensures { λ r. ⌜ r ≡ replyRow (refusing (wordOf why)) ⌝ }
 {
     [number(why), place(why), 0, 0, 0]
-}
-
-pub fn of_opened(answer: Opened) -> [u64; 5]
-    ensures { λ r. ⌜ r ≡ replyRow (opened.answerOf answer) ⌝ }
-{
-    match answer {
-        Opened::Done => [0; 5],
-        Opened::Refused(why) => of_refusal(why),
-    }
-}
-
-pub fn of_added(answer: Added) -> [u64; 5]
-    ensures { λ r. ⌜ r ≡ replyRow (added.answerOf answer) ⌝ }
-{
-    match answer {
-        Added::At(trace) => [0, trace, 0, 0, 0],
-        Added::Refused(why) => of_refusal(why),
-    }
-}
-
-// The trail is told by the slice that the match leaves it in, so that any list may stand for it here.
-pub fn of_found(answer: Found) -> [u64; 5]
-    ensures { λ r. ⌜ ((trail : List ℕ) → r ≡ replyRow (matched.answerBy answer trail)) ⌝ }
-{
-    match answer {
-        Found::At(trace, distance, leaves, traces) => [0, trace, distance, leaves, traces],
-        Found::Refused(why) => of_refusal(why),
-    }
-}
-
-// The sheet is told by the slice that the writing leaves it in.
-pub fn of_written(answer: Written) -> [u64; 5]
-    ensures { λ r. ⌜ ((sheet : List ℕ) → r ≡ replyRow (writing.answerBy answer sheet)) ⌝ }
-{
-    match answer {
-        Written::Blocks(count) => [0, count, 0, 0, 0],
-        Written::Refused(why) => of_refusal(why),
-    }
-}
-
-pub fn of_read(answer: Read) -> [u64; 5]
-    ensures { λ r. ⌜ r ≡ replyRow (reading.answerOf answer) ⌝ }
-{
-    match answer {
-        Read::Done => [0; 5],
-        Read::Refused(why) => of_refusal(why),
-    }
 }

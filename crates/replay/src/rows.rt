@@ -1,11 +1,11 @@
-// The numbers of a call.
+// The numbers of a row.
 
 use crate::Lengths;
 ghost use mathlib.Core.Path.{_≡_};
 ghost use mathlib.Core.List.{_∷_};
 ghost use Prim.Native.Nat.{_+_, _-_, _≤_, _<_};
 ghost use lib.ListN.{length, take, drop};
-ghost use Rattle.replay.specs.Script.{rowsOf, numberAt, lentBy, lengthsBy, fitsIn};
+ghost use Rattle.replay.specs.Script.{rowsOf, numberAt, lentBy, lengthsBy};
 
 // A number as a length: both have 64 bits.
 pub fn places(x: u64) -> usize
@@ -32,35 +32,6 @@ pub fn lengths(row: &[u64]) -> Lengths
         links: places(number(row, 4)),
         work: places(number(row, 5)),
     }
-}
-
-// No table is lent longer than it is.
-pub fn fits(
-    control: usize,
-    samples: usize,
-    nodes: usize,
-    links: usize,
-    work: usize,
-    lent: Lengths,
-) -> bool
-    ensures { λ r. ⌜ r ≡ fitsIn (lengthsBy lent) (record { control = control; samples = samples; nodes = nodes; links = links; work = work }) ⌝ }
-{
-    if control < lent.control {
-        return false;
-    }
-    if samples < lent.samples {
-        return false;
-    }
-    if nodes < lent.nodes {
-        return false;
-    }
-    if links < lent.links {
-        return false;
-    }
-    if work < lent.work {
-        return false;
-    }
-    true
 }
 
 // Where the row ends whose length stands at a place: at the script's end, if it says that it is longer than what is left.

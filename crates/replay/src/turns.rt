@@ -1,112 +1,133 @@
-// The call that a row asks for.
+// A row, played: planned, then lent what it takes.
 
 use crate::Cursor;
 use crate::Lengths;
 use crate::Turn;
-use crate::playing::no_call;
-use crate::playing::play_add;
-use crate::playing::play_match;
-use crate::playing::play_open;
-use crate::playing::play_read;
-use crate::playing::play_write;
-use crate::rows::fits;
+use crate::asks;
+use crate::changes;
+use crate::plans;
 use crate::rows::lengths;
 use crate::rows::number;
 ghost use mathlib.Core.Path.{_≡_};
-ghost use mathlib.Core.Logic.{_⊎_};
-ghost use mathlib.Core.List.{List};
-ghost use Prim.Native.Nat.{ℕ, _≤_};
-ghost use lib.ListN.{length};
+ghost use mathlib.Core.Option.{some};
+ghost use mathlib.Core.List.{[], _∷_};
+ghost use mathlib.Core.Bool.{Bool, false};
 ghost use Rattle.tables.specs.Tables.{tables, lentOf};
-ghost use Rattle.tables.specs.Beginning.{Within};
-ghost use Rattle.replay.specs.Script.{numberAt, lentBy, lengthsBy, stateAt, Inside, askOf, asks, made, turnOf};
+ghost use Rattle.replay.specs.Script.{lentBy, stateAt, Inside, taken, aheadOf, playable, asks, movedBy};
+ghost use Rattle.replay.specs.Script.{called, Plays, turned, made, turnOf};
 
-// A call that changes tables: opening, adding, reading. (A row with another number asks for nothing.)
-fn change(
+// A row that makes no call takes nothing.
+fn no_call(at: Cursor) -> Turn
+    ensures { λ r. ⌜ r ≡ record { made = false; told = 0 ∷ 0 ∷ 0 ∷ 0 ∷ 0 ∷ []; at = at } ⌝ }
+{
+    Turn {
+        made: false,
+        told: [0; 5],
+        at: at,
+    }
+}
+
+// A row of any kind, lent the tables and all that it takes.
+fn call(
     control: &mut [u16],
     samples: &mut [i16],
     nodes: &mut [i64],
     links: &mut [u16],
     work: &mut [u64],
-    sheets: &[u8],
-    pool: &[i16],
+    trail: &mut [u16],
+    sheet: &mut [u8],
+    query: &[i16],
     row: &[u64],
-    lent: Lengths,
-    at: Cursor,
-) -> Turn
-    requires { ⌜ (lengthsBy lent ≡ lentBy (now row)) × Within (lengthsBy lent) (lentOf (tables (now control) (now samples) (now nodes) (now links) (now work)))
-        × (at .samples ≤ length (now pool)) × (at .sheets ≤ length (now sheets)) ⌝ }
-    requires { ⌜ (numberAt (now row) 0 ≡ 2 → ⊥) × (numberAt (now row) 0 ≡ 3 → ⊥) ⌝ }
-    ensures { λ r. ⌜ ((trails : List ℕ) → turnOf r
+    kind: u64,
+) -> [u64; 5]
+    ensures { λ r. ⌜ ((changes : Bool) → Plays changes kind (now (row .entry)) (taken (now (query .entry)) (now (trail .entry)) (now (sheet .entry)))
+        (tables (now (control .entry)) (now (samples .entry)) (now (nodes .entry)) (now (links .entry)) (now (work .entry)))
+        (called r
         (tables (now (control .exit)) (now (samples .exit)) (now (nodes .exit)) (now (links .exit)) (now (work .exit)))
-        (now (pool .entry)) trails (now (sheets .entry))
-        ≡ made (lentBy (now (row .entry))) (askOf (now (row .entry)) (stateAt
-        (tables (now (control .entry)) (now (samples .entry)) (now (nodes .entry)) (now (links .entry)) (now (work .entry)))
-        (now (pool .entry)) trails (now (sheets .entry)) at)) (stateAt
-        (tables (now (control .entry)) (now (samples .entry)) (now (nodes .entry)) (now (links .entry)) (now (work .entry)))
-        (now (pool .entry)) trails (now (sheets .entry)) at))
-        × ((trails : List ℕ) → at .trails ≤ length trails → Inside (r .at) (now (pool .entry)) trails (now (sheets .entry))) ⌝ }
+        (taken (now (query .entry)) (now (trail .exit)) (now (sheet .exit))))) ⌝ }
 {
-    let kind = number(row, 0);
-    if kind == 0 {
-        return play_open(control, samples, nodes, links, work, row, lent, at);
-    }
-    if kind == 1 {
-        return play_add(control, samples, nodes, links, work, pool, row, lent, at);
-    }
-    if kind == 4 {
-        return play_read(control, samples, nodes, links, work, sheets, row, lent, at);
-    }
-    no_call(at)
-}
-
-// A call that changes no table but search work: a match, a writing.
-fn ask(
-    control: &[u16],
-    samples: &[i16],
-    nodes: &[i64],
-    links: &[u16],
-    work: &mut [u64],
-    trails: &mut [u16],
-    sheets: &mut [u8],
-    pool: &[i16],
-    row: &[u64],
-    lent: Lengths,
-    at: Cursor,
-) -> Turn
-    requires { ⌜ (lengthsBy lent ≡ lentBy (now row)) × Within (lengthsBy lent) (lentOf (tables (now control) (now samples) (now nodes) (now links) (now work)))
-        × Inside at (now pool) (now trails) (now sheets) ⌝ }
-    requires { ⌜ (numberAt (now row) 0 ≡ 2) ⊎ (numberAt (now row) 0 ≡ 3) ⌝ }
-    ensures { λ r. ⌜ (turnOf r
-        (tables (now (control .entry)) (now (samples .entry)) (now (nodes .entry)) (now (links .entry)) (now (work .exit)))
-        (now (pool .entry)) (now (trails .exit)) (now (sheets .exit))
-        ≡ made (lentBy (now (row .entry))) (askOf (now (row .entry)) (stateAt
-        (tables (now (control .entry)) (now (samples .entry)) (now (nodes .entry)) (now (links .entry)) (now (work .entry)))
-        (now (pool .entry)) (now (trails .entry)) (now (sheets .entry)) at)) (stateAt
-        (tables (now (control .entry)) (now (samples .entry)) (now (nodes .entry)) (now (links .entry)) (now (work .entry)))
-        (now (pool .entry)) (now (trails .entry)) (now (sheets .entry)) at))
-        × Inside (r .at) (now (pool .entry)) (now (trails .entry)) (now (sheets .entry)) ⌝ }
-{
-    let kind = number(row, 0);
-    if kind == 2 {
-        return play_match(
+    if plans::changes(kind) {
+        return changes::play(
             control,
             samples,
             nodes,
             links,
             work,
-            trails,
-            pool,
+            sheet,
+            query,
             row,
-            lent,
-            at,
+            kind,
         );
     }
-    play_write(control, samples, nodes, links, work, sheets, row, lent, at)
+    asks::play(
+        control,
+        samples,
+        nodes,
+        links,
+        work,
+        trail,
+        sheet,
+        query,
+        row,
+        kind,
+    )
 }
 
-// One row of a script. A row whose lengths exceed the tables, that asks for more than is ahead, or that has another first number makes no call and takes
-// nothing.
+// A row that can be played is lent the first so many places of each table, and the next so many samples, places of a trail and bytes of a sheet.
+fn lend(
+    control: &mut [u16],
+    samples: &mut [i16],
+    nodes: &mut [i64],
+    links: &mut [u16],
+    work: &mut [u64],
+    trails: &mut [u16],
+    sheets: &mut [u8],
+    pool: &[i16],
+    row: &[u64],
+    at: Cursor,
+    to: Cursor,
+) -> [u64; 5]
+    requires { ⌜ Inside at (now pool) (now trails) (now sheets) ⌝ }
+    requires { ⌜ some to ≡ movedBy (playable (lentOf (tables (now control) (now samples) (now nodes) (now links) (now work)))
+        (aheadOf (stateAt (tables (now control) (now samples) (now nodes) (now links) (now work)) (now pool) (now trails) (now sheets) at)) (now row)) (now row) at ⌝ }
+    ensures { λ r. ⌜ turned (some r) (stateAt
+        (tables (now (control .exit)) (now (samples .exit)) (now (nodes .exit)) (now (links .exit)) (now (work .exit)))
+        (now (pool .entry)) (now (trails .exit)) (now (sheets .exit)) to)
+        ≡ made (lentBy (now (row .entry))) (asks (lentOf
+        (tables (now (control .entry)) (now (samples .entry)) (now (nodes .entry)) (now (links .entry)) (now (work .entry)))) (now (row .entry)) (stateAt
+        (tables (now (control .entry)) (now (samples .entry)) (now (nodes .entry)) (now (links .entry)) (now (work .entry)))
+        (now (pool .entry)) (now (trails .entry)) (now (sheets .entry)) at)) (stateAt
+        (tables (now (control .entry)) (now (samples .entry)) (now (nodes .entry)) (now (links .entry)) (now (work .entry)))
+        (now (pool .entry)) (now (trails .entry)) (now (sheets .entry)) at) ⌝ }
+{
+    let kind = number(row, 0);
+    let lent = lengths(row);
+    let c = lent.control;
+    let s = lent.samples;
+    let n = lent.nodes;
+    let l = lent.links;
+    let w = lent.work;
+    let first_sample = at.samples;
+    let last_sample = to.samples;
+    let first_mark = at.trails;
+    let last_mark = to.trails;
+    let first_byte = at.sheets;
+    let last_byte = to.sheets;
+    call(
+        &mut control[..c],
+        &mut samples[..s],
+        &mut nodes[..n],
+        &mut links[..l],
+        &mut work[..w],
+        &mut trails[first_mark..last_mark],
+        &mut sheets[first_byte..last_byte],
+        &pool[first_sample..last_sample],
+        row,
+        kind,
+    )
+}
+
+// One row of a script. A row that cannot be played makes no call and takes nothing.
 pub fn turn(
     control: &mut [u16],
     samples: &mut [i16],
@@ -131,59 +152,39 @@ pub fn turn(
         (now (pool .entry)) (now (trails .entry)) (now (sheets .entry)) at))
         × Inside (r .at) (now (pool .entry)) (now (trails .entry)) (now (sheets .entry)) ⌝ }
 {
-    let lent = lengths(row);
-    let within = fits(
-        control.len(),
-        samples.len(),
-        nodes.len(),
-        links.len(),
-        work.len(),
-        lent,
-    );
-    if !within {
+    let lent = Lengths {
+        control: control.len(),
+        samples: samples.len(),
+        nodes: nodes.len(),
+        links: links.len(),
+        work: work.len(),
+    };
+    let all = Cursor {
+        samples: pool.len(),
+        trails: trails.len(),
+        sheets: sheets.len(),
+    };
+    let planned = plans::plan(row, lent, at, all);
+    if !planned.made {
         return no_call(at);
     }
-    let kind = number(row, 0);
-    if kind == 2 {
-        return ask(
-            control,
-            samples,
-            nodes,
-            links,
-            work,
-            trails,
-            sheets,
-            pool,
-            row,
-            lent,
-            at,
-        );
-    }
-    if kind == 3 {
-        return ask(
-            control,
-            samples,
-            nodes,
-            links,
-            work,
-            trails,
-            sheets,
-            pool,
-            row,
-            lent,
-            at,
-        );
-    }
-    change(
+    let to = planned.to;
+    let told = lend(
         control,
         samples,
         nodes,
         links,
         work,
+        trails,
         sheets,
         pool,
         row,
-        lent,
         at,
-    )
+        to,
+    );
+    Turn {
+        made: true,
+        told: told,
+        at: to,
+    }
 }

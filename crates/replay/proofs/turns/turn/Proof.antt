@@ -1,157 +1,98 @@
--- `replay::turns::turn` meets its contract: the lengths, then the call that the row asks for.
+-- `replay::turns::turn` meets its contract: a row that cannot be played takes nothing, another is lent what it takes.
+use Prim.Native.Nat.{_-_}
 use mathlib.Core.Path.{_≡_, sym, ap, subst, _∙_}
-use mathlib.Core.Option.{Option}
-use mathlib.Core.Bool.{true, false}
-use mathlib.Core.Logic.{inl, inr}
+use mathlib.Core.Bool.{true}
+use mathlib.Core.Option.{some}
+use lib.ListN.{length}
 use borrow.Author.Tests.{not-true, not-false}
 use denote.Ref.{now}
-use borrow.Author.Needs.{needs}
-use Rattle.dstree.specs.Book.{Lent, Ask}
 use Rattle.tables.specs.Tables.{Tables, tables, lentOf}
-use Rattle.replay.specs.Script.{lentBy, lengthsBy, fitsIn, State, stateAt, Inside, made}
-use Rattle.replay.proofs.Asking.{fits-within, asks-not, asks-it}
-use Rattle.replay.proofs.Moves.{none-is}
+use Rattle.replay.specs.declared.Cursor.{Cursor}
+use Rattle.replay.specs.declared.Turn.{Turn}
+use Rattle.replay.specs.Script.{lentBy, State, stateAt, Inside, cursor, aheadOf, playable, movedBy}
+use Rattle.replay.proofs.Asking.{moved-is, asks-not, planned-some, planned-none}
+use Rattle.replay.proofs.Moves.{none-is, ahead-is, inside-then}
 use Rattle.replay.proofs.turns.turn.Statement.{statement}
 use Rattle.replay.proofs.turns.turn.Tie as tie
-use Rattle.replay.specs.declared.Turn.{Turn}
+
+-- what is planned on the slices as they are
+module _ (k : tie.After-plan) where
+  abbrev s : tie.Start
+  s = k .before .before .before .before .before .before .before
+
+  abbrev memory : Tables
+  memory = tables (now (s .args .control)) (now (s .args .samples)) (now (s .args .nodes)) (now (s .args .links)) (now (s .args .work))
+
+  abbrev here : State
+  here = stateAt memory (now (s .args .pool)) (now (s .args .trails)) (now (s .args .sheets)) (s .args .at)
+
+  abbrev ends : Cursor
+  ends = cursor (length (now (s .args .pool)) - s .args .at .samples) (length (now (s .args .trails)) - s .args .at .trails) (length (now
+      (s .args .sheets)) - s .args .at .sheets)
+
+  plan-ahead : movedBy (playable (lentOf memory) ends (now (s .args .row))) (now (s .args .row)) (s .args .at)
+      ≡ movedBy (playable (lentOf memory) (aheadOf here) (now (s .args .row))) (now (s .args .row)) (s .args .at)
+  plan-ahead = ap (λ (z : Cursor). movedBy (playable (lentOf memory) z (now (s .args .row))) (now (s .args .row)) (s .args .at))
+      (ahead-is memory (now (s .args .pool)) (now (s .args .trails)) (now (s .args .sheets)) (s .args .at))
+
+  going : k .plan .result .made ≡ true → some (k .plan .result .to)
+      ≡ movedBy (playable (lentOf memory) (aheadOf here) (now (s .args .row))) (now (s .args .row)) (s .args .at)
+  going e = sym (planned-some (k .plan .result) e) ∙ (k .plan .ensures ∙ plan-ahead)
 
 returns : tie.Need-returns
 returns c =
-    let s = c .before .before .before .before .before .before .before .before .before .before in
-    let a = s .args in
-    let row = now (a .row) in
-    let memory : Tables = tables (now (a .control)) (now (a .samples)) (now (a .nodes)) (now (a .links)) (now (a .work)) in
+    let a = c .before .before .before .before .before .before .before .before .before .before .args in
+    let k = c .before .before .before in
     let e = c .no-call .ensures in
-    let beyond : fitsIn (lentBy row) (lentOf memory) ≡ false =
-    sym (ap (λ (l : Lent). fitsIn l (lentOf memory)) (c .before .before .before .lengths .ensures))
-    ∙ (sym (c .before .before .fits2 .ensures) ∙ not-true (c .before .before .fits2 .result) (c .before .if1 .taken)) in (
-      none-is _ (a .at) e (lentBy row) memory (now (a .pool)) (now (a .trails)) (now (a .sheets)) _ (asks-not (lentOf memory) row _ beyond),
-      subst (λ (r : Turn). Inside (r .at) (now (a .pool)) (now (a .trails)) (now (a .sheets))) (sym e) (s .pre),
+    let not-made = not-true (k .plan .result .made) (c .before .if1 .taken) in
+    let nothing = sym (plan-ahead k) ∙ (sym (k .plan .ensures) ∙ planned-none (k .plan .result) not-made) in (
+      none-is _ (a .at) e (lentBy (now (a .row))) (memory k) (now (a .pool)) (now (a .trails)) (now (a .sheets)) _ (asks-not (lentOf
+          (memory k)) (now (a .row)) (here k) (a .at) nothing),
+      subst (λ (r : Turn). Inside (r .at) (now (a .pool)) (now (a .trails)) (now (a .sheets))) (sym e) (c .before .before .before .before
+          .before .before .before .before .before .before .pre),
     )
 
-ask-requires : tie.Need-ask-requires
-ask-requires c κs =
-    let s = c .before .before .before .before .before .before .before .before .before .before .before .before .before .before .before .before .before .before in
-    let a = s .args in
-    let row = now (a .row) in
-    let memory : Tables = tables (now (a .control)) (now (a .samples)) (now (a .nodes)) (now (a .links)) (now (a .work)) in
-    let lengths = c .before .before .before .before .before .before .before .before .before .before .before .lengths .ensures in
-    let within : c .before .before .before .before .before .before .before .before .before .before .fits2 .result ≡ true =
-    not-false (c .before .before .before .before .before .before .before .before .before .before .fits2 .result)
-    (c .before .before .before .before .before .before .before .before .before .if1 .left) in (
-      (
-        lengths,
-        fits-within (lengthsBy (c .before .before .before .before .before .before .before .before .before .before .before .lengths .result))
-            (lentOf memory) (sym (c .before .before .before .before .before .before .before .before .before .before .fits2 .ensures) ∙ within),
-        s .pre,
-      ),
-      inl (sym (c .before .before .before .before .before .before .before .before .number .ensures) ∙ c .before .before .before .before .before .before .before .if2 .taken),
+lend-requires : tie.Need-lend-requires
+lend-requires c κs =
+    let k = c .before .before .before .before .before .before .before .before .before .before in (
+      c .before .before .before .before .before .before .before .before .before .before .before .before .before .before .before .before
+          .before .pre,
+      going k (not-false (k .plan .result .made) (c .before .before .before .before .before .before .before .before .if1
+          .left)),
     )
 
 returns-2 : tie.Need-returns-2
 returns-2 c =
-    let s = c .before .before .before .before .before .before .before .before .before .before .before .before .before .before .before
-    .before .before .before .before .before .before .before .before .before .before in
-    let a = s .args in
-    let row = now (a .row) in
-    let memory : Tables = tables (now (a .control)) (now (a .samples)) (now (a .nodes)) (now (a .links)) (now (a .work)) in
-    let lengths = c .before .before .before .before .before .before .before .before .before .before .before .before .before .before .before .before .before .before .lengths .ensures in
-    let within : c .before .before .before .before .before .before .before .before .before .before .before .before .before .before
-    .before .before .before .fits2 .result ≡ true = not-false (c .before .before .before .before .before .before .before .before
-    .before .before .before .before .before .before .before .before .before .fits2 .result)
-    (c .before .before .before .before .before .before .before .before .before .before .before .before .before .before .before .before .if1 .left) in
-    let fits : fitsIn (lentBy row) (lentOf memory) ≡ true = sym (ap (λ (l : Lent). fitsIn l (lentOf memory)) lengths)
-    ∙ (sym (c .before .before .before .before .before .before .before .before .before .before .before .before .before .before .before .before .before .fits2 .ensures) ∙ within) in
-    let here : State = stateAt memory (now (a .pool)) (now (a .trails)) (now (a .sheets)) (a .at) in
-    let call = c .before .before .before .before .before .before .ask in
-    (call .ensures .0 ∙ ap (λ (o : Option Ask). made (lentBy row) o here) (sym (asks-it (lentOf memory) row here fits)), call .ensures .1)
-
-ask-requires-2 : tie.Need-ask-requires-2
-ask-requires-2 c κs =
-    let s = c .before .before .before .before .before .before .before .before .before .before .before .before .before .before .before .before .before .before .before in
-    let a = s .args in
-    let row = now (a .row) in
-    let memory : Tables = tables (now (a .control)) (now (a .samples)) (now (a .nodes)) (now (a .links)) (now (a .work)) in
-    let lengths = c .before .before .before .before .before .before .before .before .before .before .before .before .lengths .ensures in
-    let within : c .before .before .before .before .before .before .before .before .before .before .before .fits2 .result ≡ true =
-    not-false (c .before .before .before .before .before .before .before .before .before .before .before .fits2 .result)
-    (c .before .before .before .before .before .before .before .before .before .before .if1 .left) in (
-      (
-        lengths,
-        fits-within (lengthsBy (c .before .before .before .before .before .before .before .before .before .before .before .before .lengths .result))
-            (lentOf memory) (sym (c .before .before .before .before .before .before .before .before .before .before .before .fits2 .ensures) ∙ within),
-        s .pre,
-      ),
-      inr (sym (c .before .before .before .before .before .before .before .before .before .number .ensures) ∙ c .before .before .before .before .before .before .before .if3 .taken),
-    )
-
-returns-3 : tie.Need-returns-3
-returns-3 c =
-    let s = c .before .before .before .before .before .before .before .before .before .before .before .before .before .before .before
-    .before .before .before .before .before .before .before .before .before .before .before in
-    let a = s .args in
-    let row = now (a .row) in
-    let memory : Tables = tables (now (a .control)) (now (a .samples)) (now (a .nodes)) (now (a .links)) (now (a .work)) in
-    let lengths = c .before .before .before .before .before .before .before .before .before .before .before .before .before .before .before .before .before .before .before .lengths .ensures in
-    let within : c .before .before .before .before .before .before .before .before .before .before .before .before .before .before
-    .before .before .before .before .fits2 .result ≡ true =
-    not-false (c .before .before .before .before .before .before .before .before .before .before .before .before .before .before
-    .before .before .before .before .fits2 .result) (c .before .before .before .before .before .before .before .before .before
-    .before .before .before .before .before .before .before .before .if1 .left) in
-    let fits : fitsIn (lentBy row) (lentOf memory) ≡ true = sym (ap (λ (l : Lent). fitsIn l (lentOf memory)) lengths)
-    ∙ (sym (c .before .before .before .before .before .before .before .before .before .before .before .before .before .before .before .before .before .before .fits2 .ensures) ∙ within) in
-    let here : State = stateAt memory (now (a .pool)) (now (a .trails)) (now (a .sheets)) (a .at) in
-    let call = c .before .before .before .before .before .before .ask2 in
-    (call .ensures .0 ∙ ap (λ (o : Option Ask). made (lentBy row) o here) (sym (asks-it (lentOf memory) row here fits)), call .ensures .1)
-
-change-requires : tie.Need-change-requires
-change-requires c κs =
-    let s = c .before .before .before .before .before .before .before .before .before .before .before .before .before .before .before .before .before .before in
-    let a = s .args in
-    let row = now (a .row) in
-    let memory : Tables = tables (now (a .control)) (now (a .samples)) (now (a .nodes)) (now (a .links)) (now (a .work)) in
-    let lengths = c .before .before .before .before .before .before .before .before .before .before .before .lengths .ensures in
-    let within : c .before .before .before .before .before .before .before .before .before .before .fits2 .result ≡ true =
-    not-false (c .before .before .before .before .before .before .before .before .before .before .fits2 .result)
-    (c .before .before .before .before .before .before .before .before .before .if1 .left) in
-    let is = c .before .before .before .before .before .before .before .before .number .ensures in (
-      (
-        lengths,
-        fits-within (lengthsBy (c .before .before .before .before .before .before .before .before .before .before .before .lengths .result))
-            (lentOf memory) (sym (c .before .before .before .before .before .before .before .before .before .before .fits2 .ensures) ∙ within),
-        s .pre .samples-inside,
-        s .pre .sheets-inside,
-      ),
-      ((λ q. c .before .before .before .before .before .before .before .if2 .left (is ∙ q)), (λ q. c .before .before .before .before .before .before .if3 .left (is ∙ q))),
-    )
-
-returns-4 : tie.Need-returns-4
-returns-4 c =
-    let s = c .before .before .before .before .before .before .before .before .before .before .before .before .before .before .before
-    .before .before .before .before .before .before .before .before .before .before .before .before in
-    let a = s .args in
-    let row = now (a .row) in
-    let memory : Tables = tables (now (a .control)) (now (a .samples)) (now (a .nodes)) (now (a .links)) (now (a .work)) in
-    let lengths = c .before .before .before .before .before .before .before .before .before .before .before .before .before .before .before .before .before .before .before .before .lengths .ensures in
-    let within : c .before .before .before .before .before .before .before .before .before .before .before .before .before .before
-    .before .before .before .before .before .fits2 .result ≡ true =
-    not-false (c .before .before .before .before .before .before .before .before .before .before .before .before .before .before
-    .before .before .before .before .before .fits2 .result)
-    (c .before .before .before .before .before .before .before .before .before .before .before .before .before .before .before .before .before .before .if1 .left) in
-    let fits : fitsIn (lentBy row) (lentOf memory) ≡ true = sym (ap (λ (l : Lent). fitsIn l (lentOf memory)) lengths)
-    ∙ (sym (c .before .before .before .before .before .before .before .before .before .before .before .before .before .before .before .before .before .before .before .fits2 .ensures) ∙ within) in
-    let here : State = stateAt memory (now (a .pool)) (now (a .trails)) (now (a .sheets)) (a .at) in
-    let call = c .before .before .before .before .before .before .before .before .change in (
-      call .ensures .0 (now (a .trails)) ∙ ap (λ (o : Option Ask). made (lentBy row) o here) (sym (asks-it (lentOf memory) row here fits)),
-      call .ensures .1 (now (a .trails)) (s .pre .trails-inside),
+    let a = c .before .before .before .before .before .before .before .before .before .before .before .before .before .before .before
+    .before .before .before .before .before .before .before .before .before .before .before .before .before .before .before .args in
+    let k = c .before .before .before .before .before .before .before .before .before .before .before .before .before .before .before
+    .before .before .before .before .before .before .before .before in
+    let go = moved-is _ (now (a .row)) (a .at) (k .plan .result .to) (going k (not-false (k .plan .result .made) (c .before .before
+    .before .before .before .before .before .before .before .before .before .before .before .before .before .before .before .before
+    .before .before .before .if1 .left))) in (
+      c .before .before .before .before .before .before .before .before .before .before .before .before .lend .ensures,
+      subst (λ (z : Cursor). Inside z (now (a .pool)) (now (a .trails)) (now (a .sheets))) (sym (go .to-is))
+          (inside-then (memory k) (now (a .pool)) (now (a .trails)) (now (a .sheets)) (a .at) (c .before .before .before .before .before
+          .before .before .before .before .before .before .before .before .before .before .before .before .before .before .before
+          .before .before .before .before .before .before .before .before .before .before .pre) (now (a .row)) (go .kind) (go .is)),
     )
 
 pub turn-spec : {M : Type 1} → statement M
 turn-spec =
     tie.close
     (tie.spec
-    (λ c κs. search needs) (λ c κs. search needs) (λ c κs. search needs) returns (λ c κs. search needs) ask-requires
-    (λ c. search needs) (λ c. search needs) (λ c. search needs) (λ c. search needs) (λ c. search needs) (λ c. search needs)
-    (λ c. search needs) returns-2 ask-requires-2 (λ c. search needs) (λ c. search needs) (λ c. search needs) (λ c. search needs)
-    (λ c. search needs) (λ c. search needs) (λ c. search needs) returns-3 change-requires (λ c. search needs) (λ c. search needs)
-    (λ c. search needs) (λ c. search needs) (λ c. search needs) (λ c. search needs) returns-4)
+    (λ c κs. (
+      c .before .before .before .before .before .before .pre .samples-inside,
+      c .before .before .before .before .before .before
+          .pre .trails-inside,
+      c .before .before .before .before .before .before .pre .sheets-inside,
+    )) (λ c κs. tt) returns lend-requires
+    (λ c. c .before .before .before .before .before .before .before .before .before .before .before .before .lend .kept .0)
+    (λ c. c .before .before .before .before .before .before .before .before .before .before .before .before .lend .kept .1 .0)
+    (λ c. c .before .before .before .before .before .before .before .before .before .before .before .before .lend .kept .1 .1 .0)
+    (λ c. c .before .before .before .before .before .before .before .before .before .before .before .before .lend .kept .1 .1 .1 .0)
+    (λ c. c .before .before .before .before .before .before .before .before .before .before .before .before .lend .kept .1 .1 .1 .1 .0)
+    (λ c. c .before .before .before .before .before .before .before .before .before .before .before .before .lend .kept .1 .1 .1 .1 .1 .0)
+    (λ c. c .before .before .before .before .before .before .before .before .before .before .before .before .lend .kept .1 .1 .1 .1 .1 .1
+    .0)
+    returns-2)

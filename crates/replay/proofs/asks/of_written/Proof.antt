@@ -1,10 +1,10 @@
--- `replay::replies::of_written` meets its contract, arm by arm.
+-- `replay::asks::of_written` meets its contract, arm by arm.
 use borrow.Author.Needs.{needs}
 use Rattle.sheet_writing.specs.Answered.{answerBy}
 use Rattle.calls.specs.Numbers.{codeOf, resultValues, valuesOf, laid}
 use Rattle.replay.specs.Numbers.{replyRow}
-use Rattle.replay.proofs.replies.of_written.Statement.{statement}
-use Rattle.replay.proofs.replies.of_written.Tie as tie
+use Rattle.replay.proofs.asks.of_written.Statement.{statement}
+use Rattle.replay.proofs.asks.of_written.Tie as tie
 
 pub of-written-spec : {M : Type 1} → statement M
 unfolding replyRow codeOf valuesOf resultValues laid answerBy

@@ -1,10 +1,10 @@
--- `replay::replies::of_read` meets its contract, arm by arm.
+-- `replay::changes::of_read` meets its contract, arm by arm.
 use borrow.Author.Needs.{needs}
 use Rattle.sheet_reading.specs.Answered.{answerOf}
 use Rattle.calls.specs.Numbers.{codeOf, resultValues, valuesOf, laid}
 use Rattle.replay.specs.Numbers.{replyRow}
-use Rattle.replay.proofs.replies.of_read.Statement.{statement}
-use Rattle.replay.proofs.replies.of_read.Tie as tie
+use Rattle.replay.proofs.changes.of_read.Statement.{statement}
+use Rattle.replay.proofs.changes.of_read.Tie as tie
 
 pub of-read-spec : {M : Type 1} → statement M
 unfolding replyRow codeOf valuesOf resultValues laid answerOf

@@ -1,10 +1,10 @@
--- `replay::replies::of_found` meets its contract, arm by arm.
+-- `replay::asks::of_found` meets its contract, arm by arm.
 use borrow.Author.Needs.{needs}
 use Rattle.matching.specs.Answered.{answerBy}
 use Rattle.calls.specs.Numbers.{codeOf, resultValues, valuesOf, laid}
 use Rattle.replay.specs.Numbers.{replyRow}
-use Rattle.replay.proofs.replies.of_found.Statement.{statement}
-use Rattle.replay.proofs.replies.of_found.Tie as tie
+use Rattle.replay.proofs.asks.of_found.Statement.{statement}
+use Rattle.replay.proofs.asks.of_found.Tie as tie
 
 pub of-found-spec : {M : Type 1} → statement M
 unfolding replyRow codeOf valuesOf resultValues laid answerBy

@@ -1,10 +1,10 @@
--- `replay::replies::of_added` meets its contract, arm by arm.
+-- `replay::changes::of_added` meets its contract, arm by arm.
 use borrow.Author.Needs.{needs}
 use Rattle.adding.specs.Answered.{answerOf}
 use Rattle.calls.specs.Numbers.{codeOf, resultValues, valuesOf, laid}
 use Rattle.replay.specs.Numbers.{replyRow}
-use Rattle.replay.proofs.replies.of_added.Statement.{statement}
-use Rattle.replay.proofs.replies.of_added.Tie as tie
+use Rattle.replay.proofs.changes.of_added.Statement.{statement}
+use Rattle.replay.proofs.changes.of_added.Tie as tie
 
 pub of-added-spec : {M : Type 1} → statement M
 unfolding replyRow codeOf valuesOf resultValues laid answerOf

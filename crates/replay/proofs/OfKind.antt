@@ -1,0 +1,228 @@
+-- The kinds of rows: what holds of each, and how a call of one follows its definition.
+use Prim.Native.Nat.{ℕ, zero, suc}
+use mathlib.Core.Path.{_≡_, refl, sym, ap, subst, _∙_}
+use mathlib.Core.Bool.{Bool, true, false}
+use mathlib.Core.Option.{Option, none, some, Option·none-ne-some, Option·some-injective}
+use mathlib.Core.List.{List, [], _∷_, flatten, append-nil}
+use native.Mathlib.Omega.{arith}
+use lib.IntN.{ℤ}
+use lib.ListN.{length}
+use lib.Dec.{T}
+use Rattle.integer.specs.Words.{if_then_else_}
+use Rattle.integer.specs.Lists.{All, all-none, all-more}
+use Rattle.dstree.specs.Sheet.{areBytes}
+use Rattle.dstree.specs.Book.{Ask}
+use Rattle.tables.specs.Tables.{Tables}
+use Rattle.calls.specs.Effects.{outcomeOn}
+use Rattle.calls.specs.Follows.{areSamples, Typed}
+use Rattle.replay.specs.declared.Cursor.{Cursor}
+use Rattle.replay.specs.declared.Wanted.{Wanted}
+use Rattle.replay.specs.Numbers.{replyRow}
+use Rattle.replay.specs.Script.{Taken, taken, sizeOf, Kind, openings, addings, matchings, writings, readings, kinds, kindAt}
+use Rattle.replay.specs.Script.{takesOf, wantedBy, takenBy, leftBy, Called, called, calledBy, Plays}
+
+-- ---- what nothing is taken of is empty
+
+empty : {A : Type 0} (l : List A) → length l ≡ 0 → l ≡ []
+empty [] e = refl
+empty (x ∷ l) e = absurd (omega arith)
+
+module _ (x : Taken) where
+  no-samples : {c : Cursor} → sizeOf x ≡ c → c .samples ≡ 0 → x .samples ≡ []
+  no-samples e z = empty (x .samples) (ap (λ (c : Cursor). c .samples) e ∙ z)
+
+  no-trail : {c : Cursor} → sizeOf x ≡ c → c .trails ≡ 0 → x .trail ≡ []
+  no-trail e z = empty (x .trail) (ap (λ (c : Cursor). c .trails) e ∙ z)
+
+  no-sheet : {c : Cursor} → sizeOf x ≡ c → c .sheets ≡ 0 → x .sheet ≡ []
+  no-sheet e z = empty (x .sheet) (ap (λ (c : Cursor). c .sheets) e ∙ z)
+
+pub taken-same : {samples samples′ : List ℤ} {trail trail′ sheet sheet′ : List ℕ} → samples ≡ samples′ → trail ≡ trail′ → sheet ≡ sheet′
+    → taken samples trail sheet ≡ taken samples′ trail′ sheet′
+taken-same a b c = rw (a, b, c)
+
+-- ---- what holds of each kind
+
+pub record KindLaws (k : Kind) : Type 0 where
+  -- its call takes all that its row takes
+  pub takes-all : (row : List ℕ) (x : Taken) → sizeOf x ≡ k .takes row → takenBy (k .ask row x) ≡ x
+  -- and what it brings is as the slices' types say
+  pub typed : (row : List ℕ) (x : Taken) → T (areSamples (x .samples)) → T (areBytes (x .sheet)) → Typed (k .ask row x)
+
+of-openings : KindLaws openings
+unfolding takenBy Typed
+of-openings = record {
+  takes-all = λ row x e. taken-same (sym (no-samples x e refl)) (sym (no-trail x e refl)) (sym (no-sheet x e refl));
+  typed = λ row x s b. tt;
+}
+
+of-addings : KindLaws addings
+unfolding takenBy Typed
+of-addings = record { takes-all = λ row x e. taken-same refl (sym (no-trail x e refl)) (sym (no-sheet x e refl)); typed = λ row x s b. s }
+
+of-matchings : KindLaws matchings
+unfolding takenBy Typed
+of-matchings = record { takes-all = λ row x e. taken-same refl refl (sym (no-sheet x e refl)); typed = λ row x s b. tt }
+
+of-writings : KindLaws writings
+unfolding takenBy Typed
+of-writings = record {
+  takes-all = λ row x e. taken-same (sym (no-samples x e refl)) (sym (no-trail x e refl)) refl;
+  typed = λ row x s b.
+      tt;
+}
+
+of-readings : KindLaws readings
+unfolding takenBy Typed
+of-readings = record {
+  takes-all = λ row x e. taken-same (sym (no-samples x e refl)) (sym (no-trail x e refl)) refl;
+  typed = λ row x s b.
+      b;
+}
+
+of-kinds : All KindLaws kinds
+of-kinds = all-more of-openings (all-more of-addings (all-more of-matchings (all-more of-writings (all-more of-readings all-none))))
+
+of-some : {P : Kind → Type 0} (among : List Kind) → All P among → (number : ℕ) (k : Kind) → kindAt among number ≡ some k → P k
+unfolding kindAt
+of-some [] all number k e = absurd (Option·none-ne-some k e)
+of-some {P} (k₀ ∷ others) (all-more h rest) zero k e = subst P (Option·some-injective k₀ k e) h
+of-some (k₀ ∷ others) (all-more h rest) (suc number) k e = of-some others rest number k e
+
+pub of-kind : (number : ℕ) (k : Kind) → kindAt kinds number ≡ some k → KindLaws k
+of-kind = of-some kinds of-kinds
+
+-- ---- kind by kind
+
+true-false : {A : Type 0} → true ≡ false → A
+true-false e = let z : _≡_ {A = ℕ} 0 1 = ap (λ (b : Bool). if b then 0 else 1) e in absurd (omega arith)
+
+kind-is : (k₀ k : Kind) → some k₀ ≡ some k → k .changes ≡ k₀ .changes
+kind-is k₀ k e = ap (λ (k : Kind). k .changes) (sym (Option·some-injective k₀ k e))
+
+no-change : (number : ℕ) (k : Kind) → (number ≡ 0 → ⊥) → (number ≡ 1 → ⊥) → (number ≡ 4 → ⊥) → kindAt kinds number ≡ some k
+    → k .changes ≡ true → ⊥
+unfolding kindAt
+no-change zero k f g h e b = f refl
+no-change (suc zero) k f g h e b = g refl
+no-change (suc (suc zero)) k f g h e b = true-false (sym b ∙ kind-is matchings k e)
+no-change (suc (suc (suc zero))) k f g h e b = true-false (sym b ∙ kind-is writings k e)
+no-change (suc (suc (suc (suc zero)))) k f g h e b = h refl
+no-change (suc (suc (suc (suc (suc n))))) k f g h e b = absurd (Option·none-ne-some k e)
+
+pub changes-if : (number : ℕ) (k : Kind) → (number ≡ 2 → ⊥) → (number ≡ 3 → ⊥) → kindAt kinds number ≡ some k → k .changes ≡ true
+unfolding kindAt
+changes-if zero k f g e = kind-is openings k e
+changes-if (suc zero) k f g e = kind-is addings k e
+changes-if (suc (suc zero)) k f g e = absurd (f refl)
+changes-if (suc (suc (suc zero))) k f g e = absurd (g refl)
+changes-if (suc (suc (suc (suc zero)))) k f g e = kind-is readings k e
+changes-if (suc (suc (suc (suc (suc n))))) k f g e = absurd (Option·none-ne-some k e)
+
+no-ask : (number : ℕ) (k : Kind) → (number ≡ 2 → ⊥) → (number ≡ 3 → ⊥) → kindAt kinds number ≡ some k → k .changes ≡ false → ⊥
+no-ask number k f g e b = true-false (sym (changes-if number k f g e) ∙ b)
+
+-- the kind with a number
+pub changes-not : (number : ℕ) (k₀ k : Kind) → kindAt kinds number ≡ some k₀ → kindAt kinds number ≡ some k → k .changes ≡ k₀ .changes
+changes-not number k₀ k i e = kind-is k₀ k (sym i ∙ e)
+
+module _ (number : ℕ) (row : List ℕ) (x : Taken) (t : Tables) (c : Called) where
+  -- a row of the kind with this number
+  pub own-kind : {changes : Bool} (k₀ : Kind) → kindAt kinds number ≡ some k₀ → (sizeOf x ≡ k₀ .takes row → c
+      ≡ calledBy (k₀ .ask row x) t) → Plays changes number row x t c
+  own-kind k₀ i h k e b s = subst (λ (k : Kind). sizeOf x ≡ k .takes row → c
+      ≡ calledBy (k .ask row x) t) (Option·some-injective k₀ k (sym i ∙ e)) h s
+
+  -- there are no other kinds
+  pub no-other-change : (number ≡ 0 → ⊥) → (number ≡ 1 → ⊥) → (number ≡ 4 → ⊥) → Plays true number row x t c
+  no-other-change f g h k e b s = absurd (no-change number k f g h e b)
+
+  pub no-other-ask : (number ≡ 2 → ⊥) → (number ≡ 3 → ⊥) → Plays false number row x t c
+  no-other-ask f g k e b s = absurd (no-ask number k f g e b)
+
+-- ---- the number of a kind
+
+module _ {number : ℕ} where
+  pub is-openings : number ≡ 0 → kindAt kinds number ≡ some openings
+  unfolding kindAt
+  is-openings e = ap (kindAt kinds) e
+
+  pub is-addings : number ≡ 1 → kindAt kinds number ≡ some addings
+  unfolding kindAt
+  is-addings e = ap (kindAt kinds) e
+
+  pub is-matchings : number ≡ 2 → kindAt kinds number ≡ some matchings
+  unfolding kindAt
+  is-matchings e = ap (kindAt kinds) e
+
+  pub is-writings : number ≡ 3 → kindAt kinds number ≡ some writings
+  unfolding kindAt
+  is-writings e = ap (kindAt kinds) e
+
+  pub is-readings : number ≡ 4 → kindAt kinds number ≡ some readings
+  unfolding kindAt
+  is-readings e = ap (kindAt kinds) e
+
+pub wanted-is : (r : Wanted) (row : List ℕ) (number : ℕ) (k : Kind) (size : Cursor) → r ≡ record { known = true; size = size }
+    → kindAt kinds number ≡ some k → size ≡ k .takes row
+    → wantedBy r ≡ takesOf (kindAt kinds number) row
+unfolding takesOf
+wanted-is r row number k size e i s = ap (λ (r : Wanted). wantedBy r) e ∙ (ap (λ (z : Cursor). some z) s
+    ∙ sym (ap (λ (o : Option Kind). takesOf o row) i))
+
+pub wanted-not : (row : List ℕ) (number : ℕ) → (number ≡ 0 → ⊥) → (number ≡ 1 → ⊥) → (number ≡ 2 → ⊥) → (number ≡ 3 → ⊥) → (number ≡ 4
+    → ⊥) → none ≡ takesOf (kindAt kinds number) row
+unfolding takesOf kindAt
+wanted-not row zero f g h i j = absurd (f refl)
+wanted-not row (suc zero) f g h i j = absurd (g refl)
+wanted-not row (suc (suc zero)) f g h i j = absurd (h refl)
+wanted-not row (suc (suc (suc zero))) f g h i j = absurd (i refl)
+wanted-not row (suc (suc (suc (suc zero)))) f g h i j = absurd (j refl)
+wanted-not row (suc (suc (suc (suc (suc n))))) f g h i j = refl
+
+-- ---- a call follows its definition
+
+-- one slice is left beside the tables
+one : (slice : List ℕ) (beside : List (List ℕ)) → slice ∷ [] ≡ beside → slice ≡ flatten beside
+unfolding flatten
+one slice beside e = sym (append-nil slice) ∙ ap flatten e
+
+called-is : (ask : Ask) (t t′ : Tables) (told : List ℕ) (y : Taken) → told ≡ replyRow (outcomeOn ask t .answer) → t′
+    ≡ outcomeOn ask t .after
+    → y ≡ leftBy ask (outcomeOn ask t .beside) → called told t′ y ≡ calledBy ask t
+called-is ask t t′ told y a b c = rw (a, b, c)
+
+module _ (row : List ℕ) (x : Taken) (t t′ : Tables) (told : List ℕ) where
+  pub opens-it : told ≡ replyRow (outcomeOn (openings .ask row x) t .answer) → t′ ≡ outcomeOn (openings .ask row x) t .after
+      → sizeOf x ≡ openings .takes row → called told t′ x ≡ calledBy (openings .ask row x) t
+  unfolding leftBy
+  opens-it a b e = called-is (openings .ask row x) t t′ told x a b (taken-same (no-samples x e refl) (no-trail x e refl) (no-sheet x e
+      refl))
+
+  pub adds-it : told ≡ replyRow (outcomeOn (addings .ask row x) t .answer) → t′ ≡ outcomeOn (addings .ask row x) t .after
+      → sizeOf x ≡ addings .takes row → called told t′ x ≡ calledBy (addings .ask row x) t
+  unfolding leftBy
+  adds-it a b e = called-is (addings .ask row x) t t′ told x a b (taken-same refl (no-trail x e refl) (no-sheet x e refl))
+
+  pub matches-it : (trail : List ℕ) → told ≡ replyRow (outcomeOn (matchings .ask row x) t .answer) → t′
+      ≡ outcomeOn (matchings .ask row x) t .after
+      → trail ∷ [] ≡ outcomeOn (matchings .ask row x) t .beside → sizeOf x ≡ matchings .takes row
+      → called told t′ (taken (x .samples) trail (x .sheet)) ≡ calledBy (matchings .ask row x) t
+  unfolding leftBy
+  matches-it trail a b c e =
+      called-is (matchings .ask row x) t t′ told (taken (x .samples) trail (x .sheet)) a b (taken-same refl (one trail _ c) (no-sheet x e
+      refl))
+
+  pub writes-it : (sheet : List ℕ) → told ≡ replyRow (outcomeOn (writings .ask row x) t .answer) → t′
+      ≡ outcomeOn (writings .ask row x) t .after
+      → sheet ∷ [] ≡ outcomeOn (writings .ask row x) t .beside → sizeOf x ≡ writings .takes row
+      → called told t′ (taken (x .samples) (x .trail) sheet) ≡ calledBy (writings .ask row x) t
+  unfolding leftBy
+  writes-it sheet a b c e =
+      called-is (writings .ask row x) t t′ told (taken (x .samples) (x .trail) sheet) a b (taken-same (no-samples x e refl) (no-trail x e
+      refl) (one sheet _ c))
+
+  pub reads-it : told ≡ replyRow (outcomeOn (readings .ask row x) t .answer) → t′ ≡ outcomeOn (readings .ask row x) t .after
+      → sizeOf x ≡ readings .takes row → called told t′ x ≡ calledBy (readings .ask row x) t
+  unfolding leftBy
+  reads-it a b e = called-is (readings .ask row x) t t′ told x a b (taken-same (no-samples x e refl) (no-trail x e refl) refl)

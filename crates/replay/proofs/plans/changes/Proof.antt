@@ -1,0 +1,13 @@
+-- `replay::plans::changes` meets its contract, kind by kind.
+use Rattle.replay.specs.Script.{matchings, writings}
+use Rattle.replay.proofs.OfKind.{is-matchings, is-writings, changes-if, changes-not}
+use Rattle.replay.proofs.plans.changes.Statement.{statement}
+use Rattle.replay.proofs.plans.changes.Tie as tie
+
+pub changes-spec : {M : Type 1} → statement M
+changes-spec =
+    tie.close
+    (tie.spec
+    (λ c. λ k e. changes-not (c .before .args .kind) matchings k (is-matchings (c .if1 .taken)) e)
+    (λ c. λ k e. changes-not (c .before .before .args .kind) writings k (is-writings (c .if2 .taken)) e)
+    (λ c. λ k e. changes-if (c .before .before .args .kind) k (c .before .if1 .left) (c .if2 .left) e))

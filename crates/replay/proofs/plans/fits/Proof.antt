@@ -1,0 +1,60 @@
+-- `replay::plans::fits` meets its contract: the first table that is too short decides.
+use borrow.Author.Tests.{le-leb, lt-leb}
+use Rattle.replay.specs.Script.{fitsIn}
+use Rattle.replay.proofs.plans.fits.Statement.{statement}
+use Rattle.replay.proofs.plans.fits.Tie as tie
+
+returns : tie.Need-returns
+unfolding fitsIn
+returns c = simp (lt-leb _ _ (c .if1 .taken))
+
+returns-2 : tie.Need-returns-2
+unfolding fitsIn
+returns-2 c = simp (le-leb _ _ (c .before .before .before .if1 .left), lt-leb _ _ (c .if2 .taken))
+
+returns-3 : tie.Need-returns-3
+unfolding fitsIn
+returns-3 c = simp (
+  le-leb _ _ (c .before .before .before .before .before .before .if1 .left),
+  le-leb _ _ (c .before .before .before .if2
+      .left),
+  lt-leb _ _ (c .if3 .taken),
+)
+
+returns-4 : tie.Need-returns-4
+unfolding fitsIn
+returns-4 c = simp (
+  le-leb _ _ (c .before .before .before .before .before .before .before .before .before .if1 .left),
+  le-leb _ _ (c
+      .before .before .before .before .before .before .if2 .left),
+  le-leb _ _ (c .before .before .before .if3 .left),
+  lt-leb _ _ (c .if4
+      .taken),
+)
+
+returns-5 : tie.Need-returns-5
+unfolding fitsIn
+returns-5 c = simp (
+  le-leb _ _ (c .before .before .before .before .before .before .before .before .before .before .before .before .if1
+      .left),
+  le-leb _ _ (c .before .before .before .before .before .before .before .before .before .if2 .left),
+  le-leb _ _ (c .before
+      .before .before .before .before .before .if3 .left),
+  le-leb _ _ (c .before .before .before .if4 .left),
+  lt-leb _ _ (c .if5 .taken),
+)
+
+returns-6 : tie.Need-returns-6
+unfolding fitsIn
+returns-6 c = simp (
+  le-leb _ _ (c .before .before .before .before .before .before .before .before .before .before .before .before .if1
+      .left),
+  le-leb _ _ (c .before .before .before .before .before .before .before .before .before .if2 .left),
+  le-leb _ _ (c .before
+      .before .before .before .before .before .if3 .left),
+  le-leb _ _ (c .before .before .before .if4 .left),
+  le-leb _ _ (c .if5 .left),
+)
+
+pub fits-spec : {M : Type 1} → statement M
+fits-spec = tie.close (tie.spec returns returns-2 returns-3 returns-4 returns-5 returns-6)

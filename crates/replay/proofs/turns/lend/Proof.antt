@@ -1,0 +1,189 @@
+-- `replay::turns::lend` meets its contract: what comes back in the first places of each table, and in the next ones of each supply, is what the call leaves there.
+use Prim.Native.Nat.{_≤_}
+use mathlib.Core.Path.{_≡_, refl, sym, ap, subst, _∙_}
+use mathlib.Core.Option.{some}
+use native.Mathlib.Omega.{arith}
+use lib.ListN.{length}
+use lib.Seq.{length-take-le}
+use denote.Ref.{now}
+use borrow.Author.Needs.{needs}
+use borrow.Rule.Slice.PartMut.{post-is}
+use Rattle.dstree.specs.Book.{Lent}
+use Rattle.tables.specs.Tables.{Tables, tables, lentOf}
+use Rattle.tables.specs.Beginning.{firstPlaces, Within}
+use Rattle.replay.specs.declared.Cursor.{Cursor}
+use Rattle.replay.specs.Script.{lentBy, lengthsBy, stateAt, Inside, Taken, taken, sizeOf, nextOf, aheadOf, kinds, kindAt, playable, called, calledBy}
+use Rattle.replay.proofs.Asking.{Moved, moved-is}
+use Rattle.replay.proofs.Lending.{back-is-left, lengths-kept}
+use Rattle.replay.proofs.Moves.{is, inside-then, next-is, next-size, played-to}
+use Rattle.replay.proofs.turns.lend.Statement.{statement}
+use Rattle.replay.proofs.turns.lend.Tie as tie
+
+-- ---- what is known at entry
+
+module _ (s : tie.Start) where
+  abbrev t : Tables
+  t = tables (now (s .args .control)) (now (s .args .samples)) (now (s .args .nodes)) (now (s .args .links)) (now (s .args .work))
+
+  abbrev at : Cursor
+  at = s .args .at
+
+  abbrev to : Cursor
+  to = s .args .to
+
+  go : Moved (playable (lentOf t) (aheadOf (stateAt t (now (s .args .pool)) (now (s .args .trails)) (now (s .args .sheets)) at)) (now (s
+      .args .row))) (now (s .args .row)) at to
+  go = moved-is _ (now (s .args .row)) at to (s .pre .1)
+
+  ends : Inside to (now (s .args .pool)) (now (s .args .trails)) (now (s .args .sheets))
+  ends = subst (λ (z : Cursor). Inside z (now (s .args .pool)) (now (s .args .trails)) (now (s .args .sheets))) (sym (go .to-is))
+      (inside-then t (now (s .args .pool)) (now (s .args .trails)) (now (s .args .sheets)) at (s .pre .0) (now (s .args .row)) (go .kind)
+      (go .is))
+
+  trail-bounds : (at .trails ≤ to .trails) × (to .trails ≤ length (now (s .args .trails)))
+  trail-bounds = (omega (arith, ap (λ (z : Cursor). z .trails) (go .to-is)), ends .trails-inside)
+
+  sheet-bounds : (at .sheets ≤ to .sheets) × (to .sheets ≤ length (now (s .args .sheets)))
+  sheet-bounds = (omega (arith, ap (λ (z : Cursor). z .sheets) (go .to-is)), ends .sheets-inside)
+
+  sample-bounds : (at .samples ≤ to .samples) × (to .samples ≤ length (now (s .args .pool)))
+  sample-bounds = (omega (arith, ap (λ (z : Cursor). z .samples) (go .to-is)), ends .samples-inside)
+
+-- the row's lengths are within the tables
+within : (k : tie.After-lengths) → Within (lengthsBy (k .lengths .result)) (lentOf (t (k .before .before .before .before .before .before
+    .before .before)))
+within k =
+    let s = k .before .before .before .before .before .before .before .before in
+    subst (λ (l : Lent). Within l (lentOf (t s))) (sym (k .lengths .ensures))
+    (is (t s) (now (s .args .pool)) (now (s .args .trails)) (now (s .args .sheets)) (at s) (s .pre .0) (now (s .args .row)) (go s .kind)
+    (go s .is) .within)
+
+-- ---- the call
+
+returns : tie.Need-returns
+returns c =
+    let s = c .before .before .before .before .before .before .before .before .before .before .before .before .before .before .before
+    .before .before .before .before .before .before .before .before .before .before .before .before .before .before in
+    let a = s .args in
+    let row = now (a .row) in
+    let pool = now (a .pool) in
+    let trails = now (a .trails) in
+    let sheets = now (a .sheets) in
+    let m : Tables = tables (now (a .control)) (now (a .samples)) (now (a .nodes)) (now (a .links)) (now (a .work)) in
+    let k = go s .kind in
+    let can = go s .is in
+    let call = c .before .before .before .before .before .before .before .before .before .before .before .before .call in
+    let lent = lengthsBy (c .before .before .before .before .before .before .before .before .before .before .before .before .before
+    .before .before .before .before .before .before .before .before .lengths .result) in
+    let is-lent = c .before .before .before .before .before .before .before .before .before .before .before .before .before .before
+    .before .before .before .before .before .before .before .lengths .ensures in
+    let after : Tables = tables (call .last .0) (call .last .1 .0) (call .last .1 .1 .0) (call .last .1 .1 .1 .0) (call .last .1 .1 .1 .1
+    .0) in
+    let trail = call .last .1 .1 .1 .1 .1 .0 in
+    let sheet = call .last .1 .1 .1 .1 .1 .1 .0 in
+    let next = nextOf (k .takes row) (stateAt m pool trails sheets (a .at)) in
+    let is-next = next-is m pool trails sheets (a .at) (s .pre .0) row k can (a .to) (go s .to-is) in
+    let kept = lengths-kept lent after m (within (c .before .before .before .before .before .before .before .before .before .before
+    .before .before .before .before .before .before .before .before .before .before .before)) (call .kept .0) (call .kept .1 .0)
+    (call .kept .1 .1 .0) (call .kept .1 .1 .1 .0) (call .kept .1 .1 .1 .1 .0) in
+    let number : kindAt kinds (c .before .before .before .before .before .before .before .before .before .before .before .before .before
+    .before .before .before .before .before .before .before .before .before .number .result) ≡ some k =
+    ap (kindAt kinds) (c .before .before .before .before .before .before .before .before .before .before .before .before .before .before
+    .before .before .before .before .before .before .before .before .number .ensures)
+    ∙ is m pool trails sheets (a .at) (s .pre .0) row k can .is-kind in
+    let does : sizeOf next ≡ k .takes row → called (call .result) after (taken (next .samples) trail sheet)
+    ≡ calledBy (k .ask row next) (firstPlaces (lentBy row) m) =
+    subst (λ (l : Lent). sizeOf next ≡ k .takes row → called (call .result) after (taken (next .samples) trail sheet)
+    ≡ calledBy (k .ask row next) (firstPlaces l m)) is-lent
+    (subst (λ (x : Taken). sizeOf x ≡ k .takes row → called (call .result) after (taken (x .samples) trail sheet)
+    ≡ calledBy (k .ask row x) (firstPlaces lent m)) is-next
+    (call .ensures (k .changes) k number refl)) in
+    let size = next-size m pool trails sheets (a .at) (s .pre .0) row k can in
+    let trail-size = call .kept .1 .1 .1 .1 .1 .0 ∙ (ap (λ (x : Taken). length (x .trail)) is-next
+    ∙ ap (λ (z : Cursor). z .trails) size) in
+    let sheet-size = call .kept .1 .1 .1 .1 .1 .1 .0 ∙ (ap (λ (x : Taken). length (x .sheet)) is-next
+    ∙ ap (λ (z : Cursor). z .sheets) size) in
+    rw (
+      post-is (a .at .trails) (a .to .trails) trails (trail-bounds s .0),
+      post-is (a .at .sheets) (a .to .sheets) sheets (sheet-bounds
+          s .0),
+    )
+    (played-to m pool trails sheets (a .at) (s .pre .0) row k can (a .to) (go s .to-is) (call .result) after _ trail sheet does
+    (back-is-left lent after m kept) trail-size sheet-size)
+
+pub lend-spec : {M : Type 1} → statement M
+lend-spec =
+    tie.close
+    (tie.spec
+    (λ c κs. tt) (λ c κs. tt)
+    (λ c. omega (arith, within c .control-within))
+    (λ c. sym (length-take-le _ (now (c .before .before .before .before .before .before .before .before .before .args .control)) (within
+    (c .before) .control-within)))
+    (λ c. omega (arith, within (c .before) .samples-within))
+    (λ c. sym (length-take-le _ (now (c .before .before .before .before .before .before .before .before .before .before .args .samples))
+    (within (c .before .before) .samples-within)))
+    (λ c. omega (arith, within (c .before .before) .nodes-within))
+    (λ c. sym (length-take-le _ (now (c .before .before .before .before .before .before .before .before .before .before .before .args
+    .nodes)) (within (c .before .before .before) .nodes-within)))
+    (λ c. omega (arith, within (c .before .before .before) .links-within))
+    (λ c. sym (length-take-le _ (now (c .before .before .before .before .before .before .before .before .before .before .before .before
+    .args .links)) (within (c .before .before .before .before) .links-within)))
+    (λ c. omega (arith, within (c .before .before .before .before) .work-within))
+    (λ c. sym (length-take-le _ (now (c .before .before .before .before .before .before .before .before .before .before .before .before
+    .before .args .work)) (within (c .before .before .before .before .before) .work-within)))
+    (λ c. search needs)
+    (λ c. omega (
+      arith,
+      trail-bounds (c .before .before .before .before .before .before .before .before .before .before .before .before
+          .before) .0,
+    ))
+    (λ c. omega (
+      arith,
+      trail-bounds (c .before .before .before .before .before .before .before .before .before .before .before .before
+          .before) .0,
+      trail-bounds (c .before .before .before .before .before .before .before .before .before .before .before .before
+          .before) .1,
+    ))
+    (λ c. omega (
+      arith,
+      trail-bounds (c .before .before .before .before .before .before .before .before .before .before .before .before
+          .before) .1,
+    ))
+    (λ c. omega (
+      arith,
+      sheet-bounds (c .before .before .before .before .before .before .before .before .before .before .before .before
+          .before .before) .0,
+    ))
+    (λ c. omega (
+      arith,
+      sheet-bounds (c .before .before .before .before .before .before .before .before .before .before .before .before
+          .before .before) .0,
+      sheet-bounds (c .before .before .before .before .before .before .before .before .before .before .before
+          .before .before .before) .1,
+    ))
+    (λ c. omega (
+      arith,
+      sheet-bounds (c .before .before .before .before .before .before .before .before .before .before .before .before
+          .before .before) .1,
+    ))
+    (λ c. search needs)
+    (λ c. omega (
+      arith,
+      sample-bounds (c .before .before .before .before .before .before .before .before .before .before .before .before
+          .before .before .before) .0,
+    ))
+    (λ c. omega (
+      arith,
+      sample-bounds (c .before .before .before .before .before .before .before .before .before .before .before .before
+          .before .before .before) .0,
+      sample-bounds (c .before .before .before .before .before .before .before .before .before .before
+          .before .before .before .before .before) .1,
+    ))
+    (λ c. omega (
+      arith,
+      sample-bounds (c .before .before .before .before .before .before .before .before .before .before .before .before
+          .before .before .before) .1,
+    ))
+    (λ c κs. tt) (λ c. search needs) (λ c. search needs) (λ c. search needs) (λ c. search needs) (λ c. search needs) (λ c. search needs)
+    (λ c. search needs)
+    returns)

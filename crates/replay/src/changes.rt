@@ -1,0 +1,86 @@
+// Rows whose calls change tables: openings (0), addings (1), readings (4). A kind is a reply and a branch.
+
+use crate::replies::of_refusal;
+use crate::rows::number;
+use adding::Added;
+use opening::Opened;
+use sheet_reading::Read;
+ghost use mathlib.Core.Path.{_≡_};
+ghost use mathlib.Core.Bool.{true};
+ghost use mathlib.Core.List.{List};
+ghost use Prim.Native.Nat.{ℕ};
+ghost use Rattle.opening.specs.Opened as opened;
+ghost use Rattle.adding.specs.Answered as added;
+ghost use Rattle.sheet_reading.specs.Answered as read;
+ghost use Rattle.tables.specs.Tables.{tables};
+ghost use Rattle.replay.specs.Numbers.{replyRow};
+ghost use Rattle.replay.specs.Script.{taken, called, Plays};
+
+fn of_opened(answer: Opened) -> [u64; 5]
+    ensures { λ r. ⌜ r ≡ replyRow (opened.answerOf answer) ⌝ }
+{
+    match answer {
+        Opened::Done => [0; 5],
+        Opened::Refused(why) => of_refusal(why),
+    }
+}
+
+fn of_added(answer: Added) -> [u64; 5]
+    ensures { λ r. ⌜ r ≡ replyRow (added.answerOf answer) ⌝ }
+{
+    match answer {
+        Added::At(trace) => [0, trace, 0, 0, 0],
+        Added::Refused(why) => of_refusal(why),
+    }
+}
+
+fn of_read(answer: Read) -> [u64; 5]
+    ensures { λ r. ⌜ r ≡ replyRow (read.answerOf answer) ⌝ }
+{
+    match answer {
+        Read::Done => [0; 5],
+        Read::Refused(why) => of_refusal(why),
+    }
+}
+
+// A row of such a kind, lent the tables and all that it takes.
+pub fn play(
+    control: &mut [u16],
+    samples: &mut [i16],
+    nodes: &mut [i64],
+    links: &mut [u16],
+    work: &mut [u64],
+    sheet: &[u8],
+    query: &[i16],
+    row: &[u64],
+    kind: u64,
+) -> [u64; 5]
+    ensures { λ r. ⌜ ((trail : List ℕ) → Plays true kind (now (row .entry)) (taken (now (query .entry)) trail (now (sheet .entry)))
+        (tables (now (control .entry)) (now (samples .entry)) (now (nodes .entry)) (now (links .entry)) (now (work .entry)))
+        (called r
+        (tables (now (control .exit)) (now (samples .exit)) (now (nodes .exit)) (now (links .exit)) (now (work .exit)))
+        (taken (now (query .entry)) trail (now (sheet .entry))))) ⌝ }
+{
+    if kind == 0 {
+        let n = number(row, 6);
+        let capacity = number(row, 7);
+        let leaf_size = number(row, 8);
+        return of_opened(opening::open(
+            control,
+            samples,
+            nodes,
+            links,
+            work,
+            n,
+            capacity,
+            leaf_size,
+        ));
+    }
+    if kind == 1 {
+        return of_added(adding::add(control, samples, nodes, links, work, query));
+    }
+    if kind == 4 {
+        return of_read(sheet_reading::read_sheet(control, samples, nodes, links, work, sheet));
+    }
+    [0; 5]
+}

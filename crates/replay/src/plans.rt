@@ -1,0 +1,153 @@
+// How much a row takes, and whether it can be played: by numbers alone.
+
+use crate::Cursor;
+use crate::Lengths;
+use crate::Plan;
+use crate::Wanted;
+use crate::rows::lengths;
+use crate::rows::number;
+use crate::rows::places;
+ghost use mathlib.Core.Path.{_≡_};
+ghost use mathlib.Core.Bool.{true, false};
+ghost use mathlib.Core.Option.{some};
+ghost use Prim.Native.Nat.{_-_, _≤_};
+ghost use Rattle.replay.specs.Script.{numberAt, lengthsBy, cursor, Kind, kinds, kindAt};
+ghost use Rattle.replay.specs.Script.{fitsIn, enough, takesOf, playable, movedBy, wantedBy, plannedBy};
+
+fn size(samples: usize, trails: usize, sheets: usize) -> Wanted
+    ensures { λ r. ⌜ r ≡ record { known = true; size = cursor samples trails sheets } ⌝ }
+{
+    Wanted {
+        known: true,
+        size: Cursor {
+            samples: samples,
+            trails: trails,
+            sheets: sheets,
+        },
+    }
+}
+
+// By a row's kind and its first two own numbers. (Behind the last kind there is none.)
+fn wanted(row: &[u64]) -> Wanted
+    ensures { λ r. ⌜ wantedBy r ≡ takesOf (kindAt kinds (numberAt (now (row .entry)) 0)) (now (row .entry)) ⌝ }
+{
+    let kind = number(row, 0);
+    let first = places(number(row, 6));
+    let second = places(number(row, 7));
+    if kind == 0 {
+        return size(0, 0, 0);
+    }
+    if kind == 1 {
+        return size(first, 0, 0);
+    }
+    if kind == 2 {
+        return size(first, second, 0);
+    }
+    if kind == 3 {
+        return size(0, 0, first);
+    }
+    if kind == 4 {
+        return size(0, 0, first);
+    }
+    Wanted {
+        known: false,
+        size: Cursor {
+            samples: 0,
+            trails: 0,
+            sheets: 0,
+        },
+    }
+}
+
+// Whether a kind's calls change tables.
+pub fn changes(kind: u64) -> bool
+    ensures { λ r. ⌜ ((k : Kind) → kindAt kinds kind ≡ some k → k .changes ≡ r) ⌝ }
+{
+    if kind == 2 {
+        return false;
+    }
+    if kind == 3 {
+        return false;
+    }
+    true
+}
+
+// No table is lent longer than it is.
+fn fits(all: Lengths, lent: Lengths) -> bool
+    ensures { λ r. ⌜ r ≡ fitsIn (lengthsBy lent) (lengthsBy all) ⌝ }
+{
+    if all.control < lent.control {
+        return false;
+    }
+    if all.samples < lent.samples {
+        return false;
+    }
+    if all.nodes < lent.nodes {
+        return false;
+    }
+    if all.links < lent.links {
+        return false;
+    }
+    if all.work < lent.work {
+        return false;
+    }
+    true
+}
+
+// No more is taken than is ahead.
+fn is_enough(size: Cursor, samples: usize, trails: usize, sheets: usize) -> bool
+    ensures { λ r. ⌜ r ≡ enough size (cursor samples trails sheets) ⌝ }
+{
+    if samples < size.samples {
+        return false;
+    }
+    if trails < size.trails {
+        return false;
+    }
+    if sheets < size.sheets {
+        return false;
+    }
+    true
+}
+
+fn not_played(at: Cursor) -> Plan
+    ensures { λ r. ⌜ r ≡ record { made = false; to = at } ⌝ }
+{
+    Plan {
+        made: false,
+        to: at,
+    }
+}
+
+// On tables of these lengths, where this much of all that there is has been taken.
+pub fn plan(row: &[u64], lent: Lengths, at: Cursor, all: Cursor) -> Plan
+    requires { ⌜ (at .samples ≤ all .samples) × (at .trails ≤ all .trails) × (at .sheets ≤ all .sheets) ⌝ }
+    ensures { λ r. ⌜ plannedBy r
+        ≡ movedBy (playable (lengthsBy lent)
+        (cursor (all .samples - at .samples) (all .trails - at .trails) (all .sheets - at .sheets)) (now (row .entry))) (now (row .entry)) at ⌝ }
+{
+    if !fits(lent, lengths(row)) {
+        return not_played(at);
+    }
+    let wanted = wanted(row);
+    if !wanted.known {
+        return not_played(at);
+    }
+    let size = wanted.size;
+    if !is_enough(
+        size,
+        all.samples - at.samples,
+        all.trails - at.trails,
+        all.sheets - at.sheets,
+    ) {
+        return not_played(at);
+    }
+    Plan {
+        made: true,
+        to: Cursor {
+            samples: at.samples + size.samples,
+            trails: at.trails + size.trails,
+            sheets: at.sheets + size.sheets,
+        },
+    }
+}

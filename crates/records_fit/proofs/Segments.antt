@@ -11,7 +11,7 @@ use lib.IntN.{ℤ, pos, negsuc}
 use lib.Signed.{leZ}
 use lib.Dec.{T, leb, ltb, eqb, leb→le, ltb→lt}
 use mir.Facts.{and-yes as and-both}
-use borrow.Author.Tests.{lt-ltb, le-ltb, lt-leb, le-leb, eq-eqb, ne-eqb, ltb-true, leb-true, leb-false}
+use borrow.Author.Tests.{lt-ltb, le-ltb, lt-leb, le-leb, ne-eqb, ltb-true, leb-true, leb-false}
 use Rattle.integer.specs.Words.{if_then_else_, counting, isEmpty, lastOf}
 use Rattle.integer.proofs.Lists.{In, in-nil, in-cons, in-map, in-counting, Up, u-none, u-more}
 use Rattle.integer.proofs.Tests.{is-true, passed}

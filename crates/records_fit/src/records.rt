@@ -177,8 +177,16 @@ pub fn record_fits(places: &[i64], j: usize, m: usize, n: usize) -> bool
 
 // ---- ends of a node and its child
 
+// The right end at a place, which was tested.
+fn end_in(places: &[i64], at: usize) -> usize
+    requires { ⌜ (length (now places) ≡ recordPlaces) × (at < recordPlaces) × (smallAt (now places) at ≤ 256) ⌝ }
+    ensures { λ r. ⌜ r ≡ smallAt (now (places .entry)) at ⌝ }
+{
+    known(value_at(places, at))
+}
+
 // The first `many` ends of the parent are among the first `count` of the child. Both rise, so that one pass over the child's is enough: each end of the
-// parent is passed when it is met, in order, and any other end of the child is one to spare.
+// parent is passed when it is met, in order, and any other end of the child is one to spare. The pass goes by places, a segment on at a time.
 fn ends_in(child: &[i64], count: usize, parent: &[i64], many: usize) -> bool
     requires { ⌜ (length (now child) ≡ recordPlaces) × EndsRise (now child) count
         × (length (now parent) ≡ recordPlaces) × EndsRise (now parent) many ⌝ }
@@ -187,18 +195,20 @@ fn ends_in(child: &[i64], count: usize, parent: &[i64], many: usize) -> bool
     if count < many {
         return false;
     }
-    let mut p: usize = 0;
-    let mut i: usize = 0;
-    while p < many {
-        if end_at(child, i) == end_at(parent, p) {
-            p += 1;
-            i += 1;
+    let last = HEAD + many * SEGMENT;
+    let spare = (count - many) * SEGMENT;
+    let mut theirs: usize = HEAD;
+    let mut own: usize = HEAD;
+    while theirs < last {
+        if end_in(child, own) == end_in(parent, theirs) {
+            theirs += SEGMENT;
+            own += SEGMENT;
             continue;
         }
-        if count + p <= many + i {
+        if theirs + spare <= own {
             return false;
         }
-        i += 1;
+        own += SEGMENT;
     }
     true
 }

@@ -5,15 +5,15 @@ use mathlib.Core.Path.{_≡_, refl, sym, _∙_, ap, subst}
 use mathlib.Core.Bool.{Bool, true, false, _&&_, Bool·beq}
 use mathlib.Core.List.{List, [], _∷_, map, flatten}
 use native.Mathlib.Omega.{arith}
-use native.Mathlib.Nat.{add-zero}
 use lib.IntN.{ℤ}
-use lib.ListN.{length, getD, length-map}
+use lib.ListN.{length, length-map}
 use lib.Dec.{T, leb, ltb, eqb, leb→le, le→leb, ltb→lt}
 use mir.Facts.{and-yes, yes-and}
 use Rattle.integer.specs.Words.{every, counting, isIn, timesIn}
 use Rattle.integer.proofs.Tests.{is-true, passed, passes}
 use Rattle.integer.proofs.Lists.{In, every-of, from-every}
 use Rattle.integer.proofs.Times.{counting-length}
+use Rattle.integer.proofs.Rows.{getD-table}
 use Rattle.dstree.specs.Measures.{inRange, sampleLimit}
 use Rattle.dstree.specs.Node.{Segment, leaf, Node, node, Tree, nodeAt, ends}
 use Rattle.dstree.specs.Matching.{numbersIn}
@@ -28,18 +28,9 @@ use Rattle.records_fit.proofs.Limits.{same-test}
 use Rattle.well_formed.specs.Tests.{countsFit, childrenAt, childrenOnce, kindAt, leafFitsAt, numbersAt, numbersOfFirst, leavesHold}
 use Rattle.well_formed.proofs.Once.{every-same}
 
--- ---- a list made for the numbers below m
+-- ---- lists made for the numbers below m
 
 module _ {A : Type 0} (f : ℕ → A) where
-  made-length : (m a : ℕ) → length (map f (counting m a)) ≡ m
-  made-length m a = length-map (counting m a) f ∙ counting-length m a
-
-  made-at : (m a j : ℕ) (d : A) → j < m → getD (map f (counting m a)) j d ≡ f (a + j)
-  unfolding counting
-  made-at zero a j d h = absurd (omega arith)
-  made-at (suc m) a zero d h = ap f (sym (add-zero a))
-  made-at (suc m) a (suc j) d h = let e : suc a + j ≡ a + suc j = omega arith in made-at m (suc a) j d (omega arith) ∙ ap f e
-
   flat-made : (g : A → List ℕ) (h : ℕ → List ℕ) → ((x : ℕ) → g (f x) ≡ h x) → (l : List ℕ) → flatten (map g (map f l)) ≡ flatten (map h l)
   unfolding flatten
   flat-made g h e [] = refl
@@ -77,10 +68,10 @@ module _ (n k m : ℕ) (nodes : List ℤ) (links : List ℕ) where
   tree = map at (counting m 0)
 
   pub size : length tree ≡ m
-  size = made-length at m 0
+  size = length-map (counting m 0) at ∙ counting-length m 0
 
   pub node-is : (j : ℕ) → j < m → nodeAt tree j ≡ at j
-  node-is j h = let e : 0 + j ≡ j = omega arith in made-at at m 0 j (node [] (leaf [])) h ∙ ap at e
+  node-is j h = let e : 0 + j ≡ j = omega arith in getD-table at m 0 j (node [] (leaf [])) h ∙ ap at e
 
   children-is : (j : ℕ) → childrenOf (at j .kind) ≡ childrenAt nodes j
   unfolding nodeIn

@@ -1,6 +1,6 @@
 -- Marks and the rule on leaves that they decide: what names traces is marked once each, exactly if every trace number is in one leaf.
-use Prim.Native.Nat.{ℕ, _+_, _*_, _-_, _≤_, _<_}
-use mathlib.Core.Path.{_≡_, refl, sym, _∙_, subst}
+use Prim.Native.Nat.{ℕ, _+_, _≤_, _<_}
+use mathlib.Core.Path.{_≡_, refl, sym, _∙_}
 use mathlib.Core.Bool.{Bool, true, false}
 use mathlib.Core.List.{List, _++_}
 use native.Mathlib.Omega.{arith}
@@ -13,7 +13,7 @@ use Rattle.integer.proofs.Lists.{In}
 use Rattle.integer.proofs.Times.{times-append, times-none, times-in, once-length, all-once}
 use Rattle.records_fit.specs.Fits.{AllFit}
 use Rattle.records_fit.proofs.Limits.{passing, failing}
-use Rattle.well_formed.specs.Marks.{Grown, Twice, Named, Rises, Linked}
+use Rattle.well_formed.specs.Marks.{Grown, Named, Rises, Linked}
 use Rattle.well_formed.specs.Tests.{childrenOnce, firstsOf, linksOf, leavesHold}
 use Rattle.well_formed.proofs.Growth.{none-at}
 use Rattle.well_formed.proofs.Once.{blank}

@@ -1,9 +1,9 @@
 -- Marking what names traces: the first of each leaf, then the link of each trace, as far as a loop has come.
-use Prim.Native.Nat.{ℕ, _+_, _*_, _-_, _≤_, _<_}
+use Prim.Native.Nat.{ℕ, _+_, _*_, _≤_, _<_}
 use mathlib.Core.Path.{_≡_, refl, sym, _∙_, ap, subst}
 use mathlib.Core.Bool.{Bool, true, false}
 use mathlib.Core.Logic.{_⊎_, inl, inr}
-use mathlib.Core.List.{List, [], _∷_, _++_, map, flatten}
+use mathlib.Core.List.{List, [], _∷_, map, flatten}
 use native.Mathlib.Omega.{arith}
 use lib.ListN.{length, length-append, getD}
 use lib.Dec.{T, ltb, eqb, ltb→lt, lt→ltb}
@@ -13,7 +13,7 @@ use Rattle.integer.proofs.Lists.{same-or-not, In, first, in-cons, in-nil, in-ap
 use Rattle.records_fit.proofs.Limits.{clash}
 use Rattle.well_formed.specs.Marks.{Grown, Twice, Took, Named, Rises, Linked}
 use Rattle.well_formed.specs.Tests.{linkAt, linksOf}
-use Rattle.well_formed.proofs.Growth.{grown-none, grown-firsts, again-firsts, firsts-more, firsts-none}
+use Rattle.well_formed.proofs.Growth.{grown-none, grown-firsts, again-firsts, firsts-more}
 
 -- ---- numbers below a count
 

@@ -128,7 +128,13 @@ module _ (c : tie.Else2) where
   records-pass = records (c .before) (not-false (c .before .records-fit .result) (c .if2 .left))
 
   all-fit : AllFit (w o .wide4 .result) (nodes (w o))
-  all-fit = record { n = w1 (w o) .wide .result; short = omega (arith, n-read (w o), ranged (w o) .n-high); fit = sym (c .before .records-fit .ensures) ∙ not-false (c .before .records-fit .result) (c .if2 .left); room = in-table o; low = low o }
+  all-fit = record {
+    n = w1 (w o) .wide .result;
+    short = omega (arith, n-read (w o), ranged (w o) .n-high);
+    fit = sym (c .before .records-fit .ensures) ∙ not-false (c .before .records-fit .result) (c .if2 .left);
+    room = in-table o;
+    low = low o;
+  }
 
 ends-kept-requires : tie.Need-ends-kept-requires
 ends-kept-requires c κs = all-fit c
@@ -169,7 +175,8 @@ leaves-hold-requires : tie.Need-leaves-hold-requires
 leaves-hold-requires c κs =
     let g = c .before .before .before .before in
     let x = w (o g) in
-    (all-fit g, sym (c .before .children-once .ensures) ∙ not-false (c .before .children-once .result) (c .if4 .left), omega (arith, k-read x, k-room (o g), s x .pre .links-long), omega (arith, k-read x, k-room (o g), ranged x .capacity-high))
+    let once = sym (c .before .children-once .ensures) ∙ not-false (c .before .children-once .result) (c .if4 .left) in
+    (all-fit g, once, omega (arith, k-read x, k-room (o g), s x .pre .links-long), omega (arith, k-read x, k-room (o g), ranged x .capacity-high))
 
 returns-5 : tie.Need-returns-5
 returns-5 c =

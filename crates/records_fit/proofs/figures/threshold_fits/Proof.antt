@@ -1,7 +1,7 @@
 -- `records_fit::figures::threshold_fits` meets its contract: twice the limit that the figure has, one side at a time.
 use mathlib.Core.Path.{_≡_, sym, ap, subst, _∙_}
 use mathlib.Core.Bool.{Bool, true}
-use Prim.Native.Nat.{ℕ, _*_, _<_, _^_}
+use Prim.Native.Nat.{_*_, _<_, _^_}
 use native.Mathlib.Omega.{arith}
 use lib.IntN.{ℤ, pos, negℤ}
 use lib.Signed.{leZ}

@@ -10,7 +10,7 @@ use lib.IntN.{ℤ, pos, natAbs}
 use lib.ListN.{length, getD, set, take, replicate, length-set, length-replicate}
 use lib.Seq.{getD-set-same, getD-set-other}
 use borrow.Author.Count.{below-more}
-use Rattle.integer.proofs.Lists.{In, same-or-not}
+use Rattle.integer.proofs.Lists.{same-or-not}
 use Rattle.dstree.specs.Measures.{Trace}
 use Rattle.dstree.specs.Figures.{run, sumOn, scatterOn}
 use Rattle.tables.specs.View.{traceIn}

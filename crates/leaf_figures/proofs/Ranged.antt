@@ -1,30 +1,16 @@
--- With mark 0 on every trace the side is the whole leaf, and its least and greatest sum or scatter are those of the figure.
+-- The least and greatest sum or scatter of some traces are those of the figure.
 use mathlib.Core.Path.{_≡_, refl, sym, ap, _∙_}
 use mathlib.Core.List.{List, [], _∷_, map, foldl}
-use Prim.Native.Nat.{ℕ, zero, suc, min, max}
-use lib.ListN.{getD, replicate}
+use Prim.Native.Nat.{ℕ, min, max}
 use lib.IntN.{ℤ, pos}
-use borrow.Author.Tests.{eq-eqb}
-use Rattle.integer.specs.Words.{lesser, greater, those, chosen, leastℤ, greatestℤ, least, greatest}
+use Rattle.integer.specs.Words.{lesser, greater, chosen, leastℤ, greatestℤ, least, greatest}
 use Rattle.dstree.specs.Measures.{Trace}
 use Rattle.dstree.specs.Figures.{Run, scatterOn}
 use Rattle.dstree.specs.Node.{Segment, bySum, byScatter, figureOf}
 use Rattle.dstree.specs.Adding.{segmentOf}
 use Rattle.tables.proofs.Small.{lesser-pos, greater-pos}
-use Rattle.leaf_figures.specs.Sides.{marked, segmentBy}
+use Rattle.leaf_figures.specs.Sides.{segmentBy}
 use Rattle.leaf_figures.specs.declared.sides.Figures.{Figures}
-
--- ---- mark 0
-
-no-mark : (m t : ℕ) → _≡_ {A = ℕ} (getD (replicate m 0) t 0) 0
-no-mark zero t = refl
-no-mark (suc m) zero = refl
-no-mark (suc m) (suc t) = no-mark m t
-
-pub all-marked : (m : ℕ) (numbers : List ℕ) → marked (replicate m 0) 0 numbers ≡ numbers
-unfolding those
-all-marked m [] = refl
-all-marked m (t ∷ numbers) = rw (eq-eqb (getD (replicate m 0) t 0) 0 (no-mark m t)) (ap (λ (l : List ℕ). t ∷ l) (all-marked m numbers))
 
 -- ---- scatters as numbers with a sign
 

@@ -9,7 +9,6 @@ use Rattle.integer.specs.Lists.{In}
 use Rattle.dstree.specs.Measures.{Trace}
 use Rattle.dstree.specs.Figures.{run, sumOn, scatterOn}
 use Rattle.tables.specs.View.{traceIn}
-use Rattle.tables.specs.Runs.{Inside}
 
 -- the traces of some numbers
 abbrev pub tracesAt : List ℤ → ℕ → List ℕ → List Trace

@@ -4,5 +4,6 @@ pub mod ends;
 pub mod filling;
 pub mod lists;
 pub mod rows;
+pub mod sameness;
 pub mod sides;
 pub mod spread;

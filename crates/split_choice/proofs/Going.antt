@@ -1,27 +1,21 @@
 -- The loop over a node's segments: what holds before each turn, and what a turn makes of it.
 use mathlib.Core.Path.{_≡_, sym, ap, subst, _∙_}
-use mathlib.Core.Bool.{false}
 use mathlib.Core.Logic.{_⊎_, inl, inr}
 use mathlib.Core.Option.{Option}
 use mathlib.Core.List.{List, [], _∷_, _++_}
 use Prim.Native.Nat.{ℕ, _+_, _≤_, _<_}
 use native.Mathlib.Omega.{arith}
 use native.Mathlib.Numerals.{add-one}
-use lib.IntN.{pos}
 use Rattle.integer.proofs.Lists.{In, in-cons}
 use Rattle.dstree.specs.Measures.{Trace}
 use Rattle.dstree.specs.Figures.{run}
 use Rattle.dstree.specs.Adding.{Split, byEither, halves, cutAt, candidatesFrom, best}
 use Rattle.tables.specs.Runs.{Inside}
 use Rattle.leaf_figures.specs.Ends.{Rise, r-more}
-use Rattle.split_choice.specs.Choosing.{chosenBy, tried, Sound}
+use Rattle.split_choice.specs.Choosing.{nothing, chosenBy, tried, Sound}
 use Rattle.split_choice.specs.declared.choice.Choice.{Choice}
 use Rattle.split_choice.proofs.Cuts.{rise-in, rise-cut}
 use Rattle.split_choice.proofs.Tried.{all-tried, segment-tried}
-
--- nothing found yet
-abbrev pub nothing : Choice
-nothing = record { found = false; first = 0; last = 0; «by_scatter» = false; cut = 0; threshold = pos 0; gain = pos 0 }
 
 module _ (n : ℕ) (stored : List Trace) (all numbers : List ℕ) where
   -- the segments from sample `first` on are left, with the right ends `rest`

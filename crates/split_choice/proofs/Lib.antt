@@ -4,4 +4,5 @@ pub mod Cuts
 pub mod Tried
 pub mod Halved
 pub mod Going
+pub mod Unparted
 pub mod Examples

@@ -1,10 +1,10 @@
 -- The best candidate so far, as code keeps it, and what one candidate more makes of it.
 use Prim.Native.Nat.{ℕ, _^_, _≤_, _<_}
 use mathlib.Core.Path.{_≡_}
-use mathlib.Core.Bool.{true, not}
+use mathlib.Core.Bool.{true, false, not}
 use mathlib.Core.Option.{Option, none, some}
 use mathlib.Core.List.{List, [], foldl, map}
-use lib.IntN.{ℤ, natAbs}
+use lib.IntN.{ℤ, pos, natAbs}
 use lib.ListN.{length, getD, take}
 use lib.Signed.{ltZ}
 use lib.Dec.{eqb}
@@ -51,6 +51,10 @@ chosenBy stored all numbers r = if r .found then some (splitOf stored all number
 -- a choice of one trial
 abbrev pub choiceOf : Trial → ℤ → ℤ → Choice
 choiceOf c threshold g = record { found = true; first = c .first; last = c .last; «by_scatter» = c .«by_scatter»; cut = c .cut; threshold = threshold; gain = g }
+
+-- nothing found yet
+abbrev pub nothing : Choice
+nothing = record { found = false; first = 0; last = 0; «by_scatter» = false; cut = 0; threshold = pos 0; gain = pos 0 }
 
 -- the new one if its gain is above, or if there was none
 abbrev pub betterOf : Choice → Choice → Choice

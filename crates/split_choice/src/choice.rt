@@ -4,11 +4,12 @@ use leaf_figures::ends::Ends;
 use leaf_figures::filling::fill_rows;
 use leaf_figures::lists::list_leaf;
 use leaf_figures::lists::place_list;
+use leaf_figures::sameness::all_same;
 use leaf_figures::spread::spread_along;
 ghost use mathlib.Core.Path.{_≡_};
 ghost use mathlib.Core.List.{_∷_, [], _++_};
 ghost use Prim.Native.Nat.{ℕ, _≤_, _<_};
-ghost use lib.ListN.{take};
+ghost use lib.ListN.{length, take};
 ghost use Rattle.integer.specs.Lists.{In};
 ghost use Rattle.dstree.specs.Figures.{run};
 ghost use Rattle.dstree.specs.Adding.{tracesOf, byEither, halves, cutAt, best};
@@ -16,7 +17,7 @@ ghost use Rattle.tables.specs.Walk.{storedIn, numbersOf, Stored};
 ghost use Rattle.tables.specs.Runs.{Inside};
 ghost use Rattle.leaf_figures.specs.Ends.{endsOf, Room, Rise};
 ghost use Rattle.leaf_figures.specs.Rows.{Listed, Rows};
-ghost use Rattle.split_choice.specs.Choosing.{choiceOf, betterOf, candidateBy, childEnds, chosenBy, chosenIn, Sound, SoundIn, After, Fit, Leaf, Reached};
+ghost use Rattle.split_choice.specs.Choosing.{nothing, choiceOf, betterOf, candidateBy, childEnds, chosenBy, chosenIn, Sound, SoundIn, After, Fit, Leaf, Reached};
 
 // A candidate: a run, its figure, and where the children's segments are cut, 0 for nowhere. Its column in the table of figures is a guess.
 pub struct Trial {
@@ -36,6 +37,21 @@ pub struct Choice {
     pub cut: usize,
     pub threshold: i64,
     pub gain: i64,
+}
+
+// No candidate yet.
+fn none_found() -> Choice
+    ensures { λ r. ⌜ r ≡ nothing ⌝ }
+{
+    Choice {
+        found: false,
+        first: 0,
+        last: 0,
+        by_scatter: false,
+        cut: 0,
+        threshold: 0,
+        gain: 0,
+    }
 }
 
 // The candidate in place of the best so far, if its gain is above. An equal gain is not: the earliest among equals wins.
@@ -75,10 +91,13 @@ fn try_one(
     low: i64,
     high: i64,
     old: Choice,
+    side: &mut [u16; 4096],
 ) -> Choice
     requires { ⌜ Leaf (now samples) n k (now list) count (now place) (now runs) (now sums) (now scatters) e whole × Fit n (endsOf e) (c .first) (c .last) (c .cut)
-        × Reached (tracesOf (storedIn (now samples) n k) (take count (now list))) c low high × Sound n (storedIn (now samples) n k) (endsOf e) (take count (now list)) old ⌝ }
+        × Reached (tracesOf (storedIn (now samples) n k) (take count (now list))) c low high
+        × Sound n (storedIn (now samples) n k) (endsOf e) (take count (now list)) old × (length (now side) ≡ 4096) ⌝ }
     ensures { λ r. ⌜ After n (storedIn (now (samples .entry)) n k) (endsOf e) (take count (now (list .entry))) old (candidateBy (endsOf e) c ∷ []) r ⌝ }
+    ensures room { λ _. ⌜ length (now (side .exit)) ≡ 4096 ⌝ }
 {
     if low < high {
         let threshold = low + high;
@@ -96,6 +115,7 @@ fn try_one(
             whole,
             c,
             threshold,
+            side,
         );
         better(old, c, threshold, g)
     } else {
@@ -121,10 +141,12 @@ fn try_both(
     last: usize,
     cut: usize,
     old: Choice,
+    side: &mut [u16; 4096],
 ) -> Choice
     requires { ⌜ Leaf (now samples) n k (now list) count (now place) (now runs) (now sums) (now scatters) e whole × Fit n (endsOf e) first last cut
-        × Sound n (storedIn (now samples) n k) (endsOf e) (take count (now list)) old ⌝ }
+        × Sound n (storedIn (now samples) n k) (endsOf e) (take count (now list)) old × (length (now side) ≡ 4096) ⌝ }
     ensures { λ r. ⌜ After n (storedIn (now (samples .entry)) n k) (endsOf e) (take count (now (list .entry))) old (byEither (run first last) (childEnds cut (endsOf e))) r ⌝ }
+    ensures room { λ _. ⌜ length (now (side .exit)) ≡ 4096 ⌝ }
 {
     let f = figures_along(
         samples,
@@ -171,6 +193,7 @@ fn try_both(
         f.least_sum,
         f.greatest_sum,
         old,
+        side,
     );
     try_one(
         samples,
@@ -188,6 +211,7 @@ fn try_both(
         low,
         high,
         one,
+        side,
     )
 }
 
@@ -209,10 +233,12 @@ fn try_segment(
     first: usize,
     last: usize,
     old: Choice,
+    side: &mut [u16; 4096],
 ) -> Choice
     requires { ⌜ Leaf (now samples) n k (now list) count (now place) (now runs) (now sums) (now scatters) e whole × Inside n first last
-        × ((m : ℕ) → first ≤ m → m < last → Rise n 1 (cutAt m (endsOf e))) × (i < 16) × Sound n (storedIn (now samples) n k) (endsOf e) (take count (now list)) old ⌝ }
+        × ((m : ℕ) → first ≤ m → m < last → Rise n 1 (cutAt m (endsOf e))) × (i < 16) × Sound n (storedIn (now samples) n k) (endsOf e) (take count (now list)) old × (length (now side) ≡ 4096) ⌝ }
     ensures { λ r. ⌜ After n (storedIn (now (samples .entry)) n k) (endsOf e) (take count (now (list .entry))) old (byEither (run first last) (endsOf e) ++ halves (endsOf e) (run first last)) r ⌝ }
+    ensures room { λ _. ⌜ length (now (side .exit)) ≡ 4096 ⌝ }
 {
     let segments = e.count;
     let all = try_both(
@@ -232,6 +258,7 @@ fn try_segment(
         last,
         0,
         old,
+        side,
     );
     if 16 <= segments {
         return all;
@@ -260,6 +287,7 @@ fn try_segment(
         mid,
         mid,
         all,
+        side,
     );
     try_both(
         samples,
@@ -278,6 +306,7 @@ fn try_segment(
         last,
         mid,
         left,
+        side,
     )
 }
 
@@ -301,17 +330,10 @@ fn best_along(
     ensures sound { λ r. ⌜ Sound n (storedIn (now (samples .entry)) n k) (endsOf e) (take count (now (list .entry))) r ⌝ }
 {
     let whole = spread_along(samples, n, list, count, place, runs, sums, scatters, 16, e);
+    let mut side = [0u16; 4096];
     let at = e.at;
     let segments = e.count;
-    let mut found = Choice {
-        found: false,
-        first: 0,
-        last: 0,
-        by_scatter: false,
-        cut: 0,
-        threshold: 0,
-        gain: 0,
-    };
+    let mut found = none_found();
     let mut first: usize = 1;
     let mut i: usize = 0;
     while i < segments {
@@ -332,6 +354,7 @@ fn best_along(
             first,
             last,
             found,
+            &mut side,
         );
         first = last + 1;
         i += 1;
@@ -339,24 +362,29 @@ fn best_along(
     found
 }
 
-// The split that a leaf takes, over the right ends of its node: the greatest gain, which can be below zero, and the earliest among equals.
-// Nothing is found if no candidate parts the leaf. Its numbers are listed, and the figures of a list that is not too long are kept.
-pub fn choose(samples: &[i16], links: &[u16], n: usize, k: usize, head: usize, e: Ends) -> Choice
-    requires { ⌜ Stored (now samples) (now links) n k head × Room e × Rise n 1 (endsOf e) ⌝ }
-    ensures { λ r. ⌜ chosenIn (now (samples .entry)) (now (links .entry)) n k head e r ≡ best (storedIn (now (samples .entry)) n k) (endsOf e) (numbersOf (now (links .entry)) k head) ⌝ }
-    ensures sound { λ r. ⌜ SoundIn (now (samples .entry)) (now (links .entry)) n k head e r ⌝ }
+// The same, with a table of the figures of a list that is not too long.
+fn best_kept(
+    samples: &[i16],
+    n: usize,
+    k: usize,
+    list: &[u16; 4096],
+    count: usize,
+    e: Ends,
+) -> Choice
+    requires { ⌜ Listed (now samples) n (now list) count × ((t : ℕ) → In t (take count (now list)) → t < k) × (k ≤ 4096) × Room e × Rise n 1 (endsOf e) ⌝ }
+    ensures { λ r. ⌜ chosenBy (storedIn (now (samples .entry)) n k) (endsOf e) (take count (now (list .entry))) r
+        ≡ best (storedIn (now (samples .entry)) n k) (endsOf e) (take count (now (list .entry))) ⌝ }
+    ensures sound { λ r. ⌜ Sound n (storedIn (now (samples .entry)) n k) (endsOf e) (take count (now (list .entry))) r ⌝ }
 {
-    let mut list = [0u16; 4096];
     let mut place = [0u16; 4096];
     let mut runs = [0usize; 96];
     let mut sums = [0i64; 3120];
     let mut scatters = [0u64; 3120];
-    let count = list_leaf(links, k, head, &mut list);
-    place_list(&list, count, &mut place);
+    place_list(list, count, &mut place);
     fill_rows(
         samples,
         n,
-        &list,
+        list,
         count,
         e,
         &mut runs,
@@ -367,7 +395,7 @@ pub fn choose(samples: &[i16], links: &[u16], n: usize, k: usize, head: usize, e
         samples,
         n,
         k,
-        &list,
+        list,
         count,
         &place,
         &runs,
@@ -375,4 +403,20 @@ pub fn choose(samples: &[i16], links: &[u16], n: usize, k: usize, head: usize, e
         &scatters,
         e,
     )
+}
+
+// The split that a leaf takes, over the right ends of its node: the greatest gain, which can be below zero, and the earliest among equals.
+// Nothing is found if no candidate parts the leaf. A leaf whose traces are all the same is not tried: nothing parts it, and it may hold many.
+pub fn choose(samples: &[i16], links: &[u16], n: usize, k: usize, head: usize, e: Ends) -> Choice
+    requires { ⌜ Stored (now samples) (now links) n k head × Room e × Rise n 1 (endsOf e) ⌝ }
+    ensures { λ r. ⌜ chosenIn (now (samples .entry)) (now (links .entry)) n k head e r ≡ best (storedIn (now (samples .entry)) n k) (endsOf e) (numbersOf (now (links .entry)) k head) ⌝ }
+    ensures sound { λ r. ⌜ SoundIn (now (samples .entry)) (now (links .entry)) n k head e r ⌝ }
+{
+    let mut list = [0u16; 4096];
+    let count = list_leaf(links, k, head, &mut list);
+    let same = all_same(samples, n, &list, count);
+    if same {
+        return none_found();
+    }
+    best_kept(samples, n, k, &list, count, e)
 }

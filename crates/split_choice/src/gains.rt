@@ -99,7 +99,8 @@ fn halved_by(column: usize) -> usize {
     column - 32
 }
 
-// The gain of the candidate on a run with this threshold: the spread of each of its sides is over the children's ends.
+// The gain of the candidate on a run with this threshold: the spread of each of its sides is over the children's ends. `side` is room for a
+// side's list.
 pub fn gain_of(
     samples: &[i16],
     n: usize,
@@ -114,13 +115,14 @@ pub fn gain_of(
     whole: u64,
     c: Trial,
     threshold: i64,
+    side: &mut [u16; 4096],
 ) -> i64
-    requires { ⌜ Leaf (now samples) n k (now list) count (now place) (now runs) (now sums) (now scatters) e whole × Fit n (endsOf e) (c .first) (c .last) (c .cut) ⌝ }
+    requires { ⌜ Leaf (now samples) n k (now list) count (now place) (now runs) (now sums) (now scatters) e whole × Fit n (endsOf e) (c .first) (c .last) (c .cut) × (length (now side) ≡ 4096) ⌝ }
     ensures { λ r. ⌜ r ≡ adding.gain (storedIn (now (samples .entry)) n k) (endsOf e) (take count (now (list .entry)))
         (splitOn (storedIn (now (samples .entry)) n k) (take count (now (list .entry))) (trialTest c threshold) (childEnds (c .cut) (endsOf e))) ⌝ }
+    ensures room { λ _. ⌜ length (now (side .exit)) ≡ 4096 ⌝ }
 {
     let child = child_ends(e, c.cut);
-    let mut side = [0u16; 4096];
     let left = side_spread(
         samples,
         n,
@@ -134,7 +136,7 @@ pub fn gain_of(
         threshold,
         true,
         child,
-        &mut side,
+        side,
     );
     let right = side_spread(
         samples,
@@ -149,7 +151,7 @@ pub fn gain_of(
         threshold,
         false,
         child,
-        &mut side,
+        side,
     );
     gain(whole, left, right)
 }

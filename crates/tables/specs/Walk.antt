@@ -8,7 +8,6 @@ use lib.ListN.{length, getD}
 use lib.Dec.{eqb}
 use Rattle.integer.specs.Words.{if_then_else_, counting}
 use Rattle.dstree.specs.Measures.{Trace}
-use Rattle.dstree.specs.Adding.{tracesOf}
 use Rattle.tables.specs.View.{traceIn, numbersFrom}
 
 -- the first k traces of n samples
@@ -18,10 +17,6 @@ storedIn samples n k = map (traceIn samples n) (counting k 0)
 -- a leaf's trace numbers from its first on, k traces being stored
 abbrev pub numbersOf : List ℕ → ℕ → ℕ → List ℕ
 numbersOf links k first = numbersFrom links (suc k) first
-
--- the leaf's traces
-abbrev pub leafTraces : List ℤ → List ℕ → ℕ → ℕ → ℕ → List Trace
-leafTraces samples links n k first = tracesOf (storedIn samples n k) (numbersOf links k first)
 
 -- each stored trace's link is 0 or a stored trace above it, so that every list ends
 abbrev pub Rising : List ℕ → ℕ → Type 0

@@ -9,7 +9,7 @@ use mir.Syntax.{w64}
 use mir.Facts.{toZ-ofZ}
 use Rattle.integer.proofs.Width.{of-mag}
 use Rattle.integer.proofs.Lists.{In}
-use Rattle.dstree.specs.Figures.{run, sumOn, scatterOn}
+use Rattle.dstree.specs.Figures.{run}
 use Rattle.tables.specs.View.{traceIn}
 use Rattle.leaf_figures.specs.Sides.{noFigures, withFigures, Small, segmentBy}
 use Rattle.leaf_figures.specs.Rows.{Kept}

@@ -42,7 +42,8 @@ run-at c =
     record {
       narrow = p .0 .narrow;
       room = p .0 .inside (c .wide .result)
-          (subst (λ (x : ℕ). In x (take (s .args .count) list)) (sym (c .wide .ensures)) (in-listed list (s .args .count) (k .before .loop .p) (k .loop-test .taken) (omega (arith, p .0 .places, p .0 .few))));
+          (subst (λ (x : ℕ). In x (take (s .args .count) list)) (sym (c .wide .ensures))
+          (in-listed list (s .args .count) (k .before .loop .p) (k .loop-test .taken) (omega (arith, p .0 .places, p .0 .few))));
       inside = p .1;
     }
 

@@ -1,8 +1,7 @@
 -- `leaf_figures::filling::fill_rows` meets its contract: each segment is inside, since the ends rise. The measure is how many segments are left.
-use Prim.Native.Nat.{ℕ, _+_, _-_, _≤_}
+use Prim.Native.Nat.{_+_, _-_, _≤_}
 use native.Mathlib.Omega.{arith}
 use lib.ListN.{getD, take, drop}
-use borrow.Author.Needs.{needs}
 use Rattle.leaf_figures.specs.Ends.{Rise}
 use Rattle.leaf_figures.specs.Rows.{Columns}
 use Rattle.leaf_figures.proofs.Totals.{Next, next-at}

@@ -1,7 +1,6 @@
 -- `leaf_figures::filling::fill_run` meets its contract: the run's column is right, and the other columns are as they were.
 use native.Mathlib.Omega.{arith}
 use denote.Ref.{now}
-use borrow.Author.Needs.{needs}
 use Rattle.leaf_figures.proofs.Filled.{columns-more}
 use Rattle.leaf_figures.proofs.filling.fill_run.Statement.{statement}
 use Rattle.leaf_figures.proofs.filling.fill_run.Tie as tie

@@ -1,7 +1,6 @@
 -- `leaf_figures::filling::fill_segment` meets its contract: each run is inside, and its column is filled.
 use Prim.Native.Nat.{_≤_}
 use native.Mathlib.Omega.{arith}
-use borrow.Author.Needs.{needs}
 use Rattle.leaf_figures.proofs.filling.fill_segment.Statement.{statement}
 use Rattle.leaf_figures.proofs.filling.fill_segment.Tie as tie
 

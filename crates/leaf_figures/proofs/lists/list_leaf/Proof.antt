@@ -39,7 +39,8 @@ loop-again c =
       omega (arith, h .0, l .inv .1),
       length-set (l .list) (l .count) (l .t) ∙ l .inv .2,
       ap (λ (u : ℕ). take (l .count + 1) (set (l .list) (l .count) (l .t)) ++ metFrom (a .links .now) (a .k) u) (c .behind .ensures)
-          ∙ (listed-more (l .list) (l .count) (l .t) (metFrom (a .links .now) (a .k) (behindOf (a .links .now) (a .k) (l .t))) (omega (arith, l .inv .2, l .inv .1, s .pre .1, c .before .loop-test .taken))
+          ∙ (listed-more (l .list) (l .count) (l .t) (metFrom (a .links .now) (a .k) (behindOf (a .links .now) (a .k) (l .t)))
+          (omega (arith, l .inv .2, l .inv .1, s .pre .1, c .before .loop-test .taken))
           ∙ (ap (λ (m : List ℕ). list ++ m) (sym (met-more (a .links .now) (a .k) (s .pre .3) (l .t) (c .before .loop-test .taken))) ∙ l .inv .3)),
     )
 

@@ -1,5 +1,5 @@
 -- `leaf_figures::rows::figures_at` meets its contract: what stands in the row, or what the samples give, are the trace's figures.
-use mathlib.Core.Path.{_≡_, sym, ap, subst, _∙_}
+use mathlib.Core.Path.{sym, ap, subst, _∙_}
 use Prim.Native.Nat.{ℕ, _+_, _*_, _<_}
 use native.Mathlib.Omega.{arith}
 use lib.IntN.{pos}

@@ -3,7 +3,6 @@ use mathlib.Core.Path.{_≡_, ap, _∙_}
 use mathlib.Core.Bool.{Bool, true, false}
 use mathlib.Core.Option.{Option}
 use mathlib.Core.List.{List, [], _∷_}
-use Prim.Native.Nat.{ℕ}
 use native.Mathlib.Omega.{arith}
 use lib.IntN.{pos}
 use lib.ListN.{take}
@@ -39,7 +38,8 @@ module _ (g : tie.After-figures-along) where
   whole : segmentBy (s .args .last) (g .figures-along .result) ≡ segmentOf traces (run (s .args .first) (s .args .last))
   whole =
       g .figures-along .ensures .0
-      ∙ ap (λ (l : List Trace). segmentOf l (run (s .args .first) (s .args .last))) (list-traces (s .args .samples .now) (s .args .n) (s .args .k) (take (s .args .count) (s .args .list .now)) (s .pre .0 .below))
+      ∙ ap (λ (l : List Trace). segmentOf l (run (s .args .first) (s .args .last)))
+      (list-traces (s .args .samples .now) (s .args .n) (s .args .k) (take (s .args .count) (s .args .list .now)) (s .pre .0 .below))
 
   by-sum : Reached traces (trial false) (read w64 (g .figures-along .result .«least_sum»)) (read w64 (g .figures-along .result .«greatest_sum»))
   by-sum =
@@ -73,23 +73,27 @@ figures-along-requires : tie.Need-figures-along-requires
 figures-along-requires c κs = let s = c .before .before in (s .pre .0 .listed, s .pre .1 .inside, s .pre .0 .rows)
 
 try-one-requires : tie.Need-try-one-requires
-try-one-requires c κs = let g = c .before .before .before .before in (s g .pre .0, s g .pre .1, by-sum g, s g .pre .2)
+try-one-requires c κs = let g = c .before .before .before .before .before in (s g .pre .0, s g .pre .1, by-sum g, s g .pre .2, s g .pre .3)
 
 try-one-requires-2 : tie.Need-try-one-requires-2
-try-one-requires-2 c κs = let g = c .before .before .before .before .before in (s g .pre .0, s g .pre .1, by-scatter g, c .try-one .ensures .sound)
+try-one-requires-2 c κs =
+    let g = c .before .before .before .before .before .before .before in
+    (s g .pre .0, s g .pre .1, by-scatter g, c .before .try-one .ensures .0 .sound, c .before .try-one .ensures .1)
 
 returns : tie.Need-returns
 unfolding byEither
 returns c =
-    let g = c .before .before .before .before .before .before in
+    let g = c .before .before .before .before .before .before .before .before in
     let a = s g .args in
     let stored = storedIn (a .samples .now) (a .n) (a .k) in
-    let numbers = take (a .count) (a .list .now) in
-    record {
-      is = c .try-one2 .ensures .is
-          ∙ ap (λ (o : Option Split). tried stored (endsOf (a .e)) numbers o (candidateBy (endsOf (a .e)) (trial g true) ∷ [])) (c .before .try-one .ensures .is);
-      sound = c .try-one2 .ensures .sound;
-    }
+    let numbers = take (a .count) (a .list .now) in (
+      record {
+        is = c .try-one2 .ensures .0 .is
+            ∙ ap (λ (o : Option Split). tried stored (endsOf (a .e)) numbers o (candidateBy (endsOf (a .e)) (trial g true) ∷ [])) (c .before .before .try-one .ensures .0 .is);
+        sound = c .try-one2 .ensures .0 .sound;
+      },
+      c .try-one2 .ensures .1,
+    )
 
 pub try-both-spec : {M : Type 1} → statement M
 try-both-spec = tie.close (tie.spec figures-along-requires (λ c. search needs) (λ c. search needs) try-one-requires try-one-requires-2 returns)

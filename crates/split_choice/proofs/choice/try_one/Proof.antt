@@ -1,7 +1,7 @@
 -- `split_choice::choice::try_one` meets its contract: a candidate parts the leaf exactly if its least figure is below its greatest, and then the better of it
 -- and the best so far is kept.
 use mathlib.Core.Path.{_≡_, sym, ap, ap₂, subst, _∙_}
-use mathlib.Core.Bool.{true, false}
+use mathlib.Core.Bool.{true}
 use mathlib.Core.List.{List, map}
 use Prim.Native.Nat.{_^_, _≤_}
 use native.Mathlib.Omega.{arith}
@@ -55,7 +55,7 @@ add-threshold : tie.Need-add-threshold
 add-threshold c = let s = c .before .before .before in sum-fits (s .args .low) (s .args .high) (s .pre .2 .low-size) (s .pre .2 .high-size)
 
 gain-of-requires : tie.Need-gain-of-requires
-gain-of-requires c κs = let s = c .before .before .before in (s .pre .0, s .pre .1)
+gain-of-requires c κs = let s = c .before .before .before .before in (s .pre .0, s .pre .1, s .pre .4)
 
 -- the test is that of the least and the greatest figure
 below-is : (s : tie.Start) → ltZ (read w64 (s .args .low)) (read w64 (s .args .high)) ≡ ltZ (leastℤ (figures s)) (greatestℤ (figures s))
@@ -64,7 +64,7 @@ below-is s = let r = s .pre .2 in test-is (s .args .low) (s .args .high) (r .low
 returns : tie.Need-returns
 unfolding thresholdOf
 returns c =
-    let s = c .before .before .before .before .before in
+    let s = c .before .before .before .before .before .before in
     let a = s .args in
     let r = s .pre .2 in
     let g = c .before .gain-of in
@@ -73,24 +73,28 @@ returns c =
     let t : ℤ = read w64 (read w64 (a .low) +ℤ read w64 (a .high)) in
     let sum = sum-back (a .low) (a .high) (r .low-size) (r .high-size) in
     let t-is : t ≡ leastℤ (figures s) +ℤ greatestℤ (figures s) = sum ∙ ap₂ _+ℤ_ (r .low-is) (r .high-is) in
-    let above : ltZ (leastℤ (figures s)) (greatestℤ (figures s)) ≡ true = sym (below-is s) ∙ c .before .before .if1 .taken in
+    let above : ltZ (leastℤ (figures s)) (greatestℤ (figures s)) ≡ true = sym (below-is s) ∙ c .before .before .before .if1 .taken in
     let small-t : natAbs t ≤ 2 ^ 47 = rw sum (sum-small (a .low) (a .high) (r .low-size) (r .high-size)) in
     let e : c .better .result ≡ betterOf (a .old) (choiceOf (a .c) t (g .result)) =
-    c .better .ensures ∙ ap (λ (z : ℤ). betterOf (a .old) (choiceOf (a .c) t z)) (toZ-ofZ (of-mag {w = w64} (g .result) (g .ok))) in
-    record {
-      is = ap (chosenBy stored (endsOf (a .e)) numbers) e ∙ one-chosen stored (endsOf (a .e)) numbers (a .n) (a .old) (s .pre .3) (a .c) t (g .result) above t-is (g .ensures) small-t (s .pre .1);
-      sound = subst (Sound (a .n) stored (endsOf (a .e)) numbers) (sym e)
-          (one-sound stored (endsOf (a .e)) numbers (a .n) (a .old) (s .pre .3) (a .c) t (g .result) above t-is (g .ensures) small-t (s .pre .1));
-    }
+    c .better .ensures ∙ ap (λ (z : ℤ). betterOf (a .old) (choiceOf (a .c) t z)) (toZ-ofZ (of-mag {w = w64} (g .result) (g .ok))) in (
+      record {
+        is = ap (chosenBy stored (endsOf (a .e)) numbers) e ∙ one-chosen stored (endsOf (a .e)) numbers (a .n) (a .old) (s .pre .3) (a .c) t (g .result) above t-is (g .ensures .0) small-t (s .pre .1);
+        sound = subst (Sound (a .n) stored (endsOf (a .e)) numbers) (sym e)
+            (one-sound stored (endsOf (a .e)) numbers (a .n) (a .old) (s .pre .3) (a .c) t (g .result) above t-is (g .ensures .0) small-t (s .pre .1));
+      },
+      g .ensures .1,
+    )
 
 returns-2 : tie.Need-returns-2
 returns-2 c =
     let s = c .before .before .before in
-    let a = s .args in
-    record {
-      is = one-whole (storedIn (a .samples .now) (a .n) (a .k)) (endsOf (a .e)) (take (a .count) (a .list .now)) (a .n) (a .old) (s .pre .3) (a .c) (sym (below-is s) ∙ c .if1 .left);
-      sound = s .pre .3;
-    }
+    let a = s .args in (
+      record {
+        is = one-whole (storedIn (a .samples .now) (a .n) (a .k)) (endsOf (a .e)) (take (a .count) (a .list .now)) (a .n) (a .old) (s .pre .3) (a .c) (sym (below-is s) ∙ c .if1 .left);
+        sound = s .pre .3;
+      },
+      s .pre .4,
+    )
 
 pub try-one-spec : {M : Type 1} → statement M
 try-one-spec = tie.close (tie.spec add-threshold gain-of-requires (λ c κs. tt) returns returns-2)

@@ -2,7 +2,7 @@
 use mathlib.Core.Path.{_≡_, refl, sym, ap, _∙_}
 use mathlib.Core.Option.{Option}
 use mathlib.Core.List.{List, [], _++_}
-use Prim.Native.Nat.{_+_, _<_}
+use Prim.Native.Nat.{_+_, _≤_, _<_}
 use native.Mathlib.Omega.{arith}
 use lib.ListN.{length, take}
 use lib.Seq.{length-take-le}
@@ -48,69 +48,73 @@ half-rise s h =
 
 try-both-requires : tie.Need-try-both-requires
 try-both-requires c κs =
-    let s = c .before .before in
-    (s .pre .0, record { inside = s .pre .1; room = λ f. absurd (f refl); rise = s .pre .0 .rise }, s .pre .4)
+    let s = c .before .before .before in
+    (s .pre .0, record { inside = s .pre .1; room = λ f. absurd (f refl); rise = s .pre .0 .rise }, s .pre .4, s .pre .5)
 
 returns : tie.Need-returns
 returns c =
-    let s = c .before .before .before .before in
-    record {
-      is = c .before .try-both .ensures .is ∙ whole-only s (no-room (endsOf (s .args .e)) (s .args .first) (s .args .last) (omega (arith, count-is s, c .if1 .taken)));
-      sound = c .before .try-both .ensures .sound;
-    }
+    let s = c .before .before .before .before .before in
+    let g = c .before .try-both .ensures in (
+      record {
+        is = g .0 .is ∙ whole-only s (no-room (endsOf (s .args .e)) (s .args .first) (s .args .last) (omega (arith, count-is s, c .if1 .taken)));
+        sound = g .0 .sound;
+      },
+      g .1,
+    )
 
 returns-2 : tie.Need-returns-2
 returns-2 c =
-    let s = c .before .before .before .before .before in
-    record {
-      is = c .before .before .try-both .ensures .is ∙ whole-only s (no-width (endsOf (s .args .e)) (s .args .first) (s .args .last) (c .if2 .taken));
-      sound = c .before .before .try-both .ensures .sound;
-    }
+    let s = c .before .before .before .before .before .before in
+    let g = c .before .before .try-both .ensures in (
+      record { is = g .0 .is ∙ whole-only s (no-width (endsOf (s .args .e)) (s .args .first) (s .args .last) (c .if2 .taken)); sound = g .0 .sound },
+      g .1,
+    )
 
-add-mid : tie.Need-add-mid
-add-mid c = omega (arith, c .before .before .before .before .before .pre .1 .to-n, c .before .before .before .before .before .pre .0 .listed .narrow)
+-- where there are halves
+module _ (h : tie.Else2) where
+  abbrev start : tie.Start
+  start = h .before .before .before .before .before .before
 
-add-mid-2 : tie.Need-add-mid-2
-add-mid-2 c = omega (arith, c .before .before .before .before .before .pre .1 .to-n, c .before .before .before .before .before .pre .0 .listed .narrow)
+  inside : let a = start .args in (a .first ≤ middle (endsOf (a .e)) (a .first) (a .last)) × (middle (endsOf (a .e)) (a .first) (a .last) < a .last)
+  inside = let a = start .args in middle-in (endsOf (a .e)) (a .first) (a .last) (start .pre .1 .from-1) (h .if2 .left)
 
-sub-mid-2 : tie.Need-sub-mid-2
-sub-mid-2 c = omega (arith, c .before .before .before .before .before .pre .1 .from-1)
-
-add-next : tie.Need-add-next
-add-next c =
-    let s = c .before .before .before .before .before in
-    let i = middle-in (endsOf (s .args .e)) (s .args .first) (s .args .last) (s .pre .1 .from-1) (c .if2 .left) in
-    omega (arith, i .1, s .pre .1 .to-n, s .pre .0 .listed .narrow)
+  most : start .args .last ≤ 256
+  most = omega (arith, start .pre .1 .to-n, start .pre .0 .listed .narrow)
 
 try-both-requires-2 : tie.Need-try-both-requires-2
 try-both-requires-2 c κs =
-    let s = c .before .before .before .before .before in
-    let i = middle-in (endsOf (s .args .e)) (s .args .first) (s .args .last) (s .pre .1 .from-1) (c .if2 .left) in (
+    let h = c .before in
+    let s = start h in
+    let g = h .before .before .try-both .ensures in (
       s .pre .0,
       record {
-        inside = record { from-1 = s .pre .1 .from-1; rises = i .0; to-n = omega (arith, i .1, s .pre .1 .to-n) };
-        room = λ f. omega (arith, count-is s, c .before .if1 .left);
-        rise = half-rise s (c .if2 .left);
+        inside = record { from-1 = s .pre .1 .from-1; rises = inside h .0; to-n = omega (arith, inside h .1, s .pre .1 .to-n) };
+        room = λ f. omega (arith, count-is s, h .before .if1 .left);
+        rise = half-rise s (h .if2 .left);
       },
-      c .before .before .try-both .ensures .sound,
+      g .0 .sound,
+      g .1,
     )
 
 try-both-requires-3 : tie.Need-try-both-requires-3
 try-both-requires-3 c κs =
-    let s = c .before .before .before .before .before .before in
-    let i = middle-in (endsOf (s .args .e)) (s .args .first) (s .args .last) (s .pre .1 .from-1) (c .before .if2 .left) in (
+    let h = c .before .before .before in
+    let s = start h in
+    let g = c .before .try-both2 .ensures in (
       s .pre .0,
       record {
-        inside = record { from-1 = omega arith; rises = omega (arith, i .1); to-n = s .pre .1 .to-n };
-        room = λ f. omega (arith, count-is s, c .before .before .if1 .left);
-        rise = half-rise s (c .before .if2 .left);
+        inside = record { from-1 = omega arith; rises = omega (arith, inside h .1); to-n = s .pre .1 .to-n };
+        room = λ f. omega (arith, count-is s, h .before .if1 .left);
+        rise = half-rise s (h .if2 .left);
       },
-      c .try-both2 .ensures .sound,
+      g .0 .sound,
+      g .1,
     )
 
 returns-3 : tie.Need-returns-3
 returns-3 c =
-    let s = c .before .before .before .before .before .before .before in
+    let h = c .before .before .before .before in
+    let s = start h in
     let a = s .args in
     let all = endsOf (a .e) in
     let m = middle all (a .first) (a .last) in
@@ -118,22 +122,24 @@ returns-3 c =
     let lefts = byEither (run (a .first) m) (childEnds m all) in
     let rights = byEither (run (m + 1) (a .last)) (childEnds m all) in
     let one = tryOne (storedIn (a .samples .now) (a .n) (a .k)) all (take (a .count) (a .list .now)) in
-    let e : halves all (run (a .first) (a .last)) ≡ lefts ++ rights = both-halves all (a .first) (a .last) (s .pre .1 .from-1) (c .before .before .if2 .left)
-    (omega (arith, count-is s, c .before .before .before .if1 .left)) in
+    let e : halves all (run (a .first) (a .last)) ≡ lefts ++ rights = both-halves all (a .first) (a .last) (s .pre .1 .from-1) (h .if2 .left)
+    (omega (arith, count-is s, h .before .if1 .left)) in
     let split : after s (before s) (wholes ++ halves all (run (a .first) (a .last))) ≡ after s (after s (after s (before s) wholes) lefts) rights =
     fold-append one (before s) wholes (halves all (run (a .first) (a .last)))
-    ∙ (ap (λ (h : List Candidate). after s (after s (before s) wholes) h) e ∙ fold-append one (after s (before s) wholes) lefts rights) in
-    record {
-      is = c .try-both3 .ensures .is
-          ∙ (ap (λ (o : Option Split). after s o rights) (c .before .try-both2 .ensures .is
-          ∙ ap (λ (o : Option Split). after s o lefts) (c .before .before .before .before .try-both .ensures .is)) ∙ sym split);
-      sound = c .try-both3 .ensures .sound;
-    }
+    ∙ (ap (λ (h : List Candidate). after s (after s (before s) wholes) h) e ∙ fold-append one (after s (before s) wholes) lefts rights) in (
+      record {
+        is = c .try-both3 .ensures .0 .is
+            ∙ (ap (λ (o : Option Split). after s o rights) (c .before .before .try-both2 .ensures .0 .is
+            ∙ ap (λ (o : Option Split). after s o lefts) (h .before .before .try-both .ensures .0 .is)) ∙ sym split);
+        sound = c .try-both3 .ensures .0 .sound;
+      },
+      c .try-both3 .ensures .1,
+    )
 
 pub try-segment-spec : {M : Type 1} → statement M
 try-segment-spec =
     tie.close
     (tie.spec
-    try-both-requires returns returns-2 (λ c. omega arith) add-mid add-mid-2 sub-mid-2 add-next (λ c. omega (arith, c .before .before .before .before .before .pre .3))
-    (λ c. omega (arith, c .before .before .before .before .before .pre .3)) try-both-requires-2
+    try-both-requires returns returns-2 (λ c. omega arith) (λ c. omega (arith, most c)) (λ c. omega (arith, most c)) (λ c. omega (arith, start c .pre .1 .from-1))
+    (λ c. omega (arith, inside c .1, most c)) (λ c. omega (arith, start c .pre .3)) (λ c. omega (arith, start c .pre .3)) try-both-requires-2
     try-both-requires-3 returns-3)

@@ -1,6 +1,6 @@
 -- `split_choice::gains::gain_of` meets its contract: the two sides are the test's left and right, and each side's spread is that of a child.
 use mathlib.Core.Path.{_≡_, sym, ap, ap₂, subst, _∙_}
-use mathlib.Core.Bool.{Bool, true, false, not}
+use mathlib.Core.Bool.{Bool, true, false}
 use mathlib.Core.List.{List, []}
 use Prim.Native.Nat.{ℕ, _+_, _*_}
 use native.Mathlib.Omega.{arith}
@@ -47,7 +47,7 @@ side-spread-requires : tie.Need-side-spread-requires
 side-spread-requires c κs =
     let d = c .before in
     let s = d .before .before .before in
-    (s .pre .0 .listed, s .pre .1 .inside, s .pre .0 .rows, omega arith, d .child-ends .ensures .1, rise d)
+    (s .pre .0 .listed, s .pre .1 .inside, s .pre .0 .rows, s .pre .2, d .child-ends .ensures .1, rise d)
 
 side-spread-requires-2 : tie.Need-side-spread-requires-2
 side-spread-requires-2 c κs =
@@ -78,8 +78,10 @@ returns c =
     let d = c .before .before .before .before .before in
     let s = d .before .before .before in
     let left = child-is d true (c .before .before .before .side-spread .result) (c .before .before .before .side-spread .ensures .0) in
-    let right = child-is d false (c .before .side-spread2 .result) (c .before .side-spread2 .ensures .0) in
-    toZ-ofZ (of-mag {w = w64} (c .gain .result) (c .gain .ok)) ∙ (c .gain .ensures ∙ ap₂ (λ (w t : ℕ). pos (2 * w) -ℤ pos t) (s .pre .0 .spread-is) (ap₂ _+_ left right))
+    let right = child-is d false (c .before .side-spread2 .result) (c .before .side-spread2 .ensures .0) in (
+      toZ-ofZ (of-mag {w = w64} (c .gain .result) (c .gain .ok)) ∙ (c .gain .ensures ∙ ap₂ (λ (w t : ℕ). pos (2 * w) -ℤ pos t) (s .pre .0 .spread-is) (ap₂ _+_ left right)),
+      c .before .side-spread2 .ensures .1 .1,
+    )
 
 pub gain-of-spec : {M : Type 1} → statement M
 gain-of-spec =

@@ -30,9 +30,16 @@ measures n capacity leafSize = record { n = n; capacity = capacity; leafSize = l
 abbrev pub within : ℕ → ℕ → ℕ → Bool
 within low x high = leb low x && leb x high
 
+-- the greatest n, and the greatest capacity
+abbrev pub mostSamples : ℕ
+mostSamples = 256
+
+abbrev pub mostTraces : ℕ
+mostTraces = 4096
+
 -- "n from 1 to 256. Capacity is 1 to 4,096 traces, leaf size 1 to 64"
 unfoldable pub inRange : Measures → Bool
-inRange m = within 1 (m .n) 256 && within 1 (m .capacity) 4096 && within 1 (m .leafSize) 64
+inRange m = within 1 (m .n) mostSamples && within 1 (m .capacity) mostTraces && within 1 (m .leafSize) 64
 
 -- "A capacity of c needs c × n samples, 2c − 1 node records, c links .. and 2c − 1 places of search work"
 unfoldable pub samplesNeeded : Measures → ℕ

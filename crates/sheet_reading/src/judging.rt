@@ -8,7 +8,7 @@ use tables::control::control_short;
 use tables::control::tables_short;
 ghost use mathlib.Core.Path.{_≡_};
 ghost use Prim.Native.Nat.{ℕ, _≤_};
-ghost use Rattle.dstree.specs.Measures.{measures};
+ghost use Rattle.dstree.specs.Measures.{mostSamples, mostTraces, measures};
 ghost use Rattle.dstree.specs.Refusals.{firstOf};
 ghost use Rattle.dstree.specs.Sheet.{judgeSheet};
 ghost use Rattle.dstree.specs.Book.{shortConditions, readingConditions};
@@ -26,7 +26,7 @@ fn judge_short(
     n: u64,
     capacity: u64,
 ) -> Verdict
-    requires { ⌜ (n ≤ 256) × (capacity ≤ 4096) ⌝ }
+    requires { ⌜ (n ≤ mostSamples) × (capacity ≤ mostTraces) ⌝ }
     ensures { λ r. ⌜ ((leafSize : ℕ) → foundBy r ≡ firstOf (shortConditions layout (lent control samples nodes links work) (measures n capacity leafSize))) ⌝ }
 {
     if control_short(control) {

@@ -3,6 +3,7 @@ use Prim.Native.Nat.{ℕ, _+_, _*_, _≤_}
 use mathlib.Core.List.{List, _++_, flatten}
 use lib.IntN.{ℤ}
 use lib.ListN.{length, take, drop}
+use Rattle.dstree.specs.Measures.{mostSamples, mostTraces}
 use Rattle.dstree.specs.Sheet.{part, pieces, blockSize, narrow, sampleSize, block, blocksFrom, codedAll, blocksNeeded}
 use Rattle.tables.specs.Layout.{nPlace, traceCountPlace}
 use Rattle.tables.specs.Tables.{field}
@@ -26,7 +27,7 @@ withSamples sheet count samples = take blockSize sheet ++ sampleBlocks samples c
 
 -- a control record whose counts and measures are in range, samples for every trace, and a sheet with room for every block
 pub record Fillable (control : List ℕ) (samples : List ℤ) (sheet : ℕ) : Type 0 where
-  pub count-few : field control traceCountPlace ≤ 4096
-  pub n-few : field control nPlace ≤ 256
+  pub count-few : field control traceCountPlace ≤ mostTraces
+  pub n-few : field control nPlace ≤ mostSamples
   pub samples-long : field control traceCountPlace * field control nPlace ≤ length samples
   pub sheet-long : blockSize * blocksNeeded (field control traceCountPlace) (field control nPlace) ≤ sheet

@@ -9,6 +9,7 @@ use tables::places::TRACE_COUNT;
 use well_formed::judging::judge_tables;
 ghost use mathlib.Core.Path.{_≡_};
 ghost use Prim.Native.Nat.{_≤_, _<_};
+ghost use Rattle.dstree.specs.Measures.{mostSamples, mostTraces};
 ghost use Rattle.dstree.specs.Refusals.{firstOf};
 ghost use Rattle.dstree.specs.Sheet.{mostBlocks, narrow, sampleBlocksNeeded};
 ghost use Rattle.tables.specs.Tables.{tables};
@@ -17,7 +18,7 @@ ghost use Rattle.calls.specs.Effects.{writes};
 
 // The blocks behind block 0 that samples need: "k × n / 253 rounded up".
 pub fn sample_blocks(k: usize, n: usize) -> usize
-    requires { ⌜ (k ≤ 4096) × (n ≤ 256) ⌝ }
+    requires { ⌜ (k ≤ mostTraces) × (n ≤ mostSamples) ⌝ }
     ensures { λ r. ⌜ (r ≡ sampleBlocksNeeded narrow k n) × (r < mostBlocks) ⌝ }
 {
     (k * n + 252) / 253

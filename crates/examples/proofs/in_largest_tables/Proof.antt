@@ -1,10 +1,10 @@
--- `examples::openings::in_largest_tables` is safe: each array is as long as it was made. (Its length is cited, not computed: the arrays have a million places.)
+-- `examples::in_largest_tables` is safe: each array is as long as it was made. (Its length is cited, not computed: the arrays have a million places.)
 use mathlib.Core.Path.{refl, sym}
 use Prim.Native.Nat.{ℕ}
 use lib.IntN.{ℤ, pos}
 use lib.ListN.{length-replicate}
-use Rattle.examples.proofs.openings.in_largest_tables.Statement.{statement}
-use Rattle.examples.proofs.openings.in_largest_tables.Tie as tie
+use Rattle.examples.proofs.in_largest_tables.Statement.{statement}
+use Rattle.examples.proofs.in_largest_tables.Tie as tie
 
 slice-aggregate-open-2 : tie.Need-slice-aggregate-open-2
 slice-aggregate-open-2 c = sym (length-replicate {A = ℤ} 1048576 (pos 7))

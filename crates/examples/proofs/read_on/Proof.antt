@@ -1,8 +1,8 @@
--- `examples::printing::read_on` is safe: what is left of the leaves is the measure.
+-- `examples::read_on` is safe: what is left of the leaves is the measure.
 use Prim.Native.Nat.{_-_}
 use borrow.Author.Needs.{needs}
-use Rattle.examples.proofs.printing.read_on.Statement.{statement}
-use Rattle.examples.proofs.printing.read_on.Tie as tie
+use Rattle.examples.proofs.read_on.Statement.{statement}
+use Rattle.examples.proofs.read_on.Tie as tie
 
 abbrev Inv-loop : tie.InvT-loop
 Inv-loop trail leaves i₀ t4 i = Unit

@@ -1,0 +1,2 @@
+-- The tables that the examples begin with.
+pub mod Junk

@@ -7,8 +7,7 @@ use native.Mathlib.Omega.{arith}
 use lib.IntN.{ℤ}
 use Rattle.integer.proofs.Lists.{Up, u-none, u-more}
 use Rattle.dstree.specs.Node.{Segment, ends}
-use Rattle.tables.specs.Layout.{segmentAt}
-use Rattle.tables.specs.View.{smallAt, segmentIn}
+use Rattle.tables.specs.View.{segmentIn}
 use Rattle.records_fit.specs.Fits.{segmentsFrom, endsIn, EndsRise}
 use Rattle.records_fit.proofs.Merging.{all-among, same-front, other-front, short-among}
 use Rattle.records_fit.proofs.Segments.{from-more, from-none, from-first, ends-length}
@@ -114,16 +113,3 @@ module _ {child : List ℤ} {count : ℕ} {parent : List ℤ} {many p i : ℕ} (
       merged-short g =
           sym (passed ∙ short-among (ends xs) (ends (left parent many p)) (behind child-up) (w .parent-rises)
           (omega (arith, ends-length child (count - (i + 1)) (i + 1), ends-length parent (many - p) p, g, h, w .room)))
-
--- ---- the same pass, by places
-
-pub end-place : (r : List ℤ) (i at : ℕ) → at ≡ segmentAt i → smallAt r at ≡ segmentIn r i .end
-unfolding segmentIn
-end-place r i at e = ap (smallAt r) e
-
-pub record Placed (child : List ℤ) (count : ℕ) (parent : List ℤ) (many theirs own : ℕ) : Type 0 where
-  pub p : ℕ
-  pub i : ℕ
-  pub theirs-at : theirs ≡ segmentAt p
-  pub own-at : own ≡ segmentAt i
-  pub merged : Merged child count parent many p i

@@ -177,16 +177,8 @@ pub fn record_fits(places: &[i64], j: usize, m: usize, n: usize) -> bool
 
 // ---- ends of a node and its child
 
-// The right end at a place, which was tested.
-fn end_in(places: &[i64], at: usize) -> usize
-    requires { ⌜ (length (now places) ≡ recordPlaces) × (at < recordPlaces) × (smallAt (now places) at ≤ 256) ⌝ }
-    ensures { λ r. ⌜ r ≡ smallAt (now (places .entry)) at ⌝ }
-{
-    known(value_at(places, at))
-}
-
 // The first `many` ends of the parent are among the first `count` of the child. Both rise, so that one pass over the child's is enough: each end of the
-// parent is passed when it is met, in order, and any other end of the child is one to spare. The pass goes by places, a segment on at a time.
+// parent is passed when it is met, in order, and any other end of the child is one to spare.
 fn ends_in(child: &[i64], count: usize, parent: &[i64], many: usize) -> bool
     requires { ⌜ (length (now child) ≡ recordPlaces) × EndsRise (now child) count
         × (length (now parent) ≡ recordPlaces) × EndsRise (now parent) many ⌝ }
@@ -195,20 +187,18 @@ fn ends_in(child: &[i64], count: usize, parent: &[i64], many: usize) -> bool
     if count < many {
         return false;
     }
-    let last = HEAD + many * SEGMENT;
-    let spare = (count - many) * SEGMENT;
-    let mut theirs: usize = HEAD;
-    let mut own: usize = HEAD;
-    while theirs < last {
-        if end_in(child, own) == end_in(parent, theirs) {
-            theirs += SEGMENT;
-            own += SEGMENT;
+    let mut p: usize = 0;
+    let mut i: usize = 0;
+    while p < many {
+        if end_at(child, i) == end_at(parent, p) {
+            p += 1;
+            i += 1;
             continue;
         }
-        if theirs + spare <= own {
+        if count + p <= many + i {
             return false;
         }
-        own += SEGMENT;
+        i += 1;
     }
     true
 }

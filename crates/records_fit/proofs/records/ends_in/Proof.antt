@@ -1,19 +1,19 @@
 -- `records_fit::records::ends_in` meets its contract. The loop's invariant: all ends of the parent are the child's exactly if what is left of them is among
 -- what is left of the child's, of which there is as much.
-use mathlib.Core.Path.{_≡_, sym, subst, _∙_}
-use Prim.Native.Nat.{ℕ, _+_, _*_, _-_, _≤_, _<_}
+use mathlib.Core.Path.{_≡_, sym, _∙_}
+use Prim.Native.Nat.{_-_, _<_}
 use native.Mathlib.Omega.{arith}
 use denote.Ref.{now}
-use Rattle.tables.specs.View.{smallAt, segmentIn}
-use Rattle.records_fit.proofs.Ends.{Placed, end-place, merged-first, too-few, merged-done, more-left, merged-same, merged-other, merged-short}
+use Rattle.tables.specs.View.{segmentIn}
+use Rattle.records_fit.proofs.Ends.{Merged, merged-first, too-few, merged-done, more-left, merged-same, merged-other, merged-short}
 use Rattle.records_fit.proofs.records.ends_in.Statement.{statement}
 use Rattle.records_fit.proofs.records.ends_in.Tie as tie
 
 abbrev Inv-loop : tie.InvT-loop
-Inv-loop child count parent many last spare theirs₀ own₀ theirs own = Placed child count parent many theirs own
+Inv-loop child count parent many p₀ i₀ p i = Merged child count parent many p i
 
 abbrev μ-loop : tie.MeasureT-loop
-μ-loop child count parent many last spare theirs₀ own₀ theirs own = 7 + count * 5 - own
+μ-loop child count parent many p₀ i₀ p i = count - i
 
 returns : tie.Need-returns Inv-loop μ-loop
 returns c =
@@ -23,13 +23,7 @@ returns c =
 loop-holds : tie.Need-loop-holds Inv-loop μ-loop
 loop-holds c =
     let s = c .before in
-    record {
-      p = 0;
-      i = 0;
-      theirs-at = omega arith;
-      own-at = omega arith;
-      merged = merged-first (now (s .args .child)) (s .args .count) (now (s .args .parent)) (s .args .many) (s .pre .1) (s .pre .3) (omega (arith, c .if1 .left));
-    }
+    merged-first (now (s .args .child)) (s .args .count) (now (s .args .parent)) (s .args .many) (s .pre .1) (s .pre .3) (omega (arith, c .if1 .left))
 
 -- both have an end left
 module _ (c : tie.In-loop Inv-loop μ-loop) where
@@ -39,99 +33,54 @@ module _ (c : tie.In-loop Inv-loop μ-loop) where
   abbrev s : tie.Start Inv-loop μ-loop
   s = l .before .before
 
-  abbrev i : ℕ
-  i = l .loop .inv .i
+  there : l .loop .i < s .args .count
+  there = more-left (l .loop .inv) (c .loop-test .taken)
 
-  abbrev p : ℕ
-  p = l .loop .inv .p
+end-at-requires : tie.Need-end-at-requires Inv-loop μ-loop
+end-at-requires c κs = let p = s c .pre in (p .0, omega (arith, there c, p .1 .few), p .1 .low (l c .loop .i) (there c))
 
-  here : p < s .args .many
-  here = omega (arith, c .loop-test .taken, l .loop .inv .theirs-at)
-
-  there : i < s .args .count
-  there = more-left (l .loop .inv .merged) here
-
-  own-end : smallAt (now (s .args .child)) (l .loop .own) ≡ segmentIn (now (s .args .child)) i .end
-  own-end = end-place (now (s .args .child)) i (l .loop .own) (l .loop .inv .own-at)
-
-  their-end : smallAt (now (s .args .parent)) (l .loop .theirs) ≡ segmentIn (now (s .args .parent)) p .end
-  their-end = end-place (now (s .args .parent)) p (l .loop .theirs) (l .loop .inv .theirs-at)
-
-end-in-requires : tie.Need-end-in-requires Inv-loop μ-loop
-end-in-requires c κs =
-    let q = s c .pre in
-    (q .0, omega (arith, there c, q .1 .few, l c .loop .inv .own-at), subst (λ (x : ℕ). x ≤ 256) (sym (own-end c)) (q .1 .low (i c) (there c)))
-
-end-in-requires-2 : tie.Need-end-in-requires-2 Inv-loop μ-loop
-end-in-requires-2 c κs =
-    let d = c .before in
-    let q = s d .pre in
-    (q .2, omega (arith, here d, q .3 .few, l d .loop .inv .theirs-at), subst (λ (x : ℕ). x ≤ 256) (sym (their-end d)) (q .3 .low (p d) (here d)))
+end-at-requires-2 : tie.Need-end-at-requires-2 Inv-loop μ-loop
+end-at-requires-2 c κs = let d = c .before in let p = s d .pre in (p .2, omega (arith, d .loop-test .taken, p .3 .few), p .3 .low (l d .loop .p) (d .loop-test .taken))
 
 -- the two ends
-module _ (c : tie.After-end-in2 Inv-loop μ-loop) where
+module _ (c : tie.After-end-at2 Inv-loop μ-loop) where
   abbrev d : tie.In-loop Inv-loop μ-loop
   d = c .before .before
 
-  mine : c .before .end-in .result ≡ segmentIn (now (s d .args .child)) (i d) .end
-  mine = c .before .end-in .ensures ∙ own-end d
+  mine : c .before .end-at .result ≡ segmentIn (now (s d .args .child)) (l d .loop .i) .end
+  mine = c .before .end-at .ensures
 
-  other : c .end-in2 .result ≡ segmentIn (now (s d .args .parent)) (p d) .end
-  other = c .end-in2 .ensures ∙ their-end d
+  other : c .end-at2 .result ≡ segmentIn (now (s d .args .parent)) (l d .loop .p) .end
+  other = c .end-at2 .ensures
 
 loop-again : tie.Need-loop-again Inv-loop μ-loop
 loop-again c =
     let f = c .before in
-    let inv = l (d f) .loop .inv in
-    record {
-      p = p (d f) + 1;
-      i = i (d f) + 1;
-      theirs-at = omega (arith, inv .theirs-at);
-      own-at = omega (arith, inv .own-at);
-      merged = merged-same (inv .merged) (here (d f)) (sym (mine f) ∙ (c .if2 .taken ∙ other f));
-    }
+    merged-same (l (d f) .loop .inv) (d f .loop-test .taken) (sym (mine f) ∙ (c .if2 .taken ∙ other f))
 
 -- other ends
-differ : (c : tie.Else2 Inv-loop μ-loop) → let f = c .before in segmentIn (now (s (d f) .args .child)) (i (d f)) .end ≡ segmentIn (now (s (d f) .args .parent)) (p (d f)) .end → ⊥
+differ : (c : tie.Else2 Inv-loop μ-loop) → let f = c .before in segmentIn (now (s (d f) .args .child)) (l (d f) .loop .i) .end ≡ segmentIn (now (s (d f) .args .parent)) (l (d f) .loop .p) .end → ⊥
 differ c e = let f = c .before in c .if2 .left (mine f ∙ (e ∙ sym (other f)))
 
--- the parent has no more ends than the child
-fewer : (c : tie.At-loop Inv-loop μ-loop) → c .before .before .args .many ≤ c .before .before .args .count
-fewer c = omega (arith, c .before .if1 .left)
-
 returns-2 : tie.Need-returns-2 Inv-loop μ-loop
-returns-2 c =
-    let e = c .before in
-    let k = d (e .before) in
-    let inv = l k .loop .inv in
-    merged-short (inv .merged) (here k) (differ e) (omega (arith, c .if3 .taken, inv .theirs-at, inv .own-at, fewer (l k)))
+returns-2 c = let e = c .before in let f = e .before in merged-short (l (d f) .loop .inv) (d f .loop-test .taken) (differ e) (c .if3 .taken)
 
 loop-again-2 : tie.Need-loop-again-2 Inv-loop μ-loop
-loop-again-2 c =
-    let e = c .before in
-    let k = d (e .before) in
-    let inv = l k .loop .inv in
-    record {
-      p = p k;
-      i = i k + 1;
-      theirs-at = inv .theirs-at;
-      own-at = omega (arith, inv .own-at);
-      merged = merged-other (inv .merged) (here k) (differ e) (omega (arith, c .if3 .left, inv .theirs-at, inv .own-at, fewer (l k)));
-    }
+loop-again-2 c = let e = c .before in let f = e .before in merged-other (l (d f) .loop .inv) (d f .loop-test .taken) (differ e) (omega (arith, c .if3 .left))
 
 returns-3 : tie.Need-returns-3 Inv-loop μ-loop
-returns-3 c = let inv = c .before .loop .inv in merged-done (inv .merged) (omega (arith, c .loop-test .left, inv .theirs-at))
+returns-3 c = merged-done (c .before .loop .inv) (c .loop-test .left)
 
 pub ends-in-spec : {M : Type 1} → statement M
 ends-in-spec =
     tie.close
     (tie.spec
-    Inv-loop μ-loop returns (λ c. omega (arith, c .before .pre .3 .few)) (λ c. omega (arith, c .before .pre .3 .few)) (λ c. omega (arith, c .before .pre .1 .few))
-    loop-holds end-in-requires end-in-requires-2
-    (λ c. let k = d (c .before) in omega (arith, here k, s k .pre .3 .few, l k .loop .inv .theirs-at))
-    (λ c. let k = d (c .before) in omega (arith, there k, s k .pre .1 .few, l k .loop .inv .own-at))
-    (λ c. let k = d (c .before) in omega (arith, there k, l k .loop .inv .own-at)) loop-again
-    (λ c. let k = d (c .before) in omega (arith, here k, s k .pre .3 .few, s k .pre .1 .few, l k .loop .inv .theirs-at))
+    Inv-loop μ-loop returns loop-holds end-at-requires end-at-requires-2
+    (λ c. let k = d (c .before) in omega (arith, k .loop-test .taken, s k .pre .3 .few))
+    (λ c. let k = d (c .before) in omega (arith, there k, s k .pre .1 .few))
+    (λ c. let k = d (c .before) in omega (arith, there k)) loop-again
+    (λ c. let k = d (c .before) in omega (arith, k .loop-test .taken, s k .pre .3 .few, s k .pre .1 .few))
+    (λ c. let k = d (c .before) in omega (arith, there k, s k .pre .3 .few, s k .pre .1 .few))
     returns-2
-    (λ c. let k = d (c .before .before) in omega (arith, there k, s k .pre .1 .few, l k .loop .inv .own-at))
-    (λ c. let k = d (c .before .before) in omega (arith, there k, l k .loop .inv .own-at)) loop-again-2 returns-3)
+    (λ c. let k = d (c .before .before) in omega (arith, there k, s k .pre .1 .few))
+    (λ c. let k = d (c .before .before) in omega (arith, there k)) loop-again-2 returns-3)

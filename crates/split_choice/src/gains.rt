@@ -100,7 +100,7 @@ fn halved_by(column: usize) -> usize {
 }
 
 // The gain of the candidate on a run with this threshold: the spread of each of its sides is over the children's ends. `side` is room for a
-// side's list.
+// side's list. k, how many traces are stored, is for the contract alone.
 pub fn gain_of(
     samples: &[i16],
     n: usize,

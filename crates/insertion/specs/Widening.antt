@@ -1,10 +1,11 @@
 -- What has to hold of a record so that a trace can go through it, and how a record is widened segment by segment.
-use Prim.Native.Nat.{ℕ, zero, suc, _+_, _^_, _≤_, _<_}
+use Prim.Native.Nat.{ℕ, zero, suc, _+_, _≤_, _<_}
 use mathlib.Core.Path.{_≡_}
 use mathlib.Core.List.{List, _++_}
 use lib.IntN.{ℤ}
 use lib.ListN.{length, take, drop, set}
 use Rattle.integer.specs.Words.{lesser, greater}
+use Rattle.segment.specs.Limits.{scatterRoom}
 use Rattle.dstree.specs.Node.{Segment}
 use Rattle.tables.specs.Layout.{segmentsPlace, segmentPlaces, segmentAt, recordPlaces}
 use Rattle.tables.specs.View.{placeOf, smallAt, segmentIn}
@@ -30,8 +31,8 @@ startIn r (suc i) = suc (endIn r i)
 -- a segment whose run is inside 1 to n, with scatters that are no larger than any limit
 pub record SegmentReadable (r : List ℤ) (i first n : ℕ) : Type 0 where
   pub on : Inside n first (endIn r i)
-  pub least-scatter : segmentIn r i .leastScatter ≤ 2 ^ 54
-  pub greatest-scatter : segmentIn r i .greatestScatter ≤ 2 ^ 54
+  pub least-scatter : segmentIn r i .leastScatter ≤ scatterRoom
+  pub greatest-scatter : segmentIn r i .greatestScatter ≤ scatterRoom
 
 -- a record of at most 16 such segments, each behind the one before it
 pub record Readable (r : List ℤ) (n : ℕ) : Type 0 where

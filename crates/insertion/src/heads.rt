@@ -18,8 +18,9 @@ use tables::records::record_end;
 use tables::records::record_start;
 ghost use mathlib.Core.Path.{_≡_};
 ghost use mathlib.Core.List.{_∷_, [], _++_};
-ghost use Prim.Native.Nat.{_+_, _*_, _^_, _≤_, _<_};
+ghost use Prim.Native.Nat.{_+_, _*_, _≤_, _<_};
 ghost use lib.ListN.{length, drop, set};
+ghost use Rattle.segment.specs.Limits.{scatterRoom};
 ghost use Rattle.dstree.specs.Adding.{segmentsOf};
 ghost use Rattle.tables.specs.Layout.{headPlaces, recordPlaces};
 ghost use Rattle.tables.specs.Tables.{withRecord};
@@ -88,7 +89,7 @@ pub fn write_segment(
     least_scatter: u64,
     greatest_scatter: u64,
 )
-    requires { ⌜ (length (now «record») ≡ recordPlaces) × (i < 16) × (end ≤ 65535) × («least_scatter» ≤ 2 ^ 54) × («greatest_scatter» ≤ 2 ^ 54) ⌝ }
+    requires { ⌜ (length (now «record») ≡ recordPlaces) × (i < 16) × (end ≤ 65535) × («least_scatter» ≤ scatterRoom) × («greatest_scatter» ≤ scatterRoom) ⌝ }
     ensures { λ _. ⌜ now («record» .exit) ≡ withSegment (now («record» .entry)) i (segmentBy end «least_sum» «greatest_sum» «least_scatter» «greatest_scatter») ⌝ }
 {
     let at = HEAD + i * SEGMENT;

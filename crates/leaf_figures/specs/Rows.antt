@@ -1,11 +1,12 @@
 -- Numbers of traces in an array's first places, and their figures on some runs, kept so that samples are read once. What is kept is a table that may
 -- lack any run: a run's figures are those of the samples, wherever they are read from.
-use Prim.Native.Nat.{ℕ, _+_, _*_, _^_, _≤_, _<_}
+use Prim.Native.Nat.{ℕ, _+_, _*_, _≤_, _<_}
 use mathlib.Core.Path.{_≡_}
 use mathlib.Core.List.{List, map}
 use lib.IntN.{ℤ, pos, natAbs}
 use lib.ListN.{length, getD, take}
 use Rattle.integer.specs.Lists.{In}
+use Rattle.segment.specs.Limits.{sumMost, scatterMost}
 use Rattle.dstree.specs.Measures.{Trace}
 use Rattle.dstree.specs.Figures.{run, sumOn, scatterOn}
 use Rattle.tables.specs.View.{traceIn}
@@ -26,9 +27,9 @@ pub record Kept (x : Trace) (first last : ℕ) (sums : List ℤ) (scatters : Lis
   pub in-sums : i < length sums
   pub in-scatters : i < length scatters
   pub sum-is : getD sums i (pos 0) ≡ sumOn (run first last) x
-  pub sum-small : natAbs (getD sums i (pos 0)) ≤ 2 ^ 23
+  pub sum-small : natAbs (getD sums i (pos 0)) ≤ sumMost 256
   pub scatter-is : getD scatters i 0 ≡ scatterOn (run first last) x
-  pub scatter-small : getD scatters i 0 ≤ 2 ^ 46
+  pub scatter-small : getD scatters i 0 ≤ scatterMost 256
 
 -- 48 runs may have a column of 65 figures each. Run f is from place f to place 48 + f of `runs`, and where that is 0 there is no such run.
 -- Trace t is in row `place` t of a column

@@ -1,11 +1,12 @@
 -- The figures of a side's traces on a run, as they are taken one trace after another. Each trace of a leaf has a mark, and a side is the traces with one mark.
-use Prim.Native.Nat.{ℕ, _^_, _≤_, min, max}
+use Prim.Native.Nat.{ℕ, _≤_, min, max}
 use mathlib.Core.Bool.{true, false}
 use mathlib.Core.List.{List}
 use lib.IntN.{ℤ, pos, natAbs}
 use lib.ListN.{getD}
 use lib.Dec.{eqb}
 use Rattle.integer.specs.Words.{if_then_else_, lesser, greater, those}
+use Rattle.segment.specs.Limits.{sumMost, scatterMost}
 use Rattle.dstree.specs.Measures.{Trace}
 use Rattle.dstree.specs.Node.{Segment}
 use Rattle.dstree.specs.Adding.{tracesOf}
@@ -42,10 +43,10 @@ withFigures f s v =
 
 -- figures of at most 256 samples of 16 bits
 pub record Small (f : Figures) : Type 0 where
-  pub least-sum : natAbs (f .«least_sum») ≤ 2 ^ 23
-  pub greatest-sum : natAbs (f .«greatest_sum») ≤ 2 ^ 23
-  pub least-scatter : f .«least_scatter» ≤ 2 ^ 46
-  pub greatest-scatter : f .«greatest_scatter» ≤ 2 ^ 46
+  pub least-sum : natAbs (f .«least_sum») ≤ sumMost 256
+  pub greatest-sum : natAbs (f .«greatest_sum») ≤ sumMost 256
+  pub least-scatter : f .«least_scatter» ≤ scatterMost 256
+  pub greatest-scatter : f .«greatest_scatter» ≤ scatterMost 256
 
 -- the figures as a segment of a node's record
 abbrev pub segmentBy : ℕ → Figures → Segment

@@ -5,9 +5,10 @@ use tables::numbers::wide;
 use tables::runs::figures_on;
 use tables::runs::trace_at;
 ghost use mathlib.Core.Path.{_≡_};
-ghost use Prim.Native.Nat.{_+_, _*_, _^_, _≤_, _<_};
+ghost use Prim.Native.Nat.{_+_, _*_, _≤_, _<_};
 ghost use lib.IntN.{natAbs};
 ghost use lib.ListN.{length, getD};
+ghost use Rattle.segment.specs.Limits.{sumMost, scatterMost};
 ghost use Rattle.dstree.specs.Figures.{run, sumOn, scatterOn};
 ghost use Rattle.tables.specs.View.{traceIn};
 ghost use Rattle.tables.specs.Runs.{RunIn};
@@ -45,8 +46,8 @@ pub fn figures_at(
 ) -> Figures
     requires { ⌜ RunIn (now samples) n t first last × (column < 48 → t < length (now place))
         × (column < 48 → Kept (traceIn (now samples) n t) first last (now sums) (now scatters) (column * 65 + getD (now place) t 0)) ⌝ }
-    ensures sum { λ r. ⌜ (r .sum ≡ sumOn (run first last) (traceIn (now (samples .entry)) n t)) × (natAbs (r .sum) ≤ 2 ^ 23) ⌝ }
-    ensures scatter { λ r. ⌜ (r .scatter ≡ scatterOn (run first last) (traceIn (now (samples .entry)) n t)) × (r .scatter ≤ 2 ^ 46) ⌝ }
+    ensures sum { λ r. ⌜ (r .sum ≡ sumOn (run first last) (traceIn (now (samples .entry)) n t)) × (natAbs (r .sum) ≤ sumMost 256) ⌝ }
+    ensures scatter { λ r. ⌜ (r .scatter ≡ scatterOn (run first last) (traceIn (now (samples .entry)) n t)) × (r .scatter ≤ scatterMost 256) ⌝ }
 {
     if column < 48 {
         let at = column * 65 + wide(place[t]);

@@ -1,7 +1,8 @@
 // The spread of the traces of a list.
 ghost use mathlib.Core.Path.{_≡_};
-ghost use Prim.Native.Nat.{_^_, _≤_, _<_};
+ghost use Prim.Native.Nat.{_≤_, _<_};
 ghost use lib.ListN.{take};
+ghost use Rattle.segment.specs.Limits.{termMost, spreadMost};
 ghost use Rattle.dstree.specs.Figures.{run};
 ghost use Rattle.dstree.specs.Adding.{segmentOf, spreadOn, spread};
 ghost use Rattle.tables.specs.Runs.{Inside};
@@ -25,7 +26,7 @@ fn segment_spread(
     requires { ⌜ Listed (now samples) n (now list) count × Inside n first last
         × Rows (now samples) n (take count (now list)) (now place) (now runs) (now sums) (now scatters) ⌝ }
     ensures { λ r. ⌜ r ≡ spreadOn (run first last) (segmentOf (tracesAt (now (samples .entry)) n (take count (now (list .entry)))) (run first last)) ⌝ }
-    ensures size { λ r. ⌜ r ≤ 2 ^ 57 ⌝ }
+    ensures size { λ r. ⌜ r ≤ termMost ⌝ }
 {
     let f = crate::along::figures_along(
         samples,
@@ -76,7 +77,7 @@ pub fn spread_along(
 ) -> u64
     requires { ⌜ Listed (now samples) n (now list) count × Rows (now samples) n (take count (now list)) (now place) (now runs) (now sums) (now scatters) × Room e × Rise n 1 (endsOf e) ⌝ }
     ensures { λ r. ⌜ r ≡ spread (endsOf e) (tracesAt (now (samples .entry)) n (take count (now (list .entry)))) ⌝ }
-    ensures size { λ r. ⌜ r ≤ 2 ^ 61 ⌝ }
+    ensures size { λ r. ⌜ r ≤ spreadMost ⌝ }
 {
     let at = e.at;
     let segments = e.count;

@@ -1,5 +1,5 @@
 -- How large figures get, for any sample limit L: samples are from −L to L − 1. Document 01's 16 bits are L = 32,768.
-use Prim.Native.Nat.{ℕ, _*_, _-_, _≤_, _<_}
+use Prim.Native.Nat.{ℕ, _*_, _-_, _^_, _≤_, _<_}
 use mathlib.Core.Path.{_≡_}
 use mathlib.Core.List.{List}
 use lib.ListN.{length, getD}
@@ -38,6 +38,21 @@ scatterMost w = sampleMost * sampleMost * (w * w)
 -- two samples are less than twice the limit apart
 abbrev pub distanceMost : ℕ → ℕ
 distanceMost w = 2 * sampleMost * (2 * sampleMost) * w
+
+-- ---- what code has room for: figures of 256 samples of 20 bits, of which document 02 speaks
+
+abbrev pub sumRoom : ℕ
+sumRoom = 2 ^ 27
+
+abbrev pub scatterRoom : ℕ
+scatterRoom = 2 ^ 54
+
+-- a segment's term of a spread, or of a bound, from figures within that room; and the spread of 16 segments
+abbrev pub termMost : ℕ
+termMost = 2 ^ 57
+
+abbrev pub spreadMost : ℕ
+spreadMost = 16 * termMost
 
 -- ---- the largest distance
 

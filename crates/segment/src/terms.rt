@@ -2,6 +2,7 @@
 ghost use mathlib.Core.Path.{_≡_};
 ghost use Prim.Native.Nat.{_-_, _^_, _<_, _≤_, max};
 ghost use lib.IntN.{natAbs};
+ghost use Rattle.segment.specs.Limits.{sumRoom, scatterRoom, termMost};
 ghost use Rattle.segment.specs.Roots.{floorRoot, ceilingRoot};
 ghost use Rattle.segment.specs.Terms.{sumGap, scatterGap, boundTerm, spreadTerm};
 
@@ -70,9 +71,9 @@ pub fn segment_bound(
     least_scatter: u64,
     greatest_scatter: u64,
 ) -> u64
-    requires { ⌜ (0 < w) × (w ≤ 256) × (natAbs t ≤ 2 ^ 27) × (natAbs «least_sum» ≤ 2 ^ 27) × (natAbs «greatest_sum» ≤ 2 ^ 27) × (u ≤ 2 ^ 54) × («least_scatter» ≤ 2 ^ 54) ⌝ }
+    requires { ⌜ (0 < w) × (w ≤ 256) × (natAbs t ≤ sumRoom) × (natAbs «least_sum» ≤ sumRoom) × (natAbs «greatest_sum» ≤ sumRoom) × (u ≤ scatterRoom) × («least_scatter» ≤ scatterRoom) ⌝ }
     ensures { λ r. ⌜ r ≡ boundTerm w (sumGap t «least_sum» «greatest_sum») (scatterGap u «least_scatter» «greatest_scatter») ⌝ }
-    ensures size { λ r. ⌜ r ≤ 2 ^ 57 ⌝ }
+    ensures size { λ r. ⌜ r ≤ termMost ⌝ }
 {
     let g = sum_gap(t, least_sum, greatest_sum);
     let h = scatter_gap(u, least_scatter, greatest_scatter);
@@ -81,9 +82,9 @@ pub fn segment_bound(
 
 // A segment's term of a node's spread, rounded down. Rounded up it does not meet this, nor with the least scatter in place of the greatest.
 pub fn spread_term(w: u64, least_sum: i64, greatest_sum: i64, greatest_scatter: u64) -> u64
-    requires { ⌜ (0 < w) × (w ≤ 256) × (natAbs «least_sum» ≤ 2 ^ 27) × (natAbs «greatest_sum» ≤ 2 ^ 27) × («greatest_scatter» ≤ 2 ^ 54) ⌝ }
+    requires { ⌜ (0 < w) × (w ≤ 256) × (natAbs «least_sum» ≤ sumRoom) × (natAbs «greatest_sum» ≤ sumRoom) × («greatest_scatter» ≤ scatterRoom) ⌝ }
     ensures { λ r. ⌜ r ≡ spreadTerm w «least_sum» «greatest_sum» «greatest_scatter» ⌝ }
-    ensures size { λ r. ⌜ r ≤ 2 ^ 57 ⌝ }
+    ensures size { λ r. ⌜ r ≤ termMost ⌝ }
 {
     (crate::figures::square(greatest_sum - least_sum) + greatest_scatter) / w
 }

@@ -1,5 +1,5 @@
 -- The best candidate so far, as code keeps it, and what one candidate more makes of it.
-use Prim.Native.Nat.{ℕ, _^_, _≤_, _<_}
+use Prim.Native.Nat.{ℕ, _*_, _≤_, _<_}
 use mathlib.Core.Path.{_≡_}
 use mathlib.Core.Bool.{true, false, not}
 use mathlib.Core.Option.{Option, none, some}
@@ -10,6 +10,7 @@ use lib.Signed.{ltZ}
 use lib.Dec.{eqb}
 use Rattle.integer.specs.Words.{if_then_else_, those, leastℤ, greatestℤ}
 use Rattle.integer.specs.Lists.{In}
+use Rattle.segment.specs.Limits.{scatterMost, spreadMost}
 use Rattle.dstree.specs.Measures.{Trace}
 use Rattle.dstree.specs.Figures.{run}
 use Rattle.dstree.specs.Node.{Test, figureOf, goesLeft}
@@ -84,7 +85,7 @@ pub record Fit (n : ℕ) (all : List ℕ) (first last cut : ℕ) : Type 0 where
 -- a choice that was found: its gain, its run and its ends
 pub record Found (n : ℕ) (stored : List Trace) (all numbers : List ℕ) (r : Choice) : Type 0 where
   pub gain-is : r .gain ≡ gain stored all numbers (splitOf stored all numbers r)
-  pub size : natAbs (r .threshold) ≤ 2 ^ 47
+  pub size : natAbs (r .threshold) ≤ 2 * scatterMost 256
   pub fit : Fit n all (r .first) (r .last) (r .cut)
 
 abbrev pub Sound : ℕ → List Trace → List ℕ → List ℕ → Choice → Type 0
@@ -111,11 +112,11 @@ pub record Leaf (samples : List ℤ) (n k : ℕ) (list : List ℕ) (count : ℕ)
   pub room : Room e
   pub rise : Rise n 1 (endsOf e)
   pub spread-is : whole ≡ spread (endsOf e) (tracesOf (storedIn samples n k) (take count list))
-  pub size : whole ≤ 2 ^ 61
+  pub size : whole ≤ spreadMost
 
 -- the least and the greatest figure of some traces on a trial's run
 pub record Reached (traces : List Trace) (c : Trial) (low high : ℤ) : Type 0 where
   pub low-is : low ≡ leastℤ (map (figureOf (figureBy (c .«by_scatter»)) (run (c .first) (c .last))) traces)
   pub high-is : high ≡ greatestℤ (map (figureOf (figureBy (c .«by_scatter»)) (run (c .first) (c .last))) traces)
-  pub low-size : natAbs low ≤ 2 ^ 46
-  pub high-size : natAbs high ≤ 2 ^ 46
+  pub low-size : natAbs low ≤ scatterMost 256
+  pub high-size : natAbs high ≤ scatterMost 256

@@ -5,9 +5,10 @@ use leaf_figures::ends::Ends;
 use leaf_figures::ends::with_cut;
 use leaf_figures::spread::spread_along;
 ghost use mathlib.Core.Path.{_≡_};
-ghost use Prim.Native.Nat.{_+_, _*_, _^_, _<_, _≤_};
+ghost use Prim.Native.Nat.{_+_, _*_, _<_, _≤_};
 ghost use lib.IntN.{pos, _-ℤ_};
 ghost use lib.ListN.{length, take};
+ghost use Rattle.segment.specs.Limits.{spreadMost};
 ghost use Rattle.dstree.specs.Adding as adding;
 ghost use Rattle.dstree.specs.Adding.{spread};
 ghost use Rattle.tables.specs.Walk.{storedIn};
@@ -19,7 +20,7 @@ ghost use Rattle.split_choice.specs.Choosing.{childEnds, Fit, Leaf, spli
 
 // Twice the leaf's spread less both children's. It is a number with a sign: children's spreads can be the larger ones.
 pub fn gain(whole: u64, left: u64, right: u64) -> i64
-    requires { ⌜ (whole ≤ 2 ^ 61) × (left ≤ 2 ^ 61) × (right ≤ 2 ^ 61) ⌝ }
+    requires { ⌜ (whole ≤ spreadMost) × (left ≤ spreadMost) × (right ≤ spreadMost) ⌝ }
     ensures { λ r. ⌜ r ≡ pos (2 * whole) -ℤ pos (left + right) ⌝ }
 {
     (2 * whole) as i64 - (left + right) as i64
@@ -56,7 +57,7 @@ fn side_spread(
     requires { ⌜ Listed (now samples) n (now list) count × Inside n (c .first) (c .last)
         × Rows (now samples) n (take count (now list)) (now place) (now runs) (now sums) (now scatters) × (length (now side) ≡ 4096) × Room child × Rise n 1 (endsOf child) ⌝ }
     ensures { λ r. ⌜ r ≡ spread (endsOf child) (tracesAt (now (samples .entry)) n (sideOf (now (samples .entry)) n (trialTest c threshold) left (take count (now (list .entry))))) ⌝ }
-    ensures size { λ r. ⌜ r ≤ 2 ^ 61 ⌝ }
+    ensures size { λ r. ⌜ r ≤ spreadMost ⌝ }
     ensures room { λ _. ⌜ length (now (side .exit)) ≡ 4096 ⌝ }
 {
     let many = list_side(

@@ -1,10 +1,11 @@
 -- What has to hold so that a leaf can be tried, and split by a choice.
-use Prim.Native.Nat.{ℕ, suc, _*_, _^_, _≤_, _<_}
+use Prim.Native.Nat.{ℕ, suc, _*_, _≤_, _<_}
 use mathlib.Core.Path.{_≡_}
 use mathlib.Core.Option.{some}
 use mathlib.Core.List.{List}
 use lib.IntN.{ℤ, natAbs}
 use lib.ListN.{length}
+use Rattle.segment.specs.Limits.{scatterMost}
 use Rattle.dstree.specs.Node.{ends}
 use Rattle.dstree.specs.Adding.{Split, best}
 use Rattle.tables.specs.Layout.{kindPlace, segmentsPlace, firstPlace, recordPlaces}
@@ -29,7 +30,7 @@ pub record Parts (nodes : List ℤ) (links : List ℕ) (samples : List ℤ) (n k
   pub stored : Stored samples links n k head
   pub room : Room e
   pub fit : Fit n (endsOf e) (c .first) (c .last) (c .cut)
-  pub threshold-size : natAbs (c .threshold) ≤ 2 ^ 47
+  pub threshold-size : natAbs (c .threshold) ≤ 2 * scatterMost 256
   pub parted : Parted nodes count (splitOf (storedIn samples n k) (endsOf e) (numbersOf links k head) c)
 
 -- node `at`, if it is a leaf: its list, its right ends, and room for two nodes more if a split parts it

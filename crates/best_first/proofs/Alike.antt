@@ -8,9 +8,10 @@ use lib.ListN.{length}
 use lib.Dec.{T}
 use Rattle.integer.specs.Words.{those, counting}
 use Rattle.integer.proofs.Lists.{those-agree, map-agree}
+use Rattle.integer.specs.Sorting.{sortedBy}
 use Rattle.dstree.specs.Measures.{Trace}
 use Rattle.dstree.specs.Node.{Test, Kind, leaf, inner, Node, Tree, nodeAt}
-use Rattle.dstree.specs.Matching.{ownBound, hasChild, parentFrom, boundFrom, bound, LeafBound, isLeaf, leaves, sorted, readingOrder}
+use Rattle.dstree.specs.Matching.{ownBound, hasChild, parentFrom, boundFrom, bound, LeafBound, isLeaf, leaves, before, readingOrder}
 use Rattle.dstree.proofs.Formed.{Parent}
 use Rattle.best_first.specs.Branching.{Branching}
 
@@ -81,7 +82,7 @@ module _ {t u : Tree} (h : Alike t u) where
   order-alike query =
       let at : (number : ℕ) → LeafBound = λ number. record { number = number; bound = bound t query number } in
       let to : (number : ℕ) → LeafBound = λ number. record { number = number; bound = bound u query number } in
-      ap sorted (ap (map at) leaves-alike ∙ map-agree at to (leaves u) (λ k i. ap (λ (b : ℕ). record { number = k; bound = b }) (bound-alike query k)))
+      ap (sortedBy before) (ap (map at) leaves-alike ∙ map-agree at to (leaves u) (λ k i. ap (λ (b : ℕ). record { number = k; bound = b }) (bound-alike query k)))
 
   pub branching-alike : Branching u → Branching t
   branching-alike b = record {

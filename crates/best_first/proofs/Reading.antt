@@ -9,11 +9,12 @@ use lib.ListN.{length}
 use borrow.Author.Tests.{lt-ltb, le-ltb, eq-eqb, ne-eqb}
 use Rattle.integer.specs.Words.{if_then_else_}
 use Rattle.integer.proofs.Lists.{All, all-none, all-more, all-in, all-map}
+use Rattle.integer.specs.Sorting.{insertedBy, sortedBy}
 use Rattle.heap.specs.Keys.{insertKey, sortedOf}
 use Rattle.heap.proofs.Sorting.{Sorted, sorted-pour, le-or-lt, insert-nil, insert-here, insert-past, insert-first, pour-nil, pour-cons}
 use Rattle.dstree.specs.Measures.{Trace}
 use Rattle.dstree.specs.Node.{Tree}
-use Rattle.dstree.specs.Matching.{LeafBound, leaves, before, placed, sorted, readingOrder}
+use Rattle.dstree.specs.Matching.{LeafBound, leaves, before, readingOrder}
 use Rattle.dstree.proofs.Reading.{with-bound, from-leaves}
 use Rattle.best_first.specs.NodeKeys.{keyOf, boundIn, numberIn, leafIn, nodeKey}
 
@@ -48,25 +49,25 @@ before-false a b h x y =
     (λ (q : b .bound < a .bound). rw (le-ltb (a .bound) (b .bound) p, ne-eqb (a .bound) (b .bound) (λ e. omega arith)))
     (le-or-lt (a .bound) (b .bound))
 
-small-placed : (a : LeafBound) {l : List LeafBound} → Small a → All Small l → All Small (placed a l)
-unfolding placed
+small-placed : (a : LeafBound) {l : List LeafBound} → Small a → All Small l → All Small (insertedBy before a l)
+unfolding insertedBy
 small-placed a h all-none = all-more h all-none
 small-placed a h (all-more {a = b} {rest} g gs) = by (before a b) (small-placed a h gs)
   where
-    by : (t : Bool) → All Small (placed a rest) → All Small (if t then a ∷ b ∷ rest else b ∷ placed a rest)
+    by : (t : Bool) → All Small (insertedBy before a rest) → All Small (if t then a ∷ b ∷ rest else b ∷ insertedBy before a rest)
     by true ih = all-more h (all-more g gs)
     by false ih = all-more g ih
 
-small-sorted : {l : List LeafBound} → All Small l → All Small (sorted l)
-unfolding sorted
+small-sorted : {l : List LeafBound} → All Small l → All Small (sortedBy before l)
+unfolding sortedBy
 small-sorted all-none = all-none
 small-sorted (all-more {a} h hs) = small-placed a h (small-sorted hs)
 
-placed-keys : (a : LeafBound) {l : List LeafBound} → Small a → All Small l → Sorted (map keyIn l) → map keyIn (placed a l) ≡ insertKey (keyIn a) (map keyIn l)
-unfolding placed
-placed-keys a h all-none o = sym (insert-nil (keyIn a))
-placed-keys a h (all-more {a = b} {rest = l} g gs) o =
-    let ih = placed-keys a h gs (o .1) in
+inserted-keys : (a : LeafBound) {l : List LeafBound} → Small a → All Small l → Sorted (map keyIn l) → map keyIn (insertedBy before a l) ≡ insertKey (keyIn a) (map keyIn l)
+unfolding insertedBy
+inserted-keys a h all-none o = sym (insert-nil (keyIn a))
+inserted-keys a h (all-more {a = b} {rest = l} g gs) o =
+    let ih = inserted-keys a h gs (o .1) in
     ⊎-elim
     (λ (p : keyIn b ≤ keyIn a).
     rw (before-false a b p h g, ih)
@@ -79,12 +80,12 @@ placed-keys a h (all-more {a = b} {rest = l} g gs) o =
     (λ (p : keyIn a < keyIn b). rw (before-true a b p h g) (sym (insert-here (keyIn a) (keyIn b) (map keyIn l) (omega arith))))
     (le-or-lt (keyIn b) (keyIn a))
 
-sorted-keys : {l : List LeafBound} → All Small l → map keyIn (sorted l) ≡ sortedOf (map keyIn l)
-unfolding sorted
+sorted-keys : {l : List LeafBound} → All Small l → map keyIn (sortedBy before l) ≡ sortedOf (map keyIn l)
+unfolding sortedBy
 sorted-keys all-none = sym (pour-nil [])
 sorted-keys (all-more {a} {rest = l} h hs) =
     let ih = sorted-keys hs in
-    placed-keys a h (small-sorted hs) (rw ih (sorted-pour (map keyIn l) [] tt)) ∙ ap (insertKey (keyIn a)) ih ∙ sym (pour-cons (keyIn a) (map keyIn l) [])
+    inserted-keys a h (small-sorted hs) (rw ih (sorted-pour (map keyIn l) [] tt)) ∙ ap (insertKey (keyIn a)) ih ∙ sym (pour-cons (keyIn a) (map keyIn l) [])
 
 -- ---- the leaves of a tree
 

@@ -14,12 +14,11 @@ use Rattle.integer.specs.Lists.{In, first}
 use Rattle.integer.proofs.Lists.{in-nil}
 use Rattle.dstree.specs.Measures.{Trace}
 use Rattle.dstree.specs.Node.{Kind, leaf, inner, Tree, nodeAt}
-use Rattle.dstree.specs.Matching.{LeafBound, isLeaf, numbersIn, leaves, readingOrder, Near, nearer, bestWith, Search, distancesIn, readLeaf}
-use Rattle.dstree.specs.Matching.{isAbove, searchOn, searched, Match, answerOf, matchBySteps}
+use Rattle.dstree.specs.Matching.{LeafBound, isLeaf, numbersIn, leaves, readingOrder, readOn, Near, nearAt, nearer, bestWith, Search}
+use Rattle.dstree.specs.Matching.{distancesIn, readLeaf, isAbove, searchOn, searched, Match, answerOf, matchBySteps}
 use Rattle.dstree.specs.Refusals.{Refusal, Condition, _refuses_, firstOf, wrongTrace, empty, shortTrail}
 use Rattle.dstree.proofs.Conditions.{none-first, first-some, first-none, none-both}
 use Rattle.dstree.proofs.Formed.{Kept, number-node}
-use Rattle.dstree.proofs.Search.{near}
 use Rattle.dstree.proofs.Reading.{from-leaves, in-leaves, reading-of, in-reading}
 use Rattle.tables.specs.Tables.{Tables, measuresOf, traceCount}
 use Rattle.tables.specs.View.{treeIn, tracesIn, wellFormed}
@@ -54,7 +53,7 @@ nothingYet = record { best = none; traces = 0; trail = [] }
 module _ (stored : List Trace) (tree : Tree) (query : Trace) where
   -- what is found stays found
   found-stays : (l : List LeafBound) (s : Search) → Some (s .best) → Some (searchOn stored tree query s l .best)
-  unfolding searchOn readLeaf
+  unfolding readOn readLeaf
   found-stays [] s h = h
   found-stays (a ∷ rest) s h =
       let more = with-others (distancesIn stored tree query (a .number)) (s .best) h in
@@ -70,11 +69,11 @@ module _ (stored : List Trace) (tree : Tree) (query : Trace) where
   -- the first leaf is read, and has a trace
   first-read : (l : List LeafBound) → ((a : LeafBound) → In a l → 0 < length (numbersIn (nodeAt tree (a .number) .kind))) → 0 < length l
       → Some (searchOn stored tree query nothingYet l .best)
-  unfolding searchOn readLeaf isAbove distancesIn
+  unfolding readOn readLeaf isAbove distancesIn
   first-read [] full h = absurd (omega arith)
   first-read (a ∷ rest) full h =
       let some-distance : 0 < length (distancesIn stored tree query (a .number)) =
-      rw (length-map (numbersIn (nodeAt tree (a .number) .kind)) (near stored query)) (full a first) in
+      rw (length-map (numbersIn (nodeAt tree (a .number) .kind)) (nearAt stored query)) (full a first) in
       found-stays rest (readLeaf stored tree query nothingYet (a .number))
       (with-one (distancesIn stored tree query (a .number)) some-distance)
 

@@ -19,14 +19,14 @@ use Rattle.segment.specs.Figures.{distance}
 use Rattle.dstree.specs.Measures.{Trace}
 use Rattle.dstree.specs.Node.{Kind, leaf, inner, Tree, nodeAt}
 use Rattle.dstree.specs.Adding.{tracesOf}
-use Rattle.dstree.specs.Matching.{bound, LeafBound, isLeaf, numbersIn, leaves, readingOrder, Near, Search, distancesIn, searchOn}
+use Rattle.dstree.specs.Matching.{bound, LeafBound, isLeaf, numbersIn, leaves, readingOrder, Near, nearAt, Search, distancesIn, searchOn}
 use Rattle.dstree.specs.Matching.{searched, answerOf, matchBySteps, leastDistance, lowestAt, leavesR, matchOf}
 use Rattle.dstree.specs.Claims.{of-leaf, numbersAmong, LeavesOutOnlyAbove, ClaimsOf, ClaimsOfExact}
 use Rattle.dstree.proofs.Formed.{Kept, number-node, formed}
 use Rattle.dstree.proofs.Containing.{Containing, of-exact}
 use Rattle.dstree.proofs.Bounds.{bound-at-most}
 use Rattle.dstree.proofs.Reading.{from-leaves, in-leaves, reading-of, in-reading, reading-in-order, reading-apart}
-use Rattle.dstree.proofs.Search.{Far, Hit, Alike, readAll, reads-R, nearsOf, read-trail, read-traces, read-best, Low, lowest, near, IsNear, is-near, winner}
+use Rattle.dstree.proofs.Search.{Far, Hit, Alike, readAll, reads-R, nearsOf, read-trail, read-traces, read-best, Low, lowest, IsNear, is-near, winner}
 
 -- ---- R
 
@@ -173,15 +173,15 @@ module _ (n : ℕ) (stored : List Trace) (tree : Tree) (c : Containing n stored 
         low = bound-at-most n stored tree c query all-n lq (k .at) t (of-leaf (k .holds));
       }
 
-  in-distances : (t k : ℕ) → In t (numbersIn (nodeAt tree k .kind)) → In (near stored query t) (distancesIn stored tree query k)
+  in-distances : (t k : ℕ) → In t (numbersIn (nodeAt tree k .kind)) → In (nearAt stored query t) (distancesIn stored tree query k)
   unfolding distancesIn
-  in-distances t k i = in-map (near stored query) i
+  in-distances t k i = in-map (nearAt stored query) i
 
   from-distances : (k : ℕ) {b : Near} → In b (distancesIn stored tree query k) → IsNear stored query b
   unfolding distancesIn
-  from-distances k {b} i = by (from-map (near stored query) (numbersIn (nodeAt tree k .kind)) i)
+  from-distances k {b} i = by (from-map (nearAt stored query) (numbersIn (nodeAt tree k .kind)) i)
     where
-      by : InMap (near stored query) b (numbersIn (nodeAt tree k .kind)) → IsNear stored query b
+      by : InMap (nearAt stored query) b (numbersIn (nodeAt tree k .kind)) → IsNear stored query b
       by (of t j e) = is-near t (c .shape .numbers t k (in-is j)) e
 
   far : All (Far stored tree query d) order
@@ -209,7 +209,7 @@ module _ (n : ℕ) (stored : List Trace) (tree : Tree) (c : Containing n stored 
       by : InFlat (λ (a : LeafBound). distancesIn stored tree query (a .number)) b R → IsNear stored query b
       by (flat a j k) = from-distances (a .number) k
 
-  nears-have : (t : ℕ) → t < length stored → distance query (getD stored t []) ≡ d → In (near stored query t) (nearsOf stored tree query d R)
+  nears-have : (t : ℕ) → t < length stored → distance query (getD stored t []) ≡ d → In (nearAt stored query t) (nearsOf stored tree query d R)
   unfolding leavesR
   nears-have t h e =
       in-flat (λ (a : LeafBound). distancesIn stored tree query (a .number))
@@ -237,7 +237,7 @@ module _ (n : ℕ) (stored : List Trace) (tree : Tree) (c : Containing n stored 
       → tracesOf other (numbersAmong tree (trail stored tree query)) ≡ tracesOf stored (numbersAmong tree (trail stored tree query)) → (a : LeafBound) → In a order → Alike stored tree query d other a
   unfolding numbersAmong distancesIn
   agree-alike other e a i h =
-      map-agree (near other query) (near stored query) (numbersIn (nodeAt tree (a .number) .kind))
+      map-agree (nearAt other query) (nearAt stored query) (numbersIn (nodeAt tree (a .number) .kind))
       (λ t j. ap (λ (x : Trace). record { trace = t; distance = distance query x }) (agree-in (λ (k : ℕ). getD other k []) (λ (k : ℕ). getD stored k []) e
       (in-flat (λ (number : ℕ). numbersIn (nodeAt tree number .kind)) (trail-has stored tree query (reading-of tree query i .0) (omega (arith, reading-of tree query i .1))) j)))
 

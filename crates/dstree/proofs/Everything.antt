@@ -1,6 +1,7 @@
 -- Every definition opened at once, for proofs by computation alone: `unfolding everything`.
 use mathlib.Core.List.{flatten}
 use Rattle.integer.specs.Words.{roundedUp, total, counting, those, every, chosen, isEmpty, isIn, timesIn, same}
+use Rattle.integer.specs.Sorting.{insertedBy, sortedBy, atPlace}
 use Rattle.segment.specs.Figures.{sum, sumOfSquares, scatter, distance}
 use Rattle.segment.specs.Roots.{fallingFrom, floorRoot, ceilingRoot}
 use Rattle.segment.specs.Terms.{sumGap, scatterGap, boundTerm, spreadTerm}
@@ -12,8 +13,8 @@ use Rattle.dstree.specs.Node.{figureOf, goesLeft, totalOver, changeAll}
 use Rattle.dstree.specs.Adding.{nextNode, wayFrom, widenSegment, widen, widenAll, joinKind, join, segmentOf, segmentsFrom, newLeaf}
 use Rattle.dstree.specs.Adding.{byEither, cutAt, leftHalfEnd, halves, candidatesFrom, spreadOn, spread, thresholdOf, testOf}
 use Rattle.dstree.specs.Adding.{splitBy, parts, gain, bestOf, best, splitInto, splitKind, splitNew, insertion, grown}
-use Rattle.dstree.specs.Matching.{boundOn, ownBound, hasChild, parentFrom, boundFrom, isLeaf, numbersIn, leaves, before, placed}
-use Rattle.dstree.specs.Matching.{sorted, readingOrder, readOn, nearer, bestWith, distancesIn, readLeaf, isAbove, searchOn}
+use Rattle.dstree.specs.Matching.{boundOn, ownBound, hasChild, parentFrom, boundFrom, isLeaf, numbersIn, leaves, before}
+use Rattle.dstree.specs.Matching.{readingOrder, readOn, isNearer, nearer, bestWith, distancesIn, readLeaf, isAbove}
 use Rattle.dstree.specs.Matching.{searched, answerOf, matchBySteps, leastDistance, lowestAt, leavesR, matchOf}
 use Rattle.dstree.specs.WellFormed.{rising, everyNode, childrenOf, childrenAbove, childOnce, endsFit, endsKept, leafFits, inOneLeaf}
 use Rattle.dstree.specs.WellFormed.{withinℤ, segmentFits, segmentsFit, thresholdFits, testFits, nodeFits, wellFormed}
@@ -27,6 +28,8 @@ use Rattle.dstree.specs.Book.{matchingEntry, writingEntry, readingEntry}
 use Rattle.dstree.specs.Book.{entryOf, judge, putUnless, turn, after, replyUnless, replyOf, repliesOf, start}
 use Rattle.dstree.specs.Program.{refusalLine, matchLine, lineOf, judgedLine, programLine, digitsFrom, decimal, spaced, text, printed}
 use Rattle.dstree.specs.Claims.{numbersAmong}
+use Rattle.dstree.specs.KNearest.{nears, nearestList, kth, readInto, stopsAtKth, listed, kNearestBySteps}
+use Rattle.dstree.specs.KNearest.{leavesRk, kNearestOf, listOfMatch, inRank, distancesAmong}
 
 unfoldable wordsOpen : Unit {0}
 unfolding flatten roundedUp total counting those every chosen isEmpty isIn timesIn same
@@ -57,12 +60,17 @@ unfolding candidatesFrom spreadOn spread thresholdOf testOf splitBy parts gain b
 addingOpen2 = tt
 
 unfoldable matchingOpen : Unit {0}
-unfolding boundOn ownBound hasChild parentFrom boundFrom isLeaf numbersIn leaves before placed sorted readingOrder readOn nearer bestWith
+unfolding boundOn ownBound hasChild parentFrom boundFrom isLeaf numbersIn leaves before insertedBy sortedBy readingOrder readOn isNearer nearer bestWith
 matchingOpen = tt
 
 unfoldable matchingOpen2 : Unit {0}
-unfolding distancesIn readLeaf isAbove searchOn searched answerOf matchBySteps leastDistance lowestAt leavesR matchOf
+unfolding distancesIn readLeaf isAbove searched answerOf matchBySteps leastDistance lowestAt leavesR matchOf
 matchingOpen2 = tt
+
+unfoldable nearestOpen : Unit {0}
+unfolding atPlace nears nearestList kth readInto stopsAtKth listed kNearestBySteps leavesRk kNearestOf listOfMatch inRank
+    distancesAmong
+nearestOpen = tt
 
 unfoldable rulesOpen : Unit {0}
 unfolding rising everyNode childrenOf childrenAbove childOnce endsFit endsKept leafFits inOneLeaf withinℤ segmentFits segmentsFit
@@ -97,6 +105,6 @@ unfolding refusalLine matchLine lineOf judgedLine programLine digitsFrom decimal
 linesOpen = tt
 
 unfoldable pub everything : Unit {0}
-unfolding wordsOpen figuresOpen figuresOpen2 nodesOpen nodesOpen2 addingOpen addingOpen2 matchingOpen matchingOpen2 rulesOpen rulesOpen2
+unfolding wordsOpen figuresOpen figuresOpen2 nodesOpen nodesOpen2 addingOpen addingOpen2 matchingOpen matchingOpen2 nearestOpen rulesOpen rulesOpen2
     sheetsOpen sheetsOpen2 sheetTestsOpen booksOpen booksOpen2 linesOpen
 everything = tt

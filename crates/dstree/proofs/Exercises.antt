@@ -8,6 +8,7 @@ use mathlib.Core.List.{List, [], _∷_, _++_, map, foldl}
 use lib.ListN.{length, getD, set, take, replicate}
 use lib.IntN.{pos}
 use Rattle.integer.specs.Words.{counting}
+use Rattle.integer.specs.Sorting.{sortedBy}
 use Rattle.segment.specs.Figures.{sum, sumOfSquares, scatter, distance}
 use Rattle.segment.specs.Roots.{floorRoot, ceilingRoot}
 use Rattle.segment.specs.Terms.{sumGap, scatterGap, boundTerm, spreadTerm}
@@ -17,7 +18,7 @@ use Rattle.dstree.specs.Measures.{Trace, measures, sampleLimit, inRange,
 use Rattle.dstree.specs.Figures.{run, width, samplesOn}
 use Rattle.dstree.specs.Node.{Segment, bySum, byScatter, Test, Kind, leaf, inner, Node, node, Tree, nodeAt, changeAt, goesLeft}
 use Rattle.dstree.specs.Adding.{way, widen, join, byEither, cutAt, leftHalfEnd, candidates, spread, thresholdOf, splitBy, parts, best, splitInto, treeOf}
-use Rattle.dstree.specs.Matching.{ownBound, parentFrom, bound, LeafBound, leaves, sorted, readingOrder, Near, bestWith, isAbove, matchBySteps, leastDistance, lowestAt}
+use Rattle.dstree.specs.Matching.{ownBound, parentFrom, bound, LeafBound, leaves, before, readingOrder, Near, bestWith, isAbove, matchBySteps, leastDistance, lowestAt}
 use Rattle.dstree.specs.Claims.{numbersAmong}
 use Rattle.dstree.specs.WellFormed.{wellFormed}
 use Rattle.dstree.specs.Refusals.{Refusal, measure, shortTable, spoiled, wrongTrace, full, empty, shortTrail, sheetLength, tornBlock, badSheet, numberOf, placeOf, _refuses_, firstOf}
@@ -228,7 +229,8 @@ pub record MatchingExamples : Type 0 where
   pub parents : map (parentFrom 0 tree) (0 ∷ 1 ∷ 2 ∷ []) ≡ none ∷ some 0 ∷ some 0 ∷ []
   -- "Leaves are read by bound, then by number"
   pub leaf-numbers : leaves tree ≡ 1 ∷ 2 ∷ []
-  pub in-order : sorted (leafAt 1 7 ∷ leafAt 4 3 ∷ leafAt 6 7 ∷ leafAt 2 3 ∷ leafAt 8 0 ∷ []) ≡ leafAt 8 0 ∷ leafAt 2 3 ∷ leafAt 4 3 ∷ leafAt 1 7 ∷ leafAt 6 7 ∷ []
+  pub in-order : sortedBy before (leafAt 1 7 ∷ leafAt 4 3 ∷ leafAt 6 7 ∷ leafAt 2 3 ∷ leafAt 8 0 ∷ [])
+      ≡ leafAt 8 0 ∷ leafAt 2 3 ∷ leafAt 4 3 ∷ leafAt 1 7 ∷ leafAt 6 7 ∷ []
   pub orders : map (readingOrder tree) (level 2 ∷ level 4 ∷ []) ≡ (leafAt 1 16 ∷ leafAt 2 16 ∷ []) ∷ (leafAt 2 0 ∷ leafAt 1 64 ∷ []) ∷ []
   -- ".. until the next bound is above the best distance found. An equal bound is still read"
   pub above : map (λ bound. isAbove bound (some (near 0 16))) (15 ∷ 16 ∷ 17 ∷ []) ≡ false ∷ false ∷ true ∷ []

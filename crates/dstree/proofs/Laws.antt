@@ -13,7 +13,7 @@ use Rattle.dstree.specs.Node.{Tree, nodeAt}
 use Rattle.dstree.specs.Adding.{treeOf}
 use Rattle.dstree.specs.Matching.{ownBound, hasChild, bound}
 use Rattle.dstree.specs.Formed.{Formed}
-use Rattle.dstree.specs.Claims.{ShapeOf, RangesOf, TestsOf, ClaimsOf}
+use Rattle.dstree.specs.Claims.{ShapeOf, RangesOf, TestsOf, ClaimsOf, ExactTree}
 use Rattle.dstree.proofs.Formed.{well-formed}
 use Rattle.dstree.proofs.Nodes.{nodes-most}
 use Rattle.dstree.proofs.Below.{below-inside, below-root}
@@ -76,6 +76,9 @@ module _ (limit : ℕ) (m : Measures) (traces : List Trace) (library : T (isLibr
   pub shape : ShapeOf limit m traces tree
   shape = record { well-formed = well-formed formed; node-count = node-count; over-size = made .whole }
 
+  pub exact : ExactTree limit m traces tree
+  exact = record { well-formed = shape .well-formed; of-n = all-n; ranges = ranges }
+
   -- ---- a query
 
   -- "A node's bound is the greatest own bound from node 0 down to it": a child's is its own or its parent's, node 0's its own
@@ -87,4 +90,4 @@ module _ (limit : ℕ) (m : Measures) (traces : List Trace) (library : T (isLibr
 
   -- "After the list, if the book has a trace, take any query of n samples"
   pub claims : (query : Trace) → 0 < length traces → length query ≡ m .n → ClaimsOf traces tree query
-  claims = match-exact limit m traces tree (record { well-formed = shape .well-formed; of-n = all-n; ranges = ranges })
+  claims = match-exact limit m traces tree exact

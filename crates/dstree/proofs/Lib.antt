@@ -1,5 +1,6 @@
 -- Laws of the definitions. The tree that adding makes: Invariant, Joins, Splits and Grown; a query: Bounds, Reading, Search and Closed;
--- all together: Laws. Sheets: SheetWritten, SheetRead, ReadBack and WrittenAgain; all together: RoundTrips.
+-- all together: Laws. The k nearest: Ranks, KSteps and KClosed; all together: KLaws.
+-- Sheets: SheetWritten, SheetRead, ReadBack and WrittenAgain; all together: RoundTrips.
 pub mod Everything
 pub mod Notation
 pub mod Examples
@@ -28,6 +29,9 @@ pub mod Routing
 pub mod Limits
 pub mod Best
 pub mod OffTrail
+pub mod Ranks
+pub mod KSteps
+pub mod KClosed
 pub mod SheetPieces
 pub mod SheetFormat
 pub mod SheetFields
@@ -41,3 +45,5 @@ pub mod WrittenAgain
 pub mod SheetTorn
 pub mod RoundTrips
 pub mod Laws
+pub mod KLaws
+pub mod KExamples

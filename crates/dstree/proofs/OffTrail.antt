@@ -3,7 +3,7 @@ use Prim.Native.Nat.{ℕ}
 use mathlib.Core.Path.{_≡_, refl, ap}
 use mathlib.Core.Bool.{Bool, true, false}
 use mathlib.Core.Option.{none}
-use mathlib.Core.List.{List, [], _∷_}
+use mathlib.Core.List.{List, [], _∷_, _++_}
 use lib.ListN.{getD}
 use Rattle.integer.specs.Words.{if_then_else_}
 use Rattle.integer.proofs.Lists.{In, first, in-append-left, in-append-right, in-flat, map-agree, agree-in}
@@ -11,49 +11,57 @@ use Rattle.segment.specs.Figures.{distance}
 use Rattle.dstree.specs.Measures.{Trace}
 use Rattle.dstree.specs.Node.{Tree, nodeAt}
 use Rattle.dstree.specs.Adding.{tracesOf}
-use Rattle.dstree.specs.Matching.{LeafBound, numbersIn, Search, distancesIn, readLeaf, isAbove, searchOn, searched, readingOrder}
+use Rattle.dstree.specs.Matching.{LeafBound, numbersIn, readOn, nearAt, Search, distancesIn, readLeaf, isAbove, searched, readingOrder}
 use Rattle.dstree.specs.Claims.{numbersAmong, OffTrail}
-use Rattle.dstree.proofs.Search.{near}
 
-module _ (traces other : List Trace) (tree : Tree) (query : Trace) where
-  -- the two give a leaf the same distances
-  abbrev Alike : ℕ → Type 0
-  Alike number = distancesIn other tree query number ≡ distancesIn traces tree query number
+-- ---- any search that goes through leaves in order, and keeps the trail of those read
 
+module _ {S : Type 0} (stop : S → ℕ → Bool) (read other : S → ℕ → S) (trail : S → List ℕ)
+    (goes : (s : S) (number : ℕ) → trail (read s number) ≡ trail s ++ (number ∷ [])) where
   -- what is on the trail stays on it
-  trail-stays : (s : Search) (l : List LeafBound) {k : ℕ} → In k (s .trail) → In k (searchOn traces tree query s l .trail)
-  unfolding searchOn readLeaf
+  trail-stays : (s : S) (l : List LeafBound) {k : ℕ} → In k (trail s) → In k (trail (readOn stop read s l))
+  unfolding readOn
   trail-stays s [] i = i
-  trail-stays s (a ∷ rest) {k} i = by (isAbove (a .bound) (s .best)) (trail-stays (readLeaf traces tree query s (a .number)) rest (in-append-left (a .number ∷ []) i))
+  trail-stays s (a ∷ rest) {k} i =
+      by (stop s (a .bound)) (trail-stays (read s (a .number)) rest (rw (goes s (a .number)) (in-append-left (a .number ∷ []) i)))
     where
-      by : (b : Bool) → In k (searchOn traces tree query (readLeaf traces tree query s (a .number)) rest .trail)
-          → In k ((if b then s else searchOn traces tree query (readLeaf traces tree query s (a .number)) rest) .trail)
+      by : (b : Bool) → In k (trail (readOn stop read (read s (a .number)) rest))
+          → In k (trail (if b then s else readOn stop read (read s (a .number)) rest))
       by true j = i
       by false j = j
 
-  same-search : (s : Search) (l : List LeafBound) → ((k : ℕ) → In k (searchOn traces tree query s l .trail) → Alike k) → searchOn other tree query s l ≡ searchOn traces tree query s l
-  unfolding searchOn readLeaf
-  same-search s [] h = refl
-  same-search s (a ∷ rest) h = by (isAbove (a .bound) (s .best)) h (same-search (readLeaf traces tree query s (a .number)) rest)
+  -- another way to read that does not differ on the trail finds the same
+  pub same-reading : (s : S) (l : List LeafBound) → ((k : ℕ) → In k (trail (readOn stop read s l)) → (t : S) → other t k ≡ read t k)
+      → readOn stop other s l ≡ readOn stop read s l
+  unfolding readOn
+  same-reading s [] h = refl
+  same-reading s (a ∷ rest) h = by (stop s (a .bound)) h (same-reading (read s (a .number)) rest)
     where
-      by : (b : Bool) → ((k : ℕ) → In k ((if b then s else searchOn traces tree query (readLeaf traces tree query s (a .number)) rest) .trail) → Alike k)
-          → (((k : ℕ) → In k (searchOn traces tree query (readLeaf traces tree query s (a .number)) rest .trail) → Alike k)
-          → searchOn other tree query (readLeaf traces tree query s (a .number)) rest ≡ searchOn traces tree query (readLeaf traces tree query s (a .number)) rest)
-          → (if b then s else searchOn other tree query (readLeaf other tree query s (a .number)) rest) ≡ (if b then s else searchOn traces tree query (readLeaf traces tree query s (a .number)) rest)
+      onward : S
+      onward = readOn stop read (read s (a .number)) rest
+
+      by : (b : Bool) → ((k : ℕ) → In k (trail (if b then s else onward)) → (t : S) → other t k ≡ read t k)
+          → (((k : ℕ) → In k (trail onward) → (t : S) → other t k ≡ read t k) → readOn stop other (read s (a .number)) rest ≡ onward)
+          → (if b then s else readOn stop other (other s (a .number)) rest) ≡ (if b then s else onward)
       by true h ih = refl
-      by false h ih = rw (h (a .number) (trail-stays (readLeaf traces tree query s (a .number)) rest (in-append-right (s .trail) first))) (ih h)
+      by false h ih =
+          rw (h (a .number) (trail-stays (read s (a .number)) rest (rw (goes s (a .number)) (in-append-right (trail s) first))) s) (ih h)
+
+-- ---- the match
 
 -- traces that agree in a leaf give it the same distances
 pub alike-in : (traces other : List Trace) (tree : Tree) (query : Trace) (trail : List ℕ)
     → tracesOf other (numbersAmong tree trail) ≡ tracesOf traces (numbersAmong tree trail) → (k : ℕ) → In k trail → distancesIn other tree query k ≡ distancesIn traces tree query k
 unfolding numbersAmong distancesIn
 alike-in traces other tree query trail e k i =
-    map-agree (near other query) (near traces query) (numbersIn (nodeAt tree k .kind))
+    map-agree (nearAt other query) (nearAt traces query) (numbersIn (nodeAt tree k .kind))
     (λ t j. ap (λ (x : Trace). record { trace = t; distance = distance query x })
     (agree-in (λ (t : ℕ). getD other t []) (λ (t : ℕ). getD traces t []) e (in-flat (λ (number : ℕ). numbersIn (nodeAt tree number .kind)) i j)))
 
 -- "well-formed tables that differ only there give the same answer and the same trail"
 pub off-trail : OffTrail
-unfolding searched
+unfolding searched readLeaf
 off-trail traces other tree query e =
-    same-search traces other tree query (record { best = none; traces = 0; trail = [] }) (readingOrder tree query) (alike-in traces other tree query (searched traces tree query .trail) e)
+    same-reading (λ (s : Search) (bound : ℕ). isAbove bound (s .best)) (readLeaf traces tree query) (readLeaf other tree query)
+    (λ (s : Search). s .trail) (λ s number. refl) (record { best = none; traces = 0; trail = [] }) (readingOrder tree query)
+    (λ k i s. rw (alike-in traces other tree query (searched traces tree query .trail) e k i))

@@ -1,5 +1,5 @@
 -- The order of reading: each leaf of the tree once, with its bound, by bound and then by number.
-use Prim.Native.Nat.{ℕ, suc, _≤_, _<_}
+use Prim.Native.Nat.{ℕ, _≤_, _<_}
 use mathlib.Core.Path.{_≡_, refl, sym, _∙_, ap, subst}
 use mathlib.Core.Logic.{_⊎_, inl, inr}
 use mathlib.Core.Bool.{Bool, true, false, _&&_, _||_}
@@ -8,14 +8,16 @@ use native.Mathlib.Omega.{arith}
 use lib.ListN.{length, length-map}
 use lib.Dec.{T, ltb, eqb}
 use Rattle.integer.specs.Words.{if_then_else_, counting}
+use Rattle.integer.specs.Sorting.{insertedBy, sortedBy}
 use borrow.Author.Tests.{ltb-true, ltb-false, eqb-true}
 use Rattle.integer.proofs.Tests.{is-true}
-use Rattle.integer.proofs.Lists.{In, first, later, in-cons, in-front, in-map, InMap, of, from-map, from-those, in-those, in-counting}
+use Rattle.integer.proofs.Lists.{In, first, later, in-map, InMap, of, from-map, from-those, in-those, in-counting}
 use Rattle.integer.proofs.Lists.{from-counting, All, all-none, all-more, all-mono, up-those, counting-up, Apart, apart-none, apart-more}
 use Rattle.integer.proofs.Lists.{up-apart}
+use Rattle.integer.proofs.Sorting.{from-inserted, from-sorted, in-sorted, sorted-length}
 use Rattle.dstree.specs.Measures.{Trace}
 use Rattle.dstree.specs.Node.{Tree, nodeAt}
-use Rattle.dstree.specs.Matching.{bound, LeafBound, isLeaf, leaves, before, placed, sorted, readingOrder}
+use Rattle.dstree.specs.Matching.{bound, LeafBound, isLeaf, leaves, before, readingOrder}
 
 -- ---- the leaves' numbers
 
@@ -30,97 +32,29 @@ module _ (tree : Tree) where
   unfolding leaves
   in-leaves {k} h t = in-those (λ number. isLeaf (nodeAt tree number .kind)) (in-counting (length tree) 0 k (omega arith) (omega arith)) t
 
--- ---- sorting keeps the leaves
-
-in-placed : (a : LeafBound) {b : LeafBound} (l : List LeafBound) → In b (placed a l) → (b ≡ a) ⊎ In b l
-unfolding placed
-in-placed a [] i = in-cons i
-in-placed a {b} (c ∷ l) i = by (before a c) i (in-placed a l)
-  where
-    on : (b ≡ a) ⊎ In b l → (b ≡ a) ⊎ In b (c ∷ l)
-    on (inl e) = inl e
-    on (inr j) = inr (later j)
-
-    at : (b ≡ c) ⊎ In b (placed a l) → (In b (placed a l) → (b ≡ a) ⊎ In b l) → (b ≡ a) ⊎ In b (c ∷ l)
-    at (inl e) ih = inr (in-front e)
-    at (inr j) ih = on (ih j)
-
-    by : (t : Bool) → In b (if t then a ∷ c ∷ l else c ∷ placed a l) → (In b (placed a l) → (b ≡ a) ⊎ In b l) → (b ≡ a) ⊎ In b (c ∷ l)
-    by true j ih = in-cons j
-    by false j ih = at (in-cons j) ih
-
-placed-here : (a : LeafBound) (l : List LeafBound) → In a (placed a l)
-unfolding placed
-placed-here a [] = first
-placed-here a (c ∷ l) = by (before a c) (placed-here a l)
-  where
-    by : (t : Bool) → In a (placed a l) → In a (if t then a ∷ c ∷ l else c ∷ placed a l)
-    by true ih = first
-    by false ih = later ih
-
-placed-other : (a : LeafBound) {b : LeafBound} {l : List LeafBound} → In b l → In b (placed a l)
-unfolding placed
-placed-other a {b} (first {rest}) = by (before a b)
-  where
-    by : (t : Bool) → In b (if t then a ∷ b ∷ rest else b ∷ placed a rest)
-    by true = later first
-    by false = first
-placed-other a {b} (later {b = c} {rest} i) = by (before a c) (placed-other a i)
-  where
-    by : (t : Bool) → In b (placed a rest) → In b (if t then a ∷ c ∷ rest else c ∷ placed a rest)
-    by true ih = later (later i)
-    by false ih = later ih
-
-pub from-sorted : {b : LeafBound} (l : List LeafBound) → In b (sorted l) → In b l
-unfolding sorted
-from-sorted [] i = i
-from-sorted {b} (a ∷ l) i = by (in-placed a (sorted l) i) (from-sorted l)
-  where
-    by : (b ≡ a) ⊎ In b (sorted l) → (In b (sorted l) → In b l) → In b (a ∷ l)
-    by (inl e) ih = in-front e
-    by (inr j) ih = later (ih j)
-
-pub in-sorted : {b : LeafBound} {l : List LeafBound} → In b l → In b (sorted l)
-unfolding sorted
-in-sorted {b} (first {rest}) = placed-here b (sorted rest)
-in-sorted (later {b = a} i) = placed-other a (in-sorted i)
-
-placed-length : (a : LeafBound) (all : List LeafBound) → length (placed a all) ≡ suc (length all)
-unfolding placed
-placed-length a [] = refl
-placed-length a (b ∷ rest) = by (before a b) (placed-length a rest)
-  where
-    by : (c : Bool) → length (placed a rest) ≡ suc (length rest) → length (if c then a ∷ b ∷ rest else b ∷ placed a rest) ≡ suc (suc (length rest))
-    by true e = refl
-    by false e = ap suc e
-
-sorted-length : (all : List LeafBound) → length (sorted all) ≡ length all
-unfolding sorted
-sorted-length [] = refl
-sorted-length (a ∷ rest) = placed-length a (sorted rest) ∙ ap suc (sorted-length rest)
-
 -- ---- no leaf twice
 
 abbrev pub ApartLeaves : List LeafBound → Type 0
 ApartLeaves = Apart (λ (a : LeafBound). a .number)
 
-placed-apart : (a : LeafBound) {l : List LeafBound} → ((b : LeafBound) → In b l → b .number ≡ a .number → ⊥) → ApartLeaves l → ApartLeaves (placed a l)
-unfolding placed
-placed-apart a h apart-none = apart-more h apart-none
-placed-apart a h (apart-more {a = c} {l} g p) = by (before a c) (placed-apart a (λ b i. h b (later i)) p)
+inserted-apart : (a : LeafBound) {l : List LeafBound} → ((b : LeafBound) → In b l → b .number ≡ a .number → ⊥) → ApartLeaves l
+    → ApartLeaves (insertedBy before a l)
+unfolding insertedBy
+inserted-apart a h apart-none = apart-more h apart-none
+inserted-apart a h (apart-more {a = c} {l} g p) = by (before a c) (inserted-apart a (λ b i. h b (later i)) p)
   where
     at : (b : LeafBound) → (b ≡ a) ⊎ In b l → b .number ≡ c .number → ⊥
     at b (inl e) q = h c first (sym q ∙ ap (λ (x : LeafBound). x .number) e)
     at b (inr j) q = g b j q
 
-    by : (t : Bool) → ApartLeaves (placed a l) → ApartLeaves (if t then a ∷ c ∷ l else c ∷ placed a l)
+    by : (t : Bool) → ApartLeaves (insertedBy before a l) → ApartLeaves (if t then a ∷ c ∷ l else c ∷ insertedBy before a l)
     by true ih = apart-more h (apart-more g p)
-    by false ih = apart-more (λ b i. at b (in-placed a l i)) ih
+    by false ih = apart-more (λ b i. at b (from-inserted before a l i)) ih
 
-sorted-apart : {l : List LeafBound} → ApartLeaves l → ApartLeaves (sorted l)
-unfolding sorted
+sorted-apart : {l : List LeafBound} → ApartLeaves l → ApartLeaves (sortedBy before l)
+unfolding sortedBy
 sorted-apart apart-none = apart-none
-sorted-apart (apart-more {a} {l} h p) = placed-apart a (λ b i. h b (from-sorted l i)) (sorted-apart p)
+sorted-apart (apart-more {a} {l} h p) = inserted-apart a (λ b i. h b (from-sorted before l i)) (sorted-apart p)
 
 -- ---- by bound
 
@@ -147,30 +81,32 @@ before-not a b e = by (ltb (a .bound) (b .bound)) (eqb (a .bound) (b .bound)) (l
     by true y z p r = absurd (subst T r tt)
     by false y z p r = ltb-false (a .bound) (b .bound) p
 
-placed-all : (k : ℕ) (a : LeafBound) {l : List LeafBound} → k ≤ a .bound → All (λ b. k ≤ b .bound) l → All (λ b. k ≤ b .bound) (placed a l)
-unfolding placed
-placed-all k a h all-none = all-more h all-none
-placed-all k a h (all-more {a = b} {rest} g gs) = by (before a b) (placed-all k a h gs)
+inserted-all : (k : ℕ) (a : LeafBound) {l : List LeafBound} → k ≤ a .bound → All (λ b. k ≤ b .bound) l
+    → All (λ b. k ≤ b .bound) (insertedBy before a l)
+unfolding insertedBy
+inserted-all k a h all-none = all-more h all-none
+inserted-all k a h (all-more {a = b} {rest} g gs) = by (before a b) (inserted-all k a h gs)
   where
-    by : (c : Bool) → All (λ x. k ≤ x .bound) (placed a rest) → All (λ x. k ≤ x .bound) (if c then a ∷ b ∷ rest else b ∷ placed a rest)
+    by : (c : Bool) → All (λ x. k ≤ x .bound) (insertedBy before a rest)
+        → All (λ x. k ≤ x .bound) (if c then a ∷ b ∷ rest else b ∷ insertedBy before a rest)
     by true ih = all-more h (all-more g gs)
     by false ih = all-more g ih
 
-placed-in-order : (a : LeafBound) {l : List LeafBound} → InOrder l → InOrder (placed a l)
-unfolding placed
-placed-in-order a order-none = order-more all-none order-none
-placed-in-order a (order-more {a = b} {rest} o os) = by (before a b) refl (placed-in-order a os)
+inserted-in-order : (a : LeafBound) {l : List LeafBound} → InOrder l → InOrder (insertedBy before a l)
+unfolding insertedBy
+inserted-in-order a order-none = order-more all-none order-none
+inserted-in-order a (order-more {a = b} {rest} o os) = by (before a b) refl (inserted-in-order a os)
   where
-    by : (c : Bool) → before a b ≡ c → InOrder (placed a rest) → InOrder (if c then a ∷ b ∷ rest else b ∷ placed a rest)
+    by : (c : Bool) → before a b ≡ c → InOrder (insertedBy before a rest) → InOrder (if c then a ∷ b ∷ rest else b ∷ insertedBy before a rest)
     by true p ih =
         let h : a .bound ≤ b .bound = before-yes a b p in
         order-more (all-more h (all-mono (λ c g. omega arith) o)) (order-more o os)
-    by false p ih = order-more (placed-all (b .bound) a (before-not a b p) o) ih
+    by false p ih = order-more (inserted-all (b .bound) a (before-not a b p) o) ih
 
-sorted-in-order : (l : List LeafBound) → InOrder (sorted l)
-unfolding sorted
+sorted-in-order : (l : List LeafBound) → InOrder (sortedBy before l)
+unfolding sortedBy
 sorted-in-order [] = order-none
-sorted-in-order (a ∷ rest) = placed-in-order a (sorted-in-order rest)
+sorted-in-order (a ∷ rest) = inserted-in-order a (sorted-in-order rest)
 
 -- ---- the order of reading
 
@@ -180,14 +116,14 @@ module _ (tree : Tree) (query : Trace) where
 
   pub reading-of : {a : LeafBound} → In a (readingOrder tree query) → In (a .number) (leaves tree) × (a .bound ≡ bound tree query (a .number))
   unfolding readingOrder
-  reading-of {a} i = by (from-map with-bound (leaves tree) (from-sorted (map with-bound (leaves tree)) i))
+  reading-of {a} i = by (from-map with-bound (leaves tree) (from-sorted before (map with-bound (leaves tree)) i))
     where
       by : InMap with-bound a (leaves tree) → In (a .number) (leaves tree) × (a .bound ≡ bound tree query (a .number))
       by (of k j e) = (rw e j, rw e refl)
 
   pub in-reading : {k : ℕ} → In k (leaves tree) → In (with-bound k) (readingOrder tree query)
   unfolding readingOrder
-  in-reading i = in-sorted (in-map with-bound i)
+  in-reading i = in-sorted before (in-map with-bound i)
 
   pub reading-in-order : InOrder (readingOrder tree query)
   unfolding readingOrder
@@ -200,4 +136,4 @@ module _ (tree : Tree) (query : Trace) where
   -- as many as there are leaves
   pub reading-length : length (readingOrder tree query) ≡ length (leaves tree)
   unfolding readingOrder
-  reading-length = sorted-length (map with-bound (leaves tree)) ∙ length-map (leaves tree) with-bound
+  reading-length = sorted-length before (map with-bound (leaves tree)) ∙ length-map (leaves tree) with-bound

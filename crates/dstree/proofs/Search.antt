@@ -11,11 +11,12 @@ use lib.ListN.{length, getD, length-map}
 use lib.Dec.{ltb, leb, eqb}
 use Rattle.integer.specs.Words.{if_then_else_, those, total}
 use borrow.Author.Tests.{ltb-true, ltb-false, leb-true, leb-false, eqb-true, eqb-false, lt-ltb, le-ltb, lt-leb}
-use Rattle.integer.proofs.Lists.{strict, In, in-nil, in-cons, fold-first, fold-all, fold-in, All, all-none, all-more, Some, some-here, some-later}
+use Rattle.integer.proofs.Lists.{strict, fold-append, In, in-nil, in-cons, fold-first, fold-all, fold-in, All, all-none, all-more, Some, some-here, some-later}
 use Rattle.segment.specs.Figures.{distance}
 use Rattle.dstree.specs.Measures.{Trace}
 use Rattle.dstree.specs.Node.{Tree, nodeAt}
-use Rattle.dstree.specs.Matching.{LeafBound, numbersIn, Near, nearer, bestWith, Search, distancesIn, readLeaf, isAbove, searchOn, lowestAt}
+use Rattle.dstree.specs.Matching.{LeafBound, readOn, Near, nearAt, isNearer, nearer, bestWith, Search, distancesIn, readLeaf}
+use Rattle.dstree.specs.Matching.{numbersIn, isAbove, searchOn, lowestAt}
 use Rattle.dstree.proofs.Reading.{InOrder, order-none, order-more}
 
 -- ---- the nearer of two
@@ -38,7 +39,7 @@ comes-near a b (inl h) = omega arith
 comes-near a b (inr (e, h)) = omega arith
 
 nearer-first : (a b : Near) → Comes (nearer a b) a
-unfolding nearer
+unfolding nearer isNearer
 nearer-first a b = by (ltb (b .distance) (a .distance)) (eqb (b .distance) (a .distance)) (ltb (b .trace) (a .trace)) refl refl refl
   where
     by : (x y z : Bool) → ltb (b .distance) (a .distance) ≡ x → eqb (b .distance) (a .distance) ≡ y → ltb (b .trace) (a .trace) ≡ z → Comes (if x || y && z then b else a) a
@@ -48,7 +49,7 @@ nearer-first a b = by (ltb (b .distance) (a .distance)) (eqb (b .distance) (a .d
     by false false z p q r = comes-refl a
 
 nearer-second : (a b : Near) → Comes (nearer a b) b
-unfolding nearer
+unfolding nearer isNearer
 nearer-second a b = by (ltb (b .distance) (a .distance)) (eqb (b .distance) (a .distance)) (ltb (b .trace) (a .trace)) refl refl refl
   where
     by : (x y z : Bool) → ltb (b .distance) (a .distance) ≡ x → eqb (b .distance) (a .distance) ≡ y → ltb (b .trace) (a .trace) ≡ z → Comes (if x || y && z then b else a) b
@@ -58,7 +59,7 @@ nearer-second a b = by (ltb (b .distance) (a .distance)) (eqb (b .distance) (a .
     by false false z p q r = inl (strict (ltb-false (b .distance) (a .distance) p) (λ e. eqb-false (b .distance) (a .distance) q (sym e)))
 
 nearer-either : (a b : Near) → (nearer a b ≡ a) ⊎ (nearer a b ≡ b)
-unfolding nearer
+unfolding nearer isNearer
 nearer-either a b = by (ltb (b .distance) (a .distance) || eqb (b .distance) (a .distance) && ltb (b .trace) (a .trace))
   where
     by : (c : Bool) → ((if c then b else a) ≡ a) ⊎ ((if c then b else a) ≡ b)
@@ -177,7 +178,7 @@ module _ (stored : List Trace) (tree : Tree) (query : Trace) (d : ℕ) where
   -- also on other traces that give these leaves the same distances
   pub reads-R : (other : List Trace) {all : List LeafBound} (s : Search) → InOrder all → All Far all → All (Alike other) all
       → AtLeast d (s .best) → AtMost d (s .best) ⊎ Some Hit all → searchOn other tree query s all ≡ readAll s (inR all)
-  unfolding searchOn those
+  unfolding readOn those
   reads-R other s order-none fs es least found = refl
   reads-R other s (order-more {a} {rest} o os) (all-more f fs) (all-more g gs) least found = by
       (reads-R other (readLeaf stored tree query s (a .number)) os fs gs (read-least s a least f) (read-found s found)) (leb (a .bound) d) refl
@@ -207,18 +208,15 @@ module _ (stored : List Trace) (tree : Tree) (query : Trace) (d : ℕ) where
   read-traces s (a ∷ l) = omega (
     arith,
     read-traces (readLeaf stored tree query s (a .number)) l,
-    length-map {B = Near} (numbersIn (nodeAt tree (a .number) .kind))
-        (λ (trace : ℕ). record { trace = trace; distance = distance query (getD stored trace []) }),
+    length-map (numbersIn (nodeAt tree (a .number) .kind)) (nearAt stored query),
   )
 
   pub read-best : (s : Search) (l : List LeafBound) → readAll s l .best ≡ foldl bestWith (s .best) (nearsOf l)
   unfolding readLeaf flatten
   read-best s [] = refl
-  read-best s (a ∷ l) = read-best (readLeaf stored tree query s (a .number)) l ∙ sym (fold-append (s .best) (distancesIn stored tree query (a .number)) (nearsOf l))
-    where
-      fold-append : (o : Option Near) (x y : List Near) → foldl bestWith o (x ++ y) ≡ foldl bestWith (foldl bestWith o x) y
-      fold-append o [] y = refl
-      fold-append o (b ∷ x) y = fold-append (bestWith o b) x y
+  read-best s (a ∷ l) =
+      read-best (readLeaf stored tree query s (a .number)) l
+      ∙ sym (fold-append bestWith (s .best) (distancesIn stored tree query (a .number)) (nearsOf l))
 
 -- ---- the nearest, the lowest number among equals
 
@@ -253,12 +251,8 @@ lowest d (x ∷ l) query number i = by (eqb (distance query x) d) refl (in-cons 
     by false e (inl q) ih = absurd (eqb-false (distance query x) d e (sym q))
     by false e (inr j) ih = on e (ih j)
 
--- a trace with its distance
-abbrev pub near : List Trace → Trace → ℕ → Near
-near stored query trace = record { trace = trace; distance = distance query (getD stored trace []) }
-
 pub data IsNear (stored : List Trace) (query : Trace) (b : Near) : Type 0 where
-  is-near : (t : ℕ) → t < length stored → b ≡ near stored query t → IsNear stored query b
+  is-near : (t : ℕ) → t < length stored → b ≡ nearAt stored query t → IsNear stored query b
 
 fold-some : (a : Near) (l : List Near) → foldl bestWith (some a) l ≡ some (foldl nearer a l)
 unfolding bestWith
@@ -269,7 +263,7 @@ fold-some a (b ∷ l) = fold-some (nearer a b) l
 pub winner : (stored : List Trace) (query : Trace) (d : ℕ) → Low d stored query 0 →
     ((t : ℕ) → t < length stored → d ≤ distance query (getD stored t [])) → (l : List Near) →
     ((b : Near) → In b l → IsNear stored query b) →
-    ((t : ℕ) → t < length stored → distance query (getD stored t []) ≡ d → In (near stored query t) l) → foldl bestWith none l ≡ some (record { trace = lowestAt 0 d stored query; distance = d })
+    ((t : ℕ) → t < length stored → distance query (getD stored t []) ≡ d → In (nearAt stored query t) l) → foldl bestWith none l ≡ some (record { trace = lowestAt 0 d stored query; distance = d })
 unfolding bestWith
 winner stored query d o least [] nears has = absurd (in-nil (has (o .place) (o .inside) (o .at)))
 winner stored query d o least (a ∷ l) nears has = fold-some a l ∙ ap some
@@ -279,12 +273,12 @@ winner stored query d o least (a ∷ l) nears has = fold-some a l ∙ ap some
     comes (inl e) = rw e (fold-first Comes comes-trans comes-refl nearer nearer-first nearer-second a l)
     comes (inr j) = fold-all Comes comes-trans comes-refl nearer nearer-first nearer-second a j
 
-    at : (t : ℕ) → t < length stored → Comes (near stored query t) (near stored query (o .place)) → near stored query t ≡ record { trace = lowestAt 0 d stored query; distance = d }
+    at : (t : ℕ) → t < length stored → Comes (nearAt stored query t) (nearAt stored query (o .place)) → nearAt stored query t ≡ record { trace = lowestAt 0 d stored query; distance = d }
     at t h (inl c) = absurd (omega (arith, least t h, o .at))
     at t h (inr (e, c)) =
         let f : distance query (getD stored t []) ≡ d = e ∙ o .at in
         let p : t ≡ lowestAt 0 d stored query = omega (arith, o .is, o .low t h f) in
         rw f (ap (λ (k : ℕ). record { trace = k; distance = d }) p)
 
-    by : (w : Near) → IsNear stored query w → Comes w (near stored query (o .place)) → w ≡ record { trace = lowestAt 0 d stored query; distance = d }
+    by : (w : Near) → IsNear stored query w → Comes w (nearAt stored query (o .place)) → w ≡ record { trace = lowestAt 0 d stored query; distance = d }
     by w (is-near t h e) c = e ∙ at t h (rw e at c)

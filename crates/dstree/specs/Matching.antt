@@ -6,6 +6,7 @@ use mathlib.Core.List.{List, [], _∷_, _++_, map, foldl}
 use lib.ListN.{length, getD}
 use lib.Dec.{leb, ltb, eqb}
 use Rattle.integer.specs.Words.{if_then_else_, least, those, total, counting}
+use Rattle.integer.specs.Sorting.{sortedBy}
 use Rattle.segment.specs.Figures.{distance}
 use Rattle.segment.specs.Terms.{sumGap, scatterGap, boundTerm}
 use Rattle.dstree.specs.Measures.{Trace}
@@ -71,18 +72,9 @@ leaves tree = those (λ number. isLeaf (nodeAt tree number .kind)) (counting (le
 unfoldable pub before : LeafBound → LeafBound → Bool
 before a b = ltb (a .bound) (b .bound) || eqb (a .bound) (b .bound) && ltb (a .number) (b .number)
 
--- a leaf put into its place among leaves in order
-unfoldable pub placed : LeafBound → List LeafBound → List LeafBound
-placed a [] = a ∷ []
-placed a (b ∷ rest) = let behind = placed a rest in if before a b then a ∷ b ∷ rest else b ∷ behind
-
-unfoldable pub sorted : List LeafBound → List LeafBound
-sorted [] = []
-sorted (a ∷ rest) = placed a (sorted rest)
-
 -- "Leaves are read by bound, then by number"
 unfoldable pub readingOrder : Tree → Trace → List LeafBound
-readingOrder tree query = sorted (map (λ number. record { number = number; bound = bound tree query number }) (leaves tree))
+readingOrder tree query = sortedBy before (map (λ number. record { number = number; bound = bound tree query number }) (leaves tree))
 
 -- leaves are read in order until the next bound is one to stop at. What is found is of any kind S
 module _ {S : Type 0} (stop : S → ℕ → Bool) (read : S → ℕ → S) where
@@ -97,9 +89,17 @@ pub record Near : Type 0 where
   pub trace : ℕ
   pub distance : ℕ
 
--- the nearer of two; at an equal distance the lower number
+-- a stored trace with its distance
+abbrev pub nearAt : List Trace → Trace → ℕ → Near
+nearAt stored query trace = record { trace = trace; distance = distance query (getD stored trace []) }
+
+-- by distance; at an equal distance by number
+unfoldable pub isNearer : Near → Near → Bool
+isNearer a b = ltb (a .distance) (b .distance) || eqb (a .distance) (b .distance) && ltb (a .trace) (b .trace)
+
+-- the nearer of two
 unfoldable pub nearer : Near → Near → Near
-nearer a b = if ltb (b .distance) (a .distance) || eqb (b .distance) (a .distance) && ltb (b .trace) (a .trace) then b else a
+nearer a b = if isNearer b a then b else a
 
 -- the best so far, and one more
 unfoldable pub bestWith : Option Near → Near → Option Near
@@ -114,7 +114,7 @@ pub record Search : Type 0 where
 
 -- "the distances of its traces"
 unfoldable pub distancesIn : List Trace → Tree → Trace → ℕ → List Near
-distancesIn stored tree query number = map (λ (trace : ℕ). record { trace = trace; distance = distance query (getD stored trace []) }) (numbersIn (nodeAt tree number .kind))
+distancesIn stored tree query number = map (nearAt stored query) (numbersIn (nodeAt tree number .kind))
 
 -- "To read a leaf is to take the distances of its traces"
 unfoldable pub readLeaf : List Trace → Tree → Trace → Search → ℕ → Search
@@ -128,11 +128,8 @@ isAbove bound none = false
 isAbove bound (some best) = ltb (best .distance) bound
 
 -- leaves are read in order "until the next bound is above the best distance found"
-unfoldable pub searchOn : List Trace → Tree → Trace → Search → List LeafBound → Search
-searchOn stored tree query s [] = s
-searchOn stored tree query s (next ∷ rest) =
-    let onward = searchOn stored tree query (readLeaf stored tree query s (next .number)) rest in
-    if isAbove (next .bound) (s .best) then s else onward
+abbrev pub searchOn : List Trace → Tree → Trace → Search → List LeafBound → Search
+searchOn stored tree query = readOn (λ s bound. isAbove bound (s .best)) (readLeaf stored tree query)
 
 unfoldable pub searched : List Trace → Tree → Trace → Search
 searched stored tree query = searchOn stored tree query (record { best = none; traces = 0; trail = [] }) (readingOrder tree query)

@@ -4,6 +4,7 @@ pub mod Facts
 pub mod Width
 pub mod Tests
 pub mod Lists
+pub mod Sorting
 pub mod Times
 pub mod Rows
 pub mod Examples

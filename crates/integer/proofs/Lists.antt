@@ -4,7 +4,7 @@ use Prim.Native.Nat.{ℕ, zero, suc, _+_, _≤_, _<_, min, max}
 use mathlib.Core.Path.{_≡_, refl, sym, _∙_, ap, subst}
 use mathlib.Core.Logic.{_⊎_, inl, inr}
 use mathlib.Core.Bool.{Bool, true, false, not}
-use mathlib.Core.List.{List, [], _∷_, _++_, map, foldl, flatten}
+use mathlib.Core.List.{List, [], _∷_, _++_, map, foldl, flatten, append-assoc}
 use native.Mathlib.Omega.{arith}
 use native.Mathlib.Decide.{decLe}
 use native.Mathlib.Nat.{lt-of-not-le}
@@ -178,6 +178,20 @@ cons-tail a b l m e = cc
 cons-head : {A : Type 0} (a b : A) (l m : List A) → a ∷ l ≡ b ∷ m → a ≡ b
 cons-head a b l m e = cc
 
+pub fold-append : {A B : Type 0} (f : B → A → B) (b : B) (x y : List A) → foldl f b (x ++ y) ≡ foldl f (foldl f b x) y
+fold-append f b [] y = refl
+fold-append f b (a ∷ x) y = fold-append f (f b a) x y
+
+pub flat-append : {A B : Type 0} (f : A → List B) (x y : List A) → flatten (map f (x ++ y)) ≡ flatten (map f x) ++ flatten (map f y)
+unfolding flatten
+flat-append f [] y = refl
+flat-append f (a ∷ x) y = ap (λ l. f a ++ l) (flat-append f x y) ∙ sym (append-assoc (f a) (flatten (map f x)) (flatten (map f y)))
+
+pub map-take : {A B : Type 0} (f : A → B) (k : ℕ) (l : List A) → map f (take k l) ≡ take k (map f l)
+map-take f zero l = refl
+map-take f (suc k) [] = refl
+map-take {A} {B} f (suc k) (a ∷ l) = ap (λ (m : List B). f a ∷ m) (map-take f k l)
+
 -- two maps that agree on a list agree on each element, and on each of the lists that it was made of
 module _ {A B : Type 0} (f g : A → B) where
   pub agree-in : {a : A} {l : List A} → map f l ≡ map g l → In a l → f a ≡ g a
@@ -283,6 +297,10 @@ pub data Some {A : Type 0} (P : A → Type 0) : List A → Type 0 where
 pub all-in : {A : Type 0} {P : A → Type 0} (l : List A) → ((a : A) → In a l → P a) → All P l
 all-in [] h = all-none
 all-in (a ∷ l) h = all-more (h a first) (all-in l (λ b i. h b (later i)))
+
+pub all-at : {A : Type 0} {P : A → Type 0} {a : A} {l : List A} → All P l → In a l → P a
+all-at (all-more p ps) first = p
+all-at (all-more p ps) (later i) = all-at ps i
 
 pub some-of : {A : Type 0} {P : A → Type 0} {a : A} {l : List A} → In a l → P a → Some P l
 some-of first p = some-here p
@@ -522,6 +540,32 @@ module _ {A : Type 0} (key : A → ℕ) where
     where
       apart : (b : A) → InMap make b l → key b ≡ key (make a) → ⊥
       apart b (of c j e) q = omega (arith, up-in u j, ap key e, is c, is a)
+
+pub apart-append : {A : Type 0} (key : A → ℕ) {l m : List A} → Apart key l → Apart key m → ((a b : A) → In a l → In b m → key b ≡ key a → ⊥)
+    → Apart key (l ++ m)
+apart-append key apart-none q h = q
+apart-append {A} key {m} (apart-more {a} {l} g p) q h =
+    apart-more (λ b i. by b (in-append l i)) (apart-append key p q (λ c b i j. h c b (later i) j))
+  where
+    by : (b : A) → In b l ⊎ In b m → key b ≡ key a → ⊥
+    by b (inl i) = g b i
+    by b (inr j) = h a b first j
+
+pub map-apart : {A : Type 0} (key : A → ℕ) {l : List A} → Apart key l → Apart (λ (j : ℕ). j) (map key l)
+map-apart key apart-none = apart-none
+map-apart {A} key (apart-more {a} {l} h p) = apart-more (λ j i. by j (from-map key l i)) (map-apart key p)
+  where
+    by : (j : ℕ) → InMap key j l → j ≡ key a → ⊥
+    by j (of b i e) q = h b i (sym e ∙ q)
+
+pub apart-front : {A : Type 0} (key : A → ℕ) (l m : List A) → Apart key (l ++ m) → Apart key l
+apart-front key [] m p = apart-none
+apart-front key (a ∷ l) m (apart-more h p) = apart-more (λ b i. h b (in-append-left m i)) (apart-front key l m p)
+
+-- numbers that rise differ
+pub up-same : {k : ℕ} {l : List ℕ} → Up k l → Apart (λ (j : ℕ). j) l
+up-same u-none = apart-none
+up-same (u-more {a} {l} h u) = apart-more (λ (j : ℕ) (i : In j l) (e : j ≡ a). omega (arith, up-in u i)) (up-same u)
 
 without : {k : ℕ} {l : List ℕ} → In k l → List ℕ
 without (first {rest}) = rest

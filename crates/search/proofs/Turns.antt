@@ -12,7 +12,7 @@ use Rattle.integer.specs.Words.{if_then_else_}
 use Rattle.integer.proofs.Lists.{All, all-none, all-more, all-mono}
 use Rattle.dstree.specs.Measures.{Trace}
 use Rattle.dstree.specs.Node.{Tree}
-use Rattle.dstree.specs.Matching.{LeafBound, Search, bestWith, isAbove, leaves, readingOrder, readLeaf, readOn, searchOn, searched}
+use Rattle.dstree.specs.Matching.{LeafBound, Search, bestWith, isAbove, leaves, readingOrder, readLeaf, readOn, searched}
 use Rattle.dstree.proofs.Reading.{reading-length}
 use Rattle.tables.specs.Layout.{firstPlace}
 use Rattle.tables.specs.Tables.{Tables, measuresOf, traceCount, nodeCount, recordOf}
@@ -57,17 +57,6 @@ module _ {S : Type 0} (stop : S → ℕ → Bool) (read : S → ℕ → S) where
   read-end s all-none = refl
   read-end s (all-more e es) = rw e
 
--- document 01's search is one that reads leaves on so
-search-is : (stored : List Trace) (tree : Tree) (query : Trace) (s : Search) (l : List LeafBound)
-    → readOn stopsAt (readLeaf stored tree query) s l ≡ searchOn stored tree query s l
-unfolding readOn searchOn
-search-is stored tree query s [] = refl
-search-is stored tree query s (a ∷ l) = by (isAbove (a .bound) (s .best)) (search-is stored tree query (readLeaf stored tree query s (a .number)) l)
-  where
-    by : (c : Bool) {p q : Search} → p ≡ q → (if c then s else p) ≡ (if c then s else q)
-    by true ih = refl
-    by false ih = ih
-
 drop-one : (n : ℕ) (l m : List ℕ) → drop n l ≡ drop n m → drop (n + 1) l ≡ drop (n + 1) m
 drop-one n l m e = sym (drop-drop 1 n l) ∙ ap (drop 1) e ∙ drop-drop 1 n m
 
@@ -96,7 +85,7 @@ module _ (t : Tables) (query : Trace) (trail₀ : List ℕ) (ready : Ready t que
       let order : remaining (shapeIn (t .nodes) m) query 1 work ≡ readingOrder (treeIn t) query = b .all ∙ (rw e (order-alike (shape-alike t) query)) in
       record {
         waits = b .waits;
-        goes-on = rw order (search-is (tracesIn t) (treeIn t) query (seen none 0 []) (readingOrder (treeIn t) query));
+        goes-on = rw order;
         trail-room = omega (arith, ap length order, reading-length (treeIn t) query);
         few = omega arith;
         trail-size = refl;

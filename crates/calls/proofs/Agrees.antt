@@ -16,14 +16,16 @@ use Rattle.integer.proofs.Tests.{passed, passes, is-true, eq→eqb}
 use Rattle.integer.specs.Lists.{In}
 use Rattle.integer.proofs.Lists.{in-snoc, every-of, from-every, strict}
 use Rattle.dstree.specs.Measures.{Trace, Measures, sampleLimit, inRange, isTrace, isLibrary, workNeeded}
-use Rattle.dstree.specs.Matching.{leaves, matchBySteps, matchOf}
-use Rattle.dstree.specs.Refusals.{Condition, _refuses_, firstOf, measure, wrongTrace, full, empty, shortTrail, sheetLength}
+use Rattle.dstree.specs.Matching.{matchBySteps, matchOf}
+use Rattle.dstree.specs.KNearest.{isK, kNearestBySteps, kNearestOf}
+use Rattle.dstree.specs.Refusals.{Condition, _refuses_, firstOf, measure, wrongTrace, full, empty, shortTrail, sheetLength, badK}
 use Rattle.dstree.specs.Sheet.{blockSize, blocksNeeded, sheetOf, Judged, refused, holds, judgeSheet}
-use Rattle.dstree.specs.Book.{Ask, opening, adding, matching, writing, reading, Book, book, bookTree, Entry, added, written, over}
-use Rattle.dstree.specs.Book.{shortConditions}
-use Rattle.dstree.specs.Book.{readingConditions, putRead, openingEntry, addingEntry, matchingEntry, writingEntry, readingEntry, entryOf}
+use Rattle.dstree.specs.Book.{Ask, opening, adding, matching, writing, reading, listing, Book, book, bookTree, Entry, added, written, over}
+use Rattle.dstree.specs.Book.{shortConditions, queryConditions, readingConditions, putRead, openingEntry, addingEntry, matchingEntry}
+use Rattle.dstree.specs.Book.{writingEntry, readingEntry, listingEntry, entryOf}
 use Rattle.dstree.proofs.Conditions.{none-first, none-both}
 use Rattle.dstree.proofs.Laws.{claims}
+use Rattle.dstree.proofs.KLaws.{k-nearest}
 use Rattle.dstree.proofs.RoundTrips.{is-library}
 use Rattle.tables.specs.Layout.{layout}
 use Rattle.tables.specs.Tables.{Tables, lentOf}
@@ -38,7 +40,8 @@ use Rattle.insertion_memory.proofs.Made.{takes-more}
 use Rattle.insertion_memory.proofs.AddedBeginnings.{added-begins}
 use Rattle.calls.specs.Outcome.{Effect}
 use Rattle.calls.specs.Library.{loaded, libraryTables, Keeps}
-use Rattle.calls.specs.Effects.{opens, adds, resultOf, trailOf, cleared, matches, writes, loadedBy, reads, effectOf}
+use Rattle.calls.specs.Effects.{opens, adds, resultOf, trailOf, cleared, matches, writes, loadedBy, reads, lists}
+use Rattle.calls.specs.Effects.{effectOf}
 use Rattle.calls.specs.Follows.{areSamples, Typed}
 use Rattle.calls.proofs.Finds.{last-never}
 use Rattle.calls.proofs.Library.{library-holds, library-work, loaded-more, loaded-begins}
@@ -177,13 +180,24 @@ module _ (memory part : Tables) (begins : Begins part memory) (b : Book) (keeps 
     puts = adding-puts x typed;
   }
 
+  -- "The needed search work is left zero", as it was
+  cleared-begins : Room (lentOf part) m → Begins own (cleared part)
+  cleared-begins room =
+      let on = library-begins keeps part begins room in
+      let k : ℕ = workNeeded m in
+      tables-same (ap (λ (t : Tables). t .control) on) (ap (λ (t : Tables). t .samples) on) (ap (λ (t : Tables). t .nodes) on)
+      (ap (λ (t : Tables). t .links) on)
+      (rw (library-work m (b .traces), part-holds keeps part begins room .measures-are)
+      (take-append-seam (replicate {A = ℕ} k 0) (drop k (part .work))))
+
+  -- so a search keeps the book
+  searching-puts : (rest : List Condition) → firstOf (shortConditions layout (lentOf part) m ++ rest) ≡ none
+      → Keeps (left (cleared part) memory) b
+  searching-puts rest e = kept b (cleared part) (keeps .library) (cleared-begins (short-room (lentOf part) m rest e))
+
   module _ (query : Trace) (trail : List ℕ) where
     abbrev matchingRest : List Condition
-    matchingRest =
-        not (eqb (length query) (m .n)) refuses wrongTrace
-        ∷ isEmpty (b .traces) refuses empty
-        ∷ ltb (length trail) (length (leaves (bookTree b))) refuses shortTrail
-        ∷ []
+    matchingRest = queryConditions b query trail
 
     matching-judged : firstOf (matches part query trail .conditions) ≡ firstOf (shortConditions layout (lentOf part) m ++ matchingRest)
     matching-judged = last-never part query trail ∙ made-same keeps part begins _ matchingRest
@@ -200,24 +214,42 @@ module _ (memory part : Tables) (begins : Begins part memory) (b : Book) (keeps 
         (eqb-true (length query) (m .n) (not-false _ (one .0))) in
         rw (h .traces-are, h .tree-is) (c .steps-give-it)
 
-    -- "The needed search work is left zero", as it was
-    cleared-begins : Room (lentOf part) m → Begins own (cleared part)
-    cleared-begins room =
-        let on = library-begins keeps part begins room in
-        let k : ℕ = workNeeded m in
-        tables-same (ap (λ (t : Tables). t .control) on) (ap (λ (t : Tables). t .samples) on) (ap (λ (t : Tables). t .nodes) on)
-        (ap (λ (t : Tables). t .links) on)
-        (rw (library-work m (b .traces), part-holds keeps part begins room .measures-are)
-        (take-append-seam (replicate {A = ℕ} k 0) (drop k (part .work))))
-
     pub matching-agrees : Agrees memory (matches part query trail) (matchingEntry layout (lentOf part) b query trail)
     unfolding matches matchingEntry resultOf trailOf
     matching-agrees = record {
       judged = matching-judged;
       result-is = λ e. rw (steps-give e);
       beside-is = λ e. rw (steps-give e);
-      puts = λ e. kept b (cleared part) (keeps .library) (cleared-begins (short-room (lentOf part) m matchingRest e));
+      puts = searching-puts matchingRest;
     }
+
+    module _ (k : ℕ) (list : List ℕ) where
+      abbrev listingRest : List Condition
+      listingRest = not (isK k) refuses badK ∷ (queryConditions b query trail ++ (ltb (length list) (2 * k) refuses shortTrail ∷ []))
+
+      listing-judged : firstOf (lists part k query trail list .conditions) ≡ firstOf (shortConditions layout (lentOf part) m ++ listingRest)
+      unfolding lists
+      listing-judged = made-same keeps part begins _ listingRest
+          (λ h. rw (ap (λ (k : Measures). k .n) (h .measures-are), counted keeps part begins h, empty-is (b .traces), h .tree-is))
+
+      list-steps-give : firstOf (shortConditions layout (lentOf part) m ++ listingRest) ≡ none
+          → kNearestBySteps k (tracesIn part) (treeIn part) query ≡ kNearestOf k (b .traces) (bookTree b) query
+      list-steps-give e =
+          let parts = none-both (shortConditions layout (lentOf part) m) listingRest e in
+          let one = none-first (not (isK k)) badK _ (parts .1) in
+          let two = none-first (not (eqb (length query) (m .n))) wrongTrace _ (one .1) in
+          let h = holds-it listingRest e in
+          let c = k-nearest sampleLimit m (b .traces) (keeps .library) query (eqb-true (length query) (m .n) (not-false _ (two .0))) k in
+          rw (h .traces-are, h .tree-is) (c .steps-give-it)
+
+      pub listing-agrees : Agrees memory (lists part k query trail list) (listingEntry layout (lentOf part) b k query trail list)
+      unfolding lists listingEntry
+      listing-agrees = record {
+        judged = listing-judged;
+        result-is = λ e. rw (list-steps-give e);
+        beside-is = λ e. rw (list-steps-give e);
+        puts = searching-puts listingRest;
+      }
 
   pub writing-agrees : (sheet : List ℕ) → Agrees memory (writes part sheet) (writingEntry layout (lentOf part) b sheet)
   unfolding writes writingEntry
@@ -242,3 +274,4 @@ module _ (memory part : Tables) (begins : Begins part memory) (b : Book) (keeps 
   agrees (matching query trail) typed = matching-agrees query trail
   agrees (writing sheet) typed = writing-agrees sheet
   agrees (reading bytes) typed = reading-agrees memory part b bytes typed
+  agrees (listing k query trail list) typed = listing-agrees query trail k list

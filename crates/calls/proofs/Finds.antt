@@ -7,16 +7,16 @@ use mathlib.Core.Option.{Option, none, some}
 use mathlib.Core.List.{List, [], _∷_, _++_, foldl, append-assoc}
 use native.Mathlib.Omega.{arith}
 use lib.ListN.{length, length-map}
-use lib.Dec.{T, eqb, ltb}
+use lib.Dec.{T, eqb}
 use borrow.Author.Tests.{eqb-false}
 use Rattle.integer.specs.Words.{if_then_else_, isIn}
 use Rattle.integer.specs.Lists.{In, first}
 use Rattle.integer.proofs.Lists.{in-nil}
 use Rattle.dstree.specs.Measures.{Trace}
 use Rattle.dstree.specs.Node.{Kind, leaf, inner, Tree, nodeAt}
-use Rattle.dstree.specs.Matching.{LeafBound, isLeaf, numbersIn, leaves, readingOrder, readOn, Near, nearAt, nearer, bestWith, Search}
+use Rattle.dstree.specs.Matching.{LeafBound, isLeaf, numbersIn, readingOrder, readOn, Near, nearAt, nearer, bestWith, Search}
 use Rattle.dstree.specs.Matching.{distancesIn, readLeaf, isAbove, searchOn, searched, Match, answerOf, matchBySteps}
-use Rattle.dstree.specs.Refusals.{Refusal, Condition, _refuses_, firstOf, wrongTrace, empty, shortTrail}
+use Rattle.dstree.specs.Refusals.{Refusal, Condition, _refuses_, firstOf, wrongTrace, empty}
 use Rattle.dstree.proofs.Conditions.{none-first, first-some, first-none, none-both}
 use Rattle.dstree.proofs.Formed.{Kept, number-node}
 use Rattle.dstree.proofs.Reading.{from-leaves, in-leaves, reading-of, in-reading}
@@ -25,7 +25,7 @@ use Rattle.tables.specs.View.{treeIn, tracesIn, wellFormed}
 use Rattle.tables.proofs.Judged.{accepted}
 use Rattle.tables.specs.Answers.{madeConditions}
 use Rattle.tables.proofs.Views.{tree-formed}
-use Rattle.calls.specs.Effects.{isNone, matches}
+use Rattle.calls.specs.Effects.{isNone, queryConditionsIn, matches}
 
 -- something is there
 abbrev Some : {A : Type 0} → Option A → Type 0
@@ -130,16 +130,9 @@ module _ (t : Tables) (w : T (wellFormed t)) (some-trace : 0 < traceCount t) (qu
 -- ---- the conditions of a match
 
 module _ (t : Tables) (query : Trace) (trail : List ℕ) where
-  abbrev own : List Condition
-  own =
-      not (eqb (length query) (measuresOf t .n)) refuses wrongTrace
-      ∷ eqb (traceCount t) 0 refuses empty
-      ∷ ltb (length trail) (length (leaves (treeIn t))) refuses shortTrail
-      ∷ []
-
   -- all but the last
   abbrev pub testedConditions : List Condition
-  testedConditions = madeConditions t ++ own
+  testedConditions = madeConditions t ++ queryConditionsIn t query trail
 
   some-of : (k : ℕ) → (k ≡ 0 → ⊥) → 0 < k
   some-of k f = omega (arith, f)
@@ -147,14 +140,15 @@ module _ (t : Tables) (query : Trace) (trail : List ℕ) where
   -- where none of these holds, a search finds a trace ..
   pub found : firstOf testedConditions ≡ none → isNone (matchBySteps (tracesIn t) (treeIn t) query) ≡ false
   found e =
-      let two = none-first (not (eqb (length query) (measuresOf t .n))) wrongTrace _ (none-both (madeConditions t) own e .1) in
+      let parts = none-both (madeConditions t) (queryConditionsIn t query trail) e in
+      let two = none-first (not (eqb (length query) (measuresOf t .n))) wrongTrace _ (parts .1) in
       let three = none-first (eqb (traceCount t) 0) empty _ (two .1) in
-      finds t (accepted t (none-both (madeConditions t) own e .0) .formed) (some-of (traceCount t) (λ q. eqb-false (traceCount t) 0 (three .0) q)) query
+      finds t (accepted t (parts .0) .formed) (some-of (traceCount t) (λ q. eqb-false (traceCount t) 0 (three .0) q)) query
 
   -- .. so that the last never decides
   pub last-never : firstOf (matches t query trail .conditions) ≡ firstOf testedConditions
   unfolding matches firstOf
-  last-never = ap firstOf (sym (append-assoc (madeConditions t) own last)) ∙ by (firstOf testedConditions) refl
+  last-never = ap firstOf (sym (append-assoc (madeConditions t) (queryConditionsIn t query trail) last)) ∙ by (firstOf testedConditions) refl
     where
       last : List Condition
       last = isNone (matchBySteps (tracesIn t) (treeIn t) query) refuses empty ∷ []

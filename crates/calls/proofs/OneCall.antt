@@ -14,8 +14,8 @@ use Rattle.integer.proofs.Lists.{strict}
 use Rattle.dstree.specs.Measures.{Trace, Measures, sampleLimit, inRange, isLibrary, samplesNeeded, recordsNeeded, linksNeeded, workNeeded}
 use Rattle.dstree.specs.Refusals.{Refusal, _refuses_, firstOf, measure, wrongTrace, full}
 use Rattle.dstree.specs.Sheet.{Judged, refused, holds, judgeSheet}
-use Rattle.dstree.specs.Book.{Ask, opening, adding, matching, writing, reading, Call, besideOf, Reply, reply}
-use Rattle.dstree.specs.Book.{shortConditions, readingConditions}
+use Rattle.dstree.specs.Book.{Ask, opening, adding, matching, writing, reading, listing, Call, besideOf}
+use Rattle.dstree.specs.Book.{Reply, reply, shortConditions, readingConditions}
 use Rattle.dstree.proofs.Conditions.{none-first, none-both}
 use Rattle.dstree.proofs.RoundTrips.{is-library}
 use Rattle.tables.specs.Layout.{layout, controlFields, recordPlaces, nPlace, capacityPlace, leafSizePlace}
@@ -31,7 +31,7 @@ use Rattle.insertion_memory.proofs.FromTables.{long-of}
 use Rattle.insertion_memory.proofs.Meaning.{meaning}
 use Rattle.calls.specs.Outcome.{Effect, unlessRefused}
 use Rattle.calls.specs.Library.{loaded, beyond}
-use Rattle.calls.specs.Effects.{opens, adds, cleared, matches, writes, loadedBy, reads, effectOf}
+use Rattle.calls.specs.Effects.{opens, adds, cleared, matches, writes, loadedBy, reads, lists, effectOf}
 use Rattle.calls.specs.Follows.{Typed, Follows}
 use Rattle.calls.specs.Demands.{OneCall}
 use Rattle.tables.proofs.Judged.{accepted}
@@ -72,10 +72,10 @@ module _ (t : Tables) where
             (ap (drop (workNeeded (measuresOf t))) (a .work-stays)));
       }
 
-  matching-untouched : (query : Trace) (trail : List ℕ) → firstOf (matches t query trail .conditions) ≡ none → Untouched t (cleared t)
-  unfolding matches
-  matching-untouched query trail e =
-      let r = accepted t (none-both (madeConditions t) _ e .0) .room in
+  -- a search
+  searching-untouched : firstOf (madeConditions t) ≡ none → Untouched t (cleared t)
+  searching-untouched e =
+      let r = accepted t e .room in
       let k : ℕ = workNeeded (measuresOf t) in
       record {
         lengths-same = rw (fill-length {A = ℕ} k 0 (t .work) (r .work-room));
@@ -103,12 +103,13 @@ module _ (t : Tables) where
       }
 
   pub after-untouched : (ask : Ask) → Typed ask → firstOf (effectOf ask t .conditions) ≡ none → Untouched t (effectOf ask t .after)
-  unfolding effectOf opens adds matches writes reads Typed
+  unfolding effectOf opens adds matches writes reads lists Typed
   after-untouched (opening m) typed e = opening-untouched m e
   after-untouched (adding x) typed e = adding-untouched x e
-  after-untouched (matching query trail) typed e = matching-untouched query trail e
+  after-untouched (matching query trail) typed e = searching-untouched (none-both (madeConditions t) _ e .0)
   after-untouched (writing sheet) typed e = writing-untouched sheet e
   after-untouched (reading bytes) typed e = reading-by (judgeSheet bytes) (λ m traces j. is-library bytes m traces typed j) e
+  after-untouched (listing k query trail list) typed e = searching-untouched (none-both (madeConditions t) _ e .0)
 
 -- ---- the same of a memory whose first places are lent
 

@@ -9,9 +9,9 @@ use native.Mathlib.Omega.{arith}
 use Rattle.dstree.specs.Measures.{measures}
 use Rattle.dstree.specs.Matching.{Match, matchBySteps}
 use Rattle.dstree.specs.Refusals.{Refusal, firstOf}
-use Rattle.dstree.specs.Book.{Lent, Ask, opening, adding, matching, writing, reading, Call, call, besideOf, done, answering, Reply, reply}
+use Rattle.dstree.specs.Book.{Lent, Ask, opening, adding, matching, writing, reading, listing, Call, call, besideOf, done, answering}
 use Rattle.dstree.specs.Book.{Book, book, Entry, openingEntry, readingEntry, entryOf, judge, putUnless, turn, after, replyUnless, start}
-use Rattle.dstree.specs.Book.{replyOf, repliesOf}
+use Rattle.dstree.specs.Book.{Reply, reply, replyOf, repliesOf}
 use Rattle.tables.specs.Layout.{layout}
 use Rattle.tables.specs.Tables.{Tables}
 use Rattle.tables.specs.View.{treeIn, tracesIn}
@@ -19,7 +19,7 @@ use Rattle.tables.specs.Beginning.{firstPlaces, left, Begins}
 use Rattle.tables.proofs.Beginning.{left-same, first-begins}
 use Rattle.calls.specs.Outcome.{Effect, Outcome, unlessRefused, outcomeOf}
 use Rattle.calls.specs.Library.{Keeps}
-use Rattle.calls.specs.Effects.{adds, resultOf, isNone, matches, writes, effectOf, outcomeOn}
+use Rattle.calls.specs.Effects.{adds, resultOf, isNone, matches, writes, lists, effectOf, outcomeOn}
 use Rattle.calls.specs.Follows.{Typed, Follows, Ran, no-call, a-call}
 use Rattle.calls.proofs.Finds.{found, last-never}
 use Rattle.calls.proofs.Agrees.{Agrees, opening-agrees, reading-agrees, agrees}
@@ -91,7 +91,7 @@ module _ (memory part : Tables) (lent : Lent) where
 
   started-by : (ask : Ask) → Typed ask → outcomeOn ask part .answer ≡ answering done
       → Keeps (left (outcomeOn ask part .after) memory) (start layout (call lent ask))
-  unfolding outcomeOn effectOf besideOf entryOf start openingEntry readingEntry adds matches writes
+  unfolding outcomeOn effectOf besideOf entryOf start openingEntry readingEntry adds matches writes lists
   started-by (opening m) typed d = start-by memory part noBook [] (opening-agrees memory part noBook m) d
   started-by (adding x) typed d = absurd (not-done _ part [] (adds part x) (λ e r. let z : _≡_ {A = ℕ} 0 1 = cc in omega arith) d)
   started-by (matching query trail) typed d = absurd (not-done _ part (trail ∷ []) (matches part query trail)
@@ -100,6 +100,8 @@ module _ (memory part : Tables) (lent : Lent) where
   started-by (writing sheet) typed d = absurd (not-done _ part (sheet ∷ []) (writes part sheet)
       (λ e r. let z : _≡_ {A = ℕ} 0 1 = cc in omega arith) d)
   started-by (reading bytes) typed d = start-by memory part noBook [] (reading-agrees memory part noBook bytes typed) d
+  started-by (listing k query trail list) typed d = absurd (not-done _ part (trail ∷ list ∷ []) (lists part k query trail list)
+      (λ e r. let z : _≡_ {A = ℕ} 0 1 = cc in omega arith) d)
 
 pub started : {c : Call} {memory memory′ : Tables} {said : Reply} → Follows c memory said memory′ → said .answer ≡ answering done
     → Keeps memory′ (start layout c)

@@ -1,30 +1,33 @@
 -- The three demands, of calls that follow their definitions: demand 1 of every call on every memory; demand 2 and document 01's "Demand 3,
--- over a list of calls", a field for each sentence, of what a list of calls leaves. `proofs/Demands` proves them.
+-- over a list of calls", a field for each sentence, of what a list of calls leaves; and document 02's claims of the calls that it adds.
+-- `proofs/Demands` proves them.
 use Prim.Native.Nat.{ℕ, _≤_, _<_}
 use mathlib.Core.Path.{_≡_}
-use mathlib.Core.Bool.{not}
-use mathlib.Core.Option.{none, some}
+use mathlib.Core.Bool.{true, not}
+use mathlib.Core.Option.{Option, none, some}
 use mathlib.Core.List.{List, [], _∷_}
-use lib.ListN.{length, getD}
+use lib.ListN.{length, getD, take}
 use lib.Dec.{T}
 use Rattle.integer.specs.Words.{every, isIn}
 use Rattle.integer.specs.Lists.{In}
 use Rattle.segment.specs.Figures.{distance}
 use Rattle.dstree.specs.Measures.{Trace}
 use Rattle.dstree.specs.Matching.{bound, leaves, leastDistance, Match, matchOf}
-use Rattle.dstree.specs.Refusals.{Refusal, spoiled, firstOf}
-use Rattle.dstree.specs.Book.{Lent, matching, writing, reading, Call, call, besideOf, Result, done, matched, written, refusing, Reply}
-use Rattle.dstree.specs.Book.{answering, reply}
+use Rattle.dstree.specs.KNearest.{isK, ranking, listPlaces, KNearest, kNearestBySteps, kNearestOf, distancesAmong, ListClaims}
+use Rattle.dstree.specs.KNearest.{KNearestClaims, OneIsMatch}
+use Rattle.dstree.specs.Refusals.{Refusal, spoiled, empty, firstOf}
+use Rattle.dstree.specs.Book.{Lent, matching, writing, reading, listing, Call, call, besideOf, Result, done, added, matched, written}
+use Rattle.dstree.specs.Book.{neighbours, refusing, answering, Reply, reply}
 use Rattle.dstree.specs.Book.{over, Book, bookTree, shortConditions, judge, after, repliesOf, start}
 use Rattle.dstree.specs.Claims.{Below, numbersAmong, LeavesOutOnlyAbove}
 use Rattle.tables.specs.Layout.{layout}
 use Rattle.tables.specs.Tables.{Tables, lentOf, measuresOf}
-use Rattle.tables.specs.View.{traceIn, treeIn}
+use Rattle.tables.specs.View.{traceIn, treeIn, tracesIn}
 use Rattle.tables.specs.Beginning.{firstPlaces, left}
 use Rattle.tables.specs.Holds.{Holds}
 use Rattle.calls.specs.Outcome.{Effect}
 use Rattle.calls.specs.Library.{Keeps, beyond}
-use Rattle.calls.specs.Effects.{effectOf}
+use Rattle.calls.specs.Effects.{cleared, effectOf}
 use Rattle.calls.specs.Follows.{Follows, Ran}
 
 -- ---- demand 1
@@ -60,14 +63,40 @@ pub record DifferOutside (set : List ℕ) (these other : Tables) : Type 0 where
   pub samples-same : (trace : ℕ) → T (isIn trace (numbersAmong (treeIn these) set))
       → traceIn (other .samples) (measuresOf these .n) trace ≡ traceIn (these .samples) (measuresOf these .n) trace
 
--- "well-formed tables that differ only there give the same answer and the same trail": of a match that is not refused, so that its tables
+-- the leaves that a search has read, by its answer: a match's, or that of the k nearest. No other call answers with a trail
+unfoldable pub trailFound : Result → Option (List ℕ)
+trailFound (matched m) = some (m .trail)
+trailFound (neighbours m) = some (m .trail)
+trailFound done = none
+trailFound (added number) = none
+trailFound (written blocks sheet) = none
+
+-- "well-formed tables that differ only there give the same answer and the same trail": of a search that is not refused, so that its tables
 -- are well formed, whoever made them
 abbrev pub SamplesOffTrail : Type 0
-SamplesOffTrail = (lent : Lent) (query : Trace) (trail : List ℕ) (these these′ : Tables) (said : Reply)
-    → Follows (call lent (matching query trail)) these said these′ → (m : Match) → said .answer ≡ answering (matched m)
-    → (other other′ : Tables) (also : Reply) → DifferOutside (m .trail) these other
-    → Follows (call lent (matching query trail)) other also other′
+SamplesOffTrail = (c : Call) (these these′ : Tables) (said : Reply) → Follows c these said these′
+    → (r : Result) (trail : List ℕ) → said .answer ≡ answering r → trailFound r ≡ some trail
+    → (other other′ : Tables) (also : Reply) → DifferOutside trail these other → Follows c other also other′
     → also ≡ said
+
+-- ---- document 02, §1, on any tables
+
+-- a search for the k nearest that answered m, on the tables t that it was lent, whoever made them
+pub record ListedIn (k : ℕ) (query : Trace) (t : Tables) (m : KNearest) : Type 0 where
+  -- "Leaves are read in the match's order .. until the next bound is above the k-th best distance read"
+  pub by-steps : m ≡ kNearestBySteps k (tracesIn t) (treeIn t) query
+  -- "on altered tables the list is the nearest of the traces read"
+  pub nearest-read : m .list ≡ take k (ranking (distancesAmong (tracesIn t) (treeIn t) query (m .trail)))
+  -- "with its trail and counts": the leaves read, and the traces in them
+  pub leaves-counted : m .leaves ≡ length (m .trail)
+  pub traces-counted : m .traces ≡ length (distancesAmong (tracesIn t) (treeIn t) query (m .trail))
+
+-- "A call that takes a query leaves the needed search work zero", and all else as it was
+abbrev pub ListsAnywhere : Type 0
+ListsAnywhere = (lent : Lent) (k : ℕ) (query : Trace) (trail list : List ℕ) (memory memory′ : Tables) (said : Reply)
+    → Follows (call lent (listing k query trail list)) memory said memory′
+    → (m : KNearest) → said .answer ≡ answering (neighbours m)
+    → ListedIn k query (firstPlaces lent memory) m × (memory′ ≡ left (cleared (firstPlaces lent memory)) memory)
 
 -- ---- demands 2 and 3
 
@@ -80,6 +109,32 @@ abbrev pub MatchGives : Book → Trace → Tables → Match → Type 0
 MatchGives b query memory m = (lent : Lent) (trail : List ℕ) (said : Reply) (memory′ : Tables)
     → Follows (call lent (matching query trail)) memory said memory′
     → judge layout b (call lent (matching query trail)) ≡ none → said ≡ reply (answering (matched m)) (over (m .trail) trail ∷ [])
+
+-- document 02, §1: the k nearest of a query in a book, with the counts, and the trail
+abbrev pub nearestIn : ℕ → Book → Trace → KNearest
+nearestIn k b query = kNearestOf k (b .traces) (bookTree b) query
+
+-- a search for the k nearest on some memory, whatever it is lent there, that the table doesn't refuse, gives this list and this trail.
+-- "List places past those filled keep their contents"
+abbrev pub ListGives : ℕ → Book → Trace → Tables → KNearest → Type 0
+ListGives k b query memory m = (lent : Lent) (trail list : List ℕ) (said : Reply) (memory′ : Tables)
+    → Follows (call lent (listing k query trail list)) memory said memory′
+    → judge layout b (call lent (listing k query trail list)) ≡ none
+    → said ≡ reply (answering (neighbours m)) (over (m .trail) trail ∷ over (listPlaces (m .list)) list ∷ [])
+
+-- of any query and each k. (A call refuses those outside 1 to 16; the claims hold of them too)
+pub record OfEachK (k : ℕ) (b : Book) (query : Trace) (memory : Tables) : Type 0 where
+  -- "A search takes k from 1 to 16 and lists the k nearest traces"
+  pub list-gives : ListGives k b query memory (nearestIn k b query)
+  -- what the list is: "the k nearest traces by distance, then number; a smaller library lists all it has"; "A shorter list must be the
+  -- beginning of a longer one"
+  pub list-is : ListClaims k (b .traces) query
+  -- which leaves are read: "those with a bound at most the last listed distance, or every leaf when fewer than k traces are stored"; "The
+  -- fewest-leaves property is wanted for each k"
+  pub leaves-are : KNearestClaims k (b .traces) (bookTree b) query
+  -- "The same [search] on tables that differ from these only in samples of traces outside" these leaves "gives that answer and that trail"
+  pub others-do-not-bear : (other : Tables) → DifferOutside (nearestIn k b query .trail) memory other
+      → ListGives k b query other (nearestIn k b query)
 
 -- "take any query of n samples. Let d be its least distance to the book's traces, and R the leaves with a bound at most d"
 pub record OfAnyQuery (b : Book) (query : Trace) (memory : Tables) : Type 0 where
@@ -106,6 +161,9 @@ pub record OfAnyQuery (b : Book) (query : Trace) (memory : Tables) : Type 0 wher
   pub contains-R : (set : List ℕ) → LeavesOutOnlyAbove (b .traces) (bookTree b) query set
       → T (every (λ number. isIn number set) (matchIn b query .trail))
   pub fewest : (set : List ℕ) → LeavesOutOnlyAbove (b .traces) (bookTree b) query set → matchIn b query .leaves ≤ length set
+  -- document 02, §1; the one nearest is the match, "with its trail and counts"
+  pub each-k : (k : ℕ) → OfEachK k b query memory
+  pub one-is-match : OneIsMatch (b .traces) (bookTree b) query
 
 -- demand 2: "Such a library, written to a sheet and read back, is the same library": in whatever memory that is long enough, at every
 -- needed place
@@ -115,6 +173,13 @@ WrittenAndRead b memory = (lent : Lent) (sheet : List ℕ) (said₁ : Reply) (me
     → (blocks : ℕ) (bytes : List ℕ) → said₁ .answer ≡ answering (written blocks bytes)
     → (lent′ : Lent) (memory₂ : Tables) (said₃ : Reply) (memory₃ : Tables) → Follows (call lent′ (reading bytes)) memory₂ said₃ memory₃
     → firstOf (shortConditions layout lent′ (b .measures)) ≡ none → (said₃ .answer ≡ answering done) × Keeps memory₃ b
+
+-- document 02, §1: "an empty one is still 6", for a query of n samples and any k from 1 to 16, whatever trail and list are lent
+abbrev pub EmptyIsSix : Book → Tables → Type 0
+EmptyIsSix b memory = (lent : Lent) (k : ℕ) (query : Trace) (trail list : List ℕ) (said : Reply) (memory′ : Tables)
+    → Follows (call lent (listing k query trail list)) memory said memory′
+    → firstOf (shortConditions layout lent (b .measures)) ≡ none → isK k ≡ true → length query ≡ b .measures .n → b .traces ≡ []
+    → said .answer ≡ refusing empty
 
 -- what holds after a list of calls, from a book on
 pub record AfterList (b : Book) (calls : List Call) (said : List Reply) (memory : Tables) : Type 0 where
@@ -131,12 +196,14 @@ pub record AfterList (b : Book) (calls : List Call) (said : List Reply) (memory 
   -- "After the list, if the book has a trace, take any query of n samples"
   pub any-query : (query : Trace) → 0 < length (after layout b calls .traces) → length query ≡ after layout b calls .measures .n
       → OfAnyQuery (after layout b calls) query memory
+  pub empty-is-six : EmptyIsSix (after layout b calls) memory
 
 -- ---- all of it
 
 pub record Demands : Type 0 where
   pub one-call : (c : Call) (memory memory′ : Tables) (said : Reply) → Follows c memory said memory′ → OneCall c memory said memory′
   pub off-trail : SamplesOffTrail
+  pub lists-anywhere : ListsAnywhere
   -- "An opening or a sheet reading has just succeeded when it starts": the first call is one that answers `done`
   pub after-list : (first : Call) (calls : List Call) (memory₀ memory : Tables) (said₀ : Reply) (said : List Reply)
       → Ran memory₀ (first ∷ calls) (said₀ ∷ said) memory → said₀ .answer ≡ answering done

@@ -8,10 +8,11 @@ use lib.ListN.{length}
 use lib.Dec.{eqb, ltb}
 use Rattle.dstree.specs.Measures.{Trace, Measures, workNeeded}
 use Rattle.dstree.specs.Matching.{leaves, Match, matchBySteps}
-use Rattle.dstree.specs.Refusals.{_refuses_, wrongTrace, full, empty, shortTrail, sheetLength}
+use Rattle.dstree.specs.KNearest.{isK, listPlaces, kNearestBySteps}
+use Rattle.dstree.specs.Refusals.{Condition, _refuses_, wrongTrace, full, empty, shortTrail, sheetLength, badK}
 use Rattle.dstree.specs.Sheet.{blockSize, blocksNeeded, sheetOf, Judged, refused, holds, judgeSheet}
-use Rattle.dstree.specs.Book.{Ask, opening, adding, matching, writing, reading, besideOf, Result, done, added, matched, written, over}
-use Rattle.dstree.specs.Book.{readingConditions}
+use Rattle.dstree.specs.Book.{Ask, opening, adding, matching, writing, reading, listing, besideOf, Result, done, added, matched, written}
+use Rattle.dstree.specs.Book.{neighbours, over, readingConditions}
 use Rattle.tables.specs.Layout.{layout}
 use Rattle.tables.specs.Tables.{Tables, tables, lentOf, measuresOf, traceCount, filled}
 use Rattle.tables.specs.View.{treeIn, tracesIn}
@@ -41,6 +42,14 @@ adds t x = record {
 
 -- ---- a match: the same; then 4, 6, 7
 
+-- what a search refuses of its query and its trail
+abbrev pub queryConditionsIn : Tables → Trace → List ℕ → List Condition
+queryConditionsIn t query trail =
+    not (eqb (length query) (measuresOf t .n)) refuses wrongTrace
+    ∷ eqb (traceCount t) 0 refuses empty
+    ∷ ltb (length trail) (length (leaves (treeIn t))) refuses shortTrail
+    ∷ []
+
 -- the match that a search found, and its trail. A search that finds none is refused before (below), so that its answer here does not matter
 unfoldable pub resultOf : Option Match → Result
 resultOf none = done
@@ -64,13 +73,7 @@ unfoldable pub matches : Tables → Trace → List ℕ → Effect
 matches t query trail =
     let found = matchBySteps (tracesIn t) (treeIn t) query in
     record {
-      conditions =
-          madeConditions t
-          ++ not (eqb (length query) (measuresOf t .n)) refuses wrongTrace
-          ∷ eqb (traceCount t) 0 refuses empty
-          ∷ ltb (length trail) (length (leaves (treeIn t))) refuses shortTrail
-          ∷ isNone found refuses empty
-          ∷ [];
+      conditions = madeConditions t ++ (queryConditionsIn t query trail ++ (isNone found refuses empty ∷ []));
       result = resultOf found;
       after = cleared t;
       beside = over (trailOf found) trail ∷ [];
@@ -104,6 +107,21 @@ reads t bytes = record {
   beside = [];
 }
 
+-- ---- the k nearest (document 02, §1): as a match; "11 .. after 3; a list shorter than k is refused as 7"
+
+unfoldable pub lists : Tables → ℕ → Trace → List ℕ → List ℕ → Effect
+lists t k query trail list =
+    let found = kNearestBySteps k (tracesIn t) (treeIn t) query in
+    record {
+      conditions =
+          madeConditions t
+          ++ not (isK k) refuses badK
+          ∷ (queryConditionsIn t query trail ++ (ltb (length list) (2 * k) refuses shortTrail ∷ []));
+      result = neighbours found;
+      after = cleared t;
+      beside = over (found .trail) trail ∷ over (listPlaces (found .list)) list ∷ [];
+    }
+
 -- ---- any call
 
 unfoldable pub effectOf : Ask → Tables → Effect
@@ -112,6 +130,7 @@ effectOf (adding x) t = adds t x
 effectOf (matching query trail) t = matches t query trail
 effectOf (writing sheet) t = writes t sheet
 effectOf (reading bytes) t = reads t bytes
+effectOf (listing k query trail list) t = lists t k query trail list
 
 -- what a call answers and leaves that asks this of these tables
 unfoldable pub outcomeOn : Ask → Tables → Outcome

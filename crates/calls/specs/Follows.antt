@@ -8,7 +8,7 @@ use lib.Dec.{T, ltb}
 use Rattle.integer.specs.Words.{every}
 use Rattle.dstree.specs.Measures.{Trace, sampleLimit}
 use Rattle.dstree.specs.Sheet.{areBytes}
-use Rattle.dstree.specs.Book.{Ask, opening, adding, matching, writing, reading, Call, Reply}
+use Rattle.dstree.specs.Book.{Ask, opening, adding, matching, writing, reading, listing, Call, Reply}
 use Rattle.tables.specs.Tables.{Tables, lentOf}
 use Rattle.tables.specs.Beginning.{firstPlaces, left}
 use Rattle.calls.specs.Outcome.{Outcome, outcome}
@@ -26,6 +26,7 @@ Typed (adding x) = T (areSamples x)
 Typed (matching query trail) = Unit
 Typed (writing sheet) = Unit
 Typed (reading bytes) = T (areBytes bytes)
+Typed (listing k query trail list) = Unit
 
 -- what a call answers, and what it leaves in the memory and in what it is lent beside the tables. Places behind those that it is lent stay
 abbrev pub outcomeIn : Call → Tables → Outcome

@@ -71,6 +71,7 @@ caseOf word.shortTrail = r.ShortTrail
 caseOf word.sheetLength = r.SheetLength
 caseOf (word.tornBlock block) = r.TornBlock block
 caseOf word.badSheet = r.BadSheet
+caseOf word.badK = r.BadK
 
 case-word : (why : word.Refusal) → wordOf (caseOf why) ≡ why
 unfolding wordOf
@@ -84,6 +85,7 @@ case-word word.shortTrail = refl
 case-word word.sheetLength = refl
 case-word (word.tornBlock block) = refl
 case-word word.badSheet = refl
+case-word word.badK = refl
 
 -- a result, and what is left beside the tables, with which code says an outcome
 record Said {R : Type 0} (outcomeBy : R → List ℕ → Outcome) (o : Outcome) : Type 0 where

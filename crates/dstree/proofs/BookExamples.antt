@@ -5,12 +5,14 @@ use mathlib.Core.Option.{none, some}
 use mathlib.Core.List.{List, [], _∷_, map}
 use lib.ListN.{length, set, take, replicate}
 use Rattle.dstree.specs.Measures.{Trace, measures}
-use Rattle.dstree.specs.Refusals.{measure, shortTable, wrongTrace, full, empty, shortTrail, sheetLength, tornBlock, badSheet}
+use Rattle.dstree.specs.Refusals.{measure, shortTable, wrongTrace, full, empty, shortTrail, sheetLength, tornBlock, badSheet, badK}
 use Rattle.dstree.specs.Sheet.{sheetOf}
-use Rattle.dstree.specs.Book.{Layout, Lent, Call, call, opening, adding, matching, writing, reading, Book, book, judge, after, start}
-use Rattle.dstree.specs.Book.{Answer, refusing, answering, done, added, matched, written, Reply, replyOf, repliesOf}
+use Rattle.dstree.specs.Book.{Layout, Lent, Call, call, opening, adding, matching, writing, reading, listing, Book, book, judge, after}
+use Rattle.dstree.specs.Book.{start}
+use Rattle.dstree.specs.Book.{Answer, refusing, answering, done, added, matched, written, neighbours, Reply, reply, replyOf, repliesOf}
 use Rattle.dstree.specs.Examples.{level, C, ABC, found}
 use Rattle.dstree.proofs.Notation.{+}
+use Rattle.dstree.proofs.KExamples.{at, finds}
 use Rattle.dstree.proofs.Everything.{everything}
 
 -- a layout: 5 control fields, 87 places a record
@@ -126,6 +128,10 @@ calls = map (λ (t : Turn). t .made) turns
 abbrev first : Call → Answer
 first c = replyOf layout (start layout c) c .answer
 
+-- the reply to a search of document 02, §1, on A, B and C, and on a library that holds nothing
+abbrev listingOf : List Trace → ℕ → Trace → List ℕ → List ℕ → Reply
+listingOf traces k query trail list = replyOf layout (book (measures 4 3 2) traces) (call exact (listing k query trail list))
+
 pub record BookExamples : Type 0 where
   -- "It starts with what that call puts"
   pub after-opening : opened ≡ book (measures 4 3 2) []
@@ -150,6 +156,19 @@ pub record BookExamples : Type 0 where
       ∷ book (measures 2 2 2) ((+ 1 ∷ + 2 ∷ []) ∷ [])
       ∷ []
   pub all-of-them : length calls ≡ 41
+  -- document 02, §1: "11 .. after 3", so before 4; 4 before 6, 6 before 7; two places a trace, as many as k says, though fewer are stored
+  pub lists-refused : map (λ (r : Reply). r .answer)
+      (listingOf ABC 0 (level 1) (blank 2) (blank 9)
+      ∷ listingOf ABC 17 short (blank 2) (blank 99)
+      ∷ listingOf [] 1 short (blank 2) (blank 9)
+      ∷ listingOf [] 1 (level 1) (blank 0) (blank 0)
+      ∷ listingOf ABC 1 (level 1) (blank 1) (blank 9)
+      ∷ listingOf ABC 5 (level 1) (blank 2) (blank 9)
+      ∷ [])
+      ≡ refusing badK ∷ refusing badK ∷ refusing wrongTrace ∷ refusing empty ∷ refusing shortTrail ∷ refusing shortTrail ∷ []
+  -- the two nearest; "List places past those filled keep their contents"
+  pub lists : listingOf ABC 2 (level 1) (7 ∷ 8 ∷ 9 ∷ []) (5 ∷ 6 ∷ 7 ∷ 8 ∷ 9 ∷ [])
+      ≡ reply (answering (neighbours (finds (at 0 4 ∷ at 1 36 ∷ []) 3 (1 ∷ 2 ∷ [])))) ((1 ∷ 2 ∷ 9 ∷ []) ∷ (0 ∷ 4 ∷ 1 ∷ 36 ∷ 9 ∷ []) ∷ [])
 
 pub book-examples : BookExamples
 unfolding everything
@@ -163,4 +182,6 @@ book-examples = record {
   trails = refl;
   books = refl;
   all-of-them = refl;
+  lists-refused = refl;
+  lists = refl;
 }

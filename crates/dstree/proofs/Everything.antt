@@ -24,11 +24,11 @@ use Rattle.dstree.specs.Sheet.{letters, headOf, coded, sampleBlocksNeede
 use Rattle.dstree.specs.Sheet.{blocksIn, measuresIn, countIn, decoded, sampleBytesIn, tracesIn, isWrongLength, isTorn}
 use Rattle.dstree.specs.Sheet.{tornConditions, areZero, zerosIn, badConditions, conditionsAs, libraryIn, judgedBy, judgeAs}
 use Rattle.dstree.specs.Book.{besideOf, controlShort, tablesShort, readingConditions, putRead, openingEntry, addingEntry}
-use Rattle.dstree.specs.Book.{matchingEntry, writingEntry, readingEntry}
+use Rattle.dstree.specs.Book.{matchingEntry, writingEntry, readingEntry, listingEntry}
 use Rattle.dstree.specs.Book.{entryOf, judge, putUnless, turn, after, replyUnless, replyOf, repliesOf, start}
 use Rattle.dstree.specs.Program.{refusalLine, matchLine, lineOf, judgedLine, programLine, digitsFrom, decimal, spaced, text, printed}
 use Rattle.dstree.specs.Claims.{numbersAmong}
-use Rattle.dstree.specs.KNearest.{nears, nearestList, kth, readInto, stopsAtKth, listed, kNearestBySteps}
+use Rattle.dstree.specs.KNearest.{nears, nearestList, listPlaces, kth, readInto, stopsAtKth, listed, kNearestBySteps}
 use Rattle.dstree.specs.KNearest.{leavesRk, kNearestOf, listOfMatch, inRank, distancesAmong}
 
 unfoldable wordsOpen : Unit {0}
@@ -68,7 +68,7 @@ unfolding distancesIn readLeaf isAbove searched answerOf matchBySteps leastDista
 matchingOpen2 = tt
 
 unfoldable nearestOpen : Unit {0}
-unfolding atPlace nears nearestList kth readInto stopsAtKth listed kNearestBySteps leavesRk kNearestOf listOfMatch inRank
+unfolding atPlace nears nearestList listPlaces kth readInto stopsAtKth listed kNearestBySteps leavesRk kNearestOf listOfMatch inRank
     distancesAmong
 nearestOpen = tt
 
@@ -97,7 +97,7 @@ unfolding besideOf controlShort tablesShort readingConditions putRead openingEnt
 booksOpen = tt
 
 unfoldable booksOpen2 : Unit {0}
-unfolding entryOf judge putUnless turn after replyUnless replyOf repliesOf start
+unfolding listingEntry entryOf judge putUnless turn after replyUnless replyOf repliesOf start
 booksOpen2 = tt
 
 unfoldable linesOpen : Unit {0}

@@ -9,10 +9,10 @@ use Rattle.dstree.specs.Examples.{level, ABC, tree}
 use Rattle.dstree.specs.KNearest.{KNearest, kNearestBySteps, kNearestOf}
 use Rattle.dstree.proofs.Everything.{everything}
 
-abbrev at : ℕ → ℕ → Near
+abbrev pub at : ℕ → ℕ → Near
 at trace distance = record { trace = trace; distance = distance }
 
-abbrev finds : List Near → ℕ → List ℕ → KNearest
+abbrev pub finds : List Near → ℕ → List ℕ → KNearest
 finds list traces trail = record { list = list; leaves = length trail; traces = traces; trail = trail }
 
 -- the same by the steps and in closed form

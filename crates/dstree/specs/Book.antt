@@ -1,4 +1,5 @@
--- Document 01, "Demand 3, over a list of calls": the calls, what the table refuses, and the book.
+-- Document 01, "Demand 3, over a list of calls": the calls, what the table refuses, and the book. "A call added later joins the list": document 02's stand
+-- behind document 01's.
 use Prim.Native.Nat.{ℕ, _*_}
 use mathlib.Core.Bool.{Bool, true, not, _||_}
 use mathlib.Core.Option.{Option, none, some}
@@ -10,7 +11,8 @@ use Rattle.dstree.specs.Measures.{Trace, Measures, measures, inRange, sa
 use Rattle.dstree.specs.Node.{Tree}
 use Rattle.dstree.specs.Adding.{treeOf}
 use Rattle.dstree.specs.Matching.{leaves, Match, matchOf}
-use Rattle.dstree.specs.Refusals.{Refusal, measure, shortTable, wrongTrace, full, empty, shortTrail, sheetLength}
+use Rattle.dstree.specs.KNearest.{isK, listPlaces, KNearest, kNearestOf}
+use Rattle.dstree.specs.Refusals.{Refusal, measure, shortTable, wrongTrace, full, empty, shortTrail, sheetLength, badK}
 use Rattle.dstree.specs.Refusals.{Condition, _refuses_, firstOf}
 use Rattle.dstree.specs.Sheet.{blockSize, blocksNeeded, sheetOf, Judged, refused, holds, judgeSheet}
 
@@ -30,13 +32,15 @@ pub record Lent : Type 0 where
   pub work : ℕ
 
 -- what a call asks for: "calls of opening, adding, match, sheet writing and sheet reading .. with any arguments". "Trails and sheets are not part of" the
--- tables: a match comes with its query and the contents of its trail, a writing and a reading with the bytes of their sheet
+-- tables: a match comes with its query and the contents of its trail, a writing and a reading with the bytes of their sheet; the search of document 02, §1,
+-- with k, its query, and the contents of its trail and its list
 pub data Ask : Type 0 where
   opening : Measures → Ask
   adding : Trace → Ask
   matching : Trace → List ℕ → Ask
   writing : List ℕ → Ask
   reading : List ℕ → Ask
+  listing : ℕ → Trace → List ℕ → List ℕ → Ask
 
 -- a call: "arguments .., lengths of tables included"
 pub record Call : Type 0 where
@@ -53,16 +57,18 @@ besideOf (adding x) = []
 besideOf (matching query trail) = trail ∷ []
 besideOf (writing sheet) = sheet ∷ []
 besideOf (reading bytes) = []
+besideOf (listing k query trail list) = trail ∷ list ∷ []
 
 -- ---- answers
 
 -- what a call answers that is not refused: "Opening and sheet reading answer only that they succeeded, adding the new trace's number, writing the number
--- of blocks"; a match with its trail, a writing with its sheet
+-- of blocks"; a match with its trail, a writing with its sheet, a listing with list and trail
 pub data Result : Type 0 where
   done : Result
   added : ℕ → Result
   matched : Match → Result
   written : ℕ → List ℕ → Result
+  neighbours : KNearest → Result
 
 -- "does its work or gives the one refusal that document 01 fixes"
 pub data Answer : Type 0 where
@@ -121,6 +127,14 @@ tablesShort layout lent m =
 abbrev pub shortConditions : Layout → Lent → Measures → List Condition
 shortConditions layout lent m = controlShort layout lent refuses shortTable ∷ tablesShort layout lent m refuses shortTable ∷ []
 
+-- what a search refuses of its query and its trail: 4, 6, 7
+abbrev pub queryConditions : Book → Trace → List ℕ → List Condition
+queryConditions b query trail =
+    not (eqb (length query) (b .measures .n)) refuses wrongTrace
+    ∷ isEmpty (b .traces) refuses empty
+    ∷ ltb (length trail) (length (leaves (bookTree b))) refuses shortTrail
+    ∷ []
+
 -- "Reading: 8; 9 over all blocks; 10; 2"
 unfoldable pub readingConditions : Layout → Lent → Judged → List Condition
 readingConditions layout lent (refused r) = true refuses r ∷ []
@@ -156,12 +170,7 @@ module _ (layout : Layout) (lent : Lent) (b : Book) where
   matchingEntry query trail =
       let found = matchOf (b .traces) (bookTree b) query in
       record {
-        conditions =
-            shortConditions layout lent (b .measures)
-            ++ not (eqb (length query) (b .measures .n)) refuses wrongTrace
-            ∷ isEmpty (b .traces) refuses empty
-            ∷ ltb (length trail) (length (leaves (bookTree b))) refuses shortTrail
-            ∷ [];
+        conditions = shortConditions layout lent (b .measures) ++ queryConditions b query trail;
         puts = b;
         result = matched found;
         beside = over (found .trail) trail ∷ [];
@@ -181,12 +190,28 @@ module _ (layout : Layout) (lent : Lent) (b : Book) where
   unfoldable pub readingEntry : List ℕ → Entry
   readingEntry bytes = record { conditions = readingConditions layout lent (judgeSheet bytes); puts = putRead b (judgeSheet bytes); result = done; beside = [] }
 
+  -- document 02, §1: "11 bad k, outside 1 to 16, after 3; a list shorter than k is refused as 7", k traces taking two places each. "List places past those
+  -- filled keep their contents"
+  unfoldable pub listingEntry : ℕ → Trace → List ℕ → List ℕ → Entry
+  listingEntry k query trail list =
+      let found = kNearestOf k (b .traces) (bookTree b) query in
+      record {
+        conditions =
+            shortConditions layout lent (b .measures)
+            ++ not (isK k) refuses badK
+            ∷ (queryConditions b query trail ++ (ltb (length list) (2 * k) refuses shortTrail ∷ []));
+        puts = b;
+        result = neighbours found;
+        beside = over (found .trail) trail ∷ over (listPlaces (found .list)) list ∷ [];
+      }
+
   unfoldable pub entryOf : Ask → Entry
   entryOf (opening m) = openingEntry m
   entryOf (adding x) = addingEntry x
   entryOf (matching query trail) = matchingEntry query trail
   entryOf (writing sheet) = writingEntry sheet
   entryOf (reading bytes) = readingEntry bytes
+  entryOf (listing k query trail list) = listingEntry k query trail list
 
 -- ---- every call
 

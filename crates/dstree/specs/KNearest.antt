@@ -9,13 +9,22 @@ use lib.Dec.{T}
 use Rattle.integer.specs.Words.{total, counting, those, isIn}
 use Rattle.integer.specs.Sorting.{insertedBy, sortedBy, atPlace}
 use Rattle.segment.specs.Figures.{distance}
-use Rattle.dstree.specs.Measures.{Trace}
+use Rattle.dstree.specs.Measures.{Trace, within}
 use Rattle.dstree.specs.Node.{Tree, nodeAt}
 use Rattle.dstree.specs.Adding.{tracesOf}
 use Rattle.dstree.specs.Matching.{bound, LeafBound, numbersIn, leaves, readingOrder, readOn, Near, nearAt, isNearer, distancesIn}
 use Rattle.dstree.specs.Matching.{isAbove, leavesR}
 use Rattle.dstree.specs.Matching.{Match, matchOf}
 use Rattle.dstree.specs.Claims.{numbersAmong}
+
+-- ---- k
+
+-- "A search takes k from 1 to 16"
+abbrev pub mostNearest : ℕ
+mostNearest = 16
+
+abbrev pub isK : ℕ → Bool
+isK k = within 1 k mostNearest
 
 -- ---- the list
 
@@ -30,6 +39,11 @@ nears stored query = map (nearAt stored query) (counting (length stored) 0)
 -- "the k nearest traces by distance, then number; a smaller library lists all it has"
 unfoldable pub nearestList : ℕ → List Trace → Trace → List Near
 nearestList k stored query = take k (ranking (nears stored query))
+
+-- a list in the places that a caller lends for it: two for each trace, its number and its distance
+unfoldable pub listPlaces : List Near → List ℕ
+listPlaces [] = []
+listPlaces (a ∷ list) = a .trace ∷ a .distance ∷ listPlaces list
 
 -- the k-th of a list; none while there are fewer
 unfoldable pub kth : ℕ → List Near → Option Near

@@ -1,4 +1,4 @@
--- Document 01, the table of refusals.
+-- Document 01, the table of refusals, and what document 02 adds to it.
 use Prim.Native.Nat.{ℕ}
 use mathlib.Core.Bool.{Bool}
 use mathlib.Core.Option.{Option, none, some}
@@ -10,6 +10,8 @@ pub data Refusal : Type 0 where
   measure shortTable spoiled wrongTrace full empty shortTrail sheetLength : Refusal
   tornBlock : ℕ → Refusal
   badSheet : Refusal
+  -- document 02, §1: "11 bad k, outside 1 to 16"
+  badK : Refusal
 
 -- the table's numbers
 unfoldable pub numberOf : Refusal → ℕ
@@ -23,6 +25,7 @@ numberOf shortTrail = 7
 numberOf sheetLength = 8
 numberOf (tornBlock block) = 9
 numberOf badSheet = 10
+numberOf badK = 11
 
 -- "a place: the first block at fault for 9, else 0"
 unfoldable pub placeOf : Refusal → ℕ
@@ -36,6 +39,7 @@ placeOf shortTrail = 0
 placeOf sheetLength = 0
 placeOf (tornBlock block) = block
 placeOf badSheet = 0
+placeOf badK = 0
 
 -- a condition of the table with its refusal
 pub record Condition : Type 0 where

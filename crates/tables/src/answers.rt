@@ -20,6 +20,7 @@ pub fn number(why: Refusal) -> u64
         Refusal::SheetLength => 8,
         Refusal::TornBlock(_block) => 9,
         Refusal::BadSheet => 10,
+        Refusal::BadK => 11,
     }
 }
 
@@ -38,5 +39,6 @@ pub fn place(why: Refusal) -> u64
         Refusal::SheetLength => 0,
         Refusal::TornBlock(block) => block,
         Refusal::BadSheet => 0,
+        Refusal::BadK => 0,
     }
 }

@@ -9,7 +9,7 @@ pub mod walk; // along a leaf's list of traces
 pub mod runs; // stored traces, and figures on a run of samples
 pub mod loops; // zeroing and copying
 
-// A word of document 01's table of refusals. A torn block has its number for a place.
+// A word of the table of refusals, document 01's and then document 02's. A torn block has its number for a place.
 pub enum Refusal {
     Measure,
     ShortTable,
@@ -21,6 +21,7 @@ pub enum Refusal {
     SheetLength,
     TornBlock(u64),
     BadSheet,
+    BadK,
 }
 
 // What a judge found.

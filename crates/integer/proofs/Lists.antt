@@ -1,6 +1,6 @@
 -- Lists of anything: what is in the lists that the definitions' words make (those, counting, chosen, flatten ..), and how many there are.
 -- Membership is `In`, a place in a list.
-use Prim.Native.Nat.{ℕ, zero, suc, _+_, _≤_, _<_, min, max}
+use Prim.Native.Nat.{ℕ, zero, suc, _+_, _-_, _≤_, _<_, min, max}
 use mathlib.Core.Path.{_≡_, refl, sym, _∙_, ap, subst}
 use mathlib.Core.Logic.{_⊎_, inl, inr}
 use mathlib.Core.Bool.{Bool, true, false, not}
@@ -9,6 +9,7 @@ use native.Mathlib.Omega.{arith}
 use native.Mathlib.Decide.{decLe}
 use native.Mathlib.Nat.{lt-of-not-le}
 use lib.ListN.{length, getD, set, take, drop, replicate}
+use lib.Seq.{drop-drop}
 use lib.IntN.{ℤ, pos}
 use lib.Signed.{ltZ, ≤ℤ-refl, ltZ-yes, ltZ-no}
 use lib.Dec.{T, eqb, eqb-refl}
@@ -191,6 +192,13 @@ pub map-take : {A B : Type 0} (f : A → B) (k : ℕ) (l : List A) → map f (ta
 map-take f zero l = refl
 map-take f (suc k) [] = refl
 map-take {A} {B} f (suc k) (a ∷ l) = ap (λ (m : List B). f a ∷ m) (map-take f k l)
+
+-- lists that agree from a place on agree from every later one on
+pub drop-more : {A : Type 0} (k n : ℕ) (l m : List A) → n ≤ k → drop n l ≡ drop n m → drop k l ≡ drop k m
+drop-more k n l m h e =
+    let q : n + (k - n) ≡ k = omega arith in
+    let p : drop (n + (k - n)) l ≡ drop (n + (k - n)) m = sym (drop-drop (k - n) n l) ∙ ap (drop (k - n)) e ∙ drop-drop (k - n) n m in
+    rw q at p
 
 -- two maps that agree on a list agree on each element, and on each of the lists that it was made of
 module _ {A B : Type 0} (f g : A → B) where

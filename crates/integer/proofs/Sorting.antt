@@ -2,18 +2,20 @@
 -- Two laws carry the rest. `first-same`: of two lists in order, one of which has all elements of the other and whose first k the other
 -- has, the first k
 -- are the same. `place-low`: what stands at a place of fewer elements does not stand before what is at that place of all.
-use Prim.Native.Nat.{ℕ, zero, suc, _≤_, _<_}
+use Prim.Native.Nat.{ℕ, zero, suc, _≤_, _<_, min}
 use mathlib.Core.Path.{_≡_, refl, sym, _∙_, ap, subst}
 use mathlib.Core.Logic.{_⊎_, inl, inr}
 use mathlib.Core.Bool.{Bool, true, false}
 use mathlib.Core.Option.{none, some}
-use mathlib.Core.List.{List, [], _∷_, foldl}
+use mathlib.Core.List.{List, [], _∷_, _++_, foldl}
 use native.Mathlib.Omega.{arith}
-use lib.ListN.{length, take}
+use lib.ListN.{length, getD, take, drop, length-take}
 use lib.Dec.{T}
 use Rattle.integer.specs.Words.{if_then_else_}
-use Rattle.integer.specs.Sorting.{insertedBy, sortedBy, atPlace}
-use Rattle.integer.proofs.Lists.{In, first, later, in-nil, in-cons, in-front, All, all-none, all-more, all-at, all-mono, Apart, apart-none}
+use Rattle.integer.specs.Sorting.{insertedBy, sortedBy, atPlace, Ordered, ordered-none, ordered-more}
+use Rattle.integer.proofs.Lists.{In, first, later, in-nil, in-cons, in-front, in-getD, All, all-none, all-more, all-at, all-in}
+use Rattle.integer.proofs.Lists.{all-mono}
+use Rattle.integer.proofs.Lists.{all-take, Apart, apart-none, apart-more}
 use Rattle.integer.proofs.Lists.{apart-more}
 
 -- ---- a place
@@ -127,7 +129,7 @@ module _ {A : Type 0} (before : A → A → Bool) where
   in-sorted {b} (first {rest}) = inserted-here b (sortedBy before rest)
   in-sorted (later {b = a} i) = inserted-other a (in-sorted i)
 
-  inserted-length : (a : A) (l : List A) → length (insertedBy before a l) ≡ suc (length l)
+  pub inserted-length : (a : A) (l : List A) → length (insertedBy before a l) ≡ suc (length l)
   unfolding insertedBy
   inserted-length a [] = refl
   inserted-length a (b ∷ rest) = by (before a b) (inserted-length a rest)
@@ -367,3 +369,104 @@ module _ {A : Type 0} {before : A → A → Bool} (linear : Linear before) where
       taken zero q = all-none
       taken (suc k) all-none = all-none
       taken (suc k) (all-more q qs) = all-more q (taken k qs)
+
+  -- ---- elements put into a list in order
+
+  -- what is not before an element is not before those that are not behind it
+  not-before : (a b c : A) → before a c ≡ false → before c b ≡ false → before a b ≡ false
+  not-before a b c p q = by (before a b) (before b c) refl refl
+    where
+      by : (s t : Bool) → before a b ≡ s → before b c ≡ t → s ≡ false
+      by false t r w = refl
+      by true true r w = absurd (never (linear .transitive a b c r w) p)
+      by true false r w = absurd (never (rw (linear .total b c w q) at r) p)
+
+  pub inserted-ordered : (a : A) {l : List A} → Ordered before l → Ordered before (insertedBy before a l)
+  unfolding insertedBy
+  inserted-ordered a ordered-none = ordered-more all-none ordered-none
+  inserted-ordered a (ordered-more {a = b} {rest} o os) = by (before a b) refl (inserted-ordered a os)
+    where
+      behind : before a b ≡ false → All (λ c. before c b ≡ false) (insertedBy before a rest)
+      behind p = all-in (insertedBy before a rest) (λ c i. at c (from-inserted before a rest i))
+        where
+          at : (c : A) → (c ≡ a) ⊎ In c rest → before c b ≡ false
+          at c (inl e) = rw e p
+          at c (inr j) = all-at o j
+
+      by : (t : Bool) → before a b ≡ t → Ordered before (insertedBy before a rest)
+          → Ordered before (if t then a ∷ b ∷ rest else b ∷ insertedBy before a rest)
+      by true p ih =
+          let q : before b a ≡ false = asymmetric a b p in
+          ordered-more (all-more q (all-mono (λ c r. not-before c a b r q) o)) (ordered-more o os)
+      by false p ih = ordered-more (behind p) ih
+
+  pub take-ordered : (k : ℕ) {l : List A} → Ordered before l → Ordered before (take k l)
+  take-ordered zero o = ordered-none
+  take-ordered (suc k) ordered-none = ordered-none
+  take-ordered (suc k) (ordered-more o os) = ordered-more (all-take k o) (take-ordered k os)
+
+  -- the first k, with more put in one by one
+  pub kept-ordered : (k : ℕ) {l : List A} (more : List A) → Ordered before l → Ordered before (foldl (keep k) l more)
+  kept-ordered k [] o = o
+  kept-ordered k (a ∷ more) o = kept-ordered k more (take-ordered k (inserted-ordered a o))
+
+  -- what is not before the element at a place is before none up to there
+  pub up-to : (a : A) (i : ℕ) {l : List A} (d : A) → Ordered before l → i < length l → before a (getD l i d) ≡ false
+      → All (λ b. before a b ≡ false) (take (suc i) l)
+  up-to a i d ordered-none h p = absurd (omega arith)
+  up-to a zero d (ordered-more o os) h p = all-more p all-none
+  up-to a (suc i) d (ordered-more {a = b} {rest} o os) h p =
+      let g : i < length rest = omega arith in
+      all-more (not-before a b (getD rest i d) p (all-at o (in-getD rest i d g))) (up-to a i d os g p)
+
+-- an element goes behind those that it is not before, and ahead of what it is before
+pub inserted-at : {A : Type 0} (before : A → A → Bool) (a : A) (p : ℕ) (l : List A)
+    → All (λ b. before a b ≡ false) (take p l) → All (λ b. before a b ≡ true) (drop p l)
+    → insertedBy before a l ≡ take p l ++ (a ∷ drop p l)
+unfolding insertedBy
+inserted-at before a zero [] ahead behind = refl
+inserted-at before a (suc p) [] ahead behind = refl
+inserted-at before a zero (b ∷ l) ahead (all-more h hs) = rw h
+inserted-at {A} before a (suc p) (b ∷ l) (all-more h hs) behind = rw h (ap (λ (m : List A). b ∷ m) (inserted-at before a p l hs behind))
+
+-- of an element that comes before the one at a place, the first ones up to there are those ahead of that place with it
+pub inserted-ahead : {A : Type 0} (before : A → A → Bool) (a : A) (j : ℕ) (l : List A) (d : A) → j < length l
+    → before a (getD l j d) ≡ true → take (suc j) (insertedBy before a l) ≡ insertedBy before a (take j l)
+unfolding insertedBy
+inserted-ahead before a j [] d h p = absurd (omega arith)
+inserted-ahead before a zero (b ∷ l) d h p = rw p
+inserted-ahead {A} before a (suc j) (b ∷ l) d h p = by (before a b) (inserted-ahead before a j l d (omega arith) p)
+  where
+    by : (t : Bool) → take (suc j) (insertedBy before a l) ≡ insertedBy before a (take j l)
+        → take (suc (suc j)) (if t then a ∷ b ∷ l else b ∷ insertedBy before a l)
+        ≡ (if t then a ∷ b ∷ take j l else b ∷ insertedBy before a (take j l))
+    by true ih = refl
+    by false ih = ap (λ (m : List A). b ∷ m) ih
+
+-- the list of those that stay has no more than there were and one, nor more than k
+pub kept-length : {A : Type 0} (before : A → A → Bool) (k : ℕ) (a : A) (l : List A) → length l ≤ k
+    → (length l ≤ length (take k (insertedBy before a l))) × (length (take k (insertedBy before a l)) ≤ k)
+kept-length before k a l h =
+    let e : length (take k (insertedBy before a l)) ≡ min k (suc (length l)) =
+    length-take k (insertedBy before a l) ∙ ap (min k) (inserted-length before a l) in
+    (omega arith, omega arith)
+
+pub kept-more : {A : Type 0} (before : A → A → Bool) (k : ℕ) (l more : List A) → length l ≤ k
+    → length l ≤ length (foldl (λ (m : List A) (a : A). take k (insertedBy before a m)) l more)
+kept-more before k l [] h = omega arith
+kept-more before k l (a ∷ more) h =
+    let one = kept-length before k a l h in
+    omega (arith, one .0, kept-more before k (take k (insertedBy before a l)) more (one .1))
+
+-- what is at a place, and what is past the end
+pub place-getD : {A : Type 0} (i : ℕ) (l : List A) (d : A) → i < length l → atPlace i l ≡ some (getD l i d)
+unfolding atPlace
+place-getD i [] d h = absurd (omega arith)
+place-getD zero (a ∷ l) d h = refl
+place-getD (suc i) (a ∷ l) d h = place-getD i l d (omega arith)
+
+pub place-none : {A : Type 0} (i : ℕ) (l : List A) → length l ≤ i → atPlace i l ≡ none
+unfolding atPlace
+place-none i [] h = refl
+place-none zero (a ∷ l) h = absurd (omega arith)
+place-none (suc i) (a ∷ l) h = place-none i l (omega arith)

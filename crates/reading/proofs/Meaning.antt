@@ -1,6 +1,5 @@
--- What `read_leaf` answers is what document 01 calls reading a leaf, for the tree and the traces that tables stand for.
+-- What `read_leaf` leaves is what reading a leaf is, for the tree and the traces that tables stand for.
 use mathlib.Core.Path.{_≡_, sym, ap, ap₂, _∙_}
-use mathlib.Core.Option.{Option}
 use mathlib.Core.List.{List, [], _∷_, _++_, map, foldl}
 use Prim.Native.Nat.{ℕ, _+_, _<_}
 use lib.ListN.{length, getD, length-map}
@@ -8,16 +7,15 @@ use Rattle.integer.proofs.Lists.{In, map-agree}
 use Rattle.segment.specs.Figures.{distance}
 use Rattle.dstree.specs.Measures.{Trace}
 use Rattle.dstree.specs.Node.{nodeAt}
-use Rattle.dstree.specs.Matching.{Near, Search, bestWith, numbersIn, distancesIn, readLeaf}
+use Rattle.dstree.specs.Matching.{Near, numbersIn, distancesIn}
+use Rattle.dstree.specs.KNearest.{Listing, listWith, readInto}
 use Rattle.tables.specs.Layout.{kindPlace, firstPlace}
 use Rattle.tables.specs.Tables.{Tables, measuresOf, traceCount, nodeCount, recordOf}
 use Rattle.tables.specs.View.{smallAt, treeIn, traceIn, tracesIn}
 use Rattle.tables.specs.Walk.{numbersOf, Stored}
 use Rattle.tables.proofs.Views.{tree-numbers, trace-at}
 use Rattle.tables.proofs.Listed.{numbers-below}
-use Rattle.reading.specs.Nearest.{near, bestOf, nearOf}
-use Rattle.reading.specs.declared.best.Best.{Best}
-use Rattle.reading.specs.declared.leaf.Read.{Read}
+use Rattle.reading.specs.Nearest.{near, nearOf}
 
 -- node j of the tables is a leaf, and its list is among the stored traces
 pub record LeafAt (t : Tables) (j : ℕ) : Type 0 where
@@ -47,19 +45,22 @@ module _ (t : Tables) (j : ℕ) (a : LeafAt t j) where
     unfolding distancesIn
     distances-are =
         let by : ℕ → Near = λ i. near i (distance query (getD (tracesIn t) i [])) in
-        ap (map by) numbers-are ∙ map-agree by (nearOf (t .samples) (measuresOf t .n) query) numbers (λ i h. ap (λ (x : Trace). near i (distance query x)) (met-at i h))
+        ap (map by) numbers-are
+        ∙ map-agree by (nearOf (t .samples) (measuresOf t .n) query) numbers
+        (λ i h. ap (λ (x : Trace). near i (distance query x)) (met-at i h))
 
     -- what a reading adds to a search
-    pub reading-is : (s : Search) → readLeaf (tracesIn t) (treeIn t) query s j ≡ record { best = foldl bestWith (s .best) distances; traces = s .traces + length numbers; trail = s .trail ++ (j ∷ []) }
-    unfolding readLeaf
-    reading-is s =
+    reading-is : (k : ℕ) (s : Listing) → readInto k (tracesIn t) (treeIn t) query s j
+        ≡ record { list = foldl (listWith k) (s .list) distances; traces = s .traces + length numbers; trail = s .trail ++ (j ∷ []) }
+    unfolding readInto
+    reading-is k s =
         let e : length distances ≡ length numbers = length-map numbers (nearOf (t .samples) (measuresOf t .n) query) in
         rw (distances-are, e)
 
-    -- so that an answer of `read_leaf` is the search after the leaf
-    pub answer-is : (s : Search) (best : Best) (r : Read) → bestOf best ≡ s .best → bestOf (r .best) ≡ foldl bestWith (bestOf best) distances → r .traces ≡ length numbers
-        → readLeaf (tracesIn t) (treeIn t) query s j ≡ record { best = bestOf (r .best); traces = s .traces + r .traces; trail = s .trail ++ (j ∷ []) }
-    answer-is s best r e f g =
-        reading-is s
-        ∙ ap₂ (λ (b : Option Near) (m : ℕ). record { best = b; traces = s .traces + m; trail = s .trail ++ (j ∷ []) })
-        (sym (f ∙ ap (λ (b : Option Near). foldl bestWith b distances) e)) (sym g)
+    -- so that what `read_leaf` leaves is the search after the leaf
+    pub answer-is : (k : ℕ) (s : Listing) (list : List Near) (traces : ℕ) → list ≡ foldl (listWith k) (s .list) distances
+        → traces ≡ length numbers
+        → readInto k (tracesIn t) (treeIn t) query s j ≡ record { list = list; traces = s .traces + traces; trail = s .trail ++ (j ∷ []) }
+    answer-is k s list traces f g =
+        reading-is k s
+        ∙ ap₂ (λ (l : List Near) (m : ℕ). record { list = l; traces = s .traces + m; trail = s .trail ++ (j ∷ []) }) (sym f) (sym g)

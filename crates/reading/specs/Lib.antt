@@ -1,2 +1,3 @@
--- The nearest trace so far, as code keeps it, and the distances of stored traces.
+-- The nearest traces so far, as code keeps them, and the distances of stored traces.
 pub mod Nearest
+pub mod Listed

@@ -45,14 +45,17 @@ pub shape-alike : (t : Tables) → Alike (shapeIn (t .nodes) (nodeCount t)) (tre
 unfolding shapeIn treeIn nodeIn
 shape-alike t = by (counting (nodeCount t) 0)
   where
-    by : (l : List ℕ) → Alike (map (λ j. nodeIn [] 0 (recordOf (t .nodes) j)) l) (map (λ j. nodeIn (t .links) (traceCount t) (recordOf (t .nodes) j)) l)
+    by : (l : List ℕ)
+        → Alike (map (λ j. nodeIn [] 0 (recordOf (t .nodes) j)) l) (map (λ j. nodeIn (t .links) (traceCount t) (recordOf (t .nodes) j)) l)
     by [] = alike-none
-    by (j ∷ l) = alike-more refl (kind-alike (t .links) (traceCount t) (recordOf (t .nodes) j) (smallAt (recordOf (t .nodes) j) kindPlace)) (by l)
+    by (j ∷ l) =
+        alike-more refl (kind-alike (t .links) (traceCount t) (recordOf (t .nodes) j) (smallAt (recordOf (t .nodes) j) kindPlace)) (by l)
 
 -- no more leaves than nodes
 leaves-most : (tree : Tree) → length (leaves tree) ≤ length tree
 unfolding leaves
-leaves-most tree = omega (arith, those-most (λ number. isLeaf (nodeAt tree number .kind)) (counting (length tree) 0), counting-length (length tree) 0)
+leaves-most tree =
+    omega (arith, those-most (λ number. isLeaf (nodeAt tree number .kind)) (counting (length tree) 0), counting-length (length tree) 0)
   where
     those-most : (p : ℕ → Bool) (l : List ℕ) → length (those p l) ≤ length l
     those-most p l = omega (arith, those-lengths p l)
@@ -73,7 +76,8 @@ module _ (t : Tables) (query : Trace) (trail : ℕ) (r : Ready t query trail) wh
   -- "2c − 1 node records" and as many places of search work
   pub nodes-needed : nodeCount t ≤ workNeeded (measuresOf t)
   unfolding workNeeded
-  nodes-needed = omega (arith, tree-size t, nodes-at-most sampleLimit (measuresOf t) (traceCount t) (treeIn t) (well-formed rules), rules .room)
+  nodes-needed =
+      omega (arith, tree-size t, nodes-at-most sampleLimit (measuresOf t) (traceCount t) (treeIn t) (well-formed rules), rules .room)
 
   some-node : 0 < length (treeIn t)
   some-node = by (decLe 1 (length (treeIn t)))
@@ -88,7 +92,8 @@ module _ (t : Tables) (query : Trace) (trail : ℕ) (r : Ready t query trail) wh
   record-room : (j : ℕ) → j < nodeCount t → j * recordPlaces + recordPlaces ≤ length (t .nodes)
   unfolding recordsNeeded workNeeded
   record-room j h =
-      let room : suc j * recordPlaces ≤ recordsNeeded (measuresOf t) * recordPlaces = mul-le-mul-right recordPlaces (omega (arith, h, nodes-needed)) in
+      let room : suc j * recordPlaces ≤ recordsNeeded (measuresOf t) * recordPlaces =
+      mul-le-mul-right recordPlaces (omega (arith, h, nodes-needed)) in
       omega (arith, room, r .nodes-long)
 
   -- the records may be gone through

@@ -1,6 +1,6 @@
 -- The turns of `visit`: its invariant, and what a leaf that is read, or the end, leaves of it.
-use Prim.Native.Nat.{ℕ, _+_, _*_, _≤_, _<_}
-use mathlib.Core.Path.{_≡_, refl, sym, _∙_, ap}
+use Prim.Native.Nat.{ℕ, zero, suc, _+_, _*_, _-_, _≤_, _<_}
+use mathlib.Core.Path.{_≡_, refl, sym, _∙_, ap, subst}
 use mathlib.Core.Bool.{Bool, true, false}
 use mathlib.Core.Option.{none, some}
 use mathlib.Core.List.{List, [], _∷_, _++_, map, foldl}
@@ -8,47 +8,65 @@ use native.Mathlib.Numerals.{add-one}
 use native.Mathlib.Omega.{arith}
 use lib.ListN.{length, take, drop, set, length-set}
 use lib.Seq.{drop-drop, drop-set-lt, take-suc-set}
-use Rattle.integer.specs.Words.{if_then_else_}
-use Rattle.integer.proofs.Lists.{All, all-none, all-more, all-mono}
+use lib.Dec.{eqb}
+use borrow.Author.Tests.{eqb-true, eqb-false}
+use Rattle.integer.specs.Sorting.{Ordered, ordered-none}
+use Rattle.integer.proofs.Lists.{strict, drop-more, All, all-none, all-more, all-mono}
+use Rattle.integer.proofs.Sorting.{place-getD, place-none, kept-ordered, kept-more}
 use Rattle.dstree.specs.Measures.{Trace}
 use Rattle.dstree.specs.Node.{Tree}
-use Rattle.dstree.specs.Matching.{LeafBound, Search, bestWith, isAbove, leaves, readingOrder, readLeaf, readOn, searched}
+use Rattle.dstree.specs.Matching.{LeafBound, isNearer, isAbove, leaves, readingOrder, readOn}
+use Rattle.dstree.specs.KNearest.{kth, Listing, listWith, readInto, stopsAtKth, listed}
 use Rattle.dstree.proofs.Reading.{reading-length}
+use Rattle.dstree.proofs.Ranks.{linear}
 use Rattle.tables.specs.Layout.{firstPlace}
 use Rattle.tables.specs.Tables.{Tables, measuresOf, traceCount, nodeCount, recordOf}
 use Rattle.tables.specs.View.{smallAt, treeIn, tracesIn}
 use Rattle.tables.specs.Walk.{numbersOf, Stored}
-use Rattle.reading.specs.Nearest.{bestOf, nearOf}
-use Rattle.reading.specs.declared.best.Best.{Best}
-use Rattle.reading.specs.declared.leaf.Read.{Read}
+use Rattle.reading.specs.Nearest.{near, nearOf}
+use Rattle.reading.specs.Listed.{recordAt, nearsIn, ListRoom, Lists}
+use Rattle.reading.proofs.Records.{nears-length, nears-none, nears-at}
 use Rattle.reading.proofs.Meaning.{LeafAt, answer-is}
 use Rattle.best_first.proofs.Alike.{order-alike}
 use Rattle.leaf_order.specs.Waits.{shapeIn, Waits, remaining, Begun}
 use Rattle.leaf_order.specs.Handed.{isPast, Past, HandedLeaf}
-use Rattle.search.specs.Searched.{Ready, seen, Visited}
+use Rattle.search.specs.Searched.{Ready, listing, Visited}
 use Rattle.search.proofs.Facts.{shape-alike}
 
--- the search stops where "the next bound is above the best distance found"
-abbrev pub stopsAt : Search → ℕ → Bool
-stopsAt s bound = isAbove bound (s .best)
-
 -- reading a leaf
-abbrev pub readIn : Tables → Trace → Search → ℕ → Search
-readIn t query = readLeaf (tracesIn t) (treeIn t) query
+abbrev pub readIn : ℕ → Tables → Trace → Listing → ℕ → Listing
+readIn k t query = readInto k (tracesIn t) (treeIn t) query
 
--- the best distance is the limit
-past-is : (best : Best) (bound : ℕ) → isPast (best .found) (best .distance) bound ≡ isAbove bound (bestOf best)
+-- ---- the limit
+
+-- of k records the last is the k-th, and its distance the limit; of fewer there is no k-th, and no limit
+kth-full : (k : ℕ) (list : List ℕ) → 1 ≤ k → kth k (nearsIn k list) ≡ some (recordAt list (k - 1))
+unfolding kth
+kth-full zero list h = absurd (omega arith)
+kth-full (suc k) list h =
+    let e : suc k - 1 ≡ k = omega arith in
+    place-getD k (nearsIn (suc k) list) (near 0 0) (omega (arith, nears-length (suc k) list))
+    ∙ ap some (nears-at (suc k) k list (omega arith) ∙ ap (recordAt list) (sym e))
+
+kth-fewer : (k m : ℕ) (list : List ℕ) → m < k → kth k (nearsIn m list) ≡ none
+unfolding kth
+kth-fewer zero m list h = absurd (omega arith)
+kth-fewer (suc k) m list h = place-none k (nearsIn m list) (omega (arith, nears-length m list))
+
+past-is : (k m : ℕ) (list : List ℕ) → 1 ≤ k → m ≤ k → (bound : ℕ)
+    → isPast (eqb m k) (recordAt list (k - 1) .distance) bound ≡ isAbove bound (kth k (nearsIn m list))
 unfolding isPast isAbove
-past-is best bound = by (best .found)
+past-is k m list one few bound = by (eqb m k) refl
   where
-    by : (f : Bool) → isPast f (best .distance) bound ≡ isAbove bound (if f then some (record { trace = best .trace; distance = best .distance }) else none)
-    by true = refl
-    by false = refl
+    by : (f : Bool) → eqb m k ≡ f → isPast f (recordAt list (k - 1) .distance) bound ≡ isAbove bound (kth k (nearsIn m list))
+    by true e = rw (eqb-true m k e, kth-full k list one)
+    by false e = rw (kth-fewer k m list (strict few (eqb-false m k e)))
 
 -- ---- leaves read on in order
 
 module _ {S : Type 0} (stop : S → ℕ → Bool) (read : S → ℕ → S) where
-  pub read-next : (s : S) (a : LeafBound) (l : List LeafBound) → stop s (a .bound) ≡ false → readOn stop read s (a ∷ l) ≡ readOn stop read (read s (a .number)) l
+  pub read-next : (s : S) (a : LeafBound) (l : List LeafBound) → stop s (a .bound) ≡ false
+      → readOn stop read s (a ∷ l) ≡ readOn stop read (read s (a .number)) l
   unfolding readOn
   read-next s a l e = rw e
 
@@ -68,71 +86,122 @@ stored-as t j at n k head n-is k-is head-is = rw (n-is, k-is, head-is) (at .stor
 -- ---- the invariant
 
 -- the keys that wait stand for leaves; to read these on from what is found gives the answer, and the trail has room for them
-pub record State (t : Tables) (query : Trace) (tree : Tree) (trail₀ work trail : List ℕ) (waiting out traces : ℕ) (best : Best) : Type 0 where
+pub record State (k : ℕ) (t : Tables) (query : Trace) (tree : Tree) (trail₀ list₀ work trail list : List ℕ)
+    (waiting out traces many : ℕ) : Type 0 where
   pub waits : Waits tree query waiting work
-  pub goes-on : readOn stopsAt (readIn t query) (seen (bestOf best) traces (take out trail)) (remaining tree query waiting work) ≡ searched (tracesIn t) (treeIn t) query
+  pub goes-on : readOn (stopsAtKth k) (readIn k t query) (listing (nearsIn many list) traces (take out trail))
+      (remaining tree query waiting work)
+      ≡ listed k (tracesIn t) (treeIn t) query
   pub trail-room : out + length (remaining tree query waiting work) ≡ length (leaves (treeIn t))
   pub few : traces ≤ out * 4096
   pub trail-size : length trail ≡ length trail₀
   pub trail-rest : drop out trail ≡ drop out trail₀
+  pub room : ListRoom k many list
+  pub list-size : length list ≡ length list₀
+  pub list-rest : drop (2 * many) list ≡ drop (2 * many) list₀
 
-module _ (t : Tables) (query : Trace) (trail₀ : List ℕ) (ready : Ready t query (length trail₀)) where
+module _ (k : ℕ) (t : Tables) (query : Trace) (trail₀ list₀ : List ℕ) (ready : Ready t query (length trail₀)) where
   -- all leaves are to come
-  pub state-start : (m : ℕ) → m ≡ nodeCount t → (work : List ℕ) → Begun (shapeIn (t .nodes) m) query work
-      → State t query (shapeIn (t .nodes) m) trail₀ work trail₀ 1 0 0 (record { found = false; trace = 0; distance = 0 })
-  unfolding searched
-  state-start m e work b =
-      let order : remaining (shapeIn (t .nodes) m) query 1 work ≡ readingOrder (treeIn t) query = b .all ∙ (rw e (order-alike (shape-alike t) query)) in
+  pub state-start : (1 ≤ k) × (2 * k ≤ length list₀) → (m : ℕ) → m ≡ nodeCount t → (work : List ℕ)
+      → Begun (shapeIn (t .nodes) m) query work
+      → State k t query (shapeIn (t .nodes) m) trail₀ list₀ work trail₀ list₀ 1 0 0 0
+  unfolding listed
+  state-start places m e work b =
+      let order : remaining (shapeIn (t .nodes) m) query 1 work ≡ readingOrder (treeIn t) query =
+      b .all ∙ (rw e (order-alike (shape-alike t) query)) in
       record {
         waits = b .waits;
-        goes-on = rw order;
+        goes-on = rw (order, nears-none list₀);
         trail-room = omega (arith, ap length order, reading-length (treeIn t) query);
         few = omega arith;
         trail-size = refl;
         trail-rest = refl;
+        room = record { some-record = places .0; few = omega arith; long = places .1; ordered = rw (nears-none list₀) ordered-none };
+        list-size = refl;
+        list-rest = refl;
       }
 
-  module _ {tree : Tree} {work trail : List ℕ} {waiting out traces : ℕ} {best : Best} (s : State t query tree trail₀ work trail waiting out traces best) where
+  module _ {tree : Tree} {work trail list : List ℕ} {waiting out traces many : ℕ}
+      (s : State k t query tree trail₀ list₀ work trail list waiting out traces many) where
     -- no more leaves are read than there are
     pub out-most : out ≤ length (leaves (treeIn t))
     out-most = omega (arith, s .trail-room)
 
-    -- no leaf to come is within the best distance
-    pub state-end : All (Past (best .found) (best .distance)) (remaining tree query waiting work) → Visited t query trail₀ trail (bestOf best) out traces
+    abbrev limited : Bool
+    limited = eqb many k
+
+    abbrev limit : ℕ
+    limit = recordAt list (k - 1) .distance
+
+    stops-as : (bound : ℕ) → isPast limited limit bound ≡ stopsAtKth k (listing (nearsIn many list) traces (take out trail)) bound
+    unfolding stopsAtKth
+    stops-as bound = past-is k many list (s .room .some-record) (s .room .few) bound
+
+    -- no leaf to come is within the k-th distance
+    pub state-end : All (Past limited limit) (remaining tree query waiting work)
+        → Visited k t query trail₀ trail list₀ list many out traces
     state-end past = record {
-      found = sym (read-end stopsAt (readIn t query) (seen (bestOf best) traces (take out trail)) (all-mono (λ a e. sym (past-is best (a .bound)) ∙ e) past)) ∙ s .goes-on;
+      found =
+          sym (read-end (stopsAtKth k) (readIn k t query) (listing (nearsIn many list) traces (take out trail))
+          (all-mono (λ a e. sym (stops-as (a .bound)) ∙ e) past)) ∙ s .goes-on;
       within = omega (arith, out-most, ready .trail-long);
       trail-rest = s .trail-rest;
+      few = s .room .few;
+      list-rest = s .list-rest;
     }
 
     -- the next leaf is read
-    module _ {work′ : List ℕ} {bound j left : ℕ} (h : HandedLeaf tree query (best .found) (best .distance) waiting work work′ bound j left) where
+    module _ {work′ : List ℕ} {bound j left : ℕ} (h : HandedLeaf tree query limited limit waiting work work′ bound j left) where
       pub leaf-room : out < length trail
       leaf-room = omega (arith, s .trail-room, ap length (h .first), ready .trail-long, s .trail-size)
 
       pub leaf-less : length (remaining tree query left work′) < length (remaining tree query waiting work)
       leaf-less = rw (h .first) (omega arith)
 
-      pub state-leaf : (at : LeafAt t j) (r : Read) (n k head : ℕ) → n ≡ measuresOf t .n → k ≡ traceCount t → head ≡ smallAt (recordOf (t .nodes) j) firstPlace
-          → bestOf (r .best) ≡ foldl bestWith (bestOf best) (map (nearOf (t .samples) n query) (numbersOf (t .links) k head))
-          → r .traces ≡ length (numbersOf (t .links) k head)
-          → r .traces ≤ k
-          → State t query tree trail₀ work′ (set trail out j) left (out + 1) (traces + r .traces) (r .best)
-      state-leaf at r n k head n-is k-is head-is found counted most =
-          let soFar = seen (bestOf best) traces (take out trail) in
-          let noted : take (out + 1) (set trail out j) ≡ take out trail ++ (j ∷ []) = rw (add-one out) (take-suc-set trail out j leaf-room) in
-          let read : readIn t query soFar j ≡ seen (bestOf (r .best)) (traces + r .traces) (take (out + 1) (set trail out j)) =
-          answer-is t j at query soFar best r refl (rw (n-is, k-is, head-is) at found) (rw (k-is, head-is) at counted) ∙ ap (seen (bestOf (r .best)) (traces + r .traces)) (sym noted) in
-          let go : stopsAt soFar bound ≡ false = sym (past-is best bound) ∙ h .within in
+      pub state-leaf : (at : LeafAt t j) (n count head traces′ many′ : ℕ) (list′ : List ℕ) → n ≡ measuresOf t .n → count ≡ traceCount t
+          → head ≡ smallAt (recordOf (t .nodes) j) firstPlace
+          → Lists k many′
+          (foldl (listWith k) (nearsIn many list) (map (nearOf (t .samples) n query) (numbersOf (t .links) count head))) list list′
+          → length list′ ≡ length list
+          → traces′ ≡ length (numbersOf (t .links) count head)
+          → traces′ ≤ count
+          → State k t query tree trail₀ list₀ work′ (set trail out j) list′ left (out + 1) (traces + traces′) many′
+      state-leaf at n count head traces′ many′ list′ n-is count-is head-is lists size counted most =
+          let soFar = listing (nearsIn many list) traces (take out trail) in
+          let met = map (nearOf (t .samples) n query) (numbersOf (t .links) count head) in
+          let noted : take (out + 1) (set trail out j) ≡ take out trail ++ (j ∷ []) =
+          rw (add-one out) (take-suc-set trail out j leaf-room) in
+          let read : readIn k t query soFar j ≡ listing (nearsIn many′ list′) (traces + traces′) (take (out + 1) (set trail out j)) =
+          answer-is t j at query k soFar (nearsIn many′ list′) traces′ (rw (n-is, count-is, head-is) at (lists .nears-are))
+          (rw (count-is, head-is) at counted)
+          ∙ ap (listing (nearsIn many′ list′) (traces + traces′)) (sym noted) in
+          let go : stopsAtKth k soFar bound ≡ false = sym (stops-as bound) ∙ h .within in
+          let more : many ≤ many′ =
+          omega (
+            arith,
+            kept-more isNearer k (nearsIn many list) met (omega (arith, nears-length many list, s .room .few)),
+            nears-length many list,
+            nears-length many′ list′,
+            ap length (lists .nears-are),
+          ) in
           record {
             waits = h .waits;
             goes-on =
-                ap (λ (q : Search). readOn stopsAt (readIn t query) q (remaining tree query left work′)) (sym read)
-                ∙ sym (read-next stopsAt (readIn t query) soFar (record { number = j; bound = bound }) (remaining tree query left work′) go)
-                ∙ ap (readOn stopsAt (readIn t query) soFar) (sym (h .first))
+                ap (λ (q : Listing). readOn (stopsAtKth k) (readIn k t query) q (remaining tree query left work′)) (sym read)
+                ∙ sym (read-next (stopsAtKth k) (readIn k t query) soFar (record { number = j; bound = bound })
+                (remaining tree query left work′) go)
+                ∙ ap (readOn (stopsAtKth k) (readIn k t query) soFar) (sym (h .first))
                 ∙ s .goes-on;
             trail-room = omega (arith, s .trail-room, ap length (h .first));
-            few = omega (arith, s .few, most, k-is, at .stored .few);
+            few = omega (arith, s .few, most, count-is, at .stored .few);
             trail-size = length-set trail out j ∙ s .trail-size;
             trail-rest = drop-set-lt (out + 1) trail out j (omega arith) ∙ drop-one out trail trail₀ (s .trail-rest);
+            room = record {
+              some-record = s .room .some-record;
+              few = lists .few;
+              long = omega (arith, s .room .long, size);
+              ordered = subst (Ordered isNearer) (sym (lists .nears-are)) (kept-ordered linear k met (s .room .ordered));
+            };
+            list-size = size ∙ s .list-size;
+            list-rest = lists .rest ∙ drop-more (2 * many′) (2 * many) list list₀ (omega arith) (s .list-rest);
           }

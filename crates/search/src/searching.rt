@@ -1,16 +1,18 @@
-// The whole search: the query's sums, the loop, and search work left zero.
+// The whole search: the query's sums, the loop, and search work left zero. The match is the one nearest.
+use reading::best::Best;
 use tables::control::field;
 use tables::places::CAPACITY;
 use tables::places::NODE_COUNT;
-ghost use Prim.Native.Nat.{_≤_};
+ghost use Prim.Native.Nat.{_*_, _≤_};
 ghost use lib.ListN.{length};
 ghost use Rattle.dstree.specs.Measures.{workNeeded};
 ghost use Rattle.tables.specs.Tables.{measuresOf};
 ghost use Rattle.reading.specs.Nearest.{bestOf};
-ghost use Rattle.search.specs.Searched.{made, Ready, Searched};
+ghost use Rattle.search.specs.Searched.{made, Ready, ListSearched, Searched};
 
-// The needed places of search work are zero when it ends, whatever they held.
-pub fn search_all(
+// Lists the k nearest: two places a record, trace number and distance, from the list's first place on; the places behind them stay. The
+// needed places of search work are zero when it ends, whatever they held.
+pub fn search_list(
     control: &[u16],
     samples: &[i16],
     nodes: &[i64],
@@ -18,11 +20,15 @@ pub fn search_all(
     query: &[i16],
     work: &mut [u64],
     trail: &mut [u16],
+    list: &mut [u64],
+    k: usize,
 ) -> crate::visiting::Seen
     requires { ⌜ Ready (made (now control) (now samples) (now nodes) (now links)) (now query) (length (now trail))
         × (workNeeded (measuresOf (made (now control) (now samples) (now nodes) (now links))) ≤ length (now work)) ⌝ }
-    ensures { λ r. ⌜ Searched (made (now (control .entry)) (now (samples .entry)) (now (nodes .entry)) (now (links .entry))) (now (query .entry))
-        (now (work .entry)) (now (work .exit)) (now (trail .entry)) (now (trail .exit)) (bestOf (r .best)) (r .out) (r .traces) ⌝ }
+    requires list { ⌜ (1 ≤ k) × (2 * k ≤ length (now list)) ⌝ }
+    ensures { λ r. ⌜ ListSearched k (made (now (control .entry)) (now (samples .entry)) (now (nodes .entry)) (now (links .entry)))
+        (now (query .entry)) (now (work .entry)) (now (work .exit)) (now (trail .entry)) (now (trail .exit)) (now (list .entry))
+        (now (list .exit)) (r .listed) (r .out) (r .traces) ⌝ }
 {
     let mut sums: [i64; 257] = [0; 257];
     let mut squares: [u64; 257] = [0; 257];
@@ -38,9 +44,57 @@ pub fn search_all(
         &squares,
         &mut work[..count],
         trail,
+        list,
+        k,
     );
     let capacity = tables::numbers::wider(field(control, CAPACITY));
     let needed = tables::control::records_needed(capacity);
     tables::loops::zero_work(work, needed);
     seen
+}
+
+// The nearest trace, the leaves read, which the trail begins with, and the traces read.
+pub struct Matched {
+    pub best: Best,
+    pub out: usize,
+    pub traces: usize,
+}
+
+// The match: one nearest, in a list of its own.
+pub fn search_all(
+    control: &[u16],
+    samples: &[i16],
+    nodes: &[i64],
+    links: &[u16],
+    query: &[i16],
+    work: &mut [u64],
+    trail: &mut [u16],
+) -> Matched
+    requires { ⌜ Ready (made (now control) (now samples) (now nodes) (now links)) (now query) (length (now trail))
+        × (workNeeded (measuresOf (made (now control) (now samples) (now nodes) (now links))) ≤ length (now work)) ⌝ }
+    ensures { λ r. ⌜ Searched (made (now (control .entry)) (now (samples .entry)) (now (nodes .entry)) (now (links .entry)))
+        (now (query .entry)) (now (work .entry)) (now (work .exit)) (now (trail .entry)) (now (trail .exit)) (bestOf (r .best)) (r .out)
+        (r .traces) ⌝ }
+{
+    let mut list: [u64; 2] = [0; 2];
+    let seen = search_list(
+        control,
+        samples,
+        nodes,
+        links,
+        query,
+        work,
+        trail,
+        &mut list,
+        1,
+    );
+    Matched {
+        best: Best {
+            found: seen.listed == 1,
+            trace: list[0],
+            distance: list[1],
+        },
+        out: seen.out,
+        traces: seen.traces,
+    }
 }

@@ -1,20 +1,18 @@
-// Leaves are read by bound, then by number, until the next bound is above the best distance found.
+// Leaves are read by bound, then by number, until k traces are listed and the next bound is above the k-th distance.
 use leaf_order::leaves::Next;
-use reading::best::Best;
 use tables::control::field;
 use tables::places::FIRST;
 use tables::places::TRACE_COUNT;
 ghost use mathlib.Core.Path.{_≡_};
-ghost use Prim.Native.Nat.{_≤_};
+ghost use Prim.Native.Nat.{_*_, _≤_};
 ghost use lib.ListN.{length};
 ghost use Rattle.tables.specs.Tables.{nodeCount};
 ghost use Rattle.prefixes.specs.Prefixes.{Prefixes};
-ghost use Rattle.reading.specs.Nearest.{bestOf};
 ghost use Rattle.search.specs.Searched.{made, Ready, Visited};
 
-// The nearest trace, the leaves read, which the trail begins with, and the traces read.
+// The traces listed, the leaves read, which the trail begins with, and the traces read.
 pub struct Seen {
-    pub best: Best,
+    pub listed: usize,
     pub out: usize,
     pub traces: usize,
 }
@@ -27,9 +25,10 @@ fn narrow(j: usize) -> u16
     j as u16
 }
 
-// Search work has a place for each node. What stands in it before does not matter.
+// Search work has a place for each node. What stands in it before does not matter, nor what stands in the list.
 //
-// Two wrong programs that the contract rules out: one that stops at a bound equal to the best distance, and one that reads leaves by number alone.
+// Two wrong programs that the contract rules out: one that stops at a bound equal to the k-th distance, and one that reads leaves by
+// number alone.
 pub fn visit(
     control: &[u16],
     samples: &[i16],
@@ -40,25 +39,26 @@ pub fn visit(
     squares: &[u64; 257],
     work: &mut [u64],
     trail: &mut [u16],
+    list: &mut [u64],
+    k: usize,
 ) -> Seen
     requires { ⌜ Ready (made (now control) (now samples) (now nodes) (now links)) (now query) (length (now trail))
         × Prefixes (now query) (now sums) (now squares)
         × (length (now work) ≡ nodeCount (made (now control) (now samples) (now nodes) (now links))) ⌝ }
-    ensures { λ r. ⌜ Visited (made (now (control .entry)) (now (samples .entry)) (now (nodes .entry)) (now (links .entry))) (now (query .entry))
-        (now (trail .entry)) (now (trail .exit)) (bestOf (r .best)) (r .out) (r .traces) ⌝ }
+    requires list { ⌜ (1 ≤ k) × (2 * k ≤ length (now list)) ⌝ }
+    ensures { λ r. ⌜ Visited k (made (now (control .entry)) (now (samples .entry)) (now (nodes .entry)) (now (links .entry)))
+        (now (query .entry)) (now (trail .entry)) (now (trail .exit)) (now (list .entry)) (now (list .exit)) (r .listed) (r .out)
+        (r .traces) ⌝ }
 {
     let n = query.len();
-    let k = tables::numbers::wide(field(control, TRACE_COUNT));
+    let count = tables::numbers::wide(field(control, TRACE_COUNT));
     leaf_order::leaves::begin(nodes, query, sums, squares, work);
     let mut waiting: usize = 1;
     let mut out: usize = 0;
     let mut traces: usize = 0;
-    let mut best = Best {
-        found: false,
-        trace: 0,
-        distance: 0,
-    };
+    let mut listed: usize = 0;
     loop {
+        let limit = reading::list::kth_distance(list, k);
         let next = leaf_order::leaves::next_leaf(
             nodes,
             query,
@@ -66,16 +66,20 @@ pub fn visit(
             squares,
             work,
             waiting,
-            best.found,
-            best.distance,
+            listed == k,
+            limit,
         );
         let Next::Leaf(bound, j, left) = next else {
-            return Seen { best, out, traces };
+            return Seen {
+                listed,
+                out,
+                traces,
+            };
         };
         waiting = left;
         let first = tables::records::node_small(nodes, j, FIRST);
-        let r = reading::leaf::read_leaf(samples, links, n, k, first, query, best);
-        best = r.best;
+        let r = reading::leaf::read_leaf(samples, links, n, count, first, query, list, listed, k);
+        listed = r.listed;
         traces += r.traces;
         trail[out] = narrow(j);
         out += 1;

@@ -1,138 +1,31 @@
--- `search::searching::search_all` meets its contract: the loop's, and the needed search work is set to zero behind it (`Cleared`).
-use mathlib.Core.Path.{_≡_, refl, sym, ap, _∙_, subst}
-use mathlib.Core.List.{List, _++_}
-use Prim.Native.Nat.{ℕ, _≤_}
+-- `search::searching::search_all` meets its contract: the one nearest, and it is the match (`One`).
 use native.Mathlib.Omega.{arith}
-use lib.ListN.{length, drop}
-use lib.Seq.{length-front, length-take-le, drop-at}
 use denote.Ref.{now}
-use Rattle.dstree.specs.Measures.{measures, recordsNeeded, workNeeded}
-use Rattle.tables.specs.Tables.{Tables, measuresOf, nodeCount, field, filled}
-use Rattle.reading.specs.Nearest.{bestOf}
+use borrow.Author.Needs.{needs}
 use Rattle.search.specs.Searched.{made}
-use Rattle.search.proofs.Facts.{length-fits, capacity-fits, nodes-needed}
-use Rattle.search.proofs.Cleared.{as-many, cleared}
+use Rattle.search.proofs.One.{one-found}
 use Rattle.search.proofs.searching.search_all.Statement.{statement}
 use Rattle.search.proofs.searching.search_all.Tie as tie
 
-abbrev tablesOf : tie.Start → Tables
-tablesOf s = made (now (s .args .control)) (now (s .args .samples)) (now (s .args .nodes)) (now (s .args .links))
-
-prefix-sums-requires : tie.Need-prefix-sums-requires
-prefix-sums-requires c κs = let s = c .before .before .before .before .before .before in (length-fits (tablesOf s) (now (s .args .query)) (length (now (s .args .trail))) (s .pre .0), refl, refl)
-
-field-requires : tie.Need-field-requires
-field-requires c κs = tt
-
-wide-requires : tie.Need-wide-requires
-wide-requires c κs = tt
-
--- ---- a place of search work for each node
-
-module _ (w : tie.After-wide) where
-  abbrev begin : tie.Start
-  begin = w .before .before .before .before .before .before .before .before .before
-
-  count-is : w .wide .result ≡ nodeCount (tablesOf begin)
-  count-is = w .wide .ensures ∙ w .before .field .ensures
-
-  count-fits : w .wide .result ≤ length (now (begin .args .work))
-  count-fits = omega (arith, count-is, nodes-needed (tablesOf begin) (now (begin .args .query)) (length (now (begin .args .trail))) (begin .pre .0), begin .pre .1)
-
-slice-relend-prefix-visit : tie.Need-slice-relend-prefix-visit
-slice-relend-prefix-visit c = count-fits (c .before .before)
-
-slice-aggregate-visit : tie.Need-slice-aggregate-visit
-slice-aggregate-visit c = let w = c .before .before .before in sym (length-take-le (w .wide .result) (now (begin w .args .work)) (count-fits w))
-
-visit-requires : tie.Need-visit-requires
-visit-requires c κs =
-    let w = c .before .before .before .before in
-    let s = begin w in
-    (s .pre .0, w .before .before .prefix-sums .ensures, length-take-le (w .wide .result) (now (s .args .work)) (count-fits w) ∙ count-is w)
-
-field-requires-2 : tie.Need-field-requires-2
-field-requires-2 c κs = tt
-
-wider-requires : tie.Need-wider-requires
-wider-requires c κs = tt
-
--- ---- what the loop leaves
-
-module _ (v : tie.After-visit) where
-  abbrev counted : tie.After-wide
-  counted = v .before .before .before .before .before
-
-  abbrev start : tie.Start
-  start = begin counted
-
-  -- search work with the part that was lent
-  abbrev whole : List ℕ
-  whole = v .visit .last .1 .1 .1 .1 .1 .1 .1 .0 ++ drop (counted .wide .result) (now (start .args .work))
-
-  whole-length : length whole ≡ length (now (start .args .work))
-  whole-length = length-front (now (start .args .work)) (v .visit .last .1 .1 .1 .1 .1 .1 .1 .0) (counted .wide .result) (v .visit .kept .1 .1 .1 .1 .1 .1 .1 .0)
-
-  -- the places behind it are as they were
-  behind : drop (nodeCount (tablesOf start)) whole ≡ drop (nodeCount (tablesOf start)) (now (start .args .work))
-  behind =
-      let k = counted .wide .result in
-      let part = v .visit .last .1 .1 .1 .1 .1 .1 .1 .0 in
-      let long : length part ≡ k = v .visit .kept .1 .1 .1 .1 .1 .1 .1 .0 ∙ length-take-le k (now (start .args .work)) (count-fits counted) in
-      subst (λ (n : ℕ). drop n whole ≡ drop n (now (start .args .work))) (count-is counted) (drop-at part (drop k (now (start .args .work))) k long)
-
--- the capacity, and the search work that it needs
-capacity-is : (c : tie.After-wider) → c .wider .result ≡ measuresOf (tablesOf (start (c .before .before .before .before .before .before))) .capacity
-capacity-is c = c .wider .ensures ∙ c .before .field2 .ensures
-
-needed-is : (c : tie.After-records-needed) → c .records-needed .result ≡ workNeeded (measuresOf (tablesOf (start (c .before .before .before .before .before .before .before))))
-needed-is c =
-    let control = now (start (c .before .before .before .before .before .before .before) .args .control) in
-    c .records-needed .ensures (field control 0) (field control 2)
-    ∙ (ap (λ (i : ℕ). recordsNeeded (measures (field control 0) i (field control 2))) (capacity-is (c .before))
-    ∙ as-many (measuresOf (tablesOf (start (c .before .before .before .before .before .before .before)))))
-
-records-needed-requires : tie.Need-records-needed-requires
-records-needed-requires c κs =
-    let s = start (c .before .before .before .before .before .before) in
-    omega (arith, capacity-is c, capacity-fits (tablesOf s) (now (s .args .query)) (length (now (s .args .trail))) (s .pre .0))
-
-zero-work-requires : tie.Need-zero-work-requires
-zero-work-requires c κs =
-    let v = c .before .before .before .before .before .before .before .before in
-    let h : c .before .records-needed .result ≤ length (whole v) = omega (arith, needed-is (c .before), start v .pre .1, whole-length v) in
-    h
-
-same-length : tie.Need-same-length
-same-length c = let v = c .before .before .before .before .before .before .before .before .before .before .before in c .before .before .zero-work .kept .0 ∙ whole-length v
-
-same-length-2 : tie.Need-same-length-2
-same-length-2 c = c .before .before .before .before .before .before .before .before .before .before .before .visit .kept .1 .1 .1 .1 .1 .1 .1 .1 .0
+search-list-requires : tie.Need-search-list-requires
+search-list-requires c κs =
+    let s = c .before .before .before .before .before .before .before in
+    (s .pre, (omega arith, omega arith))
 
 returns : tie.Need-returns
 returns c =
-    let z = c .before .before .zero-work in
-    let v = c .before .before .before .before .before .before .before .before .before .before .before in
-    let a = start v .args in
-    let r = v .visit .result in
-    cleared (tablesOf (start v)) (now (a .query)) (length (now (a .trail))) (start v .pre .0) (now (a .work)) (whole v) (z .last .0)
-    (now (a .trail)) (v .visit .last .1 .1 .1 .1 .1 .1 .1 .1 .0) (bestOf (r .best)) (r .out) (r .traces) (v .visit .ensures) (behind v)
-    (z .ensures ∙ ap (λ (i : ℕ). filled i 0 (whole v)) (needed-is (c .before .before .before .before)))
+    let q = c .before .before .before .before .before .before in
+    let a = q .before .before .before .before .before .before .before .before .args in
+    let l = q .search-list in
+    one-found (made (now (a .control)) (now (a .samples)) (now (a .nodes)) (now (a .links))) (now (a .query)) (now (a .work))
+    (l .last .1 .1 .1 .1 .1 .0) (now (a .trail)) (l .last .1 .1 .1 .1 .1 .1 .0) _ (l .last .1 .1 .1 .1 .1 .1 .1 .0)
+    (l .result .listed) (l .result .out) (l .result .traces) (l .ensures)
 
 pub search-all-spec : {M : Type 1} → statement M
 search-all-spec =
     tie.close
     (tie.spec
-    prefix-sums-requires
-    field-requires
-    wide-requires
-    slice-relend-prefix-visit
-    slice-aggregate-visit
-    visit-requires
-    field-requires-2
-    wider-requires
-    records-needed-requires
-    zero-work-requires
-    same-length
-    same-length-2
+    (λ c. search needs) search-list-requires (λ c. search needs) (λ c. search needs)
+    (λ c. c .before .before .before .before .before .before .search-list .kept .1 .1 .1 .1 .1 .0)
+    (λ c. c .before .before .before .before .before .before .search-list .kept .1 .1 .1 .1 .1 .1 .0)
     returns)

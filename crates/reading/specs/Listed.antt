@@ -1,0 +1,30 @@
+-- The nearest traces so far, in the caller's list: records of two places, trace number and distance, from the first place on.
+use Prim.Native.Nat.{ℕ, _+_, _*_, _≤_}
+use mathlib.Core.Path.{_≡_}
+use mathlib.Core.List.{List, map}
+use lib.ListN.{length, getD, drop}
+use Rattle.integer.specs.Words.{counting}
+use Rattle.integer.specs.Sorting.{Ordered}
+use Rattle.dstree.specs.Matching.{Near, isNearer}
+use Rattle.reading.specs.Nearest.{near}
+
+-- record i
+abbrev pub recordAt : List ℕ → ℕ → Near
+recordAt list i = near (getD list (2 * i) 0) (getD list (2 * i + 1) 0)
+
+-- the first m records
+unfoldable pub nearsIn : ℕ → List ℕ → List Near
+nearsIn m list = map (recordAt list) (counting m 0)
+
+-- a list with room for k records, of which so many are filled, "by distance, then number"
+pub record ListRoom (k many : ℕ) (list : List ℕ) : Type 0 where
+  pub some-record : 1 ≤ k
+  pub few : many ≤ k
+  pub long : 2 * k ≤ length list
+  pub ordered : Ordered isNearer (nearsIn many list)
+
+-- a list whose first records are these, no more than k: "List places past those filled keep their contents"
+pub record Lists (k many : ℕ) (nears : List Near) (list list′ : List ℕ) : Type 0 where
+  pub nears-are : nearsIn many list′ ≡ nears
+  pub few : many ≤ k
+  pub rest : drop (2 * many) list′ ≡ drop (2 * many) list

@@ -109,14 +109,16 @@ reads t bytes = record {
 
 -- ---- the k nearest (document 02, §1): as a match; "11 .. after 3; a list shorter than k is refused as 7"
 
+-- what it refuses of its own
+abbrev pub listConditionsIn : Tables → ℕ → Trace → List ℕ → List ℕ → List Condition
+listConditionsIn t k query trail list =
+    not (isK k) refuses badK ∷ (queryConditionsIn t query trail ++ (ltb (length list) (2 * k) refuses shortTrail ∷ []))
+
 unfoldable pub lists : Tables → ℕ → Trace → List ℕ → List ℕ → Effect
 lists t k query trail list =
     let found = kNearestBySteps k (tracesIn t) (treeIn t) query in
     record {
-      conditions =
-          madeConditions t
-          ++ not (isK k) refuses badK
-          ∷ (queryConditionsIn t query trail ++ (ltb (length list) (2 * k) refuses shortTrail ∷ []));
+      conditions = madeConditions t ++ listConditionsIn t k query trail list;
       result = neighbours found;
       after = cleared t;
       beside = over (found .trail) trail ∷ over (listPlaces (found .list)) list ∷ [];

@@ -1,3 +1,2 @@
--- What a match answers, and the leaves that it counts.
-pub mod Leaves
+-- What a match answers.
 pub mod Answered

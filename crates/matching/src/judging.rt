@@ -1,13 +1,7 @@
-// What a match refuses: what every call on made tables does, then a query of another length (4), no trace stored (6), a trail with fewer places than
-// leaves (7).
+// What a match refuses: what every call on made tables does, then what every search does of its query and its trail.
 
-use tables::Refusal;
+use query_judging::judge_query;
 use tables::Verdict;
-use tables::control::field;
-use tables::numbers::wide;
-use tables::places::N;
-use tables::places::NODE_COUNT;
-use tables::places::TRACE_COUNT;
 use well_formed::judging::judge_tables;
 ghost use mathlib.Core.Path.{_≡_};
 ghost use Rattle.dstree.specs.Refusals.{firstOf};
@@ -28,23 +22,9 @@ pub fn judge(
         (tables (now (control .entry)) (now (samples .entry)) (now (nodes .entry)) (now (links .entry)) (now (work .entry)))
         (now (query .entry)) (now (trail .entry)) .conditions) ⌝ }
 {
-    let n = wide(field(control, N));
-    let k = field(control, TRACE_COUNT);
-    let m = wide(field(control, NODE_COUNT));
     let made = judge_tables(control, samples, nodes, links, work);
     match made {
         Verdict::Refused(why) => Verdict::Refused(why),
-        Verdict::Fine => {
-            if query.len() != n {
-                return Verdict::Refused(Refusal::WrongTrace);
-            }
-            if k == 0 {
-                return Verdict::Refused(Refusal::Empty);
-            }
-            if trail.len() < crate::leaves::leaf_count(nodes, m) {
-                return Verdict::Refused(Refusal::ShortTrail);
-            }
-            Verdict::Fine
-        }
+        Verdict::Fine => judge_query(control, nodes, query, trail),
     }
 }

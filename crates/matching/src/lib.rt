@@ -1,6 +1,5 @@
 // The nearest stored trace of lent tables.
 
-pub mod leaves; // how many leaves there are
 pub mod judging; // what a match refuses
 
 use tables::Refusal;

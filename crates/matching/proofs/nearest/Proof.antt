@@ -11,11 +11,14 @@ use borrow.Author.Tests.{not-true}
 use Rattle.dstree.specs.Refusals.{firstOf}
 use Rattle.dstree.specs.Book.{besideOf}
 use Rattle.tables.specs.Tables.{Tables, tables}
+use Rattle.dstree.specs.Matching.{matchBySteps}
+use Rattle.tables.specs.View.{treeIn, tracesIn}
 use Rattle.tables.specs.Answers.{foundBy}
-use Rattle.calls.specs.Effects.{matches, effectOf, outcomeOn}
+use Rattle.calls.specs.Effects.{isNone, matches, effectOf, outcomeOn}
 use Rattle.calls.proofs.Ends.{ends-refused}
 use Rattle.matching.specs.Answered.{answerBy}
-use Rattle.matching.proofs.Conditions.{Taken, taken}
+use Rattle.query_judging.proofs.Taken.{Taken}
+use Rattle.matching.proofs.Conditions.{may-search, finds}
 use Rattle.matching.proofs.Answers.{found-one, found-answer}
 use Rattle.matching.proofs.nearest.Statement.{statement}
 use Rattle.matching.proofs.nearest.Tie as tie
@@ -37,7 +40,10 @@ module _ (e : tie.After-enum-told) where
   nothing = sym (e .before .before .judge .ensures) ∙ ap foundBy (e .enum-told .given .1)
 
   may : Taken (lentTables s) (now (s .args .query)) (now (s .args .trail))
-  may = taken (lentTables s) (now (s .args .query)) (now (s .args .trail)) nothing
+  may = may-search (lentTables s) (now (s .args .query)) (now (s .args .trail)) nothing
+
+  found : isNone (matchBySteps (tracesIn (lentTables s)) (treeIn (lentTables s)) (now (s .args .query))) ≡ false
+  found = finds (lentTables s) (now (s .args .query)) (now (s .args .trail)) nothing
 
 judge-requires : tie.Need-judge-requires
 judge-requires c κs = tt
@@ -62,7 +68,7 @@ module _ (q : tie.After-search-all) where
       let a = s e .args in
       let r = q .search-all .result in
       found-one (now (a .control)) (now (a .samples)) (now (a .nodes)) (now (a .links)) (now (a .work)) (now (a .query)) (now (a .trail))
-      workAfter trailAfter (r .best) (r .out) (r .traces) (q .search-all .kept .1 .1 .1 .1 .1 .1 .0) (q .search-all .ensures) (may e .finds)
+      workAfter trailAfter (r .best) (r .out) (r .traces) (q .search-all .kept .1 .1 .1 .1 .1 .1 .0) (q .search-all .ensures) (found e)
 
 true-false : true ≡ false → ⊥
 true-false e = let z : _≡_ {A = ℕ} 0 1 = cc in absurd (omega arith)

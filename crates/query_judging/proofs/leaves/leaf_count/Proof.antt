@@ -1,14 +1,14 @@
--- `matching::leaves::leaf_count` meets its contract: what is counted and what is still to be counted is all of it.
+-- `query_judging::leaves::leaf_count` meets its contract: what is counted and what is still to be counted is all of it.
 use mathlib.Core.Path.{_≡_, ap}
 use Prim.Native.Nat.{ℕ, _+_, _-_, _≤_, _<_}
 use native.Mathlib.Nat.{mul-le-mul-right}
 use native.Mathlib.Omega.{arith}
 use denote.Ref.{now}
 use Rattle.tables.specs.Layout.{recordPlaces}
-use Rattle.matching.specs.Leaves.{leafIn, leafCount}
-use Rattle.matching.proofs.Counted.{count-more, count-none, one-most}
-use Rattle.matching.proofs.leaves.leaf_count.Statement.{statement}
-use Rattle.matching.proofs.leaves.leaf_count.Tie as tie
+use Rattle.query_judging.specs.Leaves.{leafIn, leafCount}
+use Rattle.query_judging.proofs.Counted.{count-more, count-none, one-most}
+use Rattle.query_judging.proofs.leaves.leaf_count.Statement.{statement}
+use Rattle.query_judging.proofs.leaves.leaf_count.Tie as tie
 
 abbrev Inv-loop : tie.InvT-loop
 Inv-loop nodes m total₀ j₀ total j = (j ≤ m) × (total ≤ j) × (total + leafCount nodes (m - j) j ≡ leafCount nodes m 0)

@@ -1,4 +1,4 @@
--- `matching::leaves::leaf_one` meets its contract: kinds 1 and 2 are inner nodes, and every other kind reads as a leaf.
+-- `query_judging::leaves::leaf_one` meets its contract: kinds 1 and 2 are inner nodes, and every other kind reads as a leaf.
 use mathlib.Core.Path.{sym, _∙_}
 use denote.Ref.{now}
 use borrow.Author.Needs.{needs}
@@ -6,9 +6,9 @@ use Rattle.dstree.specs.Matching.{isLeaf}
 use Rattle.tables.specs.Layout.{kindPlace}
 use Rattle.tables.specs.Tables.{recordOf}
 use Rattle.tables.specs.View.{smallAt, kindIn}
-use Rattle.matching.proofs.Counted.{leaf-by}
-use Rattle.matching.proofs.leaves.leaf_one.Statement.{statement}
-use Rattle.matching.proofs.leaves.leaf_one.Tie as tie
+use Rattle.query_judging.proofs.Counted.{leaf-by}
+use Rattle.query_judging.proofs.leaves.leaf_one.Statement.{statement}
+use Rattle.query_judging.proofs.leaves.leaf_one.Tie as tie
 
 returns : tie.Need-returns
 unfolding isLeaf kindIn

@@ -1,0 +1,2 @@
+-- k in its range.
+pub mod Range

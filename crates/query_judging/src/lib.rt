@@ -1,0 +1,43 @@
+// What every search refuses of its query and its trail, behind what it refuses of its tables.
+
+pub mod leaves; // how many leaves there are
+
+use tables::Refusal;
+use tables::Verdict;
+use tables::control::field;
+use tables::numbers::wide;
+use tables::places::N;
+use tables::places::NODE_COUNT;
+use tables::places::TRACE_COUNT;
+ghost use mathlib.Core.Path.{_≡_};
+ghost use mathlib.Core.List.{List};
+ghost use Prim.Native.Nat.{ℕ, _*_, _≤_};
+ghost use lib.IntN.{ℤ};
+ghost use lib.ListN.{length};
+ghost use Rattle.dstree.specs.Refusals.{firstOf};
+ghost use Rattle.tables.specs.Layout.{nodeCountPlace, recordPlaces};
+ghost use Rattle.tables.specs.Tables as t;
+ghost use Rattle.tables.specs.Tables.{tables};
+ghost use Rattle.tables.specs.Answers.{foundBy};
+ghost use Rattle.calls.specs.Effects.{queryConditionsIn};
+
+// A query of another length (4), no trace stored (6), a trail with fewer places than leaves (7). Neither samples nor links nor search work bear on these.
+pub fn judge_query(control: &[u16], nodes: &[i64], query: &[i16], trail: &[u16]) -> Verdict
+    requires { ⌜ (t.field (now control) nodeCountPlace * recordPlaces ≤ length (now nodes)) × (t.field (now control) nodeCountPlace ≤ 8192) ⌝ }
+    ensures { λ r. ⌜ ((samples : List ℤ) (links work : List ℕ) → foundBy r ≡ firstOf (queryConditionsIn
+        (tables (now (control .entry)) samples (now (nodes .entry)) links work) (now (query .entry)) (now (trail .entry)))) ⌝ }
+{
+    let n = wide(field(control, N));
+    let stored = field(control, TRACE_COUNT);
+    if query.len() != n {
+        return Verdict::Refused(Refusal::WrongTrace);
+    }
+    if stored == 0 {
+        return Verdict::Refused(Refusal::Empty);
+    }
+    let m = wide(field(control, NODE_COUNT));
+    if trail.len() < crate::leaves::leaf_count(nodes, m) {
+        return Verdict::Refused(Refusal::ShortTrail);
+    }
+    Verdict::Fine
+}

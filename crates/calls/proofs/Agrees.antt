@@ -18,10 +18,10 @@ use Rattle.integer.proofs.Lists.{in-snoc, every-of, from-every, strict}
 use Rattle.dstree.specs.Measures.{Trace, Measures, sampleLimit, inRange, isTrace, isLibrary, workNeeded}
 use Rattle.dstree.specs.Matching.{matchBySteps, matchOf}
 use Rattle.dstree.specs.KNearest.{isK, kNearestBySteps, kNearestOf}
-use Rattle.dstree.specs.Refusals.{Condition, _refuses_, firstOf, measure, wrongTrace, full, empty, shortTrail, sheetLength, badK}
+use Rattle.dstree.specs.Refusals.{Condition, _refuses_, firstOf, measure, wrongTrace, full, empty, sheetLength, badK}
 use Rattle.dstree.specs.Sheet.{blockSize, blocksNeeded, sheetOf, Judged, refused, holds, judgeSheet}
 use Rattle.dstree.specs.Book.{Ask, opening, adding, matching, writing, reading, listing, Book, book, bookTree, Entry, added, written, over}
-use Rattle.dstree.specs.Book.{shortConditions, queryConditions, readingConditions, putRead, openingEntry, addingEntry, matchingEntry}
+use Rattle.dstree.specs.Book.{shortConditions, queryConditions, listConditions, readingConditions, putRead, openingEntry, addingEntry, matchingEntry}
 use Rattle.dstree.specs.Book.{writingEntry, readingEntry, listingEntry, entryOf}
 use Rattle.dstree.proofs.Conditions.{none-first, none-both}
 use Rattle.dstree.proofs.Laws.{claims}
@@ -225,7 +225,7 @@ module _ (memory part : Tables) (begins : Begins part memory) (b : Book) (keeps 
 
     module _ (k : ℕ) (list : List ℕ) where
       abbrev listingRest : List Condition
-      listingRest = not (isK k) refuses badK ∷ (queryConditions b query trail ++ (ltb (length list) (2 * k) refuses shortTrail ∷ []))
+      listingRest = listConditions b k query trail list
 
       listing-judged : firstOf (lists part k query trail list .conditions) ≡ firstOf (shortConditions layout (lentOf part) m ++ listingRest)
       unfolding lists

@@ -1,24 +1,22 @@
 -- The demands over calls that follow their definitions. A memory keeps the book from the first opening on; of any query on what it keeps,
 -- document 01's claims hold by the laws of the book's tree, and by what a search does on that memory, or on one that differs from it off
 -- the trail. So do document 02's.
-use Prim.Native.Nat.{ℕ, _*_, _≤_, _<_}
+use Prim.Native.Nat.{ℕ, _≤_, _<_}
 use mathlib.Core.Path.{_≡_, refl, sym, ap, subst, _∙_}
-use mathlib.Core.Bool.{not}
 use mathlib.Core.Option.{none, some}
-use mathlib.Core.List.{List, [], _∷_, _++_, map}
+use mathlib.Core.List.{List, [], _∷_, map}
 use native.Mathlib.Omega.{arith}
 use lib.ListN.{length, getD, length-map}
-use lib.Dec.{ltb}
 use borrow.Author.Tests.{eq-eqb}
 use Rattle.integer.specs.Words.{isEmpty}
 use Rattle.integer.proofs.Lists.{in-map, in-getD, least-low, least-in, strict}
 use Rattle.segment.specs.Figures.{distance}
 use Rattle.dstree.specs.Measures.{Trace, sampleLimit}
 use Rattle.dstree.specs.Matching.{Match, leastDistance, lowestAt, matchOf}
-use Rattle.dstree.specs.KNearest.{isK, listPlaces, kNearestBySteps}
-use Rattle.dstree.specs.Refusals.{_refuses_, firstOf, empty, shortTrail, badK}
+use Rattle.dstree.specs.KNearest.{listPlaces, kNearestBySteps}
+use Rattle.dstree.specs.Refusals.{firstOf, empty}
 use Rattle.dstree.specs.Book.{Lent, matching, listing, call, besideOf, Result, matched, neighbours, Reply, reply, over, Book, bookTree}
-use Rattle.dstree.specs.Book.{shortConditions, queryConditions, matchingEntry, listingEntry, entryOf, judge, replyUnless, replyOf, Call}
+use Rattle.dstree.specs.Book.{shortConditions, listConditions, matchingEntry, listingEntry, entryOf, judge, replyUnless, replyOf, Call}
 use Rattle.dstree.specs.Book.{done, answering, after, repliesOf, start}
 use Rattle.dstree.proofs.Conditions.{first-none}
 use Rattle.dstree.proofs.Laws.{claims}
@@ -148,8 +146,7 @@ module _ {memory : Tables} {b : Book} (keeps : Keeps memory b) where
   unfolding replyOf replyUnless judge entryOf listingEntry firstOf isEmpty
   empty-is-six lent k query trail list said memory′ f long ok size none-stored =
       let judged : judge layout b (call lent (listing k query trail list)) ≡ some empty =
-      first-none (shortConditions layout lent (b .measures))
-      (not (isK k) refuses badK ∷ (queryConditions b query trail ++ (ltb (length list) (2 * k) refuses shortTrail ∷ []))) long
+      first-none (shortConditions layout lent (b .measures)) (listConditions b k query trail list) long
       ∙ rw (ok, eq-eqb (length query) (b .measures .n) size, none-stored) in
       ap (λ (r : Reply). r .answer) (stepped f keeps .0) ∙ rw judged
 

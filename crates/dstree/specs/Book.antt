@@ -135,6 +135,11 @@ queryConditions b query trail =
     ∷ ltb (length trail) (length (leaves (bookTree b))) refuses shortTrail
     ∷ []
 
+-- document 02, §1: "11 bad k, outside 1 to 16, after 3; a list shorter than k is refused as 7", k traces taking two places each
+abbrev pub listConditions : Book → ℕ → Trace → List ℕ → List ℕ → List Condition
+listConditions b k query trail list =
+    not (isK k) refuses badK ∷ (queryConditions b query trail ++ (ltb (length list) (2 * k) refuses shortTrail ∷ []))
+
 -- "Reading: 8; 9 over all blocks; 10; 2"
 unfoldable pub readingConditions : Layout → Lent → Judged → List Condition
 readingConditions layout lent (refused r) = true refuses r ∷ []
@@ -190,16 +195,12 @@ module _ (layout : Layout) (lent : Lent) (b : Book) where
   unfoldable pub readingEntry : List ℕ → Entry
   readingEntry bytes = record { conditions = readingConditions layout lent (judgeSheet bytes); puts = putRead b (judgeSheet bytes); result = done; beside = [] }
 
-  -- document 02, §1: "11 bad k, outside 1 to 16, after 3; a list shorter than k is refused as 7", k traces taking two places each. "List places past those
-  -- filled keep their contents"
+  -- document 02, §1: "lists the k nearest traces"; "List places past those filled keep their contents"
   unfoldable pub listingEntry : ℕ → Trace → List ℕ → List ℕ → Entry
   listingEntry k query trail list =
       let found = kNearestOf k (b .traces) (bookTree b) query in
       record {
-        conditions =
-            shortConditions layout lent (b .measures)
-            ++ not (isK k) refuses badK
-            ∷ (queryConditions b query trail ++ (ltb (length list) (2 * k) refuses shortTrail ∷ []));
+        conditions = shortConditions layout lent (b .measures) ++ listConditions b k query trail list;
         puts = b;
         result = neighbours found;
         beside = over (found .trail) trail ∷ over (listPlaces (found .list)) list ∷ [];

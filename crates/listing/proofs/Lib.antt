@@ -1,2 +1,5 @@
--- k in its range.
+-- A list's records, tables that may be searched, and what a search leaves.
 pub mod Range
+pub mod Places
+pub mod Conditions
+pub mod Answers

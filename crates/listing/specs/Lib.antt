@@ -1,0 +1,2 @@
+-- What a listing answers.
+pub mod Answered

@@ -3,10 +3,10 @@ use Prim.Native.Nat.{ℕ}
 use mathlib.Core.Path.{_≡_, refl, sym, ap, _∙_}
 use mathlib.Core.Bool.{Bool, true, false}
 use mathlib.Core.Option.{Option, none, some}
-use mathlib.Core.List.{List, [], _∷_, _++_}
+use mathlib.Core.List.{List, [], _∷_}
 use native.Mathlib.Omega.{arith}
 use lib.IntN.{ℤ}
-use lib.ListN.{length, take, drop, take-append-drop}
+use lib.ListN.{length, take}
 use lib.Seq.{length-take-le}
 use Rattle.dstree.specs.Measures.{Trace}
 use Rattle.dstree.specs.Matching.{Search, Match, searched, answerOf, matchBySteps}
@@ -19,7 +19,7 @@ use Rattle.reading.specs.declared.best.Best.{Best}
 use Rattle.search.specs.Searched.{made, seen, Searched}
 use Rattle.calls.specs.Outcome.{outcome}
 use Rattle.calls.specs.Effects.{resultOf, trailOf, isNone, matches, effectOf, outcomeOn}
-use Rattle.calls.proofs.Ends.{ends-done}
+use Rattle.calls.proofs.Ends.{ends-done, over-first}
 use Rattle.matching.specs.Answered.{answerBy}
 use Rattle.matching.specs.declared.Found.the-variants as f
 
@@ -50,7 +50,7 @@ module _ (control : List ℕ) (samples nodes : List ℤ) (links work : List ℕ)
     read-long = length-take-le out trail′ (omega (arith, s .within, size))
 
     trail-is : trail′ ≡ over (take out trail′) trail
-    trail-is = sym (ap (λ (i : ℕ). take out trail′ ++ drop i trail) read-long ∙ (ap (λ (l : List ℕ). take out trail′ ++ l) (sym (s .trail-rest)) ∙ take-append-drop out trail′))
+    trail-is = over-first out trail trail′ (omega (arith, s .within, size)) (s .trail-rest)
 
     found-is : best .found ≡ true
         → some (record { trace = best .trace; distance = best .distance; leaves = out; traces = traces; trail = take out trail′ }) ≡ matchBySteps (tracesIn lent) (treeIn lent) query

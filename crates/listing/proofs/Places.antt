@@ -1,0 +1,48 @@
+-- The records of a list and the places that they stand in, two each: the one read as the other.
+use Prim.Native.Nat.{ℕ, zero, suc, _+_, _*_, _≤_}
+use mathlib.Core.Path.{_≡_, refl, sym, ap, ap₂, _∙_}
+use mathlib.Core.List.{List, [], _∷_, _++_, map}
+use native.Mathlib.Omega.{arith}
+use lib.ListN.{length, getD, take}
+use Rattle.integer.specs.Words.{counting}
+use Rattle.dstree.specs.Matching.{Near}
+use Rattle.dstree.specs.KNearest.{listPlaces}
+use Rattle.reading.specs.Nearest.{near}
+use Rattle.reading.specs.Listed.{recordAt, nearsIn}
+
+-- ---- two places more in front
+
+module _ (a b : ℕ) (l : List ℕ) where
+  next-record : (i : ℕ) → recordAt (a ∷ b ∷ l) (suc i) ≡ recordAt l i
+  next-record i =
+      let e : 2 * suc i ≡ suc (suc (2 * i)) = omega arith in
+      let f : 2 * suc i + 1 ≡ suc (suc (2 * i + 1)) = omega arith in
+      ap₂ near (ap (λ (n : ℕ). getD (a ∷ b ∷ l) n 0) e) (ap (λ (n : ℕ). getD (a ∷ b ∷ l) n 0) f)
+
+  next-records : (m i : ℕ) → map (recordAt (a ∷ b ∷ l)) (counting m (suc i)) ≡ map (recordAt l) (counting m i)
+  unfolding counting
+  next-records zero i = refl
+  next-records (suc m) i = ap₂ (λ (r : Near) (rest : List Near). r ∷ rest) (next-record i) (next-records m (suc i))
+
+  nears-more : (m : ℕ) → nearsIn (suc m) (a ∷ b ∷ l) ≡ near a b ∷ nearsIn m l
+  unfolding nearsIn counting
+  nears-more m = ap (λ (rest : List Near). near a b ∷ rest) (next-records m 0)
+
+-- ---- the places of the first m records, and the records in the places of a list
+
+pub places-in : (m : ℕ) (l : List ℕ) → 2 * m ≤ length l → take (2 * m) l ≡ listPlaces (nearsIn m l)
+unfolding listPlaces nearsIn counting
+places-in zero l h = refl
+places-in (suc m) [] h = absurd (omega arith)
+places-in (suc m) (a ∷ []) h = absurd (omega arith)
+places-in (suc m) (a ∷ (b ∷ l)) h =
+    let e : 2 * suc m ≡ suc (suc (2 * m)) = omega arith in
+    let rest = places-in m l (omega arith) in
+    ap (λ (n : ℕ). take n (a ∷ b ∷ l)) e ∙ (ap (λ (r : List ℕ). a ∷ b ∷ r) rest ∙ ap listPlaces (sym (nears-more a b l m)))
+
+pub nears-in : (list : List Near) (rest : List ℕ) → nearsIn (length list) (listPlaces list ++ rest) ≡ list
+unfolding listPlaces nearsIn counting
+nears-in [] rest = refl
+nears-in (a ∷ list) rest =
+    nears-more (a .trace) (a .distance) (listPlaces list ++ rest) (length list)
+    ∙ ap (λ (r : List Near). a ∷ r) (nears-in list rest)

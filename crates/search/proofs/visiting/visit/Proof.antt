@@ -98,7 +98,9 @@ abbrev startOf : tie.At-loop Inv-loop μ-loop → tie.Start Inv-loop μ-loop
 startOf l = begin-start (l .before .before .before)
 
 kth-distance-requires : tie.Need-kth-distance-requires Inv-loop μ-loop
-kth-distance-requires c κs = let room = c .before .loop .inv .0 .room in (room .some-record, room .long)
+kth-distance-requires c κs =
+    let room = c .before .loop .inv .0 .room in
+    (omega (arith, room .some-record), omega (arith, room .some-record, room .long))
 
 next-leaf-requires : tie.Need-next-leaf-requires Inv-loop μ-loop
 next-leaf-requires c κs =

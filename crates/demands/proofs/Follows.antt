@@ -8,7 +8,7 @@ use Rattle.tables.specs.Beginning.{left}
 use Rattle.calls.specs.Outcome.{Outcome, outcome}
 use Rattle.calls.specs.Effects.{outcomeOn}
 use Rattle.calls.specs.Follows.{Typed, Follows}
-use Rattle.demands.specs.Did.{Made, Did, by-open, by-add, by-nearest, by-write, by-read}
+use Rattle.demands.specs.Did.{Made, Did, by-open, by-add, by-nearest, by-write, by-read, by-list}
 
 by-claim : {ask : Ask} {before after memory memory′ : Tables} {answer : Answer} {beside : List (List ℕ)} {c : Call} {said : Reply}
     → Made ask before answer after beside c memory said memory′ → outcome answer after beside ≡ outcomeOn ask before
@@ -26,3 +26,4 @@ follows c memory memory′ said (by-add d) = by-claim (d .made) (d .claim)
 follows c memory memory′ said (by-nearest d) = by-claim (d .made) (d .claim)
 follows c memory memory′ said (by-write d) = by-claim (d .made) (d .claim)
 follows c memory memory′ said (by-read d) = by-claim (d .made) (d .claim)
+follows c memory memory′ said (by-list d) = by-claim (d .made) (d .claim)

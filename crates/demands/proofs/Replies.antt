@@ -12,11 +12,11 @@ use denote.Ref.{RefT}
 use contract.Lifetimes.{Lfts}
 use Rattle.dstree.specs.Measures.{Trace, Measures}
 use Rattle.dstree.specs.Matching.{Search, Near, answerOf, searched, Match, matchBySteps}
+use Rattle.dstree.specs.KNearest.{KNearest, listPlaces, kNearestBySteps}
 use Rattle.dstree.specs.Refusals as word
 use Rattle.dstree.specs.Refusals.{firstOf}
 use Rattle.dstree.specs.Sheet.{blockSize, blocksNeeded, sheetOf}
-use Rattle.dstree.specs.Book.{Ask, opening, adding, matching, writing, reading, Call, besideOf, Answer, answering, reply}
-use Rattle.dstree.specs.Book.{over}
+use Rattle.dstree.specs.Book.{Ask, opening, adding, matching, writing, reading, listing, Call, besideOf, Answer, answering, reply, over}
 use Rattle.dstree.proofs.RoundTrips.{sheet-length}
 use Rattle.tables.specs.Tables.{Tables, tables, lentOf, measuresOf, traceCount}
 use Rattle.tables.specs.View.{treeIn, tracesIn}
@@ -27,7 +27,7 @@ use Rattle.tables.specs.declared.Refusal.the-variants as r
 use Rattle.insertion_memory.specs.Memory.{addedTo}
 use Rattle.insertion_memory.proofs.Made.{count-is}
 use Rattle.calls.specs.Outcome.{Outcome, outcome, unlessRefused}
-use Rattle.calls.specs.Effects.{opens, adds, resultOf, trailOf, isNone, cleared, matches, writes, reads, effectOf, outcomeOn}
+use Rattle.calls.specs.Effects.{opens, adds, resultOf, trailOf, isNone, cleared, matches, writes, reads, lists, effectOf, outcomeOn}
 use Rattle.calls.specs.Follows.{Typed}
 use Rattle.calls.proofs.Finds.{found, last-never}
 use Rattle.opening.specs.declared.Opened.{Opened}
@@ -39,13 +39,17 @@ use Rattle.adding.specs.Answered as adding-answer
 use Rattle.matching.specs.declared.Found.{Found}
 use Rattle.matching.specs.declared.Found.the-variants as f
 use Rattle.matching.specs.Answered as matching-answer
+use Rattle.listing.specs.declared.Listed.{Listed}
+use Rattle.listing.specs.declared.Listed.the-variants as l
+use Rattle.listing.specs.Answered as listing-answer
+use Rattle.listing.proofs.Places.{nears-in}
 use Rattle.sheet_writing.specs.declared.Written.{Written}
 use Rattle.sheet_writing.specs.declared.Written.the-variants as w
 use Rattle.sheet_writing.specs.Answered as writing-answer
 use Rattle.sheet_reading.specs.declared.Read.{Read}
 use Rattle.sheet_reading.specs.declared.Read.the-variants as d
 use Rattle.sheet_reading.specs.Answered as reading-answer
-use Rattle.demands.specs.Did.{WithTables, Made, by-open, by-add, by-nearest, by-write, by-read}
+use Rattle.demands.specs.Did.{WithTables, Made, by-open, by-add, by-nearest, by-write, by-read, by-list}
 use Rattle.demands.specs.Theorem.{Replied}
 
 -- ---- slices
@@ -88,25 +92,25 @@ case-word word.badSheet = refl
 case-word word.badK = refl
 
 -- a result, and what is left beside the tables, with which code says an outcome
-record Said {R : Type 0} (outcomeBy : R → List ℕ → Outcome) (o : Outcome) : Type 0 where
+record Said {R Beside : Type 0} (outcomeBy : R → Beside → Outcome) (o : Outcome) : Type 0 where
   pub result : R
-  pub beside : List ℕ
+  pub beside : Beside
   pub is : outcomeBy result beside ≡ o
 
 opening-said : (t : Tables) (m : Measures) (o : Option word.Refusal) → let e = unlessRefused o t [] (opens t m) in
-    Said (λ (r : Opened) l. outcome (opening-answer.answerOf r) (e .after) []) e
+    Said (λ (r : Opened) (l : List ℕ). outcome (opening-answer.answerOf r) (e .after) []) e
 unfolding unlessRefused opens opening-answer.answerOf
 opening-said t m (some why) = record { result = o.Refused (caseOf why); beside = []; is = rw (case-word why) }
 opening-said t m none = record { result = o.Done; beside = []; is = refl }
 
 reading-said : (t : Tables) (bytes : List ℕ) (o : Option word.Refusal) → let e = unlessRefused o t [] (reads t bytes) in
-    Said (λ (r : Read) l. outcome (reading-answer.answerOf r) (e .after) []) e
+    Said (λ (r : Read) (l : List ℕ). outcome (reading-answer.answerOf r) (e .after) []) e
 unfolding unlessRefused reads reading-answer.answerOf
 reading-said t bytes (some why) = record { result = d.Refused (caseOf why); beside = []; is = rw (case-word why) }
 reading-said t bytes none = record { result = d.Done; beside = []; is = refl }
 
 adding-said : (t : Tables) (x : Trace) (o : Option word.Refusal) → let e = unlessRefused o t [] (adds t x) in
-    Said (λ (r : Added) l. outcome (adding-answer.answerOf r)
+    Said (λ (r : Added) (l : List ℕ). outcome (adding-answer.answerOf r)
     (tables (e .after .control) (e .after .samples) (e .after .nodes) (e .after .links) (t .work)) []) e
 unfolding unlessRefused adds addedTo adding-answer.answerOf
 adding-said t x (some why) = record { result = a.Refused (caseOf why); beside = []; is = rw (case-word why) }
@@ -123,7 +127,7 @@ trail-read s (some best) m trail e =
 
 matching-said : (t : Tables) (query : Trace) (trail : List ℕ) (o : Option word.Refusal) → firstOf (matches t query trail .conditions) ≡ o
     → let e = unlessRefused o t (trail ∷ []) (matches t query trail) in
-    Said (λ (r : Found) l. outcome (matching-answer.answerBy r l)
+    Said (λ (r : Found) (l : List ℕ). outcome (matching-answer.answerBy r l)
     (tables (t .control) (t .samples) (t .nodes) (t .links) (e .after .work)) (l ∷ [])) e
 unfolding unlessRefused matches matching-answer.answerBy resultOf trailOf isNone matchBySteps
 matching-said t query trail (some why) q = record { result = f.Refused (caseOf why); beside = trail; is = rw (case-word why) }
@@ -134,7 +138,7 @@ matching-said t query trail none q = by (matchBySteps (tracesIn t) (treeIn t) qu
     s = searched (tracesIn t) (treeIn t) query
 
     by : (x : Option Match) → answerOf s (s .best) ≡ x → isNone x ≡ false
-        → Said (λ (r : Found) l. outcome (matching-answer.answerBy r l) (cleared t) (l ∷ []))
+        → Said (λ (r : Found) (l : List ℕ). outcome (matching-answer.answerBy r l) (cleared t) (l ∷ []))
         (outcome (answering (resultOf x)) (cleared t) (over (trailOf x) trail ∷ []))
     by none e n = let z : _≡_ {A = ℕ} 0 1 = cc in absurd (omega arith)
     by (some m) e n = record {
@@ -144,7 +148,7 @@ matching-said t query trail none q = by (matchBySteps (tracesIn t) (treeIn t) qu
     }
 
 writing-said : (t : Tables) (sheet : List ℕ) (o : Option word.Refusal) → let e = unlessRefused o t (sheet ∷ []) (writes t sheet) in
-    Said (λ (r : Written) l. outcome (writing-answer.answerBy r l) t (l ∷ [])) e
+    Said (λ (r : Written) (l : List ℕ). outcome (writing-answer.answerBy r l) t (l ∷ [])) e
 unfolding unlessRefused writes writing-answer.answerBy
 writing-said t sheet (some why) = record { result = w.Refused (caseOf why); beside = sheet; is = rw (case-word why) }
 writing-said t sheet none = record {
@@ -162,6 +166,24 @@ writing-said t sheet none = record {
 
     size : length bytes ≡ blockSize * blocks
     size = sheet-length (measuresOf t) (tracesIn t) ∙ ap (λ (k : ℕ). blockSize * blocksNeeded k (measuresOf t .n)) (sym (count-is t))
+
+listing-said : (t : Tables) (k : ℕ) (query : Trace) (trail list : List ℕ) (o : Option word.Refusal)
+    → let e = unlessRefused o t (trail ∷ list ∷ []) (lists t k query trail list) in
+    Said (λ (r : Listed) (b : List ℕ × List ℕ). outcome (listing-answer.answerBy r (b .0) (b .1))
+    (tables (t .control) (t .samples) (t .nodes) (t .links) (e .after .work)) (b .0 ∷ b .1 ∷ [])) e
+unfolding unlessRefused lists listing-answer.answerBy kNearestBySteps
+listing-said t k query trail list (some why) = record { result = l.Refused (caseOf why); beside = (trail, list); is = rw (case-word why) }
+listing-said t k query trail list none = record {
+  result = l.Found (m .leaves) (m .traces) (length (m .list));
+  beside = (over (m .trail) trail, over (listPlaces (m .list)) list);
+  is = rw (
+    take-at (m .trail) (drop (length (m .trail)) trail) (m .leaves) refl,
+    nears-in (m .list) (drop (length (listPlaces (m .list))) list),
+  );
+}
+  where
+    m : KNearest
+    m = kNearestBySteps k (tracesIn t) (treeIn t) query
 
 -- ---- any call
 
@@ -254,6 +276,24 @@ module _ (c : Call) (memory : Tables) (places : lentOf (firstPlaces (c .lent) me
           result = s .result;
           claim = s .is;
           made = in-place _ after [] asked typed;
+        });
+      }
+  by-ask (listing k query trail list) asked typed =
+      let s = listing-said t k query trail list (firstOf (lists t k query trail list .conditions)) in
+      let after = outcomeOn (listing k query trail list) t .after in
+      let kept = tables (t .control) (t .samples) (t .nodes) (t .links) (after .work) in
+      let left-trail = s .beside .0 in
+      let left-list = s .beside .1 in
+      record {
+        said = reply (listing-answer.answerBy (s .result) left-trail left-list) (left-trail ∷ left-list ∷ []);
+        memory′ = left kept memory;
+        did = by-list (record {
+          κs = lifetimes 8;
+          args = slices t (slice trail, (slice list, (slice query, (k, tt))));
+          exits = slices after (slice left-trail, (slice left-list, (slice query, (k, tt))));
+          result = s .result;
+          claim = s .is;
+          made = in-place _ kept (left-trail ∷ left-list ∷ []) asked typed;
         });
       }
 

@@ -2,6 +2,7 @@
 use Rattle.opening.proofs.open.Met as open-met
 use Rattle.adding.proofs.add.Met as add-met
 use Rattle.matching.proofs.nearest.Met as nearest-met
+use Rattle.listing.proofs.k_nearest.Met as list-met
 use Rattle.sheet_writing.proofs.write_sheet.Met as write-met
 use Rattle.sheet_reading.proofs.read_sheet.Met as read-met
 use Rattle.calls.proofs.Demands.{demands}
@@ -16,6 +17,7 @@ theorem = record {
   nearest-meets = nearest-met.met;
   write-meets = write-met.met;
   read-meets = read-met.met;
+  list-meets = list-met.met;
   follows = follows;
   replies = replies;
   demands = demands;

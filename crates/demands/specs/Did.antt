@@ -8,7 +8,7 @@ use denote.Triple.Clauses.{AtExit}
 use borrow.Fn.Kinds.{Dens, endedOf}
 use contract.Lifetimes.{Lfts}
 use Rattle.dstree.specs.Measures.{measures}
-use Rattle.dstree.specs.Book.{Ask, opening, adding, matching, writing, reading, Call, Answer, Reply, reply}
+use Rattle.dstree.specs.Book.{Ask, opening, adding, matching, writing, reading, listing, Call, Answer, Reply, reply}
 use Rattle.tables.specs.Tables.{Tables, tables, lentOf}
 use Rattle.tables.specs.Beginning.{firstPlaces, left}
 use Rattle.calls.specs.Follows.{Typed}
@@ -24,6 +24,10 @@ use Rattle.matching.specs.declared.Found.{Found}
 use Rattle.matching.specs.Answered as matching-answer
 use Rattle.matching.proofs.nearest.Kinds as nearest-kinds
 use Rattle.matching.proofs.nearest.Reads as nearest-reads
+use Rattle.listing.specs.declared.Listed.{Listed}
+use Rattle.listing.specs.Answered as listing-answer
+use Rattle.listing.proofs.k_nearest.Kinds as list-kinds
+use Rattle.listing.proofs.k_nearest.Reads as list-reads
 use Rattle.sheet_writing.specs.declared.Written.{Written}
 use Rattle.sheet_writing.specs.Answered as writing-answer
 use Rattle.sheet_writing.proofs.write_sheet.Kinds as write-kinds
@@ -129,6 +133,19 @@ pub record Reads (c : Call) (memory : Tables) (said : Reply) (memory′ : Tables
   pub claim : read-reads.Learnt κs args result exits
   pub made : Made (reading (now (own args .0))) (tablesOf args) (reading-answer.answerOf result) (tablesOf exits) [] c memory said memory′
 
+-- a listing is lent all but search work, trail and list to read
+pub record Lists (c : Call) (memory : Tables) (said : Reply) (memory′ : Tables) : Type 0 where
+  pub κs : Lfts 8
+  pub args : Dens κs list-kinds.ps
+  pub exits : AtExit (endedOf 8 list-kinds.ps list-kinds.r) κs
+  pub result : Listed
+  pub claim : list-reads.Learnt κs args result exits
+  pub made : let trail = now (own exits .0) in
+      let list = now (own exits .1 .0) in
+      Made (listing (own args .1 .1 .1 .0) (now (own args .1 .1 .0)) (now (own args .0)) (now (own args .1 .0))) (tablesOf args)
+      (listing-answer.answerBy result trail list) (tables (control args) (samples args) (nodes args) (links args) (work exits))
+      (trail ∷ list ∷ []) c memory said memory′
+
 -- a call on a memory, what it answered, and the memory after it
 pub data Did (c : Call) (memory : Tables) (said : Reply) (memory′ : Tables) : Type 0 where
   by-open : Opens c memory said memory′ → Did c memory said memory′
@@ -136,3 +153,4 @@ pub data Did (c : Call) (memory : Tables) (said : Reply) (memory′ : Tables) : 
   by-nearest : Matches c memory said memory′ → Did c memory said memory′
   by-write : Writes c memory said memory′ → Did c memory said memory′
   by-read : Reads c memory said memory′ → Did c memory said memory′
+  by-list : Lists c memory said memory′ → Did c memory said memory′

@@ -7,6 +7,7 @@ use Rattle.tables.specs.Beginning.{firstPlaces}
 use Rattle.opening.proofs.open.Statement as open-statement
 use Rattle.adding.proofs.add.Statement as add-statement
 use Rattle.matching.proofs.nearest.Statement as nearest-statement
+use Rattle.listing.proofs.k_nearest.Statement as list-statement
 use Rattle.sheet_writing.proofs.write_sheet.Statement as write-statement
 use Rattle.sheet_reading.proofs.read_sheet.Statement as read-statement
 use Rattle.calls.specs.Follows.{Typed, Follows}
@@ -25,6 +26,7 @@ pub record Theorem : Type 2 where
   pub nearest-meets : {M : Type 1} → nearest-statement.statement M
   pub write-meets : {M : Type 1} → write-statement.statement M
   pub read-meets : {M : Type 1} → read-statement.statement M
+  pub list-meets : {M : Type 1} → list-statement.statement M
   -- demand 1: the reply and the memory after are those that the definition makes of the call and the memory before
   pub follows : (c : Call) (memory memory′ : Tables) (said : Reply) → Did c memory said memory′ → Follows c memory said memory′
   -- every call that its types allow has a reply and a memory after it, on every memory that has the places that it is lent

@@ -42,7 +42,7 @@ use Rattle.matching.specs.Answered as matching-answer
 use Rattle.listing.specs.declared.Listed.{Listed}
 use Rattle.listing.specs.declared.Listed.the-variants as l
 use Rattle.listing.specs.Answered as listing-answer
-use Rattle.listing.proofs.Places.{nears-in}
+use Rattle.reading.proofs.Places.{nears-in}
 use Rattle.sheet_writing.specs.declared.Written.{Written}
 use Rattle.sheet_writing.specs.declared.Written.the-variants as w
 use Rattle.sheet_writing.specs.Answered as writing-answer

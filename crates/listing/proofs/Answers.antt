@@ -16,13 +16,13 @@ use Rattle.dstree.specs.Book.{besideOf, neighbours, over}
 use Rattle.tables.specs.Tables.{Tables, tables}
 use Rattle.tables.specs.View.{treeIn, tracesIn}
 use Rattle.reading.specs.Listed.{nearsIn}
+use Rattle.reading.proofs.Places.{list-over}
 use Rattle.search.specs.Searched.{made, listing, ListSearched}
 use Rattle.calls.specs.Outcome.{outcome}
 use Rattle.calls.specs.Effects.{lists, effectOf, outcomeOn}
 use Rattle.calls.proofs.Ends.{ends-done, over-first}
 use Rattle.listing.specs.Answered.{answerBy}
 use Rattle.listing.specs.declared.Listed.the-variants as l
-use Rattle.listing.proofs.Places.{places-in}
 
 module _ (control : List ℕ) (samples nodes : List ℤ) (links work : List ℕ) (k : ℕ) (query : Trace) (trail list : List ℕ) where
   abbrev lent : Tables
@@ -55,9 +55,7 @@ module _ (control : List ℕ) (samples nodes : List ℤ) (links work : List ℕ)
     trail-is = over-first out trail trail′ in-trail (s .visited .trail-rest)
 
     list-is : list′ ≡ over (listPlaces (found .list)) list
-    list-is =
-        over-first (2 * many) list list′ in-list (s .visited .list-rest)
-        ∙ ap (λ (front : List ℕ). over front list) (places-in many list′ in-list)
+    list-is = list-over many list list′ in-list (s .visited .list-rest)
 
     pub list-answer : firstOf (lists lent k query trail list .conditions) ≡ none
         → outcome (answerBy (l.Found out traces many) trail′ list′) (tables control samples nodes links work′) (trail′ ∷ list′ ∷ [])

@@ -1,5 +1,4 @@
--- A list's records, tables that may be searched, and what a search leaves.
+-- k in its range, tables that may be searched, and what a search leaves.
 pub mod Range
-pub mod Places
 pub mod Conditions
 pub mod Answers

@@ -1,14 +1,17 @@
--- The records of a list and the places that they stand in, two each: the one read as the other.
+-- The records of a list and the places that they stand in, two each: the one read as the other. So a list that keeps its other places is
+-- the old one with its beginning replaced.
 use Prim.Native.Nat.{ℕ, zero, suc, _+_, _*_, _≤_}
 use mathlib.Core.Path.{_≡_, refl, sym, ap, ap₂, _∙_}
 use mathlib.Core.List.{List, [], _∷_, _++_, map}
 use native.Mathlib.Omega.{arith}
-use lib.ListN.{length, getD, take}
+use lib.ListN.{length, getD, take, drop, take-append-drop}
 use Rattle.integer.specs.Words.{counting}
 use Rattle.dstree.specs.Matching.{Near}
 use Rattle.dstree.specs.KNearest.{listPlaces}
+use Rattle.dstree.specs.Book.{over}
 use Rattle.reading.specs.Nearest.{near}
 use Rattle.reading.specs.Listed.{recordAt, nearsIn}
+use Rattle.reading.proofs.Records.{nears-length}
 
 -- ---- two places more in front
 
@@ -30,7 +33,7 @@ module _ (a b : ℕ) (l : List ℕ) where
 
 -- ---- the places of the first m records, and the records in the places of a list
 
-pub places-in : (m : ℕ) (l : List ℕ) → 2 * m ≤ length l → take (2 * m) l ≡ listPlaces (nearsIn m l)
+places-in : (m : ℕ) (l : List ℕ) → 2 * m ≤ length l → take (2 * m) l ≡ listPlaces (nearsIn m l)
 unfolding listPlaces nearsIn counting
 places-in zero l h = refl
 places-in (suc m) [] h = absurd (omega arith)
@@ -46,3 +49,16 @@ nears-in [] rest = refl
 nears-in (a ∷ list) rest =
     nears-more (a .trace) (a .distance) (listPlaces list ++ rest) (length list)
     ∙ ap (λ (r : List Near). a ∷ r) (nears-in list rest)
+
+places-length : (list : List Near) → length (listPlaces list) ≡ 2 * length list
+unfolding listPlaces
+places-length [] = refl
+places-length (a ∷ list) = omega (arith, places-length list)
+
+pub list-over : (m : ℕ) (l l′ : List ℕ) → 2 * m ≤ length l′ → drop (2 * m) l′ ≡ drop (2 * m) l → l′ ≡ over (listPlaces (nearsIn m l′)) l
+list-over m l l′ h e =
+    let first : List ℕ = listPlaces (nearsIn m l′) in
+    let size : length first ≡ 2 * m = omega (arith, places-length (nearsIn m l′), nears-length m l′) in
+    sym (take-append-drop (2 * m) l′)
+    ∙ (ap (λ (r : List ℕ). r ++ drop (2 * m) l′) (places-in m l′ h)
+    ∙ (ap (λ (r : List ℕ). first ++ r) e ∙ ap (λ (n : ℕ). first ++ drop n l) (sym size)))

@@ -1,8 +1,9 @@
-/* Silkendoz: the nearest stored trace, exactly.
+/* Silkendoz: the nearest stored traces, exactly.
  *
- * The functions of target/staticlib/liblibrary_c.a, which `rt staticlib library_c` writes. They are proved: for every input that the rules below allow,
- * a call stays inside the memory it is lent, never overflows and ends, and it answers and leaves exactly what document 01 says. None of them keeps
- * anything between calls, allocates, or calls anything but memcpy and memset. On x86-64 a call takes less than 32 KiB of stack (measured, not proved).
+ * The functions of target/staticlib/liblibrary_c.a, which `rt staticlib library_c` writes. They are proved: for every input that the rules
+ * below allow, a call stays inside the memory it is lent, never overflows and ends, and it answers and leaves exactly what documents 01 and
+ * 02 say. None of them keeps anything between calls, allocates, or calls anything but memcpy and memset. On x86-64 a call takes less than
+ * 32 KiB of stack (measured, not proved).
  *
  * A TRACE is n signed 16-bit samples. A library keeps up to c traces, numbered from 0 as they are added.
  *
@@ -31,15 +32,17 @@
  *   silkendoz_open         0   none
  *   silkendoz_add          0   the new trace's number
  *   silkendoz_nearest      0   trace number, distance, leaves read, traces read
+ *   silkendoz_k_nearest    0   leaves read, traces read, how many traces are listed
  *   silkendoz_write_sheet  0   the number of blocks
  *   silkendoz_read_sheet   0   none
  *   any call         refused   the place
  *
  * If `out` has fewer places, the first values are written and the others are left out. SILKENDOZ_OUT places are enough for every call.
  *
- * REFUSALS. A refused call leaves every table, the trail, the sheet and all of `out` behind its first place as they were. The place is 0, but for a
- * torn block, where it is the first block at fault. The numbers are tested in this order: 1; a control record too short (2); its measures (3);
- * other tables (2); the rest of 3; then 4 to 8. Reading a sheet: 8; 9 over all blocks; 10; 2.
+ * REFUSALS. A refused call leaves every table, the trail, the list, the sheet and all of `out` behind its first place as they were. The
+ * place is 0, but for a torn block, where it is the first block at fault. The numbers are tested in this order: 1; a control record too
+ * short (2); its measures (3); other tables (2); the rest of 3; 11, directly behind 3; then 4 to 8. Reading a sheet: 8; 9 over all blocks;
+ * 10; 2.
  */
 #ifndef SILKENDOZ_H
 #define SILKENDOZ_H
@@ -56,6 +59,9 @@ extern "C" {
 #define SILKENDOZ_MAX_CAPACITY 4096
 #define SILKENDOZ_MAX_LEAF_SIZE 64
 
+/* As many traces as one search lists at most. */
+#define SILKENDOZ_MAX_K 16
+
 /* Places that the tables need. */
 #define SILKENDOZ_CONTROL 5
 #define SILKENDOZ_SAMPLES(n, c) ((size_t)(n) * (size_t)(c))
@@ -63,7 +69,7 @@ extern "C" {
 #define SILKENDOZ_LINKS(c) ((size_t)(c))
 #define SILKENDOZ_WORK(c) (2 * (size_t)(c) - 1)
 
-/* Places of a trail that are enough for every match: there are at most as many leaves as traces. */
+/* Places of a trail that are enough for every search: there are at most as many leaves as traces. */
 #define SILKENDOZ_TRAIL(c) ((size_t)(c))
 
 /* Places of `out` that are enough for every call. */
@@ -77,11 +83,12 @@ enum silkendoz_refusal {
     SILKENDOZ_SPOILED = 3,      /* tables not well formed */
     SILKENDOZ_WRONG_TRACE = 4,  /* length not n */
     SILKENDOZ_FULL = 5,         /* count equals capacity */
-    SILKENDOZ_EMPTY = 6,        /* a match with no trace stored */
-    SILKENDOZ_SHORT_TRAIL = 7,  /* trail shorter than the number of leaves */
+    SILKENDOZ_EMPTY = 6,        /* a search with no trace stored */
+    SILKENDOZ_SHORT_TRAIL = 7,  /* trail shorter than the number of leaves, or list shorter than k records */
     SILKENDOZ_SHEET_LENGTH = 8, /* writing: below the need; reading: 0, not a multiple of 512, above 4,146 blocks */
     SILKENDOZ_TORN_BLOCK = 9,   /* check, block number or kind wrong; the place is the first block at fault */
-    SILKENDOZ_BAD_SHEET = 10    /* letters, measures, count above capacity, number of blocks, or a nonzero byte that must be 0 */
+    SILKENDOZ_BAD_SHEET = 10,   /* letters, measures, count above capacity, number of blocks, or a nonzero byte that must be 0 */
+    SILKENDOZ_BAD_K = 11        /* the k nearest, k not in 1 to 16 */
 };
 
 /* Opens an empty library with these measures: the needed parts of the tables are set to zero, then the control record is written. What the tables held
@@ -116,6 +123,22 @@ uint64_t silkendoz_nearest(
     uint64_t *work, size_t work_len,
     uint16_t *trail, size_t trail_len,
     const int16_t *query, size_t query_len,
+    uint64_t *out, size_t out_len);
+
+/* Lists the k stored traces, k from 1 to 16, that are nearest to a query of n samples: by distance, then by number. The list takes two
+ * places for each, the trace's number and its distance (struct silkendoz_neighbour, below); list_len counts places, and 2 * k are needed
+ * however few traces are stored. A library of fewer than k traces lists all it has, and out[2] says how many these are. Places behind
+ * them stay. Trail and `work` are left as by silkendoz_nearest, whose answer is the first of the list. Refuses 2, 3, 11, 4, 6, 7. */
+uint64_t silkendoz_k_nearest(
+    const uint16_t *control, size_t control_len,
+    const int16_t *samples, size_t samples_len,
+    const int64_t *nodes, size_t nodes_len,
+    const uint16_t *links, size_t links_len,
+    uint64_t *work, size_t work_len,
+    uint16_t *trail, size_t trail_len,
+    uint64_t *list, size_t list_len,
+    const int16_t *query, size_t query_len,
+    uint64_t k,
     uint64_t *out, size_t out_len);
 
 /* Bytes of a sheet that are enough for k traces of n samples: blocks of 512 bytes, block 0 and 253 samples in each other one. */
@@ -187,6 +210,30 @@ static inline uint64_t silkendoz_nearest_in(
         t->links, t->links_len, t->work, t->work_len, trail, trail_len, query, query_len, out, out_len);
 }
 
+/* A record of the list: a trace's number and its distance to the query. */
+struct silkendoz_neighbour {
+    uint64_t trace;
+    uint64_t distance;
+};
+
+/* It is two places and nothing more, so that an array of them is a list. */
+typedef char silkendoz_neighbour_is_two_places[sizeof(struct silkendoz_neighbour) == 2 * sizeof(uint64_t) ? 1 : -1];
+
+/* Here list_len counts records, not places. The cast is sound: a struct begins where its first member does, there is no gap, and each
+ * place is read and written as the uint64_t that it is. */
+static inline uint64_t silkendoz_k_nearest_in(
+    const struct silkendoz_tables *t,
+    uint16_t *trail, size_t trail_len,
+    struct silkendoz_neighbour *list, size_t list_len,
+    const int16_t *query, size_t query_len,
+    uint64_t k,
+    uint64_t *out, size_t out_len)
+{
+    return silkendoz_k_nearest(t->control, t->control_len, t->samples, t->samples_len, t->nodes, t->nodes_len,
+        t->links, t->links_len, t->work, t->work_len, trail, trail_len, (uint64_t *)list, 2 * list_len, query, query_len, k,
+        out, out_len);
+}
+
 static inline uint64_t silkendoz_write_sheet_in(
     const struct silkendoz_tables *t,
     uint8_t *sheet, size_t sheet_len,
@@ -205,7 +252,7 @@ static inline uint64_t silkendoz_read_sheet_in(
         t->links, t->links_len, t->work, t->work_len, sheet, sheet_len, out, out_len);
 }
 
-/* The word for a number that a call gives back: document 01's, "done" for 0, "unknown" for a number that no call gives. */
+/* The word for a number that a call gives back: the documents', "done" for 0, "unknown" for a number that no call gives. */
 static inline const char *silkendoz_word(uint64_t number)
 {
     switch (number) {
@@ -220,6 +267,7 @@ static inline const char *silkendoz_word(uint64_t number)
     case SILKENDOZ_SHEET_LENGTH: return "sheet length";
     case SILKENDOZ_TORN_BLOCK: return "torn block";
     case SILKENDOZ_BAD_SHEET: return "bad sheet";
+    case SILKENDOZ_BAD_K: return "bad k";
     default: return "unknown";
     }
 }

@@ -1,5 +1,5 @@
-/* The calls from C, over the struct of tables: document 01's examples, refusals in their order, and memory that has to stay. Prints one line, and
- * fails at the first difference. */
+/* The calls from C, over the struct of tables: document 01's examples, lists of the k nearest, refusals in their order, and memory that
+ * has to stay. Prints one line, and fails at the first difference. */
 
 #include "silkendoz.h"
 
@@ -58,6 +58,13 @@ static uint64_t nearest_in(
 {
     struct silkendoz_tables l = lent(t);
     return silkendoz_nearest_in(&l, trail, trail_len, query, size, out, out_len);
+}
+
+static uint64_t k_nearest_in(struct tables *t, const int16_t *query, size_t size, uint16_t *trail, size_t trail_len,
+    struct silkendoz_neighbour *list, size_t list_len, uint64_t k, uint64_t *out, size_t out_len)
+{
+    struct silkendoz_tables l = lent(t);
+    return silkendoz_k_nearest_in(&l, trail, trail_len, list, list_len, query, size, k, out, out_len);
 }
 
 static uint64_t write_from(struct tables *t, uint8_t *sheet, size_t size, uint64_t *out)
@@ -119,16 +126,20 @@ static void largest(void)
     free(t.work);
 }
 
+enum { CALLS = 6, TABLES = 5 };
+
 /* What each call over the struct answers, in the order of the header. */
-static void answers(const struct silkendoz_tables *t, const int16_t *trace, uint8_t *sheet, size_t size, uint64_t numbers[5])
+static void answers(const struct silkendoz_tables *t, const int16_t *trace, uint8_t *sheet, size_t size, uint64_t numbers[CALLS])
 {
     uint16_t trail[TRAIL];
+    struct silkendoz_neighbour list[2];
     uint64_t out[SILKENDOZ_OUT];
     numbers[0] = silkendoz_open_in(t, N, C, 2, out, SILKENDOZ_OUT);
     numbers[1] = silkendoz_add_in(t, trace, N, out, SILKENDOZ_OUT);
     numbers[2] = silkendoz_nearest_in(t, trail, TRAIL, trace, N, out, SILKENDOZ_OUT);
-    numbers[3] = silkendoz_write_sheet_in(t, sheet, size, out, SILKENDOZ_OUT);
-    numbers[4] = silkendoz_read_sheet_in(t, sheet, size, out, SILKENDOZ_OUT);
+    numbers[3] = silkendoz_k_nearest_in(t, trail, TRAIL, list, 2, trace, N, 2, out, SILKENDOZ_OUT);
+    numbers[4] = silkendoz_write_sheet_in(t, sheet, size, out, SILKENDOZ_OUT);
+    numbers[5] = silkendoz_read_sheet_in(t, sheet, size, out, SILKENDOZ_OUT);
 }
 
 /* Each call over the struct passes on each length: just enough is done, one place less is a short table, whichever table it is. */
@@ -138,7 +149,7 @@ static void lengths(void)
     static uint8_t sheet[SILKENDOZ_SHEET(1, N)];
     const int16_t trace[N] = {1, -2, 3, -4};
     struct silkendoz_tables just = lent(&t), less;
-    uint64_t numbers[5];
+    uint64_t numbers[CALLS];
     int table, call;
 
     just.control_len = SILKENDOZ_CONTROL;
@@ -147,10 +158,10 @@ static void lengths(void)
     just.links_len = SILKENDOZ_LINKS(C);
     just.work_len = SILKENDOZ_WORK(C);
     answers(&just, trace, sheet, sizeof sheet, numbers);
-    for (call = 0; call < 5; call++)
+    for (call = 0; call < CALLS; call++)
         EXPECT(numbers[call] == SILKENDOZ_DONE);
 
-    for (table = 0; table < 5; table++) {
+    for (table = 0; table < TABLES; table++) {
         less = just;
         less.control_len -= table == 0;
         less.samples_len -= table == 1;
@@ -158,20 +169,20 @@ static void lengths(void)
         less.links_len -= table == 3;
         less.work_len -= table == 4;
         answers(&less, trace, sheet, sizeof sheet, numbers);
-        for (call = 0; call < 5; call++)
+        for (call = 0; call < CALLS; call++)
             EXPECT(numbers[call] == SILKENDOZ_SHORT_TABLE);
     }
 }
 
-/* The words of document 01's table, in its order. */
+/* The words of the documents' tables, in their order. */
 static void words(void)
 {
     static const char *const table[] = {"done", "measure", "short table", "spoiled", "wrong trace", "full", "empty", "short trail",
-        "sheet length", "torn block", "bad sheet"};
+        "sheet length", "torn block", "bad sheet", "bad k"};
     uint64_t number;
     for (number = 0; number < PLACES(table); number++)
         EXPECT(strcmp(silkendoz_word(number), table[number]) == 0);
-    EXPECT(strcmp(silkendoz_word(SILKENDOZ_BAD_SHEET + 1), "unknown") == 0);
+    EXPECT(strcmp(silkendoz_word(SILKENDOZ_BAD_K + 1), "unknown") == 0);
     EXPECT(strcmp(silkendoz_word(UINT64_MAX), "unknown") == 0);
 }
 
@@ -236,6 +247,100 @@ static void adding_and_matching(void)
     EXPECT(add_to(&t, c, N, out, SILKENDOZ_OUT) == SILKENDOZ_FULL && out[0] == 0);
 }
 
+/* A list has places for the greatest k and one record more. */
+enum { RECORDS = SILKENDOZ_MAX_K + 1 };
+
+/* Lists the k nearest to a level query: these traces and distances, in this order, with these counts; all else that was lent stays. */
+static void lists(struct tables *t, int16_t level, uint64_t k, const struct silkendoz_neighbour *expected, uint64_t many,
+    uint64_t leaves, uint64_t traces)
+{
+    int16_t query[N] = {level, level, level, level};
+    uint16_t trail[TRAIL];
+    struct silkendoz_neighbour list[RECORDS];
+    uint64_t out[SILKENDOZ_OUT] = {0, 0, 0, 77};
+    size_t i;
+    memset(trail, 0xee, sizeof trail);
+    memset(list, 0xdd, sizeof list);
+    memset(t->work, 0xff, sizeof t->work);
+    EXPECT(k_nearest_in(t, query, N, trail, TRAIL, list, k, k, out, SILKENDOZ_OUT) == SILKENDOZ_DONE);
+    EXPECT(out[0] == leaves && out[1] == traces && out[2] == many && out[3] == 77);
+    for (i = 0; i < many; i++)
+        EXPECT(list[i].trace == expected[i].trace && list[i].distance == expected[i].distance);
+    for (i = many; i < RECORDS; i++)
+        EXPECT(list[i].trace == 0xddddddddddddddddu && list[i].distance == 0xddddddddddddddddu);
+    for (i = 0; i < TRAIL; i++)
+        EXPECT((trail[i] == 0xeeee) == (i >= leaves));
+    for (i = 0; i < SILKENDOZ_WORK(C); i++)
+        EXPECT(t->work[i] == 0);
+    EXPECT(t->work[SILKENDOZ_WORK(C)] == UINT64_MAX);
+}
+
+/* A, B and C as above: A in leaf 1, B and C in leaf 2. Then A once more, as trace 3. */
+static void listing(void)
+{
+    static struct tables t, before;
+    const int16_t a[N] = {0, 0, 0, 0}, b[N] = {4, 4, 4, 4}, c[N] = {0, 8, 0, 8};
+    const struct silkendoz_neighbour at_1[] = {{0, 4}, {1, 36}, {2, 100}}, at_2[] = {{0, 16}, {1, 16}, {2, 80}},
+                                     twice[] = {{0, 16}, {1, 16}, {3, 16}, {2, 80}};
+    struct silkendoz_neighbour list[RECORDS];
+    uint16_t trail[TRAIL] = {0};
+    uint64_t out[SILKENDOZ_OUT] = {9, 9, 9, 9}, none = 5;
+    size_t i;
+
+    EXPECT(open_in(&t, N, C, 2, out) == SILKENDOZ_DONE);
+    EXPECT(k_nearest_in(&t, a, N, trail, TRAIL, list, RECORDS, 1, out, SILKENDOZ_OUT) == SILKENDOZ_EMPTY);
+    EXPECT(out[0] == 0 && out[1] == 9);
+    EXPECT(k_nearest_in(&t, a, N, trail, TRAIL, list, 0, 1, out, SILKENDOZ_OUT) == SILKENDOZ_EMPTY);
+    EXPECT(add_to(&t, a, N, out, SILKENDOZ_OUT) == SILKENDOZ_DONE);
+    EXPECT(add_to(&t, b, N, out, SILKENDOZ_OUT) == SILKENDOZ_DONE);
+    EXPECT(add_to(&t, c, N, out, SILKENDOZ_OUT) == SILKENDOZ_DONE);
+
+    /* the one nearest reads what a match reads; for two, both leaves; a smaller library lists all it has */
+    lists(&t, 1, 1, at_1, 1, 1, 1);
+    lists(&t, 1, 2, at_1, 2, 2, 3);
+    lists(&t, 1, 16, at_1, 3, 2, 3);
+    /* at equal distances the lower number comes first */
+    lists(&t, 2, 1, at_2, 1, 2, 3);
+    lists(&t, 2, 2, at_2, 2, 2, 3);
+
+    /* a shorter slice for the answer takes what fits; the list is whole nevertheless. A and C are equally far,
+     * and A comes first, though its leaf is read last */
+    memset(list, 0, sizeof list);
+    out[0] = out[1] = out[2] = 9;
+    EXPECT(k_nearest_in(&t, b, N, trail, TRAIL, list, RECORDS, 2, out, 2) == SILKENDOZ_DONE);
+    EXPECT(out[0] == 2 && out[1] == 3 && out[2] == 9);
+    EXPECT(k_nearest_in(&t, b, N, trail, TRAIL, list, RECORDS, 2, &none, 0) == SILKENDOZ_DONE && none == 5);
+    EXPECT(list[0].trace == 1 && list[0].distance == 0 && list[1].trace == 0 && list[1].distance == 64);
+
+    /* refusals, 11 directly behind 3, leave everything */
+    memset(list, 0xdd, sizeof list);
+    memset(trail, 0xee, sizeof trail);
+    before = t;
+    EXPECT(k_nearest_in(&t, a, N - 1, trail, 1, list, 0, 0, out, SILKENDOZ_OUT) == SILKENDOZ_BAD_K);
+    EXPECT(out[0] == 0 && out[1] == 3);
+    EXPECT(k_nearest_in(&t, a, N, trail, TRAIL, list, RECORDS, 0, out, SILKENDOZ_OUT) == SILKENDOZ_BAD_K);
+    EXPECT(k_nearest_in(&t, a, N, trail, TRAIL, list, RECORDS, 17, out, SILKENDOZ_OUT) == SILKENDOZ_BAD_K);
+    EXPECT(k_nearest_in(&t, a, N, trail, TRAIL, list, RECORDS, UINT64_MAX, out, SILKENDOZ_OUT) == SILKENDOZ_BAD_K);
+    EXPECT(k_nearest_in(&t, a, N - 1, trail, 1, list, 0, 16, out, SILKENDOZ_OUT) == SILKENDOZ_WRONG_TRACE);
+    EXPECT(k_nearest_in(&t, a, N, trail, 1, list, 1, 1, out, SILKENDOZ_OUT) == SILKENDOZ_SHORT_TRAIL);
+    EXPECT(k_nearest_in(&t, a, N, trail, TRAIL, list, 15, 16, out, SILKENDOZ_OUT) == SILKENDOZ_SHORT_TRAIL);
+    EXPECT(silkendoz_k_nearest(t.control, PLACES(t.control), t.samples, PLACES(t.samples), t.nodes, PLACES(t.nodes),
+        t.links, PLACES(t.links), t.work, PLACES(t.work), trail, TRAIL, (uint64_t *)list, 2 * 16 - 1, a, N, 16,
+        out, SILKENDOZ_OUT) == SILKENDOZ_SHORT_TRAIL);
+    t.nodes[87] = 3;
+    EXPECT(k_nearest_in(&t, a, N - 1, trail, 1, list, 0, 0, out, SILKENDOZ_OUT) == SILKENDOZ_SPOILED);
+    t.nodes[87] = 0;
+    EXPECT(memcmp(&t, &before, sizeof t) == 0);
+    for (i = 0; i < RECORDS; i++)
+        EXPECT(list[i].trace == 0xddddddddddddddddu && list[i].distance == 0xddddddddddddddddu);
+    for (i = 0; i < TRAIL; i++)
+        EXPECT(trail[i] == 0xeeee);
+
+    EXPECT(add_to(&t, a, N, out, SILKENDOZ_OUT) == SILKENDOZ_DONE);
+    lists(&t, 2, 3, twice, 3, 2, 4);
+    lists(&t, 2, 4, twice, 4, 2, 4);
+}
+
 /* n = 1, capacity 8, leaf size 2, trace (-1): checks 2,130 and 2,812. Written, read back, torn. */
 static void sheets(void)
 {
@@ -276,6 +381,7 @@ int main(void)
     lengths();
     words();
     adding_and_matching();
+    listing();
     sheets();
     printf("C: %d tests passed\n", tests);
     return 0;

@@ -2,11 +2,12 @@
 use Prim.Native.Nat.{ℕ, _*_}
 use mathlib.Core.Path.{_≡_, refl, sym, ap, ap₂, _∙_}
 use mathlib.Core.List.{List, [], _∷_}
-use lib.ListN.{set, take}
+use lib.ListN.{length, set, take}
 use Rattle.dstree.specs.Refusals.{Refusal, numberOf, placeOf}
 use Rattle.dstree.specs.Matching.{Match}
+use Rattle.dstree.specs.KNearest.{KNearest}
 use Rattle.dstree.specs.Sheet.{blockSize}
-use Rattle.dstree.specs.Book.{done, added, matched, written, Answer, refusing, answering}
+use Rattle.dstree.specs.Book.{done, added, matched, written, neighbours, Answer, refusing, answering}
 use Rattle.tables.specs.Tables.{Tables}
 use Rattle.tables.specs.Answers.{wordOf}
 use Rattle.tables.specs.declared.Refusal as r
@@ -19,6 +20,11 @@ use Rattle.adding.specs.declared.Added.the-variants as a
 use Rattle.matching.specs.Answered as found
 use Rattle.matching.specs.declared.Found.{Found}
 use Rattle.matching.specs.declared.Found.the-variants as f
+use Rattle.reading.specs.Listed.{nearsIn}
+use Rattle.reading.proofs.Records.{nears-length}
+use Rattle.listing.specs.Answered as listed
+use Rattle.listing.specs.declared.Listed.{Listed}
+use Rattle.listing.specs.declared.Listed.the-variants as l
 use Rattle.sheet_writing.specs.Answered as writing
 use Rattle.sheet_writing.specs.declared.Written.{Written}
 use Rattle.sheet_writing.specs.declared.Written.the-variants as w
@@ -33,6 +39,13 @@ one-laid : (x : ℕ) (out : List ℕ) → set out 0 x ≡ laid (x ∷ []) out
 unfolding laid
 one-laid x [] = refl
 one-laid x (place ∷ out) = refl
+
+three-laid : (a b c : ℕ) (out : List ℕ) → set (set (set out 0 a) 1 b) 2 c ≡ laid (a ∷ b ∷ c ∷ []) out
+unfolding laid
+three-laid a b c [] = refl
+three-laid a b c (p ∷ []) = refl
+three-laid a b c (p ∷ q ∷ []) = refl
+three-laid a b c (p ∷ q ∷ r ∷ out) = refl
 
 four-laid : (a b c d : ℕ) (out : List ℕ) → set (set (set (set out 0 a) 1 b) 2 c) 3 d ≡ laid (a ∷ b ∷ c ∷ d ∷ []) out
 unfolding laid
@@ -64,10 +77,20 @@ pub matched-returned : (found : Match) (out out′ : List ℕ) → out′ ≡ se
 unfolding returnedOf codeOf valuesOf resultValues
 matched-returned found out out′ g = ap (λ (l : List ℕ). returned 0 l) (g ∙ four-laid (found .trace) (found .distance) (found .leaves) (found .traces) out)
 
--- four stores, one after the other
+pub listed-returned : (found : KNearest) (many : ℕ) (out out′ : List ℕ) → length (found .list) ≡ many
+    → out′ ≡ set (set (set out 0 (found .leaves)) 1 (found .traces)) 2 many
+    → returned 0 out′ ≡ returnedOf (answering (neighbours found)) out
+unfolding returnedOf codeOf valuesOf resultValues
+listed-returned found many out out′ e g =
+    ap (λ (l : List ℕ). returned 0 l)
+    (g ∙ (three-laid (found .leaves) (found .traces) many out ∙ ap (λ (m : ℕ). laid (found .leaves ∷ found .traces ∷ m ∷ []) out) (sym e)))
+
+-- three stores, one after the other, and four
+pub three-stores : (out a b c : List ℕ) (w x y : ℕ) → a ≡ set out 0 w → b ≡ set a 1 x → c ≡ set b 2 y → c ≡ set (set (set out 0 w) 1 x) 2 y
+three-stores out a b c w x y e f g = g ∙ ap (λ (l : List ℕ). set l 2 y) (f ∙ ap (λ (l : List ℕ). set l 1 x) e)
+
 pub four-stores : (out a b c d : List ℕ) (w x y z : ℕ) → a ≡ set out 0 w → b ≡ set a 1 x → c ≡ set b 2 y → d ≡ set c 3 z → d ≡ set (set (set (set out 0 w) 1 x) 2 y) 3 z
-four-stores out a b c d w x y z e f g h =
-    h ∙ ap (λ (l : List ℕ). set l 3 z) (g ∙ ap (λ (l : List ℕ). set l 2 y) (f ∙ ap (λ (l : List ℕ). set l 1 x) e))
+four-stores out a b c d w x y z e f g h = h ∙ ap (λ (l : List ℕ). set l 3 z) (three-stores out a b c w x y e f g)
 
 pub exported-call : (code : ℕ) (out out′ : List ℕ) (answer : Answer) (after : Tables) (beside : List (List ℕ)) (o : Outcome)
     → returned code out′ ≡ returnedOf answer out → outcome answer after beside ≡ o → exported code out′ after beside ≡ exportedOf o out
@@ -105,6 +128,20 @@ pub found-refused : (answer : Found) (trail : List ℕ) (why : r.Refusal) (out :
     → returnedOf (refusing (wordOf why)) out ≡ returnedOf (found.answerBy answer trail) out
 unfolding found.answerBy
 found-refused answer trail why out e = ap (λ (x : Found). returnedOf (found.answerBy x trail) out) (sym e)
+
+pub listed-found : (answer : Listed) (trail list : List ℕ) (leaves traces many : ℕ) (out p q s : List ℕ)
+    → p ≡ set out 0 leaves → q ≡ set p 1 traces → s ≡ set q 2 many → answer ≡ l.Found leaves traces many
+    → returned 0 s ≡ returnedOf (listed.answerBy answer trail list) out
+unfolding listed.answerBy
+listed-found answer trail list leaves traces many out p q s e g h is =
+    listed-returned (record { list = nearsIn many list; leaves = leaves; traces = traces; trail = take leaves trail }) many out s
+    (nears-length many list) (three-stores out p q s leaves traces many e g h)
+    ∙ ap (λ (x : Listed). returnedOf (listed.answerBy x trail list) out) (sym is)
+
+pub listed-refused : (answer : Listed) (trail list : List ℕ) (why : r.Refusal) (out : List ℕ) → answer ≡ l.Refused why
+    → returnedOf (refusing (wordOf why)) out ≡ returnedOf (listed.answerBy answer trail list) out
+unfolding listed.answerBy
+listed-refused answer trail list why out e = ap (λ (x : Listed). returnedOf (listed.answerBy x trail list) out) (sym e)
 
 pub written-blocks : (answer : Written) (blocks : ℕ) (sheet out out′ : List ℕ)
     → out′ ≡ set out 0 blocks → answer ≡ w.Blocks blocks → returned 0 out′ ≡ returnedOf (writing.answerBy answer sheet) out

@@ -1,7 +1,7 @@
 // The calls for C and for Rust: numbers and slices only, a slice as a pointer and then its length. Each is the call of the same name, and its contract
 // is that call's own definition. The code is 0, or the number of the refusal; the answer's values go into the lent slice `out`, in order: adding the
-// trace's number, a match the trace's number, the distance, leaves read and traces read, a writing the number of blocks, a refusal its place. A shorter `out` takes the first of them, and
-// places behind them stay.
+// trace's number, a match the trace's number, the distance, leaves read and traces read, a listing leaves read, traces read and how many it
+// lists, a writing the number of blocks, a refusal its place. A shorter `out` takes the first of them, and places behind them stay.
 
 pub mod telling; // an answer as numbers
 
@@ -78,6 +78,34 @@ pub extern "C" fn silkendoz_nearest(
 {
     let answer = matching::nearest(control, samples, nodes, links, work, trail, query);
     telling::tell_found(answer, out)
+}
+
+// The list is lent as its places, two for each trace: its number and its distance.
+//
+// Two wrong programs that the contract rules out: one that tells k where fewer traces are stored, and one that tells how many places of the
+// list it filled.
+#[no_mangle]
+pub extern "C" fn silkendoz_k_nearest(
+    control: &[u16],
+    samples: &[i16],
+    nodes: &[i64],
+    links: &[u16],
+    work: &mut [u64],
+    trail: &mut [u16],
+    list: &mut [u64],
+    query: &[i16],
+    k: u64,
+    out: &mut [u64],
+) -> u64
+    ensures { λ r. ⌜ exported r (now (out .exit))
+        (tables (now (control .entry)) (now (samples .entry)) (now (nodes .entry)) (now (links .entry)) (now (work .exit)))
+        (now (trail .exit) ∷ now (list .exit) ∷ [])
+        ≡ exportedOf (outcomeOn (book.listing k (now (query .entry)) (now (trail .entry)) (now (list .entry)))
+        (tables (now (control .entry)) (now (samples .entry)) (now (nodes .entry)) (now (links .entry)) (now (work .entry))))
+        (now (out .entry)) ⌝ }
+{
+    let answer = listing::k_nearest(control, samples, nodes, links, work, trail, list, query, k);
+    telling::tell_listed(answer, out)
 }
 
 // Two wrong programs that the contract rules out: one that tells the number of bytes, and one that tells the blocks of a sheet that it refused.

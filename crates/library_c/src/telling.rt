@@ -1,6 +1,7 @@
 // An answer as numbers: its code is given back, its values go into a lent slice.
 
 use adding::Added;
+use listing::Listed;
 use matching::Found;
 use opening::Opened;
 use sheet_reading::Read;
@@ -15,6 +16,7 @@ ghost use Rattle.tables.specs.Answers.{wordOf};
 ghost use Rattle.opening.specs.Opened as opened;
 ghost use Rattle.adding.specs.Answered as added;
 ghost use Rattle.matching.specs.Answered as matched;
+ghost use Rattle.listing.specs.Answered as listed;
 ghost use Rattle.sheet_writing.specs.Answered as writing;
 ghost use Rattle.sheet_reading.specs.Answered as reading;
 ghost use Rattle.library_c.specs.Exported.{returned, returnedOf};
@@ -71,6 +73,22 @@ pub fn tell_found(answer: Found, out: &mut [u64]) -> u64
             0
         }
         Found::Refused(why) => tell_refusal(why, out),
+    }
+}
+
+// The trail and the list are told by the slices that the listing leaves them in.
+pub fn tell_listed(answer: Listed, out: &mut [u64]) -> u64
+    ensures { λ r. ⌜ ((trail list : List ℕ)
+        → returned r (now (out .exit)) ≡ returnedOf (listed.answerBy answer trail list) (now (out .entry))) ⌝ }
+{
+    match answer {
+        Listed::Found(leaves, traces, many) => {
+            put(out, 0, leaves);
+            put(out, 1, traces);
+            put(out, 2, many);
+            0
+        }
+        Listed::Refused(why) => tell_refusal(why, out),
     }
 }
 

@@ -1,0 +1,29 @@
+-- `telling::tell_listed` meets its contract, arm by arm.
+use borrow.Author.Needs.{needs}
+use mathlib.Core.Path.{_∙_}
+use denote.Ref.{now}
+use Rattle.library_c.proofs.Answers.{listed-found, listed-refused}
+use Rattle.library_c.proofs.telling.tell_listed.Statement.{statement}
+use Rattle.library_c.proofs.telling.tell_listed.Tie as tie
+
+returns : tie.Need-returns
+returns c = λ trail list.
+    let p3 = c .before .before in
+    let p2 = p3 .before .before .before .before in
+    let p1 = p2 .before .before .before .before in
+    let s = p1 .before .before .before .before .before .before in
+    listed-found (s .args .answer) trail list _ _ _ (now (s .args .out)) _ _ _ (p1 .put .ensures) (p2 .put2 .ensures) (p3 .put3 .ensures)
+    (p1 .before .before .before .answer .given .1)
+
+returns-2 : tie.Need-returns-2
+returns-2 c = λ trail list.
+    let r = c .before .before in
+    let s = r .before .before .before .before .before .before in
+    r .tell-refusal .ensures ∙ listed-refused (s .args .answer) trail list _ (now (s .args .out)) (r .before .before .before .answer2 .given .1)
+
+pub tell-listed-spec : {M : Type 1} → statement M
+tell-listed-spec =
+    tie.close
+    (tie.spec
+    (λ c. search needs) (λ c κs. search needs) (λ c κs. search needs) (λ c κs. search needs)
+    (λ c. search needs) (λ c κs. search needs) (λ c. search needs) returns (λ c. search needs) returns-2)

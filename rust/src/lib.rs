@@ -20,15 +20,18 @@
 //! ```
 //!
 //! [`calls`] has the calls themselves, over slices that the caller lends. [`model`] is document 01 in plain Rust, which tests hold the calls to; [`scan`]
-//! reads every trace; [`random`] makes test data, [`example`] the sheet under `examples/`.
+//! reads every trace; [`random`] makes test data, [`example`] the sheet under `examples/`; [`script`] plays scripts of calls, over [`lending`].
 
 pub mod calls;
 pub mod example;
+pub mod lending;
 mod library;
 pub mod model;
+pub mod program;
 pub mod random;
 mod refusal;
 pub mod scan;
+pub mod script;
 
 pub use library::{Nearest, TraceLibrary};
 pub use refusal::Refusal;

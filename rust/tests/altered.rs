@@ -4,7 +4,7 @@ mod common;
 
 use common::{check_add, check_nearest, measures};
 use silkendoz::model::tables::{Tables, RECORD_PLACES};
-use silkendoz::model::{runs, segments_of, Figure, Kind, Library, Node, Segment, Test, Trace};
+use silkendoz::model::{runs, segments_of, width, Figure, Kind, Library, Node, Segment, Test, Trace};
 use silkendoz::random::{query, traces, Random, Shape, SHAPES};
 
 /// Ends that include the given ones, the last n.
@@ -39,7 +39,7 @@ fn pair(random: &mut Random, low: i128, high: i128) -> (i128, i128) {
 fn segments(random: &mut Random, ends: &[usize], below: &[&[i16]]) -> Vec<Segment> {
     let mut list = segments_of(ends, below);
     for (run, s) in runs(ends).into_iter().zip(&mut list) {
-        let w = (run.1 - run.0 + 1) as i128;
+        let w = width(run);
         if random.once_in(3) {
             (s.least_sum, s.greatest_sum) = pair(random, -w * 32_768, w * 32_768);
         }
@@ -58,7 +58,7 @@ fn test(random: &mut Random, n: usize, below: &[&[i16]]) -> Test {
     let first = 1 + random.below(n);
     let last = first + random.below(n - first + 1);
     let figure = *random.pick(&[Figure::Sum, Figure::Scatter]);
-    let w = (last - first + 1) as i128;
+    let w = width((first, last));
     let (low, high) = match figure {
         Figure::Sum => (-2 * w * 32_768, 2 * w * 32_768),
         Figure::Scatter => (0, (2 * w * w) << 30),

@@ -151,13 +151,7 @@ fn short_tables_and_the_order() {
         let l = case.tables.lengths();
         for table in 0..5 {
             let mut short = l;
-            match table {
-                0 => short.control -= 1,
-                1 => short.samples -= 1,
-                2 => short.nodes -= 1,
-                3 => short.links -= 1,
-                _ => short.work -= 1,
-            }
+            *short.each()[table] -= 1;
             for spoil in 0..4 {
                 let mut t = case.tables.clone();
                 match spoil {

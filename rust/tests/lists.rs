@@ -46,13 +46,8 @@ impl Book {
 fn lengths(random: &mut Random, t: &Tables) -> Lengths {
     let mut l = t.lengths();
     if random.once_in(6) {
-        match random.below(5) {
-            0 => l.control = random.below(l.control + 1),
-            1 => l.samples = random.below(l.samples + 1),
-            2 => l.nodes = random.below(l.nodes + 1),
-            3 => l.links = random.below(l.links + 1),
-            _ => l.work = random.below(l.work + 1),
-        }
+        let length = &mut *l.each()[random.below(5)];
+        *length = random.below(*length + 1);
     }
     l
 }

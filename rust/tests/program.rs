@@ -1,53 +1,24 @@
 //! The program that reads a sheet from standard input and prints the nearest trace: the vectors, the examples, and sheets at its limits.
 
+mod common;
+
+use common::sheet_vectors;
 use silkendoz::model::sheet::{program_line, write};
 use silkendoz::model::Measures;
+use silkendoz::program::{self, repository};
 use silkendoz::random::{query, traces, Random, SHAPES};
-use std::io::Write;
-use std::path::PathBuf;
-use std::process::{Command, Stdio};
-
-fn repository() -> PathBuf {
-    PathBuf::from(env!("CARGO_MANIFEST_DIR")).join("..")
-}
 
 /// What the program prints of these bytes.
 fn printed(input: &[u8]) -> String {
-    printed_in_pieces(input, input.len().max(1))
+    program::printed(input).expect(BUILT)
 }
 
-/// .. that come in pieces of a size, each a moment after the other.
-fn printed_in_pieces(input: &[u8], size: usize) -> String {
-    let mut child = Command::new(repository().join("target/bin/match_sheet"))
-        .stdin(Stdio::piped())
-        .stdout(Stdio::piped())
-        .stderr(Stdio::piped())
-        .spawn()
-        .expect("rt check or rt ci builds target/bin/match_sheet");
-    let mut pipe = child.stdin.take().expect("it is piped");
-    for piece in input.chunks(size) {
-        // a program that has seen enough may close its input
-        if pipe.write_all(piece).is_err() {
-            break;
-        }
-        if size < input.len() {
-            std::thread::sleep(std::time::Duration::from_millis(1));
-        }
-    }
-    drop(pipe);
-    let output = child.wait_with_output().expect("it ends");
-    assert!(output.stderr.is_empty(), "nothing on standard error");
-    String::from_utf8(output.stdout).expect("digits and letters")
-}
+const BUILT: &str = "rt check or rt ci builds target/bin/match_sheet";
 
 #[test]
 fn the_vectors() {
-    let text = std::fs::read_to_string(repository().join("vectors/sheets.txt")).unwrap();
-    for row in text.lines().filter(|l| !l.starts_with('#')) {
-        let fields: Vec<&str> = row.split('\t').collect();
-        let digits = fields.get(2).unwrap_or(&"");
-        let sheet: Vec<u8> = (0..digits.len() / 2).map(|i| u8::from_str_radix(&digits[2 * i..2 * i + 2], 16).unwrap()).collect();
-        assert_eq!(printed(&sheet), format!("{}\n", fields[1]), "{}", fields[0]);
+    for (name, line, sheet) in sheet_vectors() {
+        assert_eq!(printed(&sheet), format!("{line}\n"), "{name}");
     }
 }
 
@@ -94,6 +65,6 @@ fn the_example() {
 fn in_small_pieces() {
     let sheet = std::fs::read(repository().join("examples/faults.sheet")).unwrap();
     for size in [7, 512, 4099] {
-        assert_eq!(printed_in_pieces(&sheet, size), format!("{}\n", program_line(&sheet)), "in pieces of {size}");
+        assert_eq!(program::printed_in_pieces(&sheet, size).expect(BUILT), format!("{}\n", program_line(&sheet)), "in pieces of {size}");
     }
 }

@@ -2,13 +2,12 @@
 
 mod common;
 
-use common::{check_add, check_nearest, check_open, check_read, check_write, junk, longer, measures};
+use common::{check_add, check_nearest, check_open, check_read, check_write, junk, longer, measures, sheet_vectors};
 use silkendoz::model::sheet::{blocks_needed, check, seal, write};
 use silkendoz::model::tables::{needs, Lengths, Tables};
 use silkendoz::model::{Library, Measures, Trace};
 use silkendoz::random::{query, traces, Random, Shape, SHAPES};
 use silkendoz::{Refusal, TraceLibrary};
-use std::path::PathBuf;
 
 fn made(random: &mut Random, shape: Shape, m: Measures, count: usize) -> (Library, Tables) {
     let library = Library::of(m, &traces(random, shape, m.n as usize, count));
@@ -240,12 +239,7 @@ fn answer(sheet: &[u8]) -> Result<[u64; 4], Refusal> {
 
 #[test]
 fn the_vectors_through_the_wrapper() {
-    let path = PathBuf::from(env!("CARGO_MANIFEST_DIR")).join("../vectors/sheets.txt");
-    let text = std::fs::read_to_string(path).unwrap();
-    for row in text.lines().filter(|l| !l.starts_with('#')) {
-        let fields: Vec<&str> = row.split('\t').collect();
-        let digits = fields.get(2).unwrap_or(&"");
-        let sheet: Vec<u8> = (0..digits.len() / 2).map(|i| u8::from_str_radix(&digits[2 * i..2 * i + 2], 16).unwrap()).collect();
-        assert_eq!(line(&sheet), fields[1], "{}", fields[0]);
+    for (name, printed, sheet) in sheet_vectors() {
+        assert_eq!(line(&sheet), printed, "{name}");
     }
 }

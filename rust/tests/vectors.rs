@@ -2,16 +2,10 @@
 
 mod common;
 
-use common::{check_add, check_nearest, check_open, junk, measures};
+use common::{check_add, check_nearest, check_open, junk, measures, sheet_vectors, vectors};
 use silkendoz::model::sheet::program_line;
 use silkendoz::model::tables::needs;
-use silkendoz::model::{gaps, runs, scatter, sum, Figure, Kind, Library, Trace};
-use std::path::PathBuf;
-
-fn vectors(name: &str) -> String {
-    let path = PathBuf::from(env!("CARGO_MANIFEST_DIR")).join("../vectors").join(name);
-    std::fs::read_to_string(&path).unwrap_or_else(|e| panic!("{}: {e}", path.display()))
-}
+use silkendoz::model::{gaps, runs, scatter, sum, width, Figure, Kind, Library, Trace};
 
 /// Every number of a line, in order; a number's sign stands right before it.
 fn numbers(line: &str) -> Vec<i128> {
@@ -72,7 +66,7 @@ impl Vector {
                 let run = runs(&library.nodes[node].ends())[segment];
                 let part = &query[run.0 - 1..run.1];
                 let (g, h) = gaps(s, sum(part), scatter(part));
-                let w = (run.1 - run.0 + 1) as i128;
+                let w = width(run);
                 let term = (g * g + h * h + w - 1) / w;
                 let ranges = [s.least_sum, s.greatest_sum, s.least_scatter, s.greatest_scatter];
                 says(&[&[run.0 as i128, run.1 as i128], &ranges[..], &[sum(part), scatter(part), g, h, term]].concat());
@@ -137,17 +131,11 @@ fn libraries_and_the_calls() {
     }
 }
 
-fn bytes(hexadecimal: &str) -> Vec<u8> {
-    (0..hexadecimal.len() / 2).map(|i| u8::from_str_radix(&hexadecimal[2 * i..2 * i + 2], 16).unwrap()).collect()
-}
-
 #[test]
 fn sheets_and_the_model() {
-    let mut seen = 0;
-    for line in vectors("sheets.txt").lines().filter(|l| !l.starts_with('#')) {
-        let fields: Vec<&str> = line.split('\t').collect();
-        assert_eq!(program_line(&bytes(fields.get(2).unwrap_or(&""))), fields[1], "{}", fields[0]);
-        seen += 1;
+    let list = sheet_vectors();
+    assert!(list.len() >= 188);
+    for (name, printed, sheet) in list {
+        assert_eq!(program_line(&sheet), printed, "{name}");
     }
-    assert!(seen >= 188);
 }

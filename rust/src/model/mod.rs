@@ -153,6 +153,11 @@ pub fn runs(ends: &[usize]) -> Vec<(usize, usize)> {
         .collect()
 }
 
+/// How many samples a run has.
+pub fn width(run: (usize, usize)) -> i128 {
+    (run.1 - run.0 + 1) as i128
+}
+
 fn part(trace: &[i16], run: (usize, usize)) -> &[i16] {
     &trace[run.0 - 1..run.1]
 }
@@ -194,9 +199,8 @@ pub fn spread(ends: &[usize], traces: &[&[i16]]) -> i128 {
         .map(|run| {
             let sums = figures(Figure::Sum, run, traces);
             let scatters = figures(Figure::Scatter, run, traces);
-            let w = (run.1 - run.0 + 1) as i128;
             let term = (greatest(&sums) - least(&sums)).pow(2) + greatest(&scatters);
-            term.div_euclid(w)
+            term.div_euclid(width(run))
         })
         .sum()
 }
@@ -383,40 +387,68 @@ impl Library {
 
     /// "The node's own bound totals (g² + h²) / w, each rounded up."
     pub fn own_bound(&self, node: usize, query: &[i16]) -> i128 {
+        self.total(node, query, |segment, w, t, u| {
+            let (g, h) = gaps(segment, t, u);
+            -(-(g * g + h * h)).div_euclid(w)
+        })
+    }
+
+    /// Document 02, §10: "A node's upper figure totals, per segment, (G² + (ceiling root of greatest scatter + ceiling root of U)²) / w rounded down, with
+    /// G the larger distance from t to the least or greatest sum"
+    pub fn own_upper(&self, node: usize, query: &[i16]) -> i128 {
+        self.total(node, query, |segment, w, t, u| {
+            let g = (t - segment.least_sum).abs().max((t - segment.greatest_sum).abs());
+            let h = ceiling_root(segment.greatest_scatter) + ceiling_root(u);
+            (g * g + h * h).div_euclid(w)
+        })
+    }
+
+    /// The total over a node's segments of a term of the segment, its width w, and the query's sum t and scatter U on it.
+    fn total(&self, node: usize, query: &[i16], term: impl Fn(&Segment, i128, i128, i128) -> i128) -> i128 {
         let node = &self.nodes[node];
-        runs(&node.ends())
-            .into_iter()
-            .zip(&node.segments)
-            .map(|(run, segment)| {
-                let w = (run.1 - run.0 + 1) as i128;
-                let (g, h) = gaps(segment, sum(part(query, run)), scatter(part(query, run)));
-                -(-(g * g + h * h)).div_euclid(w)
-            })
-            .sum()
+        let terms = runs(&node.ends()).into_iter().zip(&node.segments).map(|(run, segment)| {
+            let run_of_query = part(query, run);
+            term(segment, width(run), sum(run_of_query), scatter(run_of_query))
+        });
+        terms.sum()
     }
 
     /// "A node's bound is the greatest own bound from node 0 down to it."
     pub fn bounds(&self, query: &[i16]) -> Vec<i128> {
-        let mut bounds: Vec<i128> = (0..self.nodes.len()).map(|j| self.own_bound(j, query)).collect();
+        self.down_the_tree((0..self.nodes.len()).map(|j| self.own_bound(j, query)).collect(), i128::max)
+    }
+
+    /// Document 02, §10: "the smallest on the path counts"
+    pub fn uppers(&self, query: &[i16]) -> Vec<i128> {
+        self.down_the_tree((0..self.nodes.len()).map(|j| self.own_upper(j, query)).collect(), i128::min)
+    }
+
+    /// Of each node's own figures, the one that counts among those from node 0 down to it.
+    fn down_the_tree(&self, mut figures: Vec<i128>, counts: fn(i128, i128) -> i128) -> Vec<i128> {
         for j in 0..self.nodes.len() {
-            // children are numbered above their parent, so that a parent's bound stands when its children's are taken
+            // children are numbered above their parent, so that a parent's figure stands when its children's are taken
             if let Kind::Inner { left, right, .. } = self.nodes[j].kind {
-                bounds[left] = bounds[left].max(bounds[j]);
-                bounds[right] = bounds[right].max(bounds[j]);
+                figures[left] = counts(figures[left], figures[j]);
+                figures[right] = counts(figures[right], figures[j]);
             }
         }
-        bounds
+        figures
+    }
+
+    /// All leaves "by bound, then by number".
+    pub fn reading_order(&self, bounds: &[i128]) -> Vec<usize> {
+        let mut order = self.leaves();
+        order.sort_by_key(|&j| (bounds[j], j));
+        order
     }
 
     /// "Leaves are read by bound, then by number, until the next bound is above the best distance found."
     pub fn nearest(&self, query: &[i16]) -> Option<Match> {
         let bounds = self.bounds(query);
-        let mut order = self.leaves();
-        order.sort_by_key(|&j| (bounds[j], j));
         let mut best: Option<(i128, usize)> = None;
         let mut trail = Vec::new();
         let mut read = 0;
-        for leaf in order {
+        for leaf in self.reading_order(&bounds) {
             if best.is_some_and(|(d, _)| bounds[leaf] > d) {
                 break;
             }

@@ -47,6 +47,11 @@ pub fn write(m: Measures, traces: &[Trace]) -> Vec<u8> {
     sheet
 }
 
+/// n, capacity and leaf size as a sheet's first block has them, if there are such bytes.
+pub fn measures(bytes: &[u8]) -> Option<Measures> {
+    (bytes.len() >= 14).then(|| Measures { n: field(bytes, 8), capacity: field(bytes, 10), leaf_size: field(bytes, 12) })
+}
+
 /// The measures and traces of a sheet, or the refusal: 8; 9 over all blocks; 10.
 pub fn read(bytes: &[u8]) -> Result<(Measures, Vec<Trace>), Refused> {
     if bytes.is_empty() || !bytes.len().is_multiple_of(512) || bytes.len() / 512 > 4146 {
@@ -60,7 +65,7 @@ pub fn read(bytes: &[u8]) -> Result<(Measures, Vec<Trace>), Refused> {
         }
     }
     let head = blocks[0];
-    let m = Measures { n: field(head, 8), capacity: field(head, 10), leaf_size: field(head, 12) };
+    let m = measures(head).expect("a block is longer than that");
     let count = field(head, 14);
     if &head[4..8] != b"TRCL" || !m.in_range() || count > m.capacity || blocks.len() != blocks_needed(count, m.n) {
         return Err((10, 0));

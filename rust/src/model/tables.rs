@@ -1,13 +1,22 @@
 //! The lent tables, read by `docs/LAYOUT.md`: what they stand for, whether they are well formed, and what document 01's table refuses.
 
 use super::sheet;
-use super::{Figure, Kind, Library, Measures, Node, Refused, Segment, Test, Trace};
+use super::{runs, width, Figure, Kind, Library, Measures, Node, Refused, Segment, Test, Trace};
 
 /// Fields of the control record.
 pub const CONTROL_FIELDS: usize = 5;
 
 /// Places of a node's record.
 pub const RECORD_PLACES: usize = 87;
+
+/// Where a record has the first and the last sample of its test's run, and its threshold.
+pub const RUN: [usize; 2] = [4, 5];
+pub const THRESHOLD: usize = 6;
+
+/// Where a record has a segment's right end; its figures stand behind it.
+pub fn segment_place(segment: usize) -> usize {
+    7 + 5 * segment
+}
 
 /// The five lent tables.
 #[derive(Clone, Debug, PartialEq, Eq, Default)]
@@ -27,6 +36,16 @@ pub struct Lengths {
     pub nodes: usize,
     pub links: usize,
     pub work: usize,
+}
+
+/// The tables' names, in the order in which they are lent.
+pub const TABLES: [&str; 5] = ["control", "samples", "nodes", "links", "work"];
+
+impl Lengths {
+    /// The lengths in the order of [`TABLES`].
+    pub fn each(&mut self) -> [&mut usize; 5] {
+        [&mut self.control, &mut self.samples, &mut self.nodes, &mut self.links, &mut self.work]
+    }
 }
 
 /// "A capacity of c needs c × n samples, 2c − 1 node records, c links, one a trace, .. and 2c − 1 places of search work."
@@ -64,50 +83,50 @@ impl Tables {
 
     /// The library that well-formed tables hold; nothing if they are not well formed. The tables have the places that their measures need.
     pub fn library(&self) -> Option<Library> {
+        let rules = [figures_in_limits, tests_in_limits, each_a_child_once, ends_include_the_parents, each_trace_in_one_leaf];
+        self.recorded().filter(|library| rules.iter().all(|rule| rule(library)))
+    }
+
+    /// The library as the tables record it, its figures and tests whatever they are; nothing if nodes and lists of traces can't be followed.
+    pub fn recorded(&self) -> Option<Library> {
         let measures = self.measures();
         let (k, m) = (usize::from(self.control[3]), usize::from(self.control[4]));
         let (n, c) = (measures.n as usize, measures.capacity as usize);
         // "trace count at most capacity; no node exactly when no trace"; with one trace or more in each leaf there are at most 2c − 1 nodes
-        if k > c || (k == 0) != (m == 0) || m > 2 * c - 1 {
+        if k > c || (k == 0) != (m == 0) || m > (2 * c).saturating_sub(1) {
             return None;
         }
         let traces: Vec<Trace> = (0..k).map(|t| self.samples[t * n..(t + 1) * n].to_vec()).collect();
         let mut nodes = Vec::new();
         for j in 0..m {
-            nodes.push(Node { segments: self.segments(j, n)?, kind: self.kind(j, n, k, m)? });
+            nodes.push(Node { segments: self.segments(j, n)?, kind: self.kind(j, k, m)? });
         }
-        let library = Library { measures, traces, nodes };
-        (each_a_child_once(&library) && ends_include_the_parents(&library) && each_trace_in_one_leaf(&library)).then_some(library)
+        Some(Library { measures, traces, nodes })
     }
 
-    /// "at most 16 ends, rising, last n"; "least ≤ greatest; sums within w × 32,768 either side of 0, scatters 0 to w² × 2^30"
+    /// "at most 16 ends, rising, last n"
     fn segments(&self, j: usize, n: usize) -> Option<Vec<Segment>> {
         let record = self.record(j);
         let q = record[1];
         if !(1..=16).contains(&q) {
             return None;
         }
-        let mut before: i128 = 0;
+        let mut before = 0;
         let mut list = Vec::new();
         for i in 0..q as usize {
-            let [end, least_sum, greatest_sum, least_scatter, greatest_scatter] = [0, 1, 2, 3, 4].map(|f| i128::from(record[7 + 5 * i + f]));
-            if end <= before || end > n as i128 {
+            let [end, figures @ ..] = [0, 1, 2, 3, 4].map(|f| record[segment_place(i) + f]);
+            if end <= before || end > n as i64 {
                 return None;
             }
-            let w = end - before;
-            let sums = -w * 32_768 <= least_sum && least_sum <= greatest_sum && greatest_sum <= w * 32_768;
-            let scatters = 0 <= least_scatter && least_scatter <= greatest_scatter && greatest_scatter <= w * w * (1 << 30);
-            if !sums || !scatters {
-                return None;
-            }
+            let [least_sum, greatest_sum, least_scatter, greatest_scatter] = figures.map(i128::from);
             list.push(Segment { end: end as usize, least_sum, greatest_sum, least_scatter, greatest_scatter });
             before = end;
         }
-        (before == n as i128).then_some(list)
+        (before == n as i64).then_some(list)
     }
 
     /// "every kind field a value that its layout names"
-    fn kind(&self, j: usize, n: usize, k: usize, m: usize) -> Option<Kind> {
+    fn kind(&self, j: usize, k: usize, m: usize) -> Option<Kind> {
         let record = self.record(j);
         let figure = match record[0] {
             0 => return self.leaf(record[2], k).map(Kind::Leaf),
@@ -118,18 +137,9 @@ impl Tables {
         // "inner children numbered above their parent", and below the node count: they are nodes
         let child = |x: i64| (j as i64 + 1..m as i64).contains(&x).then_some(x as usize);
         let (left, right) = (child(record[2])?, child(record[3])?);
-        // "T between twice those limits, on a run inside 1 to n"
-        let (first, last, threshold) = (record[4], record[5], i128::from(record[6]));
-        if first < 1 || last < first || last > n as i64 {
-            return None;
-        }
-        let w = i128::from(last - first + 1);
-        let limits = match figure {
-            Figure::Sum => -2 * w * 32_768..=2 * w * 32_768,
-            Figure::Scatter => 0..=2 * w * w * (1 << 30),
-        };
-        let test = Test { figure, first: first as usize, last: last as usize, threshold };
-        limits.contains(&threshold).then_some(Kind::Inner { test, left, right })
+        // a run that begins or ends below 0 is no run of samples
+        let [first, last] = RUN.map(|place| usize::try_from(record[place]).ok());
+        Some(Kind::Inner { test: Test { figure, first: first?, last: last?, threshold: record[THRESHOLD].into() }, left, right })
     }
 
     /// A leaf's list by the links: "every trace number in one leaf, rising there, no leaf empty".
@@ -184,7 +194,7 @@ impl Tables {
             for (i, s) in node.segments.iter().enumerate() {
                 let fields = [s.end as i128, s.least_sum, s.greatest_sum, s.least_scatter, s.greatest_scatter];
                 for (f, value) in fields.into_iter().enumerate() {
-                    record[7 + 5 * i + f] = value as i64;
+                    record[segment_place(i) + f] = value as i64;
                 }
             }
         }
@@ -268,6 +278,34 @@ pub fn judge_reading(l: Lengths, bytes: &[u8]) -> Result<Library, Refused> {
         return Err((2, 0));
     }
     Ok(Library::of(measures, &traces))
+}
+
+/// "least ≤ greatest; sums within w × 32,768 either side of 0, scatters 0 to w² × 2^30"
+fn figures_in_limits(library: &Library) -> bool {
+    let inside = |(run, s): ((usize, usize), &Segment)| {
+        let w = width(run);
+        let sums = -w * 32_768 <= s.least_sum && s.least_sum <= s.greatest_sum && s.greatest_sum <= w * 32_768;
+        let scatters = 0 <= s.least_scatter && s.least_scatter <= s.greatest_scatter && s.greatest_scatter <= w * w * (1 << 30);
+        sums && scatters
+    };
+    library.nodes.iter().all(|node| runs(&node.ends()).into_iter().zip(&node.segments).all(inside))
+}
+
+/// "T between twice those limits, on a run inside 1 to n"
+fn tests_in_limits(library: &Library) -> bool {
+    library.nodes.iter().all(|node| match &node.kind {
+        Kind::Leaf(_) => true,
+        Kind::Inner { test, .. } => {
+            if test.first < 1 || test.last < test.first || test.last as u64 > library.measures.n {
+                return false;
+            }
+            let w = width((test.first, test.last));
+            match test.figure {
+                Figure::Sum => (-2 * w * 32_768..=2 * w * 32_768).contains(&test.threshold),
+                Figure::Scatter => (0..=2 * w * w * (1 << 30)).contains(&test.threshold),
+            }
+        }
+    })
 }
 
 /// "every node but 0 a child once"

@@ -1,18 +1,30 @@
 //! What several tests use: the calls on a set of tables, held to the model.
 #![allow(dead_code)]
 
-use silkendoz::calls::{self, Found, Lent};
+pub use silkendoz::lending::{add, nearest, open, read_sheet, write_sheet};
 use silkendoz::model::tables::{judge_opening, Lengths, Tables};
 use silkendoz::model::{Library, Match, Measures, Refused};
-use silkendoz::Refusal;
+use silkendoz::program::repository;
+use silkendoz::script::bytes;
 
 pub fn measures(n: usize, capacity: usize, leaf_size: usize) -> Measures {
     Measures { n: n as u64, capacity: capacity as u64, leaf_size: leaf_size as u64 }
 }
 
-/// Number and place.
-pub fn told<T>(answer: Result<T, Refusal>) -> Result<T, Refused> {
-    answer.map_err(|why| (why.number(), why.place()))
+/// A file of `vectors/`.
+pub fn vectors(name: &str) -> String {
+    let path = repository().join("vectors").join(name);
+    std::fs::read_to_string(&path).unwrap_or_else(|why| panic!("{}: {why}", path.display()))
+}
+
+/// `vectors/sheets.txt`: the name of each sheet, the line that the program prints of it, and its bytes.
+pub fn sheet_vectors() -> Vec<(String, String, Vec<u8>)> {
+    let row = |row: &str| {
+        let fields: Vec<&str> = row.split('\t').collect();
+        let sheet = bytes::parse(fields.get(2).unwrap_or(&"-")).expect("two digits a byte");
+        (fields[0].to_string(), fields[1].to_string(), sheet)
+    };
+    vectors("sheets.txt").lines().filter(|line| !line.starts_with('#')).map(row).collect()
 }
 
 /// Tables of these lengths with junk in every place.
@@ -28,45 +40,6 @@ pub fn junk(l: Lengths) -> Tables {
 
 pub fn longer(l: Lengths, by: usize) -> Lengths {
     Lengths { control: l.control + by, samples: l.samples + by, nodes: l.nodes + by, links: l.links + by, work: l.work + by }
-}
-
-// ---- the calls, lent the first so many places
-
-pub fn open(t: &mut Tables, l: Lengths, m: Measures) -> Result<(), Refused> {
-    told(calls::open(lent(t, l), m.n, m.capacity, m.leaf_size))
-}
-
-pub fn lent(t: &mut Tables, l: Lengths) -> Lent<'_> {
-    Lent {
-        control: &mut t.control[..l.control],
-        samples: &mut t.samples[..l.samples],
-        nodes: &mut t.nodes[..l.nodes],
-        links: &mut t.links[..l.links],
-        work: &mut t.work[..l.work],
-    }
-}
-
-pub fn add(t: &mut Tables, l: Lengths, trace: &[i16]) -> Result<u64, Refused> {
-    told(calls::add(
-        &mut t.control[..l.control],
-        &mut t.samples[..l.samples],
-        &mut t.nodes[..l.nodes],
-        &mut t.links[..l.links],
-        &t.work[..l.work],
-        trace,
-    ))
-}
-
-pub fn nearest(t: &mut Tables, l: Lengths, trail: &mut [u16], query: &[i16]) -> Result<Found, Refused> {
-    told(calls::nearest(
-        &t.control[..l.control],
-        &t.samples[..l.samples],
-        &t.nodes[..l.nodes],
-        &t.links[..l.links],
-        &mut t.work[..l.work],
-        trail,
-        query,
-    ))
 }
 
 // ---- each call held to the model: the answer, and every place
@@ -163,23 +136,11 @@ fn unneeded_stay(before: &Tables, after: &Tables, m: Measures) {
 pub fn check_scan(library: &Library, query: &[i16], found: &Match) {
     assert_eq!(silkendoz::model::scan(&library.traces, query), Some((found.trace, found.distance)));
     let bounds = library.bounds(query);
-    let read: Vec<usize> = {
-        let mut within: Vec<usize> = library.leaves().into_iter().filter(|&j| bounds[j] <= found.distance).collect();
-        within.sort_by_key(|&j| (bounds[j], j));
-        within
-    };
+    let read: Vec<usize> = library.reading_order(&bounds).into_iter().filter(|&j| bounds[j] <= found.distance).collect();
     assert_eq!(found.trail, read, "the leaves read are those with a bound at most the distance");
 }
 
 // ---- sheets
-
-pub fn write_sheet(t: &Tables, l: Lengths, sheet: &mut [u8]) -> Result<u64, Refused> {
-    told(calls::write_sheet(&t.control[..l.control], &t.samples[..l.samples], &t.nodes[..l.nodes], &t.links[..l.links], &t.work[..l.work], sheet))
-}
-
-pub fn read_sheet(t: &mut Tables, l: Lengths, sheet: &[u8]) -> Result<(), Refused> {
-    told(calls::read_sheet(lent(t, l), sheet))
-}
 
 /// The answer, and every byte of the lent sheet: those behind the needed blocks stay, and a refusal leaves all.
 pub fn check_write(t: &Tables, l: Lengths, sheet: &mut [u8]) -> Result<u64, Refused> {

@@ -1,0 +1,43 @@
+//! The calls on a memory, each lent the first so many places of its tables, as tests and the script driver make them.
+
+use crate::calls::{self, Found, Lent};
+use crate::model::tables::{Lengths, Tables};
+use crate::model::{Measures, Refused};
+use crate::Refusal;
+
+/// Number and place.
+fn told<T>(answer: Result<T, Refusal>) -> Result<T, Refused> {
+    answer.map_err(|why| (why.number(), why.place()))
+}
+
+fn lent(t: &mut Tables, l: Lengths) -> Lent<'_> {
+    Lent {
+        control: &mut t.control[..l.control],
+        samples: &mut t.samples[..l.samples],
+        nodes: &mut t.nodes[..l.nodes],
+        links: &mut t.links[..l.links],
+        work: &mut t.work[..l.work],
+    }
+}
+
+pub fn open(t: &mut Tables, l: Lengths, m: Measures) -> Result<(), Refused> {
+    told(calls::open(lent(t, l), m.n, m.capacity, m.leaf_size))
+}
+
+pub fn add(t: &mut Tables, l: Lengths, trace: &[i16]) -> Result<u64, Refused> {
+    let t = lent(t, l);
+    told(calls::add(t.control, t.samples, t.nodes, t.links, t.work, trace))
+}
+
+pub fn nearest(t: &mut Tables, l: Lengths, trail: &mut [u16], query: &[i16]) -> Result<Found, Refused> {
+    let t = lent(t, l);
+    told(calls::nearest(t.control, t.samples, t.nodes, t.links, t.work, trail, query))
+}
+
+pub fn write_sheet(t: &Tables, l: Lengths, sheet: &mut [u8]) -> Result<u64, Refused> {
+    told(calls::write_sheet(&t.control[..l.control], &t.samples[..l.samples], &t.nodes[..l.nodes], &t.links[..l.links], &t.work[..l.work], sheet))
+}
+
+pub fn read_sheet(t: &mut Tables, l: Lengths, sheet: &[u8]) -> Result<(), Refused> {
+    told(calls::read_sheet(lent(t, l), sheet))
+}

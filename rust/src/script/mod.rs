@@ -1,0 +1,157 @@
+//! Plays scripts of calls, a line a call, by the protocol of `vectors/PROTOCOL.md`.
+//!
+//! Calls are made over lent tables, and what no reply shows is held on the way: a [`Session`] panics if a call writes a place that it may not write
+//! (`memory.rs`). What is looked at between the calls is worked out by the model from what the tables record (`looking.rs`).
+//!
+//! ```
+//! use silkendoz::script::Session;
+//!
+//! let mut session = Session::new();
+//! assert_eq!(session.play("open 1 8 2").as_deref(), Some("done"));
+//! assert_eq!(session.play("add -1").as_deref(), Some("added 0"));
+//! assert_eq!(session.play("match 4 | trail=0").as_deref(), Some("refused 7 0"));
+//! assert_eq!(session.play("match 4").as_deref(), Some("matched 0 25 1 1 trail 0"));
+//! assert_eq!(session.play("2 match 4").as_deref(), Some("refused 3 0"));
+//! assert_eq!(session.play("# a comment"), None);
+//! ```
+//!
+//! A new call gets its form over a memory in [`crate::lending`], a function here and a row of `LINES`. The function takes its words from the line, lends
+//! an `Area` for each thing that the call fills, and says by an `Effect` what the call may do to the tables.
+
+pub mod bytes;
+mod line;
+mod looking;
+mod memory;
+
+use crate::lending;
+use crate::model::{sheet, Measures, Refused};
+use line::Line;
+use memory::{Area, Effect, Memory};
+use std::fmt::Display;
+
+/// How many of document 02's requests have landed.
+pub const STAGE: usize = 0;
+
+/// Two libraries, of which nothing was opened at first: the factory's is the first, the bench's the second.
+pub struct Session {
+    libraries: [Memory; 2],
+}
+
+/// Why a line has not the reply of an accepted call.
+enum Unanswered {
+    /// The call refuses.
+    Refused(Refused),
+    /// The line is no call.
+    Malformed(String),
+}
+
+/// The line is no call, and why.
+fn malformed(why: impl Into<String>) -> Unanswered {
+    Unanswered::Malformed(why.into())
+}
+
+type Reply = Result<String, Unanswered>;
+
+/// A line's name, the keys that its suffix may have, and how it is played.
+struct Played {
+    name: &'static str,
+    keys: &'static [&'static str],
+    play: fn(&mut Session, Line<'_>) -> Reply,
+}
+
+const LINES: [Played; 9] = [
+    Played { name: "open", keys: &["short"], play: open },
+    Played { name: "add", keys: &["short"], play: add },
+    Played { name: "match", keys: &["short", "trail"], play: nearest },
+    Played { name: "write", keys: &["short", "sheet"], play: write },
+    Played { name: "read", keys: &["short"], play: read },
+    Played { name: "tree", keys: &[], play: looking::tree },
+    Played { name: "below", keys: &[], play: looking::below },
+    Played { name: "alter", keys: &[], play: looking::alter },
+    Played { name: "program", keys: &[], play: looking::program },
+];
+
+impl Session {
+    pub fn new() -> Session {
+        Session { libraries: [Memory::unopened(), Memory::unopened()] }
+    }
+
+    /// The reply to a line; an empty line and a comment have none.
+    pub fn play(&mut self, line: &str) -> Option<String> {
+        if line.is_empty() || line.starts_with('#') {
+            return None;
+        }
+        Some(match self.reply(line) {
+            Ok(reply) => reply,
+            Err(Unanswered::Refused((number, place))) => format!("refused {number} {place}"),
+            Err(Unanswered::Malformed(why)) => format!("error {why}"),
+        })
+    }
+
+    fn reply(&mut self, line: &str) -> Reply {
+        let line = Line::parse(line)?;
+        let unknown = || malformed(format!("{:?} is no call of stage {STAGE}", line.name));
+        let played = LINES.iter().find(|played| played.name == line.name).ok_or_else(unknown)?;
+        line.only(played.keys)?;
+        (played.play)(self, line)
+    }
+
+    /// The library that a line speaks to.
+    fn library(&mut self, line: &Line) -> &mut Memory {
+        &mut self.libraries[line.library]
+    }
+}
+
+impl Default for Session {
+    fn default() -> Session {
+        Session::new()
+    }
+}
+
+/// A word, and behind it what it lists.
+fn list(word: &str, items: impl IntoIterator<Item = impl Display>) -> String {
+    items.into_iter().fold(word.to_string(), |text, item| format!("{text} {item}"))
+}
+
+// ---- the calls
+
+fn open(session: &mut Session, mut line: Line<'_>) -> Reply {
+    let measures = Measures { n: line.next()?, capacity: line.next()?, leaf_size: line.next()? };
+    line.end()?;
+    session.library(&line).call(&line, Effect::Puts(measures), |t, l| lending::open(t, l, measures))?;
+    Ok("done".into())
+}
+
+fn add(session: &mut Session, mut line: Line<'_>) -> Reply {
+    let trace: Vec<i16> = line.rest()?;
+    let number = session.library(&line).call(&line, Effect::Changes, |t, l| lending::add(t, l, &trace))?;
+    Ok(format!("added {number}"))
+}
+
+fn nearest(session: &mut Session, mut line: Line<'_>) -> Reply {
+    let query: Vec<i16> = line.rest()?;
+    let library = session.library(&line);
+    let mut trail = Area::of("trail", line.places("trail", library.leaves())?);
+    let answer = library.call(&line, Effect::Searches, |t, l| lending::nearest(t, l, trail.lent(), &query));
+    let found = trail.kept_if_refused(answer)?;
+    let read = list("trail", trail.filled(found.leaves));
+    Ok(format!("matched {} {} {} {} {read}", found.trace, found.distance, found.leaves, found.traces))
+}
+
+fn write(session: &mut Session, line: Line<'_>) -> Reply {
+    line.end()?;
+    let library = session.library(&line);
+    let (n, count) = (library.tables().measures().n, library.tables().control[3]);
+    let mut bytes = Area::of("sheet", line.places("sheet", 512 * sheet::blocks_needed(count.into(), n))?);
+    let answer = library.call(&line, Effect::Looks, |t, l| lending::write_sheet(t, l, bytes.lent()));
+    let blocks = bytes.kept_if_refused(answer)?;
+    Ok(format!("written {blocks} {}", bytes::told(bytes.filled(512 * blocks))))
+}
+
+fn read(session: &mut Session, mut line: Line<'_>) -> Reply {
+    let bytes = line.bytes()?;
+    line.end()?;
+    let measures = sheet::measures(&bytes).unwrap_or(Measures { n: 0, capacity: 0, leaf_size: 0 });
+    session.library(&line).call(&line, Effect::Puts(measures), |t, l| lending::read_sheet(t, l, &bytes))?;
+    Ok("done".into())
+}

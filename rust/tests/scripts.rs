@@ -1,0 +1,148 @@
+//! Whole scripts of calls with the replies of another implementation: those of `vectors/` that hold at this stage, and a few lines of the protocol that no
+//! file has. What no reply shows is held by the session itself.
+
+mod common;
+
+use common::vectors;
+use silkendoz::program;
+use silkendoz::script::{Session, STAGE};
+
+/// A script from a file of vectors: its calls, each with the reply.
+struct Case {
+    stage: usize,
+    name: String,
+    lines: Vec<(String, String)>,
+}
+
+/// The cases of a file. A comment `# stage N` says from which stage on the cases behind it hold.
+fn cases(file: &str) -> Vec<Case> {
+    let mut stage = 0;
+    let mut list: Vec<Case> = Vec::new();
+    for line in vectors(file).lines() {
+        if let Some(rest) = line.strip_prefix("# stage ") {
+            stage = rest.split(' ').next().and_then(|word| word.parse().ok()).expect("a stage is a number");
+        } else if let Some(name) = line.strip_prefix("case ") {
+            list.push(Case { stage, name: name.into(), lines: Vec::new() });
+        } else if let Some(call) = line.strip_prefix("> ") {
+            list.last_mut().expect("a case first").lines.push((call.into(), String::new()));
+        } else if let Some(reply) = line.strip_prefix("< ") {
+            list.last_mut().and_then(|case| case.lines.last_mut()).expect("a call first").1 = reply.into();
+        } else {
+            assert!(line.is_empty() || line.starts_with('#'), "{file}: {line}");
+        }
+    }
+    list
+}
+
+/// Plays the cases that hold at this stage; so many there are at least.
+fn play(file: &str, at_least: usize) {
+    let held: Vec<Case> = cases(file).into_iter().filter(|case| (0..=STAGE).contains(&case.stage)).collect();
+    assert!(held.len() >= at_least, "{file}: {} cases", held.len());
+    for case in held {
+        // seen if a call breaks a rule
+        println!("{file}: case {}", case.name);
+        let mut session = Session::new();
+        for (call, reply) in &case.lines {
+            assert_eq!(session.play(call).as_ref(), Some(reply), "{file}: case {}: {call}", case.name);
+        }
+    }
+}
+
+#[test]
+fn altered_tables() {
+    play("altered-00.txt", 30);
+}
+
+/// A script of lines and replies.
+fn says(lines: &[(&str, &str)]) {
+    let mut session = Session::new();
+    for (line, reply) in lines {
+        assert_eq!(session.play(line).as_deref(), Some(*reply), "{line}");
+    }
+}
+
+#[test]
+fn two_libraries() {
+    says(&[
+        ("match 1 | short=samples", "refused 3 0"),
+        ("match 1 | short=control,work", "refused 2 0"),
+        ("tree", "tree 0"),
+        ("open 4 8 2 | short=links", "refused 2 0"),
+        ("open 257 8 2", "refused 1 0"),
+        ("open 4 8 2", "done"),
+        ("2 add 1 1 1 1", "refused 3 0"),
+        ("2 open 1 8 2", "done"),
+        ("add 0 0 0 0", "added 0"),
+        ("add 4 4 4 4", "added 1"),
+        ("2 add -1", "added 0"),
+        ("add 0 8 0 8", "added 2"),
+        ("match 2 2 2 2", "matched 0 16 2 3 trail 1 2"),
+        ("match 2 2 2 2 | trail=1", "refused 7 0"),
+        ("2 match 3 | trail=9", "matched 0 16 1 1 trail 0"),
+        (
+            "tree",
+            "tree 3 ; 0 inner ends 4 sums 0:16 scatters 0:256 run 1 4 figure sum T 16 children 1 2 ; 1 leaf ends 4 sums 0:0 scatters 0:0 traces 0 ; \
+                  2 leaf ends 4 sums 16:16 scatters 0:256 traces 1 2",
+        ),
+        ("below 1 1 1 1", "below 1:4:4 2:36:100"),
+        ("2 tree", "tree 1 ; 0 leaf ends 1 sums -1:-1 scatters 0:0 traces 0"),
+    ]);
+}
+
+/// Document 01's sheet of one trace: written, read into the other library in both forms of bytes, torn, and given to the program.
+#[test]
+fn sheets() {
+    let sheet = "000001005452434c010008000200010000*494.520801000200ff*2.00*504.fc0a";
+    says(&[
+        ("open 1 8 2", "done"),
+        ("add -1", "added 0"),
+        ("write", &format!("written 2 {}", sheet.replace("010000*494.", "0100*495.").replace("ff*2.", "ffff"))),
+        ("write | sheet=1023", "refused 8 0"),
+        (&format!("2 read {sheet} | short=work"), "refused 2 0"),
+        ("2 match 0", "refused 3 0"),
+        (&format!("2 read {sheet}"), "done"),
+        ("2 match 0", "matched 0 1 1 1 trail 0"),
+        ("2 read -", "refused 8 0"),
+        (&format!("2 read {}", sheet.replace("fc0a", "fc0b")), "refused 9 1"),
+        ("2 match 0", "matched 0 1 1 1 trail 0"),
+    ]);
+    assert!(program::path().exists(), "rt check or rt ci builds target/bin/match_sheet");
+    says(&[(&format!("program {sheet}"), "refused 6 0"), ("program -", "refused 8 0")]);
+}
+
+#[test]
+fn lines_that_are_no_calls() {
+    let mut session = Session::new();
+    for line in ["", "#", "# match 1"] {
+        assert_eq!(session.play(line), None);
+    }
+    assert_eq!(session.play("open 2 8 1").as_deref(), Some("done"));
+    assert_eq!(session.play("add 3 3").as_deref(), Some("added 0"));
+    for line in [
+        "nothing",
+        "open 1 8",
+        "open 1 8 1 1",
+        "open -1 8 1",
+        "add 32768 0",
+        "add 1  1",
+        "match 1 1 | sheet=3",
+        "match 1 1 | short=trail",
+        "read 0",
+        "write 1",
+        "tree 1",
+        "below 1",
+        "alter 1 0 least_sum 0",
+        "alter 0 1 least_sum 0",
+        "alter 0 0 least 0",
+        "alter 0 threshold 0",
+        "alter trace 1 1 0",
+        "alter trace 0 3 0",
+        "alter trace 0 1 40000",
+        "alter 0 0 least_sum 0 0",
+        "program 0",
+    ] {
+        let reply = session.play(line).expect("a reply");
+        assert!(reply.starts_with("error "), "{line}: {reply}");
+    }
+    assert_eq!(session.play("match 3 3").as_deref(), Some("matched 0 0 1 1 trail 0"));
+}

@@ -23,6 +23,15 @@ pub struct Found {
     pub traces: u64,
 }
 
+/// What a search for the k nearest answers: so many leaves and traces were read, and so many traces are listed. The leaves read are those at the beginning
+/// of the trail; the list begins with two places for each trace that is listed, its number and its distance.
+#[derive(Clone, Copy, Debug, PartialEq, Eq)]
+pub struct Listed {
+    pub leaves: u64,
+    pub traces: u64,
+    pub listed: u64,
+}
+
 // A slice goes as a pointer and then its length, as include/silkendoz.h says.
 extern "C" {
     fn silkendoz_open(
@@ -78,6 +87,29 @@ extern "C" {
         out: *mut u64,
         out_len: usize,
     ) -> u64;
+
+    fn silkendoz_k_nearest(
+        control: *const u16,
+        control_len: usize,
+        samples: *const i16,
+        samples_len: usize,
+        nodes: *const i64,
+        nodes_len: usize,
+        links: *const u16,
+        links_len: usize,
+        work: *mut u64,
+        work_len: usize,
+        trail: *mut u16,
+        trail_len: usize,
+        list: *mut u64,
+        list_len: usize,
+        query: *const i16,
+        query_len: usize,
+        k: u64,
+        out: *mut u64,
+        out_len: usize,
+    ) -> u64;
+
     fn silkendoz_write_sheet(
         control: *const u16,
         control_len: usize,
@@ -171,6 +203,33 @@ pub fn nearest(
         out
     );
     answer(code, out).map(|[trace, distance, leaves, traces]| Found { trace, distance, leaves, traces })
+}
+
+/// Lists the k nearest traces, by distance, then number: two places of the list for each, its number and its distance. A library of fewer than k traces
+/// lists all it has; a list of fewer than 2 × k places is refused. The trail begins with the leaves read; the needed search work is left zero.
+#[allow(clippy::too_many_arguments)]
+pub fn k_nearest(
+    control: &[u16],
+    samples: &[i16],
+    nodes: &[i64],
+    links: &[u16],
+    work: &mut [u64],
+    trail: &mut [u16],
+    list: &mut [u64],
+    query: &[i16],
+    k: u64,
+) -> Result<Listed, Refusal> {
+    let mut out = [0; 3];
+    let code = call!(
+        silkendoz_k_nearest,
+        [
+            control => as_ptr, samples => as_ptr, nodes => as_ptr, links => as_ptr, work => as_mut_ptr,
+            trail => as_mut_ptr, list => as_mut_ptr, query => as_ptr
+        ],
+        [k],
+        out
+    );
+    answer(code, out).map(|[leaves, traces, listed]| Listed { leaves, traces, listed })
 }
 
 /// Writes the library as a sheet; the number of blocks is the answer.

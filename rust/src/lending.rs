@@ -1,6 +1,6 @@
 //! The calls on a memory, each lent the first so many places of its tables, as tests and the script driver make them.
 
-use crate::calls::{self, Found, Lent};
+use crate::calls::{self, Found, Lent, Listed};
 use crate::model::tables::{Lengths, Tables};
 use crate::model::{Measures, Refused};
 use crate::Refusal;
@@ -32,6 +32,11 @@ pub fn add(t: &mut Tables, l: Lengths, trace: &[i16]) -> Result<u64, Refused> {
 pub fn nearest(t: &mut Tables, l: Lengths, trail: &mut [u16], query: &[i16]) -> Result<Found, Refused> {
     let t = lent(t, l);
     told(calls::nearest(t.control, t.samples, t.nodes, t.links, t.work, trail, query))
+}
+
+pub fn k_nearest(t: &mut Tables, l: Lengths, trail: &mut [u16], list: &mut [u64], query: &[i16], k: u64) -> Result<Listed, Refused> {
+    let t = lent(t, l);
+    told(calls::k_nearest(t.control, t.samples, t.nodes, t.links, t.work, trail, list, query, k))
 }
 
 pub fn write_sheet(t: &Tables, l: Lengths, sheet: &mut [u8]) -> Result<u64, Refused> {

@@ -33,7 +33,7 @@ mod refusal;
 pub mod scan;
 pub mod script;
 
-pub use library::{Nearest, TraceLibrary};
+pub use library::{KNearest, Nearest, Neighbour, TraceLibrary};
 pub use refusal::Refusal;
 
 /// The Rust program of `docs/GUIDE.md`, as a test.

@@ -7,6 +7,9 @@ use crate::Refusal;
 const CONTROL_FIELDS: usize = 5;
 const RECORD_PLACES: usize = 87;
 
+/// As many traces as a search lists at most.
+const MOST_LISTED: usize = 16;
+
 /// Stored traces, and the tree by which the nearest is found.
 ///
 /// ```
@@ -44,6 +47,28 @@ pub struct Nearest {
     pub traces: usize,
     /// The leaves read, in order.
     pub trail: Vec<u16>,
+}
+
+/// The k nearest traces, and what was read to find them.
+#[derive(Clone, Debug, PartialEq, Eq)]
+pub struct KNearest {
+    /// The traces, by distance, then number.
+    pub list: Vec<Neighbour>,
+    /// How many leaves were read.
+    pub leaves: usize,
+    /// How many traces those leaves hold.
+    pub traces: usize,
+    /// The leaves read, in order.
+    pub trail: Vec<u16>,
+}
+
+/// A trace of a list, with its distance to the query.
+#[derive(Clone, Copy, Debug, PartialEq, Eq)]
+pub struct Neighbour {
+    /// The trace's number.
+    pub trace: usize,
+    /// The sum of squared differences.
+    pub distance: u64,
 }
 
 impl TraceLibrary {
@@ -94,6 +119,33 @@ impl TraceLibrary {
         let found = calls::nearest(&self.control, &self.samples, &self.nodes, &self.links, &mut self.work, &mut trail, query)?;
         trail.truncate(found.leaves as usize);
         Ok(Nearest { trace: found.trace as usize, distance: found.distance, leaves: found.leaves as usize, traces: found.traces as usize, trail })
+    }
+
+    /// Lists the k stored traces (1 to 16) that are nearest to a query of n samples, by distance, then number. A library of fewer traces lists all it has.
+    ///
+    /// ```
+    /// use silkendoz::{Neighbour, Refusal, TraceLibrary};
+    ///
+    /// let mut library = TraceLibrary::open(1, 8, 1)?;
+    /// for trace in [4, 0, 9] {
+    ///     library.add(&[trace])?;
+    /// }
+    /// let found = library.k_nearest(&[2], 2)?;
+    /// assert_eq!(found.list, [Neighbour { trace: 0, distance: 4 }, Neighbour { trace: 1, distance: 4 }]);
+    /// assert_eq!((found.leaves, found.traces), (2, 2));
+    /// assert_eq!(library.k_nearest(&[2], 16)?.list.len(), 3);
+    /// assert_eq!(library.k_nearest(&[2], 17), Err(Refusal::BadK));
+    /// # Ok::<(), Refusal>(())
+    /// ```
+    pub fn k_nearest(&mut self, query: &[i16], k: usize) -> Result<KNearest, Refusal> {
+        let mut trail = vec![0; self.capacity()];
+        // a larger k is refused before the list is looked at
+        let mut list = vec![0; 2 * k.min(MOST_LISTED)];
+        let found = calls::k_nearest(&self.control, &self.samples, &self.nodes, &self.links, &mut self.work, &mut trail, &mut list, query, k as u64)?;
+        trail.truncate(found.leaves as usize);
+        let listed = list.chunks_exact(2).take(found.listed as usize);
+        let list = listed.map(|record| Neighbour { trace: record[0] as usize, distance: record[1] }).collect();
+        Ok(KNearest { list, leaves: found.leaves as usize, traces: found.traces as usize, trail })
     }
 
     /// The library as a sheet: blocks of 512 bytes, to be stored or sent.

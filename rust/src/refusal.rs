@@ -2,7 +2,7 @@
 
 use std::fmt;
 
-/// A refusal, by document 01's word. A refused call leaves everything as it was.
+/// A refusal, by the word of documents 01 and 02. A refused call leaves everything as it was.
 ///
 /// ```
 /// use silkendoz::{Refusal, TraceLibrary};
@@ -26,7 +26,7 @@ pub enum Refusal {
     Full,
     /// 6: a match with no trace stored.
     Empty,
-    /// 7: trail shorter than the number of leaves.
+    /// 7: trail shorter than the number of leaves, or a list shorter than k.
     ShortTrail,
     /// 8: writing: below the need; reading: 0, not a multiple of 512, above 4,146 blocks.
     SheetLength,
@@ -34,6 +34,8 @@ pub enum Refusal {
     TornBlock(u64),
     /// 10: letters, measures, count above capacity, number of blocks, or a nonzero byte that must be 0.
     BadSheet,
+    /// 11: k outside 1 to 16.
+    BadK,
 }
 
 impl Refusal {
@@ -50,11 +52,12 @@ impl Refusal {
             8 => Refusal::SheetLength,
             9 => Refusal::TornBlock(place),
             10 => Refusal::BadSheet,
+            11 => Refusal::BadK,
             _ => return None,
         })
     }
 
-    /// The number in document 01's table.
+    /// The number in the table.
     pub fn number(self) -> u64 {
         match self {
             Refusal::Measure => 1,
@@ -67,6 +70,7 @@ impl Refusal {
             Refusal::SheetLength => 8,
             Refusal::TornBlock(_) => 9,
             Refusal::BadSheet => 10,
+            Refusal::BadK => 11,
         }
     }
 
@@ -78,7 +82,7 @@ impl Refusal {
         }
     }
 
-    /// The word in document 01's table.
+    /// The word in the table.
     pub fn word(self) -> &'static str {
         match self {
             Refusal::Measure => "measure",
@@ -91,6 +95,7 @@ impl Refusal {
             Refusal::SheetLength => "sheet length",
             Refusal::TornBlock(_) => "torn block",
             Refusal::BadSheet => "bad sheet",
+            Refusal::BadK => "bad k",
         }
     }
 }
@@ -104,10 +109,11 @@ impl fmt::Display for Refusal {
             Refusal::WrongTrace => "length not n",
             Refusal::Full => "count equals capacity",
             Refusal::Empty => "a match with no trace stored",
-            Refusal::ShortTrail => "trail shorter than the number of leaves",
+            Refusal::ShortTrail => "trail shorter than the number of leaves, or list shorter than k",
             Refusal::SheetLength => "a sheet of another length than it needs",
             Refusal::TornBlock(block) => return write!(f, "torn block: check, block number or kind wrong in block {block}"),
             Refusal::BadSheet => "letters, measures, counts or a byte that must be 0",
+            Refusal::BadK => "k outside 1 to 16",
         };
         write!(f, "{}: {why}", self.word())
     }
@@ -121,13 +127,13 @@ mod tests {
 
     #[test]
     fn numbers_go_both_ways() {
-        for number in 1..=10 {
+        for number in 1..=11 {
             let place = if number == 9 { 7 } else { 0 };
             let why = Refusal::from_number(number, place).unwrap();
             assert_eq!((why.number(), why.place()), (number, place));
             assert!(why.to_string().starts_with(why.word()));
         }
         assert_eq!(Refusal::from_number(0, 0), None);
-        assert_eq!(Refusal::from_number(11, 0), None);
+        assert_eq!(Refusal::from_number(12, 0), None);
     }
 }

@@ -60,7 +60,7 @@ mod tests {
             for n in [1, 2, 15, 16, 17, 256] {
                 let stored = traces(random, shape, n, 20);
                 let q = query(random, shape, n, &stored);
-                let expected = model::scan(&stored, &q).map(|(t, d)| (t, d as u64));
+                let expected = model::scan(&stored, &q).first().map(|&(t, d)| (t, d as u64));
                 assert_eq!(nearest(&stored.concat(), n, &q), expected);
                 assert_eq!(nearest_abandoning(&stored.concat(), n, &q), expected);
             }

@@ -2,7 +2,7 @@
 
 mod common;
 
-use common::{check_add, check_nearest, measures};
+use common::{check_add, check_k_nearest, check_nearest, measures};
 use silkendoz::model::tables::{Tables, RECORD_PLACES};
 use silkendoz::model::{runs, segments_of, width, Figure, Kind, Library, Node, Segment, Test, Trace};
 use silkendoz::random::{query, traces, Random, Shape, SHAPES};
@@ -155,6 +155,10 @@ fn follow(random: &mut Random, library: &Library, shape: Shape, queries: usize, 
         let q: Trace = query(random, shape, n, &library.traces);
         let mut trail = vec![1; library.leaves().len()];
         check_nearest(&mut t, l, &mut trail, &q).expect("nothing is refused");
+        t.work.iter_mut().for_each(|x| *x = random.word());
+        let k = 1 + random.below(16);
+        let mut list = vec![1; 2 * k];
+        check_k_nearest(&mut t, l, &mut trail, &mut list, &q, k as u64).expect("nothing is refused");
         t.work.iter_mut().for_each(|x| *x = random.word());
     }
     for _ in 0..more {

@@ -2,7 +2,7 @@
 
 mod common;
 
-use common::{check_add, check_nearest, measures};
+use common::{check_add, check_k_nearest, check_nearest, measures};
 use silkendoz::model::tables::{Tables, RECORD_PLACES};
 use silkendoz::model::{Library, Trace};
 use silkendoz::random::{query, traces, Random, Shape};
@@ -36,19 +36,19 @@ fn cases(random: &mut Random) -> Vec<Case> {
     ]
 }
 
-/// Both calls on the damaged tables, each from the same contents.
-fn both(damaged: &Tables, query: &[i16]) -> bool {
+/// The calls that test tables, each on the same damaged ones: whether they are spoiled, on which all agree.
+fn spoiled(damaged: &Tables, query: &[i16]) -> bool {
     let l = damaged.lengths();
     let mut t = damaged.clone();
-    let added = check_add(&mut t, l, query);
+    let added = check_add(&mut t, l, query).map(|_| ());
     t.clone_from(damaged);
     let mut trail = vec![7; 16];
-    let found = check_nearest(&mut t, l, &mut trail, query);
-    if let Err((3, 0)) = found {
-        assert_eq!(added.map(|_| ()), Err((3, 0)));
-        return true;
-    }
-    false
+    let found = check_nearest(&mut t, l, &mut trail, query).map(|_| ());
+    t.clone_from(damaged);
+    let listed = check_k_nearest(&mut t, l, &mut trail, &mut [7; 7], query, 3).map(|_| ());
+    let verdicts = [added, found, listed].map(|answer| answer == Err((3, 0)));
+    assert!(verdicts == [verdicts[0]; 3], "{verdicts:?}");
+    verdicts[0]
 }
 
 /// Values that are next to a limit, a count or what stood there.
@@ -71,7 +71,7 @@ fn node_fields() {
     let random = &mut Random::seeded(21);
     for case in cases(random) {
         let used = usize::from(case.tables.control[4]) * RECORD_PLACES;
-        let mut spoiled = 0;
+        let mut refused = 0;
         for place in 0..case.tables.nodes.len().min(used + RECORD_PLACES) {
             let was = case.tables.nodes[place];
             for value in values(was, &case.tables) {
@@ -81,10 +81,10 @@ fn node_fields() {
                 }
                 let mut damaged = case.tables.clone();
                 damaged.nodes[place] = value;
-                spoiled += usize::from(both(&damaged, &case.query));
+                refused += usize::from(spoiled(&damaged, &case.query));
             }
         }
-        assert!(case.tables.control[3] == 0 || spoiled > 100, "{:?}: only {spoiled} were spoiled", case.shape);
+        assert!(case.tables.control[3] == 0 || refused > 100, "{:?}: only {refused} were spoiled", case.shape);
     }
 }
 
@@ -96,21 +96,21 @@ fn control_links_and_samples() {
             for value in (0..300).chain([511, 512, 4095, 4096, 4097, 8191, 8192, 32_768, 65_535]) {
                 let mut damaged = case.tables.clone();
                 damaged.control[place] = value;
-                both(&damaged, &case.query);
+                spoiled(&damaged, &case.query);
             }
         }
         for place in 0..case.tables.links.len() {
             for value in (0..12).chain([63, 64, 4096, 65_535]) {
                 let mut damaged = case.tables.clone();
                 damaged.links[place] = value;
-                both(&damaged, &case.query);
+                spoiled(&damaged, &case.query);
             }
         }
         for place in 0..case.tables.samples.len() {
             for value in [0, 1, -1, i16::MIN, i16::MAX] {
                 let mut damaged = case.tables.clone();
                 damaged.samples[place] = value;
-                assert!(!both(&damaged, &case.query), "no rule speaks of samples");
+                assert!(!spoiled(&damaged, &case.query), "no rule speaks of samples");
             }
         }
     }
@@ -138,7 +138,7 @@ fn several_fields_at_once() {
                     _ => damaged.nodes[place] = *random.pick(&options),
                 }
             }
-            both(&damaged, &case.query);
+            spoiled(&damaged, &case.query);
         }
     }
 }
@@ -164,6 +164,7 @@ fn short_tables_and_the_order() {
                 let expected = if table != 0 && spoil == 1 { (3, 0) } else { (2, 0) };
                 assert_eq!(check_add(&mut t.clone(), short, &wrong).unwrap_err(), expected);
                 assert_eq!(check_nearest(&mut t, short, &mut [], &wrong).unwrap_err(), expected);
+                assert_eq!(check_k_nearest(&mut t, short, &mut [], &mut [], &wrong, 0).unwrap_err(), expected);
             }
         }
         // a wrong trace comes before full, empty and a short trail
@@ -172,6 +173,18 @@ fn short_tables_and_the_order() {
         assert_eq!(check_nearest(&mut case.tables.clone(), l, &mut [], &wrong).unwrap_err(), (4, 0));
         let expected = if case.tables.control[3] == 0 { (6, 0) } else { (7, 0) };
         assert_eq!(check_nearest(&mut case.tables.clone(), l, &mut [], &case.query).unwrap_err(), expected);
+        // a bad k comes before a wrong trace, and that before empty, a short trail and a short list
+        let order = |k: u64, query: &[i16], trail: usize, list: usize| {
+            check_k_nearest(&mut case.tables.clone(), l, &mut vec![7; trail], &mut vec![7; list], query, k).map(|_| ())
+        };
+        for k in [0, 17, 65_537, u64::MAX] {
+            assert_eq!(order(k, &wrong, 0, 0), Err((11, 0)));
+        }
+        assert_eq!(order(16, &wrong, 0, 0), Err((4, 0)));
+        assert_eq!(order(16, &case.query, 0, 32), Err(expected));
+        assert_eq!(order(16, &case.query, 16, 31), Err(expected));
+        assert_eq!(order(1, &case.query, 16, 1), Err(expected));
+        assert_eq!(order(16, &case.query, 16, 32), if case.tables.control[3] == 0 { Err((6, 0)) } else { Ok(()) });
     }
 }
 
@@ -186,6 +199,6 @@ fn a_node_that_is_its_own_child() {
         second[..RECORD_PLACES].copy_from_slice(first);
         t.nodes[..7].copy_from_slice(&[kind, 1, left, right, 1, 4, 0]);
         t.control[4] = 2;
-        assert!(both(&t, &[1, 1, 1, 1]), "{left} {right}");
+        assert!(spoiled(&t, &[1, 1, 1, 1]), "{left} {right}");
     }
 }

@@ -2,9 +2,9 @@
 
 mod common;
 
-use common::{check_add, check_nearest, check_open, check_scan, junk, longer, measures};
+use common::{check_add, check_k_nearest, check_list, check_nearest, check_open, check_scan, junk, longer, measures};
 use silkendoz::model::tables::{needs, Tables};
-use silkendoz::model::{Library, Measures, Trace};
+use silkendoz::model::{KNearest, Library, Measures, Trace};
 use silkendoz::random::{query, traces, Random, Shape, SHAPES};
 use silkendoz::TraceLibrary;
 
@@ -23,7 +23,7 @@ fn run_on(random: &mut Random, shape: Shape, stored: &[Trace], m: Measures, quer
         let library = check_add(&mut t, l, trace).expect("there is room");
         if k < 3 || random.once_in(8) {
             let q = query(random, shape, n, stored);
-            ask(&mut t, l, &library, &q);
+            ask(random, &mut t, l, &library, &q);
         }
     }
     // every place of the needed parts, the unused ones too, is what opening and adding leave
@@ -34,17 +34,26 @@ fn run_on(random: &mut Random, shape: Shape, stored: &[Trace], m: Measures, quer
     assert_eq!(held.nodes, laid.nodes);
     for _ in 0..queries {
         let q = query(random, shape, n, stored);
-        ask(&mut t, l, &library, &q);
+        ask(random, &mut t, l, &library, &q);
     }
     if stored.len() as u64 == m.capacity {
         assert_eq!(check_add(&mut t, l, &stored[0]).unwrap_err(), (5, 0));
     }
 }
 
-fn ask(t: &mut Tables, l: silkendoz::model::tables::Lengths, library: &Library, q: &[i16]) {
+/// A match, and a list whose first is its answer and which begins with every shorter one.
+fn ask(random: &mut Random, t: &mut Tables, l: silkendoz::model::tables::Lengths, library: &Library, q: &[i16]) {
     let mut trail = vec![0xbeef; library.leaves().len() + 1];
     let found = check_nearest(t, l, &mut trail, q).expect("a trace is stored");
     check_scan(library, q, &found);
+    let k = 1 + random.below(16);
+    let mut list = vec![0xbeef; 2 * k + random.below(4)];
+    let longer = check_k_nearest(t, l, &mut trail, &mut list, q, k as u64).expect("a trace is stored");
+    check_list(library, q, k, &longer);
+    assert_eq!(longer.list[0], (found.trace, found.distance));
+    let fewer = 1 + random.below(k);
+    let shorter = check_k_nearest(t, l, &mut trail, &mut list, q, fewer as u64).expect("a trace is stored");
+    assert!(longer.list.starts_with(&shorter.list) && longer.trail.starts_with(&shorter.trail));
 }
 
 #[test]
@@ -105,6 +114,10 @@ fn larger_libraries() {
             assert_eq!((found.trace, i128::from(found.distance)), (expected.trace, expected.distance));
             assert_eq!((found.leaves, found.traces, &trail), (expected.leaves, expected.traces, &expected.trail));
             check_scan(&model, &q, &expected);
+            let five = library.k_nearest(&q, 5).unwrap();
+            let list = five.list.iter().map(|near| (near.trace, near.distance.into())).collect();
+            let trail = five.trail.iter().map(|&x| x.into()).collect();
+            check_list(&model, &q, 5, &KNearest { list, leaves: five.leaves, traces: five.traces, trail });
         }
     }
 }
@@ -125,7 +138,7 @@ fn the_largest_library() {
     assert!(t == Tables::of(&library));
     for _ in 0..10 {
         let q = query(random, Shape::Walk, 256, &stored);
-        ask(&mut t, l, &library, &q);
+        ask(random, &mut t, l, &library, &q);
     }
     assert_eq!(common::add(&mut t, l, &stored[0]), Err((5, 0)));
 }

@@ -3,9 +3,9 @@
 
 mod common;
 
-use common::{check_add, check_nearest, check_open, junk, longer, measures};
+use common::{check_add, check_k_nearest, check_list, check_nearest, check_open, junk, longer, measures};
 use silkendoz::model::tables::{judge_opening, needs, Lengths, Tables};
-use silkendoz::model::{Library, Measures, Refused};
+use silkendoz::model::{Library, Measures, Refused, Trace};
 use silkendoz::random::{query, traces, uniform, Random, Shape, SHAPES};
 
 /// What is stored, by the calls' arguments alone.
@@ -32,13 +32,11 @@ impl Book {
     }
 
     fn judge_match(&self, l: Lengths, size: usize, trail: usize) -> Result<(), Refused> {
-        let library = self.short(l)?;
-        match () {
-            _ if size as u64 != library.measures.n => Err((4, 0)),
-            _ if library.traces.is_empty() => Err((6, 0)),
-            _ if trail < library.leaves().len() => Err((7, 0)),
-            _ => Ok(()),
-        }
+        self.short(l)?.judge_query(size, trail)
+    }
+
+    fn judge_k_nearest(&self, l: Lengths, size: usize, k: u64, trail: usize, list: usize) -> Result<(), Refused> {
+        self.short(l)?.judge_k(size, k, trail, list)
     }
 }
 
@@ -64,6 +62,7 @@ fn some_measures(random: &mut Random) -> Measures {
     m
 }
 
+const K_NEAREST_CALLS: usize = 4;
 const SHEET_CALLS: usize = 4;
 
 /// A writing, whose sheet is as the book's; or a reading of a sheet, sound or damaged.
@@ -106,10 +105,31 @@ fn sheet_step(random: &mut Random, shape: Shape, t: &mut Tables, book: &mut Book
     }
 }
 
+/// A query, of n samples or now and then not, and a trail, long enough or now and then not.
+fn some_query(random: &mut Random, shape: Shape, library: &Library) -> (Trace, Vec<u16>) {
+    let n = library.measures.n as usize;
+    let size = if random.once_in(10) { random.below(12) } else { n };
+    let q = if size == n { query(random, shape, n, &library.traces) } else { uniform(random, size, -9, 9) };
+    (q, vec![0xabcd; if random.once_in(4) { random.below(4) } else { 14 }])
+}
+
+/// The k nearest, of a k in range or not, in a list that is long enough or not.
+fn k_nearest_step(random: &mut Random, shape: Shape, t: &mut Tables, book: &mut Book, l: Lengths) {
+    let (q, mut trail) = some_query(random, shape, book.library());
+    let k = if random.once_in(6) { *random.pick(&[0, 17, 100, 65_536 + 1, u64::MAX]) } else { 1 + random.below(16) as u64 };
+    let mut list = vec![0xabcd; if random.once_in(6) { random.below(2 * k.min(16) as usize + 2) } else { 2 * k.min(16) as usize + random.below(3) }];
+    let judged = book.judge_k_nearest(l, q.len(), k, trail.len(), list.len());
+    let answer = check_k_nearest(t, l, &mut trail, &mut list, &q, k);
+    assert_eq!(answer.as_ref().map(|_| ()).map_err(|&e| e), judged);
+    if let Ok(found) = answer {
+        check_list(book.library(), &q, k as usize, &found);
+    }
+}
+
 fn step(random: &mut Random, shape: Shape, t: &mut Tables, book: &mut Book) {
     let l = lengths(random, t);
     let n = book.library().measures.n as usize;
-    match random.below(12 + SHEET_CALLS) {
+    match random.below(12 + K_NEAREST_CALLS + SHEET_CALLS) {
         0 => {
             let m = some_measures(random);
             let judged = judge_opening(l, m);
@@ -128,12 +148,11 @@ fn step(random: &mut Random, shape: Shape, t: &mut Tables, book: &mut Book) {
                 book.library().add(&trace);
             }
         }
-        12.. => sheet_step(random, shape, t, book, l),
+        12..=15 => k_nearest_step(random, shape, t, book, l),
+        16.. => sheet_step(random, shape, t, book, l),
         _ => {
-            let size = if random.once_in(10) { random.below(12) } else { n };
-            let q = if size == n { query(random, shape, n, &book.library().traces.clone()) } else { uniform(random, size, -9, 9) };
-            let mut trail = vec![0xabcd; if random.once_in(4) { random.below(4) } else { 14 }];
-            let judged = book.judge_match(l, size, trail.len());
+            let (q, mut trail) = some_query(random, shape, book.library());
+            let judged = book.judge_match(l, q.len(), trail.len());
             let answer = check_nearest(t, l, &mut trail, &q);
             assert_eq!(answer.as_ref().map(|_| ()).map_err(|&e| e), judged);
             if let Ok(found) = answer {

@@ -49,8 +49,20 @@ fn play(file: &str, at_least: usize) {
 }
 
 #[test]
+fn the_stage() {
+    play("stage-01.txt", 40);
+}
+
+#[test]
 fn altered_tables() {
     play("altered-00.txt", 30);
+    play("altered-01.txt", 30);
+}
+
+/// The smallest cases that tell two readings of document 02 apart.
+#[test]
+fn telling_cases() {
+    play("telling.txt", 10);
 }
 
 /// A script of lines and replies.

@@ -1,4 +1,4 @@
-//! Document 01 once more, word for word, in plain Rust: no lent table, no cleverness, numbers of 128 bits.
+//! Documents 01 and 02 once more, word for word, in plain Rust: no lent table, no cleverness, numbers of 128 bits.
 //!
 //! It shares no line with the proved code. Tests compare the two; where they differ, document 01 says who is right. [`tables`] reads the lent tables by
 //! the layout of `docs/LAYOUT.md` and says what document 01's table refuses of them; [`sheet`] has sheets and the line that the program prints.
@@ -266,6 +266,16 @@ pub struct Match {
     pub trail: Vec<usize>,
 }
 
+/// What a search for the k nearest answers, with its trail.
+#[derive(Clone, Debug, PartialEq, Eq)]
+pub struct KNearest {
+    /// Traces and distances.
+    pub list: Vec<(usize, i128)>,
+    pub leaves: usize,
+    pub traces: usize,
+    pub trail: Vec<usize>,
+}
+
 impl Library {
     /// "An empty library has no node".
     pub fn open(measures: Measures) -> Library {
@@ -442,26 +452,29 @@ impl Library {
         order
     }
 
-    /// "Leaves are read by bound, then by number, until the next bound is above the best distance found."
+    /// "Leaves are read by bound, then by number, until the next bound is above the best distance found." That is the search for one.
     pub fn nearest(&self, query: &[i16]) -> Option<Match> {
+        let KNearest { list, leaves, traces, trail } = self.k_nearest(query, 1);
+        list.first().map(|&(trace, distance)| Match { trace, distance, leaves, traces, trail })
+    }
+
+    /// Document 02, §1: "lists the k nearest traces by distance, then number; a smaller library lists all it has". "Leaves are read in the match's order,
+    /// with its trail and counts, until the next bound is above the k-th best distance read". "the list is the nearest of the traces read".
+    pub fn k_nearest(&self, query: &[i16], k: usize) -> KNearest {
         let bounds = self.bounds(query);
-        let mut best: Option<(i128, usize)> = None;
+        // distances and numbers, rising
+        let mut read: Vec<(i128, usize)> = Vec::new();
         let mut trail = Vec::new();
-        let mut read = 0;
         for leaf in self.reading_order(&bounds) {
-            if best.is_some_and(|(d, _)| bounds[leaf] > d) {
+            if k <= read.len() && bounds[leaf] > read[k - 1].0 {
                 break;
             }
             trail.push(leaf);
-            for &t in self.numbers(leaf) {
-                read += 1;
-                let found = (distance(&self.traces[t], query), t);
-                if best.is_none_or(|b| found < b) {
-                    best = Some(found);
-                }
-            }
+            read.extend(self.numbers(leaf).iter().map(|&t| (distance(&self.traces[t], query), t)));
+            read.sort();
         }
-        best.map(|(distance, trace)| Match { trace, distance, leaves: trail.len(), traces: read, trail })
+        let list = read.iter().take(k).map(|&(distance, trace)| (trace, distance)).collect();
+        KNearest { list, leaves: trail.len(), traces: read.len(), trail }
     }
 }
 
@@ -474,16 +487,11 @@ pub fn gaps(segment: &Segment, t: i128, u: i128) -> (i128, i128) {
     (g, below.max(above).max(0))
 }
 
-/// The nearest trace by reading them all: the least distance, the lowest number among equals.
-pub fn scan(traces: &[Trace], query: &[i16]) -> Option<(usize, i128)> {
-    let mut best: Option<(usize, i128)> = None;
-    for (t, trace) in traces.iter().enumerate() {
-        let d = distance(trace, query);
-        if best.is_none_or(|(_, b)| d < b) {
-            best = Some((t, d));
-        }
-    }
-    best
+/// Every trace with its distance, by distance, then number: the first is the nearest, the lowest number among equals.
+pub fn scan(traces: &[Trace], query: &[i16]) -> Vec<(usize, i128)> {
+    let mut all: Vec<(usize, i128)> = traces.iter().map(|trace| distance(trace, query)).enumerate().collect();
+    all.sort_by_key(|&(t, d)| (d, t));
+    all
 }
 
 #[cfg(test)]
@@ -522,6 +530,17 @@ mod tests {
         let pair = Library::of(Measures { n: 4, capacity: 2, leaf_size: 1 }, &[vec![1, 2, 1, 2], vec![2, 1, 2, 1]]);
         assert_eq!(pair.nodes.len(), 1);
         assert_eq!(distance(&[i16::MIN; 256], &[i16::MAX; 256]), 1_099_478_073_600);
+    }
+
+    #[test]
+    fn lists_of_the_examples() {
+        let library = example();
+        let found = |k| library.k_nearest(&[2, 2, 2, 2], k);
+        assert_eq!(found(1), KNearest { list: vec![(0, 16)], leaves: 2, traces: 3, trail: vec![1, 2] });
+        assert_eq!(found(2).list, [(0, 16), (1, 16)]);
+        assert_eq!(found(3).list, [(0, 16), (1, 16), (2, 80)]);
+        assert_eq!(found(16), found(3));
+        assert_eq!(library.k_nearest(&[4, 4, 4, 4], 2), KNearest { list: vec![(1, 0), (0, 64)], leaves: 2, traces: 3, trail: vec![2, 1] });
     }
 
     #[test]

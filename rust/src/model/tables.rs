@@ -232,15 +232,14 @@ impl Tables {
     /// A match: then 4, then 6, then 7.
     pub fn judge_match(&self, query: &[i16], trail: usize) -> Result<Library, Refused> {
         let library = self.judge_made()?;
-        if query.len() as u64 != library.measures.n {
-            return Err((4, 0));
-        }
-        if library.traces.is_empty() {
-            return Err((6, 0));
-        }
-        if trail < library.leaves().len() {
-            return Err((7, 0));
-        }
+        library.judge_query(query.len(), trail)?;
+        Ok(library)
+    }
+
+    /// The k nearest: "11 bad k, outside 1 to 16, after 3"; then as a match; "a list shorter than k is refused as 7". A list has two places a record.
+    pub fn judge_k_nearest(&self, query: &[i16], k: u64, trail: usize, list: usize) -> Result<Library, Refused> {
+        let library = self.judge_made()?;
+        library.judge_k(query.len(), k, trail, list)?;
         Ok(library)
     }
 
@@ -251,6 +250,31 @@ impl Tables {
             return Err((8, 0));
         }
         Ok(library)
+    }
+}
+
+/// What a search refuses by the library alone, once its tables are sound.
+impl Library {
+    /// 4, then 6, then 7.
+    pub fn judge_query(&self, length: usize, trail: usize) -> Result<(), Refused> {
+        match () {
+            _ if length as u64 != self.measures.n => Err((4, 0)),
+            _ if self.traces.is_empty() => Err((6, 0)),
+            _ if trail < self.leaves().len() => Err((7, 0)),
+            _ => Ok(()),
+        }
+    }
+
+    /// 11; then as above; then 7 for a list of fewer than k records.
+    pub fn judge_k(&self, length: usize, k: u64, trail: usize, list: usize) -> Result<(), Refused> {
+        if !(1..=16).contains(&k) {
+            return Err((11, 0));
+        }
+        self.judge_query(length, trail)?;
+        if ((list / 2) as u64) < k {
+            return Err((7, 0));
+        }
+        Ok(())
     }
 }
 

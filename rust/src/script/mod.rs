@@ -30,7 +30,7 @@ use memory::{Area, Effect, Memory};
 use std::fmt::Display;
 
 /// How many of document 02's requests have landed.
-pub const STAGE: usize = 0;
+pub const STAGE: usize = 1;
 
 /// Two libraries, of which nothing was opened at first: the factory's is the first, the bench's the second.
 pub struct Session {
@@ -59,12 +59,13 @@ struct Played {
     play: fn(&mut Session, Line<'_>) -> Reply,
 }
 
-const LINES: [Played; 9] = [
+const LINES: [Played; 10] = [
     Played { name: "open", keys: &["short"], play: open },
     Played { name: "add", keys: &["short"], play: add },
     Played { name: "match", keys: &["short", "trail"], play: nearest },
     Played { name: "write", keys: &["short", "sheet"], play: write },
     Played { name: "read", keys: &["short"], play: read },
+    Played { name: "near", keys: &["short", "trail", "list"], play: k_nearest },
     Played { name: "tree", keys: &[], play: looking::tree },
     Played { name: "below", keys: &[], play: looking::below },
     Played { name: "alter", keys: &[], play: looking::alter },
@@ -136,6 +137,19 @@ fn nearest(session: &mut Session, mut line: Line<'_>) -> Reply {
     let found = trail.kept_if_refused(answer)?;
     let read = list("trail", trail.filled(found.leaves));
     Ok(format!("matched {} {} {} {} {read}", found.trace, found.distance, found.leaves, found.traces))
+}
+
+fn k_nearest(session: &mut Session, mut line: Line<'_>) -> Reply {
+    let (k, query): (u64, Vec<i16>) = (line.next()?, line.rest()?);
+    let library = session.library(&line);
+    let mut trail = Area::of("trail", line.places("trail", library.leaves())?);
+    // a k above 16 is refused whatever the list
+    let mut records = Area::of("list", 2 * line.places("list", k.min(17) as usize)?);
+    let answer = library.call(&line, Effect::Searches, |t, l| lending::k_nearest(t, l, trail.lent(), records.lent(), &query, k));
+    let found = records.kept_if_refused(trail.kept_if_refused(answer))?;
+    let read = list("trail", trail.filled(found.leaves));
+    let listed = records.filled(2 * found.listed).chunks(2).map(|record| format!("{}:{}", record[0], record[1]));
+    Ok(format!("near {} {} {read} {}", found.leaves, found.traces, list("list", listed)))
 }
 
 fn write(session: &mut Session, line: Line<'_>) -> Reply {

@@ -1,9 +1,9 @@
 //! What several tests use: the calls on a set of tables, held to the model.
 #![allow(dead_code)]
 
-pub use silkendoz::lending::{add, nearest, open, read_sheet, write_sheet};
+pub use silkendoz::lending::{add, k_nearest, nearest, open, read_sheet, write_sheet};
 use silkendoz::model::tables::{judge_opening, Lengths, Tables};
-use silkendoz::model::{Library, Match, Measures, Refused};
+use silkendoz::model::{KNearest, Kind, Library, Match, Measures, Refused};
 use silkendoz::program::repository;
 use silkendoz::script::bytes;
 
@@ -111,15 +111,53 @@ pub fn check_nearest(t: &mut Tables, l: Lengths, trail: &mut [u16], query: &[i16
             let found = answer.expect("nothing is refused");
             let figures = [expected.trace as i128, expected.distance, expected.leaves as i128, expected.traces as i128];
             assert_eq!([found.trace, found.distance, found.leaves, found.traces].map(i128::from), figures);
-            let read: Vec<usize> = trail[..expected.leaves].iter().map(|&x| x.into()).collect();
-            assert_eq!(read, expected.trail);
-            assert_eq!(trail[expected.leaves..], before_trail[expected.leaves..]);
-            let mut after = before;
-            after.work[..2 * library.measures.capacity as usize - 1].fill(0);
-            assert_eq!(*t, after, "a match leaves the needed search work zero and all else as it was");
+            searched(&before, t, library.measures);
+            begins_with(trail, &before_trail, &expected.trail);
             Ok(expected)
         }
     }
+}
+
+pub fn check_k_nearest(t: &mut Tables, l: Lengths, trail: &mut [u16], list: &mut [u64], query: &[i16], k: u64) -> Result<KNearest, Refused> {
+    let (before, before_trail, before_list) = (t.clone(), trail.to_vec(), list.to_vec());
+    let answer = k_nearest(t, l, trail, list, query, k);
+    match before.first(l).judge_k_nearest(query, k, trail.len(), list.len()) {
+        Err(refused) => {
+            assert_eq!(answer, Err(refused));
+            assert_eq!(*t, before, "a refused search leaves everything");
+            assert_eq!((&*trail, &*list), (&before_trail[..], &before_list[..]));
+            Err(refused)
+        }
+        Ok(library) => {
+            let expected = library.k_nearest(query, k as usize);
+            let found = answer.expect("nothing is refused");
+            let figures = [expected.leaves as u64, expected.traces as u64, expected.list.len() as u64];
+            assert_eq!([found.leaves, found.traces, found.listed], figures);
+            searched(&before, t, library.measures);
+            begins_with(trail, &before_trail, &expected.trail);
+            let records: Vec<i128> = expected.list.iter().flat_map(|&(trace, distance)| [trace as i128, distance]).collect();
+            begins_with(list, &before_list, &records);
+            Ok(expected)
+        }
+    }
+}
+
+/// A call that takes a query leaves the needed search work zero and all else as it was.
+fn searched(before: &Tables, after: &Tables, m: Measures) {
+    let mut expected = before.clone();
+    expected.work[..silkendoz::model::tables::needs(m).work].fill(0);
+    assert_eq!(*after, expected, "a search leaves the needed search work zero and all else as it was");
+}
+
+/// What was lent begins with these; the places behind them stay.
+fn begins_with<T, E>(lent: &[T], before: &[T], with: &[E])
+where
+    T: Copy + PartialEq + std::fmt::Debug + Into<u64>,
+    E: Copy + TryInto<u64>,
+{
+    let filled: Vec<Option<u64>> = lent[..with.len()].iter().map(|&x| Some(x.into())).collect();
+    assert_eq!(filled, with.iter().map(|&x| x.try_into().ok()).collect::<Vec<_>>());
+    assert_eq!(lent[with.len()..], before[with.len()..]);
 }
 
 /// Places behind those that the measures need are as before.
@@ -131,13 +169,27 @@ fn unneeded_stay(before: &Tables, after: &Tables, m: Measures) {
     assert_eq!(before.links[need.links..], after.links[need.links..]);
 }
 
-/// The leaves of a library that calls made, below which the nearest trace is: no bound is above the distance to a trace below it, and the answer is the
-/// scan's.
+/// A match in a library that calls made: the answer is the scan's, and the leaves read are those with a bound at most its distance.
 pub fn check_scan(library: &Library, query: &[i16], found: &Match) {
-    assert_eq!(silkendoz::model::scan(&library.traces, query), Some((found.trace, found.distance)));
-    let bounds = library.bounds(query);
-    let read: Vec<usize> = library.reading_order(&bounds).into_iter().filter(|&j| bounds[j] <= found.distance).collect();
-    assert_eq!(found.trail, read, "the leaves read are those with a bound at most the distance");
+    let Match { trace, distance, leaves, traces, ref trail } = *found;
+    check_list(library, query, 1, &KNearest { list: vec![(trace, distance)], leaves, traces, trail: trail.clone() });
+}
+
+/// A list of k in a library that calls made: it is the beginning of the scan's, and the leaves read are "those with a bound at most the last listed
+/// distance, or every leaf when fewer than k traces are stored".
+pub fn check_list(library: &Library, query: &[i16], k: usize, found: &KNearest) {
+    let mut nearest = silkendoz::model::scan(&library.traces, query);
+    nearest.truncate(k);
+    assert_eq!(found.list, nearest);
+    let (bounds, last) = (library.bounds(query), nearest[nearest.len() - 1].1);
+    let mut read = library.reading_order(&bounds);
+    read.retain(|&j| bounds[j] <= last || library.traces.len() < k);
+    assert_eq!(found.trail, read, "the leaves read are those that no bound rules out");
+    let held = |&j: &usize| match &library.nodes[j].kind {
+        Kind::Leaf(numbers) => numbers.len(),
+        Kind::Inner { .. } => panic!("node {j} is no leaf"),
+    };
+    assert_eq!((found.leaves, found.traces), (read.len(), read.iter().map(held).sum()));
 }
 
 // ---- sheets

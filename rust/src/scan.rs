@@ -1,4 +1,4 @@
-//! The nearest trace by reading the stored samples one trace after another: what the index is compared with.
+//! The nearest trace, and the k nearest, by reading the stored samples one trace after another: what the index is compared with.
 
 /// The lowest number at the least distance, and that distance. Samples are traces of n, one behind the other.
 pub fn nearest(samples: &[i16], n: usize, query: &[i16]) -> Option<(usize, u64)> {
@@ -22,6 +22,36 @@ pub fn nearest_abandoning(samples: &[i16], n: usize, query: &[i16]) -> Option<(u
         }
     }
     best
+}
+
+/// The k nearest, by distance, then number, with their distances; of fewer than k traces all. k is not 0.
+pub fn k_nearest(samples: &[i16], n: usize, query: &[i16], k: usize) -> Vec<(usize, u64)> {
+    let mut list = Vec::with_capacity(k);
+    for (number, trace) in samples.chunks_exact(n).enumerate() {
+        keep(&mut list, k, number, distance(trace, query));
+    }
+    list
+}
+
+/// The same, leaving a trace as soon as it is no longer below the last of k.
+pub fn k_nearest_abandoning(samples: &[i16], n: usize, query: &[i16], k: usize) -> Vec<(usize, u64)> {
+    let mut list: Vec<(usize, u64)> = Vec::with_capacity(k);
+    for (number, trace) in samples.chunks_exact(n).enumerate() {
+        let limit = list.get(k - 1).map_or(u64::MAX, |&(_, last)| last);
+        if let Some(d) = distance_below(trace, query, limit) {
+            keep(&mut list, k, number, d);
+        }
+    }
+    list
+}
+
+/// Puts a trace behind those that are no farther, if it is one of the k nearest so far.
+fn keep(list: &mut Vec<(usize, u64)>, k: usize, number: usize, d: u64) {
+    let place = list.partition_point(|&(_, other)| other <= d);
+    if place < k {
+        list.truncate(k - 1);
+        list.insert(place, (number, d));
+    }
 }
 
 /// The sum of squared differences.
@@ -54,18 +84,24 @@ mod tests {
     use crate::random::{query, traces, Random, SHAPES};
 
     #[test]
-    fn both_scans_are_the_plain_one() {
+    fn every_scan_is_the_plain_one() {
         let random = &mut Random::seeded(61);
         for shape in SHAPES {
             for n in [1, 2, 15, 16, 17, 256] {
                 let stored = traces(random, shape, n, 20);
                 let q = query(random, shape, n, &stored);
-                let expected = model::scan(&stored, &q).first().map(|&(t, d)| (t, d as u64));
-                assert_eq!(nearest(&stored.concat(), n, &q), expected);
-                assert_eq!(nearest_abandoning(&stored.concat(), n, &q), expected);
+                let samples = stored.concat();
+                let ranked: Vec<(usize, u64)> = model::scan(&stored, &q).into_iter().map(|(t, d)| (t, d as u64)).collect();
+                assert_eq!(nearest(&samples, n, &q), ranked.first().copied());
+                assert_eq!(nearest_abandoning(&samples, n, &q), ranked.first().copied());
+                for k in [1, 2, 5, 16, 21] {
+                    assert_eq!(k_nearest(&samples, n, &q, k), ranked[..k.min(20)]);
+                    assert_eq!(k_nearest_abandoning(&samples, n, &q, k), ranked[..k.min(20)]);
+                }
             }
         }
         assert_eq!(distance(&[i16::MIN; 256], &[i16::MAX; 256]), 1_099_478_073_600);
         assert_eq!(nearest(&[], 4, &[0; 4]), None);
+        assert_eq!(k_nearest(&[], 4, &[0; 4], 5), []);
     }
 }

@@ -1,10 +1,13 @@
-//! One table of times, all in one run: the calls beside the scan on the same data, medians of many rounds, n = 256 and capacity 4,096.
+//! Tables of times, all in one run: the calls beside the scan on the same data, medians of many rounds, n = 256 and capacity 4,096. The
+//! first is of all calls, the second of lists of five; below them, what it takes to add traces that are all the same.
 //!
-//! Machines differ, and so do runs; within a line the columns belong together, and the ratios are what counts. Every answer is compared with the scan's.
+//! Machines differ, and so do runs; within a line the columns belong together, and the ratios are what counts. Every answer is compared
+//! with the scan's.
 
 use silkendoz::model::Trace;
 use silkendoz::random::{near, noisy_sine, uniform, walk, Random};
 use silkendoz::{scan, TraceLibrary};
+use std::fmt::Debug;
 use std::hint::black_box;
 use std::time::Instant;
 
@@ -12,6 +15,9 @@ const N: usize = 256;
 const CAPACITY: usize = 4096;
 const QUERIES: usize = 201;
 const ADDED: usize = 201;
+
+/// How many traces the second table lists.
+const LISTED: usize = 5;
 
 #[derive(Clone, Copy)]
 enum Data {
@@ -50,8 +56,9 @@ fn median(mut times: Vec<f64>) -> f64 {
     times[times.len() / 2]
 }
 
-/// Medians over a list of queries: the match, the scan, the scan that leaves early, both scans over the match, and how many traces the match read.
-struct Matched {
+/// Medians over a list of queries: the search, the scan, the scan that leaves early, both scans over the search, and how many traces the
+/// search read.
+struct Compared {
     index: f64,
     plain: f64,
     leaving: f64,
@@ -60,19 +67,25 @@ struct Matched {
     read: f64,
 }
 
-/// A query's three times are taken one after the other, and ratios are taken query by query, so that a machine that is busy for a while does not show.
-fn matched(library: &mut TraceLibrary, samples: &[i16], queries: &[Trace]) -> Matched {
+/// A query's three times are taken one after the other, and ratios are taken query by query, so that a machine that is busy for a while
+/// does not show. A search answers what the scans do, and how many traces it read.
+fn compared<A: Debug + PartialEq>(
+    queries: &[Trace],
+    mut search: impl FnMut(&[i16]) -> (A, usize),
+    plain: impl Fn(&[i16]) -> A,
+    leaving: impl Fn(&[i16]) -> A,
+) -> Compared {
     let mut rounds: Vec<[f64; 4]> = Vec::new();
     for q in queries {
-        let (index, found) = time(|| library.nearest(black_box(q)).expect("traces are stored"));
-        let (plain, nearest) = time(|| scan::nearest(samples, N, black_box(q)));
-        let (leaving, left) = time(|| scan::nearest_abandoning(samples, N, black_box(q)));
-        assert_eq!(nearest, Some((found.trace, found.distance)));
-        assert_eq!(left, nearest);
-        rounds.push([index, plain, leaving, found.traces as f64]);
+        let (index_time, (found, traces)) = time(|| search(black_box(q)));
+        let (plain_time, scanned) = time(|| plain(black_box(q)));
+        let (leaving_time, left) = time(|| leaving(black_box(q)));
+        assert_eq!(found, scanned);
+        assert_eq!(left, scanned);
+        rounds.push([index_time, plain_time, leaving_time, traces as f64]);
     }
     let of = |figure: fn(&[f64; 4]) -> f64| median(rounds.iter().map(figure).collect());
-    Matched {
+    Compared {
         index: of(|r| r[0]),
         plain: of(|r| r[1]),
         leaving: of(|r| r[2]),
@@ -80,6 +93,69 @@ fn matched(library: &mut TraceLibrary, samples: &[i16], queries: &[Trace]) -> Ma
         leaving_ratio: of(|r| r[2] / r[0]),
         read: of(|r| r[3]),
     }
+}
+
+impl Compared {
+    fn columns(&self) -> String {
+        let Compared { index, plain, leaving, plain_ratio, leaving_ratio, read } = self;
+        format!("{index:>9.1}{read:>7.0}{plain:>9.1}{leaving:>9.1}{plain_ratio:>7.1}{leaving_ratio:>7.1}")
+    }
+}
+
+/// The heads of those columns.
+fn heads(queries: &str) -> String {
+    format!("{queries:>9}{:>7}{:>9}{:>9}{:>7}{:>7}", "read", "scan", "leaving", "x", "x")
+}
+
+/// A full library, its samples, queries that are near a stored trace and new ones; and how long an adding took at the end.
+struct Full {
+    library: TraceLibrary,
+    samples: Vec<i16>,
+    nearby: Vec<Trace>,
+    fresh: Vec<Trace>,
+    add: f64,
+}
+
+fn filled(data: Data, leaf_size: usize) -> Full {
+    let random = &mut Random::seeded(2026);
+    let stored: Vec<Trace> = (0..CAPACITY).map(|_| data.trace(random)).collect();
+    let mut library = TraceLibrary::open(N, CAPACITY, leaf_size).expect("measures are in range");
+    let mut add = Vec::new();
+    for trace in &stored {
+        add.push(time(|| library.add(trace).expect("there is room")).0);
+    }
+    let nearby = (0..QUERIES)
+        .map(|_| {
+            let centre = random.pick(&stored).clone();
+            near(random, &centre, 20)
+        })
+        .collect();
+    let fresh = (0..QUERIES).map(|_| data.trace(random)).collect();
+    Full { library, samples: stored.concat(), nearby, fresh, add: median(add.split_off(CAPACITY - ADDED)) }
+}
+
+fn matched(library: &mut TraceLibrary, samples: &[i16], queries: &[Trace]) -> Compared {
+    compared(
+        queries,
+        |q| {
+            let found = library.nearest(q).expect("traces are stored");
+            (Some((found.trace, found.distance)), found.traces)
+        },
+        |q| scan::nearest(samples, N, q),
+        |q| scan::nearest_abandoning(samples, N, q),
+    )
+}
+
+fn listed(library: &mut TraceLibrary, samples: &[i16], queries: &[Trace]) -> Compared {
+    compared(
+        queries,
+        |q| {
+            let found = library.k_nearest(q, LISTED).expect("traces are stored");
+            (found.list.iter().map(|a| (a.trace, a.distance)).collect(), found.traces)
+        },
+        |q| scan::k_nearest(samples, N, q, LISTED),
+        |q| scan::k_nearest_abandoning(samples, N, q, LISTED),
+    )
 }
 
 /// A match whose query has another length is refused right behind the test of the tables.
@@ -96,48 +172,47 @@ fn sheets(library: &TraceLibrary) -> (String, String) {
 }
 
 fn line(data: Data, leaf_size: usize) {
-    let random = &mut Random::seeded(2026);
-    let stored: Vec<Trace> = (0..CAPACITY).map(|_| data.trace(random)).collect();
-    let mut library = TraceLibrary::open(N, CAPACITY, leaf_size).expect("measures are in range");
-    let mut add = Vec::new();
-    for trace in &stored {
-        add.push(time(|| library.add(trace).expect("there is room")).0);
-    }
-    let add = median(add.split_off(CAPACITY - ADDED));
-    let samples: Vec<i16> = stored.concat();
-    let nearby: Vec<Trace> = (0..QUERIES)
-        .map(|_| {
-            let centre = random.pick(&stored).clone();
-            near(random, &centre, 20)
-        })
-        .collect();
-    let fresh: Vec<Trace> = (0..QUERIES).map(|_| data.trace(random)).collect();
+    let Full { mut library, samples, nearby, fresh, add } = filled(data, leaf_size);
     // one round of each first, so that memory and branches are warm
     matched(&mut library, &samples, &nearby[..20]);
-    let a = matched(&mut library, &samples, &nearby);
-    let b = matched(&mut library, &samples, &fresh);
+    let a = matched(&mut library, &samples, &nearby).columns();
+    let b = matched(&mut library, &samples, &fresh).columns();
     let tested = test_of_tables(&mut library);
     let (write, read) = sheets(&library);
+    println!("{:<14}{leaf_size:>5} |{a} |{b} |{tested:>8.1}{add:>8.1}{write:>8}{read:>9}", data.name());
+}
+
+fn line_of_lists(data: Data, leaf_size: usize) {
+    let Full { mut library, samples, nearby, fresh, .. } = filled(data, leaf_size);
+    listed(&mut library, &samples, &nearby[..20]);
+    let a = listed(&mut library, &samples, &nearby).columns();
+    let b = listed(&mut library, &samples, &fresh).columns();
+    println!("{:<14}{leaf_size:>5} |{a} |{b}", data.name());
+}
+
+/// Microseconds for adding all of these to an empty library.
+fn building(stored: &[Trace], leaf_size: usize) -> f64 {
+    let mut library = TraceLibrary::open(N, CAPACITY, leaf_size).expect("measures are in range");
+    let add_all = || {
+        for trace in stored {
+            library.add(trace).expect("there is room");
+        }
+    };
+    time(add_all).0
+}
+
+/// One trace again and again: no split parts such traces, so that one leaf holds them all.
+fn line_of_equals(leaf_size: usize) {
+    let random = &mut Random::seeded(2026);
+    let walks: Vec<Trace> = (0..CAPACITY).map(|_| Data::Walks.trace(random)).collect();
+    let equals = vec![walks[0].clone(); CAPACITY];
+    let rounds: Vec<[f64; 2]> = (0..3).map(|_| [building(&equals, leaf_size), building(&walks, leaf_size)]).collect();
+    let of = |figure: fn(&[f64; 2]) -> f64| median(rounds.iter().map(figure).collect());
     println!(
-        "{:<14}{:>5} |{:>9.1}{:>7.0}{:>9.1}{:>9.1}{:>7.1}{:>7.1} |{:>9.1}{:>7.0}{:>9.1}{:>9.1}{:>7.1}{:>7.1} |{:>8.1}{:>8.1}{:>8}{:>9}",
-        data.name(),
-        leaf_size,
-        a.index,
-        a.read,
-        a.plain,
-        a.leaving,
-        a.plain_ratio,
-        a.leaving_ratio,
-        b.index,
-        b.read,
-        b.plain,
-        b.leaving,
-        b.plain_ratio,
-        b.leaving_ratio,
-        tested,
-        add,
-        write,
-        read,
+        "adding {CAPACITY} traces, leaf size {leaf_size}: all the same {:.0}, random walks {:.0}; same / walks {:.2}",
+        of(|r| r[0]),
+        of(|r| r[1]),
+        of(|r| r[0] / r[1])
     );
 }
 
@@ -145,13 +220,19 @@ fn main() {
     println!("n = {N}, capacity {CAPACITY}, full; times in microseconds, medians ({QUERIES} queries, the last {ADDED} traces added)");
     println!("scan: every trace; leaving: the same scan, leaving a trace that is no longer below the best; x: scan / match and leaving / match, query by query");
     println!();
-    println!(
-        "{:<14}{:>5} |{:>9}{:>7}{:>9}{:>9}{:>7}{:>7} |{:>9}{:>7}{:>9}{:>9}{:>7}{:>7} |{:>8}{:>8}{:>8}{:>9}",
-        "data", "leaf", "near", "read", "scan", "leaving", "x", "x", "fresh", "read", "scan", "leaving", "x", "x", "test", "add", "write", "read"
-    );
-    for data in [Data::Walks, Data::Sines, Data::Noise] {
+    let kinds = [Data::Walks, Data::Sines, Data::Noise];
+    println!("{:<14}{:>5} |{} |{} |{:>8}{:>8}{:>8}{:>9}", "data", "leaf", heads("near"), heads("fresh"), "test", "add", "write", "read");
+    for data in kinds {
         for leaf_size in [64, 16, 4] {
             line(data, leaf_size);
         }
     }
+    println!();
+    println!("the {LISTED} nearest, beside scans that keep {LISTED}");
+    println!("{:<14}{:>5} |{} |{}", "data", "leaf", heads("near"), heads("fresh"));
+    for data in kinds {
+        line_of_lists(data, 64);
+    }
+    println!();
+    line_of_equals(64);
 }

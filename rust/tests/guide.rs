@@ -2,7 +2,7 @@
 //! Rust with the documentation (`src/lib.rs`), the one in C by `tools/guide_c`.
 
 use silkendoz::model::sheet::{blocks_needed, program_line};
-use silkendoz::Refusal;
+use silkendoz::{Refusal, TraceLibrary};
 use std::path::PathBuf;
 
 fn file(name: &str) -> Vec<u8> {
@@ -44,13 +44,36 @@ fn refusals() {
     assert_eq!(named, all);
 }
 
+/// The name that `examples/faults.txt` has for a trace.
+fn fault(trace: &str) -> String {
+    let names = text("examples/faults.txt");
+    names.lines().find_map(|l| l.trim_start().strip_prefix(&format!("{trace}  "))).unwrap().to_string()
+}
+
+/// The nearest to the example sheet's last trace. That trace is stored itself, and so comes before all others, at distance 0.
+#[test]
+fn runner_up() {
+    let rows = table(&text("docs/GUIDE.md"), "The runner-up");
+    let mut library = TraceLibrary::read_sheet(&file("examples/faults.sheet")).unwrap();
+    let query = library.len() - 1;
+    let samples = library.trace(query).unwrap().to_vec();
+    let list = library.k_nearest(&samples, 1 + rows.len()).unwrap().list;
+    assert_eq!((list[0].trace, list[0].distance), (query, 0));
+    let rounded = |x: f64| x.round() as u64;
+    for (row, near) in rows.iter().zip(&list[1..]) {
+        let root = (near.distance as f64).sqrt();
+        assert_eq!(row[0], near.trace.to_string());
+        assert_eq!(row[1], fault(&row[0]));
+        let figures: Vec<u64> = row[2..].iter().map(|cell| cell.replace(',', "").parse().unwrap()).collect();
+        assert_eq!(figures, [near.distance, rounded(root), rounded(root / (library.n() as f64).sqrt())]);
+    }
+}
+
 /// The line that both pages show for the example sheet, and the fault that they name.
 #[test]
 fn the_line_of_the_example_sheet() {
     let line = program_line(&file("examples/faults.sheet"));
-    let trace = line.split(' ').next().unwrap();
-    let names = text("examples/faults.txt");
-    let name = names.lines().find_map(|l| l.trim_start().strip_prefix(&format!("{trace}  "))).unwrap();
+    let name = &fault(line.split(' ').next().unwrap());
     for page in ["docs/GUIDE.md", "README.md"] {
         let words: Vec<String> = text(page).split_whitespace().map(str::to_string).collect();
         let running = words.join(" ");

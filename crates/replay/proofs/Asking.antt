@@ -24,7 +24,8 @@ use Rattle.calls.specs.Follows.{areSamples, Typed}
 use Rattle.replay.specs.declared.Cursor.{Cursor}
 use Rattle.replay.specs.declared.Wanted.{Wanted}
 use Rattle.replay.specs.declared.Plan.{Plan}
-use Rattle.replay.specs.Script.{State, numberAt, lentBy, nextOf, aheadOf, Kind, kinds, kindAt, fitsIn, enough, ifEnough, playable, askedBy, asks}
+use Rattle.replay.specs.Script.{State, numberAt, lentBy, nextOf, aheadOf, Kind, kinds, kindAt, fitsIn, enough, ifEnough, playable}
+use Rattle.replay.specs.Script.{askedBy, asks}
 use Rattle.replay.specs.Script.{takesOf, moved, movedBy, wantedBy, plannedBy, takenBy, stateAfter}
 use Rattle.replay.proofs.OfKind.{of-kind}
 
@@ -54,6 +55,7 @@ pub record Playable (lengths : Lent) (ahead : Cursor) (row : List ℕ) (k : Kind
   pub samples-there : k .takes row .samples ≤ ahead .samples
   pub trails-there : k .takes row .trails ≤ ahead .trails
   pub sheets-there : k .takes row .sheets ≤ ahead .sheets
+  pub lists-there : k .takes row .lists ≤ ahead .lists
 
 if-enough : (o : Option Kind) (row : List ℕ) (ahead : Cursor) (k : Kind) → ifEnough o row ahead ≡ some k → (o
     ≡ some k) × (enough (k .takes row) ahead ≡ true)
@@ -64,15 +66,16 @@ if-enough (some k₀) row ahead k e =
     (f .1, subst (λ (k : Kind). enough (k .takes row) ahead ≡ true) (Option·some-injective k₀ k (f .1)) (f .0))
 
 pub enough-is : (size ahead : Cursor) → enough size ahead ≡ true
-    → (size .samples ≤ ahead .samples) × (size .trails ≤ ahead .trails) × (size .sheets ≤ ahead .sheets)
+    → (size .samples ≤ ahead .samples) × (size .trails ≤ ahead .trails) × (size .sheets ≤ ahead .sheets) × (size .lists ≤ ahead .lists)
 unfolding enough
 enough-is size ahead e =
-    let p = passed (leb (size .samples) (ahead .samples)) (leb (size .trails) (ahead .trails) ∷ leb (size .sheets) (ahead .sheets) ∷ [])
+    let p = passed (leb (size .samples) (ahead .samples)) (leb (size .trails) (ahead .trails) ∷ leb (size .sheets) (ahead .sheets)
+    ∷ leb (size .lists) (ahead .lists) ∷ [])
     (is-true e) in (
       leb→le (size .samples) (ahead .samples) (p .0),
       leb→le (size .trails) (ahead .trails) (p .1 .0),
-      leb→le (size .sheets) (ahead
-          .sheets) (p .1 .1),
+      leb→le (size .sheets) (ahead .sheets) (p .1 .1 .0),
+      leb→le (size .lists) (ahead .lists) (p .1 .1 .1),
     )
 
 pub playable-is : (lengths : Lent) (ahead : Cursor) (row : List ℕ) (k : Kind) → playable lengths ahead row ≡ some k
@@ -88,6 +91,7 @@ playable-is lengths ahead row k e =
       samples-there = there .0;
       trails-there = there .1;
       sheets-there = there .2;
+      lists-there = there .3;
     }
 
 -- .. by how much is taken behind it

@@ -14,7 +14,8 @@ use Rattle.calls.specs.Effects.{outcomeOn}
 use Rattle.replay.specs.declared.Cursor.{Cursor}
 use Rattle.replay.specs.declared.Turn.{Turn}
 use Rattle.replay.specs.Numbers.{replyRow}
-use Rattle.replay.specs.Script.{State, supplyAt, stateAt, Inside, lentBy, cursor, Taken, taken, sizeOf, nextOf, aheadOf, Kind, playable, asks, moved}
+use Rattle.replay.specs.Script.{State, supplyAt, stateAt, Inside, lentBy, cursor, Taken, taken, sizeOf, nextOf, aheadOf, Kind}
+use Rattle.replay.specs.Script.{playable, asks, moved}
 use Rattle.replay.specs.Script.{takenBy, leftBy, used, stateAfter, Called, called, calledBy, turned, made, turnOf}
 use Rattle.replay.proofs.OfKind.{of-kind, taken-same}
 use Rattle.replay.proofs.Asking.{Playable, playable-is, asks-it}
@@ -26,28 +27,29 @@ use Rattle.replay.proofs.Lending.{next-places, so-many, ahead-moved, su
 abbrev pub stays : Cursor → Turn
 stays at = record { made = false; told = 0 ∷ 0 ∷ 0 ∷ 0 ∷ 0 ∷ []; at = at }
 
-pub none-is : (r : Turn) (at : Cursor) → r ≡ stays at → (lent : Lent) (memory : Tables) (pool : List ℤ) (trails sheets : List ℕ) (o :
+pub none-is : (r : Turn) (at : Cursor) → r ≡ stays at → (lent : Lent) (memory : Tables) (pool : List ℤ) (trails sheets lists : List ℕ) (o :
     Option Ask) → o ≡ none
-    → turnOf r memory pool trails sheets ≡ made lent o (stateAt memory pool trails sheets at)
+    → turnOf r memory pool trails sheets lists ≡ made lent o (stateAt memory pool trails sheets lists at)
 unfolding made
-none-is r at e lent memory pool trails sheets o n = rw (e, n) refl
+none-is r at e lent memory pool trails sheets lists o n = rw (e, n) refl
 
 -- ---- how much is ahead
 
-pub ahead-is : (memory : Tables) (pool : List ℤ) (trails sheets : List ℕ) (at : Cursor)
-    → cursor (length pool - at .samples) (length trails - at .trails) (length sheets - at .sheets)
-    ≡ aheadOf (stateAt memory pool trails sheets at)
-ahead-is memory pool trails sheets at = rw (
+pub ahead-is : (memory : Tables) (pool : List ℤ) (trails sheets lists : List ℕ) (at : Cursor)
+    → cursor (length pool - at .samples) (length trails - at .trails) (length sheets - at .sheets) (length lists - at .lists)
+    ≡ aheadOf (stateAt memory pool trails sheets lists at)
+ahead-is memory pool trails sheets lists at = rw (
   length-drop (at .samples) pool,
   length-drop (at .trails) trails,
-  length-drop (at .sheets)
-      sheets,
+  length-drop (at .sheets) sheets,
+  length-drop (at .lists) lists,
 ) refl
 
 -- ---- a call that is made
 
 -- by the numbers of its reply, the memory that it leaves, and how far it has come
-made-is : (lent : Lent) (at at′ : Cursor) (memory memory′ : Tables) (pool : List ℤ) (trails trails′ sheets sheets′ : List ℕ) (ask : Ask)
+made-is : (lent : Lent) (at at′ : Cursor) (memory memory′ : Tables) (pool : List ℤ) (trails trails′ sheets sheets′ lists lists′ : List ℕ)
+    (ask : Ask)
     (told : List ℕ)
     → told ≡ replyRow (outcomeOn ask (firstPlaces lent memory) .answer) → memory′
     ≡ left (outcomeOn ask (firstPlaces lent memory) .after) memory
@@ -56,9 +58,12 @@ made-is : (lent : Lent) (at at′ : Cursor) (memory memory′ : Tables) (pool : 
     lent memory) .beside) .trail)
     → supplyAt (at′ .sheets) sheets′ ≡ used (supplyAt (at .sheets) sheets) (takenBy ask .sheet) (leftBy ask (outcomeOn ask (firstPlaces
     lent memory) .beside) .sheet)
-    → turned (some told) (stateAt memory′ pool trails′ sheets′ at′) ≡ made lent (some ask) (stateAt memory pool trails sheets at)
+    → supplyAt (at′ .lists) lists′ ≡ used (supplyAt (at .lists) lists) (takenBy ask .list) (leftBy ask (outcomeOn ask (firstPlaces
+    lent memory) .beside) .list)
+    → turned (some told) (stateAt memory′ pool trails′ sheets′ lists′ at′) ≡ made lent (some ask) (stateAt memory pool trails sheets
+    lists at)
 unfolding made stateAfter
-made-is lent at at′ memory memory′ pool trails trails′ sheets sheets′ ask told a m p t s = rw (a, m, p, t, s)
+made-is lent at at′ memory memory′ pool trails trails′ sheets sheets′ lists lists′ ask told a m p t s l = rw (a, m, p, t, s, l)
 
 -- a supply of which a call took the next places and left them so
 abbrev pub put : ℕ → ℕ → List ℕ → List ℕ → List ℕ
@@ -69,11 +74,12 @@ moved-on : (from many : ℕ) (l taken left part : List ℕ) → from ≤ length 
     → supplyAt (from + many) (put from (from + many) part l) ≡ used (supplyAt from l) taken left
 moved-on from many l taken left part h g t p n = rw (t, ← p) (supply-moved from many l part h g n)
 
-module _ (memory : Tables) (pool : List ℤ) (trails sheets : List ℕ) (at : Cursor) (inside : Inside at pool trails sheets) (row : List ℕ)
+module _ (memory : Tables) (pool : List ℤ) (trails sheets lists : List ℕ) (at : Cursor) (inside : Inside at pool trails sheets lists)
+    (row : List ℕ)
     (k : Kind)
-    (can : playable (lentOf memory) (aheadOf (stateAt memory pool trails sheets at)) row ≡ some k) where
+    (can : playable (lentOf memory) (aheadOf (stateAt memory pool trails sheets lists at)) row ≡ some k) where
   abbrev here : State
-  here = stateAt memory pool trails sheets at
+  here = stateAt memory pool trails sheets lists at
 
   abbrev size : Cursor
   size = k .takes row
@@ -81,8 +87,10 @@ module _ (memory : Tables) (pool : List ℤ) (trails sheets : List ℕ) (at : Cu
   abbrev next : Taken
   next = nextOf size here
 
-  pub is : Playable (lentOf memory) (cursor (length pool - at .samples) (length trails - at .trails) (length sheets - at .sheets)) row k
-  is = playable-is (lentOf memory) _ row k (ap (λ (a : Cursor). playable (lentOf memory) a row) (ahead-is memory pool trails sheets at)
+  pub is : Playable (lentOf memory) (cursor (length pool - at .samples) (length trails - at .trails) (length sheets - at .sheets) (length
+      lists - at .lists)) row k
+  is = playable-is (lentOf memory) _ row k (ap (λ (a : Cursor). playable (lentOf memory) a row) (ahead-is memory pool trails sheets lists
+      at)
       ∙ can)
 
   pub next-size : sizeOf next ≡ size
@@ -90,27 +98,29 @@ module _ (memory : Tables) (pool : List ℤ) (trails sheets : List ℕ) (at : Cu
     so-many (at .samples) (size .samples) pool (is .samples-there),
     so-many (at .trails) (size .trails) trails (is .trails-there),
     so-many (at .sheets) (size .sheets) sheets (is .sheets-there),
+    so-many (at .lists) (size .lists) lists (is .lists-there),
   ) refl
 
-  pub inside-then : Inside (moved at size) pool trails sheets
+  pub inside-then : Inside (moved at size) pool trails sheets lists
   inside-then = record {
     samples-inside = omega (arith, inside .samples-inside, is .samples-there);
     trails-inside = omega (arith, inside .trails-inside, is .trails-there);
     sheets-inside = omega (arith, inside .sheets-inside, is .sheets-there);
+    lists-inside = omega (arith, inside .lists-inside, is .lists-there);
   }
 
   -- by what the call left of what it was lent
-  played-is : (told : List ℕ) (after memory′ : Tables) (trail sheet : List ℕ)
-      → (sizeOf next ≡ size → called told after (taken (next .samples) trail sheet)
+  played-is : (told : List ℕ) (after memory′ : Tables) (trail sheet list : List ℕ)
+      → (sizeOf next ≡ size → called told after (taken (next .samples) trail sheet list)
       ≡ calledBy (k .ask row next) (firstPlaces (lentBy row) memory))
-      → memory′ ≡ left after memory → length trail ≡ size .trails → length sheet ≡ size .sheets
+      → memory′ ≡ left after memory → length trail ≡ size .trails → length sheet ≡ size .sheets → length list ≡ size .lists
       → turned (some told) (stateAt memory′ pool (put (at .trails) (at .trails + size .trails) trail trails) (put (at .sheets) (at
-      .sheets + size .sheets) sheet sheets) (moved at size))
+      .sheets + size .sheets) sheet sheets) (put (at .lists) (at .lists + size .lists) list lists) (moved at size))
       ≡ made (lentBy row) (asks (lentOf memory) row here) here
-  played-is told after memory′ trail sheet does m t s =
+  played-is told after memory′ trail sheet list does m t s l =
       let c = does next-size in
       let took : takenBy (k .ask row next) ≡ next = of-kind _ k (is .is-kind) .takes-all row next next-size in
-      made-is (lentBy row) at (moved at size) memory memory′ pool trails _ sheets _ (k .ask row next) told
+      made-is (lentBy row) at (moved at size) memory memory′ pool trails _ sheets _ lists _ (k .ask row next) told
       (ap (λ (x : Called). x .told) c)
       (m ∙ ap (λ (x : Called). left (x .after) memory) c)
       (ahead-moved (at .samples) (size .samples) pool (is .samples-there)
@@ -119,27 +129,29 @@ module _ (memory : Tables) (pool : List ℤ) (trails sheets : List ℕ) (at : Cu
       took) (ap (λ (x : Called). x .left .trail) c) t)
       (moved-on (at .sheets) (size .sheets) sheets _ _ sheet (inside .sheets-inside) (is .sheets-there) (ap (λ (x : Taken). x .sheet)
       took) (ap (λ (x : Called). x .left .sheet) c) s)
+      (moved-on (at .lists) (size .lists) lists _ _ list (inside .lists-inside) (is .lists-there) (ap (λ (x : Taken). x .list) took)
+      (ap (λ (x : Called). x .left .list) c) l)
       ∙ ap (λ (o : Option Ask). made (lentBy row) o here) (sym (asks-it (lentOf memory) row here k can))
 
   -- .. as code has it, which knows how far the row goes
   module _ (to : Cursor) (e : to ≡ moved at size) where
     pub next-is : taken (take (to .samples - at .samples) (drop (at .samples) pool)) (take (to .trails - at .trails) (drop (at .trails)
         trails))
-        (take (to .sheets - at .sheets) (drop (at .sheets) sheets)) ≡ next
+        (take (to .sheets - at .sheets) (drop (at .sheets) sheets)) (take (to .lists - at .lists) (drop (at .lists) lists)) ≡ next
     next-is = subst (λ (z : Cursor). taken (take (z .samples - at .samples) (drop (at .samples) pool)) (take (z .trails - at .trails)
         (drop (at .trails) trails))
-        (take (z .sheets - at .sheets) (drop (at .sheets) sheets)) ≡ next) (sym e)
+        (take (z .sheets - at .sheets) (drop (at .sheets) sheets)) (take (z .lists - at .lists) (drop (at .lists) lists)) ≡ next) (sym e)
         (taken-same (next-places (at .samples) (size .samples) pool) (next-places (at .trails) (size .trails) trails) (next-places (at
-        .sheets) (size .sheets) sheets))
+        .sheets) (size .sheets) sheets) (next-places (at .lists) (size .lists) lists))
 
-    pub played-to : (told : List ℕ) (after memory′ : Tables) (trail sheet : List ℕ)
-        → (sizeOf next ≡ size → called told after (taken (next .samples) trail sheet)
+    pub played-to : (told : List ℕ) (after memory′ : Tables) (trail sheet list : List ℕ)
+        → (sizeOf next ≡ size → called told after (taken (next .samples) trail sheet list)
         ≡ calledBy (k .ask row next) (firstPlaces (lentBy row) memory))
-        → memory′ ≡ left after memory → length trail ≡ size .trails → length sheet ≡ size .sheets
+        → memory′ ≡ left after memory → length trail ≡ size .trails → length sheet ≡ size .sheets → length list ≡ size .lists
         → turned (some told) (stateAt memory′ pool (put (at .trails) (to .trails) trail trails) (put (at .sheets) (to .sheets) sheet
-        sheets) to)
+        sheets) (put (at .lists) (to .lists) list lists) to)
         ≡ made (lentBy row) (asks (lentOf memory) row here) here
-    played-to told after memory′ trail sheet does m t s =
+    played-to told after memory′ trail sheet list does m t s l =
         subst (λ (z : Cursor). turned (some told) (stateAt memory′ pool (put (at .trails) (z .trails) trail trails) (put (at .sheets) (z
-        .sheets) sheet sheets) z)
-        ≡ made (lentBy row) (asks (lentOf memory) row here) here) (sym e) (played-is told after memory′ trail sheet does m t s)
+        .sheets) sheet sheets) (put (at .lists) (z .lists) list lists) z)
+        ≡ made (lentBy row) (asks (lentOf memory) row here) here) (sym e) (played-is told after memory′ trail sheet list does m t s l)

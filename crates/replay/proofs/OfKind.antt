@@ -3,10 +3,10 @@ use Prim.Native.Nat.{ℕ, zero, suc}
 use mathlib.Core.Path.{_≡_, refl, sym, ap, subst, _∙_}
 use mathlib.Core.Bool.{Bool, true, false}
 use mathlib.Core.Option.{Option, none, some, Option·none-ne-some, Option·some-injective}
-use mathlib.Core.List.{List, [], _∷_, flatten, append-nil}
+use mathlib.Core.List.{List, [], _∷_}
 use native.Mathlib.Omega.{arith}
 use lib.IntN.{ℤ}
-use lib.ListN.{length}
+use lib.ListN.{length, getD}
 use lib.Dec.{T}
 use Rattle.integer.specs.Words.{if_then_else_}
 use Rattle.integer.specs.Lists.{All, all-none, all-more}
@@ -18,7 +18,8 @@ use Rattle.calls.specs.Follows.{areSamples, Typed}
 use Rattle.replay.specs.declared.Cursor.{Cursor}
 use Rattle.replay.specs.declared.Wanted.{Wanted}
 use Rattle.replay.specs.Numbers.{replyRow}
-use Rattle.replay.specs.Script.{Taken, taken, sizeOf, Kind, openings, addings, matchings, writings, readings, kinds, kindAt}
+use Rattle.replay.specs.Script.{Taken, taken, sizeOf, Kind, openings, addings, matchings, writings, readings, listings, kinds}
+use Rattle.replay.specs.Script.{kindAt}
 use Rattle.replay.specs.Script.{takesOf, wantedBy, takenBy, leftBy, Called, called, calledBy, Plays}
 
 -- ---- what nothing is taken of is empty
@@ -37,9 +38,13 @@ module _ (x : Taken) where
   no-sheet : {c : Cursor} → sizeOf x ≡ c → c .sheets ≡ 0 → x .sheet ≡ []
   no-sheet e z = empty (x .sheet) (ap (λ (c : Cursor). c .sheets) e ∙ z)
 
-pub taken-same : {samples samples′ : List ℤ} {trail trail′ sheet sheet′ : List ℕ} → samples ≡ samples′ → trail ≡ trail′ → sheet ≡ sheet′
-    → taken samples trail sheet ≡ taken samples′ trail′ sheet′
-taken-same a b c = rw (a, b, c)
+  no-list : {c : Cursor} → sizeOf x ≡ c → c .lists ≡ 0 → x .list ≡ []
+  no-list e z = empty (x .list) (ap (λ (c : Cursor). c .lists) e ∙ z)
+
+pub taken-same : {samples samples′ : List ℤ} {trail trail′ sheet sheet′ list list′ : List ℕ} → samples ≡ samples′ → trail ≡ trail′
+    → sheet ≡ sheet′ → list ≡ list′
+    → taken samples trail sheet list ≡ taken samples′ trail′ sheet′ list′
+taken-same a b c d = rw (a, b, c, d)
 
 -- ---- what holds of each kind
 
@@ -52,22 +57,29 @@ pub record KindLaws (k : Kind) : Type 0 where
 of-openings : KindLaws openings
 unfolding takenBy Typed
 of-openings = record {
-  takes-all = λ row x e. taken-same (sym (no-samples x e refl)) (sym (no-trail x e refl)) (sym (no-sheet x e refl));
+  takes-all = λ row x e. taken-same (sym (no-samples x e refl)) (sym (no-trail x e refl)) (sym (no-sheet x e refl)) (sym (no-list x e
+      refl));
   typed = λ row x s b. tt;
 }
 
 of-addings : KindLaws addings
 unfolding takenBy Typed
-of-addings = record { takes-all = λ row x e. taken-same refl (sym (no-trail x e refl)) (sym (no-sheet x e refl)); typed = λ row x s b. s }
+of-addings = record {
+  takes-all = λ row x e. taken-same refl (sym (no-trail x e refl)) (sym (no-sheet x e refl)) (sym (no-list x e refl));
+  typed = λ row x s b. s;
+}
 
 of-matchings : KindLaws matchings
 unfolding takenBy Typed
-of-matchings = record { takes-all = λ row x e. taken-same refl refl (sym (no-sheet x e refl)); typed = λ row x s b. tt }
+of-matchings = record {
+  takes-all = λ row x e. taken-same refl refl (sym (no-sheet x e refl)) (sym (no-list x e refl));
+  typed = λ row x s b. tt;
+}
 
 of-writings : KindLaws writings
 unfolding takenBy Typed
 of-writings = record {
-  takes-all = λ row x e. taken-same (sym (no-samples x e refl)) (sym (no-trail x e refl)) refl;
+  takes-all = λ row x e. taken-same (sym (no-samples x e refl)) (sym (no-trail x e refl)) refl (sym (no-list x e refl));
   typed = λ row x s b.
       tt;
 }
@@ -75,13 +87,19 @@ of-writings = record {
 of-readings : KindLaws readings
 unfolding takenBy Typed
 of-readings = record {
-  takes-all = λ row x e. taken-same (sym (no-samples x e refl)) (sym (no-trail x e refl)) refl;
+  takes-all = λ row x e. taken-same (sym (no-samples x e refl)) (sym (no-trail x e refl)) refl (sym (no-list x e refl));
   typed = λ row x s b.
       b;
 }
 
+of-listings : KindLaws listings
+unfolding takenBy Typed
+of-listings = record { takes-all = λ row x e. taken-same refl refl (sym (no-sheet x e refl)) refl; typed = λ row x s b. tt }
+
 of-kinds : All KindLaws kinds
-of-kinds = all-more of-openings (all-more of-addings (all-more of-matchings (all-more of-writings (all-more of-readings all-none))))
+of-kinds =
+    all-more of-openings
+    (all-more of-addings (all-more of-matchings (all-more of-writings (all-more of-readings (all-more of-listings all-none)))))
 
 of-some : {P : Kind → Type 0} (among : List Kind) → All P among → (number : ℕ) (k : Kind) → kindAt among number ≡ some k → P k
 unfolding kindAt
@@ -108,19 +126,23 @@ no-change (suc zero) k f g h e b = g refl
 no-change (suc (suc zero)) k f g h e b = true-false (sym b ∙ kind-is matchings k e)
 no-change (suc (suc (suc zero))) k f g h e b = true-false (sym b ∙ kind-is writings k e)
 no-change (suc (suc (suc (suc zero)))) k f g h e b = h refl
-no-change (suc (suc (suc (suc (suc n))))) k f g h e b = absurd (Option·none-ne-some k e)
+no-change (suc (suc (suc (suc (suc zero))))) k f g h e b = true-false (sym b ∙ kind-is listings k e)
+no-change (suc (suc (suc (suc (suc (suc n)))))) k f g h e b = absurd (Option·none-ne-some k e)
 
-pub changes-if : (number : ℕ) (k : Kind) → (number ≡ 2 → ⊥) → (number ≡ 3 → ⊥) → kindAt kinds number ≡ some k → k .changes ≡ true
+pub changes-if : (number : ℕ) (k : Kind) → (number ≡ 2 → ⊥) → (number ≡ 3 → ⊥) → (number ≡ 5 → ⊥) → kindAt kinds number ≡ some k
+    → k .changes ≡ true
 unfolding kindAt
-changes-if zero k f g e = kind-is openings k e
-changes-if (suc zero) k f g e = kind-is addings k e
-changes-if (suc (suc zero)) k f g e = absurd (f refl)
-changes-if (suc (suc (suc zero))) k f g e = absurd (g refl)
-changes-if (suc (suc (suc (suc zero)))) k f g e = kind-is readings k e
-changes-if (suc (suc (suc (suc (suc n))))) k f g e = absurd (Option·none-ne-some k e)
+changes-if zero k f g h e = kind-is openings k e
+changes-if (suc zero) k f g h e = kind-is addings k e
+changes-if (suc (suc zero)) k f g h e = absurd (f refl)
+changes-if (suc (suc (suc zero))) k f g h e = absurd (g refl)
+changes-if (suc (suc (suc (suc zero)))) k f g h e = kind-is readings k e
+changes-if (suc (suc (suc (suc (suc zero))))) k f g h e = absurd (h refl)
+changes-if (suc (suc (suc (suc (suc (suc n)))))) k f g h e = absurd (Option·none-ne-some k e)
 
-no-ask : (number : ℕ) (k : Kind) → (number ≡ 2 → ⊥) → (number ≡ 3 → ⊥) → kindAt kinds number ≡ some k → k .changes ≡ false → ⊥
-no-ask number k f g e b = true-false (sym (changes-if number k f g e) ∙ b)
+no-ask : (number : ℕ) (k : Kind) → (number ≡ 2 → ⊥) → (number ≡ 3 → ⊥) → (number ≡ 5 → ⊥) → kindAt kinds number ≡ some k
+    → k .changes ≡ false → ⊥
+no-ask number k f g h e b = true-false (sym (changes-if number k f g h e) ∙ b)
 
 -- the kind with a number
 pub changes-not : (number : ℕ) (k₀ k : Kind) → kindAt kinds number ≡ some k₀ → kindAt kinds number ≡ some k → k .changes ≡ k₀ .changes
@@ -137,8 +159,8 @@ module _ (number : ℕ) (row : List ℕ) (x : Taken) (t : Tables) (c : Called) w
   pub no-other-change : (number ≡ 0 → ⊥) → (number ≡ 1 → ⊥) → (number ≡ 4 → ⊥) → Plays true number row x t c
   no-other-change f g h k e b s = absurd (no-change number k f g h e b)
 
-  pub no-other-ask : (number ≡ 2 → ⊥) → (number ≡ 3 → ⊥) → Plays false number row x t c
-  no-other-ask f g k e b s = absurd (no-ask number k f g e b)
+  pub no-other-ask : (number ≡ 2 → ⊥) → (number ≡ 3 → ⊥) → (number ≡ 5 → ⊥) → Plays false number row x t c
+  no-other-ask f g h k e b s = absurd (no-ask number k f g h e b)
 
 -- ---- the number of a kind
 
@@ -163,6 +185,10 @@ module _ {number : ℕ} where
   unfolding kindAt
   is-readings e = ap (kindAt kinds) e
 
+  pub is-listings : number ≡ 5 → kindAt kinds number ≡ some listings
+  unfolding kindAt
+  is-listings e = ap (kindAt kinds) e
+
 pub wanted-is : (r : Wanted) (row : List ℕ) (number : ℕ) (k : Kind) (size : Cursor) → r ≡ record { known = true; size = size }
     → kindAt kinds number ≡ some k → size ≡ k .takes row
     → wantedBy r ≡ takesOf (kindAt kinds number) row
@@ -170,22 +196,22 @@ unfolding takesOf
 wanted-is r row number k size e i s = ap (λ (r : Wanted). wantedBy r) e ∙ (ap (λ (z : Cursor). some z) s
     ∙ sym (ap (λ (o : Option Kind). takesOf o row) i))
 
-pub wanted-not : (row : List ℕ) (number : ℕ) → (number ≡ 0 → ⊥) → (number ≡ 1 → ⊥) → (number ≡ 2 → ⊥) → (number ≡ 3 → ⊥) → (number ≡ 4
-    → ⊥) → none ≡ takesOf (kindAt kinds number) row
+pub wanted-not : (row : List ℕ) (number : ℕ) → (number ≡ 0 → ⊥) → (number ≡ 1 → ⊥) → (number ≡ 2 → ⊥) → (number ≡ 3 → ⊥)
+    → (number ≡ 4 → ⊥) → (number ≡ 5 → ⊥) → none ≡ takesOf (kindAt kinds number) row
 unfolding takesOf kindAt
-wanted-not row zero f g h i j = absurd (f refl)
-wanted-not row (suc zero) f g h i j = absurd (g refl)
-wanted-not row (suc (suc zero)) f g h i j = absurd (h refl)
-wanted-not row (suc (suc (suc zero))) f g h i j = absurd (i refl)
-wanted-not row (suc (suc (suc (suc zero)))) f g h i j = absurd (j refl)
-wanted-not row (suc (suc (suc (suc (suc n))))) f g h i j = refl
+wanted-not row zero f g h i j l = absurd (f refl)
+wanted-not row (suc zero) f g h i j l = absurd (g refl)
+wanted-not row (suc (suc zero)) f g h i j l = absurd (h refl)
+wanted-not row (suc (suc (suc zero))) f g h i j l = absurd (i refl)
+wanted-not row (suc (suc (suc (suc zero)))) f g h i j l = absurd (j refl)
+wanted-not row (suc (suc (suc (suc (suc zero))))) f g h i j l = absurd (l refl)
+wanted-not row (suc (suc (suc (suc (suc (suc n)))))) f g h i j l = refl
 
 -- ---- a call follows its definition
 
 -- one slice is left beside the tables
-one : (slice : List ℕ) (beside : List (List ℕ)) → slice ∷ [] ≡ beside → slice ≡ flatten beside
-unfolding flatten
-one slice beside e = sym (append-nil slice) ∙ ap flatten e
+one : (slice : List ℕ) (beside : List (List ℕ)) → slice ∷ [] ≡ beside → slice ≡ getD beside 0 []
+one slice beside e = ap (λ (b : List (List ℕ)). getD b 0 []) e
 
 called-is : (ask : Ask) (t t′ : Tables) (told : List ℕ) (y : Taken) → told ≡ replyRow (outcomeOn ask t .answer) → t′
     ≡ outcomeOn ask t .after
@@ -197,32 +223,43 @@ module _ (row : List ℕ) (x : Taken) (t t′ : Tables) (told : List ℕ) where
       → sizeOf x ≡ openings .takes row → called told t′ x ≡ calledBy (openings .ask row x) t
   unfolding leftBy
   opens-it a b e = called-is (openings .ask row x) t t′ told x a b (taken-same (no-samples x e refl) (no-trail x e refl) (no-sheet x e
-      refl))
+      refl) (no-list x e refl))
 
   pub adds-it : told ≡ replyRow (outcomeOn (addings .ask row x) t .answer) → t′ ≡ outcomeOn (addings .ask row x) t .after
       → sizeOf x ≡ addings .takes row → called told t′ x ≡ calledBy (addings .ask row x) t
   unfolding leftBy
-  adds-it a b e = called-is (addings .ask row x) t t′ told x a b (taken-same refl (no-trail x e refl) (no-sheet x e refl))
+  adds-it a b e = called-is (addings .ask row x) t t′ told x a b (taken-same refl (no-trail x e refl) (no-sheet x e refl)
+      (no-list x e refl))
 
   pub matches-it : (trail : List ℕ) → told ≡ replyRow (outcomeOn (matchings .ask row x) t .answer) → t′
       ≡ outcomeOn (matchings .ask row x) t .after
       → trail ∷ [] ≡ outcomeOn (matchings .ask row x) t .beside → sizeOf x ≡ matchings .takes row
-      → called told t′ (taken (x .samples) trail (x .sheet)) ≡ calledBy (matchings .ask row x) t
+      → called told t′ (taken (x .samples) trail (x .sheet) (x .list)) ≡ calledBy (matchings .ask row x) t
   unfolding leftBy
   matches-it trail a b c e =
-      called-is (matchings .ask row x) t t′ told (taken (x .samples) trail (x .sheet)) a b (taken-same refl (one trail _ c) (no-sheet x e
-      refl))
+      called-is (matchings .ask row x) t t′ told (taken (x .samples) trail (x .sheet) (x .list)) a b (taken-same refl (one trail _ c)
+      (no-sheet x e refl) (no-list x e refl))
 
   pub writes-it : (sheet : List ℕ) → told ≡ replyRow (outcomeOn (writings .ask row x) t .answer) → t′
       ≡ outcomeOn (writings .ask row x) t .after
       → sheet ∷ [] ≡ outcomeOn (writings .ask row x) t .beside → sizeOf x ≡ writings .takes row
-      → called told t′ (taken (x .samples) (x .trail) sheet) ≡ calledBy (writings .ask row x) t
+      → called told t′ (taken (x .samples) (x .trail) sheet (x .list)) ≡ calledBy (writings .ask row x) t
   unfolding leftBy
   writes-it sheet a b c e =
-      called-is (writings .ask row x) t t′ told (taken (x .samples) (x .trail) sheet) a b (taken-same (no-samples x e refl) (no-trail x e
-      refl) (one sheet _ c))
+      called-is (writings .ask row x) t t′ told (taken (x .samples) (x .trail) sheet (x .list)) a b (taken-same (no-samples x e refl)
+      (no-trail x e refl) (one sheet _ c) (no-list x e refl))
 
   pub reads-it : told ≡ replyRow (outcomeOn (readings .ask row x) t .answer) → t′ ≡ outcomeOn (readings .ask row x) t .after
       → sizeOf x ≡ readings .takes row → called told t′ x ≡ calledBy (readings .ask row x) t
   unfolding leftBy
-  reads-it a b e = called-is (readings .ask row x) t t′ told x a b (taken-same (no-samples x e refl) (no-trail x e refl) refl)
+  reads-it a b e = called-is (readings .ask row x) t t′ told x a b (taken-same (no-samples x e refl) (no-trail x e refl) refl
+      (no-list x e refl))
+
+  pub lists-it : (trail list : List ℕ) → told ≡ replyRow (outcomeOn (listings .ask row x) t .answer) → t′
+      ≡ outcomeOn (listings .ask row x) t .after
+      → trail ∷ list ∷ [] ≡ outcomeOn (listings .ask row x) t .beside → sizeOf x ≡ listings .takes row
+      → called told t′ (taken (x .samples) trail (x .sheet) list) ≡ calledBy (listings .ask row x) t
+  unfolding leftBy
+  lists-it trail list a b c e =
+      called-is (listings .ask row x) t t′ told (taken (x .samples) trail (x .sheet) list) a b (taken-same refl
+      (ap (λ (beside : List (List ℕ)). getD beside 0 []) c) (no-sheet x e refl) (ap (λ (beside : List (List ℕ)). getD beside 1 []) c))

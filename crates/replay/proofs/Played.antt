@@ -21,7 +21,8 @@ use Rattle.replay.specs.Demanded.{Demanded}
 use Rattle.replay.specs.declared.Cursor.{Cursor}
 use Rattle.replay.specs.declared.Turn.{Turn}
 use Rattle.replay.specs.Numbers.{replyRow, withRow, repliesLaid}
-use Rattle.replay.specs.Script.{rowsIn, rowsOf, lentBy, State, stateAt, Inside, asks, replyIn, stateAfter, Turned, turned, made, turnOf}
+use Rattle.replay.specs.Script.{rowsIn, rowsOf, lentBy, State, stateAt, Inside, cursor, asks, replyIn, stateAfter, Turned, turned}
+use Rattle.replay.specs.Script.{made, turnOf}
 use Rattle.replay.specs.Script.{Played, begun, playedOne, playedRow, answersOf, played, whole, tellsRow, nextRow}
 use Rattle.replay.proofs.Asking.{Sound, asked-typed, asked-within, sound-after}
 
@@ -32,12 +33,14 @@ ran-more : {memory between after : Tables} {calls : List Call} {said : List Repl
 ran-more no-call f = a-call f no-call
 ran-more (a-call g rest) f = a-call g (ran-more rest f)
 
-laid-more : (answers : List Answer) (a : Answer) (k : ℕ) (l : List ℕ) → repliesLaid (answers ++ (a ∷ [])) k l ≡ withRow (repliesLaid answers k l) (k + length answers) (replyRow a)
+laid-more : (answers : List Answer) (a : Answer) (k : ℕ) (l : List ℕ) → repliesLaid (answers ++ (a ∷ [])) k l ≡ withRow (repliesLaid
+    answers k l) (k + length answers) (replyRow a)
 unfolding repliesLaid
 laid-more [] a k l = let e : k ≡ k + 0 = omega arith in ap (λ (j : ℕ). withRow l j (replyRow a)) e
 laid-more (b ∷ answers) a k l =
     let e : suc k + length answers ≡ k + suc (length answers) = omega arith in
-    laid-more answers a (suc k) (withRow l k (replyRow b)) ∙ ap (λ (j : ℕ). withRow (repliesLaid answers (suc k) (withRow l k (replyRow b))) j (replyRow a)) e
+    laid-more answers a (suc k) (withRow l k (replyRow b)) ∙ ap (λ (j : ℕ). withRow (repliesLaid answers (suc k) (withRow l k (replyRow
+    b))) j (replyRow a)) e
 
 answers-more : (said : List Reply) (r : Reply) → answersOf (said ++ (r ∷ [])) ≡ answersOf said ++ (r .answer ∷ [])
 answers-more [] r = refl
@@ -59,7 +62,8 @@ pub record Fine (t₀ : Tables) (replies₀ : List ℕ) (p : Played) (replies : 
 module _ (t₀ : Tables) (replies₀ : List ℕ) where
   -- by whether the row asks for a call
   row-fine : (row : List ℕ) (p : Played) (replies : List ℕ) (k : ℕ) (r : Turn) (now′ : State) (o : Option Ask)
-      → Fine t₀ replies₀ p replies k → asks (lentOf t₀) row (p .now) ≡ o → turned (if r .made then some (r .told) else none) now′ ≡ made (lentBy row) o (p .now)
+      → Fine t₀ replies₀ p replies k → asks (lentOf t₀) row (p .now) ≡ o → turned (if r .made then some (r .told) else none) now′ ≡ made
+      (lentBy row) o (p .now)
       → lentOf (now′ .memory) ≡ lentOf t₀
       → (now′ ≡ playedOne (lentBy row) o p .now) × Fine t₀ replies₀ (playedOne (lentBy row) o p) (tellsRow r k replies) (nextRow r k)
   unfolding made stateAfter playedOne tellsRow nextRow
@@ -89,7 +93,8 @@ module _ (t₀ : Tables) (replies₀ : List ℕ) where
       }
 
       by : (b : Bool) → (if b then some (r .told) else none) ≡ some (replyRow (replyIn c (p .now .memory) .answer))
-          → (now′ ≡ stateAfter c (p .now)) × Fine t₀ replies₀ (playedOne (lentBy row) (some ask) p) (if b then withRow replies k (r .told) else replies) (if b then k + 1 else k)
+          → (now′ ≡ stateAfter c (p .now)) × Fine t₀ replies₀ (playedOne (lentBy row) (some ask) p) (if b then withRow replies k
+          (r .told) else replies) (if b then k + 1 else k)
       by false n = let z : _≡_ {A = ℕ} 0 1 = cc in absurd (omega arith)
       by true n =
           let told : r .told ≡ replyRow (replyIn c (p .now .memory) .answer) = cc in
@@ -102,33 +107,34 @@ module _ (t₀ : Tables) (replies₀ : List ℕ) where
               laid =
                   rw (told, f .laid, f .counted, answers-more (p .said) (replyIn c (p .now .memory)))
                   (sym (laid-more (answersOf (p .said)) (replyIn c (p .now .memory) .answer) 0 replies₀
-                  ∙ ap (λ (j : ℕ). withRow (repliesLaid (answersOf (p .said)) 0 replies₀) j (replyRow (replyIn c (p .now .memory) .answer))) so-many));
+                  ∙ ap (λ (j : ℕ). withRow (repliesLaid (answersOf (p .said)) 0 replies₀) j (replyRow (replyIn c
+                  (p .now .memory) .answer))) so-many));
             },
           )
 
 -- ---- the loop
 
-module _ (t₀ : Tables) (script : List ℕ) (pool : List ℤ) (trails₀ sheets₀ replies₀ : List ℕ) where
+module _ (t₀ : Tables) (script : List ℕ) (pool : List ℤ) (trails₀ sheets₀ lists₀ replies₀ : List ℕ) where
   abbrev end : Played
-  end = played t₀ script pool trails₀ sheets₀
+  end = played t₀ script pool trails₀ sheets₀ lists₀
 
   -- the rows up to a place are played, and k replies are laid down
-  pub record Playing (t : Tables) (trails sheets replies : List ℕ) (at : Cursor) (place k : ℕ) : Type 0 where
+  pub record Playing (t : Tables) (trails sheets lists replies : List ℕ) (at : Cursor) (place k : ℕ) : Type 0 where
     pub so-far : Played
-    pub state-is : stateAt t pool trails sheets at ≡ so-far .now
+    pub state-is : stateAt t pool trails sheets lists at ≡ so-far .now
     pub fine : Fine t₀ replies₀ so-far replies k
     pub onward : foldl (playedRow (lentOf t₀)) so-far (rowsOf (drop place script)) ≡ end
-    pub inside : Inside at pool trails sheets
+    pub inside : Inside at pool trails sheets lists
     pub few : k ≤ place
 
-  pub playing-first : T (areSamples pool) → T (areBytes sheets₀) → Playing t₀ trails₀ sheets₀ replies₀ (record { samples = 0; trails = 0; sheets = 0 }) 0 0
+  pub playing-first : T (areSamples pool) → T (areBytes sheets₀) → Playing t₀ trails₀ sheets₀ lists₀ replies₀ (cursor 0 0 0 0) 0 0
   unfolding repliesLaid
   playing-first s b = record {
-    so-far = begun t₀ pool trails₀ sheets₀;
+    so-far = begun t₀ pool trails₀ sheets₀ lists₀;
     state-is = refl;
     fine = record { ran = no-call; sound = record { as-long = refl; of-samples = s; of-bytes = b }; counted = refl; laid = refl };
     onward = refl;
-    inside = record { samples-inside = omega arith; trails-inside = omega arith; sheets-inside = omega arith };
+    inside = record { samples-inside = omega arith; trails-inside = omega arith; sheets-inside = omega arith; lists-inside = omega arith };
     few = omega arith;
   }
 
@@ -141,20 +147,26 @@ module _ (t₀ : Tables) (script : List ℕ) (pool : List ℤ) (trails₀ sheets
       by false = omega arith
 
   -- a row that a turn has played
-  pub playing-on : {t t′ : Tables} {trails trails′ sheets sheets′ replies : List ℕ} {at : Cursor} {place k : ℕ} (r : Turn) (row : List ℕ) (to : ℕ)
-      → Playing t trails sheets replies at place k → lentOf t ≡ lentOf t₀ → lentOf t′ ≡ lentOf t₀
+  pub playing-on : {t t′ : Tables} {trails trails′ sheets sheets′ lists lists′ replies : List ℕ} {at : Cursor} {place k : ℕ} (r : Turn)
+      (row : List ℕ) (to : ℕ)
+      → Playing t trails sheets lists replies at place k → lentOf t ≡ lentOf t₀ → lentOf t′ ≡ lentOf t₀
       → rowsOf (drop place script) ≡ row ∷ rowsOf (drop to script) → place + 1 ≤ to
-      → turnOf r t′ pool trails′ sheets′ ≡ made (lentBy row) (asks (lentOf t) row (stateAt t pool trails sheets at)) (stateAt t pool trails sheets at)
-      → Inside (r .at) pool trails sheets → length trails′ ≡ length trails → length sheets′ ≡ length sheets
-      → (replies′ : List ℕ) (k′ : ℕ) → replies′ ≡ tellsRow r k replies → k′ ≡ nextRow r k → Playing t′ trails′ sheets′ replies′ (r .at) to k′
+      → turnOf r t′ pool trails′ sheets′ lists′ ≡ made (lentBy row) (asks (lentOf t) row (stateAt t pool trails sheets lists at))
+      (stateAt t pool trails sheets lists at)
+      → Inside (r .at) pool trails sheets lists → length trails′ ≡ length trails → length sheets′ ≡ length sheets → length lists′ ≡
+      length lists
+      → (replies′ : List ℕ) (k′ : ℕ) → replies′ ≡ tellsRow r k replies → k′ ≡ nextRow r k → Playing t′ trails′ sheets′ lists′ replies′
+      (r .at) to k′
   unfolding playedRow
-  playing-on {t} {t′} {trails} {trails′} {sheets} {sheets′} {replies} {at} {place} {k} r row to h l l′ next more e i m n replies′ k′ q u =
+  playing-on {t} {t′} {trails} {trails′} {sheets} {sheets′} {lists} {lists′} {replies} {at} {place} {k} r row to h l l′ next more e i m n
+      o replies′ k′ q u =
       let p = h .so-far in
-      let asked : turnOf r t′ pool trails′ sheets′ ≡ made (lentBy row) (asks (lentOf t₀) row (p .now)) (p .now) =
+      let asked : turnOf r t′ pool trails′ sheets′ lists′ ≡ made (lentBy row) (asks (lentOf t₀) row (p .now)) (p .now) =
       e
-      ∙ (ap (λ (x : Lent). made (lentBy row) (asks x row (stateAt t pool trails sheets at)) (stateAt t pool trails sheets at)) l
+      ∙ (ap (λ (x : Lent). made (lentBy row) (asks x row (stateAt t pool trails sheets lists at)) (stateAt t pool trails sheets lists at)) l
       ∙ ap (λ (x : State). made (lentBy row) (asks (lentOf t₀) row x) x) (h .state-is)) in
-      let g = row-fine t₀ replies₀ row p replies k r (stateAt t′ pool trails′ sheets′ (r .at)) (asks (lentOf t₀) row (p .now)) (h .fine) refl asked l′ in
+      let g = row-fine t₀ replies₀ row p replies k r (stateAt t′ pool trails′ sheets′ lists′ (r .at)) (asks (lentOf t₀) row (p .now))
+      (h .fine) refl asked l′ in
       record {
         so-far = playedRow (lentOf t₀) p row;
         state-is = g .0;
@@ -165,17 +177,20 @@ module _ (t₀ : Tables) (script : List ℕ) (pool : List ℤ) (trails₀ sheets
           samples-inside = i .samples-inside;
           trails-inside = subst (λ (x : ℕ). r .at .trails ≤ x) (sym m) (i .trails-inside);
           sheets-inside = subst (λ (x : ℕ). r .at .sheets ≤ x) (sym n) (i .sheets-inside);
+          lists-inside = subst (λ (x : ℕ). r .at .lists ≤ x) (sym o) (i .lists-inside);
         };
         few = subst (λ (j : ℕ). j ≤ to) (sym u) (few-more r k place to (h .few) more);
       }
 
   -- when every row is played
-  module _ {t : Tables} {trails sheets replies : List ℕ} {at : Cursor} {place k : ℕ} (h : Playing t trails sheets replies at place k) (all : length script ≤ place) where
+  module _ {t : Tables} {trails sheets lists replies : List ℕ} {at : Cursor} {place k : ℕ} (h : Playing t trails sheets lists replies at
+      place k) (all : length script ≤ place) where
     at-end : h .so-far ≡ end
     unfolding rowsIn
-    at-end = ap (λ (l : List ℕ). foldl (playedRow (lentOf t₀)) (h .so-far) (rowsOf l)) (sym (drop-of-length-le script {i = place} all)) ∙ h .onward
+    at-end = ap (λ (l : List ℕ). foldl (playedRow (lentOf t₀)) (h .so-far) (rowsOf l)) (sym (drop-of-length-le script {i = place} all)) ∙
+        h .onward
 
-    state-then : stateAt t pool trails sheets at ≡ end .now
+    state-then : stateAt t pool trails sheets lists at ≡ end .now
     state-then = h .state-is ∙ ap (λ (p : Played). p .now) at-end
 
     pub memory-then : t ≡ end .now .memory
@@ -187,6 +202,9 @@ module _ (t₀ : Tables) (script : List ℕ) (pool : List ℤ) (trails₀ sheets
     pub sheets-then : sheets ≡ whole (end .now .sheets)
     sheets-then = sym (take-append-drop (at .sheets) sheets) ∙ ap (λ (s : State). whole (s .sheets)) state-then
 
+    pub lists-then : lists ≡ whole (end .now .lists)
+    lists-then = sym (take-append-drop (at .lists) lists) ∙ ap (λ (s : State). whole (s .lists)) state-then
+
     pub replies-then : replies ≡ repliesLaid (answersOf (end .said)) 0 replies₀
     replies-then = h .fine .laid ∙ ap (λ (p : Played). repliesLaid (answersOf (p .said)) 0 replies₀) at-end
 
@@ -196,13 +214,15 @@ module _ (t₀ : Tables) (script : List ℕ) (pool : List ℤ) (trails₀ sheets
         (subst (λ (p : Played). Ran t₀ (p .asked) (p .said) (p .now .memory)) at-end (h .fine .ran))
 
 pub same-lengths : (t s : Tables) → length (t .control) ≡ length (s .control) → length (t .samples) ≡ length (s .samples)
-    → length (t .nodes) ≡ length (s .nodes) → length (t .links) ≡ length (s .links) → length (t .work) ≡ length (s .work) → lentOf t ≡ lentOf s
+    → length (t .nodes) ≡ length (s .nodes) → length (t .links) ≡ length (s .links) → length (t .work) ≡ length (s .work) → lentOf t ≡
+    lentOf s
 same-lengths t s c p n l w = rw (c, p, n, l, w)
 
 -- ---- the demands
 
 -- calls that ran are as document 01 demands, from the first that succeeded on
-pub demanded : (calls : List Call) (said : List Reply) {memory memory′ : Tables} → Ran memory calls said memory′ → Demanded calls said memory′
+pub demanded : (calls : List Call) (said : List Reply) {memory memory′ : Tables} → Ran memory calls said memory′ → Demanded calls said
+    memory′
 unfolding Demanded
 demanded [] said ran = tt
 demanded (first ∷ calls) (said₀ ∷ said) {memory} {memory′} ran = λ e. demands .after-list first calls memory memory′ said₀ said ran e

@@ -1,4 +1,5 @@
--- Every list of calls that code can be asked to make has a script: the calls' rows, samples, trails and sheets, each one behind another.
+-- Every list of calls that code can be asked to make has a script: the calls' rows, samples, trails, sheets and lists, each one behind
+-- another.
 use Prim.Native.Nat.{ℕ, _<_, _^_}
 use native.Mathlib.Nat.{lt-of-le-of-lt}
 use native.Mathlib.Omega.{arith}
@@ -16,11 +17,13 @@ use Rattle.integer.proofs.Tests.{passes, test-true}
 use Rattle.integer.specs.Lists.{All, all-none, all-more}
 use Rattle.integer.proofs.Lists.{all-append, every-all, all-every}
 use Rattle.dstree.specs.Sheet.{areBytes}
-use Rattle.dstree.specs.Book.{Lent, Ask, opening, adding, matching, writing, reading, Call, call}
+use Rattle.dstree.specs.Book.{Lent, Ask, opening, adding, matching, writing, reading, listing, Call, call}
 use Rattle.tables.specs.Tables.{Tables, lentOf}
 use Rattle.tables.specs.Beginning.{Within}
-use Rattle.replay.specs.Script.{State, lentBy, Taken, sizeOf, nextOf, aheadOf, Kind, openings, addings, matchings, writings, readings, kinds, kindAt}
-use Rattle.replay.specs.Script.{fitsIn, enough, ifEnough, playable, askedBy, asks, takenBy, stateAfter, made, Played, begun, playedOne, playedRow}
+use Rattle.replay.specs.Script.{State, lentBy, Taken, sizeOf, nextOf, aheadOf, Kind, openings, addings, matchings, writings}
+use Rattle.replay.specs.Script.{readings, listings, kinds, kindAt}
+use Rattle.replay.specs.Script.{fitsIn, enough, ifEnough, playable, askedBy, asks, takenBy, stateAfter, made, Played, begun}
+use Rattle.replay.specs.Script.{playedOne, playedRow}
 use Rattle.replay.specs.declared.Cursor.{Cursor}
 use Rattle.replay.specs.Scripts.{Word, Mark, Sized, Possible, Long, Script}
 use Rattle.replay.proofs.ReadBack.{scriptOf, rows-of-script}
@@ -45,6 +48,7 @@ record Row (ask : Ask) : Type 0 where
   pub samples-fit : Sized ask → All (λ z. T (isSample z)) (takenBy ask .samples)
   pub marks-fit : Sized ask → All Mark (takenBy ask .trail)
   pub bytes-fit : Sized ask → All (λ b. T (isByte b)) (takenBy ask .sheet)
+  pub list-fits : Sized ask → All Word (takenBy ask .list)
 
 rowFor : (ask : Ask) → Row ask
 unfolding kindAt lengthsAnd takenBy Sized areBytes
@@ -61,6 +65,7 @@ rowFor (opening m) = record {
   samples-fit = λ s. all-none;
   marks-fit = λ s. all-none;
   bytes-fit = λ s. all-none;
+  list-fits = λ s. all-none;
 }
 rowFor (adding x) = record {
   number = 1;
@@ -75,6 +80,7 @@ rowFor (adding x) = record {
   samples-fit = λ s. every-all isSample x (s .0);
   marks-fit = λ s. all-none;
   bytes-fit = λ s. all-none;
+  list-fits = λ s. all-none;
 }
 rowFor (matching x trail) = record {
   number = 2;
@@ -89,6 +95,7 @@ rowFor (matching x trail) = record {
   samples-fit = λ s. every-all isSample x (s .0);
   marks-fit = λ s. s .2;
   bytes-fit = λ s. all-none;
+  list-fits = λ s. all-none;
 }
 rowFor (writing sheet) = record {
   number = 3;
@@ -103,6 +110,7 @@ rowFor (writing sheet) = record {
   samples-fit = λ s. all-none;
   marks-fit = λ s. all-none;
   bytes-fit = λ s. every-all isByte sheet (s .0);
+  list-fits = λ s. all-none;
 }
 rowFor (reading bytes) = record {
   number = 4;
@@ -117,6 +125,22 @@ rowFor (reading bytes) = record {
   samples-fit = λ s. all-none;
   marks-fit = λ s. all-none;
   bytes-fit = λ s. every-all isByte bytes (s .0);
+  list-fits = λ s. all-none;
+}
+rowFor (listing k x trail list) = record {
+  number = 5;
+  own = length x ∷ length trail ∷ length list ∷ k ∷ [];
+  kind = listings;
+  is-kind = refl;
+  takes-that = λ lent. refl;
+  asks-that = λ lent. refl;
+  short = lit< tt;
+  numbers-fit = λ s. all-more (s .2) (all-more (s .4) (all-more (s .6) (all-more (s .0) all-none)));
+  number-fits = lit< tt;
+  samples-fit = λ s. every-all isSample x (s .1);
+  marks-fit = λ s. s .3;
+  bytes-fit = λ s. all-none;
+  list-fits = λ s. s .5;
 }
 
 rowBy : Lent → Ask → List ℕ
@@ -133,6 +157,9 @@ trailOf ask = takenBy ask .trail
 
 abbrev sheetOf : Ask → List ℕ
 sheetOf ask = takenBy ask .sheet
+
+abbrev listOf : Ask → List ℕ
+listOf ask = takenBy ask .list
 
 -- what the calls of a list take, one behind another
 behind : {A : Type 0} → (Ask → List A) → List Call → List A
@@ -176,13 +203,14 @@ module _ {A : Type 0} (x more all : List A) (e : all ≡ x ++ more) where
   the-rest = ap (drop (length x)) e ∙ drop-append-seam x more
 
 -- what a call takes is next
-record Next (s : State) (ask : Ask) (pool : List ℤ) (trails sheets : List ℕ) : Type 0 where
+record Next (s : State) (ask : Ask) (pool : List ℤ) (trails sheets lists : List ℕ) : Type 0 where
   pub samples-next : s .samples ≡ takenBy ask .samples ++ pool
   pub trail-next : s .trails .ahead ≡ takenBy ask .trail ++ trails
   pub sheet-next : s .sheets .ahead ≡ takenBy ask .sheet ++ sheets
+  pub list-next : s .lists .ahead ≡ takenBy ask .list ++ lists
 
-module _ (lent lengths : Lent) (w : Within lent lengths) (s : State) (pool : List ℤ) (trails sheets : List ℕ) (ask : Ask) (n : Next s ask
-    pool trails sheets) where
+module _ (lent lengths : Lent) (w : Within lent lengths) (s : State) (pool : List ℤ) (trails sheets lists : List ℕ) (ask : Ask)
+    (n : Next s ask pool trails sheets lists) where
   abbrev x : Taken
   x = takenBy ask
 
@@ -192,6 +220,7 @@ module _ (lent lengths : Lent) (w : Within lent lengths) (s : State) (pool : Lis
     there (x .samples) pool (s .samples) (n .samples-next),
     there (x .trail) trails (s .trails .ahead) (n .trail-next),
     there (x .sheet) sheets (s .sheets .ahead) (n .sheet-next),
+    there (x .list) lists (s .lists .ahead) (n .list-next),
   )
 
   the-next-all : nextOf (sizeOf x) s ≡ x
@@ -199,6 +228,7 @@ module _ (lent lengths : Lent) (w : Within lent lengths) (s : State) (pool : Lis
     the-next (x .samples) pool (s .samples) (n .samples-next),
     the-next (x .trail) trails (s .trails .ahead) (n .trail-next),
     the-next (x .sheet) sheets (s .sheets .ahead) (n .sheet-next),
+    the-next (x .list) lists (s .lists .ahead) (n .list-next),
   ) refl
 
   is-playable : playable lengths (aheadOf s) (rowBy lent ask) ≡ some (rowFor ask .kind)
@@ -224,13 +254,13 @@ module _ (lent lengths : Lent) (w : Within lent lengths) (s : State) (pool : Lis
 
   -- and what is ahead then
   leaves-rest : (stateAfter (call lent ask) s .samples ≡ pool) × (stateAfter (call lent ask) s .trails .ahead
-      ≡ trails) × (stateAfter (call lent ask) s .sheets .ahead ≡ sheets)
+      ≡ trails) × (stateAfter (call lent ask) s .sheets .ahead ≡ sheets) × (stateAfter (call lent ask) s .lists .ahead ≡ lists)
   unfolding stateAfter
   leaves-rest = (
     the-rest (x .samples) pool (s .samples) (n .samples-next),
     the-rest (x .trail) trails (s .trails .ahead) (n .trail-next),
-    the-rest
-        (x .sheet) sheets (s .sheets .ahead) (n .sheet-next),
+    the-rest (x .sheet) sheets (s .sheets .ahead) (n .sheet-next),
+    the-rest (x .list) lists (s .lists .ahead) (n .list-next),
   )
 
 -- ---- all calls
@@ -245,22 +275,24 @@ row-played lengths c p e =
 
 asks-all : (lengths : Lent) (calls : List Call) (p : Played) → All (Possible lengths) calls
     → p .now .samples ≡ behind samplesOf calls → p .now .trails .ahead ≡ behind trailOf calls → p .now .sheets .ahead
-    ≡ behind sheetOf calls
+    ≡ behind sheetOf calls → p .now .lists .ahead ≡ behind listOf calls
     → foldl (playedRow lengths) p (map rowOf calls) .asked ≡ p .asked ++ calls
 unfolding behind playedOne made
-asks-all lengths [] p possible a b c = sym (append-nil (p .asked))
-asks-all lengths (q ∷ calls) p (all-more h others) a b c =
-    let next : Next (p .now) (q .ask) (behind samplesOf calls) (behind trailOf calls) (behind sheetOf calls) = record {
+asks-all lengths [] p possible a b c d = sym (append-nil (p .asked))
+asks-all lengths (q ∷ calls) p (all-more h others) a b c d =
+    let next : Next (p .now) (q .ask) (behind samplesOf calls) (behind trailOf calls) (behind sheetOf calls)
+    (behind listOf calls) = record {
       samples-next = a;
       trail-next = b;
       sheet-next = c;
+      list-next = d;
     } in
-    let asked = asks-it (q .lent) lengths (h .within) (p .now) (behind samplesOf calls) (behind trailOf calls) (behind sheetOf calls) (q
-    .ask) next in
+    let asked = asks-it (q .lent) lengths (h .within) (p .now) (behind samplesOf calls) (behind trailOf calls) (behind sheetOf calls)
+    (behind listOf calls) (q .ask) next in
     let rest = leaves-rest (q .lent) lengths (h .within) (p .now) (behind samplesOf calls) (behind trailOf calls) (behind sheetOf calls)
-    (q .ask) next in
+    (behind listOf calls) (q .ask) next in
     ap (λ (x : Played). foldl (playedRow lengths) x (map rowOf calls) .asked) (row-played lengths q p asked)
-    ∙ (asks-all lengths calls (playedOne (q .lent) (some (q .ask)) p) others (rest .0) (rest .1) (rest .2)
+    ∙ (asks-all lengths calls (playedOne (q .lent) (some (q .ask)) p) others (rest .0) (rest .1) (rest .2) (rest .3)
     ∙ append-assoc (p .asked) (q ∷ []) calls)
 
 -- ---- what the slices hold
@@ -305,17 +337,20 @@ every-list memory calls long possible =
     let pool = behind samplesOf calls in
     let trails = behind trailOf calls in
     let sheets = behind sheetOf calls in
+    let lists = behind listOf calls in
     record {
       numbers = script;
       pool = pool;
       trails = trails;
       sheets = sheets;
+      lists = lists;
       asks-them =
-          ap (λ (rows : List (List ℕ)). foldl (playedRow lengths) (begun memory pool trails sheets) rows .asked) (rows-of-script (map
+          ap (λ (rows : List (List ℕ)). foldl (playedRow lengths) (begun memory pool trails sheets lists) rows .asked) (rows-of-script (map
           rowOf calls))
-          ∙ asks-all lengths calls (begun memory pool trails sheets) possible refl refl refl;
+          ∙ asks-all lengths calls (begun memory pool trails sheets lists) possible refl refl refl refl;
       numbers-fit = script-fits lengths long calls possible;
       pool-fits = all-every isSample (behind-all lengths samplesOf (λ c h. rowFor (c .ask) .samples-fit (h .sized)) calls possible);
       trails-fit = behind-all lengths trailOf (λ c h. rowFor (c .ask) .marks-fit (h .sized)) calls possible;
       sheets-fit = all-every isByte (behind-all lengths sheetOf (λ c h. rowFor (c .ask) .bytes-fit (h .sized)) calls possible);
+      lists-fit = behind-all lengths listOf (λ c h. rowFor (c .ask) .list-fits (h .sized)) calls possible;
     }

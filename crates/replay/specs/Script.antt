@@ -1,16 +1,16 @@
--- A script: calls one behind another, each a row of numbers, with the samples, trails and sheets that they are lent. What a script asks for never depends
--- on what was answered.
+-- A script: calls one behind another, each a row of numbers, with the samples, trails, sheets and lists that they are lent. What a script
+-- asks for never depends on what was answered.
 use Prim.Native.Nat.{ℕ, zero, suc, _+_, _≤_}
 use mathlib.Core.Path.{_≡_}
 use mathlib.Core.Bool.{Bool, true, false, _&&_}
 use mathlib.Core.Option.{Option, none, some}
-use mathlib.Core.List.{List, [], _∷_, _++_, map, flatten, foldl}
+use mathlib.Core.List.{List, [], _∷_, _++_, map, foldl}
 use lib.IntN.{ℤ}
 use lib.ListN.{length, getD, take, drop}
 use lib.Dec.{leb}
 use Rattle.integer.specs.Words.{if_then_else_}
 use Rattle.dstree.specs.Measures.{measures}
-use Rattle.dstree.specs.Book.{Lent, Ask, opening, adding, matching, writing, reading, Call, call, Answer, Reply, reply}
+use Rattle.dstree.specs.Book.{Lent, Ask, opening, adding, matching, writing, reading, listing, Call, call, Answer, Reply, reply}
 use Rattle.tables.specs.Tables.{Tables, lentOf}
 use Rattle.calls.specs.Effects.{outcomeOn}
 use Rattle.calls.specs.Follows.{outcomeIn}
@@ -70,56 +70,66 @@ supply used ahead = record { used = used; ahead = ahead }
 abbrev pub whole : Supply → List ℕ
 whole s = s .used ++ s .ahead
 
--- the memory; the samples of traces and queries to come; the trails and the sheets
+-- the memory; the samples of traces and queries to come; the trails, the sheets and the lists
 pub record State : Type 0 where
   pub memory : Tables
   pub samples : List ℤ
   pub trails : Supply
   pub sheets : Supply
+  pub lists : Supply
 
-abbrev pub state : Tables → List ℤ → Supply → Supply → State
-state memory samples trails sheets = record { memory = memory; samples = samples; trails = trails; sheets = sheets }
+abbrev pub state : Tables → List ℤ → Supply → Supply → Supply → State
+state memory samples trails sheets lists = record {
+  memory = memory;
+  samples = samples;
+  trails = trails;
+  sheets = sheets;
+  lists = lists;
+}
 
 -- the state that lent slices are in, with so much of each taken
 abbrev pub supplyAt : ℕ → List ℕ → Supply
 supplyAt place l = supply (take place l) (drop place l)
 
-abbrev pub stateAt : Tables → List ℤ → List ℕ → List ℕ → Cursor → State
-stateAt memory pool trails sheets at = state memory (drop (at .samples) pool) (supplyAt (at .trails) trails) (supplyAt (at .sheets)
-    sheets)
+abbrev pub stateAt : Tables → List ℤ → List ℕ → List ℕ → List ℕ → Cursor → State
+stateAt memory pool trails sheets lists at =
+    state memory (drop (at .samples) pool) (supplyAt (at .trails) trails) (supplyAt (at .sheets) sheets) (supplyAt (at .lists) lists)
 
 -- no more is taken than there is
-pub record Inside (at : Cursor) (pool : List ℤ) (trails sheets : List ℕ) : Type 0 where
+pub record Inside (at : Cursor) (pool : List ℤ) (trails sheets lists : List ℕ) : Type 0 where
   pub samples-inside : at .samples ≤ length pool
   pub trails-inside : at .trails ≤ length trails
   pub sheets-inside : at .sheets ≤ length sheets
+  pub lists-inside : at .lists ≤ length lists
 
 -- ---- what a row takes
 
-abbrev pub cursor : ℕ → ℕ → ℕ → Cursor
-cursor samples trails sheets = record { samples = samples; trails = trails; sheets = sheets }
+abbrev pub cursor : ℕ → ℕ → ℕ → ℕ → Cursor
+cursor samples trails sheets lists = record { samples = samples; trails = trails; sheets = sheets; lists = lists }
 
--- what a call takes of the samples, of the trails and of the sheets
+-- what a call takes of the samples, of the trails, of the sheets and of the lists
 pub record Taken : Type 0 where
   pub samples : List ℤ
   pub trail : List ℕ
   pub sheet : List ℕ
+  pub list : List ℕ
 
-abbrev pub taken : List ℤ → List ℕ → List ℕ → Taken
-taken samples trail sheet = record { samples = samples; trail = trail; sheet = sheet }
+abbrev pub taken : List ℤ → List ℕ → List ℕ → List ℕ → Taken
+taken samples trail sheet list = record { samples = samples; trail = trail; sheet = sheet; list = list }
 
 -- how much that is
 abbrev pub sizeOf : Taken → Cursor
-sizeOf x = cursor (length (x .samples)) (length (x .trail)) (length (x .sheet))
+sizeOf x = cursor (length (x .samples)) (length (x .trail)) (length (x .sheet)) (length (x .list))
 
 -- .. of the next that is ahead
 abbrev pub nextOf : Cursor → State → Taken
-nextOf size s = taken (take (size .samples) (s .samples)) (take (size .trails) (s .trails .ahead)) (take (size .sheets) (s .sheets
-    .ahead))
+nextOf size s =
+    taken (take (size .samples) (s .samples)) (take (size .trails) (s .trails .ahead)) (take (size .sheets) (s .sheets .ahead))
+    (take (size .lists) (s .lists .ahead))
 
 -- how much is ahead
 abbrev pub aheadOf : State → Cursor
-aheadOf s = cursor (length (s .samples)) (length (s .trails .ahead)) (length (s .sheets .ahead))
+aheadOf s = cursor (length (s .samples)) (length (s .trails .ahead)) (length (s .sheets .ahead)) (length (s .lists .ahead))
 
 -- ---- the kinds of rows
 
@@ -133,34 +143,42 @@ pub record Kind : Type 0 where
 abbrev pub openings : Kind
 openings = record {
   changes = true;
-  takes = λ row. cursor 0 0 0;
+  takes = λ row. cursor 0 0 0 0;
   ask = λ row x. opening (measures (ownNumber row 0) (ownNumber row 1) (ownNumber row 2));
 }
 
 -- an adding of the next so many samples
 abbrev pub addings : Kind
-addings = record { changes = true; takes = λ row. cursor (ownNumber row 0) 0 0; ask = λ row x. adding (x .samples) }
+addings = record { changes = true; takes = λ row. cursor (ownNumber row 0) 0 0 0; ask = λ row x. adding (x .samples) }
 
 -- a match of the next so many samples, with a trail of the next so many places
 abbrev pub matchings : Kind
 matchings = record {
   changes = false;
-  takes = λ row. cursor (ownNumber row 0) (ownNumber row 1) 0;
+  takes = λ row. cursor (ownNumber row 0) (ownNumber row 1) 0 0;
   ask = λ row x. matching (x .samples)
       (x .trail);
 }
 
 -- a writing to a sheet of the next so many bytes
 abbrev pub writings : Kind
-writings = record { changes = false; takes = λ row. cursor 0 0 (ownNumber row 0); ask = λ row x. writing (x .sheet) }
+writings = record { changes = false; takes = λ row. cursor 0 0 (ownNumber row 0) 0; ask = λ row x. writing (x .sheet) }
 
 -- a reading of a sheet of the next so many bytes
 abbrev pub readings : Kind
-readings = record { changes = true; takes = λ row. cursor 0 0 (ownNumber row 0); ask = λ row x. reading (x .sheet) }
+readings = record { changes = true; takes = λ row. cursor 0 0 (ownNumber row 0) 0; ask = λ row x. reading (x .sheet) }
+
+-- a listing of the k nearest of the next so many samples, with a trail and a list of the next so many places
+abbrev pub listings : Kind
+listings = record {
+  changes = false;
+  takes = λ row. cursor (ownNumber row 0) (ownNumber row 1) 0 (ownNumber row 2);
+  ask = λ row x. listing (ownNumber row 3) (x .samples) (x .trail) (x .list);
+}
 
 -- a row's first number is its kind's place here
 abbrev pub kinds : List Kind
-kinds = openings ∷ addings ∷ matchings ∷ writings ∷ readings ∷ []
+kinds = openings ∷ addings ∷ matchings ∷ writings ∷ readings ∷ listings ∷ []
 
 unfoldable pub kindAt : List Kind → ℕ → Option Kind
 kindAt [] n = none
@@ -184,6 +202,7 @@ enough size ahead =
     leb (size .samples) (ahead .samples)
     && leb (size .trails) (ahead .trails)
     && leb (size .sheets) (ahead .sheets)
+    && leb (size .lists) (ahead .lists)
 
 -- what a row takes that is of this kind, if there is as much
 unfoldable pub takesOf : Option Kind → List ℕ → Option Cursor
@@ -207,7 +226,8 @@ asks lengths row s = askedBy (playable lengths (aheadOf s) row) row s
 
 -- how much is taken behind such a row
 abbrev pub moved : Cursor → Cursor → Cursor
-moved at size = cursor (at .samples + size .samples) (at .trails + size .trails) (at .sheets + size .sheets)
+moved at size =
+    cursor (at .samples + size .samples) (at .trails + size .trails) (at .sheets + size .sheets) (at .lists + size .lists)
 
 unfoldable pub movedBy : Option Kind → List ℕ → Cursor → Option Cursor
 movedBy none row at = none
@@ -227,19 +247,21 @@ replyIn c memory = reply (outcomeIn c memory .answer) (outcomeIn c memory .besid
 
 -- what a call takes
 unfoldable pub takenBy : Ask → Taken
-takenBy (opening m) = taken [] [] []
-takenBy (adding x) = taken x [] []
-takenBy (matching query trail) = taken query trail []
-takenBy (writing sheet) = taken [] [] sheet
-takenBy (reading bytes) = taken [] [] bytes
+takenBy (opening m) = taken [] [] [] []
+takenBy (adding x) = taken x [] [] []
+takenBy (matching query trail) = taken query trail [] []
+takenBy (writing sheet) = taken [] [] sheet []
+takenBy (reading bytes) = taken [] [] bytes []
+takenBy (listing k query trail list) = taken query trail [] list
 
 -- .. and how it leaves that, by what it leaves beside the tables
 unfoldable pub leftBy : Ask → List (List ℕ) → Taken
-leftBy (opening m) beside = taken [] [] []
-leftBy (adding x) beside = taken x [] []
-leftBy (matching query trail) beside = taken query (flatten beside) []
-leftBy (writing sheet) beside = taken [] [] (flatten beside)
-leftBy (reading bytes) beside = taken [] [] bytes
+leftBy (opening m) beside = taken [] [] [] []
+leftBy (adding x) beside = taken x [] [] []
+leftBy (matching query trail) beside = taken query (getD beside 0 []) [] []
+leftBy (writing sheet) beside = taken [] [] (getD beside 0 []) []
+leftBy (reading bytes) beside = taken [] [] bytes []
+leftBy (listing k query trail list) beside = taken query (getD beside 0 []) [] (getD beside 1 [])
 
 -- the places that a call took are used, as it left them
 abbrev pub used : Supply → List ℕ → List ℕ → Supply
@@ -251,7 +273,7 @@ stateAfter c s =
     let x = takenBy (c .ask) in
     let y = leftBy (c .ask) (o .beside) in
     state (o .after) (drop (length (x .samples)) (s .samples)) (used (s .trails) (x .trail) (y .trail)) (used (s .sheets) (x .sheet) (y
-    .sheet))
+    .sheet)) (used (s .lists) (x .list) (y .list))
 
 -- a call that is lent all that it takes: the numbers of its reply, and what it leaves
 pub record Called : Type 0 where
@@ -285,8 +307,9 @@ made lent none s = turned none s
 made lent (some ask) s = turned (some (replyRow (outcomeIn (call lent ask) (s .memory) .answer))) (stateAfter (call lent ask) s)
 
 -- .. as code has it: a row's outcome, and what the lent slices hold then
-abbrev pub turnOf : Turn → Tables → List ℤ → List ℕ → List ℕ → Turned
-turnOf r memory pool trails sheets = turned (if r .made then some (r .told) else none) (stateAt memory pool trails sheets (r .at))
+abbrev pub turnOf : Turn → Tables → List ℤ → List ℕ → List ℕ → List ℕ → Turned
+turnOf r memory pool trails sheets lists =
+    turned (if r .made then some (r .told) else none) (stateAt memory pool trails sheets lists (r .at))
 
 -- .. and what it does to row k of the replies, and to the number of replies
 unfoldable pub tellsRow : Turn → ℕ → List ℕ → List ℕ
@@ -302,8 +325,12 @@ pub record Played : Type 0 where
   pub said : List Reply
   pub now : State
 
-abbrev pub begun : Tables → List ℤ → List ℕ → List ℕ → Played
-begun memory pool trails sheets = record { asked = []; said = []; now = state memory pool (supply [] trails) (supply [] sheets) }
+abbrev pub begun : Tables → List ℤ → List ℕ → List ℕ → List ℕ → Played
+begun memory pool trails sheets lists = record {
+  asked = [];
+  said = [];
+  now = state memory pool (supply [] trails) (supply [] sheets) (supply [] lists);
+}
 
 unfoldable pub playedOne : Lent → Option Ask → Played → Played
 playedOne lent none p = p
@@ -319,5 +346,6 @@ unfoldable pub playedRow : Lent → Played → List ℕ → Played
 playedRow lengths p row = playedOne (lentBy row) (asks lengths row (p .now)) p
 
 -- all calls of a script, on these tables
-abbrev pub played : Tables → List ℕ → List ℤ → List ℕ → List ℕ → Played
-played memory script pool trails sheets = foldl (playedRow (lentOf memory)) (begun memory pool trails sheets) (rowsOf script)
+abbrev pub played : Tables → List ℕ → List ℤ → List ℕ → List ℕ → List ℕ → Played
+played memory script pool trails sheets lists =
+    foldl (playedRow (lentOf memory)) (begun memory pool trails sheets lists) (rowsOf script)

@@ -7,7 +7,7 @@ use lib.ListN.{length}
 use lib.Dec.{T}
 use Rattle.integer.specs.Lists.{All}
 use Rattle.dstree.specs.Sheet.{areBytes}
-use Rattle.dstree.specs.Book.{Lent, Ask, opening, adding, matching, writing, reading, Call}
+use Rattle.dstree.specs.Book.{Lent, Ask, opening, adding, matching, writing, reading, listing, Call}
 use Rattle.tables.specs.Tables.{Tables}
 use Rattle.tables.specs.Beginning.{Within}
 use Rattle.calls.specs.Follows.{areSamples}
@@ -20,13 +20,15 @@ Word x = x < 2 ^ 64
 abbrev pub Mark : ℕ → Type 0
 Mark x = x < 2 ^ 16
 
--- what the types of arguments say: measures and lengths have 64 bits, samples and places of a trail 16, bytes 8
+-- what the types of arguments say: measures, lengths, k and places of a list have 64 bits, samples and places of a trail 16, bytes 8
 unfoldable pub Sized : Ask → Type 0
 Sized (opening m) = Word (m .n) × Word (m .capacity) × Word (m .leafSize)
 Sized (adding x) = T (areSamples x) × Word (length x)
 Sized (matching x trail) = T (areSamples x) × Word (length x) × All Mark trail × Word (length trail)
 Sized (writing sheet) = T (areBytes sheet) × Word (length sheet)
 Sized (reading bytes) = T (areBytes bytes) × Word (length bytes)
+Sized (listing k x trail list) =
+    Word k × T (areSamples x) × Word (length x) × All Mark trail × Word (length trail) × All Word list × Word (length list)
 
 -- .. and no table is lent longer than it is
 pub record Possible (lengths : Lent) (c : Call) : Type 0 where
@@ -47,8 +49,10 @@ pub record Script (memory : Tables) (calls : List Call) : Type 0 where
   pub pool : List ℤ
   pub trails : List ℕ
   pub sheets : List ℕ
-  pub asks-them : played memory numbers pool trails sheets .asked ≡ calls
+  pub lists : List ℕ
+  pub asks-them : played memory numbers pool trails sheets lists .asked ≡ calls
   pub numbers-fit : All Word numbers
   pub pool-fits : T (areSamples pool)
   pub trails-fit : All Mark trails
   pub sheets-fit : T (areBytes sheets)
+  pub lists-fit : All Word lists

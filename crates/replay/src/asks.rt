@@ -1,6 +1,8 @@
-// Rows whose calls change no table but search work: matches (2), writings (3). A kind is a reply and a branch.
+// Rows whose calls change no table but search work: matches (2), writings (3), listings (5). A kind is a reply and a branch.
 
 use crate::replies::of_refusal;
+use crate::rows::number;
+use listing::Listed;
 use matching::Found;
 use sheet_writing::Written;
 ghost use mathlib.Core.Path.{_≡_};
@@ -9,6 +11,7 @@ ghost use mathlib.Core.List.{List};
 ghost use Prim.Native.Nat.{ℕ};
 ghost use Rattle.matching.specs.Answered as found;
 ghost use Rattle.sheet_writing.specs.Answered as written;
+ghost use Rattle.listing.specs.Answered as listed;
 ghost use Rattle.tables.specs.Tables.{tables};
 ghost use Rattle.replay.specs.Numbers.{replyRow};
 ghost use Rattle.replay.specs.Script.{taken, called, Plays};
@@ -33,6 +36,16 @@ fn of_written(answer: Written) -> [u64; 5]
     }
 }
 
+// Trail and list are told by the slices that the listing leaves them in.
+fn of_listed(answer: Listed) -> [u64; 5]
+    ensures { λ r. ⌜ ((trail list : List ℕ) → r ≡ replyRow (listed.answerBy answer trail list)) ⌝ }
+{
+    match answer {
+        Listed::Found(leaves, traces, many) => [0, leaves, traces, many, 0],
+        Listed::Refused(why) => of_refusal(why),
+    }
+}
+
 // A row of such a kind, lent the tables and all that it takes.
 pub fn play(
     control: &[u16],
@@ -42,21 +55,37 @@ pub fn play(
     work: &mut [u64],
     trail: &mut [u16],
     sheet: &mut [u8],
+    list: &mut [u64],
     query: &[i16],
     row: &[u64],
     kind: u64,
 ) -> [u64; 5]
-    ensures { λ r. ⌜ Plays false kind (now (row .entry)) (taken (now (query .entry)) (now (trail .entry)) (now (sheet .entry)))
+    ensures { λ r. ⌜ Plays false kind (now (row .entry))
+        (taken (now (query .entry)) (now (trail .entry)) (now (sheet .entry)) (now (list .entry)))
         (tables (now (control .entry)) (now (samples .entry)) (now (nodes .entry)) (now (links .entry)) (now (work .entry)))
         (called r
         (tables (now (control .entry)) (now (samples .entry)) (now (nodes .entry)) (now (links .entry)) (now (work .exit)))
-        (taken (now (query .entry)) (now (trail .exit)) (now (sheet .exit)))) ⌝ }
+        (taken (now (query .entry)) (now (trail .exit)) (now (sheet .exit)) (now (list .exit)))) ⌝ }
 {
     if kind == 2 {
         return of_found(matching::nearest(control, samples, nodes, links, work, trail, query));
     }
     if kind == 3 {
         return of_written(sheet_writing::write_sheet(control, samples, nodes, links, work, sheet));
+    }
+    if kind == 5 {
+        let k = number(row, 9);
+        return of_listed(listing::k_nearest(
+            control,
+            samples,
+            nodes,
+            links,
+            work,
+            trail,
+            list,
+            query,
+            k,
+        ));
     }
     [0; 5]
 }

@@ -55,11 +55,12 @@ pub fn play(
     row: &[u64],
     kind: u64,
 ) -> [u64; 5]
-    ensures { λ r. ⌜ ((trail : List ℕ) → Plays true kind (now (row .entry)) (taken (now (query .entry)) trail (now (sheet .entry)))
+    ensures { λ r. ⌜ ((trail list : List ℕ) → Plays true kind (now (row .entry))
+        (taken (now (query .entry)) trail (now (sheet .entry)) list)
         (tables (now (control .entry)) (now (samples .entry)) (now (nodes .entry)) (now (links .entry)) (now (work .entry)))
         (called r
         (tables (now (control .exit)) (now (samples .exit)) (now (nodes .exit)) (now (links .exit)) (now (work .exit)))
-        (taken (now (query .entry)) trail (now (sheet .entry))))) ⌝ }
+        (taken (now (query .entry)) trail (now (sheet .entry)) list))) ⌝ }
 {
     if kind == 0 {
         let n = number(row, 6);

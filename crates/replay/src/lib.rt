@@ -27,11 +27,12 @@ pub struct Lengths {
     pub work: usize,
 }
 
-// How much of the samples, the trails and the sheets: what calls have taken, what a row takes, or all that there is.
+// How much of the samples, the trails, the sheets and the lists: what calls have taken, what a row takes, or all that there is.
 pub struct Cursor {
     pub samples: usize,
     pub trails: usize,
     pub sheets: usize,
+    pub lists: usize,
 }
 
 // How much a row takes, if it is of a kind.
@@ -65,10 +66,12 @@ fn look(pool: &[i16])
     }
 }
 
-// Every call of a script, in its order, on tables that hold anything. `script` has a row of numbers a call, each behind its length: which call it is (0
-// opening, 1 adding, 2 match, 3 writing, 4 reading), the lengths of the five tables that it is lent, and its own: an opening's measures; an adding's
-// number of samples; a match's, then the places of its trail; the bytes of a writing's or a reading's sheet. `pool` has the samples of traces and queries, one
-// behind another, `trails` the trails of matches and `sheets` the sheets of writings and readings likewise. Each reply goes into five places of `replies`.
+// Every call of a script, in its order, on tables that hold anything. `script` has a row of numbers a call, each behind its length: which
+// call it is (0 opening, 1 adding, 2 match, 3 writing, 4 reading, 5 listing), the lengths of the five tables that it is lent, and its own:
+// an opening's measures; an adding's number of samples; a match's, then the places of its trail; the bytes of a writing's or a reading's
+// sheet; a listing's as a match's, then the places of its list and k. `pool` has the samples of traces and queries, one behind another,
+// `trails` the trails of matches and listings, `sheets` the sheets of writings and readings, `lists` the lists of listings likewise. Each
+// reply goes into five places of `replies`.
 //
 // What holds after the calls is document 01's demands over lists of calls. Two wrong programs that the contract rules out: one that leaves out an adding, and
 // one that lends a call a table one place shorter than it asks for.
@@ -80,6 +83,7 @@ pub fn play(
     work: &mut [u64],
     trails: &mut [u16],
     sheets: &mut [u8],
+    lists: &mut [u64],
     script: &[u64],
     pool: &[i16],
     replies: &mut [u64],
@@ -87,23 +91,27 @@ pub fn play(
     ensures { λ _. ⌜ (tables (now (control .exit)) (now (samples .exit)) (now (nodes .exit)) (now (links .exit)) (now (work .exit))
         ≡ played
         (tables (now (control .entry)) (now (samples .entry)) (now (nodes .entry)) (now (links .entry)) (now (work .entry)))
-        (now (script .entry)) (now (pool .entry)) (now (trails .entry)) (now (sheets .entry)) .now .memory)
+        (now (script .entry)) (now (pool .entry)) (now (trails .entry)) (now (sheets .entry)) (now (lists .entry)) .now .memory)
         × (now (trails .exit) ≡ whole (played
         (tables (now (control .entry)) (now (samples .entry)) (now (nodes .entry)) (now (links .entry)) (now (work .entry)))
-        (now (script .entry)) (now (pool .entry)) (now (trails .entry)) (now (sheets .entry)) .now .trails))
+        (now (script .entry)) (now (pool .entry)) (now (trails .entry)) (now (sheets .entry)) (now (lists .entry)) .now .trails))
         × (now (sheets .exit) ≡ whole (played
         (tables (now (control .entry)) (now (samples .entry)) (now (nodes .entry)) (now (links .entry)) (now (work .entry)))
-        (now (script .entry)) (now (pool .entry)) (now (trails .entry)) (now (sheets .entry)) .now .sheets))
+        (now (script .entry)) (now (pool .entry)) (now (trails .entry)) (now (sheets .entry)) (now (lists .entry)) .now .sheets))
+        × (now (lists .exit) ≡ whole (played
+        (tables (now (control .entry)) (now (samples .entry)) (now (nodes .entry)) (now (links .entry)) (now (work .entry)))
+        (now (script .entry)) (now (pool .entry)) (now (trails .entry)) (now (sheets .entry)) (now (lists .entry)) .now .lists))
         × (now (replies .exit) ≡ repliesLaid (answersOf (played
         (tables (now (control .entry)) (now (samples .entry)) (now (nodes .entry)) (now (links .entry)) (now (work .entry)))
-        (now (script .entry)) (now (pool .entry)) (now (trails .entry)) (now (sheets .entry)) .said)) 0 (now (replies .entry))) ⌝ }
+        (now (script .entry)) (now (pool .entry)) (now (trails .entry)) (now (sheets .entry)) (now (lists .entry)) .said)) 0
+        (now (replies .entry))) ⌝ }
     ensures demanded { λ _. ⌜ Demanded
         (played
         (tables (now (control .entry)) (now (samples .entry)) (now (nodes .entry)) (now (links .entry)) (now (work .entry)))
-        (now (script .entry)) (now (pool .entry)) (now (trails .entry)) (now (sheets .entry)) .asked)
+        (now (script .entry)) (now (pool .entry)) (now (trails .entry)) (now (sheets .entry)) (now (lists .entry)) .asked)
         (played
         (tables (now (control .entry)) (now (samples .entry)) (now (nodes .entry)) (now (links .entry)) (now (work .entry)))
-        (now (script .entry)) (now (pool .entry)) (now (trails .entry)) (now (sheets .entry)) .said)
+        (now (script .entry)) (now (pool .entry)) (now (trails .entry)) (now (sheets .entry)) (now (lists .entry)) .said)
         (tables (now (control .exit)) (now (samples .exit)) (now (nodes .exit)) (now (links .exit)) (now (work .exit))) ⌝ }
 {
     look(pool);
@@ -111,6 +119,7 @@ pub fn play(
         samples: 0,
         trails: 0,
         sheets: 0,
+        lists: 0,
     };
     let mut place: usize = 0;
     let mut told: usize = 0;
@@ -125,6 +134,7 @@ pub fn play(
             work,
             trails,
             sheets,
+            lists,
             pool,
             &script[from..to],
             at,

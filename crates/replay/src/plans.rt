@@ -14,8 +14,8 @@ ghost use Prim.Native.Nat.{_-_, _≤_};
 ghost use Rattle.replay.specs.Script.{numberAt, lengthsBy, cursor, Kind, kinds, kindAt};
 ghost use Rattle.replay.specs.Script.{fitsIn, enough, takesOf, playable, movedBy, wantedBy, plannedBy};
 
-fn size(samples: usize, trails: usize, sheets: usize) -> Wanted
-    ensures { λ r. ⌜ r ≡ record { known = true; size = cursor samples trails sheets } ⌝ }
+fn size(samples: usize, trails: usize, sheets: usize, lists: usize) -> Wanted
+    ensures { λ r. ⌜ r ≡ record { known = true; size = cursor samples trails sheets lists } ⌝ }
 {
     Wanted {
         known: true,
@@ -23,11 +23,12 @@ fn size(samples: usize, trails: usize, sheets: usize) -> Wanted
             samples: samples,
             trails: trails,
             sheets: sheets,
+            lists: lists,
         },
     }
 }
 
-// By a row's kind and its first two own numbers. (Behind the last kind there is none.)
+// By a row's kind and its first three own numbers. (Behind the last kind there is none.)
 fn wanted(row: &[u64]) -> Wanted
     ensures { λ r. ⌜ wantedBy r ≡ takesOf (kindAt kinds (numberAt (now (row .entry)) 0)) (now (row .entry)) ⌝ }
 {
@@ -35,19 +36,22 @@ fn wanted(row: &[u64]) -> Wanted
     let first = places(number(row, 6));
     let second = places(number(row, 7));
     if kind == 0 {
-        return size(0, 0, 0);
+        return size(0, 0, 0, 0);
     }
     if kind == 1 {
-        return size(first, 0, 0);
+        return size(first, 0, 0, 0);
     }
     if kind == 2 {
-        return size(first, second, 0);
+        return size(first, second, 0, 0);
     }
     if kind == 3 {
-        return size(0, 0, first);
+        return size(0, 0, first, 0);
     }
     if kind == 4 {
-        return size(0, 0, first);
+        return size(0, 0, first, 0);
+    }
+    if kind == 5 {
+        return size(first, second, 0, places(number(row, 8)));
     }
     Wanted {
         known: false,
@@ -55,6 +59,7 @@ fn wanted(row: &[u64]) -> Wanted
             samples: 0,
             trails: 0,
             sheets: 0,
+            lists: 0,
         },
     }
 }
@@ -67,6 +72,9 @@ pub fn changes(kind: u64) -> bool
         return false;
     }
     if kind == 3 {
+        return false;
+    }
+    if kind == 5 {
         return false;
     }
     true
@@ -95,8 +103,8 @@ fn fits(all: Lengths, lent: Lengths) -> bool
 }
 
 // No more is taken than is ahead.
-fn is_enough(size: Cursor, samples: usize, trails: usize, sheets: usize) -> bool
-    ensures { λ r. ⌜ r ≡ enough size (cursor samples trails sheets) ⌝ }
+fn is_enough(size: Cursor, samples: usize, trails: usize, sheets: usize, lists: usize) -> bool
+    ensures { λ r. ⌜ r ≡ enough size (cursor samples trails sheets lists) ⌝ }
 {
     if samples < size.samples {
         return false;
@@ -105,6 +113,9 @@ fn is_enough(size: Cursor, samples: usize, trails: usize, sheets: usize) -> bool
         return false;
     }
     if sheets < size.sheets {
+        return false;
+    }
+    if lists < size.lists {
         return false;
     }
     true
@@ -121,10 +132,11 @@ fn not_played(at: Cursor) -> Plan
 
 // On tables of these lengths, where this much of all that there is has been taken.
 pub fn plan(row: &[u64], lent: Lengths, at: Cursor, all: Cursor) -> Plan
-    requires { ⌜ (at .samples ≤ all .samples) × (at .trails ≤ all .trails) × (at .sheets ≤ all .sheets) ⌝ }
+    requires { ⌜ (at .samples ≤ all .samples) × (at .trails ≤ all .trails) × (at .sheets ≤ all .sheets) × (at .lists ≤ all .lists) ⌝ }
     ensures { λ r. ⌜ plannedBy r
         ≡ movedBy (playable (lengthsBy lent)
-        (cursor (all .samples - at .samples) (all .trails - at .trails) (all .sheets - at .sheets)) (now (row .entry))) (now (row .entry)) at ⌝ }
+        (cursor (all .samples - at .samples) (all .trails - at .trails) (all .sheets - at .sheets) (all .lists - at .lists))
+        (now (row .entry))) (now (row .entry)) at ⌝ }
 {
     if !fits(lent, lengths(row)) {
         return not_played(at);
@@ -139,6 +151,7 @@ pub fn plan(row: &[u64], lent: Lengths, at: Cursor, all: Cursor) -> Plan
         all.samples - at.samples,
         all.trails - at.trails,
         all.sheets - at.sheets,
+        all.lists - at.lists,
     ) {
         return not_played(at);
     }
@@ -148,6 +161,7 @@ pub fn plan(row: &[u64], lent: Lengths, at: Cursor, all: Cursor) -> Plan
             samples: at.samples + size.samples,
             trails: at.trails + size.trails,
             sheets: at.sheets + size.sheets,
+            lists: at.lists + size.lists,
         },
     }
 }

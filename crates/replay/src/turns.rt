@@ -36,15 +36,17 @@ fn call(
     work: &mut [u64],
     trail: &mut [u16],
     sheet: &mut [u8],
+    list: &mut [u64],
     query: &[i16],
     row: &[u64],
     kind: u64,
 ) -> [u64; 5]
-    ensures { λ r. ⌜ ((changes : Bool) → Plays changes kind (now (row .entry)) (taken (now (query .entry)) (now (trail .entry)) (now (sheet .entry)))
+    ensures { λ r. ⌜ ((changes : Bool) → Plays changes kind (now (row .entry))
+        (taken (now (query .entry)) (now (trail .entry)) (now (sheet .entry)) (now (list .entry)))
         (tables (now (control .entry)) (now (samples .entry)) (now (nodes .entry)) (now (links .entry)) (now (work .entry)))
         (called r
         (tables (now (control .exit)) (now (samples .exit)) (now (nodes .exit)) (now (links .exit)) (now (work .exit)))
-        (taken (now (query .entry)) (now (trail .exit)) (now (sheet .exit))))) ⌝ }
+        (taken (now (query .entry)) (now (trail .exit)) (now (sheet .exit)) (now (list .exit))))) ⌝ }
 {
     if plans::changes(kind) {
         return changes::play(
@@ -67,13 +69,15 @@ fn call(
         work,
         trail,
         sheet,
+        list,
         query,
         row,
         kind,
     )
 }
 
-// A row that can be played is lent the first so many places of each table, and the next so many samples, places of a trail and bytes of a sheet.
+// A row that can be played is lent the first so many places of each table, and the next so many samples, places of a trail,
+// bytes of a sheet and places of a list.
 fn lend(
     control: &mut [u16],
     samples: &mut [i16],
@@ -82,23 +86,25 @@ fn lend(
     work: &mut [u64],
     trails: &mut [u16],
     sheets: &mut [u8],
+    lists: &mut [u64],
     pool: &[i16],
     row: &[u64],
     at: Cursor,
     to: Cursor,
 ) -> [u64; 5]
-    requires { ⌜ Inside at (now pool) (now trails) (now sheets) ⌝ }
+    requires { ⌜ Inside at (now pool) (now trails) (now sheets) (now lists) ⌝ }
     requires { ⌜ some to ≡ movedBy (playable (lentOf (tables (now control) (now samples) (now nodes) (now links) (now work)))
-        (aheadOf (stateAt (tables (now control) (now samples) (now nodes) (now links) (now work)) (now pool) (now trails) (now sheets) at)) (now row)) (now row) at ⌝ }
+        (aheadOf (stateAt (tables (now control) (now samples) (now nodes) (now links) (now work)) (now pool)
+        (now trails) (now sheets) (now lists) at)) (now row)) (now row) at ⌝ }
     ensures { λ r. ⌜ turned (some r) (stateAt
         (tables (now (control .exit)) (now (samples .exit)) (now (nodes .exit)) (now (links .exit)) (now (work .exit)))
-        (now (pool .entry)) (now (trails .exit)) (now (sheets .exit)) to)
+        (now (pool .entry)) (now (trails .exit)) (now (sheets .exit)) (now (lists .exit)) to)
         ≡ made (lentBy (now (row .entry))) (asks (lentOf
         (tables (now (control .entry)) (now (samples .entry)) (now (nodes .entry)) (now (links .entry)) (now (work .entry)))) (now (row .entry)) (stateAt
         (tables (now (control .entry)) (now (samples .entry)) (now (nodes .entry)) (now (links .entry)) (now (work .entry)))
-        (now (pool .entry)) (now (trails .entry)) (now (sheets .entry)) at)) (stateAt
+        (now (pool .entry)) (now (trails .entry)) (now (sheets .entry)) (now (lists .entry)) at)) (stateAt
         (tables (now (control .entry)) (now (samples .entry)) (now (nodes .entry)) (now (links .entry)) (now (work .entry)))
-        (now (pool .entry)) (now (trails .entry)) (now (sheets .entry)) at) ⌝ }
+        (now (pool .entry)) (now (trails .entry)) (now (sheets .entry)) (now (lists .entry)) at) ⌝ }
 {
     let kind = number(row, 0);
     let lent = lengths(row);
@@ -113,6 +119,8 @@ fn lend(
     let last_mark = to.trails;
     let first_byte = at.sheets;
     let last_byte = to.sheets;
+    let first_place = at.lists;
+    let last_place = to.lists;
     call(
         &mut control[..c],
         &mut samples[..s],
@@ -121,6 +129,7 @@ fn lend(
         &mut work[..w],
         &mut trails[first_mark..last_mark],
         &mut sheets[first_byte..last_byte],
+        &mut lists[first_place..last_place],
         &pool[first_sample..last_sample],
         row,
         kind,
@@ -136,21 +145,22 @@ pub fn turn(
     work: &mut [u64],
     trails: &mut [u16],
     sheets: &mut [u8],
+    lists: &mut [u64],
     pool: &[i16],
     row: &[u64],
     at: Cursor,
 ) -> Turn
-    requires { ⌜ Inside at (now pool) (now trails) (now sheets) ⌝ }
+    requires { ⌜ Inside at (now pool) (now trails) (now sheets) (now lists) ⌝ }
     ensures { λ r. ⌜ (turnOf r
         (tables (now (control .exit)) (now (samples .exit)) (now (nodes .exit)) (now (links .exit)) (now (work .exit)))
-        (now (pool .entry)) (now (trails .exit)) (now (sheets .exit))
+        (now (pool .entry)) (now (trails .exit)) (now (sheets .exit)) (now (lists .exit))
         ≡ made (lentBy (now (row .entry))) (asks (lentOf
         (tables (now (control .entry)) (now (samples .entry)) (now (nodes .entry)) (now (links .entry)) (now (work .entry)))) (now (row .entry)) (stateAt
         (tables (now (control .entry)) (now (samples .entry)) (now (nodes .entry)) (now (links .entry)) (now (work .entry)))
-        (now (pool .entry)) (now (trails .entry)) (now (sheets .entry)) at)) (stateAt
+        (now (pool .entry)) (now (trails .entry)) (now (sheets .entry)) (now (lists .entry)) at)) (stateAt
         (tables (now (control .entry)) (now (samples .entry)) (now (nodes .entry)) (now (links .entry)) (now (work .entry)))
-        (now (pool .entry)) (now (trails .entry)) (now (sheets .entry)) at))
-        × Inside (r .at) (now (pool .entry)) (now (trails .entry)) (now (sheets .entry)) ⌝ }
+        (now (pool .entry)) (now (trails .entry)) (now (sheets .entry)) (now (lists .entry)) at))
+        × Inside (r .at) (now (pool .entry)) (now (trails .entry)) (now (sheets .entry)) (now (lists .entry)) ⌝ }
 {
     let lent = Lengths {
         control: control.len(),
@@ -163,6 +173,7 @@ pub fn turn(
         samples: pool.len(),
         trails: trails.len(),
         sheets: sheets.len(),
+        lists: lists.len(),
     };
     let planned = plans::plan(row, lent, at, all);
     if !planned.made {
@@ -177,6 +188,7 @@ pub fn turn(
         work,
         trails,
         sheets,
+        lists,
         pool,
         row,
         at,

@@ -1,50 +1,72 @@
 -- `replay::asks::play` meets its contract, kind by kind.
+use Prim.Native.Nat.{ℕ}
 use mathlib.Core.Path.{refl, ap, _∙_}
 use denote.Ref.{now}
+use Rattle.dstree.specs.Book.{listing}
 use Rattle.tables.specs.Tables.{Tables, tables}
 use Rattle.calls.specs.Outcome.{Outcome}
+use Rattle.calls.specs.Effects.{outcomeOn}
 use Rattle.replay.specs.Numbers.{replyRow}
-use Rattle.replay.specs.Script.{taken, matchings, writings}
-use Rattle.replay.proofs.OfKind.{own-kind, no-other-ask, is-matchings, is-writings, matches-it, writes-it}
+use Rattle.replay.specs.Script.{taken, matchings, writings, listings}
+use Rattle.replay.proofs.OfKind.{own-kind, no-other-ask, is-matchings, is-writings, is-listings, matches-it, writes-it, lists-it}
 use Rattle.replay.proofs.asks.play.Statement.{statement}
 use Rattle.replay.proofs.asks.play.Tie as tie
 
 returns : tie.Need-returns
 returns c =
     let a = c .before .before .before .before .before .before .before .before .before .before .before .before .before .before .before
-    .args in
+    .before .args in
     let row = now (a .row) in
     let t : Tables = tables (now (a .control)) (now (a .samples)) (now (a .nodes)) (now (a .links)) (now (a .work)) in
     let call = c .before .before .before .before .before .nearest in
     let does = call .ensures in
-    own-kind (a .kind) row (taken (now (a .query)) (now (a .trail)) (now (a .sheet))) t _ matchings (is-matchings (c .before .before
-    .before .before .before .before .before .before .if1 .taken))
-    (matches-it row (taken (now (a .query)) (now (a .trail)) (now (a .sheet))) t _ _ (call .last .1 .1 .1 .1 .1 .0)
+    own-kind (a .kind) row (taken (now (a .query)) (now (a .trail)) (now (a .sheet)) (now (a .list))) t _ matchings (is-matchings
+    (c .before .before .before .before .before .before .before .before .if1 .taken))
+    (matches-it row (taken (now (a .query)) (now (a .trail)) (now (a .sheet)) (now (a .list))) t _ _ (call .last .1 .1 .1 .1 .1 .0)
     (c .of-found .ensures (call .last .1 .1 .1 .1 .1 .0) ∙ ap (λ (o : Outcome). replyRow (o .answer)) does) (ap (λ (o : Outcome). o
     .after) does) (ap (λ (o : Outcome). o .beside) does))
 
 returns-2 : tie.Need-returns-2
 returns-2 c =
-    let a = c .before .before .before .before .before .before .before .before .before .before .before .before .before .before .args in
+    let a = c .before .before .before .before .before .before .before .before .before .before .before .before .before .before .before
+    .args in
     let row = now (a .row) in
     let t : Tables = tables (now (a .control)) (now (a .samples)) (now (a .nodes)) (now (a .links)) (now (a .work)) in
     let call = c .before .before .before .write-sheet in
     let does = call .ensures in
-    own-kind (a .kind) row (taken (now (a .query)) (now (a .trail)) (now (a .sheet))) t _ writings (is-writings (c .before .before
-    .before .before .before .before .if2 .taken))
-    (writes-it row (taken (now (a .query)) (now (a .trail)) (now (a .sheet))) t _ _ (call .last .1 .1 .1 .1 .1 .0)
+    own-kind (a .kind) row (taken (now (a .query)) (now (a .trail)) (now (a .sheet)) (now (a .list))) t _ writings (is-writings
+    (c .before .before .before .before .before .before .if2 .taken))
+    (writes-it row (taken (now (a .query)) (now (a .trail)) (now (a .sheet)) (now (a .list))) t _ _ (call .last .1 .1 .1 .1 .1 .0)
     (c .of-written .ensures (call .last .1 .1 .1 .1 .1 .0) ∙ ap (λ (o : Outcome). replyRow (o .answer)) does) (ap (λ (o : Outcome). o
     .after) does) (ap (λ (o : Outcome). o .beside) does))
 
 returns-3 : tie.Need-returns-3
 returns-3 c =
-    let a = c .before .before .before .before .before .before .before .before .args in
-    no-other-ask (a .kind) _ _ _ _ (c .before .if1 .left) (c .if2 .left)
+    let a = c .before .before .before .before .before .before .before .before .before .before .before .before .before .before .before
+    .before .before .before .before .before .before .before .args in
+    let row = now (a .row) in
+    let t : Tables = tables (now (a .control)) (now (a .samples)) (now (a .nodes)) (now (a .links)) (now (a .work)) in
+    let call = c .before .before .before .before .before .before .before .k-nearest in
+    let does = call .ensures ∙ ap (λ (k : ℕ). outcomeOn (listing k (now (a .query)) (now (a .trail)) (now (a .list))) t)
+    (c .before .before .before .before .before .before .before .before .before .before .before .number .ensures) in
+    own-kind (a .kind) row (taken (now (a .query)) (now (a .trail)) (now (a .sheet)) (now (a .list))) t _ listings (is-listings
+    (c .before .before .before .before .before .before .before .before .before .before .before .before .if3 .taken))
+    (lists-it row (taken (now (a .query)) (now (a .trail)) (now (a .sheet)) (now (a .list))) t _ _ (call .last .1 .1 .1 .1 .1 .0)
+    (call .last .1 .1 .1 .1 .1 .1 .0)
+    (c .of-listed .ensures (call .last .1 .1 .1 .1 .1 .0) (call .last .1 .1 .1 .1 .1 .1 .0)
+    ∙ ap (λ (o : Outcome). replyRow (o .answer)) does) (ap (λ (o : Outcome). o .after) does) (ap (λ (o : Outcome). o .beside) does))
+
+returns-4 : tie.Need-returns-4
+returns-4 c = no-other-ask (c .before .before .before .before .before .before .before .before .before .before .args .kind) _ _ _ _
+    (c .before .before .if1 .left) (c .before .if2 .left) (c .if3 .left)
 
 pub play-spec : {M : Type 1} → statement M
 play-spec =
     tie.close
     (tie.spec
-    (λ c κs. tt) (λ c κs. tt) (λ c. c .before .before .before .before .before .nearest .kept .1 .1 .1 .1 .0) (λ c. c .before .before
-    .before .before .before .nearest .kept .1 .1 .1 .1 .1 .0) returns
-    (λ c κs. tt) (λ c κs. tt) (λ c. refl) (λ c. c .before .before .before .write-sheet .kept .1 .1 .1 .1 .1 .0) returns-2 returns-3)
+    (λ c κs. tt) (λ c κs. tt) (λ c. c .before .before .before .before .before .nearest .kept .1 .1 .1 .1 .0) (λ c.
+    c .before .before .before .before .before .nearest .kept .1 .1 .1 .1 .1 .0) returns
+    (λ c κs. tt) (λ c κs. tt) (λ c. refl) (λ c. c .before .before .before .write-sheet .kept .1 .1 .1 .1 .1 .0) returns-2 (λ c κs. tt) (λ
+    c κs. tt) (λ c κs. tt) (λ c. c .before .before .before .before .before .before .before .k-nearest .kept .1 .1 .1 .1 .0) (λ c.
+    c .before .before .before .before .before .before .before .k-nearest .kept .1 .1 .1 .1 .1 .0) (λ c.
+    c .before .before .before .before .before .before .before .k-nearest .kept .1 .1 .1 .1 .1 .1 .0) returns-3 returns-4)

@@ -25,10 +25,11 @@ returns c =
     ≡ measures (ownNumber row 0) (ownNumber row 1) (ownNumber row 2) = cc in
     let does = c .before .before .before .before .before .before .before .before .before .«open» .ensures
     ∙ ap (λ (m : Measures). outcomeOn (opening m) t) asked in
-    λ trail. own-kind (a .kind) row (taken (now (a .query)) trail (now (a .sheet))) t _ openings (is-openings (c .before .before .before
+    λ trail list. own-kind (a .kind) row (taken (now (a .query)) trail (now (a .sheet)) list) t _ openings (is-openings
+    (c .before .before .before
     .before .before .before .before .before .before .before .before .before .before .before .before .before .before .before .if1
     .taken))
-    (opens-it row (taken (now (a .query)) trail (now (a .sheet))) t _ _ (c .of-opened .ensures
+    (opens-it row (taken (now (a .query)) trail (now (a .sheet)) list) t _ _ (c .of-opened .ensures
     ∙ ap (λ (o : Outcome). replyRow (o .answer)) does) (ap (λ (o : Outcome). o .after) does))
 
 returns-2 : tie.Need-returns-2
@@ -38,9 +39,10 @@ returns-2 c =
     let row = now (a .row) in
     let t : Tables = tables (now (a .control)) (now (a .samples)) (now (a .nodes)) (now (a .links)) (now (a .work)) in
     let does = c .before .before .before .before .before .before .before .add .ensures in
-    λ trail. own-kind (a .kind) row (taken (now (a .query)) trail (now (a .sheet))) t _ addings (is-addings (c .before .before .before
+    λ trail list. own-kind (a .kind) row (taken (now (a .query)) trail (now (a .sheet)) list) t _ addings (is-addings
+    (c .before .before .before
     .before .before .before .before .before .before .before .before .before .before .if2 .taken))
-    (adds-it row (taken (now (a .query)) trail (now (a .sheet))) t _ _ (c .of-added .ensures
+    (adds-it row (taken (now (a .query)) trail (now (a .sheet)) list) t _ _ (c .of-added .ensures
     ∙ ap (λ (o : Outcome). replyRow (o .answer)) does) (ap (λ (o : Outcome). o .after) does))
 
 returns-3 : tie.Need-returns-3
@@ -50,15 +52,16 @@ returns-3 c =
     let row = now (a .row) in
     let t : Tables = tables (now (a .control)) (now (a .samples)) (now (a .nodes)) (now (a .links)) (now (a .work)) in
     let does = c .before .before .before .before .before .before .before .before .before .read-sheet .ensures in
-    λ trail. own-kind (a .kind) row (taken (now (a .query)) trail (now (a .sheet))) t _ readings (is-readings (c .before .before .before
+    λ trail list. own-kind (a .kind) row (taken (now (a .query)) trail (now (a .sheet)) list) t _ readings (is-readings
+    (c .before .before .before
     .before .before .before .before .before .before .before .before .before .before .before .before .if3 .taken))
-    (reads-it row (taken (now (a .query)) trail (now (a .sheet))) t _ _ (c .of-read .ensures
+    (reads-it row (taken (now (a .query)) trail (now (a .sheet)) list) t _ _ (c .of-read .ensures
     ∙ ap (λ (o : Outcome). replyRow (o .answer)) does) (ap (λ (o : Outcome). o .after) does))
 
 returns-4 : tie.Need-returns-4
 returns-4 c =
     let a = c .before .before .before .before .before .before .before .before .args in
-    λ trail. no-other-change (a .kind) _ _ _ _ (c .before .before .if1 .left) (c .before .if2 .left) (c .if3 .left)
+    λ trail list. no-other-change (a .kind) _ _ _ _ (c .before .before .if1 .left) (c .before .if2 .left) (c .if3 .left)
 
 pub play-spec : {M : Type 1} → statement M
 play-spec =

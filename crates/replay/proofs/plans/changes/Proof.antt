@@ -1,6 +1,6 @@
 -- `replay::plans::changes` meets its contract, kind by kind.
-use Rattle.replay.specs.Script.{matchings, writings}
-use Rattle.replay.proofs.OfKind.{is-matchings, is-writings, changes-if, changes-not}
+use Rattle.replay.specs.Script.{matchings, writings, listings}
+use Rattle.replay.proofs.OfKind.{is-matchings, is-writings, is-listings, changes-if, changes-not}
 use Rattle.replay.proofs.plans.changes.Statement.{statement}
 use Rattle.replay.proofs.plans.changes.Tie as tie
 
@@ -10,4 +10,6 @@ changes-spec =
     (tie.spec
     (λ c. λ k e. changes-not (c .before .args .kind) matchings k (is-matchings (c .if1 .taken)) e)
     (λ c. λ k e. changes-not (c .before .before .args .kind) writings k (is-writings (c .if2 .taken)) e)
-    (λ c. λ k e. changes-if (c .before .before .args .kind) k (c .before .if1 .left) (c .if2 .left) e))
+    (λ c. λ k e. changes-not (c .before .before .before .args .kind) listings k (is-listings (c .if3 .taken)) e)
+    (λ c. λ k e. changes-if (c .before .before .before .args .kind) k (c .before .before .if1 .left) (c .before .if2 .left)
+    (c .if3 .left) e))

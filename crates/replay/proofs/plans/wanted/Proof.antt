@@ -2,8 +2,9 @@
 use Prim.Native.Nat.{ℕ}
 use mathlib.Core.Path.{refl, sym, ap, ap₂, _∙_}
 use denote.Ref.{now}
-use Rattle.replay.specs.Script.{cursor, openings, addings, matchings, writings, readings}
-use Rattle.replay.proofs.OfKind.{is-openings, is-addings, is-matchings, is-writings, is-readings, wanted-is, wanted-not}
+use Rattle.replay.specs.Script.{ownNumber, cursor, openings, addings, matchings, writings, readings, listings}
+use Rattle.replay.proofs.OfKind.{is-openings, is-addings, is-matchings, is-writings, is-readings, is-listings, wanted-is}
+use Rattle.replay.proofs.OfKind.{wanted-not}
 use Rattle.replay.proofs.plans.wanted.Statement.{statement}
 use Rattle.replay.proofs.plans.wanted.Tie as tie
 
@@ -17,17 +18,17 @@ returns-2 c =
     ∙ c .before .before .before .before .before .before .number2 .ensures in
     wanted-is _ (now (c .before .before .before .before .before .before .before .before .before .args .row)) _ addings _ (c .size2
     .ensures) (is-addings (sym (c .before .before .before .before .before .before .before .number .ensures)
-    ∙ c .before .if2 .taken)) (ap (λ (x : ℕ). cursor x 0 0) first)
+    ∙ c .before .if2 .taken)) (ap (λ (x : ℕ). cursor x 0 0 0) first)
 
 returns-3 : tie.Need-returns-3
 returns-3 c =
     let first = c .before .before .before .before .before .before .places .ensures
     ∙ c .before .before .before .before .before .before .before .number2 .ensures in
     let second = c .before .before .before .before .places2 .ensures ∙ c .before .before .before .before .before .number3 .ensures in
-    wanted-is _ (now (c .before .before .before .before .before .before .before .before .before .before .args .row)) _ matchings _ (c
-    .size3 .ensures) (is-matchings (sym (c .before .before .before .before .before .before .before .before .number .ensures)
+    wanted-is _ (now (c .before .before .before .before .before .before .before .before .before .before .args .row)) _ matchings _
+    (c .size3 .ensures) (is-matchings (sym (c .before .before .before .before .before .before .before .before .number .ensures)
     ∙ c .before .if3 .taken))
-    (ap₂ (λ (x : ℕ) (y : ℕ). cursor x y 0) first second)
+    (ap₂ (λ (x : ℕ) (y : ℕ). cursor x y 0 0) first second)
 
 returns-4 : tie.Need-returns-4
 returns-4 c =
@@ -35,22 +36,38 @@ returns-4 c =
     ∙ c .before .before .before .before .before .before .before .before .number2 .ensures in
     wanted-is _ (now (c .before .before .before .before .before .before .before .before .before .before .before .args .row)) _ writings _
     (c .size4 .ensures) (is-writings (sym (c .before .before .before .before .before .before .before .before .before .number
-    .ensures) ∙ c .before .if4 .taken)) (ap (λ (x : ℕ). cursor 0 0 x) first)
+    .ensures) ∙ c .before .if4 .taken)) (ap (λ (x : ℕ). cursor 0 0 x 0) first)
 
 returns-5 : tie.Need-returns-5
 returns-5 c =
     let first = c .before .before .before .before .before .before .before .before .places .ensures
     ∙ c .before .before .before .before .before .before .before .before .before .number2 .ensures in
     wanted-is _ (now (c .before .before .before .before .before .before .before .before .before .before .before .before .args .row)) _
-    readings _ (c .size5 .ensures) (is-readings (sym (c .before .before .before .before .before .before .before .before .before
-    .before .number .ensures) ∙ c .before .if5 .taken)) (ap (λ (x : ℕ). cursor 0 0 x) first)
+    readings _ (c .size5 .ensures) (is-readings (sym (c .before .before .before .before .before .before .before .before .before .before
+    .number .ensures) ∙ c .before .if5 .taken)) (ap (λ (x : ℕ). cursor 0 0 x 0) first)
 
 returns-6 : tie.Need-returns-6
 returns-6 c =
-    let is = c .before .before .before .before .before .before .before .before .before .number .ensures in
-    wanted-not (now (c .before .before .before .before .before .before .before .before .before .before .before .args .row)) _ (λ e. c
-    .before .before .before .before .if1 .left (is ∙ e)) (λ e. c .before .before .before .if2 .left (is
-    ∙ e)) (λ e. c .before .before .if3 .left (is ∙ e)) (λ e. c .before .if4 .left (is ∙ e)) (λ e. c .if5 .left (is ∙ e))
+    let row = now (c .before .before .before .before .before .before .before .before .before .before .before .before .before .before
+    .before .args .row) in
+    let first = c .before .before .before .before .before .before .before .before .before .before .before .places .ensures ∙
+    c .before .before .before .before .before .before .before .before .before .before .before .before .number2 .ensures in
+    let second = c .before .before .before .before .before .before .before .before .before .places2 .ensures ∙
+    c .before .before .before .before .before .before .before .before .before .before .number3 .ensures in
+    let third = c .before .places3 .ensures ∙ c .before .before .number4 .ensures in
+    wanted-is _ row _ listings _ (c .size6 .ensures) (is-listings (sym
+    (c .before .before .before .before .before .before .before .before .before .before .before .before .before .number .ensures) ∙
+    c .before .before .before .if6 .taken))
+    (ap₂ (λ (x : ℕ) (y : ℕ). cursor x y 0 (c .before .places3 .result)) first second
+    ∙ ap (λ (z : ℕ). cursor (ownNumber row 0) (ownNumber row 1) 0 z) third)
+
+returns-7 : tie.Need-returns-7
+returns-7 c =
+    let is = c .before .before .before .before .before .before .before .before .before .before .number .ensures in
+    wanted-not (now (c .before .before .before .before .before .before .before .before .before .before .before .before .args .row)) _ (λ
+    e. c .before .before .before .before .before .if1 .left (is ∙ e)) (λ e. c .before .before .before .before .if2 .left (is ∙ e)) (λ
+    e. c .before .before .before .if3 .left (is ∙ e))
+    (λ e. c .before .before .if4 .left (is ∙ e)) (λ e. c .before .if5 .left (is ∙ e)) (λ e. c .if6 .left (is ∙ e))
 
 pub wanted-spec : {M : Type 1} → statement M
 wanted-spec =
@@ -58,4 +75,4 @@ wanted-spec =
     (tie.spec
     (λ c κs. tt) (λ c κs. tt) (λ c κs. tt) (λ c κs. tt) (λ c κs. tt) (λ c κs. tt) returns (λ c κs. tt) returns-2 (λ c κs. tt) returns-3
     (λ c κs. tt) returns-4
-    (λ c κs. tt) returns-5 returns-6)
+    (λ c κs. tt) returns-5 (λ c κs. tt) (λ c κs. tt) (λ c κs. tt) returns-6 returns-7)

@@ -13,8 +13,8 @@ fn over(a: u64, b: u64) -> u64
     if b < a { a - b } else { 0 }
 }
 
-// the larger of two
-fn larger(a: u64, b: u64) -> u64
+// The larger of two.
+pub fn larger(a: u64, b: u64) -> u64
     ensures { λ r. ⌜ r ≡ max a b ⌝ }
 {
     if a < b { b } else { a }

@@ -1,7 +1,7 @@
-// Numbers made wider, and the lesser and greater of two.
+// Numbers made wider, and the lesser and greater of two. (The larger of two without a sign is `segment::terms::larger`.)
 
 ghost use mathlib.Core.Path.{_≡_};
-ghost use Prim.Native.Nat.{min, max};
+ghost use Prim.Native.Nat.{min};
 ghost use Rattle.integer.specs.Words as words;
 
 // A field or a link as a place.
@@ -34,10 +34,4 @@ pub fn smaller(u: u64, v: u64) -> u64
     ensures { λ r. ⌜ r ≡ min u v ⌝ }
 {
     if v < u { v } else { u }
-}
-
-pub fn larger(u: u64, v: u64) -> u64
-    ensures { λ r. ⌜ r ≡ max u v ⌝ }
-{
-    if u < v { v } else { u }
 }

@@ -21,8 +21,8 @@ use Rattle.dstree.specs.KNearest.{isK, kNearestBySteps, kNearestOf}
 use Rattle.dstree.specs.Refusals.{Condition, _refuses_, firstOf, measure, wrongTrace, full, empty, sheetLength, badK}
 use Rattle.dstree.specs.Sheet.{blockSize, blocksNeeded, sheetOf, Judged, refused, holds, judgeSheet}
 use Rattle.dstree.specs.Book.{Ask, opening, adding, matching, writing, reading, listing, Book, book, bookTree, Entry, added, written, over}
-use Rattle.dstree.specs.Book.{shortConditions, queryConditions, listConditions, readingConditions, putRead, openingEntry, addingEntry, matchingEntry}
-use Rattle.dstree.specs.Book.{writingEntry, readingEntry, listingEntry, entryOf}
+use Rattle.dstree.specs.Book.{shortConditions, queryConditions, listConditions, readingConditions, putRead, openingEntry, addingEntry}
+use Rattle.dstree.specs.Book.{matchingEntry, writingEntry, readingEntry, listingEntry, entryOf}
 use Rattle.dstree.proofs.Conditions.{none-first, none-both}
 use Rattle.dstree.proofs.Laws.{claims}
 use Rattle.dstree.proofs.KLaws.{k-nearest}

@@ -96,7 +96,8 @@ module _ {memory : Tables} {b : Book} (keeps : Keeps memory b) where
       let within = subst (λ (l : Lent). Within l (lentOf other)) (g .has-places)
       (begins-within (firstPlaces (c .lent) other) other (first-begins (c .lent) other)) in
       let places = first-lent (c .lent) memory (subst (Within (c .lent)) (same-lengths differ) within) in
-      let f : Follows c memory (reply (o .answer) (o .beside)) (o .after) = record { has-places = places; typed = g .typed; follows = refl } in
+      let f : Follows c memory (reply (o .answer) (o .beside)) (o .after) =
+      record { has-places = places; typed = g .typed; follows = refl } in
       let here = stepped f keeps .0 in
       off-trail c memory (o .after) (reply (o .answer) (o .beside)) f r trail (ap (λ (x : Reply). x .answer) here ∙ answers) found
       other other′ said differ g ∙ here

@@ -148,7 +148,8 @@ module _ (t : Tables) (query : Trace) (trail : List ℕ) where
   -- .. so that the last never decides
   pub last-never : firstOf (matches t query trail .conditions) ≡ firstOf testedConditions
   unfolding matches firstOf
-  last-never = ap firstOf (sym (append-assoc (madeConditions t) (queryConditionsIn t query trail) last)) ∙ by (firstOf testedConditions) refl
+  last-never =
+      ap firstOf (sym (append-assoc (madeConditions t) (queryConditionsIn t query trail) last)) ∙ by (firstOf testedConditions) refl
     where
       last : List Condition
       last = isNone (matchBySteps (tracesIn t) (treeIn t) query) refuses empty ∷ []

@@ -61,58 +61,58 @@ module _ (t : Tables) (samples : List ℤ) (as-many : length samples ≡ length 
 no-trace-at : (t : Tables) (i : ℕ) → traceCount t ≤ i → getD (tracesIn t) i [] ≡ []
 no-trace-at t i h = List·getD-eq-default (tracesIn t) [] (omega (arith, traces-size t))
 
-module _ (lent : Lent) {these other : Tables} {trail : List ℕ} (ok : Accepted (firstPlaces lent these)) (differ : DifferOutside trail these other)
-  where
-    abbrev part : Tables
-    part = firstPlaces lent these
+module _ (lent : Lent) {these other : Tables} {trail : List ℕ} (ok : Accepted (firstPlaces lent these))
+    (differ : DifferOutside trail these other) where
+  abbrev part : Tables
+  part = firstPlaces lent these
 
-    abbrev part₂ : Tables
-    part₂ = firstPlaces lent other
+  abbrev part₂ : Tables
+  part₂ = firstPlaces lent other
 
-    long : Long part
-    long = long-of part (ok .room)
+  long : Long part
+  long = long-of part (ok .room)
 
-    as-many : length (part₂ .samples) ≡ length (part .samples)
-    as-many = simp length-take (rw (differ .as-long))
+  as-many : length (part₂ .samples) ≡ length (part .samples)
+  as-many = simp length-take (rw (differ .as-long))
 
-    -- what the call is lent of the other
-    abbrev also : Tables
-    also = with-others part (part₂ .samples) as-many
+  -- what the call is lent of the other
+  abbrev also : Tables
+  also = with-others part (part₂ .samples) as-many
 
-    also-is : part₂ ≡ also
-    also-is = tables-same (ap (take (lent .control)) (differ .control-same)) refl
-        (ap (take (lent .nodes)) (differ .nodes-same)) (ap (take (lent .links)) (differ .links-same))
-        (ap (take (lent .work)) (differ .work-same))
+  also-is : part₂ ≡ also
+  also-is = tables-same (ap (take (lent .control)) (differ .control-same)) refl
+      (ap (take (lent .nodes)) (differ .nodes-same)) (ap (take (lent .links)) (differ .links-same))
+      (ap (take (lent .work)) (differ .work-same))
 
-    agree : Agree part these
-    agree = begins-agree (first-begins lent these) long
+  agree : Agree part these
+  agree = begins-agree (first-begins lent these) long
 
-    also-agree : Agree also other
-    also-agree = begins-agree (subst (λ (t : Tables). Begins t other) also-is (first-begins lent other))
-        (record {
-          control-long = long .control-long;
-          samples-long = rw as-many
-              (long .samples-long);
-          nodes-long = long .nodes-long;
-          links-long = long .links-long;
-        })
+  also-agree : Agree also other
+  also-agree = begins-agree (subst (λ (t : Tables). Begins t other) also-is (first-begins lent other))
+      (record {
+        control-long = long .control-long;
+        samples-long = rw as-many
+            (long .samples-long);
+        nodes-long = long .nodes-long;
+        links-long = long .links-long;
+      })
 
-    -- a trace that the search reads is the same in both
-    read-same : (i : ℕ) → T (isIn i (numbersAmong (treeIn part) trail)) → (c : Bool) → ltb i (traceCount part) ≡ c
-        → getD (tracesIn also) i [] ≡ getD (tracesIn part) i []
-    read-same i read false e = let l = ltb-false i (traceCount part) e in no-trace-at also i l ∙ sym (no-trace-at part i l)
-    read-same i read true e =
-        let l : i < traceCount part = ltb-true i (traceCount part) e in
-        let few : i < measuresOf part .capacity = omega (arith, tree-formed part (ok .formed) .room) in
-        let there : T (isIn i (numbersAmong (treeIn these) trail)) = rw (tree-same agree (ok .formed) long) read in
-        let same : traceIn (other .samples) (measuresOf part .n) i ≡ traceIn (these .samples) (measuresOf part .n) i =
-        subst (λ (k : Measures). traceIn (other .samples) (k .n) i ≡ traceIn (these .samples) (k .n) i) (measures-same agree)
-        (differ .samples-same i there) in
-        trace-at also i l ∙ (sym (also-agree .samples-agree i few) ∙ (same ∙ (agree .samples-agree i few ∙ sym (trace-at part i l))))
+  -- a trace that the search reads is the same in both
+  read-same : (i : ℕ) → T (isIn i (numbersAmong (treeIn part) trail)) → (c : Bool) → ltb i (traceCount part) ≡ c
+      → getD (tracesIn also) i [] ≡ getD (tracesIn part) i []
+  read-same i read false e = let l = ltb-false i (traceCount part) e in no-trace-at also i l ∙ sym (no-trace-at part i l)
+  read-same i read true e =
+      let l : i < traceCount part = ltb-true i (traceCount part) e in
+      let few : i < measuresOf part .capacity = omega (arith, tree-formed part (ok .formed) .room) in
+      let there : T (isIn i (numbersAmong (treeIn these) trail)) = rw (tree-same agree (ok .formed) long) read in
+      let same : traceIn (other .samples) (measuresOf part .n) i ≡ traceIn (these .samples) (measuresOf part .n) i =
+      subst (λ (k : Measures). traceIn (other .samples) (k .n) i ≡ traceIn (these .samples) (k .n) i) (measures-same agree)
+      (differ .samples-same i there) in
+      trace-at also i l ∙ (sym (also-agree .samples-agree i few) ∙ (same ∙ (agree .samples-agree i few ∙ sym (trace-at part i l))))
 
-    all-same : SameIn (treeIn part) trail (tracesIn part) (tracesIn also)
-    all-same = map-agree (λ (i : ℕ). getD (tracesIn also) i []) (λ (i : ℕ). getD (tracesIn part) i []) (numbersAmong (treeIn part) trail)
-        (λ i read. read-same i (in-is read) (ltb i (traceCount part)) refl)
+  all-same : SameIn (treeIn part) trail (tracesIn part) (tracesIn also)
+  all-same = map-agree (λ (i : ℕ). getD (tracesIn also) i []) (λ (i : ℕ). getD (tracesIn part) i []) (numbersAmong (treeIn part) trail)
+      (λ i read. read-same i (in-is read) (ltb i (traceCount part)) refl)
 
 -- ---- one search after the other
 
@@ -155,8 +155,9 @@ module _ (lent : Lent) {these other : Tables} {trail : List ℕ} (differ : Diffe
       let ok = accepted t (none-both (madeConditions t) _ fine .0) in
       let u = also lent ok differ in
       let s = searched (tracesIn t) (treeIn t) query in
+      let trails : s .trail ≡ trail = match-trail s (s .best) trail found in
       let both : searched (tracesIn u) (treeIn t) query ≡ s = trees.off-trail (tracesIn t) (tracesIn u) (treeIn t) query
-      (subst (λ (l : List ℕ). SameIn (treeIn t) l (tracesIn t) (tracesIn u)) (sym (match-trail s (s .best) trail found)) (all-same lent ok differ)) in
+      (subst (λ (l : List ℕ). SameIn (treeIn t) l (tracesIn t) (tracesIn u)) (sym trails) (all-same lent ok differ)) in
       let same : matchBySteps (tracesIn u) (treeIn u) query ≡ matchBySteps (tracesIn t) (treeIn t) query =
       ap (λ (x : Search). answerOf x (x .best)) both in
       ap (replyTo (matching query place)) (also-is lent ok differ)
@@ -193,6 +194,7 @@ unfolding outcomeOn
 off-trail c these these′ said f r trail answers found other other′ reply₂ differ g =
     let part = firstPlaces (c .lent) these in
     let e = effectOf (c .ask) part in
-    let known = answered (firstOf (e .conditions)) part (besideOf (c .ask)) e r (sym (ap (λ (x : Reply). x .answer) (reply-is f)) ∙ answers) in
+    let said-is = sym (ap (λ (x : Reply). x .answer) (reply-is f)) ∙ answers in
+    let known = answered (firstOf (e .conditions)) part (besideOf (c .ask)) e r said-is in
     reply-is g
     ∙ (any-same (c .lent) differ (c .ask) (known .0) (ap trailFound (known .1) ∙ found) ∙ sym (reply-is f))

@@ -1,5 +1,5 @@
-// What a listing refuses: what every call on made tables does, then k outside 1 to 16 (11), then what every search does of its query and its trail, then a
-// list for fewer than k traces (7).
+// What a listing refuses: what every call on made tables does, then k outside 1 to 16 (11), then what every search does of its query and
+// its trail, then a list for fewer than k traces (7).
 
 use query_judging::judge_query;
 use tables::Refusal;
@@ -37,9 +37,11 @@ fn judge_own(
     list: &[u64],
     k: u64,
 ) -> Verdict
-    requires { ⌜ (t.field (now control) nodeCountPlace * recordPlaces ≤ length (now nodes)) × (t.field (now control) nodeCountPlace ≤ 8192) ⌝ }
+    requires { ⌜ (t.field (now control) nodeCountPlace * recordPlaces ≤ length (now nodes))
+        × (t.field (now control) nodeCountPlace ≤ 8192) ⌝ }
     ensures { λ r. ⌜ ((samples : List ℤ) (links work : List ℕ) → foundBy r ≡ firstOf (listConditionsIn
-        (tables (now (control .entry)) samples (now (nodes .entry)) links work) k (now (query .entry)) (now (trail .entry)) (now (list .entry)))) ⌝ }
+        (tables (now (control .entry)) samples (now (nodes .entry)) links work) k
+        (now (query .entry)) (now (trail .entry)) (now (list .entry)))) ⌝ }
 {
     if !is_k(k) {
         return Verdict::Refused(Refusal::BadK);

@@ -18,11 +18,12 @@ pub enum Listed {
     Refused(Refusal),
 }
 
-// Lists the k nearest traces by distance, then by number, two places each: trace number and distance. Every refusal is decided before anything is written.
-// The trail begins with the leaves read, the list with what is listed; their other places stay, and search work is left zero.
+// Lists the k nearest traces by distance, then by number, two places each: trace number and distance. Every refusal is decided before
+// anything is written. The trail begins with the leaves read, the list with what is listed; their other places stay, and search work is
+// left zero.
 //
-// Two wrong programs that the contract rules out: one that stops once k traces are listed, though the next leaf's bound is not above the last one's
-// distance, and one that fills the list up to k where fewer are stored.
+// Two wrong programs that the contract rules out: one that stops once k traces are listed, though the next leaf's bound is not above the
+// last one's distance, and one that fills the list up to k where fewer are stored.
 pub fn k_nearest(
     control: &[u16],
     samples: &[i16],

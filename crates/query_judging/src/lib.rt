@@ -21,9 +21,11 @@ ghost use Rattle.tables.specs.Tables.{tables};
 ghost use Rattle.tables.specs.Answers.{foundBy};
 ghost use Rattle.calls.specs.Effects.{queryConditionsIn};
 
-// A query of another length (4), no trace stored (6), a trail with fewer places than leaves (7). Neither samples nor links nor search work bear on these.
+// A query of another length (4), no trace stored (6), a trail with fewer places than leaves (7). Neither samples nor links nor search work
+// bear on these.
 pub fn judge_query(control: &[u16], nodes: &[i64], query: &[i16], trail: &[u16]) -> Verdict
-    requires { ⌜ (t.field (now control) nodeCountPlace * recordPlaces ≤ length (now nodes)) × (t.field (now control) nodeCountPlace ≤ 8192) ⌝ }
+    requires { ⌜ (t.field (now control) nodeCountPlace * recordPlaces ≤ length (now nodes))
+        × (t.field (now control) nodeCountPlace ≤ 8192) ⌝ }
     ensures { λ r. ⌜ ((samples : List ℤ) (links work : List ℕ) → foundBy r ≡ firstOf (queryConditionsIn
         (tables (now (control .entry)) samples (now (nodes .entry)) links work) (now (query .entry)) (now (trail .entry)))) ⌝ }
 {

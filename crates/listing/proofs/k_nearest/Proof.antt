@@ -1,4 +1,5 @@
--- `listing::k_nearest` meets its contract: what the judge found says which way the call ends, and tables that refuse nothing may be searched.
+-- `listing::k_nearest` meets its contract: what the judge found says which way the call ends, and tables that refuse nothing may be
+-- searched.
 use mathlib.Core.Path.{_≡_, sym, ap, _∙_}
 use mathlib.Core.Option.{none}
 use mathlib.Core.List.{[], _∷_}
@@ -28,7 +29,8 @@ module _ (e : tie.After-enum-told) where
   abbrev s : tie.Start
   s = start (e .before .before)
 
-  nothing : firstOf (lists (lentTables s) (s .args .k) (now (s .args .query)) (now (s .args .trail)) (now (s .args .list)) .conditions) ≡ none
+  nothing : firstOf (lists (lentTables s) (s .args .k) (now (s .args .query)) (now (s .args .trail)) (now (s .args .list)) .conditions)
+      ≡ none
   unfolding foundBy
   nothing = sym (e .before .before .judge .ensures) ∙ ap foundBy (e .enum-told .given .1)
 

@@ -140,5 +140,5 @@ play-spec =
     (λ c. omega arith) (λ c. omega arith) (λ c κs. c .before .before .before .before .before .before .before .before .before .before
     .before .loop .inv .1 .inside) tell-requires loop-less loop-again
     (λ c. c .before .loop .inv .2) (λ c. c .before .loop .inv .3) (λ c. c .before .loop .inv .4) (λ c. c .before .loop .inv .5)
-    (λ c. c .before .loop .inv .6) (λ c. c .before .loop .inv .7) (λ c. c .before .loop .inv .8) (λ c. c .before .loop .inv .9) (λ c.
-    c .before .loop .inv .10) returns)
+    (λ c. c .before .loop .inv .6) (λ c. c .before .loop .inv .7) (λ c. c .before .loop .inv .8) (λ c. c .before .loop .inv .9)
+    (λ c. c .before .loop .inv .10) returns)

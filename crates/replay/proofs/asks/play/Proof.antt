@@ -64,9 +64,12 @@ pub play-spec : {M : Type 1} → statement M
 play-spec =
     tie.close
     (tie.spec
-    (λ c κs. tt) (λ c κs. tt) (λ c. c .before .before .before .before .before .nearest .kept .1 .1 .1 .1 .0) (λ c.
-    c .before .before .before .before .before .nearest .kept .1 .1 .1 .1 .1 .0) returns
-    (λ c κs. tt) (λ c κs. tt) (λ c. refl) (λ c. c .before .before .before .write-sheet .kept .1 .1 .1 .1 .1 .0) returns-2 (λ c κs. tt) (λ
-    c κs. tt) (λ c κs. tt) (λ c. c .before .before .before .before .before .before .before .k-nearest .kept .1 .1 .1 .1 .0) (λ c.
-    c .before .before .before .before .before .before .before .k-nearest .kept .1 .1 .1 .1 .1 .0) (λ c.
-    c .before .before .before .before .before .before .before .k-nearest .kept .1 .1 .1 .1 .1 .1 .0) returns-3 returns-4)
+    (λ c κs. tt) (λ c κs. tt)
+    (λ c. c .before .before .before .before .before .nearest .kept .1 .1 .1 .1 .0)
+    (λ c. c .before .before .before .before .before .nearest .kept .1 .1 .1 .1 .1 .0)
+    returns (λ c κs. tt) (λ c κs. tt) (λ c. refl) (λ c. c .before .before .before .write-sheet .kept .1 .1 .1 .1 .1 .0)
+    returns-2 (λ c κs. tt) (λ c κs. tt) (λ c κs. tt)
+    (λ c. c .before .before .before .before .before .before .before .k-nearest .kept .1 .1 .1 .1 .0)
+    (λ c. c .before .before .before .before .before .before .before .k-nearest .kept .1 .1 .1 .1 .1 .0)
+    (λ c. c .before .before .before .before .before .before .before .k-nearest .kept .1 .1 .1 .1 .1 .1 .0)
+    returns-3 returns-4)

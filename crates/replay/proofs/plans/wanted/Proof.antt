@@ -64,10 +64,10 @@ returns-6 c =
 returns-7 : tie.Need-returns-7
 returns-7 c =
     let is = c .before .before .before .before .before .before .before .before .before .before .number .ensures in
-    wanted-not (now (c .before .before .before .before .before .before .before .before .before .before .before .before .args .row)) _ (λ
-    e. c .before .before .before .before .before .if1 .left (is ∙ e)) (λ e. c .before .before .before .before .if2 .left (is ∙ e)) (λ
-    e. c .before .before .before .if3 .left (is ∙ e))
-    (λ e. c .before .before .if4 .left (is ∙ e)) (λ e. c .before .if5 .left (is ∙ e)) (λ e. c .if6 .left (is ∙ e))
+    wanted-not (now (c .before .before .before .before .before .before .before .before .before .before .before .before .args .row)) _
+    (λ e. c .before .before .before .before .before .if1 .left (is ∙ e)) (λ e. c .before .before .before .before .if2 .left (is ∙ e))
+    (λ e. c .before .before .before .if3 .left (is ∙ e)) (λ e. c .before .before .if4 .left (is ∙ e))
+    (λ e. c .before .if5 .left (is ∙ e)) (λ e. c .if6 .left (is ∙ e))
 
 pub wanted-spec : {M : Type 1} → statement M
 wanted-spec =

@@ -32,17 +32,15 @@ module _ (s : tie.Start) where
   abbrev to : Cursor
   to = s .args .to
 
-  go : Moved (playable (lentOf t) (aheadOf (stateAt t (now (s .args .pool)) (now (s .args .trails)) (now (s .args .sheets)) (now
-      (s .args .lists)) at)) (now (s
-      .args .row))) (now (s .args .row)) at to
+  go : Moved (playable (lentOf t) (aheadOf (stateAt t (now (s .args .pool)) (now (s .args .trails)) (now (s .args .sheets))
+      (now (s .args .lists)) at)) (now (s .args .row))) (now (s .args .row)) at to
   go = moved-is _ (now (s .args .row)) at to (s .pre .1)
 
   ends : Inside to (now (s .args .pool)) (now (s .args .trails)) (now (s .args .sheets)) (now (s .args .lists))
   ends = subst (λ (z : Cursor). Inside z (now (s .args .pool)) (now (s .args .trails)) (now (s .args .sheets)) (now (s .args .lists)))
       (sym (go .to-is))
-      (inside-then t (now (s .args .pool)) (now (s .args .trails)) (now (s .args .sheets)) (now (s .args .lists)) at (s .pre .0) (now
-      (s .args .row)) (go .kind)
-      (go .is))
+      (inside-then t (now (s .args .pool)) (now (s .args .trails)) (now (s .args .sheets)) (now (s .args .lists)) at (s .pre .0)
+      (now (s .args .row)) (go .kind) (go .is))
 
   trail-bounds : (at .trails ≤ to .trails) × (to .trails ≤ length (now (s .args .trails)))
   trail-bounds = (omega (arith, ap (λ (z : Cursor). z .trails) (go .to-is)), ends .trails-inside)
@@ -57,14 +55,13 @@ module _ (s : tie.Start) where
   sample-bounds = (omega (arith, ap (λ (z : Cursor). z .samples) (go .to-is)), ends .samples-inside)
 
 -- the row's lengths are within the tables
-within : (k : tie.After-lengths) → Within (lengthsBy (k .lengths .result)) (lentOf (t
-    (k .before .before .before .before .before .before .before .before .before)))
+within : (k : tie.After-lengths) → Within (lengthsBy (k .lengths .result))
+    (lentOf (t (k .before .before .before .before .before .before .before .before .before)))
 within k =
     let s = k .before .before .before .before .before .before .before .before .before in
     subst (λ (l : Lent). Within l (lentOf (t s))) (sym (k .lengths .ensures))
-    (is (t s) (now (s .args .pool)) (now (s .args .trails)) (now (s .args .sheets)) (now (s .args .lists)) (at s) (s .pre .0) (now
-    (s .args .row)) (go s .kind)
-    (go s .is) .within)
+    (is (t s) (now (s .args .pool)) (now (s .args .trails)) (now (s .args .sheets)) (now (s .args .lists)) (at s) (s .pre .0)
+    (now (s .args .row)) (go s .kind) (go s .is) .within)
 
 -- ---- the call
 

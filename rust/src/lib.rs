@@ -3,7 +3,7 @@
 //! A trace is a run of 16-bit samples, such as the drive current of a machine's standard sweep. A [`TraceLibrary`] keeps traces and finds the stored one
 //! that is nearest to a new one: the least sum of squared differences, the lowest number among equals, just as reading every stored trace would find it.
 //! The work is done by a library that is proved to do exactly this (the crates beside this folder); here it gets tables of the right sizes, and its
-//! refusals a type.
+//! refusals a type. [`TraceLibrary::k_nearest`] lists the k nearest in the same way.
 //!
 //! ```
 //! use silkendoz::TraceLibrary;
@@ -19,8 +19,9 @@
 //! # Ok::<(), silkendoz::Refusal>(())
 //! ```
 //!
-//! [`calls`] has the calls themselves, over slices that the caller lends. [`model`] is document 01 in plain Rust, which tests hold the calls to; [`scan`]
-//! reads every trace; [`random`] makes test data, [`example`] the sheet under `examples/`; [`script`] plays scripts of calls, over [`lending`].
+//! [`calls`] has the calls themselves, over slices that the caller lends. [`model`] is documents 01 and 02 in plain Rust, which tests hold
+//! the calls to; [`scan`] reads every trace; [`random`] makes test data, [`example`] the sheet under `examples/`; [`script`] plays scripts
+//! of calls, over [`lending`].
 
 pub mod calls;
 pub mod example;

@@ -30,6 +30,7 @@ use Rattle.dstree.specs.Program.{refusalLine, matchLine, lineOf, judgedL
 use Rattle.dstree.specs.Claims.{numbersAmong}
 use Rattle.dstree.specs.KNearest.{nears, nearestList, listPlaces, kth, readInto, stopsAtKth, listed, kNearestBySteps}
 use Rattle.dstree.specs.KNearest.{leavesRk, kNearestOf, listOfMatch, inRank, distancesAmong}
+use Rattle.dstree.specs.Recording.{header, fieldBytes, recordingOf, rateIn, sizeIn, begins, isRecording, recordedTraces, judgeRecording}
 
 unfoldable wordsOpen : Unit {0}
 unfolding flatten roundedUp total counting those every chosen isEmpty isIn timesIn same
@@ -92,6 +93,10 @@ unfoldable sheetTestsOpen : Unit {0}
 unfolding isWrongLength isTorn tornConditions areZero zerosIn badConditions conditionsAs libraryIn judgedBy judgeAs
 sheetTestsOpen = tt
 
+unfoldable recordingsOpen : Unit {0}
+unfolding header fieldBytes recordingOf rateIn sizeIn begins isRecording recordedTraces judgeRecording
+recordingsOpen = tt
+
 unfoldable booksOpen : Unit {0}
 unfolding besideOf controlShort tablesShort readingConditions putRead openingEntry addingEntry matchingEntry writingEntry readingEntry
 booksOpen = tt
@@ -106,5 +111,5 @@ linesOpen = tt
 
 unfoldable pub everything : Unit {0}
 unfolding wordsOpen figuresOpen figuresOpen2 nodesOpen nodesOpen2 addingOpen addingOpen2 matchingOpen matchingOpen2 nearestOpen rulesOpen rulesOpen2
-    sheetsOpen sheetsOpen2 sheetTestsOpen booksOpen booksOpen2 linesOpen
+    sheetsOpen sheetsOpen2 sheetTestsOpen recordingsOpen booksOpen booksOpen2 linesOpen
 everything = tt

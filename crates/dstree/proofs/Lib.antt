@@ -1,6 +1,7 @@
 -- Laws of the definitions. The tree that adding makes: Invariant, Joins, Splits and Grown; a query: Bounds, Reading, Search and Closed;
 -- all together: Laws. The k nearest: Ranks, KSteps and KClosed; all together: KLaws.
 -- Sheets: SheetWritten, SheetRead, ReadBack and WrittenAgain; all together: RoundTrips.
+-- Recorder's files: Recordings.
 pub mod Everything
 pub mod Notation
 pub mod Examples
@@ -47,3 +48,5 @@ pub mod RoundTrips
 pub mod Laws
 pub mod KLaws
 pub mod KExamples
+pub mod RecordingExamples
+pub mod Recordings

@@ -43,15 +43,15 @@ module _ (limit : ℕ) where
     pub small : All Small traces
 
   module _ (n : ℕ) where
-    trace-sized : (x : Trace) → T (isTrace limit n x) → length x ≡ n
+    pub trace-sized : (x : Trace) → T (isTrace limit n x) → length x ≡ n
     unfolding isTrace
     trace-sized x t = eqb→eq (length x) n (passed (eqb (length x) n) (every (λ sample. ltb (mag sample) limit) x ∷ []) t .0)
 
-    trace-small : (x : Trace) → T (isTrace limit n x) → Small x
+    pub trace-small : (x : Trace) → T (isTrace limit n x) → Small x
     unfolding isTrace
     trace-small x t = all-mono (λ z p. ltb→lt (mag z) limit p) (every-all (λ sample. ltb (mag sample) limit) x (passed (eqb (length x) n) (every (λ sample. ltb (mag sample) limit) x ∷ []) t .1))
 
-    traces-are : {xs : List Trace} → Sized n xs → All Small xs → T (every (isTrace limit n) xs)
+    pub traces-are : {xs : List Trace} → Sized n xs → All Small xs → T (every (isTrace limit n) xs)
     unfolding isTrace every
     traces-are all-none all-none = tt
     traces-are (all-more {a = x} {rest} e es) (all-more s ss) =

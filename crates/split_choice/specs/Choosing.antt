@@ -1,7 +1,7 @@
 -- The best candidate so far, as code keeps it, and what one candidate more makes of it.
 use Prim.Native.Nat.{ℕ, _*_, _≤_, _<_}
 use mathlib.Core.Path.{_≡_}
-use mathlib.Core.Bool.{true, false, not}
+use mathlib.Core.Bool.{Bool, true, false, not}
 use mathlib.Core.Option.{Option, none, some}
 use mathlib.Core.List.{List, [], foldl, map}
 use lib.IntN.{ℤ, pos, natAbs}
@@ -27,6 +27,10 @@ use Rattle.split_choice.specs.declared.choice.Choice.{Choice}
 -- the children's right ends: a cut at 0 is none
 abbrev pub childEnds : ℕ → List ℕ → List ℕ
 childEnds cut all = if eqb cut 0 then all else cutAt cut all
+
+-- a trial by its numbers
+abbrev pub trialBy : ℕ → ℕ → ℕ → ℕ → Bool → Trial
+trialBy first last cut column flag = record { first = first; last = last; «by_scatter» = flag; cut = cut; column = column }
 
 -- a trial as a candidate of a node with these right ends
 abbrev pub candidateBy : List ℕ → Trial → Candidate

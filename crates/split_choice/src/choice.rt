@@ -7,6 +7,7 @@ use leaf_figures::lists::place_list;
 use leaf_figures::sameness::all_same;
 use leaf_figures::spread::spread_along;
 ghost use mathlib.Core.Path.{_≡_};
+ghost use mathlib.Core.Bool.{true, false};
 ghost use mathlib.Core.List.{_∷_, [], _++_};
 ghost use Prim.Native.Nat.{ℕ, _≤_, _<_};
 ghost use lib.ListN.{length, take};
@@ -17,7 +18,8 @@ ghost use Rattle.tables.specs.Walk.{storedIn, numbersOf, Stored};
 ghost use Rattle.tables.specs.Runs.{Inside};
 ghost use Rattle.leaf_figures.specs.Ends.{endsOf, Room, Rise};
 ghost use Rattle.leaf_figures.specs.Rows.{Listed, Rows};
-ghost use Rattle.split_choice.specs.Choosing.{nothing, choiceOf, betterOf, candidateBy, childEnds, chosenBy, chosenIn, Sound, SoundIn, After, Fit, Leaf, Reached};
+ghost use Rattle.split_choice.specs.Choosing.{nothing, choiceOf, betterOf, trialBy, candidateBy, childEnds, chosenBy, chosenIn, Sound, SoundIn};
+ghost use Rattle.split_choice.specs.Choosing.{After, Fit, Leaf, Reached};
 
 // A candidate: a run, its figure, and where the children's segments are cut, 0 for nowhere. Its column in the table of figures is a guess.
 pub struct Trial {
@@ -123,7 +125,94 @@ fn try_one(
     }
 }
 
-// A run tried by sum, then by scatter. The least and greatest of both figures are taken once.
+// A candidate on a run, by its sum or by its scatter.
+fn trial_of(first: usize, last: usize, by_scatter: bool, cut: usize, column: usize) -> Trial
+    ensures { λ r. ⌜ r ≡ trialBy first last cut column «by_scatter» ⌝ }
+{
+    Trial {
+        first,
+        last,
+        by_scatter,
+        cut,
+        column,
+    }
+}
+
+// What a run tried by sum leaves: the best so far, and the least and greatest scatter on the run, by which it is tried next.
+struct BySum {
+    best: Choice,
+    low: i64,
+    high: i64,
+}
+
+// A run tried by sum. The least and greatest of both figures are taken at once.
+fn try_sum(
+    samples: &[i16],
+    n: usize,
+    k: usize,
+    list: &[u16; 4096],
+    count: usize,
+    place: &[u16],
+    runs: &[usize; 96],
+    sums: &[i64],
+    scatters: &[u64],
+    e: Ends,
+    whole: u64,
+    column: usize,
+    first: usize,
+    last: usize,
+    cut: usize,
+    old: Choice,
+    side: &mut [u16; 4096],
+) -> BySum
+    requires { ⌜ Leaf (now samples) n k (now list) count (now place) (now runs) (now sums) (now scatters) e whole × Fit n (endsOf e) first last cut
+        × Sound n (storedIn (now samples) n k) (endsOf e) (take count (now list)) old × (length (now side) ≡ 4096) ⌝ }
+    ensures { λ r. ⌜ After n (storedIn (now (samples .entry)) n k) (endsOf e) (take count (now (list .entry))) old
+        (candidateBy (endsOf e) (trialBy first last cut column false) ∷ []) (r .best) ⌝ }
+    ensures scatter { λ r. ⌜ Reached (tracesOf (storedIn (now (samples .entry)) n k) (take count (now (list .entry))))
+        (trialBy first last cut column true) (r .low) (r .high) ⌝ }
+    ensures room { λ _. ⌜ length (now (side .exit)) ≡ 4096 ⌝ }
+{
+    let f = figures_along(
+        samples,
+        n,
+        list,
+        count,
+        place,
+        runs,
+        sums,
+        scatters,
+        column,
+        first,
+        last,
+    );
+    let c = trial_of(first, last, false, cut, column);
+    let best = try_one(
+        samples,
+        n,
+        k,
+        list,
+        count,
+        place,
+        runs,
+        sums,
+        scatters,
+        e,
+        whole,
+        c,
+        f.least_sum,
+        f.greatest_sum,
+        old,
+        side,
+    );
+    BySum {
+        best,
+        low: f.least_scatter as i64,
+        high: f.greatest_scatter as i64,
+    }
+}
+
+// A run tried by sum, then by scatter.
 fn try_both(
     samples: &[i16],
     n: usize,
@@ -148,36 +237,7 @@ fn try_both(
     ensures { λ r. ⌜ After n (storedIn (now (samples .entry)) n k) (endsOf e) (take count (now (list .entry))) old (byEither (run first last) (childEnds cut (endsOf e))) r ⌝ }
     ensures room { λ _. ⌜ length (now (side .exit)) ≡ 4096 ⌝ }
 {
-    let f = figures_along(
-        samples,
-        n,
-        list,
-        count,
-        place,
-        runs,
-        sums,
-        scatters,
-        column,
-        first,
-        last,
-    );
-    let by_sum = Trial {
-        first,
-        last,
-        by_scatter: false,
-        cut,
-        column,
-    };
-    let by_scatter = Trial {
-        first,
-        last,
-        by_scatter: true,
-        cut,
-        column,
-    };
-    let low = f.least_scatter as i64;
-    let high = f.greatest_scatter as i64;
-    let one = try_one(
+    let by_sum = try_sum(
         samples,
         n,
         k,
@@ -189,12 +249,14 @@ fn try_both(
         scatters,
         e,
         whole,
-        by_sum,
-        f.least_sum,
-        f.greatest_sum,
+        column,
+        first,
+        last,
+        cut,
         old,
         side,
     );
+    let c = trial_of(first, last, true, cut, column);
     try_one(
         samples,
         n,
@@ -207,16 +269,85 @@ fn try_both(
         scatters,
         e,
         whole,
-        by_scatter,
-        low,
-        high,
-        one,
+        c,
+        by_sum.low,
+        by_sum.high,
+        by_sum.best,
         side,
     )
 }
 
-// One segment's candidates: the whole segment, then its halves, the left one rounded down. There are halves where another end has room
-// and the segment has two samples or more. Segment i's columns are i, 16 + i and 32 + i.
+// The halves of a segment, the left one rounded down, where another end has room and the segment has two samples or more. Segment i's
+// columns are i, 16 + i and 32 + i.
+fn try_halves(
+    samples: &[i16],
+    n: usize,
+    k: usize,
+    list: &[u16; 4096],
+    count: usize,
+    place: &[u16],
+    runs: &[usize; 96],
+    sums: &[i64],
+    scatters: &[u64],
+    e: Ends,
+    whole: u64,
+    i: usize,
+    first: usize,
+    last: usize,
+    old: Choice,
+    side: &mut [u16; 4096],
+) -> Choice
+    requires { ⌜ Leaf (now samples) n k (now list) count (now place) (now runs) (now sums) (now scatters) e whole × Inside n first last
+        × ((m : ℕ) → first ≤ m → m < last → Rise n 1 (cutAt m (endsOf e))) × (i < 16) × (first < last) × (e .count < 16)
+        × Sound n (storedIn (now samples) n k) (endsOf e) (take count (now list)) old × (length (now side) ≡ 4096) ⌝ }
+    ensures { λ r. ⌜ After n (storedIn (now (samples .entry)) n k) (endsOf e) (take count (now (list .entry))) old (halves (endsOf e) (run first last)) r ⌝ }
+    ensures room { λ _. ⌜ length (now (side .exit)) ≡ 4096 ⌝ }
+{
+    let mid = first + (last - first + 1) / 2 - 1;
+    let next = mid + 1;
+    let lefts = 16 + i;
+    let rights = 32 + i;
+    let left = try_both(
+        samples,
+        n,
+        k,
+        list,
+        count,
+        place,
+        runs,
+        sums,
+        scatters,
+        e,
+        whole,
+        lefts,
+        first,
+        mid,
+        mid,
+        old,
+        side,
+    );
+    try_both(
+        samples,
+        n,
+        k,
+        list,
+        count,
+        place,
+        runs,
+        sums,
+        scatters,
+        e,
+        whole,
+        rights,
+        next,
+        last,
+        mid,
+        left,
+        side,
+    )
+}
+
+// One segment's candidates: the whole segment, then its halves, where it has them.
 fn try_segment(
     samples: &[i16],
     n: usize,
@@ -236,7 +367,8 @@ fn try_segment(
     side: &mut [u16; 4096],
 ) -> Choice
     requires { ⌜ Leaf (now samples) n k (now list) count (now place) (now runs) (now sums) (now scatters) e whole × Inside n first last
-        × ((m : ℕ) → first ≤ m → m < last → Rise n 1 (cutAt m (endsOf e))) × (i < 16) × Sound n (storedIn (now samples) n k) (endsOf e) (take count (now list)) old × (length (now side) ≡ 4096) ⌝ }
+        × ((m : ℕ) → first ≤ m → m < last → Rise n 1 (cutAt m (endsOf e))) × (i < 16)
+        × Sound n (storedIn (now samples) n k) (endsOf e) (take count (now list)) old × (length (now side) ≡ 4096) ⌝ }
     ensures { λ r. ⌜ After n (storedIn (now (samples .entry)) n k) (endsOf e) (take count (now (list .entry))) old (byEither (run first last) (endsOf e) ++ halves (endsOf e) (run first last)) r ⌝ }
     ensures room { λ _. ⌜ length (now (side .exit)) ≡ 4096 ⌝ }
 {
@@ -266,11 +398,7 @@ fn try_segment(
     if last <= first {
         return all;
     }
-    let mid = first + (last - first + 1) / 2 - 1;
-    let next = mid + 1;
-    let lefts = 16 + i;
-    let rights = 32 + i;
-    let left = try_both(
+    try_halves(
         samples,
         n,
         k,
@@ -282,30 +410,10 @@ fn try_segment(
         scatters,
         e,
         whole,
-        lefts,
+        i,
         first,
-        mid,
-        mid,
-        all,
-        side,
-    );
-    try_both(
-        samples,
-        n,
-        k,
-        list,
-        count,
-        place,
-        runs,
-        sums,
-        scatters,
-        e,
-        whole,
-        rights,
-        next,
         last,
-        mid,
-        left,
+        all,
         side,
     )
 }

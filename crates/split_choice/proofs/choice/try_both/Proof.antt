@@ -1,99 +1,69 @@
--- `split_choice::choice::try_both` meets its contract: the least and greatest figures are those of the leaf, and the two candidates are tried in their order.
-use mathlib.Core.Path.{_≡_, ap, _∙_}
-use mathlib.Core.Bool.{Bool, true, false}
+-- `split_choice::choice::try_both` meets its contract: the two candidates of a run are tried in their order.
+use mathlib.Core.Path.{_≡_, ap, subst, _∙_}
+use mathlib.Core.Bool.{true}
 use mathlib.Core.Option.{Option}
 use mathlib.Core.List.{List, [], _∷_}
+use Prim.Native.Nat.{ℕ}
 use native.Mathlib.Omega.{arith}
-use lib.IntN.{pos}
 use lib.ListN.{take}
 use mir.Syntax.{w64}
-use mir.Val.{toZ}
 use mir.Facts.{toZ-ofZ}
-use borrow.Author.Needs.{needs}
 use Rattle.integer.proofs.Width.{small, read}
 use Rattle.dstree.specs.Measures.{Trace}
-use Rattle.dstree.specs.Figures.{run}
-use Rattle.dstree.specs.Adding.{Split, byEither, segmentOf, tracesOf}
+use Rattle.dstree.specs.Adding.{Split, byEither, tracesOf}
 use Rattle.tables.specs.Walk.{storedIn}
-use Rattle.leaf_figures.specs.Sides.{segmentBy}
 use Rattle.leaf_figures.specs.Ends.{endsOf}
-use Rattle.leaf_figures.proofs.Ranged.{least-sum-is, greatest-sum-is, least-scatter-is, greatest-scatter-is}
-use Rattle.split_choice.specs.Choosing.{candidateBy, tried, Reached}
+use Rattle.split_choice.specs.Choosing.{trialBy, candidateBy, tried, After, Reached}
 use Rattle.split_choice.specs.declared.choice.Trial.{Trial}
-use Rattle.split_choice.proofs.Sided.{list-traces}
 use Rattle.split_choice.proofs.choice.try_both.Statement.{statement}
 use Rattle.split_choice.proofs.choice.try_both.Tie as tie
 
--- what is known once the figures are taken
-module _ (g : tie.After-figures-along) where
+-- what is known once the run is tried by its sum
+module _ (g : tie.After-try-sum) where
   abbrev s : tie.Start
-  s = g .before .before .before
+  s = g .before .before .before .before
 
-  abbrev traces : List Trace
-  traces = tracesOf (storedIn (s .args .samples .now) (s .args .n) (s .args .k)) (take (s .args .count) (s .args .list .now))
+  abbrev stored : List Trace
+  stored = storedIn (s .args .samples .now) (s .args .n) (s .args .k)
 
-  abbrev trial : Bool → Trial
-  trial flag = record { first = s .args .first; last = s .args .last; «by_scatter» = flag; cut = s .args .cut; column = s .args .column }
+  abbrev numbers : List ℕ
+  numbers = take (s .args .count) (s .args .list .now)
 
-  whole : segmentBy (s .args .last) (g .figures-along .result) ≡ segmentOf traces (run (s .args .first) (s .args .last))
-  whole =
-      g .figures-along .ensures .0
-      ∙ ap (λ (l : List Trace). segmentOf l (run (s .args .first) (s .args .last)))
-      (list-traces (s .args .samples .now) (s .args .n) (s .args .k) (take (s .args .count) (s .args .list .now)) (s .pre .0 .below))
-
-  by-sum : Reached traces (trial false) (read w64 (g .figures-along .result .«least_sum»)) (read w64 (g .figures-along .result .«greatest_sum»))
-  by-sum =
-      let f = g .figures-along .result in
-      let m = g .figures-along .ensures .1 in
-      let on = run (s .args .first) (s .args .last) in
-      let low : read w64 (f .«least_sum») ≡ f .«least_sum» = toZ-ofZ (small {w = w64} {z = f .«least_sum»} (omega (arith, m .least-sum))) in
-      let high : read w64 (f .«greatest_sum») ≡ f .«greatest_sum» = toZ-ofZ (small {w = w64} {z = f .«greatest_sum»} (omega (arith, m .greatest-sum))) in
-      record {
-        low-is = low ∙ least-sum-is traces on f whole;
-        high-is = high ∙ greatest-sum-is traces on f whole;
-        low-size = rw low (omega (arith, m .least-sum));
-        high-size = rw high (omega (arith, m .greatest-sum));
-      }
-
-  by-scatter : Reached traces (trial true) (toZ w64 (g .figures-along .result .«least_scatter»)) (toZ w64 (g .figures-along .result .«greatest_scatter»))
-  by-scatter =
-      let f = g .figures-along .result in
-      let m = g .figures-along .ensures .1 in
-      let on = run (s .args .first) (s .args .last) in
-      let low : toZ w64 (f .«least_scatter») ≡ pos (f .«least_scatter») = toZ-ofZ (small {w = w64} {z = pos (f .«least_scatter»)} (omega (arith, m .least-scatter))) in
-      let high : toZ w64 (f .«greatest_scatter») ≡ pos (f .«greatest_scatter») = toZ-ofZ (small {w = w64} {z = pos (f .«greatest_scatter»)} (omega (arith, m .greatest-scatter))) in
-      record {
-        low-is = low ∙ least-scatter-is traces on f whole;
-        high-is = high ∙ greatest-scatter-is traces on f whole;
-        low-size = rw low (omega (arith, m .least-scatter));
-        high-size = rw high (omega (arith, m .greatest-scatter));
-      }
-
-figures-along-requires : tie.Need-figures-along-requires
-figures-along-requires c κs = let s = c .before .before in (s .pre .0 .listed, s .pre .1 .inside, s .pre .0 .rows)
+  -- the scatters, read back from their fields
+  reached : Reached (tracesOf stored numbers) (trialBy (s .args .first) (s .args .last) (s .args .cut) (s .args .column) true)
+      (read w64 (g .try-sum .result .low)) (read w64 (g .try-sum .result .high))
+  reached =
+      let r = g .try-sum .ensures .1 .0 in
+      let low : read w64 (g .try-sum .result .low) ≡ g .try-sum .result .low =
+      toZ-ofZ (small {w = w64} {z = g .try-sum .result .low} (omega (arith, r .low-size))) in
+      let high : read w64 (g .try-sum .result .high) ≡ g .try-sum .result .high =
+      toZ-ofZ (small {w = w64} {z = g .try-sum .result .high} (omega (arith, r .high-size))) in
+      record { low-is = low ∙ r .low-is; high-is = high ∙ r .high-is; low-size = rw low (r .low-size); high-size = rw high (r .high-size) }
 
 try-one-requires : tie.Need-try-one-requires
-try-one-requires c κs = let g = c .before .before .before .before .before in (s g .pre .0, s g .pre .1, by-sum g, s g .pre .2, s g .pre .3)
-
-try-one-requires-2 : tie.Need-try-one-requires-2
-try-one-requires-2 c κs =
-    let g = c .before .before .before .before .before .before .before in
-    (s g .pre .0, s g .pre .1, by-scatter g, c .before .try-one .ensures .0 .sound, c .before .try-one .ensures .1)
+try-one-requires c κs =
+    let t = c .before .before .before in
+    let g = t .before in
+    let e = g .try-sum .ensures in
+    rw (t .trial-of .ensures) (s g .pre .0, s g .pre .1, reached g, e .0 .sound, e .1 .1)
 
 returns : tie.Need-returns
 unfolding byEither
 returns c =
-    let g = c .before .before .before .before .before .before .before .before in
+    let t = c .before .before .before .before in
+    let g = t .before in
     let a = s g .args in
-    let stored = storedIn (a .samples .now) (a .n) (a .k) in
-    let numbers = take (a .count) (a .list .now) in (
+    let all = endsOf (a .e) in
+    let last = subst (λ (x : Trial). After (a .n) (stored g) all (numbers g) (g .try-sum .result .best) (candidateBy all x ∷ []) (c .try-one .result))
+    (t .trial-of .ensures) (c .try-one .ensures .0) in (
       record {
-        is = c .try-one2 .ensures .0 .is
-            ∙ ap (λ (o : Option Split). tried stored (endsOf (a .e)) numbers o (candidateBy (endsOf (a .e)) (trial g true) ∷ [])) (c .before .before .try-one .ensures .0 .is);
-        sound = c .try-one2 .ensures .0 .sound;
+        is = last .is
+            ∙ ap (λ (o : Option Split). tried (stored g) all (numbers g) o
+            (candidateBy all (trialBy (a .first) (a .last) (a .cut) (a .column) true) ∷ [])) (g .try-sum .ensures .0 .is);
+        sound = last .sound;
       },
-      c .try-one2 .ensures .1,
+      c .try-one .ensures .1,
     )
 
 pub try-both-spec : {M : Type 1} → statement M
-try-both-spec = tie.close (tie.spec figures-along-requires (λ c. search needs) (λ c. search needs) try-one-requires try-one-requires-2 returns)
+try-both-spec = tie.close (tie.spec (λ c κs. c .before .before .before .pre) (λ c κs. tt) try-one-requires returns)

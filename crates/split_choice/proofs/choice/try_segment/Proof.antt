@@ -2,24 +2,17 @@
 use mathlib.Core.Path.{_≡_, refl, sym, ap, _∙_}
 use mathlib.Core.Option.{Option}
 use mathlib.Core.List.{List, [], _++_}
-use Prim.Native.Nat.{_+_, _≤_, _<_}
 use native.Mathlib.Omega.{arith}
-use lib.ListN.{length, take}
-use lib.Seq.{length-take-le}
-use borrow.Author.Tests.{ne-eqb}
+use lib.ListN.{take}
 use Rattle.dstree.specs.Figures.{run}
 use Rattle.dstree.specs.Adding.{Candidate, Split, byEither, halves}
 use Rattle.tables.specs.Walk.{storedIn}
-use Rattle.leaf_figures.specs.Ends.{endsOf, Rise}
-use Rattle.split_choice.specs.Choosing.{chosenBy, childEnds, tryOne, tried}
+use Rattle.leaf_figures.specs.Ends.{endsOf}
+use Rattle.split_choice.specs.Choosing.{chosenBy, tryOne, tried}
 use Rattle.split_choice.proofs.Tried.{fold-append}
-use Rattle.split_choice.proofs.Halved.{no-room, no-width, middle, middle-in, both-halves}
+use Rattle.split_choice.proofs.Halved.{ends-count, no-room, no-width}
 use Rattle.split_choice.proofs.choice.try_segment.Statement.{statement}
 use Rattle.split_choice.proofs.choice.try_segment.Tie as tie
-
--- no more ends than places
-count-is : (s : tie.Start) → length (endsOf (s .args .e)) ≡ s .args .e .count
-count-is s = let p = s .pre .0 .room in length-take-le (s .args .e .count) (s .args .e .at) (omega (arith, p .places, p .few))
 
 -- the best of some candidates, from the best so far on
 abbrev after : (s : tie.Start) → Option Split → List Candidate → Option Split
@@ -38,14 +31,6 @@ whole-only s e =
     (byEither (run (a .first) (a .last)) (endsOf (a .e))) (halves (endsOf (a .e)) (run (a .first) (a .last)))
     ∙ ap (λ (h : List Candidate). after s (after s (before s) (byEither (run (a .first) (a .last)) (endsOf (a .e)))) h) e)
 
--- the halves' ends
-half-rise : (s : tie.Start) → let a = s .args in a .first < a .last → Rise (a .n) 1 (childEnds (middle (endsOf (a .e)) (a .first) (a .last)) (endsOf (a .e)))
-half-rise s h =
-    let a = s .args in
-    let m = middle (endsOf (a .e)) (a .first) (a .last) in
-    let i = middle-in (endsOf (a .e)) (a .first) (a .last) (s .pre .1 .from-1) h in
-    rw (ne-eqb m 0 (λ z. omega (arith, z, i .0, s .pre .1 .from-1))) (s .pre .2 m (i .0) (i .1))
-
 try-both-requires : tie.Need-try-both-requires
 try-both-requires c κs =
     let s = c .before .before .before in
@@ -56,7 +41,7 @@ returns c =
     let s = c .before .before .before .before .before in
     let g = c .before .try-both .ensures in (
       record {
-        is = g .0 .is ∙ whole-only s (no-room (endsOf (s .args .e)) (s .args .first) (s .args .last) (omega (arith, count-is s, c .if1 .taken)));
+        is = g .0 .is ∙ whole-only s (no-room (endsOf (s .args .e)) (s .args .first) (s .args .last) (omega (arith, ends-count (s .args .e) (s .pre .0 .room), c .if1 .taken)));
         sound = g .0 .sound;
       },
       g .1,
@@ -70,76 +55,29 @@ returns-2 c =
       g .1,
     )
 
--- where there are halves
-module _ (h : tie.Else2) where
-  abbrev start : tie.Start
-  start = h .before .before .before .before .before .before
-
-  inside : let a = start .args in (a .first ≤ middle (endsOf (a .e)) (a .first) (a .last)) × (middle (endsOf (a .e)) (a .first) (a .last) < a .last)
-  inside = let a = start .args in middle-in (endsOf (a .e)) (a .first) (a .last) (start .pre .1 .from-1) (h .if2 .left)
-
-  most : start .args .last ≤ 256
-  most = omega (arith, start .pre .1 .to-n, start .pre .0 .listed .narrow)
-
-try-both-requires-2 : tie.Need-try-both-requires-2
-try-both-requires-2 c κs =
+try-halves-requires : tie.Need-try-halves-requires
+try-halves-requires c κs =
     let h = c .before in
-    let s = start h in
-    let g = h .before .before .try-both .ensures in (
-      s .pre .0,
-      record {
-        inside = record { from-1 = s .pre .1 .from-1; rises = inside h .0; to-n = omega (arith, inside h .1, s .pre .1 .to-n) };
-        room = λ f. omega (arith, count-is s, h .before .if1 .left);
-        rise = half-rise s (h .if2 .left);
-      },
-      g .0 .sound,
-      g .1,
-    )
-
-try-both-requires-3 : tie.Need-try-both-requires-3
-try-both-requires-3 c κs =
-    let h = c .before .before .before in
-    let s = start h in
-    let g = c .before .try-both2 .ensures in (
-      s .pre .0,
-      record {
-        inside = record { from-1 = omega arith; rises = omega (arith, inside h .1); to-n = s .pre .1 .to-n };
-        room = λ f. omega (arith, count-is s, h .before .if1 .left);
-        rise = half-rise s (h .if2 .left);
-      },
-      g .0 .sound,
-      g .1,
-    )
+    let s = h .before .before .before .before .before .before in
+    let g = h .before .before .try-both .ensures in
+    (s .pre .0, s .pre .1, s .pre .2, s .pre .3, h .if2 .left, h .before .if1 .left, g .0 .sound, g .1)
 
 returns-3 : tie.Need-returns-3
 returns-3 c =
-    let h = c .before .before .before .before in
-    let s = start h in
+    let h = c .before .before in
+    let s = h .before .before .before .before .before .before in
     let a = s .args in
     let all = endsOf (a .e) in
-    let m = middle all (a .first) (a .last) in
     let wholes = byEither (run (a .first) (a .last)) all in
-    let lefts = byEither (run (a .first) m) (childEnds m all) in
-    let rights = byEither (run (m + 1) (a .last)) (childEnds m all) in
-    let one = tryOne (storedIn (a .samples .now) (a .n) (a .k)) all (take (a .count) (a .list .now)) in
-    let e : halves all (run (a .first) (a .last)) ≡ lefts ++ rights = both-halves all (a .first) (a .last) (s .pre .1 .from-1) (h .if2 .left)
-    (omega (arith, count-is s, h .before .if1 .left)) in
-    let split : after s (before s) (wholes ++ halves all (run (a .first) (a .last))) ≡ after s (after s (after s (before s) wholes) lefts) rights =
-    fold-append one (before s) wholes (halves all (run (a .first) (a .last)))
-    ∙ (ap (λ (h : List Candidate). after s (after s (before s) wholes) h) e ∙ fold-append one (after s (before s) wholes) lefts rights) in (
+    let one = tryOne (storedIn (a .samples .now) (a .n) (a .k)) all (take (a .count) (a .list .now)) in (
       record {
-        is = c .try-both3 .ensures .0 .is
-            ∙ (ap (λ (o : Option Split). after s o rights) (c .before .before .try-both2 .ensures .0 .is
-            ∙ ap (λ (o : Option Split). after s o lefts) (h .before .before .try-both .ensures .0 .is)) ∙ sym split);
-        sound = c .try-both3 .ensures .0 .sound;
+        is = c .try-halves .ensures .0 .is
+            ∙ (ap (λ (o : Option Split). after s o (halves all (run (a .first) (a .last)))) (h .before .before .try-both .ensures .0 .is)
+            ∙ sym (fold-append one (before s) wholes (halves all (run (a .first) (a .last)))));
+        sound = c .try-halves .ensures .0 .sound;
       },
-      c .try-both3 .ensures .1,
+      c .try-halves .ensures .1,
     )
 
 pub try-segment-spec : {M : Type 1} → statement M
-try-segment-spec =
-    tie.close
-    (tie.spec
-    try-both-requires returns returns-2 (λ c. omega arith) (λ c. omega (arith, most c)) (λ c. omega (arith, most c)) (λ c. omega (arith, start c .pre .1 .from-1))
-    (λ c. omega (arith, inside c .1, most c)) (λ c. omega (arith, start c .pre .3)) (λ c. omega (arith, start c .pre .3)) try-both-requires-2
-    try-both-requires-3 returns-3)
+try-segment-spec = tie.close (tie.spec try-both-requires returns returns-2 try-halves-requires returns-3)

@@ -8,7 +8,7 @@ use native.Mathlib.Nat.{suc-mul, mul-le-mul-right}
 use lib.ListN.{length, getD, take, drop, length-drop}
 use lib.Seq.{drop-drop, take-append-le, take-take}
 use Rattle.integer.proofs.Tests.{test-true}
-use Rattle.integer.proofs.Lists.{all-more, all-parts}
+use Rattle.integer.proofs.Lists.{map-take, all-more, all-parts}
 use Rattle.integer.proofs.Rows.{map-append}
 use Rattle.dstree.specs.Measures.{inRange, sampleLimit}
 use Rattle.dstree.specs.Refusals.{firstOf}
@@ -93,11 +93,6 @@ module _ {A : Type 0} where
       ∙ ap (pieces size k) (sym (drop-take size (suc k * size) xs ∙ ap (λ (i : ℕ). take i (drop size xs)) e)))
 
 module _ {A B : Type 0} (f : A → B) where
-  map-take : (k : ℕ) (l : List A) → take k (map f l) ≡ map f (take k l)
-  map-take zero l = refl
-  map-take (suc k) [] = refl
-  map-take (suc k) (x ∷ l) = ap (λ (r : List B). f x ∷ r) (map-take k l)
-
   map-drop : (k : ℕ) (l : List A) → drop k (map f l) ≡ map f (drop k l)
   map-drop zero l = refl
   map-drop (suc k) [] = refl
@@ -140,7 +135,7 @@ module _ (bytes : List ℕ) where
       let inside : suc number * n ≤ all = mul-le-mul-right n h in
       pieces-at n (countOf bytes) (map (decoded narrow) (pieces width all taken)) number h
       ∙ ap (take n) (map-drop (decoded narrow) (number * n) (pieces width all taken) ∙ ap (map (decoded narrow)) (pieces-drop width (number * n) all taken))
-      ∙ map-take (decoded narrow) n (pieces width (all - number * n) (drop (number * n * width) taken))
+      ∙ sym (map-take (decoded narrow) n (pieces width (all - number * n) (drop (number * n * width) taken)))
       ∙ ap (map (decoded narrow))
       (pieces-take width n (all - number * n) (drop (number * n * width) taken) (omega (arith, inside, suc-mul number n)))
 

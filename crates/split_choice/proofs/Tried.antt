@@ -8,6 +8,7 @@ use native.Mathlib.Numerals.{add-one}
 use lib.IntN.{ℤ, natAbs}
 use lib.Signed.{ltZ}
 use Rattle.integer.specs.Words.{if_then_else_, those, leastℤ, greatestℤ}
+use Rattle.integer.proofs.Lists.{fold-append}
 use Rattle.dstree.specs.Measures.{Trace}
 use Rattle.dstree.specs.Figures.{run}
 use Rattle.dstree.specs.Node.{figureOf}
@@ -18,10 +19,6 @@ use Rattle.tables.specs.Runs.{testBy}
 use Rattle.split_choice.specs.Choosing.{childEnds, candidateBy, splitOn, splitOf, chosenBy, choiceOf, betterOf, betterSplit, tryOne, tried, Fit, Found, Sound}
 use Rattle.split_choice.specs.declared.choice.Trial.{Trial}
 use Rattle.split_choice.specs.declared.choice.Choice.{Choice}
-
-pub fold-append : {A B : Type 0} (f : A → B → A) (a : A) (l m : List B) → foldl f a (l ++ m) ≡ foldl f (foldl f a l) m
-fold-append f a [] m = refl
-fold-append f a (x ∷ l) m = fold-append f (f a x) l m
 
 -- ---- all candidates tried
 

@@ -6,12 +6,12 @@ use Prim.Native.Nat.{_+_, _≤_, _<_}
 use native.Mathlib.Omega.{arith}
 use lib.ListN.{take}
 use borrow.Author.Tests.{ne-eqb}
+use Rattle.integer.proofs.Lists.{fold-append}
 use Rattle.dstree.specs.Figures.{run}
 use Rattle.dstree.specs.Adding.{Candidate, Split, byEither, halves}
 use Rattle.tables.specs.Walk.{storedIn}
 use Rattle.leaf_figures.specs.Ends.{endsOf, Rise}
 use Rattle.split_choice.specs.Choosing.{chosenBy, childEnds, tryOne, tried}
-use Rattle.split_choice.proofs.Tried.{fold-append}
 use Rattle.split_choice.proofs.Halved.{ends-count, middle, middle-in, both-halves}
 use Rattle.split_choice.proofs.choice.try_halves.Statement.{statement}
 use Rattle.split_choice.proofs.choice.try_halves.Tie as tie

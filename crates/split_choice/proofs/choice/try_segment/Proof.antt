@@ -4,12 +4,12 @@ use mathlib.Core.Option.{Option}
 use mathlib.Core.List.{List, [], _++_}
 use native.Mathlib.Omega.{arith}
 use lib.ListN.{take}
+use Rattle.integer.proofs.Lists.{fold-append}
 use Rattle.dstree.specs.Figures.{run}
 use Rattle.dstree.specs.Adding.{Candidate, Split, byEither, halves}
 use Rattle.tables.specs.Walk.{storedIn}
 use Rattle.leaf_figures.specs.Ends.{endsOf}
 use Rattle.split_choice.specs.Choosing.{chosenBy, tryOne, tried}
-use Rattle.split_choice.proofs.Tried.{fold-append}
 use Rattle.split_choice.proofs.Halved.{ends-count, no-room, no-width}
 use Rattle.split_choice.proofs.choice.try_segment.Statement.{statement}
 use Rattle.split_choice.proofs.choice.try_segment.Tie as tie

@@ -1,21 +1,19 @@
 -- The test by records and marks is the definition: the tree that tables stand for has a node for each number below the node count, and each rule on the tree
 -- is the rule on the records.
-use Prim.Native.Nat.{ℕ, zero, suc, _+_, _*_, _-_, _≤_, _<_}
+use Prim.Native.Nat.{ℕ, zero, suc, _*_, _-_, _≤_, _<_}
 use mathlib.Core.Path.{_≡_, refl, sym, _∙_, ap, subst}
 use mathlib.Core.Bool.{Bool, true, false, _&&_, Bool·beq}
 use mathlib.Core.List.{List, [], _∷_, map, flatten}
 use native.Mathlib.Omega.{arith}
 use lib.IntN.{ℤ}
-use lib.ListN.{length, length-map}
+use lib.ListN.{length}
 use lib.Dec.{T, leb, ltb, eqb, leb→le, le→leb, ltb→lt}
 use mir.Facts.{and-yes, yes-and}
 use Rattle.integer.specs.Words.{every, counting, isIn, timesIn}
 use Rattle.integer.proofs.Tests.{is-true, passed, passes}
 use Rattle.integer.proofs.Lists.{In, every-of, from-every}
-use Rattle.integer.proofs.Times.{counting-length}
-use Rattle.integer.proofs.Rows.{getD-table}
 use Rattle.dstree.specs.Measures.{inRange, sampleLimit}
-use Rattle.dstree.specs.Node.{Segment, leaf, Node, node, Tree, nodeAt, ends}
+use Rattle.dstree.specs.Node.{Segment, Node, Tree, nodeAt, ends}
 use Rattle.dstree.specs.Matching.{numbersIn}
 use Rattle.dstree.specs.WellFormed as abstract
 use Rattle.dstree.specs.WellFormed.{everyNode, childrenOf, childrenAbove, childOnce, endsFit, endsKept, leafFits, inOneLeaf, segmentsFit, testFits, nodeFits}
@@ -23,9 +21,10 @@ use Rattle.dstree.proofs.Nodes.{nodes-at-most}
 use Rattle.tables.specs.Layout.{kindPlace}
 use Rattle.tables.specs.Tables.{Tables, tables, measuresOf, traceCount, nodeCount, recordOf}
 use Rattle.tables.specs.View.{smallAt, segmentsIn, kindIn, nodeIn, treeIn, kindsNamed, wellFormed}
+use Rattle.tables.proofs.Views.{tree-size, tree-segments}
 use Rattle.records_fit.specs.Fits.{kindAlone, childFits, headFits, segmentsHold, recordFits, endsIn, keptAt, recordsFit, allKept}
 use Rattle.records_fit.proofs.Limits.{same-test}
-use Rattle.well_formed.specs.Tests.{countsFit, childrenAt, childrenOnce, kindAt, leafFitsAt, numbersAt, numbersOfFirst, leavesHold}
+use Rattle.well_formed.specs.Tests.{countsFit, childrenAt, childrenOnce, leafFitsAt, numbersAt, numbersOfFirst, leavesHold}
 use Rattle.well_formed.proofs.Once.{every-same}
 
 -- ---- lists made for the numbers below m
@@ -58,20 +57,29 @@ module _ (links : List ℕ) (k : ℕ) (r : List ℤ) where
   same-fits n (suc (suc zero)) = refl
   same-fits n (suc (suc (suc other))) = refl
 
--- ---- the tree
+-- ---- the tables
 
-module _ (n k m : ℕ) (nodes : List ℤ) (links : List ℕ) where
+module _ (control : List ℕ) (nodes : List ℤ) (links : List ℕ) where
+  abbrev t : Tables
+  t = tables control [] nodes links []
+
+  abbrev n : ℕ
+  n = measuresOf t .n
+
+  abbrev k : ℕ
+  k = traceCount t
+
+  abbrev m : ℕ
+  m = nodeCount t
+
+  abbrev capacity : ℕ
+  capacity = measuresOf t .capacity
+
   abbrev at : ℕ → Node
   at j = nodeIn links k (recordOf nodes j)
 
   abbrev tree : Tree
-  tree = map at (counting m 0)
-
-  pub size : length tree ≡ m
-  size = length-map (counting m 0) at ∙ counting-length m 0
-
-  pub node-is : (j : ℕ) → j < m → nodeAt tree j ≡ at j
-  node-is j h = let e : 0 + j ≡ j = omega arith in getD-table at m 0 j (node [] (leaf [])) h ∙ ap at e
+  tree = treeIn t
 
   children-is : (j : ℕ) → childrenOf (at j .kind) ≡ childrenAt nodes j
   unfolding nodeIn
@@ -81,35 +89,27 @@ module _ (n k m : ℕ) (nodes : List ℤ) (links : List ℕ) where
   unfolding nodeIn
   test-is j = same-fits links k (recordOf nodes j) n (smallAt (recordOf nodes j) kindPlace)
 
-  segments-is : (j : ℕ) → at j .segments ≡ segmentsIn (recordOf nodes j)
-  unfolding nodeIn
-  segments-is j = refl
-
-  kind-is : (j : ℕ) → at j .kind ≡ kindAt nodes links k j
-  unfolding nodeIn
-  kind-is j = refl
-
   once-is : childOnce tree ≡ childrenOnce m nodes
-  unfolding childOnce childrenOnce
+  unfolding childOnce childrenOnce treeIn
   once-is =
-      ap (λ (x : ℕ). every (λ number. eqb (timesIn number (flatten (map (λ (a : Node). childrenOf (a .kind)) tree))) 1) (counting (x - 1) 1)) size
+      ap (λ (x : ℕ). every (λ number. eqb (timesIn number (flatten (map (λ (a : Node). childrenOf (a .kind)) tree))) 1) (counting (x - 1) 1)) (tree-size t)
       ∙ ap (λ (l : List ℕ). every (λ number. eqb (timesIn number l) 1) (counting (m - 1) 1)) (flat-made at (λ (a : Node). childrenOf (a .kind)) (childrenAt nodes) children-is (counting m 0))
 
   leaf-is : inOneLeaf k tree ≡ every (λ number. eqb (timesIn number (numbersOfFirst nodes links k m)) 1) (counting k 0) && every (λ number. ltb number k) (numbersOfFirst nodes links k m)
-  unfolding inOneLeaf
+  unfolding inOneLeaf treeIn nodeIn
   leaf-is =
       ap (λ (l : List ℕ). every (λ number. eqb (timesIn number l) 1) (counting k 0) && every (λ number. ltb number k) l)
-      (flat-made at (λ (a : Node). numbersIn (a .kind)) (numbersAt nodes links k) (λ j. ap numbersIn (kind-is j)) (counting m 0))
+      (flat-made at (λ (a : Node). numbersIn (a .kind)) (numbersAt nodes links k) (λ j. refl) (counting m 0))
 
   above-is : (j : ℕ) → childrenAbove tree j (at j) ≡ every (childFits m j) (childrenAt nodes j)
   unfolding childrenAbove
   above-is j =
-      ap (λ (x : ℕ). every (λ child. ltb j child && ltb child x) (childrenOf (at j .kind))) size
+      ap (λ (x : ℕ). every (λ child. ltb j child && ltb child x) (childrenOf (at j .kind))) (tree-size t)
       ∙ ap (λ (l : List ℕ). every (λ child. ltb j child && ltb child m) l) (children-is j)
 
   kept-is : (j : ℕ) → T (every (childFits m j) (childrenAt nodes j)) → endsKept tree (at j) ≡ keptAt nodes j
-  unfolding endsKept keptAt
-  kept-is j t =
+  unfolding endsKept keptAt nodeIn
+  kept-is j fits =
       ap (λ (l : List ℕ). every (λ child. every (λ end. isIn end (ends (nodeAt tree child .segments))) (ends (at j .segments))) l) (children-is j)
       ∙ every-same (λ child. every (λ end. isIn end (ends (nodeAt tree child .segments))) (ends (at j .segments)))
       (λ child. endsIn (segmentsIn (recordOf nodes child)) (segmentsIn (recordOf nodes j))) (childrenAt nodes j) each
@@ -117,9 +117,8 @@ module _ (n k m : ℕ) (nodes : List ℤ) (links : List ℕ) where
       each : (x : ℕ) → In x (childrenAt nodes j) → every (λ end. isIn end (ends (nodeAt tree x .segments))) (ends (at j .segments))
           ≡ endsIn (segmentsIn (recordOf nodes x)) (segmentsIn (recordOf nodes j))
       each x i =
-          let h : x < m = ltb→lt x m (and-yes (ltb j x) (ltb x m) (from-every (childFits m j) (childrenAt nodes j) t i) .1) in
-          ap (λ (a : Node). every (λ end. isIn end (ends (a .segments))) (ends (at j .segments))) (node-is x h)
-          ∙ (ap (λ (s : List Segment). endsIn s (at j .segments)) (segments-is x) ∙ ap (λ (s : List Segment). endsIn (segmentsIn (recordOf nodes x)) s) (segments-is j))
+          let h : x < m = ltb→lt x m (and-yes (ltb j x) (ltb x m) (from-every (childFits m j) (childrenAt nodes j) fits i) .1) in
+          ap (λ (s : List Segment). endsIn s (at j .segments)) (tree-segments t x h)
 
   -- ---- a node
 
@@ -157,33 +156,14 @@ module _ (n k m : ℕ) (nodes : List ℤ) (links : List ℕ) where
             (subst T (sym (above-is j)) (h .1 .0), (s .0, (subst T (sym (kept-is j (h .1 .0))) u, (l, (s .1, subst T (sym (test-is j)) (h .1 .1)))))),
       )
 
--- ---- the tables
-
-module _ (control : List ℕ) (nodes : List ℤ) (links : List ℕ) where
-  abbrev t : Tables
-  t = tables control [] nodes links []
-
-  abbrev n : ℕ
-  n = measuresOf t .n
-
-  abbrev k : ℕ
-  k = traceCount t
-
-  abbrev m : ℕ
-  m = nodeCount t
-
-  abbrev capacity : ℕ
-  capacity = measuresOf t .capacity
-
-  abbrev made : Tree
-  made = tree n k m nodes links
+  -- ---- all nodes
 
   abbrev fits : ℕ → Node → Bool
-  fits = nodeFits sampleLimit n made
+  fits = nodeFits sampleLimit n tree
 
   -- the definition's tests of the tree, but for the first
   abbrev rules : List Bool
-  rules = leb k capacity ∷ Bool·beq (eqb (length made) 0) (eqb k 0) ∷ everyNode fits 0 made ∷ childOnce made ∷ inOneLeaf k made ∷ []
+  rules = leb k capacity ∷ Bool·beq (eqb (length tree) 0) (eqb k 0) ∷ everyNode fits 0 tree ∷ childOnce tree ∷ inOneLeaf k tree ∷ []
 
   -- the tests that the code makes
   abbrev tests : List Bool
@@ -192,13 +172,13 @@ module _ (control : List ℕ) (nodes : List ℤ) (links : List ℕ) where
   abbrev kinds : ℕ → Bool
   kinds j = leb (smallAt (recordOf nodes j) kindPlace) 2
 
-  parts : T (wellFormed t) → T (every kinds (counting m 0)) × T (abstract.wellFormed sampleLimit (measuresOf t) k made)
-  unfolding wellFormed kindsNamed treeIn
-  parts w = and-yes (every kinds (counting m 0)) (abstract.wellFormed sampleLimit (measuresOf t) k made) w
+  parts : T (wellFormed t) → T (every kinds (counting m 0)) × T (abstract.wellFormed sampleLimit (measuresOf t) k tree)
+  unfolding wellFormed kindsNamed
+  parts w = and-yes (every kinds (counting m 0)) (abstract.wellFormed sampleLimit (measuresOf t) k tree) w
 
-  joined : T (every kinds (counting m 0)) → T (abstract.wellFormed sampleLimit (measuresOf t) k made) → T (wellFormed t)
-  unfolding wellFormed kindsNamed treeIn
-  joined a b = yes-and (every kinds (counting m 0)) (abstract.wellFormed sampleLimit (measuresOf t) k made) a b
+  joined : T (every kinds (counting m 0)) → T (abstract.wellFormed sampleLimit (measuresOf t) k tree) → T (wellFormed t)
+  unfolding wellFormed kindsNamed
+  joined a b = yes-and (every kinds (counting m 0)) (abstract.wellFormed sampleLimit (measuresOf t) k tree) a b
 
   abbrev leavesFit : Bool
   leavesFit = every (leafFitsAt nodes links k) (counting m 0)
@@ -208,26 +188,26 @@ module _ (control : List ℕ) (nodes : List ℤ) (links : List ℕ) where
 
   -- what passes the definition passes the test
   pub shown : T (wellFormed t) → T (countsFit m k capacity && recordsFit n m nodes && allKept m nodes && childrenOnce m nodes && leavesHold m nodes k links)
-  unfolding abstract.wellFormed countsFit recordsFit allKept leavesHold
+  unfolding abstract.wellFormed countsFit recordsFit allKept leavesHold treeIn
   shown w =
       let p = parts w in
       let q = passed (inRange (measuresOf t)) rules (p .1) in
       let each : (j : ℕ) → In j (counting m 0) → T (recordFits n m j (recordOf nodes j)) × (T (keptAt nodes j) × T (leafFitsAt nodes links k j)) =
-      λ j i. from-node n k m nodes links j (from-every kinds (counting m 0) (p .0) i)
-      (from-every (λ x. fits x (at n k m nodes links x)) (counting m 0) (subst T (made-nodes fits (at n k m nodes links) m 0) (q .1 .1 .1 .0)) i) in
-      let most : m ≤ 2 * k - 1 = subst (λ (x : ℕ). x ≤ 2 * k - 1) (size n k m nodes links) (nodes-at-most sampleLimit (measuresOf t) k made (p .1)) in
+      λ j i. from-node j (from-every kinds (counting m 0) (p .0) i)
+      (from-every (λ x. fits x (at x)) (counting m 0) (subst T (made-nodes fits at m 0) (q .1 .1 .1 .0)) i) in
+      let most : m ≤ 2 * k - 1 = subst (λ (x : ℕ). x ≤ 2 * k - 1) (tree-size t) (nodes-at-most sampleLimit (measuresOf t) k tree (p .1)) in
       passes (countsFit m k capacity) tests (
         passes (leb k capacity) (Bool·beq (eqb m 0) (eqb k 0) ∷ leb m (2 * k - 1) ∷ []) (
           q .1 .0,
-          (subst (λ (x : ℕ). T (Bool·beq (eqb x 0) (eqb k 0))) (size n k m nodes links) (q .1 .1 .0), le→leb m (2 * k - 1) most),
+          (subst (λ (x : ℕ). T (Bool·beq (eqb x 0) (eqb k 0))) (tree-size t) (q .1 .1 .0), le→leb m (2 * k - 1) most),
         ),
         (
           every-of (λ j. recordFits n m j (recordOf nodes j)) (counting m 0) (λ j i. each j i .0),
           (
             every-of (keptAt nodes) (counting m 0) (λ j i. each j i .1 .0),
             (
-              subst T (once-is n k m nodes links) (q .1 .1 .1 .1 .0),
-              yes-and leavesFit oneLeaf (every-of (leafFitsAt nodes links k) (counting m 0) (λ j i. each j i .1 .1)) (subst T (leaf-is n k m nodes links) (q .1 .1 .1 .1 .1)),
+              subst T once-is (q .1 .1 .1 .1 .0),
+              yes-and leavesFit oneLeaf (every-of (leafFitsAt nodes links k) (counting m 0) (λ j i. each j i .1 .1)) (subst T leaf-is (q .1 .1 .1 .1 .1)),
             ),
           ),
         ),
@@ -235,13 +215,13 @@ module _ (control : List ℕ) (nodes : List ℤ) (links : List ℕ) where
 
   -- what passes the test passes the definition
   pub meant : T (inRange (measuresOf t)) → T (countsFit m k capacity && recordsFit n m nodes && allKept m nodes && childrenOnce m nodes && leavesHold m nodes k links) → T (wellFormed t)
-  unfolding abstract.wellFormed countsFit recordsFit allKept leavesHold
+  unfolding abstract.wellFormed countsFit recordsFit allKept leavesHold treeIn
   meant g w =
       let p = passed (countsFit m k capacity) tests w in
       let c = passed (leb k capacity) (Bool·beq (eqb m 0) (eqb k 0) ∷ leb m (2 * k - 1) ∷ []) (p .0) in
       let l = and-yes leavesFit oneLeaf (p .1 .1 .1 .1) in
-      let each : (j : ℕ) → In j (counting m 0) → T (kinds j) × T (fits j (at n k m nodes links j)) =
-      λ j i. to-node n k m nodes links j (from-every (λ x. recordFits n m x (recordOf nodes x)) (counting m 0) (p .1 .0) i)
+      let each : (j : ℕ) → In j (counting m 0) → T (kinds j) × T (fits j (at j)) =
+      λ j i. to-node j (from-every (λ x. recordFits n m x (recordOf nodes x)) (counting m 0) (p .1 .0) i)
       (from-every (keptAt nodes) (counting m 0) (p .1 .1 .0) i) (from-every (leafFitsAt nodes links k) (counting m 0) (l .0) i) in
       joined (every-of kinds (counting m 0) (λ j i. each j i .0))
       (passes (inRange (measuresOf t)) rules (
@@ -249,10 +229,10 @@ module _ (control : List ℕ) (nodes : List ℤ) (links : List ℕ) where
         (
           c .0,
           (
-            subst (λ (x : ℕ). T (Bool·beq (eqb x 0) (eqb k 0))) (sym (size n k m nodes links)) (c .1 .0),
+            subst (λ (x : ℕ). T (Bool·beq (eqb x 0) (eqb k 0))) (sym (tree-size t)) (c .1 .0),
             (
-              subst T (sym (made-nodes fits (at n k m nodes links) m 0)) (every-of (λ x. fits x (at n k m nodes links x)) (counting m 0) (λ j i. each j i .1)),
-              (subst T (sym (once-is n k m nodes links)) (p .1 .1 .1 .0), subst T (sym (leaf-is n k m nodes links)) (l .1)),
+              subst T (sym (made-nodes fits at m 0)) (every-of (λ x. fits x (at x)) (counting m 0) (λ j i. each j i .1)),
+              (subst T (sym once-is) (p .1 .1 .1 .0), subst T (sym leaf-is) (l .1)),
             ),
           ),
         ),

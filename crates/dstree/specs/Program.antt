@@ -26,19 +26,26 @@ matchLine a = found (a .trace) (a .distance) (a .leaves) (a .traces)
 unfoldable pub lineOf : Measures → List Trace → Trace → Line
 lineOf m earlier query = matchLine (matchOf earlier (treeOf m earlier) query)
 
--- "tables for n ≤ 64 and capacity ≤ 64; .. a larger n or capacity refusal 2. .. No earlier trace is refusal 6"
+-- "tables for n ≤ 64 and capacity ≤ 64", and "at most 65,536 bytes"
+abbrev pub programMost : ℕ
+programMost = 64
+
+abbrev pub mostBytes : ℕ
+mostBytes = 65536
+
+-- "a larger n or capacity refusal 2. .. No earlier trace is refusal 6"
 unfoldable pub judgedLine : Judged → Line
 judgedLine (refused r) = refusalLine r
 judgedLine (holds m traces) =
     let last = length traces - 1 in
     let line = lineOf m (take last traces) (getD traces last []) in
-    if ltb 64 (m .n) || ltb 64 (m .capacity) then refusalLine shortTable else if leb (length traces) 1 then refusalLine empty else line
+    if ltb programMost (m .n) || ltb programMost (m .capacity) then refusalLine shortTable else if leb (length traces) 1 then refusalLine empty else line
 
 -- "reads one sheet of at most 65,536 bytes ..; a longer input is refusal 8"
 unfoldable pub programLine : List ℕ → Line
 programLine bytes =
     let line = judgedLine (judgeSheet bytes) in
-    if ltb 65536 (length bytes) then refusalLine sheetLength else line
+    if ltb mostBytes (length bytes) then refusalLine sheetLength else line
 
 -- ---- the line as it is printed: "in decimal with single spaces", and a line feed behind it
 

@@ -14,7 +14,7 @@ use Rattle.integer.proofs.Tests.{neither}
 use Rattle.dstree.specs.Measures.{Trace, Measures, samplesNeeded, recordsNeeded, linksNeeded, workNeeded}
 use Rattle.dstree.specs.Refusals.{Refusal, Condition, firstOf, shortTable, empty, sheetLength}
 use Rattle.dstree.specs.Sheet.{holds, judgedBy, judgeAs, judgeSheet, sheetConditions}
-use Rattle.dstree.specs.Program.{Line, refusalLine, lineOf, judgedLine, programLine}
+use Rattle.dstree.specs.Program.{Line, refusalLine, lineOf, programMost, mostBytes, judgedLine, programLine}
 use Rattle.dstree.specs.Book.{Lent}
 use Rattle.tables.specs.Answers.{foundBy}
 use Rattle.tables.specs.declared.Refusal.{Refusal as Word}
@@ -39,7 +39,7 @@ small-line : (m : Measures) (traces : List Trace) (count : ℕ) → length trace
     → judgedLine (holds m traces) ≡ lineUnless (firstOf (smallConditions m count)) (lineOf m (take (count - 1) traces) (getD traces (count - 1) []))
 unfolding judgedLine smallConditions firstOf lineUnless
 small-line m traces count e =
-    rw e (by (ltb 64 (m .n) || ltb 64 (m .capacity)) (leb count 1) (lineOf m (take (count - 1) traces) (getD traces (count - 1) [])))
+    rw e (by (ltb programMost (m .n) || ltb programMost (m .capacity)) (leb count 1) (lineOf m (take (count - 1) traces) (getD traces (count - 1) [])))
   where
     by : (large few : Bool) (line : Line)
         → (if large then refusalLine shortTable else if few then refusalLine empty else line)
@@ -76,7 +76,7 @@ module _ (bytes : List ℕ) where
 
   program-line : programLine bytes ≡ unless (firstOf (programConditions bytes))
   unfolding programLine programConditions firstOf lineUnless
-  program-line = by (ltb 65536 (length bytes)) sheet-line
+  program-line = by (ltb mostBytes (length bytes)) sheet-line
     where
       by : (long : Bool) → judgedLine (judgeSheet bytes) ≡ unless (firstOf (sheetConditions bytes ++ small))
           → (if long then refusalLine sheetLength else judgedLine (judgeSheet bytes))
@@ -99,42 +99,42 @@ module _ (bytes : List ℕ) where
 
     parts : (firstOf (sheetConditions bytes) ≡ none) × (firstOf small ≡ none)
     unfolding programConditions
-    parts = none-both (sheetConditions bytes) small (none-first (ltb 65536 (length bytes)) sheetLength _ fine .1)
+    parts = none-both (sheetConditions bytes) small (none-first (ltb mostBytes (length bytes)) sheetLength _ fine .1)
 
     pub sound : firstOf (sheetConditions bytes) ≡ none
     sound = parts .0
 
     abbrev large : Bool
-    large = ltb 64 (said bytes .n) || ltb 64 (said bytes .capacity)
+    large = ltb programMost (said bytes .n) || ltb programMost (said bytes .capacity)
 
-    neither-large : (ltb 64 (said bytes .n) ≡ false) × (ltb 64 (said bytes .capacity) ≡ false)
+    neither-large : (ltb programMost (said bytes .n) ≡ false) × (ltb programMost (said bytes .capacity) ≡ false)
     unfolding smallConditions
-    neither-large = neither (ltb 64 (said bytes .n)) _ (none-first large shortTable _ (parts .1) .0)
+    neither-large = neither (ltb programMost (said bytes .n)) _ (none-first large shortTable _ (parts .1) .0)
 
-    pub n-small : said bytes .n ≤ 64
-    n-small = ltb-false 64 (said bytes .n) (neither-large .0)
+    pub n-small : said bytes .n ≤ programMost
+    n-small = ltb-false programMost (said bytes .n) (neither-large .0)
 
-    pub capacity-small : said bytes .capacity ≤ 64
-    capacity-small = ltb-false 64 (said bytes .capacity) (neither-large .1)
+    pub capacity-small : said bytes .capacity ≤ programMost
+    capacity-small = ltb-false programMost (said bytes .capacity) (neither-large .1)
 
     pub two-traces : 2 ≤ countOf bytes
     unfolding smallConditions
     two-traces = leb-false (countOf bytes) 1 (none-first (leb (countOf bytes) 1) empty _ (none-first large shortTable _ (parts .1) .1) .0)
 
--- tables with room for n ≤ 64 and capacity ≤ 64 have room for what the sheet says
+-- tables with room for the most that the program takes have room for what the sheet says
 pub roomy : (lengths : Lent) (bytes : List ℕ) → Roomy lengths bytes → LongEnough lengths (said bytes)
 unfolding samplesNeeded recordsNeeded linksNeeded workNeeded
 roomy lengths bytes r =
     let n = n-small bytes (r .fine) in
     let c = capacity-small bytes (r .fine) in
-    let product : said bytes .capacity * said bytes .n ≤ 4096 = mul-le-mul {n₁ = said bytes .capacity} {m₁ = said bytes .n} {n₂ = 64} {m₂ = 64} c n in
+    let product : said bytes .capacity * said bytes .n ≤ programMost * programMost = mul-le-mul {n₁ = said bytes .capacity} {m₁ = said bytes .n} {n₂ = programMost} {m₂ = programMost} c n in
     record {
       range = range bytes (good bytes (sound bytes (r .fine)));
       room = record {
-        control-room = r .control-room;
-        samples-room = omega (arith, product, r .samples-room);
-        nodes-room = omega (arith, c, r .nodes-room);
-        links-room = omega (arith, c, r .links-room);
-        work-room = omega (arith, c, r .work-room);
+        control-room = r .room .control-room;
+        samples-room = omega (arith, product, r .room .samples-room);
+        nodes-room = omega (arith, c, r .room .nodes-room);
+        links-room = omega (arith, c, r .room .links-room);
+        work-room = omega (arith, c, r .room .work-room);
       };
     }

@@ -5,24 +5,26 @@ use mathlib.Core.Option.{none}
 use mathlib.Core.List.{List, []}
 use lib.IntN.{ℤ}
 use lib.ListN.{length, take}
-use Rattle.dstree.specs.Measures.{workNeeded}
+use Rattle.dstree.specs.Measures.{Measures, measures, workNeeded}
 use Rattle.dstree.specs.Refusals.{firstOf}
 use Rattle.dstree.specs.Sheet.{measuresIn}
+use Rattle.dstree.specs.Program.{programMost}
 use Rattle.dstree.specs.Book.{Lent}
 use Rattle.tables.specs.Tables.{tables}
+use Rattle.tables.specs.Judge.{Room}
 use Rattle.tables.specs.Holds.{Holds}
 use Rattle.sheet_judging.specs.Blocks.{blockAt}
 use Rattle.sheet_judging.specs.Traces.{sizeOf, countOf, tracesOf}
 use Rattle.sheet_line.specs.Conditions.{programConditions}
 
--- tables with the places that n ≤ 64 and capacity ≤ 64 need, and a sheet that the program does not refuse
+-- the measures that the program has tables for. (What tables need does not depend on the leaf size)
+abbrev pub most : Measures
+most = measures programMost programMost 1
+
+-- tables with the places that these need, and a sheet that the program does not refuse
 pub record Roomy (lengths : Lent) (sheet : List ℕ) : Type 0 where
   pub fine : firstOf (programConditions sheet) ≡ none
-  pub control-room : 5 ≤ lengths .control
-  pub samples-room : 4096 ≤ lengths .samples
-  pub nodes-room : 11049 ≤ lengths .nodes
-  pub links-room : 64 ≤ lengths .links
-  pub work-room : 127 ≤ lengths .work
+  pub room : Room lengths most
 
 -- tables that hold the traces before the last one of such a sheet
 pub record Stored (control : List ℕ) (samples nodes : List ℤ) (links work sheet : List ℕ) (n last : ℕ) : Type 0 where

@@ -11,6 +11,7 @@ ghost use mathlib.Core.List.{[]};
 ghost use mathlib.Core.Option.{none};
 ghost use Prim.Native.Nat.{_≤_};
 ghost use lib.ListN.{length, take, getD};
+ghost use Rattle.dstree.specs.Measures.{recordsNeeded};
 ghost use Rattle.dstree.specs.Refusals.{firstOf};
 ghost use Rattle.dstree.specs.Program.{lineOf, programLine};
 ghost use Rattle.dstree.specs.Sheet.{measuresIn};
@@ -19,7 +20,7 @@ ghost use Rattle.sheet_judging.specs.Blocks.{blockAt};
 ghost use Rattle.sheet_judging.specs.Traces.{tracesOf};
 ghost use Rattle.sheet_line.specs.Conditions.{programConditions};
 ghost use Rattle.sheet_line.specs.Lines.{lineBy};
-ghost use Rattle.sheet_line.specs.Stored.{Stored, Roomy};
+ghost use Rattle.sheet_line.specs.Stored.{Stored, Roomy, most};
 
 // The match of the last trace among those that the tables hold. `query` is a place for its samples.
 fn match_query(
@@ -33,7 +34,8 @@ fn match_query(
     last: usize,
     query: &mut [i16],
 ) -> Found
-    requires { ⌜ Stored (now control) (now samples) (now nodes) (now links) (now work) (now sheet) (length (now query)) last × (127 ≤ length (now trail)) ⌝ }
+    requires { ⌜ Stored (now control) (now samples) (now nodes) (now links) (now work) (now sheet) (length (now query)) last
+        × (recordsNeeded most ≤ length (now trail)) ⌝ }
     ensures { λ r. ⌜ lineBy r ≡ lineOf (measuresIn (blockAt (now (sheet .entry)) 0)) (take last (tracesOf (now (sheet .entry)))) (getD (tracesOf (now (sheet .entry))) last []) ⌝ }
 {
     read_trace(sheet, last, query);

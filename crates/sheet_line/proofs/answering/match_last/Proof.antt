@@ -7,6 +7,7 @@ use lib.ListN.{length, take, replicate}
 use lib.Seq.{length-take-le}
 use denote.Ref.{now}
 use borrow.Author.Needs.{needs}
+use Rattle.dstree.specs.Measures.{recordsNeeded}
 use Rattle.sheet_line.specs.Stored.{Stored}
 use Rattle.sheet_line.proofs.Judged.{n-small}
 use Rattle.sheet_line.proofs.answering.match_last.Statement.{statement}
@@ -29,6 +30,7 @@ slice-aggregate-match-query-2 : tie.Need-slice-aggregate-match-query-2
 slice-aggregate-match-query-2 c = length-is (c .before)
 
 match-query-requires : tie.Need-match-query-requires
+unfolding recordsNeeded
 match-query-requires c κs =
     let a = c .before in
     let g = start a .args in

@@ -11,7 +11,7 @@ use lib.Dec.{T}
 use denote.Ref.{now}
 use borrow.Author.Needs.{needs}
 use borrow.Author.Tests.{not-true, not-false}
-use Rattle.dstree.specs.Measures.{Trace, sampleLimit, isLibrary, workNeeded}
+use Rattle.dstree.specs.Measures.{Trace, sampleLimit, isLibrary, recordsNeeded, workNeeded}
 use Rattle.dstree.specs.Refusals.{firstOf}
 use Rattle.dstree.specs.Sheet.{areBytes, sheetConditions}
 use Rattle.dstree.specs.Program.{lineOf}
@@ -20,6 +20,7 @@ use Rattle.sheet_judging.specs.Traces.{countOf, tracesOf}
 use Rattle.sheet_judging.proofs.Samples.{fine}
 use Rattle.sheet_reading.proofs.Ends.{said}
 use Rattle.sheet_reading.proofs.Library.{known-bytes, traces-count, first-library, trace-size}
+use Rattle.sheet_line.specs.Stored.{most}
 use Rattle.sheet_line.proofs.Judged.{sound, capacity-small, two-traces}
 use Rattle.sheet_line.proofs.Matched.{ready, found-line, none-line}
 use Rattle.sheet_line.proofs.answering.match_query.Statement.{statement}
@@ -63,7 +64,8 @@ module _ (k : tie.After-shared-slice-known3) where
   one : 0 < length earlier
   one = omega (arith, earlier-count, start .pre .0 .before-last, two-traces bytes (start .pre .0 .fine))
 
-  few : 2 * length earlier - 1 ≤ 127
+  few : 2 * length earlier - 1 ≤ recordsNeeded most
+  unfolding recordsNeeded
   few = omega (arith, earlier-count, inside, fine bytes sheet-fine .good .counted, capacity-small bytes (start .pre .0 .fine))
 
 read-trace-requires : tie.Need-read-trace-requires

@@ -10,6 +10,7 @@ use borrow.Author.Tests.{lt-ltb, le-ltb}
 use Rattle.dstree.specs.Measures.{Measures}
 use Rattle.dstree.specs.Refusals.{firstOf}
 use Rattle.dstree.specs.Sheet.{measuresIn, countIn, sheetConditions}
+use Rattle.dstree.specs.Program.{mostBytes}
 use Rattle.tables.specs.Answers.{wordOf, foundBy}
 use Rattle.dstree.proofs.Conditions.{first-some, first-none}
 use Rattle.sheet_judging.specs.Blocks.{blockAt}
@@ -30,7 +31,7 @@ module _ (e : tie.Else1) where
 
   later : firstOf (programConditions bytes) ≡ firstOf (sheetConditions bytes ++ smallConditions (measuresIn (blockAt bytes 0)) (countIn (blockAt bytes 0)))
   unfolding programConditions firstOf
-  later = rw (le-ltb 65536 (length bytes) (e .if1 .left))
+  later = rw (le-ltb mostBytes (length bytes) (e .if1 .left))
 
 enum-told : tie.Need-enum-told
 enum-told c = search needs

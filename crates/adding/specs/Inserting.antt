@@ -4,7 +4,7 @@ use mathlib.Core.Path.{_≡_}
 use mathlib.Core.List.{List, [], _∷_}
 use lib.IntN.{ℤ}
 use lib.ListN.{length, set}
-use Rattle.dstree.specs.Measures.{Trace}
+use Rattle.dstree.specs.Measures.{Trace, mostSamples, mostTraces}
 use Rattle.dstree.specs.Adding.{segmentsOf}
 use Rattle.tables.specs.Layout.{firstPlace, recordPlaces}
 use Rattle.tables.specs.Tables.{recordOf, withRecord}
@@ -41,13 +41,13 @@ pub record Joins (nodes : List ℤ) (links : List ℕ) (samples : List ℤ) (n k
   pub leaf-inside : leafBy nodes x count < count
   pub head-inside : headBy nodes x count < k
   pub links-room : k < length links
-  pub few : k ≤ 4096
+  pub few : k ≤ mostTraces
   pub rising : Rising links k
   pub represented : Represented (widenedBy nodes x count) (linkedBy nodes links k x count) samples n (suc k) count
 
 pub record Inserts (nodes : List ℤ) (links : List ℕ) (samples : List ℤ) (n k : ℕ) (x : Trace) (count : ℕ) : Type 0 where
   pub size : length x ≡ n
-  pub narrow : n ≤ 256
+  pub narrow : n ≤ mostSamples
   pub node-room : recordPlaces ≤ length nodes
   pub link-room : 1 ≤ length links
   pub joins : 0 < count → Joins nodes links samples n k x count

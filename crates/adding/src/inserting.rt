@@ -7,6 +7,7 @@ ghost use mathlib.Core.Path.{_≡_};
 ghost use Prim.Native.Nat.{suc, _≤_};
 ghost use lib.ListN.{length, set};
 ghost use Rattle.tables.specs.Layout.{controlFields, traceCountPlace, nodeCountPlace};
+ghost use Rattle.tables.specs.View.{smallMost};
 ghost use Rattle.tables.specs.Walk.{storedIn};
 ghost use Rattle.insertion_memory.specs.Memory.{treeTables, splitAllOf};
 ghost use Rattle.insertion.specs.Way.{leafBy};
@@ -60,7 +61,7 @@ pub fn insert(
 
 // The counts of traces and nodes in the control record.
 pub fn write_counts(control: &mut [u16], traces: usize, nodes: usize)
-    requires { ⌜ (controlFields ≤ length (now control)) × (traces ≤ 65535) × (nodes ≤ 65535) ⌝ }
+    requires { ⌜ (controlFields ≤ length (now control)) × (traces ≤ smallMost) × (nodes ≤ smallMost) ⌝ }
     ensures { λ _. ⌜ now (control .exit) ≡ set (set (now (control .entry)) traceCountPlace traces) nodeCountPlace nodes ⌝ }
 {
     control[TRACE_COUNT] = traces as u16;

@@ -30,16 +30,19 @@ measures n capacity leafSize = record { n = n; capacity = capacity; leafSize = l
 abbrev pub within : ℕ → ℕ → ℕ → Bool
 within low x high = leb low x && leb x high
 
--- the greatest n, and the greatest capacity
+-- the greatest n, capacity and leaf size
 abbrev pub mostSamples : ℕ
 mostSamples = 256
 
 abbrev pub mostTraces : ℕ
 mostTraces = 4096
 
+abbrev pub mostLeaf : ℕ
+mostLeaf = 64
+
 -- "n from 1 to 256. Capacity is 1 to 4,096 traces, leaf size 1 to 64"
 unfoldable pub inRange : Measures → Bool
-inRange m = within 1 (m .n) mostSamples && within 1 (m .capacity) mostTraces && within 1 (m .leafSize) 64
+inRange m = within 1 (m .n) mostSamples && within 1 (m .capacity) mostTraces && within 1 (m .leafSize) mostLeaf
 
 -- "A capacity of c needs c × n samples, 2c − 1 node records, c links .. and 2c − 1 places of search work"
 unfoldable pub samplesNeeded : Measures → ℕ

@@ -24,6 +24,7 @@ ghost use Rattle.segment.specs.Limits.{scatterRoom};
 ghost use Rattle.dstree.specs.Adding.{segmentsOf};
 ghost use Rattle.tables.specs.Layout.{headPlaces, recordPlaces};
 ghost use Rattle.tables.specs.Tables.{withRecord};
+ghost use Rattle.tables.specs.View.{smallMost};
 ghost use Rattle.tables.specs.Runs.{figureBy, testBy};
 ghost use Rattle.insertion_memory.specs.Records.{leafRecord, innerKind, innerRecord};
 ghost use Rattle.insertion_memory.specs.Memory.{onRecord};
@@ -32,7 +33,7 @@ ghost use Rattle.insertion.specs.Heads.{leafHead, segmentBy};
 
 // A leaf's head, by its number of segments and its first trace. Its test's places become 0, and its segments stay.
 pub fn write_leaf_head(record: &mut [i64], segments: usize, first: usize)
-    requires { ⌜ (length (now «record») ≡ recordPlaces) × (segments ≤ 65535) × (first ≤ 65535) ⌝ }
+    requires { ⌜ (length (now «record») ≡ recordPlaces) × (segments ≤ smallMost) × (first ≤ smallMost) ⌝ }
     ensures { λ _. ⌜ now («record» .exit) ≡ leafHead segments first ++ drop headPlaces (now («record» .entry)) ⌝ }
 {
     record[KIND] = 0;
@@ -65,7 +66,7 @@ pub fn become_inner(
     last: usize,
     threshold: i64,
 )
-    requires { ⌜ (j * recordPlaces + recordPlaces ≤ length (now nodes)) × (j ≤ 8191) × (left ≤ 65535) × (right ≤ 65535) × (first ≤ 65535) × (last ≤ 65535) ⌝ }
+    requires { ⌜ (j * recordPlaces + recordPlaces ≤ length (now nodes)) × (j ≤ 8191) × (left ≤ smallMost) × (right ≤ smallMost) × (first ≤ smallMost) × (last ≤ smallMost) ⌝ }
     ensures { λ _. ⌜ now (nodes .exit) ≡ onRecord (innerRecord (testBy first last «by_scatter» threshold) left right) (now (nodes .entry)) j ⌝ }
 {
     let a = record_start(j);
@@ -89,7 +90,7 @@ pub fn write_segment(
     least_scatter: u64,
     greatest_scatter: u64,
 )
-    requires { ⌜ (length (now «record») ≡ recordPlaces) × (i < 16) × (end ≤ 65535) × («least_scatter» ≤ scatterRoom) × («greatest_scatter» ≤ scatterRoom) ⌝ }
+    requires { ⌜ (length (now «record») ≡ recordPlaces) × (i < 16) × (end ≤ smallMost) × («least_scatter» ≤ scatterRoom) × («greatest_scatter» ≤ scatterRoom) ⌝ }
     ensures { λ _. ⌜ now («record» .exit) ≡ withSegment (now («record» .entry)) i (segmentBy end «least_sum» «greatest_sum» «least_scatter» «greatest_scatter») ⌝ }
 {
     let at = HEAD + i * SEGMENT;

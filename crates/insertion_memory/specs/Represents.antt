@@ -5,6 +5,7 @@ use mathlib.Core.Path.{_≡_}
 use mathlib.Core.List.{List, _∷_}
 use lib.ListN.{length, drop}
 use lib.IntN.{ℤ}
+use Rattle.dstree.specs.Measures.{mostSamples, mostTraces}
 use Rattle.dstree.specs.Node.{Figure, bySum, byScatter, Test, Kind, leaf, inner, Node, Tree, nodeAt}
 use Rattle.dstree.specs.Formed.{Shape}
 use Rattle.tables.specs.Layout.{kindPlace, firstPlace, rightPlace, recordPlaces}
@@ -33,8 +34,8 @@ pub record Reads (links : List ℕ) (r : List ℤ) (a : Node) : Type 0 where
 -- n samples a trace, a capacity of c, and tables that are long enough for it
 pub record Space (n c : ℕ) (nodes : List ℤ) (links : List ℕ) : Type 0 where
   pub wide : 1 ≤ n
-  pub narrow : n ≤ 256
-  pub small : c ≤ 4096
+  pub narrow : n ≤ mostSamples
+  pub small : c ≤ mostTraces
   pub nodes-room : (2 * c - 1) * recordPlaces ≤ length nodes
   pub links-room : c ≤ length links
 

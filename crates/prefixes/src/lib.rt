@@ -1,11 +1,11 @@
 // A trace's sums over its first samples, from which its figures on any run follow without a look at the samples.
 use segment::figures::Figures;
 ghost use mathlib.Core.Path.{_≡_};
-ghost use Prim.Native.Nat.{_+_, _^_, _≤_};
+ghost use Prim.Native.Nat.{_+_, _≤_};
 ghost use lib.IntN.{natAbs, _+ℤ_};
 ghost use lib.ListN.{length};
 ghost use Rattle.integer.specs.Words.{square};
-ghost use Rattle.segment.specs.Limits.{sumLimit, scatterLimit};
+ghost use Rattle.segment.specs.Limits.{sumLimit, scatterLimit, totalRoom};
 ghost use Rattle.dstree.specs.Measures.{sampleLimit};
 ghost use Rattle.dstree.specs.Figures.{run, width, sumOn, scatterOn};
 ghost use Rattle.dstree.specs.Node.{figureOf};
@@ -14,7 +14,7 @@ ghost use Rattle.prefixes.specs.Prefixes.{Prefixes};
 
 // A sum and one sample more.
 fn with_sample(sum: i64, x: i16) -> i64
-    requires { ⌜ natAbs sum ≤ 2 ^ 40 ⌝ }
+    requires { ⌜ natAbs sum ≤ totalRoom ⌝ }
     ensures { λ r. ⌜ r ≡ sum +ℤ x ⌝ }
 {
     sum + (x as i64)
@@ -22,7 +22,7 @@ fn with_sample(sum: i64, x: i16) -> i64
 
 // A sum of squares and one sample's more.
 fn with_square(squares: u64, x: i16) -> u64
-    requires { ⌜ squares ≤ 2 ^ 40 ⌝ }
+    requires { ⌜ squares ≤ totalRoom ⌝ }
     ensures { λ r. ⌜ r ≡ squares + square x ⌝ }
 {
     squares + segment::figures::square(x as i64)

@@ -23,7 +23,7 @@ ghost use Rattle.dstree.specs.Figures.{run};
 ghost use Rattle.dstree.specs.Node.{inner};
 ghost use Rattle.dstree.specs.WellFormed.{segmentFits, testFits};
 ghost use Rattle.tables.specs.Layout.{segmentsPlace, recordPlaces};
-ghost use Rattle.tables.specs.View.{smallOf, smallAt, segmentIn, segmentsIn};
+ghost use Rattle.tables.specs.View.{smallMost, smallOf, smallAt, segmentIn, segmentsIn};
 ghost use Rattle.records_fit.specs.Fits.{figureNamed, between, childFits, headFits, segmentsHold, recordFits, segmentsFrom, restHolds, endsIn, EndsRise};
 
 // ---- segments
@@ -49,7 +49,7 @@ fn end_behind(places: &[i64], i: usize, before: usize, n: usize) -> bool
 
 // A field that is known to hold a small number.
 fn known(v: i64) -> usize
-    requires { ⌜ smallOf v ≤ 65535 ⌝ }
+    requires { ⌜ smallOf v ≤ smallMost ⌝ }
     ensures { λ r. ⌜ r ≡ smallOf v ⌝ }
 {
     v as usize

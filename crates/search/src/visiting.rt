@@ -7,6 +7,7 @@ ghost use mathlib.Core.Path.{_≡_};
 ghost use Prim.Native.Nat.{_*_, _≤_};
 ghost use lib.ListN.{length};
 ghost use Rattle.tables.specs.Tables.{nodeCount};
+ghost use Rattle.tables.specs.View.{smallMost};
 ghost use Rattle.prefixes.specs.Prefixes.{Prefixes};
 ghost use Rattle.search.specs.Searched.{made, Ready, Visited};
 
@@ -19,7 +20,7 @@ pub struct Seen {
 
 // A node's number, as the trail has it.
 fn narrow(j: usize) -> u16
-    requires { ⌜ j ≤ 65535 ⌝ }
+    requires { ⌜ j ≤ smallMost ⌝ }
     ensures { λ r. ⌜ r ≡ j ⌝ }
 {
     j as u16

@@ -47,6 +47,17 @@ sumRoom = 2 ^ 27
 abbrev pub scatterRoom : ℕ
 scatterRoom = 2 ^ 54
 
+-- a sum of squares, and the two gaps of a bound's term
+abbrev pub squaresRoom : ℕ
+squaresRoom = 2 ^ 46
+
+abbrev pub gapRoom : ℕ
+gapRoom = 2 ^ 30
+
+-- a total that samples or their squares are added to
+abbrev pub totalRoom : ℕ
+totalRoom = 2 ^ 40
+
 -- a segment's term of a spread, or of a bound, from figures within that room; and the spread of 16 segments
 abbrev pub termMost : ℕ
 termMost = 2 ^ 57

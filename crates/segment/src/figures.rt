@@ -1,15 +1,15 @@
 // The figures of a segment, and the distance of two. Sizes are bounded by the number of samples, so that a caller's totals fit.
 ghost use mathlib.Core.Path.{_≡_};
-ghost use Prim.Native.Nat.{_+_, _*_, _-_, _^_, _≤_};
+ghost use Prim.Native.Nat.{_+_, _*_, _-_, _≤_};
 ghost use lib.ListN.{length, take};
 ghost use lib.IntN.{natAbs, _-ℤ_};
 ghost use Rattle.integer.specs.Words as words;
-ghost use Rattle.segment.specs.Limits.{sumMost, squaresMost, scatterMost, distanceMost, sumRoom};
+ghost use Rattle.segment.specs.Limits.{sumMost, squaresMost, scatterMost, distanceMost, sumRoom, squaresRoom};
 ghost use Rattle.segment.specs.Figures as figure;
 
 // The square of a number of at most 28 bits, the most that a difference of two sums has.
 pub fn square(z: i64) -> u64
-    requires { ⌜ natAbs z ≤ 2 ^ 28 ⌝ }
+    requires { ⌜ natAbs z ≤ 2 * sumRoom ⌝ }
     ensures { λ r. ⌜ r ≡ words.square z ⌝ }
 {
     (z * z) as u64
@@ -65,7 +65,7 @@ pub fn sum_of_squares(samples: &[i16]) -> u64
 
 // The scatter of w samples with the sum s and the sum of squares q. The limits leave room for samples of 20 bits.
 pub fn scatter_from(w: u64, s: i64, q: u64) -> u64
-    requires { ⌜ (w ≤ 256) × (natAbs s ≤ sumRoom) × (q ≤ 2 ^ 46) × (words.square s ≤ w * q) ⌝ }
+    requires { ⌜ (w ≤ 256) × (natAbs s ≤ sumRoom) × (q ≤ squaresRoom) × (words.square s ≤ w * q) ⌝ }
     ensures { λ r. ⌜ r ≡ w * q - words.square s ⌝ }
 {
     w * q - square(s)

@@ -1,8 +1,8 @@
 // One segment's part in a node's bound and in a node's spread.
 ghost use mathlib.Core.Path.{_≡_};
-ghost use Prim.Native.Nat.{_-_, _^_, _<_, _≤_, max};
+ghost use Prim.Native.Nat.{_-_, _<_, _≤_, max};
 ghost use lib.IntN.{natAbs};
-ghost use Rattle.segment.specs.Limits.{sumRoom, scatterRoom, termMost};
+ghost use Rattle.segment.specs.Limits.{sumRoom, scatterRoom, gapRoom, totalRoom, termMost};
 ghost use Rattle.segment.specs.Roots.{floorRoot, ceilingRoot};
 ghost use Rattle.segment.specs.Terms.{sumGap, scatterGap, boundTerm, spreadTerm};
 
@@ -23,7 +23,7 @@ pub fn larger(a: u64, b: u64) -> u64
 // The distance from t to the sums from `least` to `greatest`. The distance to the nearer end does not meet this where t is between them,
 // nor does one that is measured from the end on the other side.
 pub fn sum_gap(t: i64, least: i64, greatest: i64) -> u64
-    requires { ⌜ (natAbs t ≤ 2 ^ 40) × (natAbs least ≤ 2 ^ 40) × (natAbs greatest ≤ 2 ^ 40) ⌝ }
+    requires { ⌜ (natAbs t ≤ totalRoom) × (natAbs least ≤ totalRoom) × (natAbs greatest ≤ totalRoom) ⌝ }
     ensures { λ r. ⌜ r ≡ sumGap t least greatest ⌝ }
 {
     if t < least {
@@ -55,7 +55,7 @@ pub fn scatter_gap(u: u64, least: u64, greatest: u64) -> u64
 
 // A segment's term of a node's bound, rounded up. Rounded down it does not meet this, nor with one added always.
 pub fn bound_term(w: u64, g: u64, h: u64) -> u64
-    requires { ⌜ (0 < w) × (w ≤ 256) × (g ≤ 2 ^ 30) × (h ≤ 2 ^ 30) ⌝ }
+    requires { ⌜ (0 < w) × (w ≤ 256) × (g ≤ gapRoom) × (h ≤ gapRoom) ⌝ }
     ensures { λ r. ⌜ r ≡ boundTerm w g h ⌝ }
 {
     (g * g + h * h + (w - 1)) / w

@@ -2,7 +2,7 @@
 use Prim.Native.Nat.{ℕ, _*_, _≤_}
 use mathlib.Core.Bool.{not}
 use mathlib.Core.List.{List, [], _∷_}
-use Rattle.dstree.specs.Measures.{Measures, inRange, samplesNeeded, recordsNeeded, linksNeeded, workNeeded}
+use Rattle.dstree.specs.Measures.{Measures, mostSamples, mostTraces, mostLeaf, inRange, samplesNeeded, recordsNeeded, linksNeeded, workNeeded}
 use Rattle.dstree.specs.Refusals as word
 use Rattle.dstree.specs.Refusals.{Condition, _refuses_}
 use Rattle.dstree.specs.Book.{Lent, controlShort, tablesShort}
@@ -33,11 +33,11 @@ lentConditionsOf lengths m =
 -- "n 1 to 256, capacity 1 to 4,096, leaf size 1 to 64"
 pub record InRange (m : Measures) : Type 0 where
   pub n-low : 1 ≤ m .n
-  pub n-high : m .n ≤ 256
+  pub n-high : m .n ≤ mostSamples
   pub capacity-low : 1 ≤ m .capacity
-  pub capacity-high : m .capacity ≤ 4096
+  pub capacity-high : m .capacity ≤ mostTraces
   pub leaf-low : 1 ≤ m .leafSize
-  pub leaf-high : m .leafSize ≤ 64
+  pub leaf-high : m .leafSize ≤ mostLeaf
 
 -- every table has the places that the measures need
 pub record Room (lengths : Lent) (m : Measures) : Type 0 where

@@ -15,10 +15,14 @@ use Rattle.tables.specs.Tables.{Tables, measuresOf, traceCount, nodeCoun
 
 -- ---- fields of a record
 
+-- the greatest 16-bit number
+abbrev pub smallMost : ℕ
+smallMost = 65535
+
 -- a field that holds a small number: node and trace numbers, ends, samples, kinds. Whatever is no 16-bit number reads as 65,536, which no rule accepts
 abbrev pub smallOf : ℤ → ℕ
-smallOf (pos n) = if ltb 65535 n then 65536 else n
-smallOf (negsuc n) = 65536
+smallOf (pos n) = if ltb smallMost n then smallMost + 1 else n
+smallOf (negsuc n) = smallMost + 1
 
 -- a field that holds a scatter. Below zero it reads as 2^63, above every limit
 abbrev pub scatterIn : ℤ → ℕ

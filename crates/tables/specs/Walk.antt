@@ -7,7 +7,7 @@ use lib.IntN.{ℤ}
 use lib.ListN.{length, getD}
 use lib.Dec.{eqb}
 use Rattle.integer.specs.Words.{if_then_else_, counting}
-use Rattle.dstree.specs.Measures.{Trace}
+use Rattle.dstree.specs.Measures.{Trace, mostSamples, mostTraces}
 use Rattle.tables.specs.View.{traceIn, numbersFrom}
 
 -- the first k traces of n samples
@@ -34,8 +34,8 @@ behindOf links k t = if eqb (getD links t 0) 0 then k else getD links t 0
 -- samples and links of k traces of n samples, and a leaf's first trace
 pub record Stored (samples : List ℤ) (links : List ℕ) (n k first : ℕ) : Type 0 where
   pub wide : 1 ≤ n
-  pub narrow : n ≤ 256
-  pub few : k ≤ 4096
+  pub narrow : n ≤ mostSamples
+  pub few : k ≤ mostTraces
   pub samples-room : k * n ≤ length samples
   pub links-room : k ≤ length links
   pub rising : Rising links k

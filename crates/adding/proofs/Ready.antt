@@ -1,25 +1,26 @@
 -- Well-formed tables, long enough, with a node: a trace of n samples can go down and widen their records.
 -- The idea: each record reads as its node, and the rules for well-formed tables say of the node what code needs of the record.
-use mathlib.Core.Path.{_≡_, refl, sym, ap, subst, _∙_}
-use mathlib.Core.List.{List, _∷_, map}
+use mathlib.Core.Path.{_≡_, refl, sym, ap, subst}
+use mathlib.Core.List.{List, map}
 use Prim.Native.Nat.{ℕ, zero, suc, _+_, _≤_, _<_}
 use native.Mathlib.Omega.{arith}
 use lib.IntN.{ℤ}
-use lib.ListN.{length, length-map}
+use lib.ListN.{length}
 use lib.Dec.{T}
 use Rattle.integer.specs.Words.{counting}
 use Rattle.integer.proofs.Lists.{first, later}
-use Rattle.integer.proofs.Times.{counting-length}
 use Rattle.dstree.specs.Measures.{sampleLimit}
 use Rattle.dstree.specs.Figures.{run, width}
 use Rattle.dstree.specs.Node.{Segment, Test, Kind, inner, Tree, nodeAt, ends}
 use Rattle.dstree.specs.WellFormed.{childrenOf}
-use Rattle.dstree.specs.Formed.{Parted, p-last, p-more, Fits}
+use Rattle.dstree.specs.Formed.{Rises, rises-more, Fits}
 use Rattle.dstree.proofs.Formed.{Limited, AllLimited, l-more, TestIn, in-child}
+use Rattle.dstree.proofs.Cuts.{parted-rises}
 use Rattle.dstree.specs.Matching.{hasChild}
 use Rattle.tables.specs.Layout.{kindPlace, segmentsPlace, runFirstPlace, runLastPlace, recordPlaces}
 use Rattle.tables.specs.Tables.{Tables, measuresOf, traceCount, nodeCount, recordOf}
 use Rattle.tables.specs.View.{smallAt, segmentIn, segmentsIn, testIn, treeIn, wellFormed}
+use Rattle.tables.proofs.Views.{ends-length}
 use Rattle.prefixes.proofs.Cut.{scatter-most}
 use Rattle.insertion.specs.Widening.{endIn, startIn, SegmentReadable, Readable}
 use Rattle.insertion.specs.Way.{Passable, Descendable}
@@ -27,29 +28,6 @@ use Rattle.insertion_memory.specs.Memory.{treeTables}
 use Rattle.dstree.proofs.Nodes.{nodes-most}
 use Rattle.insertion_memory.proofs.Represents.{Means, m-leaf, m-inner, Represents, kind-named}
 use Rattle.insertion_memory.proofs.FromTables.{Long, facts, node-count, space, tables-stand}
-
--- ---- ends and figures, the first of them
-
-parted-from : {n from : ℕ} {l : List ℕ} → Parted n from l → from ≤ n
-parted-from (p-last h) = h
-parted-from (p-more h p) = omega (arith, parted-from p)
-
-parted-first : {n from e : ℕ} {rest : List ℕ} → Parted n from (e ∷ rest) → (from ≤ e) × (e ≤ n)
-parted-first (p-last h) = (h, omega arith)
-parted-first (p-more h p) = (h, omega (arith, parted-from p))
-
-parted-rest : {n from e : ℕ} {rest : List ℕ} → 0 < length rest → Parted n from (e ∷ rest) → Parted n (suc e) rest
-parted-rest g (p-last h) = absurd (omega arith)
-parted-rest g (p-more h p) = p
-
-limited-first : {limit from : ℕ} {s : Segment} {rest : List Segment} → AllLimited limit from (s ∷ rest) → Limited limit (width (run from (s .end))) s
-limited-first (l-more h l) = h
-
-limited-rest : {limit from : ℕ} {s : Segment} {rest : List Segment} → AllLimited limit from (s ∷ rest) → AllLimited limit (suc (s .end)) rest
-limited-rest (l-more h l) = l
-
-many-ends : (r : List ℤ) (k a : ℕ) → length (ends (map (segmentIn r) (counting k a))) ≡ k
-many-ends r k a = length-map (map (segmentIn r) (counting k a)) (λ (s : Segment). s .end) ∙ (length-map (counting k a) (segmentIn r) ∙ counting-length k a)
 
 -- ---- segment by segment
 
@@ -61,24 +39,27 @@ module _ (r : List ℤ) (n : ℕ) (narrow : n ≤ 256) where
     greatest-scatter = omega (arith, scatter-most (omega (arith, low, p .1)) (l .greatest-scatter));
   }
 
-  all-readable : (k a : ℕ) → 1 ≤ startIn r a → Parted n (startIn r a) (ends (map (segmentIn r) (counting k a)))
+  all-readable : (k a : ℕ) → 1 ≤ startIn r a → Rises n (startIn r a) (ends (map (segmentIn r) (counting k a)))
       → AllLimited sampleLimit (startIn r a) (map (segmentIn r) (counting k a)) → (i : ℕ) → i < k → SegmentReadable r (a + i) (startIn r (a + i)) n
   unfolding counting segmentIn
   all-readable zero a low p l i h = absurd (omega arith)
-  all-readable (suc k) a low p l zero h =
+  all-readable (suc k) a low (rises-more g to-n p) (l-more f l) zero h =
       let e : a ≡ a + 0 = omega arith in
-      subst (λ (j : ℕ). SegmentReadable r j (startIn r j) n) e (one-readable a (startIn r a) low (parted-first p) (limited-first l))
-  all-readable (suc k) a low p l (suc i) h =
+      subst (λ (j : ℕ). SegmentReadable r j (startIn r j) n) e (one-readable a (startIn r a) low (g, to-n) f)
+  all-readable (suc k) a low (rises-more g to-n p) (l-more f l) (suc i) h =
       let e : suc a + i ≡ a + suc i = omega arith in
       subst (λ (j : ℕ). SegmentReadable r j (startIn r j) n) e
-      (all-readable k (suc a) (omega arith) (parted-rest (omega (arith, many-ends r k (suc a), h)) p) (limited-rest l) i (omega arith))
+      (all-readable k (suc a) (omega arith) p l i (omega arith))
 
   readable : length r ≡ recordPlaces → Fits n (ends (segmentsIn r)) → AllLimited sampleLimit 1 (segmentsIn r) → Readable r n
   unfolding segmentsIn
   readable size f l = record {
     size = size;
-    few = omega (arith, f .few, many-ends r (smallAt r segmentsPlace) 0);
-    segment = λ i h. let e : 0 + i ≡ i = omega arith in subst (λ (j : ℕ). SegmentReadable r j (startIn r j) n) e (all-readable (smallAt r segmentsPlace) 0 (omega arith) (f .parted) l i h);
+    few = omega (arith, f .few, ends-length r);
+    segment = λ i h.
+        let e : 0 + i ≡ i = omega arith in
+        subst (λ (j : ℕ). SegmentReadable r j (startIn r j) n) e
+        (all-readable (smallAt r segmentsPlace) 0 (omega arith) (parted-rises (f .parted)) l i h);
   }
 
 -- ---- the tables

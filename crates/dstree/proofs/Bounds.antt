@@ -21,8 +21,8 @@ use Rattle.dstree.specs.Node.{Segment, Node, Tree, nodeAt, ends, totalOv
 use Rattle.dstree.specs.Matching.{boundOn, ownBound, hasChild, parentFrom, boundFrom, bound}
 use Rattle.dstree.specs.Claims.{Below, of-child}
 use Rattle.dstree.proofs.Ranges.{CoveredOn, Covered, covered-none, covered-more}
-use Rattle.dstree.specs.Formed.{RunIn}
-use Rattle.dstree.proofs.Cuts.{Rises, rises-none, rises-more, parted-rises}
+use Rattle.dstree.specs.Formed.{Rises, rises-none, rises-more, RunIn}
+use Rattle.dstree.proofs.Cuts.{parted-rises}
 use Rattle.dstree.proofs.Below.{below-stored, below-inside}
 use Rattle.dstree.proofs.Containing.{Containing}
 

@@ -15,12 +15,7 @@ use Rattle.dstree.specs.Figures.{Run, run}
 use Rattle.dstree.specs.Node.{Segment, Node, Tree, nodeAt, changeAt, ends, changeAll}
 use Rattle.dstree.specs.Adding.{widenSegment, widen, widenAll, segmentOf, segmentsFrom, newLeaf, Candidate, byEither, cutAt, leftHalfEnd, halves, candidatesFrom, candidates}
 use Rattle.dstree.proofs.Formed.{nothing}
-use Rattle.dstree.specs.Formed.{Parted, p-last, p-more, Fits, RunIn}
-
--- right ends that rise from `from` on, to n at most
-pub data Rises (n : ℕ) : ℕ → List ℕ → Type 0 where
-  rises-none : {from : ℕ} → Rises n from []
-  rises-more : {from e : ℕ} {rest : List ℕ} → from ≤ e → e ≤ n → Rises n (suc e) rest → Rises n from (e ∷ rest)
+use Rattle.dstree.specs.Formed.{Parted, p-last, p-more, Rises, rises-none, rises-more, Fits, RunIn}
 
 parted-low : {n from : ℕ} {l : List ℕ} → Parted n from l → from ≤ n
 parted-low (p-last h) = h

@@ -22,10 +22,10 @@ use Rattle.dstree.specs.Figures.{Run, run, width, samplesOn, sumOn, scat
 use Rattle.dstree.specs.Node.{Segment, Figure, bySum, byScatter, Test, leaf, inner, Node, Tree, nodeAt, changeAt, ends, figureOf}
 use Rattle.dstree.specs.Node.{changeAll}
 use Rattle.dstree.specs.Adding.{widenSegment, widen, widenAll, join, newLeaf, Split, splitInto}
-use Rattle.dstree.specs.Formed.{Fits, RunIn, Shape, Limited, AllLimited, l-none, l-more, Between, TestIn, Limits}
+use Rattle.dstree.specs.Formed.{Rises, rises-none, rises-more, Fits, RunIn, Shape, Limited, AllLimited, l-none, l-more, Between, TestIn, Limits}
 use Rattle.dstree.specs.Claims.{ExactOn, AllExact, exact-none, exact-more}
 use Rattle.dstree.proofs.Formed.{nothing}
-use Rattle.dstree.proofs.Cuts.{Rises, rises-none, rises-more, parted-rises, widen-ends, new-ends}
+use Rattle.dstree.proofs.Cuts.{parted-rises, widen-ends, new-ends}
 use Rattle.dstree.proofs.Ranges.{new-covered}
 use Rattle.dstree.proofs.Exact.{exact, new-reached}
 use Rattle.dstree.proofs.Change.{leaf-in, join-segments}

@@ -23,6 +23,11 @@ pub data Parted (n : ℕ) : ℕ → List ℕ → Type 0 where
   p-last : {from : ℕ} → from ≤ n → Parted n from (n ∷ [])
   p-more : {from e : ℕ} {rest : List ℕ} → from ≤ e → Parted n (suc e) rest → Parted n from (e ∷ rest)
 
+-- right ends that rise from sample `from` on, none above n
+pub data Rises (n : ℕ) : ℕ → List ℕ → Type 0 where
+  rises-none : {from : ℕ} → Rises n from []
+  rises-more : {from end : ℕ} {rest : List ℕ} → from ≤ end → end ≤ n → Rises n (suc end) rest → Rises n from (end ∷ rest)
+
 -- "1 to 16 segments by their right ends", "rising, last n"
 pub record Fits (n : ℕ) (es : List ℕ) : Type 0 where
   pub parted : Parted n 1 es

@@ -4,18 +4,18 @@ use Prim.Native.Nat.{ℕ, suc, _+_, _*_, _-_, _≤_, _<_}
 use mathlib.Core.Path.{_≡_, refl, sym, _∙_, ap}
 use mathlib.Core.List.{List, [], _∷_, _++_, map, flatten}
 use native.Mathlib.Omega.{arith}
-use lib.ListN.{length, getD, take, drop, replicate, length-append, length-drop, length-replicate, length-map, List·getD-append}
+use lib.ListN.{length, getD, take, drop, replicate, length-append, length-drop, length-replicate, List·getD-append}
 use lib.Seq.{length-take-le, drop-at, drop-drop, getD-take, getD-drop, getD-append-add}
 use lib.IntN.{ℤ, pos}
 use borrow.Author.Tests.{le-ltb}
 use Rattle.integer.specs.Words.{counting}
 use Rattle.integer.proofs.Lists.{In, first, later, map-agree}
-use Rattle.integer.proofs.Times.{counting-length}
 use Rattle.dstree.specs.Measures.{Trace}
 use Rattle.dstree.specs.Node.{Segment, Figure, bySum, byScatter, Test, changeAll}
 use Rattle.dstree.specs.Adding.{widenSegment}
 use Rattle.tables.specs.Layout.{kindPlace, segmentsPlace, firstPlace, rightPlace, segmentAt, headPlaces, segmentPlaces, recordPlaces}
 use Rattle.tables.specs.View.{smallOf, scatterIn, placeOf, smallAt, segmentIn, segmentsIn, testIn}
+use Rattle.tables.proofs.Views.{segments-length}
 use Rattle.insertion_memory.specs.Records.{segmentFields, fieldsOf, leafRecord, widenRecord, innerKind, innerRecord}
 unfoldable pub use Rattle.insertion_memory.specs.Represents.{kindNumber}
 
@@ -108,10 +108,6 @@ unfolding changeAll widenSegment
 change-ends x start [] h s i = h s i
 change-ends x start (a ∷ l) h s first = h a first
 change-ends x start (a ∷ l) h s (later i) = change-ends x (suc (a .end)) l (λ b k. h b (later k)) s i
-
-pub segments-length : (r : List ℤ) → length (segmentsIn r) ≡ smallAt r segmentsPlace
-unfolding segmentsIn
-segments-length r = length-map (counting (smallAt r segmentsPlace) 0) (segmentIn r) ∙ counting-length (smallAt r segmentsPlace) 0
 
 module _ (x : Trace) (r : List ℤ) (size : length r ≡ recordPlaces) where
   abbrev widened : List Segment

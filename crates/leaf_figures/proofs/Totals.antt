@@ -8,7 +8,7 @@ use Rattle.dstree.specs.Measures.{Trace}
 use Rattle.dstree.specs.Figures.{run}
 use Rattle.dstree.specs.Node.{totalOver}
 use Rattle.dstree.specs.Adding.{segmentOf, segmentsFrom, spreadOn, spread}
-use Rattle.leaf_figures.specs.Ends.{Rise, r-more}
+use Rattle.dstree.specs.Formed.{Rises, rises-more}
 use Rattle.leaf_figures.proofs.Placed.{end-at, no-end}
 
 -- the spread over some ends, the first segment from sample `first` on
@@ -18,14 +18,14 @@ spreadFrom first ends traces = totalOver spreadOn first (segmentsFrom first ends
 pub record Next (n first end : ℕ) (rest : List ℕ) : Type 0 where
   pub rises : first ≤ end
   pub to-n : end ≤ n
-  pub on : Rise n (end + 1) rest
+  pub on : Rises n (end + 1) rest
 
-next-of : {n first end : ℕ} {rest : List ℕ} → Rise n first (end ∷ rest) → Next n first end rest
-next-of {n} {first} {end} {rest} (r-more a b r) = record { rises = a; to-n = b; on = subst (λ (x : ℕ). Rise n x rest) (sym (add-one end)) r }
+next-of : {n first end : ℕ} {rest : List ℕ} → Rises n first (end ∷ rest) → Next n first end rest
+next-of {n} {first} {end} {rest} (rises-more a b r) = record { rises = a; to-n = b; on = subst (λ (x : ℕ). Rises n x rest) (sym (add-one end)) r }
 
 module _ (at : List ℕ) (count : ℕ) (room : count ≤ length at) (i : ℕ) (h : i < count) where
-  pub next-at : {n first : ℕ} → Rise n first (drop i (take count at)) → Next n first (getD at i 0) (drop (i + 1) (take count at))
-  next-at {n} {first} r = next-of (subst (Rise n first) (end-at at count room i h) r)
+  pub next-at : {n first : ℕ} → Rises n first (drop i (take count at)) → Next n first (getD at i 0) (drop (i + 1) (take count at))
+  next-at {n} {first} r = next-of (subst (Rises n first) (end-at at count room i h) r)
 
   pub spread-more : (first : ℕ) (traces : List Trace)
       → spreadFrom first (drop i (take count at)) traces ≡ spreadOn (run first (getD at i 0)) (segmentOf traces (run first (getD at i 0))) + spreadFrom

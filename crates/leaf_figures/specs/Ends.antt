@@ -16,11 +16,6 @@ pub record Room (e : Ends) : Type 0 where
   pub places : length (e .at) ≡ 16
   pub few : e .count ≤ 16
 
--- right ends that rise from sample `from` on, none above n
-pub data Rise (n : ℕ) : ℕ → List ℕ → Type 0 where
-  r-none : {from : ℕ} → Rise n from []
-  r-more : {from end : ℕ} {rest : List ℕ} → from ≤ end → end ≤ n → Rise n (suc end) rest → Rise n from (end ∷ rest)
-
 -- where a new right end goes: behind those that are not above it
 unfoldable pub placeIn : ℕ → List ℕ → ℕ
 placeIn new [] = 0

@@ -15,9 +15,9 @@ use Rattle.segment.proofs.Limits.{sum-gap-limit, scatter-gap-limit}
 use Rattle.dstree.specs.Measures.{Trace, sampleLimit}
 use Rattle.dstree.specs.Figures.{run, width}
 use Rattle.dstree.specs.Node.{Segment, ends, totalOver}
-use Rattle.dstree.specs.Formed.{Limited, AllLimited, l-more}
+use Rattle.dstree.specs.Formed.{Rises, rises-more, Limited, AllLimited, l-more}
 use Rattle.dstree.specs.Matching.{boundOn, ownBound}
-use Rattle.dstree.proofs.Cuts.{Rises, rises-more, parted-rises}
+use Rattle.dstree.proofs.Cuts.{parted-rises}
 use Rattle.tables.specs.Layout.{segmentsPlace, segmentAt}
 use Rattle.tables.specs.View.{smallAt, segmentIn, segmentsIn, nodeIn}
 use Rattle.query.specs.Bounded.{Bounded, boundBy, boundLimit}

@@ -7,7 +7,8 @@ use native.Mathlib.Omega.{arith}
 use lib.IntN.{ℤ, pos}
 use lib.ListN.{replicate}
 use Rattle.tables.specs.Walk.{Rising, Stored}
-use Rattle.leaf_figures.specs.Ends.{endsOf, Room, Rise, r-none, r-more}
+use Rattle.dstree.specs.Formed.{Rises, rises-none, rises-more}
+use Rattle.leaf_figures.specs.Ends.{endsOf, Room}
 use Rattle.leaf_figures.specs.declared.ends.Ends.{Ends}
 
 abbrev pub samples : List ℤ
@@ -31,5 +32,5 @@ stored = record { wide = omega arith; narrow = omega arith; few = omega arith; s
 pub room : Room ends
 room = record { places = refl; few = omega arith }
 
-pub rise : Rise 4 1 (endsOf ends)
-rise = r-more {from = 1} {end = 4} (omega arith) (omega arith) r-none
+pub rise : Rises 4 1 (endsOf ends)
+rise = rises-more {from = 1} {end = 4} (omega arith) (omega arith) rises-none

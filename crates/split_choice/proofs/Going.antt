@@ -10,8 +10,8 @@ use Rattle.integer.proofs.Lists.{In, in-cons}
 use Rattle.dstree.specs.Measures.{Trace}
 use Rattle.dstree.specs.Figures.{run}
 use Rattle.dstree.specs.Adding.{Split, byEither, halves, cutAt, candidatesFrom, best}
+use Rattle.dstree.specs.Formed.{Rises, rises-more}
 use Rattle.tables.specs.Runs.{Inside}
-use Rattle.leaf_figures.specs.Ends.{Rise, r-more}
 use Rattle.split_choice.specs.Choosing.{nothing, chosenBy, tried, Sound}
 use Rattle.split_choice.specs.declared.choice.Choice.{Choice}
 use Rattle.split_choice.proofs.Cuts.{rise-in, rise-cut}
@@ -24,11 +24,11 @@ module _ (n : ℕ) (stored : List Trace) (all numbers : List ℕ) where
     pub sound : Sound n stored all numbers found
     -- what is found, and what the rest finds, is the best of all
     pub comes : tried stored all numbers (chosenBy stored all numbers found) (candidatesFrom all first rest) ≡ best stored all numbers
-    pub rise : Rise n first rest
+    pub rise : Rises n first rest
     -- a cut behind the segments passed leaves ends that rise
-    pub cuts : (m : ℕ) → first ≤ m → m ≤ n → (In m rest → ⊥) → Rise n 1 (cutAt m all)
+    pub cuts : (m : ℕ) → first ≤ m → m ≤ n → (In m rest → ⊥) → Rises n 1 (cutAt m all)
 
-  pub going-start : Rise n 1 all → Going nothing 1 all
+  pub going-start : Rises n 1 all → Going nothing 1 all
   going-start r = record {
     from-1 = omega arith;
     sound = λ e. (let z : _≡_ {A = ℕ} 0 1 = cc in absurd (omega arith));
@@ -43,12 +43,12 @@ module _ (n : ℕ) (stored : List Trace) (all numbers : List ℕ) where
 
   pub record Turn (first end : ℕ) (rest : List ℕ) : Type 0 where
     pub inside : Inside n first end
-    pub cuts : (m : ℕ) → first ≤ m → m < end → Rise n 1 (cutAt m all)
+    pub cuts : (m : ℕ) → first ≤ m → m < end → Rises n 1 (cutAt m all)
     pub on : (found next : Choice) → Going found first (end ∷ rest) → chosenBy stored all numbers next
         ≡ tried stored all numbers (chosenBy stored all numbers found) (byEither (run first end) all ++ halves all (run first end)) → Sound n stored all numbers next → Going next (end + 1) rest
 
-  turn-by : {first end : ℕ} {rest : List ℕ} → 1 ≤ first → Rise n first (end ∷ rest) → ((m : ℕ) → first ≤ m → m ≤ n → (In m (end ∷ rest) → ⊥) → Rise n 1 (cutAt m all)) → Turn first end rest
-  turn-by {first} {end} {rest} h (r-more a b r) cuts = record {
+  turn-by : {first end : ℕ} {rest : List ℕ} → 1 ≤ first → Rises n first (end ∷ rest) → ((m : ℕ) → first ≤ m → m ≤ n → (In m (end ∷ rest) → ⊥) → Rises n 1 (cutAt m all)) → Turn first end rest
+  turn-by {first} {end} {rest} h (rises-more a b r) cuts = record {
     inside = record { from-1 = h; rises = a; to-n = b };
     cuts = λ m k l. cuts m k (omega arith) (λ i. outside m l (in-cons i));
     on = λ found next g e s. record {
@@ -56,7 +56,7 @@ module _ (n : ℕ) (stored : List Trace) (all numbers : List ℕ) where
       sound = s;
       comes = ap (λ (o : Option Split). tried stored all numbers o (candidatesFrom all (end + 1) rest)) e
           ∙ (sym (segment-tried stored all numbers (chosenBy stored all numbers found) first end rest) ∙ g .comes);
-      rise = subst (λ (x : ℕ). Rise n x rest) (sym (add-one end)) r;
+      rise = subst (λ (x : ℕ). Rises n x rest) (sym (add-one end)) r;
       cuts = λ m k l f. cuts m (omega arith) l (λ i. passed m k f (in-cons i));
     };
   }

@@ -15,9 +15,10 @@ use Rattle.dstree.specs.Measures.{Trace}
 use Rattle.dstree.specs.Figures.{run}
 use Rattle.dstree.specs.Node.{Test, figureOf, goesLeft}
 use Rattle.dstree.specs.Adding.{Candidate, cutAt, tracesOf, Split, splitBy, parts, gain, spread}
+use Rattle.dstree.specs.Formed.{Rises}
 use Rattle.tables.specs.Walk.{storedIn, numbersOf}
 use Rattle.tables.specs.Runs.{figureBy, Inside}
-use Rattle.leaf_figures.specs.Ends.{endsOf, Room, Rise}
+use Rattle.leaf_figures.specs.Ends.{endsOf, Room}
 use Rattle.leaf_figures.specs.Rows.{Listed, Rows}
 use Rattle.leaf_figures.specs.declared.ends.Ends.{Ends}
 use Rattle.tables.specs.Runs.{testBy}
@@ -84,7 +85,7 @@ tried stored all numbers = foldl (tryOne stored all numbers)
 pub record Fit (n : ℕ) (all : List ℕ) (first last cut : ℕ) : Type 0 where
   pub inside : Inside n first last
   pub room : (cut ≡ 0 → ⊥) → length all < 16
-  pub rise : Rise n 1 (childEnds cut all)
+  pub rise : Rises n 1 (childEnds cut all)
 
 -- a choice that was found: its gain, its run and its ends
 pub record Found (n : ℕ) (stored : List Trace) (all numbers : List ℕ) (r : Choice) : Type 0 where
@@ -114,7 +115,7 @@ pub record Leaf (samples : List ℤ) (n k : ℕ) (list : List ℕ) (count : ℕ)
   pub below : (t : ℕ) → In t (take count list) → t < k
   pub rows : Rows samples n (take count list) place runs sums scatters
   pub room : Room e
-  pub rise : Rise n 1 (endsOf e)
+  pub rise : Rises n 1 (endsOf e)
   pub spread-is : whole ≡ spread (endsOf e) (tracesOf (storedIn samples n k) (take count list))
   pub size : whole ≤ spreadMost
 

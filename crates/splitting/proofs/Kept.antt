@@ -1,31 +1,29 @@
 -- Nodes and links that stand for a tree: every node can be tried, and they stand for a tree after it.
 -- The idea: a split makes two nodes, and what it leaves stands for a tree over as many traces, which has less than twice as many nodes; so there is room
 -- before it.
-use mathlib.Core.Path.{_≡_, refl, sym, ap, subst, _∙_}
+use mathlib.Core.Path.{_≡_, refl, sym, ap, subst}
 use mathlib.Core.Bool.{true}
 use mathlib.Core.Option.{some}
 use mathlib.Core.List.{List}
 use Prim.Native.Nat.{ℕ, suc, _*_, _-_, _≤_, _<_}
 use native.Mathlib.Omega.{arith}
 use lib.IntN.{ℤ}
-use lib.ListN.{length, length-map}
+use lib.ListN.{length}
 use lib.Dec.{ltb}
 use borrow.Author.Tests.{lt-ltb}
-use Rattle.integer.specs.Words.{counting}
 use Rattle.integer.proofs.Lists.{first, in-is}
-use Rattle.integer.proofs.Times.{counting-length}
 use Rattle.dstree.specs.Measures.{Trace}
 use Rattle.dstree.specs.Node.{Segment, Figure, bySum, byScatter, Kind, Tree, ends}
 use Rattle.dstree.specs.Adding.{Split, best, split}
 use Rattle.dstree.specs.Matching.{numbersIn}
-use Rattle.dstree.specs.Formed.{Parted, p-last, p-more, Fits}
-use Rattle.tables.specs.Layout.{kindPlace, segmentsPlace, firstPlace}
+use Rattle.dstree.specs.Formed.{Fits}
+use Rattle.tables.specs.Layout.{kindPlace, firstPlace}
 use Rattle.tables.specs.Tables.{recordOf}
-use Rattle.tables.specs.View.{smallAt, segmentIn, segmentsIn, numbersFrom}
+use Rattle.tables.specs.View.{smallAt, segmentsIn, numbersFrom}
 use Rattle.tables.specs.Walk.{storedIn, numbersOf, Stored}
-use Rattle.leaf_figures.specs.Ends.{Rise, r-none, r-more}
 use Rattle.insertion_memory.specs.Memory.{TreeTables, treeTables, splitTo, splitAt}
 use Rattle.insertion_memory.proofs.ReadBack.{kindNumber}
+use Rattle.dstree.proofs.Cuts.{parted-rises}
 use Rattle.dstree.proofs.Nodes.{nodes-most}
 use Rattle.dstree.proofs.Splits.{best-is-good}
 use Rattle.insertion_memory.proofs.Represents.{Means, m-leaf, m-inner, Low, Represents, links-rise}
@@ -33,18 +31,9 @@ use Rattle.insertion_memory.proofs.Splitting.{split-at}
 use Rattle.splitting.specs.Splits as needs
 use Rattle.splitting.specs.Splits.{IsLeaf, Splits}
 use Rattle.splitting.specs.Represented.{Represented}
+use Rattle.tables.proofs.Views.{ends-length}
 use Rattle.tables.proofs.Listed.{stored-size}
 use Rattle.splitting.proofs.Tried.{long-splits}
-
--- ---- ends
-
-parted-from : {n from : ℕ} {l : List ℕ} → Parted n from l → from ≤ n
-parted-from (p-last h) = h
-parted-from (p-more h p) = omega (arith, parted-from p)
-
-pub parted-rise : {n from : ℕ} {l : List ℕ} → Parted n from l → Rise n from l
-parted-rise (p-last h) = r-more h (omega arith) r-none
-parted-rise (p-more h p) = r-more h (omega (arith, parted-from p)) (parted-rise p)
 
 -- ---- a leaf's first trace
 
@@ -56,10 +45,6 @@ leaf-first {links} {r} k e (m-inner {test} q f p s) low = by (test .figure) q
     by : (f : Figure) → smallAt r kindPlace ≡ kindNumber f → smallAt r firstPlace < k
     by bySum q = absurd (omega (arith, e, q))
     by byScatter q = absurd (omega (arith, e, q))
-
-segments-many : (r : List ℤ) → length (ends (segmentsIn r)) ≡ smallAt r segmentsPlace
-unfolding segmentsIn
-segments-many r = length-map (segmentsIn r) (λ (a : Segment). a .end) ∙ (length-map (counting (smallAt r segmentsPlace) 0) (segmentIn r) ∙ counting-length (smallAt r segmentsPlace) 0)
 
 numbers-some : (links : List ℕ) (k x : ℕ) → 0 < length (numbersOf links k x)
 unfolding numbersFrom
@@ -123,7 +108,7 @@ module _ {nodes : List ℤ} {links : List ℕ} {samples : List ℤ} {n k count :
           }
 
       is-leaf : IsLeaf nodes links samples n k count at
-      is-leaf = record { stored = stored; few = omega (arith, fits .few, segments-many r); rise = parted-rise (fits .parted); parted = parted }
+      is-leaf = record { stored = stored; few = omega (arith, fits .few, ends-length r); rise = parted-rises (fits .parted); parted = parted }
 
     -- it can be tried
     pub tries : Splits nodes links samples n k count at

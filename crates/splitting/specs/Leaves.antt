@@ -7,9 +7,10 @@ use lib.ListN.{length, getD, take, drop}
 use Rattle.dstree.specs.Node.{Segment}
 use Rattle.tables.specs.Layout.{headPlaces, segmentPlaces}
 use Rattle.dstree.specs.Adding.{segmentsOf, tracesOf}
+use Rattle.dstree.specs.Formed.{Rises}
 use Rattle.tables.specs.Walk.{storedIn, numbersOf, Stored}
 use Rattle.leaf_figures.specs.Sides.{marked}
-use Rattle.leaf_figures.specs.Ends.{endsOf, Room, Rise}
+use Rattle.leaf_figures.specs.Ends.{endsOf, Room}
 use Rattle.leaf_figures.specs.declared.ends.Ends.{Ends}
 use Rattle.insertion_memory.specs.Records.{fieldsOf, leafRecord}
 
@@ -22,7 +23,7 @@ pub record Side (samples : List ℤ) (links : List ℕ) (n k head : ℕ) (marks 
   pub stored : Stored samples links n k head
   pub all-marks : length marks ≡ 4096
   pub room : Room e
-  pub rise : Rise n 1 (endsOf e)
+  pub rise : Rises n 1 (endsOf e)
   pub some : 0 < length (marked marks mark (numbersOf links k head))
 
 -- the record of a new leaf: those of a leaf's traces that have a mark, over these right ends

@@ -8,11 +8,12 @@ use lib.ListN.{length}
 use Rattle.segment.specs.Limits.{scatterMost}
 use Rattle.dstree.specs.Node.{ends}
 use Rattle.dstree.specs.Adding.{Split, best}
+use Rattle.dstree.specs.Formed.{Rises}
 use Rattle.tables.specs.Layout.{kindPlace, segmentsPlace, firstPlace, recordPlaces}
 use Rattle.tables.specs.Tables.{recordOf}
 use Rattle.tables.specs.View.{smallAt, segmentsIn}
 use Rattle.tables.specs.Walk.{storedIn, numbersOf, Stored}
-use Rattle.leaf_figures.specs.Ends.{endsOf, Room, Rise}
+use Rattle.leaf_figures.specs.Ends.{endsOf, Room}
 use Rattle.leaf_figures.specs.declared.ends.Ends.{Ends}
 use Rattle.split_choice.specs.Choosing.{Fit, splitOf}
 use Rattle.split_choice.specs.declared.choice.Choice.{Choice}
@@ -37,7 +38,7 @@ pub record Parts (nodes : List ℤ) (links : List ℕ) (samples : List ℤ) (n k
 pub record IsLeaf (nodes : List ℤ) (links : List ℕ) (samples : List ℤ) (n k count at : ℕ) : Type 0 where
   pub stored : Stored samples links n k (smallAt (recordOf nodes at) firstPlace)
   pub few : smallAt (recordOf nodes at) segmentsPlace ≤ 16
-  pub rise : Rise n 1 (ends (segmentsIn (recordOf nodes at)))
+  pub rise : Rises n 1 (ends (segmentsIn (recordOf nodes at)))
   pub parted : (cut : Split) → best (storedIn samples n k) (ends (segmentsIn (recordOf nodes at))) (numbersOf links k (smallAt (recordOf nodes at) firstPlace)) ≡ some cut → Parted nodes count cut
 
 pub record Splits (nodes : List ℤ) (links : List ℕ) (samples : List ℤ) (n k count at : ℕ) : Type 0 where

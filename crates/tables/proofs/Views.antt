@@ -2,8 +2,9 @@
 -- the test for well-formed tables says of them.
 use Prim.Native.Nat.{ℕ, _+_, _≤_, _<_}
 use mathlib.Core.Path.{_≡_, ap, _∙_}
-use mathlib.Core.List.{[]}
+use mathlib.Core.List.{List, []}
 use native.Mathlib.Omega.{arith}
+use lib.IntN.{ℤ}
 use lib.ListN.{length, getD, length-map}
 use lib.Dec.{T, leb, leb→le}
 use mir.Facts.{and-yes}
@@ -13,16 +14,24 @@ use Rattle.integer.proofs.Lists.{from-every, in-counting}
 use Rattle.integer.proofs.Times.{counting-length}
 use Rattle.integer.proofs.Rows.{getD-table}
 use Rattle.dstree.specs.Measures.{sampleLimit}
-use Rattle.dstree.specs.Node.{Node, node, leaf, nodeAt}
+use Rattle.dstree.specs.Node.{Segment, Node, node, leaf, nodeAt, ends}
 use Rattle.dstree.specs.Matching.{numbersIn}
 use Rattle.dstree.specs.WellFormed as abstract
 use Rattle.dstree.proofs.Formed.{Formed, formed}
-use Rattle.tables.specs.Layout.{kindPlace, firstPlace}
+use Rattle.tables.specs.Layout.{kindPlace, segmentsPlace, firstPlace}
 use Rattle.tables.specs.Tables.{Tables, measuresOf, traceCount, nodeCount, recordOf}
-use Rattle.tables.specs.View.{smallAt, segmentsIn, kindIn, nodeIn, treeIn, traceIn, tracesIn, kindsNamed, wellFormed}
+use Rattle.tables.specs.View.{smallAt, segmentIn, segmentsIn, kindIn, nodeIn, treeIn, traceIn, tracesIn, kindsNamed, wellFormed}
 use Rattle.tables.specs.Judge.{InRange}
 use Rattle.tables.specs.Walk.{numbersOf}
 use Rattle.tables.proofs.Range.{in-range}
+
+-- a record has as many segments as it says, and as many right ends
+pub segments-length : (r : List ℤ) → length (segmentsIn r) ≡ smallAt r segmentsPlace
+unfolding segmentsIn
+segments-length r = length-map (counting (smallAt r segmentsPlace) 0) (segmentIn r) ∙ counting-length (smallAt r segmentsPlace) 0
+
+pub ends-length : (r : List ℤ) → length (ends (segmentsIn r)) ≡ smallAt r segmentsPlace
+ends-length r = length-map (segmentsIn r) (λ (a : Segment). a .end) ∙ segments-length r
 
 module _ (t : Tables) where
   abbrev made : ℕ → Node

@@ -2,7 +2,7 @@
 use Prim.Native.Nat.{_+_, _-_, _≤_}
 use native.Mathlib.Omega.{arith}
 use lib.ListN.{getD, take, drop}
-use Rattle.leaf_figures.specs.Ends.{Rise}
+use Rattle.dstree.specs.Formed.{Rises}
 use Rattle.leaf_figures.specs.Rows.{Columns}
 use Rattle.leaf_figures.proofs.Totals.{Next, next-at}
 use Rattle.leaf_figures.proofs.filling.fill_rows.Statement.{statement}
@@ -10,7 +10,7 @@ use Rattle.leaf_figures.proofs.filling.fill_rows.Tie as tie
 
 abbrev Inv-loop : tie.InvT-loop
 Inv-loop samples n list count runs₀ sums₀ scatters₀ at segments halves first₀ i₀ runs sums scatters first i =
-    (i ≤ segments) × (1 ≤ first) × Rise n first (drop i (take segments at)) × Columns samples n list count runs sums scatters
+    (i ≤ segments) × (1 ≤ first) × Rises n first (drop i (take segments at)) × Columns samples n list count runs sums scatters
 
 abbrev μ-loop : tie.MeasureT-loop
 μ-loop samples n list count runs₀ sums₀ scatters₀ at segments halves first₀ i₀ runs sums scatters first i = segments - i

@@ -5,7 +5,7 @@ use Prim.Native.Nat.{_+_, _*_, _-_, _^_, _≤_}
 use native.Mathlib.Omega.{arith}
 use lib.ListN.{getD, take, drop}
 use Rattle.dstree.specs.Adding.{spread}
-use Rattle.leaf_figures.specs.Ends.{Rise}
+use Rattle.dstree.specs.Formed.{Rises}
 use Rattle.leaf_figures.specs.Rows.{tracesAt}
 use Rattle.leaf_figures.proofs.Totals.{spreadFrom, Next, next-at, spread-more, spread-end, spread-is}
 use Rattle.leaf_figures.proofs.spread.spread_along.Statement.{statement}
@@ -17,7 +17,7 @@ Inv-loop samples n list count place runs sums scatters halved at segments total�
     × (1 ≤ first)
     × (total + spreadFrom first (drop i (take segments at)) (tracesAt samples n (take count list)) ≡ spread (take segments at) (tracesAt samples n (take count list)))
     × (total ≤ 2 ^ 57 * i)
-    × Rise n first (drop i (take segments at))
+    × Rises n first (drop i (take segments at))
 
 abbrev μ-loop : tie.MeasureT-loop
 μ-loop samples n list count place runs sums scatters halved at segments total₀ first₀ i₀ total first i = segments - i

@@ -9,8 +9,9 @@ use borrow.Author.Tests.{ne-eqb}
 use Rattle.integer.proofs.Lists.{fold-append}
 use Rattle.dstree.specs.Figures.{run}
 use Rattle.dstree.specs.Adding.{Candidate, Split, byEither, halves}
+use Rattle.dstree.specs.Formed.{Rises}
 use Rattle.tables.specs.Walk.{storedIn}
-use Rattle.leaf_figures.specs.Ends.{endsOf, Rise}
+use Rattle.leaf_figures.specs.Ends.{endsOf}
 use Rattle.split_choice.specs.Choosing.{chosenBy, childEnds, tryOne, tried}
 use Rattle.split_choice.proofs.Halved.{ends-count, middle, middle-in, both-halves}
 use Rattle.split_choice.proofs.choice.try_halves.Statement.{statement}
@@ -24,7 +25,7 @@ abbrev before : (s : tie.Start) → Option Split
 before s = let a = s .args in chosenBy (storedIn (a .samples .now) (a .n) (a .k)) (endsOf (a .e)) (take (a .count) (a .list .now)) (a .old)
 
 -- the halves' ends
-half-rise : (s : tie.Start) → let a = s .args in Rise (a .n) 1 (childEnds (middle (endsOf (a .e)) (a .first) (a .last)) (endsOf (a .e)))
+half-rise : (s : tie.Start) → let a = s .args in Rises (a .n) 1 (childEnds (middle (endsOf (a .e)) (a .first) (a .last)) (endsOf (a .e)))
 half-rise s =
     let a = s .args in
     let m = middle (endsOf (a .e)) (a .first) (a .last) in

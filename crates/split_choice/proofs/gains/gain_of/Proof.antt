@@ -14,9 +14,10 @@ use Rattle.integer.proofs.Width.{of-mag, read}
 use Rattle.dstree.specs.Measures.{Trace}
 use Rattle.dstree.specs.Node.{goesLeft}
 use Rattle.dstree.specs.Adding.{gain, tracesOf, spread}
+use Rattle.dstree.specs.Formed.{Rises}
 use Rattle.tables.specs.Walk.{storedIn}
 use Rattle.leaf_figures.specs.Rows.{tracesAt}
-use Rattle.leaf_figures.specs.Ends.{endsOf, Rise}
+use Rattle.leaf_figures.specs.Ends.{endsOf}
 use Rattle.split_choice.specs.Siding.{trialTest, onSide, sideOf}
 use Rattle.split_choice.specs.Choosing.{childEnds}
 use Rattle.split_choice.proofs.Sided.{side-traces}
@@ -40,8 +41,8 @@ child-ends-requires c κs =
     (p, λ f. omega (arith, s .pre .1 .room f, length-take-le (s .args .e .count) (s .args .e .at) (omega (arith, p .places, p .few))))
 
 -- the children's ends rise
-rise : (d : tie.After-child-ends) → Rise (d .before .before .before .args .n) 1 (endsOf (d .child-ends .result))
-rise d = let s = d .before .before .before in subst (Rise (s .args .n) 1) (sym (d .child-ends .ensures .0)) (s .pre .1 .rise)
+rise : (d : tie.After-child-ends) → Rises (d .before .before .before .args .n) 1 (endsOf (d .child-ends .result))
+rise d = let s = d .before .before .before in subst (Rises (s .args .n) 1) (sym (d .child-ends .ensures .0)) (s .pre .1 .rise)
 
 side-spread-requires : tie.Need-side-spread-requires
 side-spread-requires c κs =

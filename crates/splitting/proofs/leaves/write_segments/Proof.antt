@@ -16,10 +16,10 @@ use Rattle.dstree.specs.Measures.{Trace}
 use Rattle.dstree.specs.Figures.{run}
 use Rattle.dstree.specs.Node.{Segment}
 use Rattle.dstree.specs.Adding.{segmentOf, segmentsFrom, tracesOf}
+use Rattle.dstree.specs.Formed.{Rises}
 use Rattle.tables.specs.Layout.{recordPlaces}
 use Rattle.tables.specs.Walk.{storedIn, numbersOf}
 use Rattle.leaf_figures.specs.Sides.{marked, Small}
-use Rattle.leaf_figures.specs.Ends.{Rise}
 use Rattle.leaf_figures.specs.declared.sides.Figures.{Figures}
 use Rattle.leaf_figures.proofs.Totals.{Next, next-at}
 use Rattle.insertion.specs.Heads.{segmentBy}
@@ -44,7 +44,7 @@ abbrev Inv-loop : tie.InvT-loop
 Inv-loop record₀ samples links n k head marks mark at count first₀ i₀ «record» first i =
     (i ≤ count)
     × (1 ≤ first)
-    × Rise n first (drop i (take count at))
+    × Rises n first (drop i (take count at))
     × (segmentsFrom first (drop i (take count at)) (side samples links n k head marks mark) ≡ drop i (segmentsFrom 1 (take count at) (side samples links n k head marks mark)))
     × («record» ≡ withSegments record₀ (take i (segmentsFrom 1 (take count at) (side samples links n k head marks mark))))
 

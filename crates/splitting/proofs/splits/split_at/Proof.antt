@@ -13,13 +13,14 @@ use borrow.Author.Needs.{needs}
 use Rattle.dstree.specs.Measures.{Trace}
 use Rattle.dstree.specs.Node.{ends}
 use Rattle.dstree.specs.Adding.{Split, best}
+use Rattle.dstree.specs.Formed.{Rises}
 use Rattle.tables.specs.Layout.{kindPlace, segmentsPlace, firstPlace, recordPlaces}
 use Rattle.tables.specs.Tables.{recordOf}
 use Rattle.tables.specs.View.{smallAt, segmentsIn}
 use Rattle.tables.specs.Walk.{storedIn, numbersOf, Rising, Stored}
 use Rattle.tables.proofs.Frame.{record-length}
 use Rattle.tables.proofs.Listed.{stored-size}
-use Rattle.leaf_figures.specs.Ends.{endsOf, Rise}
+use Rattle.leaf_figures.specs.Ends.{endsOf}
 use Rattle.insertion_memory.specs.Memory.{treeTables, splitTo}
 use Rattle.split_choice.specs.Choosing.{splitOf, chosenBy}
 use Rattle.split_choice.specs.declared.choice.Choice.{Choice}
@@ -129,7 +130,7 @@ choose-requires c κs =
     let p = is-leaf a in (
       subst (λ (j : ℕ). Stored (now (start a .args .samples)) (now (start a .args .links)) (start a .args .n) (start a .args .k) j) (sym (a .node-small2 .ensures)) (p .stored),
       b .ends-of .ensures .1,
-      subst (Rise (start a .args .n) 1) (sym (ends-are b)) (p .rise),
+      subst (Rises (start a .args .n) 1) (sym (ends-are b)) (p .rise),
     )
 
 returns-3 : tie.Need-returns-3

@@ -19,10 +19,11 @@ use Rattle.integer.proofs.Lists.{In}
 use Rattle.dstree.specs.Measures.{Trace}
 use Rattle.dstree.specs.Node.{goesLeft}
 use Rattle.dstree.specs.Adding.{segmentsOf, tracesOf}
+use Rattle.dstree.specs.Formed.{Rises}
 use Rattle.tables.specs.Tables.{withRecord}
 use Rattle.tables.specs.Walk.{storedIn, numbersOf}
 use Rattle.leaf_figures.specs.Sides.{marked}
-use Rattle.leaf_figures.specs.Ends.{endsOf, Rise}
+use Rattle.leaf_figures.specs.Ends.{endsOf}
 use Rattle.tables.proofs.Listed.{numbers-below}
 use Rattle.insertion_memory.specs.Records.{leafRecord, innerRecord}
 use Rattle.insertion_memory.specs.Links.{linked}
@@ -97,7 +98,7 @@ write-sides-requires c κs =
     let d = c .before .before .before .before .before .before in
     let a = d .before in
     let s = start a in
-    let rise : Rise (s .args .n) 1 (endsOf (d .child-ends .result)) = subst (Rise (s .args .n) 1) (sym (d .child-ends .ensures .0)) (s .pre .fit .rise) in (
+    let rise : Rises (s .args .n) 1 (endsOf (d .child-ends .result)) = subst (Rises (s .args .n) 1) (sym (d .child-ends .ensures .0)) (s .pre .fit .rise) in (
       omega (arith, s .pre .parted .room),
       omega (arith, s .pre .parted .few),
       record { stored = s .pre .stored; all-marks = a .mark-sides .ensures .1; room = d .child-ends .ensures .1; rise = rise; some = left-some a },

@@ -1,2 +1,2 @@
--- The tables that the examples begin with.
-pub mod Junk
+-- What the steps of an example begin with.
+pub mod Steps

@@ -1,6 +1,6 @@
--- `examples::libraries::add_to` meets its contract, by those of the two calls.
-use Rattle.examples.proofs.libraries.add_to.Statement.{statement}
-use Rattle.examples.proofs.libraries.add_to.Tie as tie
+-- `examples::steps::add_to` meets its contract, by those of the two calls.
+use Rattle.examples.proofs.steps.add_to.Statement.{statement}
+use Rattle.examples.proofs.steps.add_to.Tie as tie
 
 pub add-to-spec : {M : Type 1} → statement M
 add-to-spec =

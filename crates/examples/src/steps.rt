@@ -1,4 +1,4 @@
-// A step of an example: a trace added, or a query matched, with what is printed of it.
+// A step of an example, on any tables: what is answered and left is what the calls' definitions say.
 
 use adding::Added;
 use matching::Found;
@@ -10,7 +10,7 @@ ghost use Rattle.calls.specs.Outcome.{outcome};
 ghost use Rattle.calls.specs.Effects.{outcomeOn};
 ghost use Rattle.adding.specs.Answered as added;
 ghost use Rattle.matching.specs.Answered as found;
-ghost use Rattle.examples.specs.Junk.{trailJunk};
+ghost use Rattle.examples.specs.Steps.{trailJunk, starredIn};
 
 // What an adding answers, and how many nodes there are then.
 pub struct Grown {
@@ -40,7 +40,7 @@ pub fn add_to(
         (tables (now (control .exit)) (now (samples .exit)) (now (nodes .exit)) (now (links .exit)) (now (work .entry)))) ⌝ }
 {
     let answer = adding::add(control, samples, nodes, links, work, trace);
-    let count = tables::control::field(control, 4);
+    let count = tables::control::field(control, tables::places::NODE_COUNT);
     Grown {
         answer: answer,
         nodes: count,
@@ -67,4 +67,19 @@ pub fn match_of(
         answer: answer,
         trail: trail,
     }
+}
+
+// The library of the starred example of a sheet: "n = 1, capacity 8, leaf size 2, trace (−1): checks 2,130 and 2,812".
+pub fn put_starred(
+    control: &mut [u16],
+    samples: &mut [i16],
+    nodes: &mut [i64],
+    links: &mut [u16],
+    work: &mut [u64],
+)
+    ensures { λ _. ⌜ tables (now (control .exit)) (now (samples .exit)) (now (nodes .exit)) (now (links .exit)) (now (work .exit))
+        ≡ starredIn (tables (now (control .entry)) (now (samples .entry)) (now (nodes .entry)) (now (links .entry)) (now (work .entry))) ⌝ }
+{
+    opening::open(control, samples, nodes, links, work, 1, 8, 2);
+    adding::add(control, samples, nodes, links, work, &[-1i16]);
 }

@@ -1,0 +1,124 @@
+// Answers as text, on standard output. No contract can speak of output, so that nothing here has one.
+
+use crate::steps::Grown;
+use crate::steps::Matched;
+use adding::Added;
+use matching::Found;
+use opening::Opened;
+use segment::samples::apart;
+use sheet_reading::Read;
+use sheet_writing::Written;
+use tables::Refusal;
+use tables::numbers::wider;
+
+// Words, and a number behind them.
+pub fn item(words: &[u8], n: u64) {
+    io::write_all(1, words);
+    io::print_decimal(1, n);
+}
+
+pub fn line_end() {
+    io::write_all(1, b"\n");
+}
+
+fn refusal(why: Refusal) {
+    item(b"refused ", tables::answers::number(why));
+    item(b" ", tables::answers::place(why));
+}
+
+pub fn opened(answer: Opened) {
+    match answer {
+        Opened::Done => {
+            io::write_all(1, b"opened");
+        }
+        Opened::Refused(why) => refusal(why),
+    }
+    line_end();
+}
+
+pub fn grown(step: Grown) {
+    let answer = step.answer;
+    match answer {
+        Added::At(k) => item(b"added ", k),
+        Added::Refused(why) => refusal(why),
+    }
+    item(b"\n  nodes ", wider(step.nodes));
+    line_end();
+}
+
+// A sample behind a space.
+fn sample(x: i16) {
+    if x < 0 {
+        io::write_all(1, b" -");
+    } else {
+        io::write_all(1, b" ");
+    }
+    io::print_decimal(1, apart(x, 0) as u64);
+}
+
+pub fn query(samples: &[i16]) {
+    io::write_all(1, b"match");
+    let mut i: usize = 0;
+    while i < samples.len() {
+        sample(samples[i]);
+        i += 1;
+    }
+    io::write_all(1, b": ");
+}
+
+// The leaves read, which the trail begins with.
+fn read_on(trail: &[u16], leaves: u64) {
+    io::write_all(1, b" trail");
+    let mut i: usize = 0;
+    while i < trail.len() {
+        if (i as u64) < leaves {
+            item(b" ", wider(trail[i]));
+        }
+        i += 1;
+    }
+}
+
+pub fn matched(step: Matched) {
+    let answer = step.answer;
+    let trail = step.trail;
+    match answer {
+        Found::At(trace, distance, leaves, traces) => {
+            item(b"trace ", trace);
+            item(b" distance ", distance);
+            item(b" leaves ", leaves);
+            item(b" traces ", traces);
+            read_on(&trail, leaves);
+        }
+        Found::Refused(why) => refusal(why),
+    }
+    line_end();
+}
+
+// "Bytes 510 to 511" of block 0 and of block 1.
+fn checks(sheet: &[u8]) {
+    if 1024 <= sheet.len() {
+        item(b" checks ", sheet::fields::two_bytes(sheet, 510));
+        item(b" ", sheet::fields::two_bytes(sheet, 1022));
+    }
+}
+
+pub fn written(answer: Written, sheet: &[u8]) {
+    match answer {
+        Written::Blocks(blocks) => {
+            item(b"blocks ", blocks);
+            checks(sheet);
+        }
+        Written::Refused(why) => refusal(why),
+    }
+    line_end();
+}
+
+pub fn read(answer: Read) {
+    match answer {
+        Read::Done => {
+            io::write_all(1, b"done");
+        }
+        Read::Refused(why) => refusal(why),
+    }
+    line_end();
+}

@@ -75,7 +75,7 @@ header-widths : (rate size : ℕ) → widths (header rate size) ≡ headerSize
 unfolding header widths
 header-widths rate size = refl
 
-header-length : (rate size : ℕ) → length (fieldBytes (header rate size)) ≡ headerSize
+pub header-length : (rate size : ℕ) → length (fieldBytes (header rate size)) ≡ headerSize
 header-length rate size = fields-length (header rate size) ∙ header-widths rate size
 
 -- "Export .. answers its bytes' number"
@@ -114,12 +114,12 @@ module _ (rate size : ℕ) (behind : List ℕ) where
 -- ---- a sound file
 
 -- all tests pass
-record SoundFile (n : ℕ) (bytes : List ℕ) : Type 0 where
-  long : length bytes ≡ headerSize + sizeIn bytes
-  formed : T (begins (header (rateIn bytes) (sizeIn bytes)) bytes)
-  low : rateIn bytes < rateLimit
-  even : sizeIn bytes % 2 ≡ 0
-  multiple : sizeIn bytes / 2 % n ≡ 0
+pub record SoundFile (n : ℕ) (bytes : List ℕ) : Type 0 where
+  pub long : length bytes ≡ headerSize + sizeIn bytes
+  pub formed : T (begins (header (rateIn bytes) (sizeIn bytes)) bytes)
+  pub low : rateIn bytes < rateLimit
+  pub even : sizeIn bytes % 2 ≡ 0
+  pub multiple : sizeIn bytes / 2 % n ≡ 0
 
 module _ (n : ℕ) (bytes : List ℕ) where
   abbrev tests : List Bool
@@ -133,7 +133,7 @@ module _ (n : ℕ) (bytes : List ℕ) where
       passes (eqb (length bytes) (headerSize + sizeIn bytes)) tests
       (eq→eqb (s .long), (s .formed, (lt→ltb (rateIn bytes) rateLimit (s .low), (eq→eqb (s .even), eq→eqb (s .multiple)))))
 
-  passed-sound : T (isRecording n bytes) → SoundFile n bytes
+  pub passed-sound : T (isRecording n bytes) → SoundFile n bytes
   unfolding isRecording
   passed-sound t =
       let all = passed (eqb (length bytes) (headerSize + sizeIn bytes)) tests t in

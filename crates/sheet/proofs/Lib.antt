@@ -1,4 +1,6 @@
-pub mod Two
+pub mod Numbers
 pub mod Laid
 pub mod Coded
 pub mod Columns
+pub mod Decoded
+pub mod SamplesIn

@@ -2,6 +2,6 @@
 
 pub mod letters; // the letters that a sheet begins with
 pub mod check; // the check of a block
-pub mod fields; // fields of two bytes, and bytes as they come
+pub mod fields; // fields of two and of four bytes, and bytes as they come
 pub mod samples; // samples in two's complement
 pub mod blocks; // whole blocks

@@ -6,4 +6,3 @@ pub mod Heads
 pub mod Left
 pub mod Bad
 pub mod Samples
-pub mod Decoded

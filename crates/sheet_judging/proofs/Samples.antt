@@ -1,27 +1,28 @@
 -- The samples of an accepted sheet, and where they stand.
-use Prim.Native.Nat.{ℕ, zero, suc, _+_, _*_, _-_, _≤_, _<_}
-use mathlib.Core.Path.{_≡_, refl, sym, _∙_, ap, ap₂, subst}
+use Prim.Native.Nat.{ℕ, suc, _+_, _*_, _-_, _≤_, _<_}
+use mathlib.Core.Path.{_≡_, sym, _∙_, ap, subst}
 use mathlib.Core.Option.{none}
-use mathlib.Core.List.{List, [], _∷_, _++_, map}
+use mathlib.Core.List.{List, [], _++_}
 use native.Mathlib.Omega.{arith}
-use native.Mathlib.Nat.{suc-mul, mul-le-mul-right}
+use native.Mathlib.Nat.{suc-mul, le-refl, mul-le-mul-right}
 use lib.ListN.{length, getD, take, drop, length-drop}
 use lib.Seq.{drop-drop, take-append-le, take-take}
 use Rattle.integer.proofs.Tests.{test-true}
-use Rattle.integer.proofs.Lists.{map-take, all-more, all-parts}
-use Rattle.integer.proofs.Rows.{map-append}
+use Rattle.integer.proofs.Lists.{all-more, all-parts}
 use Rattle.dstree.specs.Measures.{inRange, sampleLimit}
 use Rattle.dstree.specs.Refusals.{firstOf}
-use Rattle.dstree.specs.Sheet.{blockSize, narrow, sampleSize, part, pieces, decoded, blocksIn, measuresIn, sampleBytesIn, tracesIn}
+use Rattle.dstree.specs.Sheet.{blockSize, narrow, sampleSize, part, blocksIn, measuresIn, sampleBytesIn, tracesIn}
 use Rattle.dstree.specs.Sheet.{sampleBlocksNeeded, tornConditions, badConditions, sheetConditions, conditionsAs}
 use Rattle.dstree.proofs.Conditions.{NoneOf, none-of}
-use Rattle.dstree.proofs.SheetPieces.{pieces-length, pieces-at, pieces-drop, pieces-take, pieces-more, drop-part, drop-take}
+use Rattle.dstree.proofs.SheetPieces.{pieces-length, drop-part}
 use Rattle.dstree.proofs.SheetFormat.{narrow-sound, needed-room}
 use Rattle.dstree.proofs.SheetRead.{Good, none-good}
 use Rattle.tables.specs.Judge.{InRange}
 use Rattle.tables.proofs.Range.{in-range}
 use Rattle.sheet_judging.specs.Blocks.{blockCount, InBlocks, blockAt, laterBlocks}
-use Rattle.sheet_judging.specs.Traces.{sizeOf, countOf, tracesOf, IsAt, placeOf, samplesIn, samplesFrom}
+use Rattle.sheet_judging.specs.Traces.{sizeOf, countOf, tracesOf, IsAt, placeOf, samplesFrom}
+use Rattle.sheet.specs.Codes.{samplesIn}
+use Rattle.sheet.proofs.SamplesIn.{samples-add, samples-first, trace-at}
 use Rattle.sheet_judging.proofs.Places.{blocks-are}
 use Rattle.sheet_judging.proofs.Carried.{carriedFrom, carriedAt, carried-length, carried-on}
 
@@ -70,57 +71,6 @@ module _ (bytes : List ℕ) (f : Fine bytes) where
 
 -- ---- samples
 
-module _ {A : Type 0} where
-  pieces-add : (size a b : ℕ) (xs : List A) → pieces size (a + b) xs ≡ pieces size a xs ++ pieces size b (drop (a * size) xs)
-  unfolding pieces
-  pieces-add size zero b xs =
-      let e : 0 + b ≡ b = omega arith in
-      let z : 0 * size ≡ 0 = omega arith in
-      rw (e, z) refl
-  pieces-add size (suc a) b xs =
-      let e : suc a + b ≡ suc (a + b) = omega arith in
-      let k : size + a * size ≡ suc a * size = omega (arith, suc-mul a size) in
-      rw e (ap (λ (l : List (List A)). take size xs ∷ l) (pieces-add size a b (drop size xs)
-      ∙ ap (λ (l : List A). pieces size a (drop size xs) ++ pieces size b l) (drop-drop (a * size) size xs ∙ ap (λ (i : ℕ). drop i xs) k)))
-
-  pieces-first : (size k : ℕ) (xs : List A) → pieces size k xs ≡ pieces size k (take (k * size) xs)
-  unfolding pieces
-  pieces-first size zero xs = refl
-  pieces-first size (suc k) xs =
-      let e : suc k * size - size ≡ k * size = omega (arith, suc-mul k size) in
-      ap₂ (λ (a : List A) (b : List (List A)). a ∷ b) (sym (take-take size (suc k * size) xs (omega (arith, suc-mul k size))))
-      (pieces-first size k (drop size xs)
-      ∙ ap (pieces size k) (sym (drop-take size (suc k * size) xs ∙ ap (λ (i : ℕ). take i (drop size xs)) e)))
-
-module _ {A B : Type 0} (f : A → B) where
-  map-drop : (k : ℕ) (l : List A) → drop k (map f l) ≡ map f (drop k l)
-  map-drop zero l = refl
-  map-drop (suc k) [] = refl
-  map-drop (suc k) (x ∷ l) = map-drop k l
-
-pub samples-none : (bytes : List ℕ) → samplesIn 0 bytes ≡ []
-unfolding samplesIn pieces
-samples-none bytes = refl
-
--- one sample more
-pub samples-more : (k : ℕ) (bytes : List ℕ)
-    → samplesIn (suc k) bytes ≡ samplesIn k bytes ++ (decoded narrow (part (k * width) width bytes) ∷ [])
-unfolding samplesIn
-samples-more k bytes =
-    ap (map (decoded narrow)) (pieces-more width k bytes)
-    ∙ map-append (decoded narrow) (pieces width k bytes) (part (k * width) width bytes ∷ [])
-
-samples-add : (a b : ℕ) (bytes : List ℕ) → samplesIn (a + b) bytes ≡ samplesIn a bytes ++ samplesIn b (drop (a * width) bytes)
-unfolding samplesIn
-samples-add a b bytes =
-    ap (map (decoded narrow)) (pieces-add width a b bytes)
-    ∙ map-append (decoded narrow) (pieces width a bytes) (pieces width b (drop (a * width) bytes))
-
--- what stands behind them does not bear on them
-samples-first : (k : ℕ) (bytes : List ℕ) → samplesIn k bytes ≡ samplesIn k (take (k * width) bytes)
-unfolding samplesIn
-samples-first k bytes = ap (map (decoded narrow)) (pieces-first width k bytes)
-
 module _ (bytes : List ℕ) where
   abbrev taken : List ℕ
   taken = sampleBytesIn narrow (laterBlocks bytes 1)
@@ -128,16 +78,10 @@ module _ (bytes : List ℕ) where
   -- a trace is the n samples from n times its number on
   pub trace-is : (number : ℕ) → number < countOf bytes
       → getD (tracesOf bytes) number [] ≡ samplesFrom bytes (number * sizeOf bytes) (sizeOf bytes)
-  unfolding tracesIn samplesIn
+  unfolding tracesIn
   trace-is number h =
-      let n : ℕ = sizeOf bytes in
-      let all : ℕ = countOf bytes * n in
-      let inside : suc number * n ≤ all = mul-le-mul-right n h in
-      pieces-at n (countOf bytes) (map (decoded narrow) (pieces width all taken)) number h
-      ∙ ap (take n) (map-drop (decoded narrow) (number * n) (pieces width all taken) ∙ ap (map (decoded narrow)) (pieces-drop width (number * n) all taken))
-      ∙ sym (map-take (decoded narrow) n (pieces width (all - number * n) (drop (number * n * width) taken)))
-      ∙ ap (map (decoded narrow))
-      (pieces-take width n (all - number * n) (drop (number * n * width) taken) (omega (arith, inside, suc-mul number n)))
+      let all : ℕ = countOf bytes * sizeOf bytes in
+      trace-at (sizeOf bytes) (countOf bytes) all number taken h (le-refl all)
 
   -- samples behind others
   pub samples-on : (first a b : ℕ) → samplesFrom bytes first (a + b) ≡ samplesFrom bytes first a ++ samplesFrom bytes (first + a) b

@@ -1,11 +1,12 @@
 -- The traces that a sheet holds, by what its blocks say, and where a sample stands.
 use Prim.Native.Nat.{ℕ, _+_, _*_, _-_, _<_}
 use mathlib.Core.Path.{_≡_}
-use mathlib.Core.List.{List, map}
+use mathlib.Core.List.{List}
 use lib.IntN.{ℤ}
 use lib.ListN.{drop}
 use Rattle.dstree.specs.Measures.{Trace}
-use Rattle.dstree.specs.Sheet.{narrow, blockSize, pieces, decoded, measuresIn, countIn, sampleBytesIn, tracesIn}
+use Rattle.dstree.specs.Sheet.{narrow, blockSize, measuresIn, countIn, sampleBytesIn, tracesIn}
+use Rattle.sheet.specs.Codes.{samplesIn}
 use Rattle.sheet_judging.specs.Blocks.{blockAt, laterBlocks}
 
 -- the samples of a trace, and how many traces there are, as block 0 says
@@ -32,10 +33,6 @@ pub record IsAt (number used i : ℕ) : Type 0 where
 -- the first byte of a sample, "from byte 4"
 abbrev pub placeOf : ℕ → ℕ → ℕ
 placeOf number used = number * blockSize + 4 + narrow .sampleBytes * used
-
--- so many samples, by their bytes
-unfoldable pub samplesIn : ℕ → List ℕ → List ℤ
-samplesIn k bytes = map (decoded narrow) (pieces (narrow .sampleBytes) k bytes)
 
 -- so many samples of a sheet, from a number on
 abbrev pub samplesFrom : List ℕ → ℕ → ℕ → List ℤ

@@ -12,9 +12,6 @@ use Rattle.sheet.proofs.Laid.{block-is}
 use Rattle.sheet.proofs.blocks.write_samples.Statement.{statement}
 use Rattle.sheet.proofs.blocks.write_samples.Tie as tie
 
-put-samples-requires : tie.Need-put-samples-requires
-put-samples-requires c κs = (omega arith, omega arith)
-
 returns : tie.Need-returns
 returns c =
     let s = c .before .before .before .before .before .before .before .before .before .before .before .before .before in
@@ -30,4 +27,4 @@ pub write-samples-spec : {M : Type 1} → statement M
 write-samples-spec =
     tie.close
     (tie.spec
-    (λ c κs. omega arith) put-samples-requires (λ c κs. omega arith) (λ c. omega arith) returns)
+    (λ c κs. omega arith) (λ c κs. omega arith) (λ c κs. omega arith) (λ c. omega arith) returns)

@@ -1,7 +1,7 @@
 -- `sheet::fields::two_bytes` meets its contract: the second byte counts 256 times.
 use native.Mathlib.Omega.{arith}
 use denote.Ref.{now}
-use Rattle.sheet.proofs.Two.{number-is}
+use Rattle.sheet.proofs.Numbers.{number-is}
 use borrow.Author.Needs.{needs}
 use Rattle.sheet.proofs.fields.two_bytes.Statement.{statement}
 use Rattle.sheet.proofs.fields.two_bytes.Tie as tie

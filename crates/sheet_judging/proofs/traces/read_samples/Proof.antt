@@ -11,9 +11,11 @@ use denote.Ref.{now}
 use borrow.Rule.Slice.PartMut.{postOf, mid-len, same-len-mid}
 use Rattle.dstree.specs.Sheet.{mostBlocks, narrow, part, sampleBytesIn}
 use Rattle.sheet_judging.specs.Blocks.{blockCount, laterBlocks}
-use Rattle.sheet_judging.specs.Traces.{numberAt, IsAt, placeOf, samplesIn, samplesFrom}
+use Rattle.sheet_judging.specs.Traces.{numberAt, IsAt, placeOf, samplesFrom}
+use Rattle.sheet.specs.Codes.{samplesIn}
+use Rattle.sheet.proofs.SamplesIn.{samples-none}
 use Rattle.sheet_judging.proofs.Places.{blocks, block-inside}
-use Rattle.sheet_judging.proofs.Samples.{samples-none, samples-on, samples-at, block-in}
+use Rattle.sheet_judging.proofs.Samples.{samples-on, samples-at, block-in}
 use Rattle.sheet_judging.proofs.traces.read_samples.Statement.{statement}
 use Rattle.sheet_judging.proofs.traces.read_samples.Tie as tie
 
@@ -141,9 +143,7 @@ module _ (p : tie.After-place Inv-loop μ-loop) where
   lent-places = omega (arith, mid-len (i (turn here)) (i (turn here) + k here) (places (turn here)) places-in)
 
 copy-samples-requires : tie.Need-copy-samples-requires Inv-loop μ-loop
-copy-samples-requires c κs =
-    let p = c .before .before in
-    (omega (arith, lent-places p, lent-bytes p), omega (arith, lent-bytes p, within-block (here p)))
+copy-samples-requires c κs = let p = c .before .before in omega (arith, lent-places p, lent-bytes p)
 
 pass-requires : tie.Need-pass-requires Inv-loop μ-loop
 pass-requires c κs =

@@ -1,8 +1,8 @@
--- `sheet_judging::traces::decode` meets its contract.
+-- `sheet::samples::decode` meets its contract.
 use borrow.Author.Needs.{needs}
-use Rattle.sheet_judging.proofs.Decoded.{low-is, moved-fits, moved-cast, high-is}
-use Rattle.sheet_judging.proofs.traces.decode.Statement.{statement}
-use Rattle.sheet_judging.proofs.traces.decode.Tie as tie
+use Rattle.sheet.proofs.Decoded.{low-is, moved-fits, moved-cast, high-is}
+use Rattle.sheet.proofs.samples.decode.Statement.{statement}
+use Rattle.sheet.proofs.samples.decode.Tie as tie
 
 returns : tie.Need-returns
 returns c = λ bytes e. low-is (c .before .args .v) bytes e (c .if1 .taken)

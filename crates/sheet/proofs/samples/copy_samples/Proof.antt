@@ -1,7 +1,7 @@
--- `sheet_judging::traces::copy_samples` meets its contract: the first i places hold the first i samples. The measure is how many are left.
+-- `sheet::samples::copy_samples` meets its contract: the first i places hold the first i samples. The measure is how many are left.
 use mathlib.Core.Path.{_≡_, refl, sym, ap, ap₂, _∙_}
 use mathlib.Core.List.{List, _∷_, [], _++_}
-use Prim.Native.Nat.{ℕ, _+_, _*_, _-_, _≤_, _<_}
+use Prim.Native.Nat.{ℕ, _+_, _*_, _-_, _≤_}
 use native.Mathlib.Nat.{mul-comm}
 use native.Mathlib.Numerals.{add-one}
 use native.Mathlib.Omega.{arith}
@@ -13,11 +13,11 @@ use mir.Val.{toZ, ofZ}
 use mir.Facts.{toZ-ofZ}
 use denote.Ref.{now}
 use Rattle.integer.proofs.Width.{of-mag}
-use Rattle.dstree.specs.Sheet.{blockSize, narrow, part, numberIn, decoded}
-use Rattle.sheet_judging.specs.Traces.{samplesIn}
-use Rattle.sheet_judging.proofs.Samples.{samples-none, samples-more}
-use Rattle.sheet_judging.proofs.traces.copy_samples.Statement.{statement}
-use Rattle.sheet_judging.proofs.traces.copy_samples.Tie as tie
+use Rattle.dstree.specs.Sheet.{narrow, part, numberIn, decoded}
+use Rattle.sheet.specs.Codes.{samplesIn}
+use Rattle.sheet.proofs.SamplesIn.{samples-none, samples-more}
+use Rattle.sheet.proofs.samples.copy_samples.Statement.{statement}
+use Rattle.sheet.proofs.samples.copy_samples.Tie as tie
 
 abbrev Inv-loop : tie.InvT-loop
 Inv-loop bytes places₀ i₀ places i = (i ≤ length places) × (length places ≡ length places₀) × (take i places ≡ samplesIn i bytes)
@@ -40,10 +40,7 @@ module _ (l : tie.In-loop Inv-loop μ-loop) where
   i = l .before .loop .i
 
   inside : 2 * i + 2 ≤ length bytes
-  inside = omega (arith, l .loop-test .taken, l .before .loop .inv .1, start .pre .0)
-
-  few : i < blockSize
-  few = omega (arith, inside, start .pre .1)
+  inside = omega (arith, l .loop-test .taken, l .before .loop .inv .1, start .pre)
 
 loop-again : tie.Need-loop-again Inv-loop μ-loop
 loop-again c =
@@ -74,6 +71,6 @@ pub copy-samples-spec : {M : Type 1} → statement M
 copy-samples-spec =
     tie.close
     (tie.spec
-    Inv-loop μ-loop loop-holds (λ c. omega (arith, few c)) (λ c κs. inside c) (λ c κs. c .two-bytes .ensures .1)
-    (λ c. omega (arith, few (c .before .before))) (λ c. c .before .before .loop-test .taken) (λ c. omega (arith, few (c .before .before)))
+    Inv-loop μ-loop loop-holds (λ c. omega (arith, inside c)) (λ c κs. inside c) (λ c κs. c .two-bytes .ensures .1)
+    (λ c. omega (arith, inside (c .before .before))) (λ c. c .before .before .loop-test .taken) (λ c. omega (arith, inside (c .before .before)))
     (λ c. simp length-set (omega (arith, c .before .before .loop-test .taken))) loop-again (λ c. c .before .loop .inv .1) returns)

@@ -1,34 +1,36 @@
 -- Call by call: what the book says of a call, and what the call does to tables lent of a memory that keeps the book, agree. An opening and
 -- a reading agree with every book, whatever the memory held before.
-use Prim.Native.Nat.{ℕ, _*_, _≤_, _<_}
-use mathlib.Core.Path.{_≡_, refl, ap, ap₂, _∙_}
+use Prim.Native.Nat.{ℕ, _+_, _*_, _≤_, _<_}
+use mathlib.Core.Path.{_≡_, refl, sym, ap, ap₂, subst, _∙_}
 use mathlib.Core.Bool.{true, false, not}
-use mathlib.Core.Option.{none, some}
-use mathlib.Core.Logic.{_⊎_, inl, inr}
-use mathlib.Core.List.{List, [], _∷_, _++_}
+use mathlib.Core.Option.{Option, none, some}
+use mathlib.Core.List.{List, [], _∷_, _++_, foldl}
 use native.Mathlib.Omega.{arith}
-use lib.ListN.{length, drop, replicate, length-append}
+use lib.ListN.{length, getD, drop, replicate, length-append}
 use lib.Seq.{take-append-seam}
 use lib.Dec.{T, leb, ltb, eqb, le→leb, leb→le}
-use borrow.Author.Tests.{not-false, ne-eqb, eqb-true, eqb-false}
+use borrow.Author.Tests.{not-false, ne-eqb, eqb-true, eqb-false, ltb-false}
 use Rattle.integer.specs.Words.{every, isEmpty}
 use Rattle.integer.proofs.Tests.{passed, passes, is-true, eq→eqb}
-use Rattle.integer.specs.Lists.{In}
-use Rattle.integer.proofs.Lists.{in-snoc, every-of, from-every, strict}
-use Rattle.dstree.specs.Measures.{Trace, Measures, sampleLimit, inRange, isTrace, isLibrary, workNeeded}
+use Rattle.integer.proofs.Lists.{all-append, every-all, all-every, strict}
+use Rattle.dstree.specs.Measures.{Trace, Measures, sampleLimit, inRange, areSamples, isTrace, isLibrary, workNeeded}
 use Rattle.dstree.specs.Matching.{matchBySteps, matchOf}
 use Rattle.dstree.specs.KNearest.{isK, kNearestBySteps, kNearestOf}
-use Rattle.dstree.specs.Refusals.{Condition, _refuses_, firstOf, measure, wrongTrace, full, empty, sheetLength, badK}
-use Rattle.dstree.specs.Sheet.{blockSize, blocksNeeded, sheetOf, Judged, refused, holds, judgeSheet}
-use Rattle.dstree.specs.Book.{Ask, opening, adding, matching, writing, reading, listing, Book, book, bookTree, Entry, added, written, over}
+use Rattle.dstree.specs.Refusals.{Condition, _refuses_, firstOf, measure, wrongTrace, full, empty, sheetLength, badK, badRecording}
+use Rattle.dstree.specs.Sheet.{areBytes, blockSize, blocksNeeded, sheetOf, Judged, refused, holds, judgeSheet}
+use Rattle.dstree.specs.Recording.{recordingSize, recordingOf, Recording, judgeRecording, fileTraces, isBadFile}
+use Rattle.dstree.specs.Book.{Ask, opening, adding, matching, writing, reading, listing, importing, exporting, Book, book, bookTree}
+use Rattle.dstree.specs.Book.{Entry, added, written, imported, exported, over, importConditions, exportConditions}
 use Rattle.dstree.specs.Book.{shortConditions, queryConditions, listConditions, readingConditions, putRead, openingEntry, addingEntry}
-use Rattle.dstree.specs.Book.{matchingEntry, writingEntry, readingEntry, listingEntry, entryOf}
+use Rattle.dstree.specs.Book.{matchingEntry, writingEntry, readingEntry, listingEntry, importingEntry, exportingEntry}
+use Rattle.dstree.specs.Book.{entryOf}
 use Rattle.dstree.proofs.Conditions.{none-first, none-both}
 use Rattle.dstree.proofs.Laws.{claims}
 use Rattle.dstree.proofs.KLaws.{k-nearest}
 use Rattle.dstree.proofs.RoundTrips.{is-library}
+use Rattle.dstree.proofs.Recordings.{file-traces}
 use Rattle.tables.specs.Layout.{layout}
-use Rattle.tables.specs.Tables.{Tables, lentOf}
+use Rattle.tables.specs.Tables.{Tables, lentOf, measuresOf}
 use Rattle.tables.specs.View.{treeIn, tracesIn}
 use Rattle.tables.specs.Judge.{openingConditionsOf, Room}
 use Rattle.tables.specs.Beginning.{left, Begins}
@@ -40,11 +42,11 @@ use Rattle.insertion_memory.proofs.Made.{takes-more}
 use Rattle.insertion_memory.proofs.AddedBeginnings.{added-begins}
 use Rattle.calls.specs.Outcome.{Effect}
 use Rattle.calls.specs.Library.{loaded, libraryTables, Keeps}
-use Rattle.calls.specs.Effects.{opens, adds, resultOf, trailOf, cleared, matches, writes, loadedBy, reads, lists}
+use Rattle.calls.specs.Effects.{opens, adds, resultOf, trailOf, cleared, matches, writes, loadedBy, reads, lists, imports, exports}
 use Rattle.calls.specs.Effects.{effectOf}
-use Rattle.calls.specs.Follows.{areSamples, Typed}
+use Rattle.calls.specs.Follows.{Typed}
 use Rattle.calls.proofs.Finds.{last-never}
-use Rattle.calls.proofs.Library.{library-holds, library-work, loaded-more, loaded-begins}
+use Rattle.calls.proofs.Library.{library-holds, library-work, loaded-more, loaded-begins, added-begin}
 use Rattle.calls.proofs.Kept.{short-room, library-begins, part-holds, made-same, counted}
 
 pub record Agrees (memory : Tables) (e : Effect) (n : Entry) : Type 0 where
@@ -86,9 +88,9 @@ module _ (memory part : Tables) (b : Book) where
   reading-puts (refused why) is e = let z : _≡_ {A = ℕ} 0 1 = cc in absurd (omega arith)
   reading-puts (holds m traces) is e = loads memory part m traces (is m traces refl) (short-room (lentOf part) m [] e)
 
-  pub reading-agrees : (bytes : List ℕ) → Typed (reading bytes)
+  pub reading-agrees : (bytes : List ℕ) → T (areBytes bytes)
       → Agrees memory (reads part bytes) (readingEntry layout (lentOf part) b bytes)
-  unfolding reads readingEntry Typed
+  unfolding reads readingEntry
   reading-agrees bytes typed = record {
     judged = refl;
     result-is = λ e. refl;
@@ -98,21 +100,23 @@ module _ (memory part : Tables) (b : Book) where
 
 -- ---- the others
 
--- one trace of n samples more, where there is room, is a library
-library-grows : (m : Measures) (traces : List Trace) (x : Trace) → T (isLibrary sampleLimit m traces) → T (areSamples x) → length x ≡ m .n
-    → length traces < m .capacity
-    → T (isLibrary sampleLimit m (traces ++ (x ∷ [])))
-unfolding isLibrary isTrace
-library-grows m traces x library samples size less =
-    let p = passed (inRange m) (leb (length traces) (m .capacity) ∷ every (isTrace sampleLimit (m .n)) traces ∷ []) library in
-    let room : T (leb (length (traces ++ (x ∷ []))) (m .capacity)) = le→leb (length (traces ++ (x ∷ []))) (m .capacity)
-    (omega (arith, length-append traces (x ∷ []))) in
-    passes (inRange m) (leb (length (traces ++ (x ∷ []))) (m .capacity) ∷ every (isTrace sampleLimit (m .n)) (traces ++ (x ∷ [])) ∷ [])
-    (p .0, (room, every-of (isTrace sampleLimit (m .n)) (traces ++ (x ∷ [])) (λ y i. each y (in-snoc traces i) (p .1 .1))))
-  where
-    each : (y : Trace) → In y traces ⊎ (y ≡ x) → T (every (isTrace sampleLimit (m .n)) traces) → T (isTrace sampleLimit (m .n) y)
-    each y (inl i) all = from-every (isTrace sampleLimit (m .n)) traces all i
-    each y (inr e) all = rw e (passes (eqb (length x) (m .n)) (areSamples x ∷ []) (eq→eqb size, samples))
+-- more traces of n samples, where there is room, make a library
+library-grows : (m : Measures) (traces more : List Trace) → T (isLibrary sampleLimit m traces) → T (every (isTrace sampleLimit (m .n)) more)
+    → length traces + length more ≤ m .capacity → T (isLibrary sampleLimit m (traces ++ more))
+unfolding isLibrary
+library-grows m traces more library each room =
+    let is = isTrace sampleLimit (m .n) in
+    let p = passed (inRange m) (leb (length traces) (m .capacity) ∷ every is traces ∷ []) library in
+    let long : T (leb (length (traces ++ more)) (m .capacity)) =
+    le→leb (length (traces ++ more)) (m .capacity) (omega (arith, length-append traces more)) in
+    passes (inRange m) (leb (length (traces ++ more)) (m .capacity) ∷ every is (traces ++ more) ∷ [])
+    (p .0, (long, all-every is (all-append (every-all is traces (p .1 .1)) (every-all is more each))))
+
+-- one trace alone
+one-trace : (m : Measures) (x : Trace) → T (areSamples x) → length x ≡ m .n → T (every (isTrace sampleLimit (m .n)) (x ∷ []))
+unfolding isTrace every
+one-trace m x samples size = passes (isTrace sampleLimit (m .n) x) (true ∷ [])
+    (passes (eqb (length x) (m .n)) (areSamples x ∷ []) (eq→eqb size, samples), tt)
 
 empty-is : (l : List Trace) → eqb (length l) 0 ≡ isEmpty l
 unfolding isEmpty
@@ -156,8 +160,9 @@ module _ (memory part : Tables) (begins : Begins part memory) (b : Book) (keeps 
       let most : length (b .traces) ≤ m .capacity = leb→le (length (b .traces)) (m .capacity)
       (passed (inRange m) (leb (length (b .traces)) (m .capacity) ∷ every (isTrace sampleLimit (m .n)) (b .traces) ∷ [])
       (keeps .library) .1 .0) in
-      let grows = library-grows m (b .traces) x (keeps .library) samples (eqb-true (length x) (m .n) (not-false _ (one .0)))
-      (strict most (λ q. eqb-false (length (b .traces)) (m .capacity) (two .0) q)) in
+      let less : length (b .traces) < m .capacity = strict most (λ q. eqb-false (length (b .traces)) (m .capacity) (two .0) q) in
+      let grows = library-grows m (b .traces) (x ∷ []) (keeps .library)
+      (one-trace m x samples (eqb-true (length x) (m .n) (not-false _ (one .0)))) (omega (arith, less)) in
       let h = library-holds m (b .traces) (keeps .library) in
       let takes = takes-more m own (b .traces) x h grows in
       let room = short-room (lentOf part) m (addingRest x) e in
@@ -165,8 +170,8 @@ module _ (memory part : Tables) (begins : Begins part memory) (b : Book) (keeps 
       (rw (loaded-more _ m (b .traces) x) (added-begins own part x (library-begins keeps part begins room) (h .formed) (h .long)
       (takes .0) (takes .1)))
 
-  pub adding-agrees : (x : Trace) → Typed (adding x) → Agrees memory (adds part x) (addingEntry layout (lentOf part) b x)
-  unfolding adds addingEntry Typed
+  pub adding-agrees : (x : Trace) → T (areSamples x) → Agrees memory (adds part x) (addingEntry layout (lentOf part) b x)
+  unfolding adds addingEntry
   adding-agrees x typed = record {
     judged = made-same keeps part begins _ (addingRest x)
         (λ h. rw (
@@ -265,13 +270,70 @@ module _ (memory part : Tables) (begins : Begins part memory) (b : Book) (keeps 
       rest : List Condition
       rest = ltb (length sheet) (blockSize * blocksNeeded (length (b .traces)) (m .n)) refuses sheetLength ∷ []
 
+  -- document 02, §2
+  module _ (bytes : List ℕ) (typed : T (areBytes bytes)) where
+    abbrev file : Option Recording
+    file = judgeRecording (m .n) bytes
+
+    abbrev importingRest : List Condition
+    importingRest = importConditions m (length (b .traces)) file
+
+    -- where the tables hold the book's library, they read the same file
+    same-file : Holds part m (b .traces) → judgeRecording (measuresOf part .n) bytes ≡ file
+    same-file h = ap (λ (k : Measures). judgeRecording (k .n) bytes) (h .measures-are)
+
+    importing-puts : firstOf (shortConditions layout (lentOf part) m ++ importingRest) ≡ none
+        → Keeps (left (foldl addedTo part (fileTraces file)) memory) (book m (b .traces ++ fileTraces file))
+    importing-puts e =
+        let parts = none-both (shortConditions layout (lentOf part) m) importingRest e in
+        let one = none-first (isBadFile file) badRecording _ (parts .1) in
+        let two = none-first (ltb (m .capacity) (length (b .traces) + length (fileTraces file))) full _ (one .1) in
+        let grows = library-grows m (b .traces) (fileTraces file) (keeps .library) (file-traces (m .n) bytes typed)
+        (ltb-false (m .capacity) (length (b .traces) + length (fileTraces file)) (two .0)) in
+        kept (book m (b .traces ++ fileTraces file)) (foldl addedTo part (fileTraces file)) grows
+        (added-begin m (b .traces) (fileTraces file) grows part
+        (library-begins keeps part begins (short-room (lentOf part) m importingRest e)))
+
+    pub importing-agrees : Agrees memory (imports part bytes) (importingEntry layout (lentOf part) b bytes)
+    unfolding imports importingEntry
+    importing-agrees = record {
+      judged = made-same keeps part begins _ importingRest (λ h. rw (
+        same-file h,
+        ap (λ (k : Measures). k .capacity) (h .measures-are),
+        counted keeps part begins h,
+      ));
+      result-is = λ e. ap (λ (o : Option Recording). imported (length (fileTraces o))) (same-file (holds-it importingRest e));
+      beside-is = λ e. refl;
+      puts = λ e. subst (λ (o : Option Recording). Keeps (left (foldl addedTo part (fileTraces o)) memory)
+          (book m (b .traces ++ fileTraces file))) (sym (same-file (holds-it importingRest e))) (importing-puts e);
+    }
+
+  pub exporting-agrees : (number rate : ℕ) (buffer : List ℕ)
+      → Agrees memory (exports part number rate buffer) (exportingEntry layout (lentOf part) b number rate buffer)
+  unfolding exports exportingEntry
+  exporting-agrees number rate buffer = record {
+    judged = made-same keeps part begins _ rest (λ h. rw (ap (λ (k : Measures). k .n) (h .measures-are), counted keeps part begins h));
+    result-is = λ e. let h = holds-it rest e in
+        ap₂ exported (ap (λ (k : Measures). recordingSize (k .n)) (h .measures-are)) (same-bytes h);
+    beside-is = λ e. ap (λ (l : List ℕ). over l buffer ∷ []) (same-bytes (holds-it rest e));
+    puts = λ e. rw (left-same part memory begins) keeps;
+  }
+    where
+      rest : List Condition
+      rest = exportConditions m (length (b .traces)) number rate buffer
+
+      same-bytes : Holds part m (b .traces) → recordingOf rate (getD (tracesIn part) number []) ≡ recordingOf rate (getD (b .traces) number [])
+      same-bytes h = ap (λ (l : List Trace). recordingOf rate (getD l number [])) (h .traces-are)
+
   -- ---- any call
 
-  pub agrees : (ask : Ask) → Typed ask → Agrees memory (effectOf ask part) (entryOf layout (lentOf part) b ask)
-  unfolding effectOf entryOf
+  pub agrees : (ask : Ask) → Typed ask part → Agrees memory (effectOf ask part) (entryOf layout (lentOf part) b ask)
+  unfolding effectOf entryOf Typed
   agrees (opening m) typed = opening-agrees memory part b m
   agrees (adding x) typed = adding-agrees x typed
   agrees (matching query trail) typed = matching-agrees query trail
   agrees (writing sheet) typed = writing-agrees sheet
   agrees (reading bytes) typed = reading-agrees memory part b bytes typed
   agrees (listing k query trail list) typed = listing-agrees query trail k list
+  agrees (importing bytes) typed = importing-agrees bytes (typed .0)
+  agrees (exporting number rate buffer) typed = exporting-agrees number rate buffer

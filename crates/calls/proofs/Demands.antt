@@ -30,7 +30,7 @@ use Rattle.tables.specs.Beginning.{firstPlaces, Within}
 use Rattle.tables.proofs.Beginning.{begins-within, first-begins, first-lent}
 use Rattle.calls.specs.Library.{Keeps}
 use Rattle.calls.specs.Effects.{lists, effectOf}
-use Rattle.calls.specs.Follows.{outcomeIn, Follows, Ran, a-call}
+use Rattle.calls.specs.Follows.{Typed, outcomeIn, Follows, Ran, a-call}
 use Rattle.calls.specs.Demands.{DifferOutside, trailFound, ListedIn, ListsAnywhere, matchIn, MatchGives, nearestIn, ListGives}
 use Rattle.calls.specs.Demands.{OfAnyQuery, EmptyIsSix, AfterList, Demands}
 use Rattle.calls.proofs.Steps.{reply-is, stepped, started, ran}
@@ -42,6 +42,7 @@ use Rattle.calls.proofs.Library.{library-holds}
 use Rattle.calls.proofs.OneCall.{one-call}
 use Rattle.calls.proofs.NeverSpoiled.{never}
 use Rattle.calls.proofs.RoundTrips.{read-back-in, written-again-from}
+use Rattle.calls.proofs.Imports.{imports-anywhere, exported-sound}
 
 -- ---- the nearest stored trace
 
@@ -89,15 +90,16 @@ same-lengths differ = rw (differ .control-same, differ .nodes-same, differ .link
 
 module _ {memory : Tables} {b : Book} (keeps : Keeps memory b) where
   -- what the book replies to a search, a memory with other samples off that trail replies, too
-  replies-there : (c : Call) (r : Result) (trail : List ℕ) → replyOf layout b c .answer ≡ answering r → trailFound r ≡ some trail
+  replies-there : (c : Call) → Typed (c .ask) (firstPlaces (c .lent) memory) → (r : Result) (trail : List ℕ)
+      → replyOf layout b c .answer ≡ answering r → trailFound r ≡ some trail
       → (other other′ : Tables) (said : Reply) → DifferOutside trail memory other → Follows c other said other′ → said ≡ replyOf layout b c
-  replies-there c r trail answers found other other′ said differ g =
+  replies-there c typed r trail answers found other other′ said differ g =
       let o = outcomeIn c memory in
       let within = subst (λ (l : Lent). Within l (lentOf other)) (g .has-places)
       (begins-within (firstPlaces (c .lent) other) other (first-begins (c .lent) other)) in
       let places = first-lent (c .lent) memory (subst (Within (c .lent)) (same-lengths differ) within) in
       let f : Follows c memory (reply (o .answer) (o .beside)) (o .after) =
-      record { has-places = places; typed = g .typed; follows = refl } in
+      record { has-places = places; typed = typed; follows = refl } in
       let here = stepped f keeps .0 in
       off-trail c memory (o .after) (reply (o .answer) (o .beside)) f r trail (ap (λ (x : Reply). x .answer) here ∙ answers) found
       other other′ said differ g ∙ here
@@ -114,11 +116,11 @@ module _ {memory : Tables} {b : Book} (keeps : Keeps memory b) where
     gives lent trail said memory′ f not-refused = stepped f keeps .0 ∙ book-matches lent trail not-refused
 
     gives-there : (other : Tables) → DifferOutside (matchIn b query .trail) memory other → MatchGives b query other (matchIn b query)
-    unfolding trailFound
+    unfolding trailFound Typed
     gives-there other differ lent trail said other′ g not-refused =
         let m = matchIn b query in
         let is = book-matches lent trail not-refused in
-        replies-there (call lent (matching query trail)) (matched m) (m .trail) (ap (λ (r : Reply). r .answer) is) refl other other′ said
+        replies-there (call lent (matching query trail)) tt (matched m) (m .trail) (ap (λ (r : Reply). r .answer) is) refl other other′ said
         differ g ∙ is
 
     -- the k nearest
@@ -135,11 +137,11 @@ module _ {memory : Tables} {b : Book} (keeps : Keeps memory b) where
 
       list-gives-there : (other : Tables) → DifferOutside (nearestIn k b query .trail) memory other
           → ListGives k b query other (nearestIn k b query)
-      unfolding trailFound
+      unfolding trailFound Typed
       list-gives-there other differ lent trail list said other′ g not-refused =
           let m = nearestIn k b query in
           let is = book-lists lent trail list not-refused in
-          replies-there (call lent (listing k query trail list)) (neighbours m) (m .trail) (ap (λ (r : Reply). r .answer) is) refl
+          replies-there (call lent (listing k query trail list)) tt (neighbours m) (m .trail) (ap (λ (r : Reply). r .answer) is) refl
           other other′ said differ g ∙ is
 
   -- "an empty one is still 6"
@@ -207,6 +209,7 @@ after-list {b} {memory} calls said e k = record {
   never-spoiled = λ r i a. never layout b calls r (subst (In r) e i) a;
   any-query = of-any-query k;
   empty-is-six = empty-is-six k;
+  exported-sound = exported-sound k;
 }
 
 from-first : (first : Call) (calls : List Call) (memory₀ memory : Tables) (said₀ : Reply) (said : List Reply)
@@ -218,6 +221,7 @@ demands = record {
   one-call = one-call;
   off-trail = off-trail;
   lists-anywhere = lists-anywhere;
+  imports-anywhere = imports-anywhere;
   after-list = from-first;
   read-and-written = λ lent bytes memory₀ memory₁ said₁ g d lent′ sheet said₂ memory₂ f blocks again a. written-again-from g d f a;
 }

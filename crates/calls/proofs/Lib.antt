@@ -9,4 +9,5 @@ pub mod OneCall
 pub mod NeverSpoiled
 pub mod RoundTrips
 pub mod OffTrail
+pub mod Imports
 pub mod Demands

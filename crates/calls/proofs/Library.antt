@@ -172,3 +172,19 @@ module _ (part : Tables) (m : Measures) (room : Room (lentOf part) m) where
       let takes = takes-more m (libraryTables m before) before x h library in
       rw (loaded-more (blank m) m before x, loaded-more part m before x)
       (added-begins (libraryTables m before) (loaded part m before) x b (h .formed) (h .long) (takes .0) (takes .1)))
+
+-- ---- more traces
+
+-- tables that begin with a library's, and some traces that it has room for: added to both, the one begins with the other
+pub added-begin : (m : Measures) (before more : List Trace) → T (isLibrary sampleLimit m (before ++ more)) → (part : Tables)
+    → Begins (libraryTables m before) part → Begins (libraryTables m (before ++ more)) (foldl addedTo part more)
+added-begin m before [] library part b = rw (append-nil before) b
+added-begin m before (x ∷ more) library part b =
+    let e : (before ++ (x ∷ [])) ++ more ≡ before ++ (x ∷ more) = append-assoc before (x ∷ []) more in
+    let all = subst (λ (l : List Trace). T (isLibrary sampleLimit m l)) (sym e) library in
+    let one = shorter m (before ++ (x ∷ [])) more all in
+    let h = library-holds m before (shorter m before (x ∷ []) one) in
+    let takes = takes-more m (libraryTables m before) before x h one in
+    subst (λ (l : List Trace). Begins (libraryTables m l) (foldl addedTo (addedTo part x) more)) e
+    (added-begin m (before ++ (x ∷ [])) more all (addedTo part x)
+    (rw (loaded-more (blank m) m before x) (added-begins (libraryTables m before) part x b (h .formed) (h .long) (takes .0) (takes .1))))

@@ -14,8 +14,10 @@ use Rattle.integer.proofs.Lists.{in-nil, in-cons}
 use Rattle.dstree.specs.Refusals.{Refusal, spoiled, numberOf, Condition, _refuses_, firstOf}
 use Rattle.dstree.specs.Sheet.{Format, narrow, blocksIn, tornConditions, badConditions, conditionsAs, Judged, refused, holds, libraryIn}
 use Rattle.dstree.specs.Sheet.{judgedBy, judgeAs, judgeSheet}
-use Rattle.dstree.specs.Book.{Layout, Lent, Ask, opening, adding, matching, writing, reading, listing, Call, refusing, Reply, Book, Entry}
+use Rattle.dstree.specs.Book.{Layout, Lent, Ask, opening, adding, matching, writing, reading, listing, importing, exporting, Call, refusing}
+use Rattle.dstree.specs.Book.{Reply, Book, Entry}
 use Rattle.dstree.specs.Book.{readingConditions, openingEntry, addingEntry, matchingEntry, writingEntry, readingEntry, listingEntry}
+use Rattle.dstree.specs.Book.{importingEntry, exportingEntry}
 use Rattle.dstree.specs.Book.{entryOf, entry, judge, turn}
 use Rattle.dstree.specs.Book.{replyUnless, replyOf, repliesOf}
 
@@ -83,13 +85,15 @@ module _ (layout : Layout) where
   reading-other lent (holds m traces) h = tt
 
   entry-other : (lent : Lent) (b : Book) (ask : Ask) → T (every other (entryOf layout lent b ask .conditions))
-  unfolding entryOf openingEntry addingEntry matchingEntry writingEntry readingEntry listingEntry every notThree numberOf
+  unfolding entryOf openingEntry addingEntry matchingEntry writingEntry readingEntry listingEntry importingEntry exportingEntry every notThree numberOf
   entry-other lent b (opening m) = tt
   entry-other lent b (adding x) = tt
   entry-other lent b (matching query trail) = tt
   entry-other lent b (writing sheet) = tt
   entry-other lent b (reading bytes) = reading-other lent (judgeSheet bytes) (judge-other narrow bytes)
   entry-other lent b (listing k query trail list) = tt
+  entry-other lent b (importing bytes) = tt
+  entry-other lent b (exporting number rate buffer) = tt
 
   reply-other : (o : Option Refusal) → T (notThree o) → (beside : List (List ℕ)) (e : Entry)
       → replyUnless o beside e .answer ≡ refusing spoiled → ⊥

@@ -1,43 +1,66 @@
 -- Demand 1, of every call on every memory: its definition refuses with the first condition that holds and hands back what it was lent, or
 -- does its work within the places that the measures need.
-use Prim.Native.Nat.{ℕ, _*_, _<_}
+use Prim.Native.Nat.{ℕ, _+_, _*_, _<_}
 use mathlib.Core.Path.{_≡_, refl, sym, ap, subst, _∙_}
 use mathlib.Core.Bool.{not}
 use mathlib.Core.Option.{Option, none, some}
-use mathlib.Core.List.{List, [], _++_}
+use mathlib.Core.List.{List, [], _++_, foldl}
 use native.Mathlib.Omega.{arith}
 use lib.ListN.{length, drop, List·getD-append}
 use lib.Seq.{drop-append-le}
-use lib.Dec.{T, eqb}
-use borrow.Author.Tests.{not-false, eqb-true, eqb-false}
+use lib.Dec.{T, eqb, ltb}
+use borrow.Author.Tests.{not-false, eqb-true, eqb-false, ltb-false}
 use Rattle.integer.proofs.Lists.{strict}
-use Rattle.dstree.specs.Measures.{Trace, Measures, sampleLimit, inRange, isLibrary, samplesNeeded, recordsNeeded, linksNeeded, workNeeded}
-use Rattle.dstree.specs.Refusals.{Refusal, _refuses_, firstOf, measure, wrongTrace, full}
-use Rattle.dstree.specs.Sheet.{Judged, refused, holds, judgeSheet}
-use Rattle.dstree.specs.Book.{Ask, opening, adding, matching, writing, reading, listing, Call, besideOf}
+use Rattle.dstree.specs.Measures.{Trace, Measures, sampleLimit, inRange, areSamples, isLibrary, samplesNeeded, recordsNeeded, linksNeeded, workNeeded}
+use Rattle.dstree.specs.Refusals.{Refusal, _refuses_, firstOf, measure, wrongTrace, full, badRecording}
+use Rattle.dstree.specs.Recording.{judgeRecording, fileTraces, isBadFile}
+use Rattle.dstree.specs.Sheet.{areBytes, Judged, refused, holds, judgeSheet}
+use Rattle.dstree.specs.Book.{Ask, opening, adding, matching, writing, reading, listing, importing, exporting, Call, besideOf}
 use Rattle.dstree.specs.Book.{Reply, reply, shortConditions, readingConditions}
 use Rattle.dstree.proofs.Conditions.{none-first, none-both}
 use Rattle.dstree.proofs.RoundTrips.{is-library}
+use Rattle.dstree.proofs.Recordings.{file-traces}
 use Rattle.tables.specs.Layout.{layout, controlFields, recordPlaces, nPlace, capacityPlace, leafSizePlace}
 use Rattle.tables.specs.Tables.{Tables, lentOf, field, measuresOf, traceCount}
 use Rattle.tables.specs.Judge.{openingConditionsOf, Room}
 use Rattle.tables.specs.Beginning.{firstPlaces, left, Begins}
 use Rattle.tables.specs.Answers.{openingConditions, madeConditions, opened}
 use Rattle.tables.proofs.Views.{tree-formed}
+use Rattle.tables.proofs.Samples.{stored-are}
 use Rattle.tables.proofs.Beginning.{extended, restOf, begins-is, tables-same, left-same, left-extended, left-lent, begins-within}
 use Rattle.tables.proofs.Beginning.{first-begins, fill-length, opened-lent}
 use Rattle.insertion_memory.specs.Memory.{addedTo}
 use Rattle.insertion_memory.proofs.FromTables.{long-of}
 use Rattle.insertion_memory.proofs.Meaning.{meaning}
+use Rattle.insertion_memory.proofs.Keeps.{TakesAll, keeps-all}
 use Rattle.calls.specs.Outcome.{Effect, unlessRefused}
 use Rattle.calls.specs.Library.{loaded, beyond}
-use Rattle.calls.specs.Effects.{opens, adds, cleared, matches, writes, loadedBy, reads, lists, effectOf}
+use Rattle.calls.specs.Effects.{opens, adds, cleared, matches, writes, loadedBy, reads, lists, imports, exports}
+use Rattle.calls.specs.Effects.{effectOf}
 use Rattle.calls.specs.Follows.{Typed, Follows}
 use Rattle.calls.specs.Demands.{OneCall}
 use Rattle.tables.proofs.Judged.{accepted}
 use Rattle.calls.proofs.Library.{opened-beyond, loaded-holds, loaded-lent, loaded-beyond, fill-behind}
 use Rattle.calls.proofs.Kept.{short-room}
 use Rattle.calls.proofs.Steps.{reply-is, memory-is}
+
+-- tables into which an import is not refused refuse nothing of its traces
+pub import-takes : (t : Tables) (bytes : List ℕ) → T (areBytes bytes) → T (areSamples (t .samples))
+    → firstOf (imports t bytes .conditions) ≡ none → TakesAll t (fileTraces (judgeRecording (measuresOf t .n) bytes))
+unfolding imports
+import-takes t bytes are-bytes typed e =
+    let file = judgeRecording (measuresOf t .n) bytes in
+    let one = none-first (isBadFile file) badRecording _ (none-both (madeConditions t) _ e .1) in
+    let two = none-first (ltb (measuresOf t .capacity) (traceCount t + length (fileTraces file))) full _ (one .1) in
+    let ok = accepted t (none-both (madeConditions t) _ e .0) in
+    let long = long-of t (ok .room) in
+    record {
+      formed = ok .formed;
+      long = long;
+      room = ltb-false (measuresOf t .capacity) (traceCount t + length (fileTraces file)) (two .0);
+      stored = stored-are t typed long (tree-formed t (ok .formed) .room);
+      each = file-traces (measuresOf t .n) bytes are-bytes;
+    }
 
 -- ---- what a call that is not refused leaves
 
@@ -83,9 +106,9 @@ module _ (t : Tables) where
         beyond-same = tables-same refl refl refl refl (fill-behind {A = ℕ} k 0 (t .work));
       }
 
-  writing-untouched : (sheet : List ℕ) → firstOf (writes t sheet .conditions) ≡ none → Untouched t t
-  unfolding writes
-  writing-untouched sheet e = record { lengths-same = refl; room = accepted t (none-both (madeConditions t) _ e .0) .room; beyond-same = refl }
+  -- a writing, an export
+  read-untouched : firstOf (madeConditions t) ≡ none → Untouched t t
+  read-untouched e = record { lengths-same = refl; room = accepted t e .room; beyond-same = refl }
 
   reading-by : (j : Judged) → ((m : Measures) (traces : List Trace) → j ≡ holds m traces → T (isLibrary sampleLimit m traces))
       → firstOf (readingConditions layout (lentOf t) j) ≡ none → Untouched t (loadedBy t j)
@@ -102,14 +125,30 @@ module _ (t : Tables) where
             (loaded-beyond t m r traces library);
       }
 
-  pub after-untouched : (ask : Ask) → Typed ask → firstOf (effectOf ask t .conditions) ≡ none → Untouched t (effectOf ask t .after)
-  unfolding effectOf opens adds matches writes reads lists Typed
+  importing-untouched : (bytes : List ℕ) → T (areBytes bytes) → T (areSamples (t .samples)) → firstOf (imports t bytes .conditions) ≡ none
+      → Untouched t (foldl addedTo t (fileTraces (judgeRecording (measuresOf t .n) bytes)))
+  unfolding imports
+  importing-untouched bytes are-bytes typed e =
+      let ok = accepted t (none-both (madeConditions t) _ e .0) in
+      let a = keeps-all t (fileTraces (judgeRecording (measuresOf t .n) bytes)) (import-takes t bytes are-bytes typed e) in
+      record {
+        lengths-same = a .lengths-stay;
+        room = rw (a .measures-stay) (ok .room);
+        beyond-same = rw (a .measures-stay)
+            (tables-same (a .control-behind) (a .samples-behind) (a .nodes-behind) (a .links-behind)
+            (ap (drop (workNeeded (measuresOf t))) (a .work-stays)));
+      }
+
+  pub after-untouched : (ask : Ask) → Typed ask t → firstOf (effectOf ask t .conditions) ≡ none → Untouched t (effectOf ask t .after)
+  unfolding effectOf opens adds matches writes reads lists imports exports Typed
   after-untouched (opening m) typed e = opening-untouched m e
   after-untouched (adding x) typed e = adding-untouched x e
   after-untouched (matching query trail) typed e = searching-untouched (none-both (madeConditions t) _ e .0)
-  after-untouched (writing sheet) typed e = writing-untouched sheet e
+  after-untouched (writing sheet) typed e = read-untouched (none-both (madeConditions t) _ e .0)
   after-untouched (reading bytes) typed e = reading-by (judgeSheet bytes) (λ m traces j. is-library bytes m traces typed j) e
   after-untouched (listing k query trail list) typed e = searching-untouched (none-both (madeConditions t) _ e .0)
+  after-untouched (importing bytes) typed e = importing-untouched bytes (typed .0) (typed .1) e
+  after-untouched (exporting number rate buffer) typed e = read-untouched (none-both (madeConditions t) _ e .0)
 
 -- ---- the same of a memory whose first places are lent
 

@@ -9,7 +9,8 @@ use native.Mathlib.Omega.{arith}
 use Rattle.dstree.specs.Measures.{measures}
 use Rattle.dstree.specs.Matching.{Match, matchBySteps}
 use Rattle.dstree.specs.Refusals.{Refusal, firstOf}
-use Rattle.dstree.specs.Book.{Lent, Ask, opening, adding, matching, writing, reading, listing, Call, call, besideOf, done, answering}
+use Rattle.dstree.specs.Book.{Lent, Ask, opening, adding, matching, writing, reading, listing, importing, exporting, Call, call}
+use Rattle.dstree.specs.Book.{besideOf, done, answering}
 use Rattle.dstree.specs.Book.{Book, book, Entry, openingEntry, readingEntry, entryOf, judge, putUnless, turn, after, replyUnless, start}
 use Rattle.dstree.specs.Book.{Reply, reply, replyOf, repliesOf}
 use Rattle.tables.specs.Layout.{layout}
@@ -19,7 +20,8 @@ use Rattle.tables.specs.Beginning.{firstPlaces, left, Begins}
 use Rattle.tables.proofs.Beginning.{left-same, first-begins}
 use Rattle.calls.specs.Outcome.{Effect, Outcome, unlessRefused, outcomeOf}
 use Rattle.calls.specs.Library.{Keeps}
-use Rattle.calls.specs.Effects.{adds, resultOf, isNone, matches, writes, lists, effectOf, outcomeOn}
+use Rattle.calls.specs.Effects.{adds, resultOf, isNone, matches, writes, lists, imports, exports, effectOf}
+use Rattle.calls.specs.Effects.{outcomeOn}
 use Rattle.calls.specs.Follows.{Typed, Follows, Ran, no-call, a-call}
 use Rattle.calls.proofs.Finds.{found, last-never}
 use Rattle.calls.proofs.Agrees.{Agrees, opening-agrees, reading-agrees, agrees}
@@ -89,9 +91,9 @@ module _ (memory part : Tables) (lent : Lent) where
   abbrev noBook : Book
   noBook = book (measures 0 0 0) []
 
-  started-by : (ask : Ask) → Typed ask → outcomeOn ask part .answer ≡ answering done
+  started-by : (ask : Ask) → Typed ask part → outcomeOn ask part .answer ≡ answering done
       → Keeps (left (outcomeOn ask part .after) memory) (start layout (call lent ask))
-  unfolding outcomeOn effectOf besideOf entryOf start openingEntry readingEntry adds matches writes lists
+  unfolding outcomeOn effectOf besideOf entryOf start openingEntry readingEntry adds matches writes lists imports exports Typed
   started-by (opening m) typed d = start-by memory part noBook [] (opening-agrees memory part noBook m) d
   started-by (adding x) typed d = absurd (not-done _ part [] (adds part x) (λ e r. let z : _≡_ {A = ℕ} 0 1 = cc in omega arith) d)
   started-by (matching query trail) typed d = absurd (not-done _ part (trail ∷ []) (matches part query trail)
@@ -101,6 +103,10 @@ module _ (memory part : Tables) (lent : Lent) where
       (λ e r. let z : _≡_ {A = ℕ} 0 1 = cc in omega arith) d)
   started-by (reading bytes) typed d = start-by memory part noBook [] (reading-agrees memory part noBook bytes typed) d
   started-by (listing k query trail list) typed d = absurd (not-done _ part (trail ∷ list ∷ []) (lists part k query trail list)
+      (λ e r. let z : _≡_ {A = ℕ} 0 1 = cc in omega arith) d)
+  started-by (importing bytes) typed d = absurd (not-done _ part [] (imports part bytes)
+      (λ e r. let z : _≡_ {A = ℕ} 0 1 = cc in omega arith) d)
+  started-by (exporting number rate buffer) typed d = absurd (not-done _ part (buffer ∷ []) (exports part number rate buffer)
       (λ e r. let z : _≡_ {A = ℕ} 0 1 = cc in omega arith) d)
 
 pub started : {c : Call} {memory memory′ : Tables} {said : Reply} → Follows c memory said memory′ → said .answer ≡ answering done

@@ -5,10 +5,10 @@ use Prim.Native.Nat.{ℕ, _≤_, _<_}
 use mathlib.Core.Path.{_≡_}
 use mathlib.Core.Bool.{true, not}
 use mathlib.Core.Option.{Option, none, some}
-use mathlib.Core.List.{List, [], _∷_}
+use mathlib.Core.List.{List, [], _∷_, map}
 use lib.ListN.{length, getD, take}
 use lib.Dec.{T}
-use Rattle.integer.specs.Words.{every, isIn}
+use Rattle.integer.specs.Words.{every, isIn, counting}
 use Rattle.integer.specs.Lists.{In}
 use Rattle.segment.specs.Figures.{distance}
 use Rattle.dstree.specs.Measures.{Trace}
@@ -16,12 +16,13 @@ use Rattle.dstree.specs.Matching.{bound, leaves, leastDistance, Match, matchOf}
 use Rattle.dstree.specs.KNearest.{isK, ranking, listPlaces, KNearest, kNearestBySteps, kNearestOf, distancesAmong, ListClaims}
 use Rattle.dstree.specs.KNearest.{KNearestClaims, OneIsMatch}
 use Rattle.dstree.specs.Refusals.{Refusal, spoiled, empty, firstOf}
-use Rattle.dstree.specs.Book.{Lent, matching, writing, reading, listing, Call, call, besideOf, Result, done, added, matched, written}
-use Rattle.dstree.specs.Book.{neighbours, refusing, answering, Reply, reply}
+use Rattle.dstree.specs.Recording.{Recording, recording, judgeRecording}
+use Rattle.dstree.specs.Book.{Lent, adding, matching, writing, reading, listing, importing, exporting, Call, call, besideOf}
+use Rattle.dstree.specs.Book.{Result, done, added, matched, written, neighbours, imported, exported, refusing, answering, Reply, reply}
 use Rattle.dstree.specs.Book.{over, Book, bookTree, shortConditions, judge, after, repliesOf, start}
 use Rattle.dstree.specs.Claims.{Below, numbersAmong, LeavesOutOnlyAbove}
 use Rattle.tables.specs.Layout.{layout}
-use Rattle.tables.specs.Tables.{Tables, lentOf, measuresOf}
+use Rattle.tables.specs.Tables.{Tables, lentOf, measuresOf, traceCount}
 use Rattle.tables.specs.View.{traceIn, treeIn, tracesIn}
 use Rattle.tables.specs.Beginning.{firstPlaces, left}
 use Rattle.tables.specs.Holds.{Holds}
@@ -70,6 +71,8 @@ trailFound (neighbours m) = some (m .trail)
 trailFound done = none
 trailFound (added number) = none
 trailFound (written blocks sheet) = none
+trailFound (imported count) = none
+trailFound (exported size bytes) = none
 
 -- "well-formed tables that differ only there give the same answer and the same trail": of a search that is not refused, so that its tables
 -- are well formed, whoever made them
@@ -97,6 +100,29 @@ ListsAnywhere = (lent : Lent) (k : ℕ) (query : Trace) (trail list : List ℕ) 
     → Follows (call lent (listing k query trail list)) memory said memory′
     → (m : KNearest) → said .answer ≡ answering (neighbours m)
     → ListedIn k query (firstPlaces lent memory) m × (memory′ ≡ left (cleared (firstPlaces lent memory)) memory)
+
+-- ---- document 02, §2, on any tables
+
+-- "adding its traces one after another", with so many places lent
+abbrev pub addings : Lent → List Trace → List Call
+addings lent traces = map (λ x. call lent (adding x)) traces
+
+-- an import that added so many traces, on some memory, and what it left
+pub record ImportedInto (lent : Lent) (bytes : List ℕ) (memory : Tables) (count : ℕ) (memory′ : Tables) : Type 0 where
+  -- "The samples are cut into traces of n and added ..; the answer is how many"
+  pub file : Recording
+  pub file-sound : judgeRecording (measuresOf (firstPlaces lent memory) .n) bytes ≡ some file
+  pub counted : count ≡ length (file .traces)
+  -- "A file imported gives the library that adding its traces one after another gives", at every place of every table: none of these
+  -- addings is refused, each answers the next number
+  pub as-addings : (others : List Reply) (memory″ : Tables) → Ran memory (addings lent (file .traces)) others memory″
+      → (memory″ ≡ memory′)
+      × (others ≡ map (λ number. reply (answering (added number)) []) (counting count (traceCount (firstPlaces lent memory))))
+
+abbrev pub ImportsAnywhere : Type 0
+ImportsAnywhere = (lent : Lent) (bytes : List ℕ) (memory memory′ : Tables) (said : Reply)
+    → Follows (call lent (importing bytes)) memory said memory′
+    → (count : ℕ) → said .answer ≡ answering (imported count) → ImportedInto lent bytes memory count memory′
 
 -- ---- demands 2 and 3
 
@@ -181,6 +207,15 @@ EmptyIsSix b memory = (lent : Lent) (k : ℕ) (query : Trace) (trail list : List
     → firstOf (shortConditions layout lent (b .measures)) ≡ none → isK k ≡ true → length query ≡ b .measures .n → b .traces ≡ []
     → said .answer ≡ refusing empty
 
+-- document 02, §2: an export "writes one stored trace so, at a rate the caller gives, .. and answers its bytes' number": what it wrote is
+-- a sound recording of that rate and that trace, for an import to take
+abbrev pub ExportedSound : Book → Tables → Type 0
+ExportedSound b memory = (lent : Lent) (number rate : ℕ) (buffer : List ℕ) (said : Reply) (memory′ : Tables)
+    → Follows (call lent (exporting number rate buffer)) memory said memory′
+    → (size : ℕ) (bytes : List ℕ) → said .answer ≡ answering (exported size bytes)
+    → (said .beside ≡ over bytes buffer ∷ []) × ((size ≡ length bytes)
+    × (judgeRecording (b .measures .n) bytes ≡ some (recording rate (getD (b .traces) number [] ∷ []))))
+
 -- what holds after a list of calls, from a book on
 pub record AfterList (b : Book) (calls : List Call) (said : List Reply) (memory : Tables) : Type 0 where
   -- "What is stored, a book says": every needed place is as the book's library has it ..
@@ -197,6 +232,7 @@ pub record AfterList (b : Book) (calls : List Call) (said : List Reply) (memory 
   pub any-query : (query : Trace) → 0 < length (after layout b calls .traces) → length query ≡ after layout b calls .measures .n
       → OfAnyQuery (after layout b calls) query memory
   pub empty-is-six : EmptyIsSix (after layout b calls) memory
+  pub exported-sound : ExportedSound (after layout b calls) memory
 
 -- ---- all of it
 
@@ -204,6 +240,7 @@ pub record Demands : Type 0 where
   pub one-call : (c : Call) (memory memory′ : Tables) (said : Reply) → Follows c memory said memory′ → OneCall c memory said memory′
   pub off-trail : SamplesOffTrail
   pub lists-anywhere : ListsAnywhere
+  pub imports-anywhere : ImportsAnywhere
   -- "An opening or a sheet reading has just succeeded when it starts": the first call is one that answers `done`
   pub after-list : (first : Call) (calls : List Call) (memory₀ memory : Tables) (said₀ : Reply) (said : List Reply)
       → Ran memory₀ (first ∷ calls) (said₀ ∷ said) memory → said₀ .answer ≡ answering done

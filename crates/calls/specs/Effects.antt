@@ -3,16 +3,18 @@
 use Prim.Native.Nat.{ℕ, _*_}
 use mathlib.Core.Bool.{Bool, true, false, not}
 use mathlib.Core.Option.{Option, none, some}
-use mathlib.Core.List.{List, [], _∷_, _++_}
-use lib.ListN.{length}
+use mathlib.Core.List.{List, [], _∷_, _++_, foldl}
+use lib.ListN.{length, getD}
 use lib.Dec.{eqb, ltb}
 use Rattle.dstree.specs.Measures.{Trace, Measures, workNeeded}
 use Rattle.dstree.specs.Matching.{leaves, Match, matchBySteps}
 use Rattle.dstree.specs.KNearest.{isK, listPlaces, kNearestBySteps}
 use Rattle.dstree.specs.Refusals.{Condition, _refuses_, wrongTrace, full, empty, shortTrail, sheetLength, badK}
 use Rattle.dstree.specs.Sheet.{blockSize, blocksNeeded, sheetOf, Judged, refused, holds, judgeSheet}
-use Rattle.dstree.specs.Book.{Ask, opening, adding, matching, writing, reading, listing, besideOf, Result, done, added, matched, written}
-use Rattle.dstree.specs.Book.{neighbours, over, readingConditions}
+use Rattle.dstree.specs.Recording.{recordingSize, recordingOf, judgeRecording, fileTraces}
+use Rattle.dstree.specs.Book.{Ask, opening, adding, matching, writing, reading, listing, importing, exporting, besideOf}
+use Rattle.dstree.specs.Book.{Result, done, added, matched, written, neighbours, imported, exported, over}
+use Rattle.dstree.specs.Book.{readingConditions, importConditions, exportConditions}
 use Rattle.tables.specs.Layout.{layout}
 use Rattle.tables.specs.Tables.{Tables, tables, lentOf, measuresOf, traceCount, filled}
 use Rattle.tables.specs.View.{treeIn, tracesIn}
@@ -124,6 +126,31 @@ lists t k query trail list =
       beside = over (found .trail) trail ∷ over (listPlaces (found .list)) list ∷ [];
     }
 
+-- ---- recordings (document 02, §2): "12 bad recording .., after 3 and before 5; 5 if not all traces fit; an export buffer too short is 8"
+
+-- "The samples are cut into traces of n and added in order, all or none"; "A file imported gives the library that adding its traces one
+-- after another gives"
+unfoldable pub imports : Tables → List ℕ → Effect
+imports t bytes =
+    let file = judgeRecording (measuresOf t .n) bytes in
+    record {
+      conditions = madeConditions t ++ importConditions (measuresOf t) (traceCount t) file;
+      result = imported (length (fileTraces file));
+      after = foldl addedTo t (fileTraces file);
+      beside = [];
+    }
+
+-- "Export writes one stored trace so, at a rate the caller gives"
+unfoldable pub exports : Tables → ℕ → ℕ → List ℕ → Effect
+exports t number rate buffer =
+    let bytes = recordingOf rate (getD (tracesIn t) number []) in
+    record {
+      conditions = madeConditions t ++ exportConditions (measuresOf t) (traceCount t) number rate buffer;
+      result = exported (recordingSize (measuresOf t .n)) bytes;
+      after = t;
+      beside = over bytes buffer ∷ [];
+    }
+
 -- ---- any call
 
 unfoldable pub effectOf : Ask → Tables → Effect
@@ -133,6 +160,8 @@ effectOf (matching query trail) t = matches t query trail
 effectOf (writing sheet) t = writes t sheet
 effectOf (reading bytes) t = reads t bytes
 effectOf (listing k query trail list) t = lists t k query trail list
+effectOf (importing bytes) t = imports t bytes
+effectOf (exporting number rate buffer) t = exports t number rate buffer
 
 -- what a call answers and leaves that asks this of these tables
 unfoldable pub outcomeOn : Ask → Tables → Outcome

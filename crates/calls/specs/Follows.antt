@@ -1,32 +1,28 @@
 -- A call on a memory that holds anything, by its definition. The memory of a library is one, and a call is lent the first so many places of
 -- each table.
 use mathlib.Core.Path.{_≡_}
-use mathlib.Core.Bool.{Bool}
 use mathlib.Core.List.{List, [], _∷_}
-use lib.Signed.{mag}
-use lib.Dec.{T, ltb}
-use Rattle.integer.specs.Words.{every}
-use Rattle.dstree.specs.Measures.{Trace, sampleLimit}
+use lib.Dec.{T}
+use Rattle.dstree.specs.Measures.{areSamples}
 use Rattle.dstree.specs.Sheet.{areBytes}
-use Rattle.dstree.specs.Book.{Ask, opening, adding, matching, writing, reading, listing, Call, Reply}
+use Rattle.dstree.specs.Book.{Ask, opening, adding, matching, writing, reading, listing, importing, exporting, Call}
+use Rattle.dstree.specs.Book.{Reply}
 use Rattle.tables.specs.Tables.{Tables, lentOf}
 use Rattle.tables.specs.Beginning.{firstPlaces, left}
 use Rattle.calls.specs.Outcome.{Outcome, outcome}
 use Rattle.calls.specs.Effects.{outcomeOn}
 
--- "signed 16-bit samples", however many: what a slice of such numbers holds
-abbrev pub areSamples : Trace → Bool
-areSamples x = every (λ sample. ltb (mag sample) sampleLimit) x
-
--- what the types of lent slices say of what a call brings: the samples of a trace that is added are 16-bit numbers, and a sheet that is
--- read is bytes
-unfoldable pub Typed : Ask → Type 0
-Typed (opening m) = Unit
-Typed (adding x) = T (areSamples x)
-Typed (matching query trail) = Unit
-Typed (writing sheet) = Unit
-Typed (reading bytes) = T (areBytes bytes)
-Typed (listing k query trail list) = Unit
+-- what the types of lent slices say of what a call brings and of the tables, as far as it bears: the samples of a trace that is added are
+-- 16-bit numbers, a sheet that is read is bytes, and so is a recording that is imported, into tables whose samples are 16-bit numbers
+unfoldable pub Typed : Ask → Tables → Type 0
+Typed (opening m) t = Unit
+Typed (adding x) t = T (areSamples x)
+Typed (matching query trail) t = Unit
+Typed (writing sheet) t = Unit
+Typed (reading bytes) t = T (areBytes bytes)
+Typed (listing k query trail list) t = Unit
+Typed (importing bytes) t = T (areBytes bytes) × T (areSamples (t .samples))
+Typed (exporting number rate buffer) t = Unit
 
 -- what a call answers, and what it leaves in the memory and in what it is lent beside the tables. Places behind those that it is lent stay
 abbrev pub outcomeIn : Call → Tables → Outcome
@@ -38,7 +34,7 @@ outcomeIn c memory =
 pub record Follows (c : Call) (memory : Tables) (said : Reply) (memory′ : Tables) : Type 0 where
   -- the memory has the places that are lent
   pub has-places : lentOf (firstPlaces (c .lent) memory) ≡ c .lent
-  pub typed : Typed (c .ask)
+  pub typed : Typed (c .ask) (firstPlaces (c .lent) memory)
   pub follows : outcome (said .answer) memory′ (said .beside) ≡ outcomeIn c memory
 
 -- ---- a list of calls, "in any order, with any arguments, any of them refused"; "Each call gets the tables as the last one left them", and

@@ -3,7 +3,8 @@ use Prim.Native.Nat.{ℕ}
 use mathlib.Core.List.{List, [], _∷_}
 use lib.ListN.{length}
 use Rattle.dstree.specs.Refusals.{numberOf, placeOf}
-use Rattle.dstree.specs.Book.{Result, done, added, matched, written, neighbours, Answer, refusing, answering}
+use Rattle.dstree.specs.Book.{Result, done, added, matched, written, neighbours, imported, exported, Answer, refusing}
+use Rattle.dstree.specs.Book.{answering}
 
 -- "A refusal gives its number": 0 is no refusal
 unfoldable pub codeOf : Answer → ℕ
@@ -11,13 +12,16 @@ codeOf (answering result) = 0
 codeOf (refusing why) = numberOf why
 
 -- "Opening and sheet reading answer only that they succeeded, adding the new trace's number, writing the number of blocks"; "The answer is trace number,
--- distance, leaves read and traces read"; of the k nearest, leaves read, traces read, and how many are listed
+-- distance, leaves read and traces read"; of the k nearest, leaves read, traces read, and how many are listed; of an import how many traces, of an export
+-- how many bytes
 unfoldable pub resultValues : Result → List ℕ
 resultValues done = []
 resultValues (added number) = number ∷ []
 resultValues (matched m) = m .trace ∷ m .distance ∷ m .leaves ∷ m .traces ∷ []
 resultValues (written blocks sheet) = blocks ∷ []
 resultValues (neighbours m) = m .leaves ∷ m .traces ∷ length (m .list) ∷ []
+resultValues (imported count) = count ∷ []
+resultValues (exported size bytes) = size ∷ []
 
 -- a refusal gives "a place"
 unfoldable pub valuesOf : Answer → List ℕ

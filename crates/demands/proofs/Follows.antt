@@ -1,21 +1,22 @@
 -- A call by its contract follows its definition: the contract's claim is the definition's equation on the tables that were lent.
 use Prim.Native.Nat.{ℕ}
-use mathlib.Core.Path.{_≡_, sym, ap, subst}
+use mathlib.Core.Path.{_≡_, ap, subst}
 use mathlib.Core.List.{List}
 use Rattle.dstree.specs.Book.{Ask, Call, Answer, Reply}
 use Rattle.tables.specs.Tables.{Tables, lentOf}
 use Rattle.tables.specs.Beginning.{left}
 use Rattle.calls.specs.Outcome.{Outcome, outcome}
 use Rattle.calls.specs.Effects.{outcomeOn}
-use Rattle.calls.specs.Follows.{Typed, Follows}
-use Rattle.demands.specs.Did.{Made, Did, by-open, by-add, by-nearest, by-write, by-read, by-list}
+use Rattle.calls.specs.Follows.{Follows}
+use Rattle.demands.specs.Did.{Made, Did, by-open, by-add, by-nearest, by-write, by-read, by-list, by-import}
+use Rattle.demands.specs.Did.{by-export}
 
 by-claim : {ask : Ask} {before after memory memory′ : Tables} {answer : Answer} {beside : List (List ℕ)} {c : Call} {said : Reply}
     → Made ask before answer after beside c memory said memory′ → outcome answer after beside ≡ outcomeOn ask before
     → Follows c memory said memory′
 by-claim {memory = memory} {c = c} d claim = record {
   has-places = subst (λ (t : Tables). lentOf t ≡ c .lent) (d .first-places) (d .so-many);
-  typed = subst Typed (sym (d .asks)) (d .typed);
+  typed = rw (d .asks, ← d .first-places) (d .typed);
   follows = rw (d .says, d .leaves, d .asks, ← d .first-places)
       (ap (λ (o : Outcome). outcome (o .answer) (left (o .after) memory) (o .beside)) claim);
 }
@@ -27,3 +28,5 @@ follows c memory memory′ said (by-nearest d) = by-claim (d .made) (d .claim)
 follows c memory memory′ said (by-write d) = by-claim (d .made) (d .claim)
 follows c memory memory′ said (by-read d) = by-claim (d .made) (d .claim)
 follows c memory memory′ said (by-list d) = by-claim (d .made) (d .claim)
+follows c memory memory′ said (by-import d) = by-claim (d .made) (d .claim)
+follows c memory memory′ said (by-export d) = by-claim (d .made) (d .claim)

@@ -4,9 +4,9 @@ use Prim.Native.Nat.{ℕ, zero, suc, _*_}
 use mathlib.Core.Path.{_≡_, refl, sym, ap, _∙_}
 use mathlib.Core.Bool.{false}
 use mathlib.Core.Option.{Option, none, some}
-use mathlib.Core.List.{List, [], _∷_}
+use mathlib.Core.List.{List, [], _∷_, foldl}
 use native.Mathlib.Omega.{arith}
-use lib.ListN.{length, take, drop}
+use lib.ListN.{length, getD, take, drop}
 use lib.Seq.{take-at}
 use denote.Ref.{RefT}
 use contract.Lifetimes.{Lfts}
@@ -16,18 +16,24 @@ use Rattle.dstree.specs.KNearest.{KNearest, listPlaces, kNearestBySteps}
 use Rattle.dstree.specs.Refusals as word
 use Rattle.dstree.specs.Refusals.{firstOf}
 use Rattle.dstree.specs.Sheet.{blockSize, blocksNeeded, sheetOf}
-use Rattle.dstree.specs.Book.{Ask, opening, adding, matching, writing, reading, listing, Call, besideOf, Answer, answering, reply, over}
+use Rattle.dstree.specs.Book.{Ask, opening, adding, matching, writing, reading, listing, importing, exporting, Call}
+use Rattle.dstree.specs.Book.{besideOf, Answer, answering, imported, reply, over}
+use Rattle.dstree.specs.Recording.{recordingSize, recordingOf, judgeRecording, fileTraces}
 use Rattle.dstree.proofs.RoundTrips.{sheet-length}
+use Rattle.dstree.proofs.Recordings.{recording-length}
 use Rattle.tables.specs.Tables.{Tables, tables, lentOf, measuresOf, traceCount}
 use Rattle.tables.specs.View.{treeIn, tracesIn}
 use Rattle.tables.specs.Beginning.{firstPlaces, left}
 use Rattle.tables.specs.Answers.{wordOf}
 use Rattle.tables.specs.declared.Refusal.{Refusal}
 use Rattle.tables.specs.declared.Refusal.the-variants as r
+use Rattle.tables.proofs.Views.{trace-at}
+use Rattle.tables.proofs.Parts.{trace-length}
 use Rattle.insertion_memory.specs.Memory.{addedTo}
 use Rattle.insertion_memory.proofs.Made.{count-is}
 use Rattle.calls.specs.Outcome.{Outcome, outcome, unlessRefused}
-use Rattle.calls.specs.Effects.{opens, adds, resultOf, trailOf, isNone, cleared, matches, writes, reads, lists, effectOf, outcomeOn}
+use Rattle.calls.specs.Effects.{opens, adds, resultOf, trailOf, isNone, cleared, matches, writes, reads, lists, imports, exports}
+use Rattle.calls.specs.Effects.{effectOf, outcomeOn}
 use Rattle.calls.specs.Follows.{Typed}
 use Rattle.calls.proofs.Finds.{found, last-never}
 use Rattle.opening.specs.declared.Opened.{Opened}
@@ -49,7 +55,14 @@ use Rattle.sheet_writing.specs.Answered as writing-answer
 use Rattle.sheet_reading.specs.declared.Read.{Read}
 use Rattle.sheet_reading.specs.declared.Read.the-variants as d
 use Rattle.sheet_reading.specs.Answered as reading-answer
-use Rattle.demands.specs.Did.{WithTables, Made, by-open, by-add, by-nearest, by-write, by-read, by-list}
+use Rattle.importing.specs.declared.Imported.{Imported}
+use Rattle.importing.specs.declared.Imported.the-variants as i
+use Rattle.importing.specs.Answered as importing-answer
+use Rattle.exporting.specs.declared.Exported.{Exported}
+use Rattle.exporting.specs.declared.Exported.the-variants as x
+use Rattle.exporting.specs.Answered as exporting-answer
+use Rattle.exporting.proofs.Exportable.{Exportable, exportable}
+use Rattle.demands.specs.Did.{WithTables, Made, by-open, by-add, by-nearest, by-write, by-read, by-list, by-import, by-export}
 use Rattle.demands.specs.Theorem.{Replied}
 
 -- ---- slices
@@ -76,6 +89,7 @@ caseOf word.sheetLength = r.SheetLength
 caseOf (word.tornBlock block) = r.TornBlock block
 caseOf word.badSheet = r.BadSheet
 caseOf word.badK = r.BadK
+caseOf word.badRecording = r.BadRecording
 
 case-word : (why : word.Refusal) → wordOf (caseOf why) ≡ why
 unfolding wordOf
@@ -90,6 +104,7 @@ case-word word.sheetLength = refl
 case-word (word.tornBlock block) = refl
 case-word word.badSheet = refl
 case-word word.badK = refl
+case-word word.badRecording = refl
 
 -- a result, and what is left beside the tables, with which code says an outcome
 record Said {R Beside : Type 0} (outcomeBy : R → Beside → Outcome) (o : Outcome) : Type 0 where
@@ -185,6 +200,53 @@ listing-said t k query trail list none = record {
     m : KNearest
     m = kNearestBySteps k (tracesIn t) (treeIn t) query
 
+-- adding leaves search work as it was, however many traces are added
+work-stays : (t : Tables) (more : List Trace) → foldl addedTo t more .work ≡ t .work
+unfolding addedTo
+work-stays t [] = refl
+work-stays t (x ∷ more) = work-stays (addedTo t x) more
+
+importing-said : (t : Tables) (bytes : List ℕ) (o : Option word.Refusal) → let e = unlessRefused o t [] (imports t bytes) in
+    Said (λ (r : Imported) (l : List ℕ). outcome (importing-answer.answerOf r)
+    (tables (e .after .control) (e .after .samples) (e .after .nodes) (e .after .links) (t .work)) []) e
+unfolding unlessRefused imports importing-answer.answerOf
+importing-said t bytes (some why) = record { result = i.Refused (caseOf why); beside = []; is = rw (case-word why) }
+importing-said t bytes none =
+    let traces = fileTraces (judgeRecording (measuresOf t .n) bytes) in
+    let after = foldl addedTo t traces in
+    record {
+      result = i.Traces (length traces);
+      beside = [];
+      is = ap (λ (work : List ℕ). outcome (answering (imported (length traces)))
+          (tables (after .control) (after .samples) (after .nodes) (after .links) work) []) (sym (work-stays t traces));
+    }
+
+exporting-said : (t : Tables) (number rate : ℕ) (buffer : List ℕ) (o : Option word.Refusal)
+    → firstOf (exports t number rate buffer .conditions) ≡ o
+    → let e = unlessRefused o t (buffer ∷ []) (exports t number rate buffer) in
+    Said (λ (r : Exported) (l : List ℕ). outcome (exporting-answer.answerBy r l) t (l ∷ [])) e
+unfolding unlessRefused exports exporting-answer.answerBy
+exporting-said t number rate buffer (some why) q = record { result = x.Refused (caseOf why); beside = buffer; is = rw (case-word why) }
+exporting-said t number rate buffer none q = record {
+  result = x.Bytes (recordingSize (measuresOf t .n));
+  beside = over bytes buffer;
+  is = rw (take-at bytes (drop (length bytes) buffer) (recordingSize (measuresOf t .n)) size);
+}
+  where
+    ok : Exportable t number rate (length buffer)
+    ok = exportable t number rate buffer q
+
+    bytes : List ℕ
+    bytes = recordingOf rate (getD (tracesIn t) number [])
+
+    size : length bytes ≡ recordingSize (measuresOf t .n)
+    size = omega (
+      arith,
+      recording-length rate (getD (tracesIn t) number []),
+      ap length (trace-at t number (ok .numbered)),
+      trace-length (t .samples) (measuresOf t .n) number (ok .inside),
+    )
+
 -- ---- any call
 
 -- lifetimes, whichever
@@ -196,11 +258,11 @@ module _ (c : Call) (memory : Tables) (places : lentOf (firstPlaces (c .lent) me
   abbrev t : Tables
   t = firstPlaces (c .lent) memory
 
-  in-place : {ask : Ask} (answer : Answer) (after : Tables) (beside : List (List ℕ)) → c .ask ≡ ask → Typed ask
+  in-place : {ask : Ask} (answer : Answer) (after : Tables) (beside : List (List ℕ)) → c .ask ≡ ask → Typed ask t
       → Made ask t answer after beside c memory (reply answer beside) (left after memory)
   in-place answer after beside asked typed = record { asks = asked; typed = typed; first-places = refl; so-many = places; says = refl; leaves = refl }
 
-  by-ask : (ask : Ask) → c .ask ≡ ask → Typed ask → Replied c memory
+  by-ask : (ask : Ask) → c .ask ≡ ask → Typed ask t → Replied c memory
   unfolding outcomeOn effectOf besideOf
   by-ask (opening m) asked typed =
       let s = opening-said t m (firstOf (opens t m .conditions)) in
@@ -296,6 +358,37 @@ module _ (c : Call) (memory : Tables) (places : lentOf (firstPlaces (c .lent) me
           made = in-place _ kept (left-trail ∷ left-list ∷ []) asked typed;
         });
       }
+  by-ask (importing bytes) asked typed =
+      let s = importing-said t bytes (firstOf (imports t bytes .conditions)) in
+      let after = outcomeOn (importing bytes) t .after in
+      let kept = tables (after .control) (after .samples) (after .nodes) (after .links) (t .work) in
+      record {
+        said = reply (importing-answer.answerOf (s .result)) [];
+        memory′ = left kept memory;
+        did = by-import (record {
+          κs = lifetimes 6;
+          args = slices t (slice bytes, tt);
+          exits = slices after (slice bytes, tt);
+          result = s .result;
+          claim = s .is;
+          made = in-place _ kept [] asked typed;
+        });
+      }
+  by-ask (exporting number rate buffer) asked typed =
+      let s = exporting-said t number rate buffer (firstOf (exports t number rate buffer .conditions)) refl in
+      record {
+        said = reply (exporting-answer.answerBy (s .result) (s .beside)) (s .beside ∷ []);
+        memory′ = left t memory;
+        did = by-export (record {
+          κs = lifetimes 6;
+          args = slices t (slice buffer, (number, (rate, tt)));
+          exits = slices t (slice (s .beside), (number, (rate, tt)));
+          result = s .result;
+          claim = s .is;
+          made = in-place _ t (s .beside ∷ []) asked typed;
+        });
+      }
 
-pub replies : (c : Call) (memory : Tables) → lentOf (firstPlaces (c .lent) memory) ≡ c .lent → Typed (c .ask) → Replied c memory
+pub replies : (c : Call) (memory : Tables) → lentOf (firstPlaces (c .lent) memory) ≡ c .lent
+    → Typed (c .ask) (firstPlaces (c .lent) memory) → Replied c memory
 replies c memory places typed = by-ask c memory places (c .ask) refl typed

@@ -5,6 +5,8 @@ use Rattle.matching.proofs.nearest.Met as nearest-met
 use Rattle.listing.proofs.k_nearest.Met as list-met
 use Rattle.sheet_writing.proofs.write_sheet.Met as write-met
 use Rattle.sheet_reading.proofs.read_sheet.Met as read-met
+use Rattle.importing.proofs.import_recording.Met as import-met
+use Rattle.exporting.proofs.export_recording.Met as export-met
 use Rattle.calls.proofs.Demands.{demands}
 use Rattle.demands.specs.Theorem.{Theorem}
 use Rattle.demands.proofs.Follows.{follows}
@@ -18,6 +20,8 @@ theorem = record {
   write-meets = write-met.met;
   read-meets = read-met.met;
   list-meets = list-met.met;
+  import-meets = import-met.met;
+  export-meets = export-met.met;
   follows = follows;
   replies = replies;
   demands = demands;

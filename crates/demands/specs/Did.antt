@@ -8,7 +8,8 @@ use denote.Triple.Clauses.{AtExit}
 use borrow.Fn.Kinds.{Dens, endedOf}
 use contract.Lifetimes.{Lfts}
 use Rattle.dstree.specs.Measures.{measures}
-use Rattle.dstree.specs.Book.{Ask, opening, adding, matching, writing, reading, listing, Call, Answer, Reply, reply}
+use Rattle.dstree.specs.Book.{Ask, opening, adding, matching, writing, reading, listing, importing, exporting, Call, Answer}
+use Rattle.dstree.specs.Book.{Reply, reply}
 use Rattle.tables.specs.Tables.{Tables, tables, lentOf}
 use Rattle.tables.specs.Beginning.{firstPlaces, left}
 use Rattle.calls.specs.Follows.{Typed}
@@ -36,6 +37,14 @@ use Rattle.sheet_reading.specs.declared.Read.{Read}
 use Rattle.sheet_reading.specs.Answered as reading-answer
 use Rattle.sheet_reading.proofs.read_sheet.Kinds as read-kinds
 use Rattle.sheet_reading.proofs.read_sheet.Reads as read-reads
+use Rattle.importing.specs.declared.Imported.{Imported}
+use Rattle.importing.specs.Answered as importing-answer
+use Rattle.importing.proofs.import_recording.Kinds as import-kinds
+use Rattle.importing.proofs.import_recording.Reads as import-reads
+use Rattle.exporting.specs.declared.Exported.{Exported}
+use Rattle.exporting.specs.Answered as exporting-answer
+use Rattle.exporting.proofs.export_recording.Kinds as export-kinds
+use Rattle.exporting.proofs.export_recording.Reads as export-reads
 
 -- ---- slices
 
@@ -73,7 +82,7 @@ pub record Made (ask : Ask) (before : Tables) (answer : Answer) (after : Tables)
     (c : Call) (memory : Tables) (said : Reply) (memory′ : Tables) : Type 0 where
   pub asks : c .ask ≡ ask
   -- what the types of lent slices say of it
-  pub typed : Typed ask
+  pub typed : Typed ask before
   pub first-places : before ≡ firstPlaces (c .lent) memory
   pub so-many : lentOf before ≡ c .lent
   pub says : said ≡ reply answer beside
@@ -146,6 +155,28 @@ pub record Lists (c : Call) (memory : Tables) (said : Reply) (memory′ : Tables
       (listing-answer.answerBy result trail list) (tables (control args) (samples args) (nodes args) (links args) (work exits))
       (trail ∷ list ∷ []) c memory said memory′
 
+-- an import is lent the search work and its file to read, and leaves them
+pub record Imports (c : Call) (memory : Tables) (said : Reply) (memory′ : Tables) : Type 0 where
+  pub κs : Lfts 6
+  pub args : Dens κs import-kinds.ps
+  pub exits : AtExit (endedOf 6 import-kinds.ps import-kinds.r) κs
+  pub result : Imported
+  pub claim : import-reads.Learnt κs args result exits
+  pub made : Made (importing (now (own args .0))) (tablesOf args)
+      (importing-answer.answerOf result) (tables (control exits) (samples exits) (nodes exits) (links exits)
+      (work args)) [] c memory said memory′
+
+-- an export is lent all tables to read, and leaves them
+pub record Exports (c : Call) (memory : Tables) (said : Reply) (memory′ : Tables) : Type 0 where
+  pub κs : Lfts 6
+  pub args : Dens κs export-kinds.ps
+  pub exits : AtExit (endedOf 6 export-kinds.ps export-kinds.r) κs
+  pub result : Exported
+  pub claim : export-reads.Learnt κs args result exits
+  pub made : let buffer = now (own exits .0) in
+      Made (exporting (own args .1 .0) (own args .1 .1 .0) (now (own args .0))) (tablesOf args)
+      (exporting-answer.answerBy result buffer) (tablesOf args) (buffer ∷ []) c memory said memory′
+
 -- a call on a memory, what it answered, and the memory after it
 pub data Did (c : Call) (memory : Tables) (said : Reply) (memory′ : Tables) : Type 0 where
   by-open : Opens c memory said memory′ → Did c memory said memory′
@@ -154,3 +185,5 @@ pub data Did (c : Call) (memory : Tables) (said : Reply) (memory′ : Tables) : 
   by-write : Writes c memory said memory′ → Did c memory said memory′
   by-read : Reads c memory said memory′ → Did c memory said memory′
   by-list : Lists c memory said memory′ → Did c memory said memory′
+  by-import : Imports c memory said memory′ → Did c memory said memory′
+  by-export : Exports c memory said memory′ → Did c memory said memory′

@@ -1,15 +1,17 @@
 -- Document 01's "Demand 3, over a list of calls", at work: a list of 41 calls with their answers, and the books after them, by computation.
-use Prim.Native.Nat.{ℕ}
+use Prim.Native.Nat.{ℕ, _^_}
 use mathlib.Core.Path.{_≡_, refl}
 use mathlib.Core.Option.{none, some}
-use mathlib.Core.List.{List, [], _∷_, map}
+use mathlib.Core.List.{List, [], _∷_, _++_, map}
 use lib.ListN.{length, set, take, replicate}
 use Rattle.dstree.specs.Measures.{Trace, measures}
-use Rattle.dstree.specs.Refusals.{measure, shortTable, wrongTrace, full, empty, shortTrail, sheetLength, tornBlock, badSheet, badK}
+use Rattle.dstree.specs.Refusals.{measure, shortTable, wrongTrace, full, empty, shortTrail, sheetLength, tornBlock, badSheet, badK, badRecording}
 use Rattle.dstree.specs.Sheet.{sheetOf}
-use Rattle.dstree.specs.Book.{Layout, Lent, Call, call, opening, adding, matching, writing, reading, listing, Book, book, judge, after}
-use Rattle.dstree.specs.Book.{start}
-use Rattle.dstree.specs.Book.{Answer, refusing, answering, done, added, matched, written, neighbours, Reply, reply, replyOf, repliesOf}
+use Rattle.dstree.specs.Recording.{recordingOf}
+use Rattle.dstree.specs.Book.{Layout, Lent, Call, call, opening, adding, matching, writing, reading, listing, importing, exporting, Ask}
+use Rattle.dstree.specs.Book.{Book, book, judge, turn, after, start}
+use Rattle.dstree.specs.Book.{Answer, refusing, answering, done, added, matched, written, neighbours, imported, exported}
+use Rattle.dstree.specs.Book.{Reply, reply, replyOf, repliesOf}
 use Rattle.dstree.specs.Examples.{level, C, ABC, found}
 use Rattle.dstree.proofs.Notation.{+}
 use Rattle.dstree.proofs.KExamples.{at, finds}
@@ -132,6 +134,20 @@ first c = replyOf layout (start layout c) c .answer
 abbrev listingOf : List Trace → ℕ → Trace → List ℕ → List ℕ → Reply
 listingOf traces k query trail list = replyOf layout (book (measures 4 3 2) traces) (call exact (listing k query trail list))
 
+-- the reply to another call there
+abbrev replyWith : List Trace → Ask → Reply
+replyWith traces ask = replyOf layout (book (measures 4 3 2) traces) (call exact ask)
+
+-- document 02, §2: recordings of one trace and of two, at 8,000 samples a second, and one of no sample
+abbrev one : List ℕ
+one = recordingOf 8000 C
+
+abbrev two : List ℕ
+two = recordingOf 8000 (C ++ level 9)
+
+abbrev none-at-all : List ℕ
+none-at-all = recordingOf 8000 []
+
 pub record BookExamples : Type 0 where
   -- "It starts with what that call puts"
   pub after-opening : opened ≡ book (measures 4 3 2) []
@@ -169,6 +185,28 @@ pub record BookExamples : Type 0 where
   -- the two nearest; "List places past those filled keep their contents"
   pub lists : listingOf ABC 2 (level 1) (7 ∷ 8 ∷ 9 ∷ []) (5 ∷ 6 ∷ 7 ∷ 8 ∷ 9 ∷ [])
       ≡ reply (answering (neighbours (finds (at 0 4 ∷ at 1 36 ∷ []) 3 (1 ∷ 2 ∷ [])))) ((1 ∷ 2 ∷ 9 ∷ []) ∷ (0 ∷ 4 ∷ 1 ∷ 36 ∷ 9 ∷ []) ∷ [])
+  -- document 02, §2: "all or none; the answer is how many", 0 too, into a full library too; "5 if not all traces fit", and 12 before it
+  pub imports : map (λ (r : Reply). r .answer)
+      (replyWith (level 0 ∷ []) (importing two)
+      ∷ replyWith (level 0 ∷ level 4 ∷ []) (importing two)
+      ∷ replyWith ABC (importing none-at-all)
+      ∷ replyWith ABC (importing one)
+      ∷ replyWith ABC (importing (recordingOf 8000 (+ 1 ∷ C)))
+      ∷ [])
+      ≡ answering (imported 2) ∷ refusing full ∷ answering (imported 0) ∷ refusing full ∷ refusing badRecording ∷ []
+  -- "added in order", none of a refused file
+  pub imports-put : map (λ traces. turn layout (book (measures 4 3 2) traces) (call exact (importing two)) .traces)
+      ((level 0 ∷ []) ∷ (level 0 ∷ level 4 ∷ []) ∷ []) ≡ (level 0 ∷ C ∷ level 9 ∷ []) ∷ (level 0 ∷ level 4 ∷ []) ∷ []
+  -- "an export rate or trace number out of range", also of a library that holds nothing, and before 8; "an export buffer too short is 8"
+  pub exports-refused : map (λ (r : Reply). r .answer)
+      (replyWith ABC (exporting 3 0 (blank 52))
+      ∷ replyWith [] (exporting 0 0 (blank 0))
+      ∷ replyWith ABC (exporting 2 (2 ^ 31) (blank 52))
+      ∷ replyWith ABC (exporting 2 8000 (blank 51))
+      ∷ [])
+      ≡ refusing badRecording ∷ refusing badRecording ∷ refusing badRecording ∷ refusing sheetLength ∷ []
+  -- "answers its bytes' number"; bytes of the buffer behind them stay
+  pub exports : replyWith ABC (exporting 2 8000 (replicate 54 7)) ≡ reply (answering (exported 52 one)) ((one ++ (7 ∷ 7 ∷ [])) ∷ [])
 
 pub book-examples : BookExamples
 unfolding everything
@@ -183,5 +221,9 @@ book-examples = record {
   books = refl;
   all-of-them = refl;
   lists-refused = refl;
+  imports = refl;
+  imports-put = refl;
+  exports-refused = refl;
+  exports = refl;
   lists = refl;
 }

@@ -24,13 +24,14 @@ use Rattle.dstree.specs.Sheet.{letters, headOf, coded, sampleBlocksNeede
 use Rattle.dstree.specs.Sheet.{blocksIn, measuresIn, countIn, decoded, sampleBytesIn, tracesIn, isWrongLength, isTorn}
 use Rattle.dstree.specs.Sheet.{tornConditions, areZero, zerosIn, badConditions, conditionsAs, libraryIn, judgedBy, judgeAs}
 use Rattle.dstree.specs.Book.{besideOf, controlShort, tablesShort, readingConditions, putRead, openingEntry, addingEntry}
-use Rattle.dstree.specs.Book.{matchingEntry, writingEntry, readingEntry, listingEntry}
+use Rattle.dstree.specs.Book.{matchingEntry, writingEntry, readingEntry, listingEntry, importingEntry, exportingEntry}
 use Rattle.dstree.specs.Book.{entryOf, judge, putUnless, turn, after, replyUnless, replyOf, repliesOf, start}
 use Rattle.dstree.specs.Program.{refusalLine, matchLine, lineOf, judgedLine, programLine, digitsFrom, decimal, spaced, text, printed}
 use Rattle.dstree.specs.Claims.{numbersAmong}
 use Rattle.dstree.specs.KNearest.{nears, nearestList, listPlaces, kth, readInto, stopsAtKth, listed, kNearestBySteps}
 use Rattle.dstree.specs.KNearest.{leavesRk, kNearestOf, listOfMatch, inRank, distancesAmong}
-use Rattle.dstree.specs.Recording.{header, fieldBytes, recordingOf, rateIn, sizeIn, begins, isRecording, recordedTraces, judgeRecording}
+use Rattle.dstree.specs.Recording.{header, fieldBytes, recordingOf, rateIn, sizeIn, begins, isRecording, recordedTraces}
+use Rattle.dstree.specs.Recording.{judgeRecording, fileTraces, isBadFile}
 
 unfoldable wordsOpen : Unit {0}
 unfolding flatten roundedUp total counting those every chosen isEmpty isIn timesIn same
@@ -94,7 +95,7 @@ unfolding isWrongLength isTorn tornConditions areZero zerosIn badConditions cond
 sheetTestsOpen = tt
 
 unfoldable recordingsOpen : Unit {0}
-unfolding header fieldBytes recordingOf rateIn sizeIn begins isRecording recordedTraces judgeRecording
+unfolding header fieldBytes recordingOf rateIn sizeIn begins isRecording recordedTraces judgeRecording fileTraces isBadFile
 recordingsOpen = tt
 
 unfoldable booksOpen : Unit {0}
@@ -102,7 +103,7 @@ unfolding besideOf controlShort tablesShort readingConditions putRead openingEnt
 booksOpen = tt
 
 unfoldable booksOpen2 : Unit {0}
-unfolding listingEntry entryOf judge putUnless turn after replyUnless replyOf repliesOf start
+unfolding listingEntry importingEntry exportingEntry entryOf judge putUnless turn after replyUnless replyOf repliesOf start
 booksOpen2 = tt
 
 unfoldable linesOpen : Unit {0}

@@ -18,7 +18,7 @@ use Rattle.dstree.specs.Measures.{Trace, sampleLimit, mostSamples, isTra
 use Rattle.dstree.specs.Sheet.{areBytes, bytesOf, numberIn, part, pieces, narrow, coded, codedAll, decoded}
 use Rattle.dstree.specs.Recording.{Field, number, word, lettersRIFF, lettersWAVE, lettersFmt, lettersData, header, headerSize}
 use Rattle.dstree.specs.Recording.{rateLimit, sizeLimit, fieldBytes, recordingOf, rateIn, sizeIn, begins, isRecording}
-use Rattle.dstree.specs.Recording.{Recording, recording, recordedTraces, judgeRecording, RecordingClaims}
+use Rattle.dstree.specs.Recording.{Recording, recording, recordedTraces, judgeRecording, fileTraces, RecordingClaims}
 use Rattle.dstree.proofs.Libraries.{Small, trace-sized, trace-small, traces-are}
 use Rattle.dstree.proofs.SheetPieces.{Sized, part-length, pieces-length, pieces-sized, pieces-all, pieces-flatten}
 use Rattle.dstree.proofs.SheetPieces.{flatten-length, flatten-all}
@@ -334,6 +334,15 @@ module _ (n : ℕ) where
         let both = sound-judged n bytes r e in
         subst (λ (x : Recording). T (every (isTrace sampleLimit n) (x .traces))) (both .1)
         (traces-sound n bytes (bytes-of bytes t) (both .0))
+
+-- a bad recording has no trace, and what a sound one has are traces
+pub file-traces : (n : ℕ) (bytes : List ℕ) → T (areBytes bytes) → T (every (isTrace sampleLimit n) (fileTraces (judgeRecording n bytes)))
+unfolding fileTraces every
+file-traces n bytes t = by (judgeRecording n bytes) refl
+  where
+    by : (file : Option Recording) → judgeRecording n bytes ≡ file → T (every (isTrace sampleLimit n) (fileTraces file))
+    by none e = tt
+    by (some r) e = its-traces n bytes r t e
 
 -- document 02, §2, of files alone, for every n from 1 on
 pub recording-claims : (n : ℕ) → 0 < n → RecordingClaims n

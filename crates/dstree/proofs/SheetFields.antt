@@ -5,12 +5,14 @@ use mathlib.Core.List.{List, [], _∷_, _++_, map, flatten, append-assoc}
 use native.Mathlib.Omega.{arith}
 use native.Mathlib.Decide.{decLe}
 use native.Mathlib.Nat.{pow-succ', lt-of-not-le, le-of-lt, mul-le-mul-right}
-use lib.ListN.{length, take, drop, length-map, take-append-drop, drop-of-length-le}
+use lib.ListN.{length, getD, take, drop, length-map, take-append-drop, drop-of-length-le}
 use lib.Seq.{take-at, drop-at, take-all, length-take-le}
 use lib.IntN.{ℤ, pos, negsuc}
 use lib.Signed.{mag}
-use lib.Dec.{T, ltb, ltb→lt}
+use lib.Dec.{T, ltb, ltb→lt, lt→ltb}
+use mir.Facts.{yes-and}
 use borrow.Author.Tests.{lt-ltb, le-ltb}
+use Rattle.integer.specs.Words.{every}
 use Rattle.integer.proofs.Lists.{All, all-none, all-more, all-mono, every-all}
 use Rattle.dstree.specs.Sheet.{areBytes, bytesOf, numberIn, part, Format, coded, codedAll, decoded}
 use Rattle.dstree.proofs.SheetPieces.{Sized, flatten-length}
@@ -22,6 +24,12 @@ Bytes = All (λ (b : ℕ). b < 256)
 pub bytes-of : (bs : List ℕ) → T (areBytes bs) → Bytes bs
 unfolding areBytes
 bytes-of bs t = all-mono (λ b p. ltb→lt b 256 p) (every-all (λ b. ltb b 256) bs t)
+
+-- a slice of bytes, each known by its type
+pub known-bytes : (l : List ℕ) → ((i : ℕ) → getD l i 0 < 256) → T (areBytes l)
+unfolding areBytes every
+known-bytes [] h = tt
+known-bytes (b ∷ l) h = yes-and (ltb b 256) (areBytes l) (lt→ltb b 256 (h 0)) (known-bytes l (λ i. h (suc i)))
 
 -- ---- numbers
 

@@ -1,10 +1,10 @@
 -- Document 01, "Demand 3, over a list of calls": the calls, what the table refuses, and the book. "A call added later joins the list": document 02's stand
 -- behind document 01's.
-use Prim.Native.Nat.{ℕ, _*_}
-use mathlib.Core.Bool.{Bool, true, not, _||_}
+use Prim.Native.Nat.{ℕ, _+_, _*_}
+use mathlib.Core.Bool.{Bool, true, not, _&&_, _||_}
 use mathlib.Core.Option.{Option, none, some}
 use mathlib.Core.List.{List, [], _∷_, _++_}
-use lib.ListN.{length, drop}
+use lib.ListN.{length, getD, drop}
 use lib.Dec.{ltb, eqb}
 use Rattle.integer.specs.Words.{isEmpty}
 use Rattle.dstree.specs.Measures.{Trace, Measures, measures, inRange, samplesNeeded, recordsNeeded, linksNeeded, workNeeded}
@@ -12,8 +12,9 @@ use Rattle.dstree.specs.Node.{Tree}
 use Rattle.dstree.specs.Adding.{treeOf}
 use Rattle.dstree.specs.Matching.{leaves, Match, matchOf}
 use Rattle.dstree.specs.KNearest.{isK, listPlaces, KNearest, kNearestOf}
-use Rattle.dstree.specs.Refusals.{Refusal, measure, shortTable, wrongTrace, full, empty, shortTrail, sheetLength, badK}
+use Rattle.dstree.specs.Refusals.{Refusal, measure, shortTable, wrongTrace, full, empty, shortTrail, sheetLength, badK, badRecording}
 use Rattle.dstree.specs.Refusals.{Condition, _refuses_, firstOf}
+use Rattle.dstree.specs.Recording.{rateLimit, recordingSize, recordingOf, Recording, judgeRecording, isBadFile, fileTraces}
 use Rattle.dstree.specs.Sheet.{blockSize, blocksNeeded, sheetOf, Judged, refused, holds, judgeSheet}
 
 -- ---- calls
@@ -33,7 +34,8 @@ pub record Lent : Type 0 where
 
 -- what a call asks for: "calls of opening, adding, match, sheet writing and sheet reading .. with any arguments". "Trails and sheets are not part of" the
 -- tables: a match comes with its query and the contents of its trail, a writing and a reading with the bytes of their sheet; the search of document 02, §1,
--- with k, its query, and the contents of its trail and its list
+-- with k, its query, and the contents of its trail and its list; an import of §2 with the bytes of its file, an export with a trace's number, a rate, and
+-- the contents of its buffer
 pub data Ask : Type 0 where
   opening : Measures → Ask
   adding : Trace → Ask
@@ -41,6 +43,8 @@ pub data Ask : Type 0 where
   writing : List ℕ → Ask
   reading : List ℕ → Ask
   listing : ℕ → Trace → List ℕ → List ℕ → Ask
+  importing : List ℕ → Ask
+  exporting : ℕ → ℕ → List ℕ → Ask
 
 -- a call: "arguments .., lengths of tables included"
 pub record Call : Type 0 where
@@ -58,17 +62,22 @@ besideOf (matching query trail) = trail ∷ []
 besideOf (writing sheet) = sheet ∷ []
 besideOf (reading bytes) = []
 besideOf (listing k query trail list) = trail ∷ list ∷ []
+besideOf (importing bytes) = []
+besideOf (exporting number rate buffer) = buffer ∷ []
 
 -- ---- answers
 
 -- what a call answers that is not refused: "Opening and sheet reading answer only that they succeeded, adding the new trace's number, writing the number
--- of blocks"; a match with its trail, a writing with its sheet, a listing with list and trail
+-- of blocks"; a match with its trail, a writing with its sheet, a listing with list and trail; an import "how many" traces it added, an export "its bytes'
+-- number", with these bytes
 pub data Result : Type 0 where
   done : Result
   added : ℕ → Result
   matched : Match → Result
   written : ℕ → List ℕ → Result
   neighbours : KNearest → Result
+  imported : ℕ → Result
+  exported : ℕ → List ℕ → Result
 
 -- "does its work or gives the one refusal that document 01 fixes"
 pub data Answer : Type 0 where
@@ -140,6 +149,17 @@ abbrev pub listConditions : Book → ℕ → Trace → List ℕ → List ℕ →
 listConditions b k query trail list =
     not (isK k) refuses badK ∷ (queryConditions b query trail ++ (ltb (length list) (2 * k) refuses shortTrail ∷ []))
 
+-- document 02, §2: "12 bad recording, for a file of any other form ..; 5 if not all traces fit", of a file for a library of so many traces
+abbrev pub importConditions : Measures → ℕ → Option Recording → List Condition
+importConditions m count file = isBadFile file refuses badRecording ∷ ltb (m .capacity) (count + length (fileTraces file)) refuses full ∷ []
+
+-- ".. or an export rate or trace number out of range ..; an export buffer too short is 8"
+abbrev pub exportConditions : Measures → ℕ → ℕ → ℕ → List ℕ → List Condition
+exportConditions m count number rate buffer =
+    not (ltb rate rateLimit && ltb number count) refuses badRecording
+    ∷ ltb (length buffer) (recordingSize (m .n)) refuses sheetLength
+    ∷ []
+
 -- "Reading: 8; 9 over all blocks; 10; 2"
 unfoldable pub readingConditions : Layout → Lent → Judged → List Condition
 readingConditions layout lent (refused r) = true refuses r ∷ []
@@ -206,6 +226,28 @@ module _ (layout : Layout) (lent : Lent) (b : Book) where
         beside = over (found .trail) trail ∷ over (listPlaces (found .list)) list ∷ [];
       }
 
+  -- document 02, §2: "The samples are cut into traces of n and added in order, all or none; the answer is how many"
+  unfoldable pub importingEntry : List ℕ → Entry
+  importingEntry bytes =
+      let file = judgeRecording (b .measures .n) bytes in
+      record {
+        conditions = shortConditions layout lent (b .measures) ++ importConditions (b .measures) (length (b .traces)) file;
+        puts = book (b .measures) (b .traces ++ fileTraces file);
+        result = imported (length (fileTraces file));
+        beside = [];
+      }
+
+  -- "Export writes one stored trace so, at a rate the caller gives, .. and answers its bytes' number"
+  unfoldable pub exportingEntry : ℕ → ℕ → List ℕ → Entry
+  exportingEntry number rate buffer =
+      let bytes = recordingOf rate (getD (b .traces) number []) in
+      record {
+        conditions = shortConditions layout lent (b .measures) ++ exportConditions (b .measures) (length (b .traces)) number rate buffer;
+        puts = b;
+        result = exported (recordingSize (b .measures .n)) bytes;
+        beside = over bytes buffer ∷ [];
+      }
+
   unfoldable pub entryOf : Ask → Entry
   entryOf (opening m) = openingEntry m
   entryOf (adding x) = addingEntry x
@@ -213,6 +255,8 @@ module _ (layout : Layout) (lent : Lent) (b : Book) where
   entryOf (writing sheet) = writingEntry sheet
   entryOf (reading bytes) = readingEntry bytes
   entryOf (listing k query trail list) = listingEntry k query trail list
+  entryOf (importing bytes) = importingEntry bytes
+  entryOf (exporting number rate buffer) = exportingEntry number rate buffer
 
 -- ---- every call
 

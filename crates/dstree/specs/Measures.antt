@@ -61,6 +61,10 @@ workNeeded m = 2 * m .capacity - 1
 unfoldable pub isTrace : ℕ → ℕ → Trace → Bool
 isTrace limit n x = eqb (length x) n && every (λ sample. ltb (mag sample) limit) x
 
+-- "signed 16-bit samples", however many: what a slice of such numbers holds
+abbrev pub areSamples : Trace → Bool
+areSamples x = every (λ sample. ltb (mag sample) sampleLimit) x
+
 -- what a library holds: measures in range, traces of n samples each, as many as the capacity or fewer
 unfoldable pub isLibrary : ℕ → Measures → List Trace → Bool
 isLibrary limit m traces = inRange m && leb (length traces) (m .capacity) && every (isTrace limit (m .n)) traces

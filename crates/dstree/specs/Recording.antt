@@ -2,7 +2,7 @@
 -- one table of fields, by which it is written and judged.
 use Prim.Native.Nat.{ℕ, _+_, _*_, _/_, _%_, _^_, _<_, _≤_}
 use mathlib.Core.Path.{_≡_}
-use mathlib.Core.Bool.{Bool, true, _&&_}
+use mathlib.Core.Bool.{Bool, true, false, _&&_}
 use mathlib.Core.Option.{Option, none, some}
 use mathlib.Core.List.{List, [], _∷_, _++_, map, flatten}
 use lib.ListN.{length, take, drop}
@@ -86,6 +86,10 @@ fieldBytes (f ∷ rest) = bytesOf (f .width) (f .value) ++ fieldBytes rest
 unfoldable pub recordingOf : ℕ → List ℤ → List ℕ
 recordingOf rate samples = fieldBytes (header rate (2 * length samples)) ++ codedAll narrow samples
 
+-- .. and its bytes' number
+abbrev pub recordingSize : ℕ → ℕ
+recordingSize samples = headerSize + 2 * samples
+
 -- ---- judging: what a file of any bytes says
 
 -- its rate and its data size, at their places in the header
@@ -129,6 +133,15 @@ recordedTraces n bytes =
 -- a file for traces of n samples; none for a bad recording, document 02's 12
 unfoldable pub judgeRecording : ℕ → List ℕ → Option Recording
 judgeRecording n bytes = if isRecording n bytes then some (recording (rateIn bytes) (recordedTraces n bytes)) else none
+
+-- the traces of a file; a bad recording has none
+unfoldable pub fileTraces : Option Recording → List Trace
+fileTraces none = []
+fileTraces (some r) = r .traces
+
+unfoldable pub isBadFile : Option Recording → Bool
+isBadFile none = true
+isBadFile (some r) = false
 
 -- ---- what is promised, for traces of n samples
 

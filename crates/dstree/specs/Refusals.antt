@@ -12,6 +12,8 @@ pub data Refusal : Type 0 where
   badSheet : Refusal
   -- document 02, §1: "11 bad k, outside 1 to 16"
   badK : Refusal
+  -- document 02, §2: "12 bad recording"
+  badRecording : Refusal
 
 -- the table's numbers
 unfoldable pub numberOf : Refusal → ℕ
@@ -26,6 +28,7 @@ numberOf sheetLength = 8
 numberOf (tornBlock block) = 9
 numberOf badSheet = 10
 numberOf badK = 11
+numberOf badRecording = 12
 
 -- "a place: the first block at fault for 9, else 0"
 unfoldable pub placeOf : Refusal → ℕ
@@ -40,6 +43,7 @@ placeOf sheetLength = 0
 placeOf (tornBlock block) = block
 placeOf badSheet = 0
 placeOf badK = 0
+placeOf badRecording = 0
 
 -- a condition of the table with its refusal
 pub record Condition : Type 0 where

@@ -3,3 +3,4 @@ pub mod Records
 pub mod Links
 pub mod Memory
 pub mod Represents
+pub mod Takes

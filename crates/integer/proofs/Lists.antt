@@ -367,6 +367,12 @@ module _ {A : Type 0} (passes : A → Bool) where
   all-every all-none = tt
   all-every (all-more {a} {rest} p ps) = yes-and (passes a) (every passes rest) p (all-every ps)
 
+  pub every-take : (k : ℕ) (l : List A) → T (every passes l) → T (every passes (take k l))
+  every-take k l t = all-every (all-take k (every-all l t))
+
+  pub every-drop : (k : ℕ) (l : List A) → T (every passes l) → T (every passes (drop k l))
+  every-drop k l t = all-every (all-drop k (every-all l t))
+
 module _ {A B : Type 0} {P : A → Type 0} {Q : B → Type 0} (f : A → B) (step : (a : A) → P a → Q (f a)) where
   pub all-map : {l : List A} → All P l → All Q (map f l)
   all-map all-none = all-none

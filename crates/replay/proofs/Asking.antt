@@ -1,26 +1,22 @@
 -- The call that a row asks for, and what is known of it: it is lent no more than there is, and its arguments are what the slices' types say.
-use Prim.Native.Nat.{ℕ, suc, _+_, _≤_, _<_, _^_}
-use native.Mathlib.Numerals.{add-one}
+use Prim.Native.Nat.{ℕ, _≤_}
 use mathlib.Core.Path.{_≡_, refl, sym, ap, subst, _∙_}
 use mathlib.Core.Bool.{Bool, true, false}
 use mathlib.Core.Option.{Option, none, some, Option·none-ne-some, Option·some-injective}
 use mathlib.Core.List.{List, [], _∷_}
-use lib.IntN.{ℤ, pos}
-use lib.ListN.{length, getD, take, drop}
-use lib.Seq.{take-suc, take-all}
+use lib.IntN.{ℤ}
+use lib.ListN.{length}
 use lib.Signed.{mag}
 use lib.Dec.{T, leb, ltb, leb→le}
-use borrow.Author.Tests.{lt-ltb}
-use Rattle.integer.specs.Words.{if_then_else_, every}
+use Rattle.integer.specs.Words.{if_then_else_}
 use Rattle.integer.proofs.Tests.{passed, is-true}
-use Rattle.integer.specs.Lists.{All, all-none, all-more}
-use Rattle.integer.proofs.Lists.{all-append, all-take, all-drop, every-all, all-every}
-use Rattle.dstree.specs.Measures.{sampleLimit}
+use Rattle.integer.proofs.Lists.{every-take, every-drop}
+use Rattle.dstree.specs.Measures.{sampleLimit, areSamples}
 use Rattle.dstree.specs.Sheet.{areBytes}
 use Rattle.dstree.specs.Book.{Lent, Ask, Call}
-use Rattle.tables.specs.Tables.{lentOf}
+use Rattle.tables.specs.Tables.{Tables, lentOf}
 use Rattle.tables.specs.Beginning.{Within}
-use Rattle.calls.specs.Follows.{areSamples, Typed}
+use Rattle.calls.specs.Follows.{Typed}
 use Rattle.replay.specs.declared.Cursor.{Cursor}
 use Rattle.replay.specs.declared.Wanted.{Wanted}
 use Rattle.replay.specs.declared.Plan.{Plan}
@@ -204,29 +200,23 @@ pub record Sound (lengths : Lent) (s : State) : Type 0 where
   pub of-samples : T (areSamples (s .samples))
   pub of-bytes : T (areBytes (s .sheets .ahead))
 
-module _ {A : Type 0} (passes : A → Bool) (k : ℕ) (l : List A) (t : T (every passes l)) where
-  every-take : T (every passes (take k l))
-  every-take = all-every passes (all-take k (every-all passes l t))
-
-  every-drop : T (every passes (drop k l))
-  every-drop = all-every passes (all-drop k (every-all passes l t))
-
 abbrev pub isSample : ℤ → Bool
 isSample sample = ltb (mag sample) sampleLimit
 
 abbrev pub isByte : ℕ → Bool
 isByte byte = ltb byte 256
 
-pub asked-typed : (lengths : Lent) (row : List ℕ) (s : State) → Sound lengths s → (ask : Ask) → asks lengths row s ≡ some ask → Typed ask
+pub asked-typed : (lengths : Lent) (row : List ℕ) (s : State) → Sound lengths s → (ask : Ask) → asks lengths row s ≡ some ask
+    → (t : Tables) → T (areSamples (t .samples)) → Typed ask t
 unfolding areBytes
-asked-typed lengths row s sound ask e =
+asked-typed lengths row s sound ask e t known =
     let a = asked-is lengths row s ask e in
     let k = a .kind in
     let size = k .takes row in
-    subst Typed (a .ask-is)
-    (of-kind (numberAt row 0) k (playable-is lengths (aheadOf s) row k (a .can) .is-kind) .typed row (nextOf size s)
+    subst (λ (ask : Ask). Typed ask t) (a .ask-is)
+    (of-kind (numberAt row 0) k (playable-is lengths (aheadOf s) row k (a .can) .is-kind) .typed row (nextOf size s) t
     (every-take isSample (size .samples) (s .samples) (sound .of-samples)) (every-take isByte (size .sheets) (s .sheets .ahead) (sound
-    .of-bytes)))
+    .of-bytes)) known)
 
 -- a call is asked for only where it is lent no more than there is
 pub asked-within : (lengths : Lent) (row : List ℕ) (s : State) (ask : Ask) → asks lengths row s ≡ some ask → Within (lentBy row) lengths
@@ -243,25 +233,3 @@ sound-after lengths s sound c e = record {
   of-samples = every-drop isSample (length (takenBy (c .ask) .samples)) (s .samples) (sound .of-samples);
   of-bytes = every-drop isByte (length (takenBy (c .ask) .sheet)) (s .sheets .ahead) (sound .of-bytes);
 }
-
--- ---- the samples of a lent slice, looked at one by one
-
-pub one-more-sample : (pool : List ℤ) (i : ℕ) → i < length pool → T (areSamples (take i pool)) → mag (getD pool i (pos 0)) < 2 ^ 15
-    → T (areSamples (take (i + 1) pool))
-unfolding sampleLimit
-one-more-sample pool i h t m =
-    subst (λ (l : List ℤ). T (areSamples l)) (sym (ap (λ (k : ℕ). take k pool) (add-one i) ∙ take-suc pool i (pos 0) h))
-    (all-every isSample (all-append (every-all isSample (take i pool) t) (all-more (is-true (lt-ltb (mag (getD pool i (pos 0))) 32768 m))
-    all-none)))
-
-pub all-samples : (pool : List ℤ) (i : ℕ) → length pool ≤ i → T (areSamples (take i pool)) → T (areSamples pool)
-all-samples pool i h t = subst (λ (l : List ℤ). T (areSamples l)) (take-all i pool h) t
-
--- the bytes of a lent slice, each known by its type
-pub bytes-known : (l : List ℕ) → ((i : ℕ) → getD l i 0 < 256) → T (areBytes l)
-unfolding areBytes
-bytes-known l f = all-every isByte (known l f)
-  where
-    known : (l : List ℕ) → ((i : ℕ) → getD l i 0 < 256) → All (λ b. T (isByte b)) l
-    known [] f = all-none
-    known (x ∷ l) f = all-more (is-true (lt-ltb x 256 (f 0))) (known l (λ i. f (suc i)))

@@ -10,12 +10,14 @@ use lib.IntN.{ℤ}
 use lib.ListN.{length, drop, take-append-drop, length-append, drop-of-length-le}
 use lib.Dec.{T}
 use Rattle.integer.specs.Words.{if_then_else_}
+use Rattle.integer.proofs.Lists.{every-take}
+use Rattle.dstree.specs.Measures.{areSamples}
 use Rattle.dstree.specs.Sheet.{areBytes}
 use Rattle.dstree.specs.Book.{Lent, Ask, Call, call, Answer, Reply}
 use Rattle.tables.specs.Tables.{Tables, lentOf}
-use Rattle.tables.specs.Beginning.{Within}
+use Rattle.tables.specs.Beginning.{Within, firstPlaces}
 use Rattle.tables.proofs.Beginning.{first-lent}
-use Rattle.calls.specs.Follows.{areSamples, Follows, Ran, no-call, a-call}
+use Rattle.calls.specs.Follows.{Follows, Ran, no-call, a-call}
 use Rattle.calls.proofs.Demands.{demands}
 use Rattle.replay.specs.Demanded.{Demanded}
 use Rattle.replay.specs.declared.Cursor.{Cursor}
@@ -24,7 +26,7 @@ use Rattle.replay.specs.Numbers.{replyRow, withRow, repliesLaid}
 use Rattle.replay.specs.Script.{rowsIn, rowsOf, lentBy, State, stateAt, Inside, cursor, asks, replyIn, stateAfter, Turned, turned}
 use Rattle.replay.specs.Script.{made, turnOf}
 use Rattle.replay.specs.Script.{Played, begun, playedOne, playedRow, answersOf, played, whole, tellsRow, nextRow}
-use Rattle.replay.proofs.Asking.{Sound, asked-typed, asked-within, sound-after}
+use Rattle.replay.proofs.Asking.{Sound, isSample, asked-typed, asked-within, sound-after}
 
 -- ---- one call more
 
@@ -64,16 +66,16 @@ module _ (t₀ : Tables) (replies₀ : List ℕ) where
   row-fine : (row : List ℕ) (p : Played) (replies : List ℕ) (k : ℕ) (r : Turn) (now′ : State) (o : Option Ask)
       → Fine t₀ replies₀ p replies k → asks (lentOf t₀) row (p .now) ≡ o → turned (if r .made then some (r .told) else none) now′ ≡ made
       (lentBy row) o (p .now)
-      → lentOf (now′ .memory) ≡ lentOf t₀
+      → lentOf (now′ .memory) ≡ lentOf t₀ → T (areSamples (p .now .memory .samples))
       → (now′ ≡ playedOne (lentBy row) o p .now) × Fine t₀ replies₀ (playedOne (lentBy row) o p) (tellsRow r k replies) (nextRow r k)
   unfolding made stateAfter playedOne tellsRow nextRow
-  row-fine row p replies k r now′ none f a e l = by (r .made) (ap (λ (t : Turned). t .told) e)
+  row-fine row p replies k r now′ none f a e l known = by (r .made) (ap (λ (t : Turned). t .told) e)
     where
       by : (b : Bool) → (if b then some (r .told) else none) ≡ none
           → (now′ ≡ p .now) × Fine t₀ replies₀ p (if b then withRow replies k (r .told) else replies) (if b then k + 1 else k)
       by true n = let z : _≡_ {A = ℕ} 0 1 = cc in absurd (omega arith)
       by false n = (ap (λ (t : Turned). t .now) e, f)
-  row-fine row p replies k r now′ (some ask) f a e l = by (r .made) (ap (λ (t : Turned). t .told) e)
+  row-fine row p replies k r now′ (some ask) f a e l known = by (r .made) (ap (λ (t : Turned). t .told) e)
     where
       c : Call
       c = call (lentBy row) ask
@@ -88,7 +90,8 @@ module _ (t₀ : Tables) (replies₀ : List ℕ) where
       follows = record {
         has-places = first-lent (lentBy row) (p .now .memory)
             (subst (λ (x : Lent). Within (lentBy row) x) (sym (f .sound .as-long)) (asked-within (lentOf t₀) row (p .now) ask a));
-        typed = asked-typed (lentOf t₀) row (p .now) (f .sound) ask a;
+        typed = asked-typed (lentOf t₀) row (p .now) (f .sound) ask a (firstPlaces (lentBy row) (p .now .memory))
+            (every-take isSample (lentBy row .samples) (p .now .memory .samples) known);
         follows = refl;
       }
 
@@ -149,7 +152,7 @@ module _ (t₀ : Tables) (script : List ℕ) (pool : List ℤ) (trails₀ sheets
   -- a row that a turn has played
   pub playing-on : {t t′ : Tables} {trails trails′ sheets sheets′ lists lists′ replies : List ℕ} {at : Cursor} {place k : ℕ} (r : Turn)
       (row : List ℕ) (to : ℕ)
-      → Playing t trails sheets lists replies at place k → lentOf t ≡ lentOf t₀ → lentOf t′ ≡ lentOf t₀
+      → Playing t trails sheets lists replies at place k → T (areSamples (t .samples)) → lentOf t ≡ lentOf t₀ → lentOf t′ ≡ lentOf t₀
       → rowsOf (drop place script) ≡ row ∷ rowsOf (drop to script) → place + 1 ≤ to
       → turnOf r t′ pool trails′ sheets′ lists′ ≡ made (lentBy row) (asks (lentOf t) row (stateAt t pool trails sheets lists at))
       (stateAt t pool trails sheets lists at)
@@ -158,15 +161,15 @@ module _ (t₀ : Tables) (script : List ℕ) (pool : List ℤ) (trails₀ sheets
       → (replies′ : List ℕ) (k′ : ℕ) → replies′ ≡ tellsRow r k replies → k′ ≡ nextRow r k → Playing t′ trails′ sheets′ lists′ replies′
       (r .at) to k′
   unfolding playedRow
-  playing-on {t} {t′} {trails} {trails′} {sheets} {sheets′} {lists} {lists′} {replies} {at} {place} {k} r row to h l l′ next more e i m n
-      o replies′ k′ q u =
+  playing-on {t} {t′} {trails} {trails′} {sheets} {sheets′} {lists} {lists′} {replies} {at} {place} {k} r row to h known l l′ next more e
+      i m n o replies′ k′ q u =
       let p = h .so-far in
       let asked : turnOf r t′ pool trails′ sheets′ lists′ ≡ made (lentBy row) (asks (lentOf t₀) row (p .now)) (p .now) =
       e
       ∙ (ap (λ (x : Lent). made (lentBy row) (asks x row (stateAt t pool trails sheets lists at)) (stateAt t pool trails sheets lists at)) l
       ∙ ap (λ (x : State). made (lentBy row) (asks (lentOf t₀) row x) x) (h .state-is)) in
       let g = row-fine t₀ replies₀ row p replies k r (stateAt t′ pool trails′ sheets′ lists′ (r .at)) (asks (lentOf t₀) row (p .now))
-      (h .fine) refl asked l′ in
+      (h .fine) refl asked l′ (subst (λ (x : State). T (areSamples (x .memory .samples))) (h .state-is) known) in
       record {
         so-far = playedRow (lentOf t₀) p row;
         state-is = g .0;

@@ -17,11 +17,11 @@ use Rattle.integer.proofs.Tests.{passes, test-true}
 use Rattle.integer.specs.Lists.{All, all-none, all-more}
 use Rattle.integer.proofs.Lists.{all-append, every-all, all-every}
 use Rattle.dstree.specs.Sheet.{areBytes}
-use Rattle.dstree.specs.Book.{Lent, Ask, opening, adding, matching, writing, reading, listing, Call, call}
+use Rattle.dstree.specs.Book.{Lent, Ask, opening, adding, matching, writing, reading, listing, importing, exporting, Call, call}
 use Rattle.tables.specs.Tables.{Tables, lentOf}
 use Rattle.tables.specs.Beginning.{Within}
 use Rattle.replay.specs.Script.{State, lentBy, Taken, sizeOf, nextOf, aheadOf, Kind, openings, addings, matchings, writings}
-use Rattle.replay.specs.Script.{readings, listings, kinds, kindAt}
+use Rattle.replay.specs.Script.{readings, listings, importings, exportings, kinds, kindAt}
 use Rattle.replay.specs.Script.{fitsIn, enough, ifEnough, playable, askedBy, asks, takenBy, stateAfter, made, Played, begun}
 use Rattle.replay.specs.Script.{playedOne, playedRow}
 use Rattle.replay.specs.declared.Cursor.{Cursor}
@@ -141,6 +141,36 @@ rowFor (listing k x trail list) = record {
   marks-fit = λ s. s .3;
   bytes-fit = λ s. all-none;
   list-fits = λ s. s .5;
+}
+rowFor (importing bytes) = record {
+  number = 6;
+  own = length bytes ∷ [];
+  kind = importings;
+  is-kind = refl;
+  takes-that = λ lent. refl;
+  asks-that = λ lent. refl;
+  short = lit< tt;
+  numbers-fit = λ s. all-more (s .1) all-none;
+  number-fits = lit< tt;
+  samples-fit = λ s. all-none;
+  marks-fit = λ s. all-none;
+  bytes-fit = λ s. every-all isByte bytes (s .0);
+  list-fits = λ s. all-none;
+}
+rowFor (exporting number rate buffer) = record {
+  number = 7;
+  own = length buffer ∷ number ∷ rate ∷ [];
+  kind = exportings;
+  is-kind = refl;
+  takes-that = λ lent. refl;
+  asks-that = λ lent. refl;
+  short = lit< tt;
+  numbers-fit = λ s. all-more (s .3) (all-more (s .0) (all-more (s .1) all-none));
+  number-fits = lit< tt;
+  samples-fit = λ s. all-none;
+  marks-fit = λ s. all-none;
+  bytes-fit = λ s. every-all isByte buffer (s .2);
+  list-fits = λ s. all-none;
 }
 
 rowBy : Lent → Ask → List ℕ

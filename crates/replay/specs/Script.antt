@@ -10,7 +10,8 @@ use lib.ListN.{length, getD, take, drop}
 use lib.Dec.{leb}
 use Rattle.integer.specs.Words.{if_then_else_}
 use Rattle.dstree.specs.Measures.{measures}
-use Rattle.dstree.specs.Book.{Lent, Ask, opening, adding, matching, writing, reading, listing, Call, call, Answer, Reply, reply}
+use Rattle.dstree.specs.Book.{Lent, Ask, opening, adding, matching, writing, reading, listing, importing, exporting, Call, call, Answer}
+use Rattle.dstree.specs.Book.{Reply, reply}
 use Rattle.tables.specs.Tables.{Tables, lentOf}
 use Rattle.calls.specs.Effects.{outcomeOn}
 use Rattle.calls.specs.Follows.{outcomeIn}
@@ -70,7 +71,7 @@ supply used ahead = record { used = used; ahead = ahead }
 abbrev pub whole : Supply → List ℕ
 whole s = s .used ++ s .ahead
 
--- the memory; the samples of traces and queries to come; the trails, the sheets and the lists
+-- the memory; the samples of traces and queries to come; the trails, the sheets, with the recordings among them, and the lists
 pub record State : Type 0 where
   pub memory : Tables
   pub samples : List ℤ
@@ -176,9 +177,21 @@ listings = record {
   ask = λ row x. listing (ownNumber row 3) (x .samples) (x .trail) (x .list);
 }
 
+-- an import of a recording of the next so many bytes
+abbrev pub importings : Kind
+importings = record { changes = true; takes = λ row. cursor 0 0 (ownNumber row 0) 0; ask = λ row x. importing (x .sheet) }
+
+-- an export of the trace with a number, at a rate, to a buffer of the next so many bytes
+abbrev pub exportings : Kind
+exportings = record {
+  changes = false;
+  takes = λ row. cursor 0 0 (ownNumber row 0) 0;
+  ask = λ row x. exporting (ownNumber row 1) (ownNumber row 2) (x .sheet);
+}
+
 -- a row's first number is its kind's place here
 abbrev pub kinds : List Kind
-kinds = openings ∷ addings ∷ matchings ∷ writings ∷ readings ∷ listings ∷ []
+kinds = openings ∷ addings ∷ matchings ∷ writings ∷ readings ∷ listings ∷ importings ∷ exportings ∷ []
 
 unfoldable pub kindAt : List Kind → ℕ → Option Kind
 kindAt [] n = none
@@ -253,6 +266,8 @@ takenBy (matching query trail) = taken query trail [] []
 takenBy (writing sheet) = taken [] [] sheet []
 takenBy (reading bytes) = taken [] [] bytes []
 takenBy (listing k query trail list) = taken query trail [] list
+takenBy (importing bytes) = taken [] [] bytes []
+takenBy (exporting number rate buffer) = taken [] [] buffer []
 
 -- .. and how it leaves that, by what it leaves beside the tables
 unfoldable pub leftBy : Ask → List (List ℕ) → Taken
@@ -262,6 +277,8 @@ leftBy (matching query trail) beside = taken query (getD beside 0 []) [] []
 leftBy (writing sheet) beside = taken [] [] (getD beside 0 []) []
 leftBy (reading bytes) beside = taken [] [] bytes []
 leftBy (listing k query trail list) beside = taken query (getD beside 0 []) [] (getD beside 1 [])
+leftBy (importing bytes) beside = taken [] [] bytes []
+leftBy (exporting number rate buffer) beside = taken [] [] (getD beside 0 []) []
 
 -- the places that a call took are used, as it left them
 abbrev pub used : Supply → List ℕ → List ℕ → Supply

@@ -1,7 +1,8 @@
-// Rows whose calls change no table but search work: matches (2), writings (3), listings (5). A kind is a reply and a branch.
+// Rows whose calls change no table but search work: matches (2), writings (3), listings (5), exports (7). A kind is a reply and a branch.
 
 use crate::replies::of_refusal;
 use crate::rows::number;
+use exporting::Exported;
 use listing::Listed;
 use matching::Found;
 use sheet_writing::Written;
@@ -12,6 +13,7 @@ ghost use Prim.Native.Nat.{ℕ};
 ghost use Rattle.matching.specs.Answered as found;
 ghost use Rattle.sheet_writing.specs.Answered as written;
 ghost use Rattle.listing.specs.Answered as listed;
+ghost use Rattle.exporting.specs.Answered as exported;
 ghost use Rattle.tables.specs.Tables.{tables};
 ghost use Rattle.replay.specs.Numbers.{replyRow};
 ghost use Rattle.replay.specs.Script.{taken, called, Plays};
@@ -43,6 +45,16 @@ fn of_listed(answer: Listed) -> [u64; 5]
     match answer {
         Listed::Found(leaves, traces, many) => [0, leaves, traces, many, 0],
         Listed::Refused(why) => of_refusal(why),
+    }
+}
+
+// The recording is told by the slice that the export leaves it in.
+fn of_exported(answer: Exported) -> [u64; 5]
+    ensures { λ r. ⌜ ((buffer : List ℕ) → r ≡ replyRow (exported.answerBy answer buffer)) ⌝ }
+{
+    match answer {
+        Exported::Bytes(size) => [0, size, 0, 0, 0],
+        Exported::Refused(why) => of_refusal(why),
     }
 }
 
@@ -85,6 +97,20 @@ pub fn play(
             list,
             query,
             k,
+        ));
+    }
+    if kind == 7 {
+        let trace = number(row, 7);
+        let rate = number(row, 8);
+        return of_exported(exporting::export_recording(
+            control,
+            samples,
+            nodes,
+            links,
+            work,
+            sheet,
+            trace,
+            rate,
         ));
     }
     [0; 5]

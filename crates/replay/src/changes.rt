@@ -1,8 +1,9 @@
-// Rows whose calls change tables: openings (0), addings (1), readings (4). A kind is a reply and a branch.
+// Rows whose calls change tables: openings (0), addings (1), readings (4), imports (6). A kind is a reply and a branch.
 
 use crate::replies::of_refusal;
 use crate::rows::number;
 use adding::Added;
+use importing::Imported;
 use opening::Opened;
 use sheet_reading::Read;
 ghost use mathlib.Core.Path.{_≡_};
@@ -12,6 +13,7 @@ ghost use Prim.Native.Nat.{ℕ};
 ghost use Rattle.opening.specs.Opened as opened;
 ghost use Rattle.adding.specs.Answered as added;
 ghost use Rattle.sheet_reading.specs.Answered as read;
+ghost use Rattle.importing.specs.Answered as imported;
 ghost use Rattle.tables.specs.Tables.{tables};
 ghost use Rattle.replay.specs.Numbers.{replyRow};
 ghost use Rattle.replay.specs.Script.{taken, called, Plays};
@@ -40,6 +42,15 @@ fn of_read(answer: Read) -> [u64; 5]
     match answer {
         Read::Done => [0; 5],
         Read::Refused(why) => of_refusal(why),
+    }
+}
+
+fn of_imported(answer: Imported) -> [u64; 5]
+    ensures { λ r. ⌜ r ≡ replyRow (imported.answerOf answer) ⌝ }
+{
+    match answer {
+        Imported::Traces(count) => [0, count, 0, 0, 0],
+        Imported::Refused(why) => of_refusal(why),
     }
 }
 
@@ -82,6 +93,16 @@ pub fn play(
     }
     if kind == 4 {
         return of_read(sheet_reading::read_sheet(control, samples, nodes, links, work, sheet));
+    }
+    if kind == 6 {
+        return of_imported(importing::import_recording(
+            control,
+            samples,
+            nodes,
+            links,
+            work,
+            sheet,
+        ));
     }
     [0; 5]
 }

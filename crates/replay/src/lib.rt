@@ -10,10 +10,9 @@ pub mod turns; // a row, played
 use crate::replies::tell;
 use crate::rows::row_end;
 use crate::turns::turn;
+use tables::loops::look;
 ghost use mathlib.Core.Path.{_≡_};
-ghost use lib.Dec.{T};
 ghost use Rattle.tables.specs.Tables.{tables};
-ghost use Rattle.calls.specs.Follows.{areSamples};
 ghost use Rattle.replay.specs.Numbers.{repliesLaid};
 ghost use Rattle.replay.specs.Script.{answersOf, played, whole};
 ghost use Rattle.replay.specs.Demanded.{Demanded};
@@ -55,23 +54,13 @@ pub struct Turn {
     pub at: Cursor,
 }
 
-// Looks at every sample: each is a number of 16 bits, as a lent slice's type says and a look at it shows.
-fn look(pool: &[i16])
-    ensures { λ _. ⌜ T (areSamples (now (pool .entry))) ⌝ }
-{
-    let mut i = 0;
-    while i < pool.len() {
-        let sample = pool[i];
-        i += 1;
-    }
-}
-
 // Every call of a script, in its order, on tables that hold anything. `script` has a row of numbers a call, each behind its length: which
-// call it is (0 opening, 1 adding, 2 match, 3 writing, 4 reading, 5 listing), the lengths of the five tables that it is lent, and its own:
-// an opening's measures; an adding's number of samples; a match's, then the places of its trail; the bytes of a writing's or a reading's
-// sheet; a listing's as a match's, then the places of its list and k. `pool` has the samples of traces and queries, one behind another,
-// `trails` the trails of matches and listings, `sheets` the sheets of writings and readings, `lists` the lists of listings likewise. Each
-// reply goes into five places of `replies`.
+// call it is (0 opening, 1 adding, 2 match, 3 writing, 4 reading, 5 listing, 6 import, 7 export), the lengths of the five tables that it
+// is lent, and its own: an opening's measures; an adding's number of samples; a match's, then the places of its trail; the bytes of a
+// writing's or a reading's sheet, or of an import's recording; a listing's as a match's, then the places of its list and k; the bytes of an
+// export's buffer, then a trace's number and a rate. `pool` has the samples of traces and queries, one behind another, `trails` the trails
+// of matches and listings, `sheets` the sheets of writings and readings, with the recordings and buffers among them, `lists` the lists of
+// listings likewise. Each reply goes into five places of `replies`.
 //
 // What holds after the calls is document 01's demands over lists of calls. Two wrong programs that the contract rules out: one that leaves out an adding, and
 // one that lends a call a table one place shorter than it asks for.
@@ -124,6 +113,7 @@ pub fn play(
     let mut place: usize = 0;
     let mut told: usize = 0;
     while place < script.len() {
+        look(samples); // an import is known to go to samples of 16 bits
         let from = place + 1;
         let to = row_end(script, place);
         let turned = turn(

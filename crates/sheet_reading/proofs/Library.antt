@@ -1,15 +1,13 @@
 -- What a sheet that is not refused holds is a library, and so are its first traces.
 use mathlib.Core.Path.{_≡_, sym, ap, _∙_, subst}
 use mathlib.Core.Option.{none}
-use mathlib.Core.List.{List, [], _∷_, _++_, foldl, foldl-append}
-use Prim.Native.Nat.{ℕ, suc, _<_}
+use mathlib.Core.List.{List, [], _++_, foldl}
+use Prim.Native.Nat.{ℕ, _<_}
 use native.Mathlib.Omega.{arith}
 use lib.IntN.{ℤ}
 use lib.ListN.{length, getD, take, drop, take-append-drop}
-use lib.Seq.{take-suc, length-take-le}
-use lib.Dec.{T, ltb, lt→ltb}
-use mir.Facts.{yes-and}
-use Rattle.integer.specs.Words.{every}
+use lib.Seq.{length-take-le}
+use lib.Dec.{T}
 use Rattle.integer.proofs.Lists.{in-getD}
 use Rattle.dstree.specs.Measures.{Trace, Measures, sampleLimit, isLibrary}
 use Rattle.dstree.specs.Refusals.{firstOf}
@@ -23,12 +21,6 @@ use Rattle.insertion_memory.proofs.Made.{Holds, count-is, room, is-trace, short
 use Rattle.adding.specs.Putting.{Takes}
 use Rattle.sheet_judging.specs.Traces.{sizeOf, countOf, tracesOf}
 use Rattle.sheet_reading.proofs.Ends.{said, judged-holds}
-
--- a slice of bytes
-pub known-bytes : (l : List ℕ) → ((i : ℕ) → getD l i 0 < 256) → T (areBytes l)
-unfolding areBytes every
-known-bytes [] h = tt
-known-bytes (b ∷ l) h = yes-and (ltb b 256) (areBytes l) (lt→ltb b 256 (h 0)) (known-bytes l (λ i. h (suc i)))
 
 pub traces-count : (bytes : List ℕ) → length (tracesOf bytes) ≡ countOf bytes
 unfolding tracesIn
@@ -80,6 +72,3 @@ module _ (bytes : List ℕ) (sound : firstOf (sheetConditions bytes) ≡ none) (
             size = trace-size i inside ∙ ap (λ (k : Measures). k .n) (sym (h .measures-are));
             less = omega (arith, counted, next-less, ap (λ (k : Measures). k .capacity) (h .measures-are));
           }
-
-      pub one-more : (t : Tables) → foldl addedTo t (take (suc i) traces) ≡ addedTo (foldl addedTo t (take i traces)) (getD traces i [])
-      one-more t = ap (foldl addedTo t) (take-suc traces i [] in-traces) ∙ foldl-append addedTo t (take i traces) (getD traces i [] ∷ [])

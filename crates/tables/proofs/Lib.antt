@@ -7,4 +7,5 @@ pub mod Beginning
 pub mod Views
 pub mod Listed
 pub mod Parts
+pub mod Samples
 pub mod Linked

@@ -21,6 +21,7 @@ pub fn number(why: Refusal) -> u64
         Refusal::TornBlock(_block) => 9,
         Refusal::BadSheet => 10,
         Refusal::BadK => 11,
+        Refusal::BadRecording => 12,
     }
 }
 
@@ -40,5 +41,6 @@ pub fn place(why: Refusal) -> u64
         Refusal::TornBlock(block) => block,
         Refusal::BadSheet => 0,
         Refusal::BadK => 0,
+        Refusal::BadRecording => 0,
     }
 }

@@ -22,6 +22,7 @@ pub enum Refusal {
     TornBlock(u64),
     BadSheet,
     BadK,
+    BadRecording,
 }
 
 // What a judge found.

@@ -1,10 +1,12 @@
-// Zeroing the needed part of a table, and copying a trace into the samples.
+// Zeroing the needed part of a table, copying a trace into the samples, and looking at samples.
 
 ghost use mathlib.Core.Path.{_≡_};
 ghost use Prim.Native.Nat.{_+_, _≤_};
 ghost use lib.IntN.{pos};
 ghost use lib.ListN.{length};
 ghost use lib.Seq.{paste};
+ghost use lib.Dec.{T};
+ghost use Rattle.dstree.specs.Measures.{areSamples};
 ghost use Rattle.tables.specs.Tables.{filled};
 
 // The first k places become 0, and the places behind them stay. A loop for each table, since their numbers differ in width and sign.
@@ -61,5 +63,16 @@ pub fn copy_trace(samples: &mut [i16], at: usize, trace: &[i16])
     while j < trace.len() {
         samples[at + j] = trace[j];
         j += 1;
+    }
+}
+
+// Looks at every sample: each is a number of 16 bits, as a lent slice's type says and a look at it shows. Nothing is left of it when it runs.
+pub fn look(samples: &[i16])
+    ensures { λ _. ⌜ T (areSamples (now (samples .entry))) ⌝ }
+{
+    let mut i = 0;
+    while i < samples.len() {
+        let sample = samples[i];
+        i += 1;
     }
 }

@@ -1,12 +1,12 @@
--- `replay::play` meets its contract: after some rows the lent slices are in the state that these leave. The measure is how much of the script is left.
+-- `replay::play` meets its contract: after some rows the lent slices are in the state that these leave. The measure is how much of the script
+-- is left.
 use Prim.Native.Nat.{_-_, _≤_}
 use mathlib.Core.Path.{_≡_, refl, _∙_}
 use native.Mathlib.Omega.{arith}
 use lib.ListN.{length}
 use denote.Ref.{now}
-use borrow.Author.Needs.{needs}
 use Rattle.tables.specs.Tables.{Tables, tables}
-use Rattle.replay.proofs.Asking.{bytes-known}
+use Rattle.dstree.proofs.SheetFields.{known-bytes}
 use Rattle.replay.proofs.Played.{Playing, playing-first, playing-on, memory-then, trails-then, sheets-then, lists-then}
 use Rattle.replay.proofs.Played.{replies-then, ran-then}
 use Rattle.replay.proofs.Played.{same-lengths, demanded}
@@ -37,7 +37,7 @@ abbrev μ-loop : tie.MeasureT-loop
 loop-holds : tie.Need-loop-holds Inv-loop μ-loop
 loop-holds c =
     let a = c .before .before .before .before .before .before .before .before .before .args in
-    let bytes = bytes-known (now (a .sheets)) (λ i. omega (arith, c .before .before .before .before .slice-known5 .given i)) in (
+    let bytes = known-bytes (now (a .sheets)) (λ i. omega (arith, c .before .before .before .before .slice-known5 .given i)) in (
       omega arith,
       playing-first (tables (now (a .control)) (now (a .samples)) (now (a .nodes)) (now (a .links)) (now (a .work))) (now (a .script))
           (now (a .pool)) (now (a .trails)) (now (a .sheets)) (now (a .lists)) (now (a .replies)) (c .look .ensures) bytes,
@@ -56,9 +56,9 @@ tell-requires : tie.Need-tell-requires Inv-loop μ-loop
 tell-requires c κs = omega (
   arith,
   c .before .before .before .before .before .before .before .before .before .before .before .before .before .before .before .before
-      .before .before .before .before .before .before .before .before .before .before .before .loop .inv .1 .few,
+      .before .before .before .before .before .before .before .before .before .before .before .before .before .loop .inv .1 .few,
   c .before .before .before .before .before .before .before .before .before .before .before .before .before .before .before .before
-      .before .before .before .before .before .before .before .before .before .before .loop-test .taken,
+      .before .before .before .before .before .before .before .before .before .before .before .before .loop-test .taken,
 )
 
 loop-less : tie.Need-loop-less Inv-loop μ-loop
@@ -70,21 +70,25 @@ loop-less c =
       c .before .before .before .before .before .before .before .before .before .before .before .before .before .before .before .before
           .before .before .before .before .before .before .before .before .before .before .before .before .before .row-end .ensures .1,
       c .before .before .before .before .before .before .before .before .before .before .before .before .before .before .before .before
-          .before .before .before .before .before .before .before .before .before .before .before .before .before .before .loop-test .taken,
+          .before .before .before .before .before .before .before .before .before .before .before .before .before .before .before .before
+          .loop-test .taken,
     )
 
 loop-again : tie.Need-loop-again Inv-loop μ-loop
 loop-again c =
     let l = c .before .before .before .before .before .before .before .before .before .before .before .before .before .before .before
     .before .before .before .before .before .before .before .before .before .before .before .before .before .before .before .before
-    .loop in
+    .before .before .loop in
     let a = c .before .before .before .before .before .before .before .before .before .before .before .before .before .before .before
     .before .before .before .before .before .before .before .before .before .before .before .before .before .before .before .before
-    .before .before .before .before .before .before .before .before .before .before .args in
+    .before .before .before .before .before .before .before .before .before .before .before .before .args in
     let call = c .before .before .before .before .before .before .before .before .before .before .before .before .before .before .before
     .before .before .before .before .turn in
     let end = c .before .before .before .before .before .before .before .before .before .before .before .before .before .before .before
     .before .before .before .before .before .before .before .before .before .before .before .before .before .before .row-end in
+    let known = c .before .before .before .before .before .before .before .before .before .before .before .before .before .before .before
+    .before .before .before .before .before .before .before .before .before .before .before .before .before .before .before .look2
+    .ensures in
     let tell = c .before .before .before .tell in
     let t₀ : Tables = tables (now (a .control)) (now (a .samples)) (now (a .nodes)) (now (a .links)) (now (a .work)) in
     let t : Tables = tables (l .control) (l .samples) (l .nodes) (l .links) (l .work) in
@@ -97,7 +101,7 @@ loop-again c =
     let work = call .kept .1 .1 .1 .1 .0 ∙ l .inv .6 in (
       end .ensures .1,
       playing-on t₀ (now (a .script)) (now (a .pool)) (now (a .trails)) (now (a .sheets)) (now (a .lists)) (now (a .replies))
-          (call .result) _ (end .result) (l .inv .1)
+          (call .result) _ (end .result) (l .inv .1) known
           (same-lengths t t₀ (l .inv .2) (l .inv .3) (l .inv .4) (l .inv .5) (l .inv .6)) (same-lengths t′ t₀ control samples nodes links
           work)
           (end .ensures .2) (end .ensures .0) (call .ensures .0) (call .ensures .1) (call .kept .1 .1 .1 .1 .1 .0)
@@ -136,9 +140,9 @@ pub play-spec : {M : Type 1} → statement M
 play-spec =
     tie.close
     (tie.spec
-    Inv-loop μ-loop (λ c κs. search needs) loop-holds (λ c. omega arith) (λ c κs. omega arith) (λ c. omega arith) (λ c. omega arith)
+    Inv-loop μ-loop (λ c κs. tt) loop-holds (λ c κs. tt) (λ c. omega arith) (λ c κs. omega arith) (λ c. omega arith) (λ c. omega arith)
     (λ c. omega arith) (λ c. omega arith) (λ c κs. c .before .before .before .before .before .before .before .before .before .before
-    .before .loop .inv .1 .inside) tell-requires loop-less loop-again
+    .before .before .before .loop .inv .1 .inside) tell-requires loop-less loop-again
     (λ c. c .before .loop .inv .2) (λ c. c .before .loop .inv .3) (λ c. c .before .loop .inv .4) (λ c. c .before .loop .inv .5)
     (λ c. c .before .loop .inv .6) (λ c. c .before .loop .inv .7) (λ c. c .before .loop .inv .8) (λ c. c .before .loop .inv .9)
     (λ c. c .before .loop .inv .10) returns)

@@ -1,14 +1,15 @@
 -- `replay::asks::play` meets its contract, kind by kind.
 use Prim.Native.Nat.{ℕ}
-use mathlib.Core.Path.{refl, ap, _∙_}
+use mathlib.Core.Path.{refl, ap, ap₂, _∙_}
 use denote.Ref.{now}
-use Rattle.dstree.specs.Book.{listing}
+use Rattle.dstree.specs.Book.{listing, exporting}
 use Rattle.tables.specs.Tables.{Tables, tables}
 use Rattle.calls.specs.Outcome.{Outcome}
 use Rattle.calls.specs.Effects.{outcomeOn}
 use Rattle.replay.specs.Numbers.{replyRow}
-use Rattle.replay.specs.Script.{taken, matchings, writings, listings}
-use Rattle.replay.proofs.OfKind.{own-kind, no-other-ask, is-matchings, is-writings, is-listings, matches-it, writes-it, lists-it}
+use Rattle.replay.specs.Script.{taken, matchings, writings, listings, exportings}
+use Rattle.replay.proofs.OfKind.{own-kind, no-other-ask, is-matchings, is-writings, is-listings, is-exportings, matches-it}
+use Rattle.replay.proofs.OfKind.{writes-it, lists-it, exports-it}
 use Rattle.replay.proofs.asks.play.Statement.{statement}
 use Rattle.replay.proofs.asks.play.Tie as tie
 
@@ -57,8 +58,24 @@ returns-3 c =
     ∙ ap (λ (o : Outcome). replyRow (o .answer)) does) (ap (λ (o : Outcome). o .after) does) (ap (λ (o : Outcome). o .beside) does))
 
 returns-4 : tie.Need-returns-4
-returns-4 c = no-other-ask (c .before .before .before .before .before .before .before .before .before .before .args .kind) _ _ _ _
-    (c .before .before .if1 .left) (c .before .if2 .left) (c .if3 .left)
+returns-4 c =
+    let a = c .before .before .before .before .before .before .before .before .before .before .before .before .before .before .before
+    .before .before .before .before .args in
+    let row = now (a .row) in
+    let t : Tables = tables (now (a .control)) (now (a .samples)) (now (a .nodes)) (now (a .links)) (now (a .work)) in
+    let call = c .before .before .before .export-recording in
+    let does = call .ensures ∙ ap₂ (λ (number : ℕ) (rate : ℕ). outcomeOn (exporting number rate (now (a .sheet))) t)
+    (c .before .before .before .before .before .before .before .number2 .ensures) (c .before .before .before .before .before .before
+    .number3 .ensures) in
+    own-kind (a .kind) row (taken (now (a .query)) (now (a .trail)) (now (a .sheet)) (now (a .list))) t _ exportings (is-exportings
+    (c .before .before .before .before .before .before .before .before .if4 .taken))
+    (exports-it row (taken (now (a .query)) (now (a .trail)) (now (a .sheet)) (now (a .list))) t _ _ (call .last .1 .1 .1 .1 .1 .0)
+    (c .of-exported .ensures (call .last .1 .1 .1 .1 .1 .0) ∙ ap (λ (o : Outcome). replyRow (o .answer)) does) (ap (λ (o : Outcome). o
+    .after) does) (ap (λ (o : Outcome). o .beside) does))
+
+returns-5 : tie.Need-returns-5
+returns-5 c = no-other-ask (c .before .before .before .before .before .before .before .before .before .before .before .args .kind) _ _ _ _
+    (c .before .before .before .if1 .left) (c .before .before .if2 .left) (c .before .if3 .left) (c .if4 .left)
 
 pub play-spec : {M : Type 1} → statement M
 play-spec =
@@ -72,4 +89,5 @@ play-spec =
     (λ c. c .before .before .before .before .before .before .before .k-nearest .kept .1 .1 .1 .1 .0)
     (λ c. c .before .before .before .before .before .before .before .k-nearest .kept .1 .1 .1 .1 .1 .0)
     (λ c. c .before .before .before .before .before .before .before .k-nearest .kept .1 .1 .1 .1 .1 .1 .0)
-    returns-3 returns-4)
+    returns-3 (λ c κs. tt) (λ c κs. tt) (λ c κs. tt) (λ c κs. tt) (λ c. refl)
+    (λ c. c .before .before .before .export-recording .kept .1 .1 .1 .1 .1 .0) returns-4 returns-5)

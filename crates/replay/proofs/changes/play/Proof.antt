@@ -7,8 +7,9 @@ use Rattle.tables.specs.Tables.{Tables, tables}
 use Rattle.calls.specs.Outcome.{Outcome}
 use Rattle.calls.specs.Effects.{outcomeOn}
 use Rattle.replay.specs.Numbers.{replyRow}
-use Rattle.replay.specs.Script.{ownNumber, taken, openings, addings, readings}
-use Rattle.replay.proofs.OfKind.{own-kind, no-other-change, is-openings, is-addings, is-readings, opens-it, adds-it, reads-it}
+use Rattle.replay.specs.Script.{ownNumber, taken, openings, addings, readings, importings}
+use Rattle.replay.proofs.OfKind.{own-kind, no-other-change, is-openings, is-addings, is-readings, is-importings, opens-it, adds-it}
+use Rattle.replay.proofs.OfKind.{reads-it, imports-it}
 use Rattle.replay.proofs.changes.play.Statement.{statement}
 use Rattle.replay.proofs.changes.play.Tie as tie
 
@@ -60,8 +61,21 @@ returns-3 c =
 
 returns-4 : tie.Need-returns-4
 returns-4 c =
-    let a = c .before .before .before .before .before .before .before .before .args in
-    λ trail list. no-other-change (a .kind) _ _ _ _ (c .before .before .if1 .left) (c .before .if2 .left) (c .if3 .left)
+    let a = c .before .before .before .before .before .before .before .before .before .before .before .before .before .before .before
+    .before .before .before .before .before .before .before .args in
+    let row = now (a .row) in
+    let t : Tables = tables (now (a .control)) (now (a .samples)) (now (a .nodes)) (now (a .links)) (now (a .work)) in
+    let does = c .before .before .before .before .before .before .before .import-recording .ensures in
+    λ trail list. own-kind (a .kind) row (taken (now (a .query)) trail (now (a .sheet)) list) t _ importings (is-importings
+    (c .before .before .before .before .before .before .before .before .before .before .before .before .before .if4 .taken))
+    (imports-it row (taken (now (a .query)) trail (now (a .sheet)) list) t _ _ (c .of-imported .ensures
+    ∙ ap (λ (o : Outcome). replyRow (o .answer)) does) (ap (λ (o : Outcome). o .after) does))
+
+returns-5 : tie.Need-returns-5
+returns-5 c =
+    let a = c .before .before .before .before .before .before .before .before .before .args in
+    λ trail list. no-other-change (a .kind) _ _ _ _ (c .before .before .before .if1 .left) (c .before .before .if2 .left)
+    (c .before .if3 .left) (c .if4 .left)
 
 pub play-spec : {M : Type 1} → statement M
 play-spec =
@@ -84,4 +98,9 @@ play-spec =
     (λ c. c .before .before .before .before .before .before .before .before .before .read-sheet .kept .1 .1 .0)
     (λ c. c .before .before .before .before .before .before .before .before .before .read-sheet .kept .1 .1 .1 .0)
     (λ c. c .before .before .before .before .before .before .before .before .before .read-sheet .kept .1 .1 .1 .1 .0)
-    returns-3 returns-4)
+    returns-3 (λ c κs. tt) (λ c κs. tt)
+    (λ c. c .before .before .before .before .before .before .before .import-recording .kept .0)
+    (λ c. c .before .before .before .before .before .before .before .import-recording .kept .1 .0)
+    (λ c. c .before .before .before .before .before .before .before .import-recording .kept .1 .1 .0)
+    (λ c. c .before .before .before .before .before .before .before .import-recording .kept .1 .1 .1 .0) (λ c. refl)
+    returns-4 returns-5)

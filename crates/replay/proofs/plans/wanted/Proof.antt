@@ -1,10 +1,10 @@
 -- `replay::plans::wanted` meets its contract, kind by kind.
 use Prim.Native.Nat.{ℕ}
 use mathlib.Core.Path.{refl, sym, ap, ap₂, _∙_}
+use native.Mathlib.Omega.{arith}
 use denote.Ref.{now}
-use Rattle.replay.specs.Script.{ownNumber, cursor, openings, addings, matchings, writings, readings, listings}
-use Rattle.replay.proofs.OfKind.{is-openings, is-addings, is-matchings, is-writings, is-readings, is-listings, wanted-is}
-use Rattle.replay.proofs.OfKind.{wanted-not}
+use Rattle.replay.specs.Script.{ownNumber, cursor, openings, addings, matchings, listings}
+use Rattle.replay.proofs.OfKind.{is-openings, is-addings, is-matchings, is-listings, wanted-is, wanted-bytes, wanted-not}
 use Rattle.replay.proofs.plans.wanted.Statement.{statement}
 use Rattle.replay.proofs.plans.wanted.Tie as tie
 
@@ -32,47 +32,37 @@ returns-3 c =
 
 returns-4 : tie.Need-returns-4
 returns-4 c =
-    let first = c .before .before .before .before .before .before .before .places .ensures
-    ∙ c .before .before .before .before .before .before .before .before .number2 .ensures in
-    wanted-is _ (now (c .before .before .before .before .before .before .before .before .before .before .before .args .row)) _ writings _
-    (c .size4 .ensures) (is-writings (sym (c .before .before .before .before .before .before .before .before .before .number
-    .ensures) ∙ c .before .if4 .taken)) (ap (λ (x : ℕ). cursor 0 0 x 0) first)
-
-returns-5 : tie.Need-returns-5
-returns-5 c =
-    let first = c .before .before .before .before .before .before .before .before .places .ensures
-    ∙ c .before .before .before .before .before .before .before .before .before .number2 .ensures in
-    wanted-is _ (now (c .before .before .before .before .before .before .before .before .before .before .before .before .args .row)) _
-    readings _ (c .size5 .ensures) (is-readings (sym (c .before .before .before .before .before .before .before .before .before .before
-    .number .ensures) ∙ c .before .if5 .taken)) (ap (λ (x : ℕ). cursor 0 0 x 0) first)
-
-returns-6 : tie.Need-returns-6
-returns-6 c =
-    let row = now (c .before .before .before .before .before .before .before .before .before .before .before .before .before .before
-    .before .args .row) in
-    let first = c .before .before .before .before .before .before .before .before .before .before .before .places .ensures ∙
-    c .before .before .before .before .before .before .before .before .before .before .before .before .number2 .ensures in
-    let second = c .before .before .before .before .before .before .before .before .before .places2 .ensures ∙
-    c .before .before .before .before .before .before .before .before .before .before .number3 .ensures in
+    let row = now (c .before .before .before .before .before .before .before .before .before .before .before .before .before .args .row)
+    in
+    let first = c .before .before .before .before .before .before .before .before .before .places .ensures ∙
+    c .before .before .before .before .before .before .before .before .before .before .number2 .ensures in
+    let second = c .before .before .before .before .before .before .before .places2 .ensures ∙
+    c .before .before .before .before .before .before .before .before .number3 .ensures in
     let third = c .before .places3 .ensures ∙ c .before .before .number4 .ensures in
-    wanted-is _ row _ listings _ (c .size6 .ensures) (is-listings (sym
-    (c .before .before .before .before .before .before .before .before .before .before .before .before .before .number .ensures) ∙
-    c .before .before .before .if6 .taken))
+    wanted-is _ row _ listings _ (c .size4 .ensures) (is-listings (sym
+    (c .before .before .before .before .before .before .before .before .before .before .before .number .ensures) ∙
+    c .before .before .before .if4 .taken))
     (ap₂ (λ (x : ℕ) (y : ℕ). cursor x y 0 (c .before .places3 .result)) first second
     ∙ ap (λ (z : ℕ). cursor (ownNumber row 0) (ownNumber row 1) 0 z) third)
 
-returns-7 : tie.Need-returns-7
-returns-7 c =
+returns-5 : tie.Need-returns-5
+returns-5 c =
     let is = c .before .before .before .before .before .before .before .before .before .before .number .ensures in
-    wanted-not (now (c .before .before .before .before .before .before .before .before .before .before .before .before .args .row)) _
+    wanted-bytes _ (now (c .before .before .before .before .before .before .before .before .before .before .before .before .args .row)) _
+    _ (c .size5 .ensures)
+    (c .before .before .before .before .before .before .before .before .places .ensures ∙ c .before .before .before .before .before
+    .before .before .before .before .number2 .ensures)
     (λ e. c .before .before .before .before .before .if1 .left (is ∙ e)) (λ e. c .before .before .before .before .if2 .left (is ∙ e))
     (λ e. c .before .before .before .if3 .left (is ∙ e)) (λ e. c .before .before .if4 .left (is ∙ e))
-    (λ e. c .before .if5 .left (is ∙ e)) (λ e. c .if6 .left (is ∙ e))
+    (omega (arith, is, c .before .if5 .taken))
+
+returns-6 : tie.Need-returns-6
+returns-6 c = wanted-not (now (c .before .before .before .before .before .before .before .before .before .before .before .args .row)) _
+    (omega (arith, c .before .before .before .before .before .before .before .before .before .number .ensures, c .if5 .left))
 
 pub wanted-spec : {M : Type 1} → statement M
 wanted-spec =
     tie.close
     (tie.spec
     (λ c κs. tt) (λ c κs. tt) (λ c κs. tt) (λ c κs. tt) (λ c κs. tt) (λ c κs. tt) returns (λ c κs. tt) returns-2 (λ c κs. tt) returns-3
-    (λ c κs. tt) returns-4
-    (λ c κs. tt) returns-5 (λ c κs. tt) (λ c κs. tt) (λ c κs. tt) returns-6 returns-7)
+    (λ c κs. tt) (λ c κs. tt) (λ c κs. tt) returns-4 (λ c κs. tt) returns-5 returns-6)

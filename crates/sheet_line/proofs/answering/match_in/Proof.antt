@@ -19,7 +19,8 @@ use Rattle.sheet_judging.specs.Traces.{countOf, tracesOf}
 use Rattle.sheet_judging.proofs.Places.{first-inside}
 use Rattle.sheet_judging.proofs.Samples.{fine}
 use Rattle.sheet_reading.proofs.Ends.{said}
-use Rattle.sheet_reading.proofs.Library.{known-bytes, holds-first}
+use Rattle.dstree.proofs.SheetFields.{known-bytes}
+use Rattle.sheet_reading.proofs.Library.{holds-first}
 use Rattle.sheet_reading.proofs.Steps.{opened-empty}
 use Rattle.sheet_line.proofs.Judged.{sound, two-traces, last-line, roomy}
 use Rattle.sheet_line.proofs.answering.match_in.Statement.{statement}

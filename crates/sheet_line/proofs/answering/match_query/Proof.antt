@@ -19,7 +19,8 @@ use Rattle.tables.specs.Tables.{Tables, tables}
 use Rattle.sheet_judging.specs.Traces.{countOf, tracesOf}
 use Rattle.sheet_judging.proofs.Samples.{fine}
 use Rattle.sheet_reading.proofs.Ends.{said}
-use Rattle.sheet_reading.proofs.Library.{known-bytes, traces-count, first-library, trace-size}
+use Rattle.dstree.proofs.SheetFields.{known-bytes}
+use Rattle.sheet_reading.proofs.Library.{traces-count, first-library, trace-size}
 use Rattle.sheet_line.specs.Stored.{most}
 use Rattle.sheet_line.proofs.Judged.{sound, capacity-small, two-traces}
 use Rattle.sheet_line.proofs.Matched.{ready, found-line, none-line}

@@ -9,12 +9,14 @@ use lib.ListN.{length, getD, take}
 use lib.Dec.{T}
 use denote.Ref.{now}
 use Rattle.dstree.specs.Sheet.{areBytes}
+use Rattle.dstree.proofs.SheetFields.{known-bytes}
 use Rattle.tables.specs.Tables.{Tables, tables}
 use Rattle.insertion_memory.specs.Memory.{addedTo}
+use Rattle.insertion_memory.proofs.Keeps.{one-more}
 use Rattle.adding.specs.Putting.{Takes}
 use Rattle.sheet_judging.specs.Traces.{sizeOf, countOf, tracesOf, numberAt, IsAt, samplesFrom}
 use Rattle.sheet_judging.proofs.Samples.{fine, trace-is, trace-inside}
-use Rattle.sheet_reading.proofs.Library.{known-bytes, takes-next, one-more}
+use Rattle.sheet_reading.proofs.Library.{traces-count, takes-next}
 use Rattle.sheet_reading.proofs.loading.load.Statement.{statement}
 use Rattle.sheet_reading.proofs.loading.load.Tie as tie
 
@@ -130,7 +132,7 @@ loop-again c =
     let on : first i + n i ≡ (number i + 1) * sizeOf (bytes (at i)) = omega (arith, first-is i, p .size) in (
       omega (arith, i .loop-test .taken),
       (λ work. rw (add-one (number i)) (a .put-one .ensures .0 work ∙ ap₂ addedTo (l .inv .1 work) (sym (trace-is-next i))
-          ∙ sym (one-more (bytes (at i)) (p .sound) (known (at i)) (lent (at i) []) (p .empty) (number i) (inside i) (lent (at i) work)))),
+          ∙ sym (one-more (lent (at i) work) (tracesOf (bytes (at i))) (number i) (omega (arith, inside i, traces-count (bytes (at i))))))),
       c .before .before .before .before .before .control .given ∙ l .inv .2,
       c .before .before .before .samples .given ∙ l .inv .3,
       c .before .before .nodes .given ∙ l .inv .4,

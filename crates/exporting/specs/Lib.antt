@@ -1,0 +1,2 @@
+-- What exporting a trace answers.
+pub mod Answered

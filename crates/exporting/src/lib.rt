@@ -1,0 +1,57 @@
+// Exporting a stored trace as a recording.
+
+pub mod judging; // what exporting refuses
+
+use recording::writing::write_recording;
+use tables::Refusal;
+use tables::Verdict;
+use tables::control::field;
+use tables::numbers::wide;
+use tables::places::N;
+use tables::runs::trace_at;
+ghost use mathlib.Core.Path.{_≡_};
+ghost use mathlib.Core.List.{[], _∷_};
+ghost use Rattle.dstree.specs.Book.{exporting};
+ghost use Rattle.tables.specs.Tables.{tables};
+ghost use Rattle.calls.specs.Outcome.{outcome};
+ghost use Rattle.calls.specs.Effects.{outcomeOn};
+ghost use Rattle.exporting.specs.Answered.{answerBy};
+
+// The number of bytes, or a refusal.
+pub enum Exported {
+    Bytes(u64),
+    Refused(Refusal),
+}
+
+// Writes a stored trace as a recording, at a rate, to the buffer's first places. Every refusal is decided before anything is written. All
+// five tables are lent only to be read and to be long enough: they stay as they were.
+//
+// Two wrong programs that the contract rules out: one that says the number of samples for the number of bytes, and one that zeroes the
+// buffer behind the recording.
+pub fn export_recording(
+    control: &[u16],
+    samples: &[i16],
+    nodes: &[i64],
+    links: &[u16],
+    work: &[u64],
+    buffer: &mut [u8],
+    number: u64,
+    rate: u64,
+) -> Exported
+    ensures { λ r. ⌜ outcome (answerBy r (now (buffer .exit)))
+        (tables (now (control .entry)) (now (samples .entry)) (now (nodes .entry)) (now (links .entry)) (now (work .entry)))
+        (now (buffer .exit) ∷ [])
+        ≡ outcomeOn (exporting number rate (now (buffer .entry)))
+        (tables (now (control .entry)) (now (samples .entry)) (now (nodes .entry)) (now (links .entry)) (now (work .entry))) ⌝ }
+{
+    let verdict = judging::judge(control, samples, nodes, links, work, buffer, number, rate);
+    match verdict {
+        Verdict::Refused(why) => Exported::Refused(why),
+        Verdict::Fine => {
+            let n = wide(field(control, N));
+            let trace = trace_at(samples, n, number as usize);
+            write_recording(buffer, rate, trace);
+            Exported::Bytes(44 + 2 * n as u64)
+        }
+    }
+}

@@ -1,0 +1,104 @@
+-- `importing::import_recording` meets its contract: what was judged says which of the two ways the call ends; tables and a file that
+-- nothing is refused of refuse nothing of the file's traces.
+use mathlib.Core.Path.{_≡_, refl, sym, ap, _∙_, subst}
+use mathlib.Core.Option.{none}
+use mathlib.Core.List.{List, [], foldl}
+use Prim.Native.Nat.{ℕ}
+use lib.ListN.{length}
+use lib.Dec.{T}
+use denote.Ref.{now}
+use borrow.Author.Needs.{needs}
+use Rattle.dstree.specs.Refusals.{firstOf}
+use Rattle.dstree.specs.Sheet.{areBytes}
+use Rattle.dstree.specs.Recording.{recordedTraces, judgeRecording, fileTraces}
+use Rattle.dstree.specs.Book.{imported, besideOf}
+use Rattle.dstree.proofs.SheetFields.{known-bytes}
+use Rattle.tables.specs.Tables.{Tables, tables, measuresOf}
+use Rattle.tables.specs.Answers.{foundBy}
+use Rattle.insertion_memory.specs.Memory.{addedTo}
+use Rattle.calls.specs.Effects.{imports, effectOf, outcomeOn}
+use Rattle.calls.proofs.Ends.{ends-refused, ends-done}
+use Rattle.importing.specs.Answered.{answerOf}
+use Rattle.importing.specs.Loads.{Loads}
+use Rattle.importing.proofs.Answers.{refused-first, counted}
+use Rattle.importing.proofs.Takes.{traces-are, loads}
+use Rattle.importing.proofs.import_recording.Statement.{statement}
+use Rattle.importing.proofs.import_recording.Tie as tie
+
+-- what the call came with
+module _ (j : tie.After-judge) where
+  abbrev known : tie.After-shared-slice-known2
+  known = j .before .before .before .before .before
+
+  abbrev start : tie.Start
+  start = known .before .before .before .before
+
+  abbrev bytes : List ℕ
+  bytes = now (start .args .bytes)
+
+  abbrev lent : Tables
+  lent =
+      tables (now (start .args .control)) (now (start .args .samples)) (now (start .args .nodes)) (now (start .args .links))
+      (now (start .args .work))
+
+  are-bytes : T (areBytes bytes)
+  are-bytes = known-bytes bytes (λ i. known .shared-slice-known2 .given i .fits)
+
+-- nothing was refused, and the file has so many traces
+module _ (l : tie.After-look) where
+  abbrev wide : tie.After-wide
+  wide = l .before .before
+
+  abbrev told : tie.After-judged2
+  told = wide .before .before .before .before
+
+  abbrev judged : tie.After-judge
+  judged = told .before .before
+
+  abbrev t : Tables
+  t = lent judged
+
+  abbrev count : ℕ
+  count = told .judged2 .given .0 .0
+
+  n-is : wide .wide .result ≡ measuresOf t .n
+  n-is = wide .wide .ensures ∙ wide .before .field .ensures
+
+  taken : (firstOf (imports t (bytes judged) .conditions) ≡ none)
+      × (count ≡ length (fileTraces (judgeRecording (measuresOf t .n) (bytes judged))))
+  unfolding answerOf
+  taken = counted t (bytes judged) count (sym (ap answerOf (told .judged2 .given .1)) ∙ judged .judge .ensures)
+
+load-requires : tie.Need-load-requires
+load-requires c κs =
+    let l = c .before .before .before .before in
+    let j = judged l in
+    let g = start j .args in
+    subst (λ (k : ℕ). Loads (now (g .control)) (now (g .samples)) (now (g .nodes)) (now (g .links)) (bytes j) k (count l)) (sym (n-is l))
+    (loads (t l) (bytes j) (taken l .0) (are-bytes j) (l .look .ensures) (count l) (taken l .1))
+
+returns : tie.Need-returns
+unfolding answerOf outcomeOn effectOf besideOf foundBy
+returns c =
+    let j = c .before .before .before in
+    ends-refused (lent j) [] (imports (lent j) (bytes j)) _
+    (refused-first (lent j) (bytes j) _ (sym (ap answerOf (c .before .judged .given .1)) ∙ j .judge .ensures))
+
+returns-2 : tie.Need-returns-2
+unfolding answerOf outcomeOn effectOf besideOf imports
+returns-2 c =
+    let d = c .before .before .before .before .before .before in
+    let l = d .before .before .before .before .before in
+    let j = judged l in
+    ends-done (t l) [] (imports (t l) (bytes j)) (imported (count l)) _ [] (taken l .0) (ap imported (taken l .1))
+    (d .load .ensures (now (start j .args .work))
+    ∙ (ap (λ (k : ℕ). foldl addedTo (t l) (recordedTraces k (bytes j))) (n-is l)
+    ∙ sym (ap (foldl addedTo (t l)) (traces-are (t l) (bytes j) (taken l .0))))) refl
+
+pub import-recording-spec : {M : Type 1} → statement M
+import-recording-spec =
+    tie.close
+    (tie.spec
+    (λ c κs. search needs) (λ c. search needs) (λ c. search needs) (λ c κs. search needs) (λ c κs. search needs) (λ c κs. search needs)
+    load-requires (λ c. search needs) (λ c. search needs) (λ c. search needs) (λ c. search needs) returns
+    (λ c. search needs) (λ c. search needs) (λ c. search needs) (λ c. search needs) returns-2)

@@ -1,0 +1,55 @@
+// Importing a recording into lent tables.
+
+pub mod judging; // what importing refuses
+pub mod loading; // the traces of a recording, added in order
+
+use tables::Refusal;
+use tables::control::field;
+use tables::loops::look;
+use tables::numbers::wide;
+use tables::places::N;
+ghost use mathlib.Core.Path.{_≡_};
+ghost use mathlib.Core.List.{[]};
+ghost use Rattle.dstree.specs.Book.{importing};
+ghost use Rattle.tables.specs.Tables.{tables};
+ghost use Rattle.calls.specs.Outcome.{outcome};
+ghost use Rattle.calls.specs.Effects.{outcomeOn};
+ghost use Rattle.importing.specs.Answered.{answerOf};
+
+// How many traces were added, or a refusal.
+pub enum Imported {
+    Traces(u64),
+    Refused(Refusal),
+}
+
+// Adds the traces of a file of any bytes, in order, all or none. Every refusal is decided before anything is written, and what was judged
+// is not tested again: each trace goes into tables that are known to be well formed. Search work is lent only to be long enough: it stays
+// as it was.
+//
+// Two wrong programs that the contract rules out: one that adds traces until the library is full and then refuses, and one that takes a
+// file whose last trace is short.
+pub fn import_recording(
+    control: &mut [u16],
+    samples: &mut [i16],
+    nodes: &mut [i64],
+    links: &mut [u16],
+    work: &[u64],
+    bytes: &[u8],
+) -> Imported
+    ensures { λ r. ⌜ outcome (answerOf r)
+        (tables (now (control .exit)) (now (samples .exit)) (now (nodes .exit)) (now (links .exit)) (now (work .entry)))
+        []
+        ≡ outcomeOn (importing (now (bytes .entry)))
+        (tables (now (control .entry)) (now (samples .entry)) (now (nodes .entry)) (now (links .entry)) (now (work .entry))) ⌝ }
+{
+    let judged = judging::judge(control, samples, nodes, links, work, bytes);
+    match judged {
+        Imported::Refused(why) => Imported::Refused(why),
+        Imported::Traces(count) => {
+            let n = wide(field(control, N));
+            look(samples);
+            loading::load(control, samples, nodes, links, bytes, n, count as usize);
+            Imported::Traces(count)
+        }
+    }
+}

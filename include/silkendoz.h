@@ -2,8 +2,8 @@
  *
  * The functions of target/staticlib/liblibrary_c.a, which `rt staticlib library_c` writes. They are proved: for every input that the rules
  * below allow, a call stays inside the memory it is lent, never overflows and ends, and it answers and leaves exactly what documents 01 and
- * 02 say. None of them keeps anything between calls, allocates, or calls anything but memcpy and memset. On x86-64 adding and reading a
- * sheet take less than 96 KiB of stack, every other call less than 16 KiB (measured, not proved).
+ * 02 say. None of them keeps anything between calls, allocates, or calls anything but memcpy and memset. On x86-64 adding, reading a sheet
+ * and importing a recording take less than 96 KiB of stack, every other call less than 16 KiB (measured, not proved).
  *
  * A TRACE is n signed 16-bit samples. A library keeps up to c traces, numbered from 0 as they are added.
  *
@@ -29,20 +29,22 @@
  * ANSWERS. A call gives back 0, or the number of a refusal. It writes the values that belong to the answer into the slice `out`, from its first place
  * on, and leaves the places behind them:
  *
- *   silkendoz_open         0   none
- *   silkendoz_add          0   the new trace's number
- *   silkendoz_nearest      0   trace number, distance, leaves read, traces read
- *   silkendoz_k_nearest    0   leaves read, traces read, how many traces are listed
- *   silkendoz_write_sheet  0   the number of blocks
- *   silkendoz_read_sheet   0   none
- *   any call         refused   the place
+ *   silkendoz_open              0   none
+ *   silkendoz_add               0   the new trace's number
+ *   silkendoz_nearest           0   trace number, distance, leaves read, traces read
+ *   silkendoz_k_nearest         0   leaves read, traces read, how many traces are listed
+ *   silkendoz_write_sheet       0   the number of blocks
+ *   silkendoz_read_sheet        0   none
+ *   silkendoz_import_recording  0   the number of traces added
+ *   silkendoz_export_recording  0   the number of bytes
+ *   any call              refused   the place
  *
  * If `out` has fewer places, the first values are written and the others are left out. SILKENDOZ_OUT places are enough for every call.
  *
- * REFUSALS. A refused call leaves every table, the trail, the list, the sheet and all of `out` behind its first place as they were. The
- * place is 0, but for a torn block, where it is the first block at fault. The numbers are tested in this order: 1; a control record too
- * short (2); its measures (3); other tables (2); the rest of 3; 11, directly behind 3; then 4 to 8. Reading a sheet: 8; 9 over all blocks;
- * 10; 2.
+ * REFUSALS. A refused call leaves every table, the trail, the list, the sheet, the buffer and all of `out` behind its first place as they
+ * were. The place is 0, but for a torn block, where it is the first block at fault. The numbers are tested in this order: 1; a control
+ * record too short (2); its measures (3); other tables (2); the rest of 3; 11 or 12, directly behind 3; then 4 to 8. Reading a sheet: 8; 9
+ * over all blocks; 10; 2.
  */
 #ifndef SILKENDOZ_H
 #define SILKENDOZ_H
@@ -78,17 +80,18 @@ extern "C" {
 /* The numbers that a call gives back. */
 enum silkendoz_refusal {
     SILKENDOZ_DONE = 0,
-    SILKENDOZ_MEASURE = 1,      /* opening: n, capacity or leaf size outside its range */
-    SILKENDOZ_SHORT_TABLE = 2,  /* a lent table below the need */
-    SILKENDOZ_SPOILED = 3,      /* tables not well formed */
-    SILKENDOZ_WRONG_TRACE = 4,  /* length not n */
-    SILKENDOZ_FULL = 5,         /* count equals capacity */
-    SILKENDOZ_EMPTY = 6,        /* a search with no trace stored */
-    SILKENDOZ_SHORT_TRAIL = 7,  /* trail shorter than the number of leaves, or list shorter than k records */
-    SILKENDOZ_SHEET_LENGTH = 8, /* writing: below the need; reading: 0, not a multiple of 512, above 4,146 blocks */
-    SILKENDOZ_TORN_BLOCK = 9,   /* check, block number or kind wrong; the place is the first block at fault */
-    SILKENDOZ_BAD_SHEET = 10,   /* letters, measures, count above capacity, number of blocks, or a nonzero byte that must be 0 */
-    SILKENDOZ_BAD_K = 11        /* the k nearest, k not in 1 to 16 */
+    SILKENDOZ_MEASURE = 1,       /* opening: n, capacity or leaf size outside its range */
+    SILKENDOZ_SHORT_TABLE = 2,   /* a lent table below the need */
+    SILKENDOZ_SPOILED = 3,       /* tables not well formed */
+    SILKENDOZ_WRONG_TRACE = 4,   /* length not n */
+    SILKENDOZ_FULL = 5,          /* count equals capacity; an import: not all traces fit */
+    SILKENDOZ_EMPTY = 6,         /* a search with no trace stored */
+    SILKENDOZ_SHORT_TRAIL = 7,   /* trail shorter than the number of leaves, or list shorter than k records */
+    SILKENDOZ_SHEET_LENGTH = 8,  /* writing, export: below the need; reading: 0, not a multiple of 512, above 4,146 blocks */
+    SILKENDOZ_TORN_BLOCK = 9,    /* check, block number or kind wrong; the place is the first block at fault */
+    SILKENDOZ_BAD_SHEET = 10,    /* letters, measures, count above capacity, number of blocks, or a nonzero byte that must be 0 */
+    SILKENDOZ_BAD_K = 11,        /* the k nearest, k not in 1 to 16 */
+    SILKENDOZ_BAD_RECORDING = 12 /* import: another form or length, no whole traces; export: rate or trace number out of range */
 };
 
 /* Opens an empty library with these measures: the needed parts of the tables are set to zero, then the control record is written. What the tables held
@@ -164,6 +167,36 @@ uint64_t silkendoz_read_sheet(
     uint16_t *links, size_t links_len,
     uint64_t *work, size_t work_len,
     const uint8_t *sheet, size_t sheet_len,
+    uint64_t *out, size_t out_len);
+
+/* Bytes of the recording of one trace of n samples: a header of 44 bytes, and two for each sample. */
+#define SILKENDOZ_RECORDING_BYTES(n) (44 + 2 * (size_t)(n))
+
+/* Adds the traces of a recording, a file of any bytes: its samples are cut into traces of n, and all of these are added in order, or none.
+ * out[0] is how many. The tables are then as silkendoz_add, trace by trace, would have left them. A recording is a WAV file with the usual
+ * header of 44 bytes: the letters RIFF, 36 plus the data size, WAVE; "fmt ", 16, format 1, 1 channel, a rate below 2^31, twice the rate,
+ * block align 2, 16 bits; "data", the data size; then exactly so many bytes, low byte first. Any other file is refused (12), and so is one
+ * whose samples are no multiple of n. Of `work` only the length is looked at. Refuses 2, 3, 12, 5. */
+uint64_t silkendoz_import_recording(
+    uint16_t *control, size_t control_len,
+    int16_t *samples, size_t samples_len,
+    int64_t *nodes, size_t nodes_len,
+    uint16_t *links, size_t links_len,
+    const uint64_t *work, size_t work_len,
+    const uint8_t *bytes, size_t bytes_len,
+    uint64_t *out, size_t out_len);
+
+/* Writes the stored trace with this number as a recording at a rate from 0 to 2^31 - 1, into the first bytes of `buffer`; bytes behind them
+ * stay. out[0] is how many bytes these are, SILKENDOZ_RECORDING_BYTES(n). The rate goes into the header and nowhere else. Of `work` only the
+ * length is looked at. Refuses 2, 3, 12, 8. */
+uint64_t silkendoz_export_recording(
+    const uint16_t *control, size_t control_len,
+    const int16_t *samples, size_t samples_len,
+    const int64_t *nodes, size_t nodes_len,
+    const uint16_t *links, size_t links_len,
+    const uint64_t *work, size_t work_len,
+    uint8_t *buffer, size_t buffer_len,
+    uint64_t number, uint64_t rate,
     uint64_t *out, size_t out_len);
 
 /* ---- the same calls, with the tables in a struct ---- */
@@ -252,6 +285,25 @@ static inline uint64_t silkendoz_read_sheet_in(
         t->links, t->links_len, t->work, t->work_len, sheet, sheet_len, out, out_len);
 }
 
+static inline uint64_t silkendoz_import_recording_in(
+    const struct silkendoz_tables *t,
+    const uint8_t *bytes, size_t bytes_len,
+    uint64_t *out, size_t out_len)
+{
+    return silkendoz_import_recording(t->control, t->control_len, t->samples, t->samples_len, t->nodes, t->nodes_len,
+        t->links, t->links_len, t->work, t->work_len, bytes, bytes_len, out, out_len);
+}
+
+static inline uint64_t silkendoz_export_recording_in(
+    const struct silkendoz_tables *t,
+    uint8_t *buffer, size_t buffer_len,
+    uint64_t number, uint64_t rate,
+    uint64_t *out, size_t out_len)
+{
+    return silkendoz_export_recording(t->control, t->control_len, t->samples, t->samples_len, t->nodes, t->nodes_len,
+        t->links, t->links_len, t->work, t->work_len, buffer, buffer_len, number, rate, out, out_len);
+}
+
 /* The word for a number that a call gives back: the documents', "done" for 0, "unknown" for a number that no call gives. */
 static inline const char *silkendoz_word(uint64_t number)
 {
@@ -268,6 +320,7 @@ static inline const char *silkendoz_word(uint64_t number)
     case SILKENDOZ_TORN_BLOCK: return "torn block";
     case SILKENDOZ_BAD_SHEET: return "bad sheet";
     case SILKENDOZ_BAD_K: return "bad k";
+    case SILKENDOZ_BAD_RECORDING: return "bad recording";
     default: return "unknown";
     }
 }

@@ -1,5 +1,5 @@
-/* The calls from C, over the struct of tables: document 01's examples, lists of the k nearest, refusals in their order, and memory that
- * has to stay. Prints one line, and fails at the first difference. */
+/* The calls from C, over the struct of tables: document 01's examples, lists of the k nearest, recordings, refusals in their order, and
+ * memory that has to stay. Prints one line, and fails at the first difference. */
 
 #include "silkendoz.h"
 
@@ -79,6 +79,19 @@ static uint64_t read_into(struct tables *t, const uint8_t *sheet, size_t size, u
     return silkendoz_read_sheet_in(&l, sheet, size, out, SILKENDOZ_OUT);
 }
 
+static uint64_t import_into(struct tables *t, const uint8_t *bytes, size_t size, uint64_t *out, size_t out_len)
+{
+    struct silkendoz_tables l = lent(t);
+    return silkendoz_import_recording_in(&l, bytes, size, out, out_len);
+}
+
+static uint64_t export_from(
+    struct tables *t, uint8_t *buffer, size_t size, uint64_t number, uint64_t rate, uint64_t *out, size_t out_len)
+{
+    struct silkendoz_tables l = lent(t);
+    return silkendoz_export_recording_in(&l, buffer, size, number, rate, out, out_len);
+}
+
 /* n 256, capacity 4,096, leaf size 64 open; 257, 4,097, 65 and 0 do not: measures come before lengths. */
 static void opening(void)
 {
@@ -126,13 +139,14 @@ static void largest(void)
     free(t.work);
 }
 
-enum { CALLS = 6, TABLES = 5 };
+enum { CALLS = 8, TABLES = 5 };
 
-/* What each call over the struct answers, in the order of the header. */
+/* What each call over the struct answers, an export before an import. */
 static void answers(const struct silkendoz_tables *t, const int16_t *trace, uint8_t *sheet, size_t size, uint64_t numbers[CALLS])
 {
     uint16_t trail[TRAIL];
     struct silkendoz_neighbour list[2];
+    uint8_t recording[SILKENDOZ_RECORDING_BYTES(N)];
     uint64_t out[SILKENDOZ_OUT];
     numbers[0] = silkendoz_open_in(t, N, C, 2, out, SILKENDOZ_OUT);
     numbers[1] = silkendoz_add_in(t, trace, N, out, SILKENDOZ_OUT);
@@ -140,6 +154,8 @@ static void answers(const struct silkendoz_tables *t, const int16_t *trace, uint
     numbers[3] = silkendoz_k_nearest_in(t, trail, TRAIL, list, 2, trace, N, 2, out, SILKENDOZ_OUT);
     numbers[4] = silkendoz_write_sheet_in(t, sheet, size, out, SILKENDOZ_OUT);
     numbers[5] = silkendoz_read_sheet_in(t, sheet, size, out, SILKENDOZ_OUT);
+    numbers[6] = silkendoz_export_recording_in(t, recording, sizeof recording, 0, 8000, out, SILKENDOZ_OUT);
+    numbers[7] = silkendoz_import_recording_in(t, recording, sizeof recording, out, SILKENDOZ_OUT);
 }
 
 /* Each call over the struct passes on each length: just enough is done, one place less is a short table, whichever table it is. */
@@ -178,11 +194,11 @@ static void lengths(void)
 static void words(void)
 {
     static const char *const table[] = {"done", "measure", "short table", "spoiled", "wrong trace", "full", "empty", "short trail",
-        "sheet length", "torn block", "bad sheet", "bad k"};
+        "sheet length", "torn block", "bad sheet", "bad k", "bad recording"};
     uint64_t number;
     for (number = 0; number < PLACES(table); number++)
         EXPECT(strcmp(silkendoz_word(number), table[number]) == 0);
-    EXPECT(strcmp(silkendoz_word(SILKENDOZ_BAD_K + 1), "unknown") == 0);
+    EXPECT(strcmp(silkendoz_word(SILKENDOZ_BAD_RECORDING + 1), "unknown") == 0);
     EXPECT(strcmp(silkendoz_word(UINT64_MAX), "unknown") == 0);
 }
 
@@ -374,6 +390,114 @@ static void sheets(void)
     EXPECT(memcmp(&u, &before, sizeof u) == 0);
 }
 
+/* A recording of two traces of 4 samples, (1,-2,3,-4) and (0,8,0,8), at 8,000 a second, as another program would write it. */
+enum { HEADER = 44, TWO = HEADER + 2 * 2 * N };
+static const uint8_t two[TWO] = {
+    'R', 'I', 'F', 'F', 36 + 16, 0, 0, 0, 'W', 'A', 'V', 'E', 'f', 'm', 't', ' ', 16, 0, 0, 0, 1, 0, 1, 0,
+    0x40, 0x1f, 0, 0, 0x80, 0x3e, 0, 0, 2, 0, 16, 0, 'd', 'a', 't', 'a', 16, 0, 0, 0,
+    1, 0, 0xfe, 0xff, 3, 0, 0xfc, 0xff, 0, 0, 8, 0, 0, 0, 8, 0};
+
+/* An import is the addings of its traces, place by place, all or none; search work and places behind the need stay. */
+static void imports(void)
+{
+    static struct tables t, u, before;
+    const int16_t first[N] = {1, -2, 3, -4}, second[N] = {0, 8, 0, 8};
+    uint8_t bad[TWO + 1], none[HEADER];
+    uint64_t out[SILKENDOZ_OUT] = {9, 9, 9, 9};
+    size_t i;
+
+    memset(&t, 0x5a, sizeof t);
+    EXPECT(import_into(&t, two, TWO, out, SILKENDOZ_OUT) == SILKENDOZ_SPOILED);
+    EXPECT(open_in(&t, N, 5, 1, out) == SILKENDOZ_DONE);
+    memset(t.work, 0xff, sizeof t.work);
+    u = t;
+    out[0] = 9;
+    EXPECT(import_into(&t, two, TWO, out, SILKENDOZ_OUT) == SILKENDOZ_DONE && out[0] == 2 && out[1] == 9);
+    EXPECT(add_to(&u, first, N, out, SILKENDOZ_OUT) == SILKENDOZ_DONE && add_to(&u, second, N, out, SILKENDOZ_OUT) == SILKENDOZ_DONE);
+    EXPECT(memcmp(&t, &u, sizeof t) == 0);
+
+    /* another byte anywhere in the header is 12, and so is another length; nothing is left changed */
+    before = t;
+    memcpy(bad, two, TWO);
+    bad[TWO] = 0;
+    for (i = 0; i < HEADER; i++) {
+        bad[i] ^= 1;
+        EXPECT(import_into(&t, bad, TWO, out, SILKENDOZ_OUT) == SILKENDOZ_BAD_RECORDING && out[0] == 0 && out[1] == 9);
+        bad[i] ^= 1;
+    }
+    for (i = 0; i < TWO; i++)
+        EXPECT(import_into(&t, bad, i, out, SILKENDOZ_OUT) == SILKENDOZ_BAD_RECORDING);
+    EXPECT(import_into(&t, bad, TWO + 1, out, SILKENDOZ_OUT) == SILKENDOZ_BAD_RECORDING);
+    /* one trace and a half */
+    bad[4] -= N;
+    bad[40] -= N;
+    EXPECT(import_into(&t, bad, TWO - N, out, SILKENDOZ_OUT) == SILKENDOZ_BAD_RECORDING);
+    /* a rate of 2^31 whose double is 0 in 32 bits */
+    memcpy(bad, two, TWO);
+    memset(bad + 24, 0, 8);
+    EXPECT(import_into(&t, bad, TWO, out, SILKENDOZ_OUT) == SILKENDOZ_DONE && t.control[3] == 4);
+    t = before;
+    bad[27] = 0x80;
+    EXPECT(import_into(&t, bad, TWO, out, SILKENDOZ_OUT) == SILKENDOZ_BAD_RECORDING);
+    EXPECT(memcmp(&t, &before, sizeof t) == 0);
+
+    /* five fit: the third file does not, and adds none; no sample at all always fits; 12 comes before 5 */
+    EXPECT(import_into(&t, two, TWO, out, 0) == SILKENDOZ_DONE && t.control[3] == 4);
+    before = t;
+    EXPECT(import_into(&t, two, TWO, out, SILKENDOZ_OUT) == SILKENDOZ_FULL && out[0] == 0);
+    EXPECT(import_into(&t, two, TWO - 1, out, SILKENDOZ_OUT) == SILKENDOZ_BAD_RECORDING);
+    EXPECT(memcmp(&t, &before, sizeof t) == 0);
+    memcpy(none, two, HEADER);
+    none[4] = 36;
+    none[40] = 0;
+    EXPECT(add_to(&t, first, N, out, SILKENDOZ_OUT) == SILKENDOZ_DONE && out[0] == 4);
+    EXPECT(import_into(&t, none, HEADER, out, SILKENDOZ_OUT) == SILKENDOZ_DONE && out[0] == 0 && t.control[3] == 5);
+}
+
+/* An export is the file that was imported, with one of its traces; bytes behind it stay. */
+static void exports(void)
+{
+    static struct tables t, before;
+    enum { NEED = SILKENDOZ_RECORDING_BYTES(N) };
+    uint8_t buffer[NEED + SPARE];
+    uint64_t out[SILKENDOZ_OUT] = {9, 9, 9, 9};
+    size_t i;
+
+    EXPECT(open_in(&t, N, C, 2, out) == SILKENDOZ_DONE);
+    memset(buffer, 0xaa, sizeof buffer);
+    /* an empty library has no trace 0: 12, not 6 */
+    EXPECT(export_from(&t, buffer, sizeof buffer, 0, 8000, out, SILKENDOZ_OUT) == SILKENDOZ_BAD_RECORDING && out[0] == 0);
+    EXPECT(import_into(&t, two, TWO, out, SILKENDOZ_OUT) == SILKENDOZ_DONE);
+    memset(t.work, 0xff, sizeof t.work);
+    before = t;
+
+    /* 12 comes before 8 */
+    EXPECT(export_from(&t, buffer, 0, 2, 8000, out, SILKENDOZ_OUT) == SILKENDOZ_BAD_RECORDING);
+    EXPECT(export_from(&t, buffer, 0, 0, 2147483648u, out, SILKENDOZ_OUT) == SILKENDOZ_BAD_RECORDING);
+    EXPECT(export_from(&t, buffer, sizeof buffer, UINT64_MAX, 8000, out, SILKENDOZ_OUT) == SILKENDOZ_BAD_RECORDING);
+    EXPECT(export_from(&t, buffer, sizeof buffer, 0, UINT64_MAX, out, SILKENDOZ_OUT) == SILKENDOZ_BAD_RECORDING);
+    EXPECT(export_from(&t, buffer, NEED - 1, 0, 8000, out, SILKENDOZ_OUT) == SILKENDOZ_SHEET_LENGTH && out[0] == 0 && out[1] == 9);
+    EXPECT(export_from(&t, buffer, 0, 1, 0, out, SILKENDOZ_OUT) == SILKENDOZ_SHEET_LENGTH);
+    for (i = 0; i < sizeof buffer; i++)
+        EXPECT(buffer[i] == 0xaa);
+
+    EXPECT(export_from(&t, buffer, sizeof buffer, 1, 8000, out, SILKENDOZ_OUT) == SILKENDOZ_DONE);
+    EXPECT(out[0] == NEED && out[1] == 9);
+    EXPECT(buffer[4] == 36 + 2 * N && buffer[40] == 2 * N);
+    for (i = 0; i < HEADER; i++)
+        EXPECT(i == 4 || i == 40 || buffer[i] == two[i]);
+    EXPECT(memcmp(buffer + HEADER, two + HEADER + 2 * N, 2 * N) == 0);
+    for (i = NEED; i < sizeof buffer; i++)
+        EXPECT(buffer[i] == 0xaa);
+    EXPECT(memcmp(&t, &before, sizeof t) == 0);
+
+    /* the greatest rate, and back into the library as a third trace */
+    EXPECT(export_from(&t, buffer, NEED, 0, 2147483647u, out, 0) == SILKENDOZ_DONE);
+    EXPECT(memcmp(buffer + 24, "\xff\xff\xff\x7f\xfe\xff\xff\xff", 8) == 0);
+    EXPECT(import_into(&t, buffer, NEED, out, SILKENDOZ_OUT) == SILKENDOZ_DONE && out[0] == 1);
+    EXPECT(memcmp(t.samples + 2 * N, t.samples, N * sizeof *t.samples) == 0);
+}
+
 int main(void)
 {
     opening();
@@ -383,6 +507,8 @@ int main(void)
     adding_and_matching();
     listing();
     sheets();
+    imports();
+    exports();
     printf("C: %d tests passed\n", tests);
     return 0;
 }

@@ -7,7 +7,8 @@ use Rattle.dstree.specs.Refusals.{Refusal, numberOf, placeOf}
 use Rattle.dstree.specs.Matching.{Match}
 use Rattle.dstree.specs.KNearest.{KNearest}
 use Rattle.dstree.specs.Sheet.{blockSize}
-use Rattle.dstree.specs.Book.{done, added, matched, written, neighbours, Answer, refusing, answering}
+use Rattle.dstree.specs.Book as book
+use Rattle.dstree.specs.Book.{Result, done, added, matched, written, neighbours, Answer, refusing, answering}
 use Rattle.tables.specs.Tables.{Tables}
 use Rattle.tables.specs.Answers.{wordOf}
 use Rattle.tables.specs.declared.Refusal as r
@@ -31,6 +32,12 @@ use Rattle.sheet_writing.specs.declared.Written.the-variants as w
 use Rattle.sheet_reading.specs.Answered as reading
 use Rattle.sheet_reading.specs.declared.Read.{Read}
 use Rattle.sheet_reading.specs.declared.Read.the-variants as d
+use Rattle.importing.specs.Answered as importing
+use Rattle.importing.specs.declared.Imported.{Imported}
+use Rattle.importing.specs.declared.Imported.the-variants as i
+use Rattle.exporting.specs.Answered as exporting
+use Rattle.exporting.specs.declared.Exported as e
+use Rattle.exporting.specs.declared.Exported.the-variants as x
 use Rattle.calls.specs.Outcome.{Outcome, outcome}
 use Rattle.calls.specs.Numbers.{codeOf, resultValues, valuesOf, laid}
 use Rattle.library_c.specs.Exported.{Returned, returned, returnedOf, Exported, exported, exportedOf}
@@ -64,13 +71,12 @@ pub refusal-returned : (why : Refusal) (number place : ℕ) (out out′ : List �
 unfolding returnedOf codeOf valuesOf resultValues
 refusal-returned why number place out out′ e f g = ap₂ (λ (k : ℕ) (l : List ℕ). returned k l) e (g ∙ (one-laid place out ∙ ap (λ (p : ℕ). laid (p ∷ []) out) f))
 
-pub added-returned : (number : ℕ) (out out′ : List ℕ) → out′ ≡ set out 0 number → returned 0 out′ ≡ returnedOf (answering (added number)) out
-unfolding returnedOf codeOf valuesOf resultValues
-added-returned number out out′ g = ap (λ (l : List ℕ). returned 0 l) (g ∙ one-laid number out)
-
-pub written-returned : (blocks : ℕ) (sheet out out′ : List ℕ) → out′ ≡ set out 0 blocks → returned 0 out′ ≡ returnedOf (answering (written blocks sheet)) out
-unfolding returnedOf codeOf valuesOf resultValues
-written-returned blocks sheet out out′ g = ap (λ (l : List ℕ). returned 0 l) (g ∙ one-laid blocks out)
+-- an answer of one value
+one-returned : (result : Result) (x : ℕ) (out out′ : List ℕ) → resultValues result ≡ x ∷ [] → out′ ≡ set out 0 x
+    → returned 0 out′ ≡ returnedOf (answering result) out
+unfolding returnedOf codeOf valuesOf
+one-returned result x out out′ v g =
+    ap (λ (l : List ℕ). returned 0 l) (g ∙ (one-laid x out ∙ ap (λ (values : List ℕ). laid values out) (sym v)))
 
 pub matched-returned : (found : Match) (out out′ : List ℕ) → out′ ≡ set (set (set (set out 0 (found .trace)) 1 (found .distance)) 2 (found .leaves)) 3 (found .traces)
     → returned 0 out′ ≡ returnedOf (answering (matched found)) out
@@ -108,8 +114,8 @@ unfolding opened.answerOf
 opened-refused answer why out e = ap (λ (x : Opened). returnedOf (opened.answerOf x) out) (sym e)
 
 pub added-at : (answer : Added) (number : ℕ) (out out′ : List ℕ) → out′ ≡ set out 0 number → answer ≡ a.At number → returned 0 out′ ≡ returnedOf (added.answerOf answer) out
-unfolding added.answerOf
-added-at answer number out out′ g e = added-returned number out out′ g ∙ ap (λ (x : Added). returnedOf (added.answerOf x) out) (sym e)
+unfolding added.answerOf resultValues
+added-at answer number out out′ g e = one-returned (added number) number out out′ refl g ∙ ap (λ (x : Added). returnedOf (added.answerOf x) out) (sym e)
 
 pub added-refused : (answer : Added) (why : r.Refusal) (out : List ℕ) → answer ≡ a.Refused why → returnedOf (refusing (wordOf why)) out ≡ returnedOf (added.answerOf answer) out
 unfolding added.answerOf
@@ -145,9 +151,10 @@ listed-refused answer trail list why out e = ap (λ (x : Listed). returnedOf (li
 
 pub written-blocks : (answer : Written) (blocks : ℕ) (sheet out out′ : List ℕ)
     → out′ ≡ set out 0 blocks → answer ≡ w.Blocks blocks → returned 0 out′ ≡ returnedOf (writing.answerBy answer sheet) out
-unfolding writing.answerBy
+unfolding writing.answerBy resultValues
 written-blocks answer blocks sheet out out′ g e =
-    written-returned blocks (take (blockSize * blocks) sheet) out out′ g ∙ ap (λ (x : Written). returnedOf (writing.answerBy x sheet) out) (sym e)
+    one-returned (written blocks (take (blockSize * blocks) sheet)) blocks out out′ refl g
+    ∙ ap (λ (x : Written). returnedOf (writing.answerBy x sheet) out) (sym e)
 
 pub written-refused : (answer : Written) (sheet : List ℕ) (why : r.Refusal) (out : List ℕ) → answer ≡ w.Refused why
     → returnedOf (refusing (wordOf why)) out ≡ returnedOf (writing.answerBy answer sheet) out
@@ -161,3 +168,26 @@ read-done answer out e = done-returned out ∙ ap (λ (x : Read). returnedOf (re
 pub read-refused : (answer : Read) (why : r.Refusal) (out : List ℕ) → answer ≡ d.Refused why → returnedOf (refusing (wordOf why)) out ≡ returnedOf (reading.answerOf answer) out
 unfolding reading.answerOf
 read-refused answer why out e = ap (λ (x : Read). returnedOf (reading.answerOf x) out) (sym e)
+
+pub imported-traces : (answer : Imported) (count : ℕ) (out out′ : List ℕ) → out′ ≡ set out 0 count → answer ≡ i.Traces count
+    → returned 0 out′ ≡ returnedOf (importing.answerOf answer) out
+unfolding importing.answerOf resultValues
+imported-traces answer count out out′ g is =
+    one-returned (book.imported count) count out out′ refl g ∙ ap (λ (x : Imported). returnedOf (importing.answerOf x) out) (sym is)
+
+pub imported-refused : (answer : Imported) (why : r.Refusal) (out : List ℕ) → answer ≡ i.Refused why
+    → returnedOf (refusing (wordOf why)) out ≡ returnedOf (importing.answerOf answer) out
+unfolding importing.answerOf
+imported-refused answer why out is = ap (λ (x : Imported). returnedOf (importing.answerOf x) out) (sym is)
+
+pub exported-bytes : (answer : e.Exported) (size : ℕ) (buffer out out′ : List ℕ) → out′ ≡ set out 0 size → answer ≡ x.Bytes size
+    → returned 0 out′ ≡ returnedOf (exporting.answerBy answer buffer) out
+unfolding exporting.answerBy resultValues
+exported-bytes answer size buffer out out′ g is =
+    one-returned (book.exported size (take size buffer)) size out out′ refl g
+    ∙ ap (λ (y : e.Exported). returnedOf (exporting.answerBy y buffer) out) (sym is)
+
+pub exported-refused : (answer : e.Exported) (buffer : List ℕ) (why : r.Refusal) (out : List ℕ) → answer ≡ x.Refused why
+    → returnedOf (refusing (wordOf why)) out ≡ returnedOf (exporting.answerBy answer buffer) out
+unfolding exporting.answerBy
+exported-refused answer buffer why out is = ap (λ (y : e.Exported). returnedOf (exporting.answerBy y buffer) out) (sym is)

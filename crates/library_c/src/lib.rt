@@ -1,7 +1,8 @@
 // The calls for C and for Rust: numbers and slices only, a slice as a pointer and then its length. Each is the call of the same name, and its contract
 // is that call's own definition. The code is 0, or the number of the refusal; the answer's values go into the lent slice `out`, in order: adding the
 // trace's number, a match the trace's number, the distance, leaves read and traces read, a listing leaves read, traces read and how many it
-// lists, a writing the number of blocks, a refusal its place. A shorter `out` takes the first of them, and places behind them stay.
+// lists, a writing the number of blocks, an import the number of traces, an export the number of bytes, a refusal its place. A shorter `out`
+// takes the first of them, and places behind them stay.
 
 pub mod telling; // an answer as numbers
 
@@ -148,4 +149,58 @@ pub extern "C" fn silkendoz_read_sheet(
 {
     let answer = sheet_reading::read_sheet(control, samples, nodes, links, work, sheet);
     telling::tell_read(answer, out)
+}
+
+// Two wrong programs that the contract rules out: one that tells the number of the last trace added, and one that tells how many traces fit
+// of a file that it refuses.
+#[no_mangle]
+pub extern "C" fn silkendoz_import_recording(
+    control: &mut [u16],
+    samples: &mut [i16],
+    nodes: &mut [i64],
+    links: &mut [u16],
+    work: &[u64],
+    bytes: &[u8],
+    out: &mut [u64],
+) -> u64
+    ensures { λ r. ⌜ exported r (now (out .exit))
+        (tables (now (control .exit)) (now (samples .exit)) (now (nodes .exit)) (now (links .exit)) (now (work .entry)))
+        []
+        ≡ exportedOf (outcomeOn (book.importing (now (bytes .entry)))
+        (tables (now (control .entry)) (now (samples .entry)) (now (nodes .entry)) (now (links .entry)) (now (work .entry)))) (now (out .entry)) ⌝ }
+{
+    let answer = importing::import_recording(control, samples, nodes, links, work, bytes);
+    telling::tell_imported(answer, out)
+}
+
+// Two wrong programs that the contract rules out: one that gives the number as the rate too, and one that tells the length of the buffer.
+#[no_mangle]
+pub extern "C" fn silkendoz_export_recording(
+    control: &[u16],
+    samples: &[i16],
+    nodes: &[i64],
+    links: &[u16],
+    work: &[u64],
+    buffer: &mut [u8],
+    number: u64,
+    rate: u64,
+    out: &mut [u64],
+) -> u64
+    ensures { λ r. ⌜ exported r (now (out .exit))
+        (tables (now (control .entry)) (now (samples .entry)) (now (nodes .entry)) (now (links .entry)) (now (work .entry)))
+        (now (buffer .exit) ∷ [])
+        ≡ exportedOf (outcomeOn (book.exporting number rate (now (buffer .entry)))
+        (tables (now (control .entry)) (now (samples .entry)) (now (nodes .entry)) (now (links .entry)) (now (work .entry)))) (now (out .entry)) ⌝ }
+{
+    let answer = exporting::export_recording(
+        control,
+        samples,
+        nodes,
+        links,
+        work,
+        buffer,
+        number,
+        rate,
+    );
+    telling::tell_exported(answer, out)
 }

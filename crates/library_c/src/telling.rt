@@ -1,6 +1,8 @@
 // An answer as numbers: its code is given back, its values go into a lent slice.
 
 use adding::Added;
+use exporting::Exported;
+use importing::Imported;
 use listing::Listed;
 use matching::Found;
 use opening::Opened;
@@ -19,6 +21,8 @@ ghost use Rattle.matching.specs.Answered as matched;
 ghost use Rattle.listing.specs.Answered as listed;
 ghost use Rattle.sheet_writing.specs.Answered as writing;
 ghost use Rattle.sheet_reading.specs.Answered as reading;
+ghost use Rattle.importing.specs.Answered as importing;
+ghost use Rattle.exporting.specs.Answered as exporting;
 ghost use Rattle.library_c.specs.Exported.{returned, returnedOf};
 
 // A number at its place, if there is such a place.
@@ -111,5 +115,30 @@ pub fn tell_read(answer: Read, out: &mut [u64]) -> u64
     match answer {
         Read::Done => 0,
         Read::Refused(why) => tell_refusal(why, out),
+    }
+}
+
+pub fn tell_imported(answer: Imported, out: &mut [u64]) -> u64
+    ensures { λ r. ⌜ returned r (now (out .exit)) ≡ returnedOf (importing.answerOf answer) (now (out .entry)) ⌝ }
+{
+    match answer {
+        Imported::Traces(count) => {
+            put(out, 0, count);
+            0
+        }
+        Imported::Refused(why) => tell_refusal(why, out),
+    }
+}
+
+// The recording is told by the slice that the export leaves it in.
+pub fn tell_exported(answer: Exported, out: &mut [u64]) -> u64
+    ensures { λ r. ⌜ ((buffer : List ℕ) → returned r (now (out .exit)) ≡ returnedOf (exporting.answerBy answer buffer) (now (out .entry))) ⌝ }
+{
+    match answer {
+        Exported::Bytes(size) => {
+            put(out, 0, size);
+            0
+        }
+        Exported::Refused(why) => tell_refusal(why, out),
     }
 }

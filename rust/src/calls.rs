@@ -143,6 +143,42 @@ extern "C" {
         out: *mut u64,
         out_len: usize,
     ) -> u64;
+
+    fn silkendoz_import_recording(
+        control: *mut u16,
+        control_len: usize,
+        samples: *mut i16,
+        samples_len: usize,
+        nodes: *mut i64,
+        nodes_len: usize,
+        links: *mut u16,
+        links_len: usize,
+        work: *const u64,
+        work_len: usize,
+        bytes: *const u8,
+        bytes_len: usize,
+        out: *mut u64,
+        out_len: usize,
+    ) -> u64;
+
+    fn silkendoz_export_recording(
+        control: *const u16,
+        control_len: usize,
+        samples: *const i16,
+        samples_len: usize,
+        nodes: *const i64,
+        nodes_len: usize,
+        links: *const u16,
+        links_len: usize,
+        work: *const u64,
+        work_len: usize,
+        buffer: *mut u8,
+        buffer_len: usize,
+        number: u64,
+        rate: u64,
+        out: *mut u64,
+        out_len: usize,
+    ) -> u64;
 }
 
 /// Code 0 is the answer's values; any other is the number of a refusal, whose place is the first value.
@@ -254,4 +290,45 @@ pub fn read_sheet(t: Lent<'_>, sheet: &[u8]) -> Result<(), Refusal> {
         out
     );
     answer(code, out).map(|_| ())
+}
+
+/// Adds the traces of a WAV recording, in order, all or none; how many is the answer. Search work is only looked at for its length.
+pub fn import_recording(
+    control: &mut [u16],
+    samples: &mut [i16],
+    nodes: &mut [i64],
+    links: &mut [u16],
+    work: &[u64],
+    bytes: &[u8],
+) -> Result<u64, Refusal> {
+    let mut out = [0; 1];
+    let code = call!(
+        silkendoz_import_recording,
+        [control => as_mut_ptr, samples => as_mut_ptr, nodes => as_mut_ptr, links => as_mut_ptr, work => as_ptr, bytes => as_ptr],
+        [],
+        out
+    );
+    answer(code, out).map(|[count]| count)
+}
+
+/// Writes a stored trace as a WAV recording at a rate, into the first bytes of the buffer; how many bytes these are is the answer.
+#[allow(clippy::too_many_arguments)]
+pub fn export_recording(
+    control: &[u16],
+    samples: &[i16],
+    nodes: &[i64],
+    links: &[u16],
+    work: &[u64],
+    buffer: &mut [u8],
+    number: u64,
+    rate: u64,
+) -> Result<u64, Refusal> {
+    let mut out = [0; 1];
+    let code = call!(
+        silkendoz_export_recording,
+        [control => as_ptr, samples => as_ptr, nodes => as_ptr, links => as_ptr, work => as_ptr, buffer => as_mut_ptr],
+        [number, rate],
+        out
+    );
+    answer(code, out).map(|[size]| size)
 }

@@ -46,3 +46,13 @@ pub fn write_sheet(t: &Tables, l: Lengths, sheet: &mut [u8]) -> Result<u64, Refu
 pub fn read_sheet(t: &mut Tables, l: Lengths, sheet: &[u8]) -> Result<(), Refused> {
     told(calls::read_sheet(lent(t, l), sheet))
 }
+
+pub fn import_recording(t: &mut Tables, l: Lengths, bytes: &[u8]) -> Result<u64, Refused> {
+    let t = lent(t, l);
+    told(calls::import_recording(t.control, t.samples, t.nodes, t.links, t.work, bytes))
+}
+
+pub fn export_recording(t: &Tables, l: Lengths, buffer: &mut [u8], number: u64, rate: u64) -> Result<u64, Refused> {
+    let (nodes, links, work) = (&t.nodes[..l.nodes], &t.links[..l.links], &t.work[..l.work]);
+    told(calls::export_recording(&t.control[..l.control], &t.samples[..l.samples], nodes, links, work, buffer, number, rate))
+}

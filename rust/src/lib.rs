@@ -3,7 +3,7 @@
 //! A trace is a run of 16-bit samples, such as the drive current of a machine's standard sweep. A [`TraceLibrary`] keeps traces and finds the stored one
 //! that is nearest to a new one: the least sum of squared differences, the lowest number among equals, just as reading every stored trace would find it.
 //! The work is done by a library that is proved to do exactly this (the crates beside this folder); here it gets tables of the right sizes, and its
-//! refusals a type. [`TraceLibrary::k_nearest`] lists the k nearest in the same way.
+//! refusals a type. [`TraceLibrary::k_nearest`] lists the k nearest in the same way; [`TraceLibrary::import_recording`] takes the traces of a WAV file.
 //!
 //! ```
 //! use silkendoz::TraceLibrary;

@@ -192,6 +192,52 @@ impl TraceLibrary {
         Ok(library)
     }
 
+    /// Adds the traces of a WAV recording: its samples, 16 bits on one channel, are cut into traces of n. How many there are is the answer. All
+    /// are added, in order, or none: a file whose header is not WAV's usual 44 bytes, or that holds no whole traces, is refused.
+    ///
+    /// ```
+    /// use silkendoz::{Refusal, TraceLibrary};
+    ///
+    /// // a recorder's file: 8,000 samples a second, six samples
+    /// let mut file = b"RIFF\x30\0\0\0WAVEfmt \x10\0\0\0\x01\0\x01\0\x40\x1f\0\0\x80\x3e\0\0\x02\0\x10\0data\x0c\0\0\0".to_vec();
+    /// for sample in [5i16, -1, 2, 7, 0, -3] {
+    ///     file.extend(sample.to_le_bytes());
+    /// }
+    /// let mut library = TraceLibrary::open(3, 4, 1)?;
+    /// assert_eq!(library.import_recording(&file)?, 2);
+    /// assert_eq!(library.trace(1), Some(&[7, 0, -3][..]));
+    /// assert_eq!(library.import_recording(&file[..55]), Err(Refusal::BadRecording));
+    /// assert_eq!(library.import_recording(&file)?, 2);
+    /// assert_eq!(library.import_recording(&file), Err(Refusal::Full));
+    /// # Ok::<(), Refusal>(())
+    /// ```
+    pub fn import_recording(&mut self, bytes: &[u8]) -> Result<usize, Refusal> {
+        calls::import_recording(&mut self.control, &mut self.samples, &mut self.nodes, &mut self.links, &self.work, bytes).map(|count| count as usize)
+    }
+
+    /// A stored trace as a WAV recording, at a rate (0 to 2^31 − 1) that is written into its header and changes nothing else.
+    ///
+    /// ```
+    /// use silkendoz::{Refusal, TraceLibrary};
+    ///
+    /// let mut library = TraceLibrary::open(3, 4, 1)?;
+    /// library.add(&[5, -1, 2])?;
+    /// let file = library.export_recording(0, 8000)?;
+    /// assert_eq!(file.len(), 44 + 2 * 3);
+    /// assert_eq!(file[44..], [5, 0, 0xff, 0xff, 2, 0]);
+    /// assert_eq!(library.import_recording(&file)?, 1);
+    /// assert_eq!(library.trace(1), library.trace(0));
+    /// assert_eq!(library.export_recording(2, 8000), Err(Refusal::BadRecording));
+    /// assert_eq!(library.export_recording(0, 1 << 31), Err(Refusal::BadRecording));
+    /// # Ok::<(), Refusal>(())
+    /// ```
+    pub fn export_recording(&self, number: usize, rate: u32) -> Result<Vec<u8>, Refusal> {
+        let mut file = vec![0; 44 + 2 * self.n()];
+        let (number, rate) = (number as u64, rate.into());
+        calls::export_recording(&self.control, &self.samples, &self.nodes, &self.links, &self.work, &mut file, number, rate)?;
+        Ok(file)
+    }
+
     /// Samples a trace.
     pub fn n(&self) -> usize {
         self.control[0].into()

@@ -22,13 +22,13 @@ pub enum Refusal {
     Spoiled,
     /// 4: length not n.
     WrongTrace,
-    /// 5: count equals capacity.
+    /// 5: count equals capacity; an import of more traces than there is room for.
     Full,
     /// 6: a match with no trace stored.
     Empty,
     /// 7: trail shorter than the number of leaves, or a list shorter than k.
     ShortTrail,
-    /// 8: writing: below the need; reading: 0, not a multiple of 512, above 4,146 blocks.
+    /// 8: writing and an export: below the need; reading: 0, not a multiple of 512, above 4,146 blocks.
     SheetLength,
     /// 9: check, block number or kind wrong, in this block first.
     TornBlock(u64),
@@ -36,6 +36,8 @@ pub enum Refusal {
     BadSheet,
     /// 11: k outside 1 to 16.
     BadK,
+    /// 12: a file of any other form or length, an odd size, samples not a multiple of n; an export's rate or trace number out of range.
+    BadRecording,
 }
 
 impl Refusal {
@@ -53,6 +55,7 @@ impl Refusal {
             9 => Refusal::TornBlock(place),
             10 => Refusal::BadSheet,
             11 => Refusal::BadK,
+            12 => Refusal::BadRecording,
             _ => return None,
         })
     }
@@ -71,6 +74,7 @@ impl Refusal {
             Refusal::TornBlock(_) => 9,
             Refusal::BadSheet => 10,
             Refusal::BadK => 11,
+            Refusal::BadRecording => 12,
         }
     }
 
@@ -96,6 +100,7 @@ impl Refusal {
             Refusal::TornBlock(_) => "torn block",
             Refusal::BadSheet => "bad sheet",
             Refusal::BadK => "bad k",
+            Refusal::BadRecording => "bad recording",
         }
     }
 }
@@ -107,13 +112,14 @@ impl fmt::Display for Refusal {
             Refusal::ShortTable => "a lent table below the need",
             Refusal::Spoiled => "tables not well formed",
             Refusal::WrongTrace => "length not n",
-            Refusal::Full => "count equals capacity",
+            Refusal::Full => "no room for what is added",
             Refusal::Empty => "a match with no trace stored",
             Refusal::ShortTrail => "trail shorter than the number of leaves, or list shorter than k",
-            Refusal::SheetLength => "a sheet of another length than it needs",
+            Refusal::SheetLength => "a sheet or a buffer of another length than it needs",
             Refusal::TornBlock(block) => return write!(f, "torn block: check, block number or kind wrong in block {block}"),
             Refusal::BadSheet => "letters, measures, counts or a byte that must be 0",
             Refusal::BadK => "k outside 1 to 16",
+            Refusal::BadRecording => "no recording of whole traces, or a rate or trace number out of range",
         };
         write!(f, "{}: {why}", self.word())
     }
@@ -127,13 +133,13 @@ mod tests {
 
     #[test]
     fn numbers_go_both_ways() {
-        for number in 1..=11 {
+        for number in 1..=12 {
             let place = if number == 9 { 7 } else { 0 };
             let why = Refusal::from_number(number, place).unwrap();
             assert_eq!((why.number(), why.place()), (number, place));
             assert!(why.to_string().starts_with(why.word()));
         }
         assert_eq!(Refusal::from_number(0, 0), None);
-        assert_eq!(Refusal::from_number(12, 0), None);
+        assert_eq!(Refusal::from_number(13, 0), None);
     }
 }

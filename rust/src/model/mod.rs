@@ -1,8 +1,10 @@
 //! Documents 01 and 02 once more, word for word, in plain Rust: no lent table, no cleverness, numbers of 128 bits.
 //!
 //! It shares no line with the proved code. Tests compare the two; where they differ, document 01 says who is right. [`tables`] reads the lent tables by
-//! the layout of `docs/LAYOUT.md` and says what document 01's table refuses of them; [`sheet`] has sheets and the line that the program prints.
+//! the layout of `docs/LAYOUT.md` and says what document 01's table refuses of them; [`sheet`] has sheets and the line that the program prints,
+//! [`recording`] has recordings.
 
+pub mod recording;
 pub mod sheet;
 pub mod tables;
 

@@ -1,6 +1,6 @@
 //! The lent tables, read by `docs/LAYOUT.md`: what they stand for, whether they are well formed, and what document 01's table refuses.
 
-use super::sheet;
+use super::{recording, sheet};
 use super::{runs, width, Figure, Kind, Library, Measures, Node, Refused, Segment, Test, Trace};
 
 /// Fields of the control record.
@@ -251,9 +251,23 @@ impl Tables {
         }
         Ok(library)
     }
+
+    /// An import, and the traces of its file: then 12, then 5.
+    pub fn judge_import(&self, file: &[u8]) -> Result<(Library, Vec<Trace>), Refused> {
+        let library = self.judge_made()?;
+        let traces = library.judge_file(file)?;
+        Ok((library, traces))
+    }
+
+    /// An export: then 12, then 8.
+    pub fn judge_export(&self, number: u64, rate: u64, buffer: usize) -> Result<Library, Refused> {
+        let library = self.judge_made()?;
+        library.judge_one(number, rate, buffer)?;
+        Ok(library)
+    }
 }
 
-/// What a search refuses by the library alone, once its tables are sound.
+/// What a search, an import and an export refuse by the library alone, once its tables are sound.
 impl Library {
     /// 4, then 6, then 7.
     pub fn judge_query(&self, length: usize, trail: usize) -> Result<(), Refused> {
@@ -275,6 +289,24 @@ impl Library {
             return Err((7, 0));
         }
         Ok(())
+    }
+
+    /// "12 bad recording, for a file of any other form or length, ..; 5 if not all traces fit"
+    pub fn judge_file(&self, file: &[u8]) -> Result<Vec<Trace>, Refused> {
+        let (_, traces) = recording::read(self.measures.n, file).ok_or((12, 0))?;
+        if (self.traces.len() + traces.len()) as u64 > self.measures.capacity {
+            return Err((5, 0));
+        }
+        Ok(traces)
+    }
+
+    /// "12 .. an export rate or trace number out of range, ..; an export buffer too short is 8"
+    pub fn judge_one(&self, number: u64, rate: u64, buffer: usize) -> Result<(), Refused> {
+        match () {
+            _ if rate >= 1 << 31 || number >= self.traces.len() as u64 => Err((12, 0)),
+            _ if buffer < recording::size(self.measures.n) => Err((8, 0)),
+            _ => Ok(()),
+        }
     }
 }
 

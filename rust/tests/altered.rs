@@ -2,7 +2,8 @@
 
 mod common;
 
-use common::{check_add, check_k_nearest, check_nearest, measures};
+use common::{check_add, check_export, check_import, check_k_nearest, check_nearest, measures};
+use silkendoz::model::recording;
 use silkendoz::model::tables::{Tables, RECORD_PLACES};
 use silkendoz::model::{runs, segments_of, width, Figure, Kind, Library, Node, Segment, Test, Trace};
 use silkendoz::random::{query, traces, Random, Shape, SHAPES};
@@ -160,6 +161,13 @@ fn follow(random: &mut Random, library: &Library, shape: Shape, queries: usize, 
         let mut list = vec![1; 2 * k];
         check_k_nearest(&mut t, l, &mut trail, &mut list, &q, k as u64).expect("nothing is refused");
         t.work.iter_mut().for_each(|x| *x = random.word());
+    }
+    // recordings: a trace as it stands, and imports into these tables
+    let number = random.below(library.traces.len());
+    check_export(&t, l, &mut vec![1; 44 + 2 * n], number as u64, 8000).expect("nothing is refused");
+    let stored: Vec<Trace> = (0..more).map(|_| query(random, shape, n, &library.traces)).collect();
+    for many in 0..=more {
+        let _ = check_import(&mut t.clone(), l, &recording::write(8000, &stored[..many].concat()));
     }
     for _ in 0..more {
         let trace: Trace = query(random, shape, n, &library.traces);

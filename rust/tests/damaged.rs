@@ -2,7 +2,8 @@
 
 mod common;
 
-use common::{check_add, check_k_nearest, check_nearest, measures};
+use common::{check_add, check_export, check_import, check_k_nearest, check_nearest, measures};
+use silkendoz::model::recording;
 use silkendoz::model::tables::{Tables, RECORD_PLACES};
 use silkendoz::model::{Library, Trace};
 use silkendoz::random::{query, traces, Random, Shape};
@@ -46,8 +47,11 @@ fn spoiled(damaged: &Tables, query: &[i16]) -> bool {
     let found = check_nearest(&mut t, l, &mut trail, query).map(|_| ());
     t.clone_from(damaged);
     let listed = check_k_nearest(&mut t, l, &mut trail, &mut [7; 7], query, 3).map(|_| ());
-    let verdicts = [added, found, listed].map(|answer| answer == Err((3, 0)));
-    assert!(verdicts == [verdicts[0]; 3], "{verdicts:?}");
+    t.clone_from(damaged);
+    let imported = check_import(&mut t, l, &recording::write(8000, &query.repeat(2))).map(|_| ());
+    let exported = check_export(damaged, l, &mut [7; 99], 0, 8000).map(|_| ());
+    let verdicts = [added, found, listed, imported, exported].map(|answer| answer == Err((3, 0)));
+    assert!(verdicts == [verdicts[0]; 5], "{verdicts:?}");
     verdicts[0]
 }
 
@@ -165,6 +169,8 @@ fn short_tables_and_the_order() {
                 assert_eq!(check_add(&mut t.clone(), short, &wrong).unwrap_err(), expected);
                 assert_eq!(check_nearest(&mut t, short, &mut [], &wrong).unwrap_err(), expected);
                 assert_eq!(check_k_nearest(&mut t, short, &mut [], &mut [], &wrong, 0).unwrap_err(), expected);
+                assert_eq!(check_import(&mut t, short, &[]).unwrap_err(), expected);
+                assert_eq!(check_export(&t, short, &mut [], 9999, 1 << 31).unwrap_err(), expected);
             }
         }
         // a wrong trace comes before full, empty and a short trail

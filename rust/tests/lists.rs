@@ -3,7 +3,8 @@
 
 mod common;
 
-use common::{check_add, check_k_nearest, check_list, check_nearest, check_open, junk, longer, measures};
+use common::{check_add, check_export, check_import, check_k_nearest, check_list, check_nearest, check_open, junk, longer, measures};
+use silkendoz::model::recording;
 use silkendoz::model::tables::{judge_opening, needs, Lengths, Tables};
 use silkendoz::model::{Library, Measures, Refused, Trace};
 use silkendoz::random::{query, traces, uniform, Random, Shape, SHAPES};
@@ -64,6 +65,7 @@ fn some_measures(random: &mut Random) -> Measures {
 
 const K_NEAREST_CALLS: usize = 4;
 const SHEET_CALLS: usize = 4;
+const RECORDING_CALLS: usize = 4;
 
 /// A writing, whose sheet is as the book's; or a reading of a sheet, sound or damaged.
 fn sheet_step(random: &mut Random, shape: Shape, t: &mut Tables, book: &mut Book, l: Lengths) {
@@ -126,10 +128,51 @@ fn k_nearest_step(random: &mut Random, shape: Shape, t: &mut Tables, book: &mut 
     }
 }
 
+/// An import of a file, sound or damaged, that fits or not; or an export, of a stored trace or not, into a buffer that is long enough or not.
+fn recording_step(random: &mut Random, shape: Shape, t: &mut Tables, book: &mut Book, l: Lengths) {
+    let library = book.library().clone();
+    let n = library.measures.n as usize;
+    let rate = *random.pick(&[0, 1, 8000, 44_100, (1 << 31) - 1]);
+    if random.once_in(2) {
+        let rate = if random.once_in(6) { *random.pick(&[1 << 31, u64::from(u32::MAX), 1 << 32, u64::MAX]) } else { rate };
+        let number = if random.once_in(6) { *random.pick(&[65_536, 1 << 32, u64::MAX]) } else { random.below(library.traces.len() + 2) as u64 };
+        let need = recording::size(library.measures.n);
+        let mut buffer = vec![0x77; if random.once_in(4) { random.below(need) } else { need + random.below(9) }];
+        let judged = book.short(l).and_then(|library| library.judge_one(number, rate, buffer.len()));
+        assert_eq!(check_export(t, l, &mut buffer, number, rate).map(|_| ()), judged);
+        if judged.is_ok() {
+            let held = recording::read(library.measures.n, &buffer[..need]);
+            assert_eq!(held, Some((rate, vec![library.traces[number as usize].clone()])), "what is exported can be imported");
+        }
+        return;
+    }
+    let count = random.below(5);
+    let mut samples = traces(random, shape, n, count).concat();
+    if random.once_in(6) {
+        samples.push(7);
+    }
+    let mut file = recording::write(rate, &samples);
+    match random.below(6) {
+        0 => {
+            let at = random.below(44.min(file.len()));
+            file[at] ^= 1 << random.below(8);
+        }
+        1 => file.truncate(random.below(file.len())),
+        2 => file.push(0),
+        _ => {}
+    }
+    let judged = book.short(l).and_then(|library| library.judge_file(&file));
+    let answer = check_import(t, l, &file);
+    assert_eq!(answer.as_ref().map(|_| ()).map_err(|&e| e), judged.as_ref().map(|_| ()).map_err(|&e| e));
+    for trace in judged.unwrap_or_default() {
+        book.library().add(&trace);
+    }
+}
+
 fn step(random: &mut Random, shape: Shape, t: &mut Tables, book: &mut Book) {
     let l = lengths(random, t);
     let n = book.library().measures.n as usize;
-    match random.below(12 + K_NEAREST_CALLS + SHEET_CALLS) {
+    match random.below(12 + K_NEAREST_CALLS + SHEET_CALLS + RECORDING_CALLS) {
         0 => {
             let m = some_measures(random);
             let judged = judge_opening(l, m);
@@ -149,7 +192,8 @@ fn step(random: &mut Random, shape: Shape, t: &mut Tables, book: &mut Book) {
             }
         }
         12..=15 => k_nearest_step(random, shape, t, book, l),
-        16.. => sheet_step(random, shape, t, book, l),
+        16..=19 => sheet_step(random, shape, t, book, l),
+        20.. => recording_step(random, shape, t, book, l),
         _ => {
             let (q, mut trail) = some_query(random, shape, book.library());
             let judged = book.judge_match(l, q.len(), trail.len());

@@ -1,7 +1,7 @@
 //! What several tests use: the calls on a set of tables, held to the model.
 #![allow(dead_code)]
 
-pub use silkendoz::lending::{add, k_nearest, nearest, open, read_sheet, write_sheet};
+pub use silkendoz::lending::{add, export_recording, import_recording, k_nearest, nearest, open, read_sheet, write_sheet};
 use silkendoz::model::tables::{judge_opening, Lengths, Tables};
 use silkendoz::model::{KNearest, Kind, Library, Match, Measures, Refused};
 use silkendoz::program::repository;
@@ -228,4 +228,49 @@ pub fn check_read(t: &mut Tables, l: Lengths, sheet: &[u8]) -> Result<Library, R
         }
     }
     judged
+}
+
+// ---- recordings
+
+/// The answer, and every place: an import that is not refused leaves what adding its traces one after another leaves. The library that the
+/// tables hold then is given back.
+pub fn check_import(t: &mut Tables, l: Lengths, file: &[u8]) -> Result<Library, Refused> {
+    let before = t.clone();
+    let answer = import_recording(t, l, file);
+    match before.first(l).judge_import(file) {
+        Err(refused) => {
+            assert_eq!(answer, Err(refused));
+            assert_eq!(*t, before, "a refused import leaves everything");
+            Err(refused)
+        }
+        Ok((mut library, traces)) => {
+            assert_eq!(answer, Ok(traces.len() as u64));
+            let mut added = before;
+            for trace in &traces {
+                assert_eq!(add(&mut added, l, trace), Ok(library.add(trace) as u64));
+            }
+            assert_eq!(*t, added, "an import leaves what the addings leave");
+            let held = t.first(l).library().expect("an import keeps well-formed tables well formed");
+            assert_eq!(held, library);
+            Ok(library)
+        }
+    }
+}
+
+/// The answer, and every byte of the lent buffer: those behind the file stay, and a refusal leaves all.
+pub fn check_export(t: &Tables, l: Lengths, buffer: &mut [u8], number: u64, rate: u64) -> Result<u64, Refused> {
+    let before = buffer.to_vec();
+    let answer = export_recording(t, l, buffer, number, rate);
+    match t.first(l).judge_export(number, rate, buffer.len()) {
+        Err(refused) => {
+            assert_eq!(answer, Err(refused));
+            assert_eq!(buffer, before, "a refused export leaves the buffer");
+        }
+        Ok(library) => {
+            let written = silkendoz::model::recording::write(rate, &library.traces[number as usize]);
+            assert_eq!(answer, Ok(written.len() as u64));
+            assert_eq!(buffer, [&written[..], &before[written.len()..]].concat());
+        }
+    }
+    answer
 }

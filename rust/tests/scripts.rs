@@ -51,6 +51,7 @@ fn play(file: &str, at_least: usize) {
 #[test]
 fn the_stage() {
     play("stage-01.txt", 40);
+    play("stage-02.txt", 40);
 }
 
 #[test]
@@ -62,7 +63,7 @@ fn altered_tables() {
 /// The smallest cases that tell two readings of document 02 apart.
 #[test]
 fn telling_cases() {
-    play("telling.txt", 10);
+    play("telling.txt", 21);
 }
 
 /// A script of lines and replies.

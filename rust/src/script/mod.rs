@@ -24,13 +24,13 @@ mod looking;
 mod memory;
 
 use crate::lending;
-use crate::model::{sheet, Measures, Refused};
+use crate::model::{recording, sheet, Measures, Refused};
 use line::Line;
 use memory::{Area, Effect, Memory};
 use std::fmt::Display;
 
 /// How many of document 02's requests have landed.
-pub const STAGE: usize = 1;
+pub const STAGE: usize = 2;
 
 /// Two libraries, of which nothing was opened at first: the factory's is the first, the bench's the second.
 pub struct Session {
@@ -59,13 +59,15 @@ struct Played {
     play: fn(&mut Session, Line<'_>) -> Reply,
 }
 
-const LINES: [Played; 10] = [
+const LINES: [Played; 12] = [
     Played { name: "open", keys: &["short"], play: open },
     Played { name: "add", keys: &["short"], play: add },
     Played { name: "match", keys: &["short", "trail"], play: nearest },
     Played { name: "write", keys: &["short", "sheet"], play: write },
     Played { name: "read", keys: &["short"], play: read },
     Played { name: "near", keys: &["short", "trail", "list"], play: k_nearest },
+    Played { name: "import", keys: &["short"], play: import },
+    Played { name: "export", keys: &["short", "buffer"], play: export },
     Played { name: "tree", keys: &[], play: looking::tree },
     Played { name: "below", keys: &[], play: looking::below },
     Played { name: "alter", keys: &[], play: looking::alter },
@@ -168,4 +170,21 @@ fn read(session: &mut Session, mut line: Line<'_>) -> Reply {
     let measures = sheet::measures(&bytes).unwrap_or(Measures { n: 0, capacity: 0, leaf_size: 0 });
     session.library(&line).call(&line, Effect::Puts(measures), |t, l| lending::read_sheet(t, l, &bytes))?;
     Ok("done".into())
+}
+
+fn import(session: &mut Session, mut line: Line<'_>) -> Reply {
+    let bytes = line.bytes()?;
+    line.end()?;
+    let count = session.library(&line).call(&line, Effect::Changes, |t, l| lending::import_recording(t, l, &bytes))?;
+    Ok(format!("imported {count}"))
+}
+
+fn export(session: &mut Session, mut line: Line<'_>) -> Reply {
+    let (rate, number): (u32, u64) = (line.next()?, line.next()?);
+    line.end()?;
+    let library = session.library(&line);
+    let mut buffer = Area::of("buffer", line.places("buffer", recording::size(library.tables().measures().n))?);
+    let answer = library.call(&line, Effect::Looks, |t, l| lending::export_recording(t, l, buffer.lent(), number, rate.into()));
+    let size = buffer.kept_if_refused(answer)?;
+    Ok(format!("exported {size} {}", bytes::told(buffer.filled(size))))
 }

@@ -1,10 +1,13 @@
 //! Tables of times, all in one run: the calls beside the scan on the same data, medians of many rounds, n = 256 and capacity 4,096. The
-//! first is of all calls, the second of lists of five; below them, what it takes to add traces that are all the same.
+//! first is of all calls, the second of lists of five; below them, what it takes to add traces that are all the same, and to import a
+//! recording beside reading the sheet of the same traces.
 //!
 //! Machines differ, and so do runs; within a line the columns belong together, and the ratios are what counts. Every answer is compared
 //! with the scan's.
 
-use silkendoz::model::Trace;
+use silkendoz::lending;
+use silkendoz::model::tables::{needs, Tables};
+use silkendoz::model::{recording, sheet, Measures, Trace};
 use silkendoz::random::{near, noisy_sine, uniform, walk, Random};
 use silkendoz::{scan, TraceLibrary};
 use std::fmt::Debug;
@@ -15,6 +18,9 @@ const N: usize = 256;
 const CAPACITY: usize = 4096;
 const QUERIES: usize = 201;
 const ADDED: usize = 201;
+
+/// How often a recording is imported, and a sheet read beside it.
+const ROUNDS: usize = 21;
 
 /// How many traces the second table lists.
 const LISTED: usize = 5;
@@ -216,6 +222,38 @@ fn line_of_equals(leaf_size: usize) {
     );
 }
 
+/// All traces from a recording, into a library that is opened for them, and from a sheet, into the same tables: both zero the tables, judge
+/// every byte and add trace by trace.
+fn line_of_recordings(leaf_size: usize) {
+    let random = &mut Random::seeded(2026);
+    let walks: Vec<Trace> = (0..CAPACITY).map(|_| Data::Walks.trace(random)).collect();
+    let m = Measures { n: N as u64, capacity: CAPACITY as u64, leaf_size: leaf_size as u64 };
+    let (file, sheet) = (recording::write(8000, &walks.concat()), sheet::write(m, &walks));
+    let l = needs(m);
+    let mut t =
+        Tables { control: vec![0; l.control], samples: vec![0; l.samples], nodes: vec![0; l.nodes], links: vec![0; l.links], work: vec![0; l.work] };
+    let import = |t: &mut Tables| {
+        let opened = lending::open(t, l, m);
+        opened.and_then(|()| lending::import_recording(t, l, black_box(&file)))
+    };
+    let mut rounds: Vec<[f64; 2]> = Vec::new();
+    for _ in 0..ROUNDS {
+        let (read_time, read) = time(|| lending::read_sheet(&mut t, l, black_box(&sheet)));
+        let by_sheet = t.clone();
+        let (import_time, imported) = time(|| import(&mut t));
+        assert_eq!((read, imported), (Ok(()), Ok(CAPACITY as u64)));
+        assert!(t == by_sheet, "the library is the same");
+        rounds.push([import_time, read_time]);
+    }
+    let of = |figure: fn(&[f64; 2]) -> f64| median(rounds.iter().map(figure).collect());
+    println!(
+        "{CAPACITY} random walks, leaf size {leaf_size}: as a recording {:.0}, as a sheet {:.0}; recording / sheet {:.2}",
+        of(|r| r[0]),
+        of(|r| r[1]),
+        of(|r| r[0] / r[1])
+    );
+}
+
 fn main() {
     println!("n = {N}, capacity {CAPACITY}, full; times in microseconds, medians ({QUERIES} queries, the last {ADDED} traces added)");
     println!("scan: every trace; leaving: the same scan, leaving a trace that is no longer below the best; x: scan / match and leaving / match, query by query");
@@ -235,4 +273,7 @@ fn main() {
     }
     println!();
     line_of_equals(64);
+    for leaf_size in [64, 16] {
+        line_of_recordings(leaf_size);
+    }
 }

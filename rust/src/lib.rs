@@ -33,9 +33,11 @@ pub mod random;
 mod refusal;
 pub mod scan;
 pub mod script;
+mod shape;
 
 pub use library::{KNearest, Nearest, Neighbour, TraceLibrary};
 pub use refusal::Refusal;
+pub use shape::Leaf;
 
 /// The Rust program of `docs/GUIDE.md`, as a test.
 #[cfg(doctest)]

@@ -5,7 +5,7 @@ use crate::Refusal;
 
 /// Fields of the control record, and places of a node's record (`docs/LAYOUT.md`).
 const CONTROL_FIELDS: usize = 5;
-const RECORD_PLACES: usize = 87;
+pub(crate) const RECORD_PLACES: usize = 87;
 
 /// As many traces as a search lists at most.
 const MOST_LISTED: usize = 16;
@@ -27,10 +27,10 @@ const MOST_LISTED: usize = 16;
 /// ```
 #[derive(Clone, Debug, PartialEq, Eq)]
 pub struct TraceLibrary {
-    control: Vec<u16>,
+    pub(crate) control: Vec<u16>,
     samples: Vec<i16>,
-    nodes: Vec<i64>,
-    links: Vec<u16>,
+    pub(crate) nodes: Vec<i64>,
+    pub(crate) links: Vec<u16>,
     work: Vec<u64>,
 }
 

@@ -1,0 +1,53 @@
+//! Numbers as people read them.
+
+/// The root of the mean square: how far a sample is off.
+pub fn per_sample(distance: u64, n: usize) -> f64 {
+    (distance as f64 / n as f64).sqrt()
+}
+
+/// How many times as far the runner-up is, by roots; nothing if the nearest is at distance 0.
+pub fn times_as_far(nearest: u64, second: u64) -> Option<f64> {
+    (nearest > 0).then(|| (second as f64 / nearest as f64).sqrt())
+}
+
+/// One and several.
+pub fn count(number: usize, one: &str) -> String {
+    match number {
+        1 => format!("1 {one}"),
+        _ if one.ends_with("leaf") => format!("{number} {}aves", &one[..one.len() - 2]),
+        _ => format!("{number} {one}s"),
+    }
+}
+
+/// 1234567 as 1,234,567.
+pub fn grouped(number: usize) -> String {
+    let digits = number.to_string();
+    let mut text = String::new();
+    for (at, digit) in digits.chars().enumerate() {
+        if at > 0 && (digits.len() - at) % 3 == 0 {
+            text.push(',');
+        }
+        text.push(digit);
+    }
+    text
+}
+
+/// The one in the middle; nothing of nothing.
+pub fn median(mut list: Vec<f64>) -> f64 {
+    list.sort_by(f64::total_cmp);
+    list.get(list.len() / 2).copied().unwrap_or_default()
+}
+
+#[cfg(test)]
+mod tests {
+    use super::*;
+
+    #[test]
+    fn as_people_read_them() {
+        assert_eq!([0, 999, 1000, 12_345_678].map(grouped), ["0", "999", "1,000", "12,345,678"]);
+        assert_eq!([count(1, "leaf"), count(2, "leaf"), count(0, "trace")], ["1 leaf", "2 leaves", "0 traces"]);
+        assert_eq!(per_sample(400, 4), 10.0);
+        assert_eq!((times_as_far(0, 5), times_as_far(4, 16)), (None, Some(2.0)));
+        assert_eq!((median(vec![3.0, 1.0, 2.0]), median(vec![])), (2.0, 0.0));
+    }
+}

@@ -2,6 +2,8 @@
 
 use crate::calls::{self, Lent};
 use crate::Refusal;
+use std::fmt;
+use std::slice::ChunksExact;
 
 /// Fields of the control record, and places of a node's record (`docs/LAYOUT.md`).
 const CONTROL_FIELDS: usize = 5;
@@ -25,13 +27,43 @@ const MOST_LISTED: usize = 16;
 /// assert_eq!(library.trace(1), Some(&[7, 7, 7][..]));
 /// # Ok::<(), Refusal>(())
 /// ```
-#[derive(Clone, Debug, PartialEq, Eq)]
+///
+/// A search writes nothing of the library, so that several threads may search one at once:
+///
+/// ```
+/// # use silkendoz::TraceLibrary;
+/// let mut library = TraceLibrary::open(1, 8, 2)?;
+/// for trace in [0, 10, 20] {
+///     library.add(&[trace])?;
+/// }
+/// let library = &library;
+/// std::thread::scope(|threads| {
+///     for query in [1, 11, 21] {
+///         threads.spawn(move || assert_eq!(library.nearest(&[query]).unwrap().distance, 1));
+///     }
+/// });
+/// # Ok::<(), silkendoz::Refusal>(())
+/// ```
+#[derive(Clone, PartialEq, Eq)]
 pub struct TraceLibrary {
     pub(crate) control: Vec<u16>,
     samples: Vec<i16>,
     pub(crate) nodes: Vec<i64>,
     pub(crate) links: Vec<u16>,
     work: Vec<u64>,
+}
+
+/// Measures and counts; the traces themselves would be too many.
+impl fmt::Debug for TraceLibrary {
+    fn fmt(&self, f: &mut fmt::Formatter<'_>) -> fmt::Result {
+        f.debug_struct("TraceLibrary")
+            .field("n", &self.n())
+            .field("capacity", &self.capacity())
+            .field("leaf_size", &self.leaf_size())
+            .field("traces", &self.len())
+            .field("nodes", &self.node_count())
+            .finish()
+    }
 }
 
 /// The nearest trace, and what was read to find it.
@@ -113,10 +145,15 @@ impl TraceLibrary {
         calls::add(&mut self.control, &mut self.samples, &mut self.nodes, &mut self.links, &self.work, trace).map(|number| number as usize)
     }
 
+    /// Search work and a trail, of a search's own.
+    fn room(&self) -> (Vec<u64>, Vec<u16>) {
+        (vec![0; self.work.len()], vec![0; self.capacity()])
+    }
+
     /// Finds the stored trace that is nearest to a query of n samples: the lowest number among equals.
-    pub fn nearest(&mut self, query: &[i16]) -> Result<Nearest, Refusal> {
-        let mut trail = vec![0; self.capacity()];
-        let found = calls::nearest(&self.control, &self.samples, &self.nodes, &self.links, &mut self.work, &mut trail, query)?;
+    pub fn nearest(&self, query: &[i16]) -> Result<Nearest, Refusal> {
+        let (mut work, mut trail) = self.room();
+        let found = calls::nearest(&self.control, &self.samples, &self.nodes, &self.links, &mut work, &mut trail, query)?;
         trail.truncate(found.leaves as usize);
         Ok(Nearest { trace: found.trace as usize, distance: found.distance, leaves: found.leaves as usize, traces: found.traces as usize, trail })
     }
@@ -137,11 +174,11 @@ impl TraceLibrary {
     /// assert_eq!(library.k_nearest(&[2], 17), Err(Refusal::BadK));
     /// # Ok::<(), Refusal>(())
     /// ```
-    pub fn k_nearest(&mut self, query: &[i16], k: usize) -> Result<KNearest, Refusal> {
-        let mut trail = vec![0; self.capacity()];
+    pub fn k_nearest(&self, query: &[i16], k: usize) -> Result<KNearest, Refusal> {
+        let (mut work, mut trail) = self.room();
         // a larger k is refused before the list is looked at
         let mut list = vec![0; 2 * k.min(MOST_LISTED)];
-        let found = calls::k_nearest(&self.control, &self.samples, &self.nodes, &self.links, &mut self.work, &mut trail, &mut list, query, k as u64)?;
+        let found = calls::k_nearest(&self.control, &self.samples, &self.nodes, &self.links, &mut work, &mut trail, &mut list, query, k as u64)?;
         trail.truncate(found.leaves as usize);
         let listed = list.chunks_exact(2).take(found.listed as usize);
         let list = listed.map(|record| Neighbour { trace: record[0] as usize, distance: record[1] }).collect();
@@ -266,5 +303,29 @@ impl TraceLibrary {
     /// The trace with this number.
     pub fn trace(&self, number: usize) -> Option<&[i16]> {
         (number < self.len()).then(|| &self.samples[number * self.n()..(number + 1) * self.n()])
+    }
+
+    /// The stored traces, in order.
+    ///
+    /// ```
+    /// # use silkendoz::TraceLibrary;
+    /// let mut library = TraceLibrary::open(2, 8, 2)?;
+    /// library.add(&[1, 2])?;
+    /// library.add(&[3, 4])?;
+    /// assert_eq!(library.traces().len(), 2);
+    /// assert!(library.traces().eq([&[1, 2], &[3, 4]]));
+    /// # Ok::<(), silkendoz::Refusal>(())
+    /// ```
+    pub fn traces(&self) -> ChunksExact<'_, i16> {
+        self.samples[..self.len() * self.n()].chunks_exact(self.n())
+    }
+}
+
+impl<'a> IntoIterator for &'a TraceLibrary {
+    type Item = &'a [i16];
+    type IntoIter = ChunksExact<'a, i16>;
+
+    fn into_iter(self) -> Self::IntoIter {
+        self.traces()
     }
 }

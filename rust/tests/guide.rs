@@ -54,7 +54,7 @@ fn fault(trace: &str) -> String {
 #[test]
 fn runner_up() {
     let rows = table(&text("docs/GUIDE.md"), "The runner-up");
-    let mut library = TraceLibrary::read_sheet(&file("examples/faults.sheet")).unwrap();
+    let library = TraceLibrary::read_sheet(&file("examples/faults.sheet")).unwrap();
     let query = library.len() - 1;
     let samples = library.trace(query).unwrap().to_vec();
     let list = library.k_nearest(&samples, 1 + rows.len()).unwrap().list;

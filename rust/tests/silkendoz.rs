@@ -182,7 +182,7 @@ fn a_name_that_is_no_text() {
 fn matched_with_names() {
     let folder = shelf("matched");
     let (faults, today) = faults();
-    let mut library = folder.library("faults.sheet");
+    let library = folder.library("faults.sheet");
     for k in [1, 2, 5, 16] {
         let out = folder.done(&format!("match faults.sheet today.csv -k {k}"));
         let found = library.k_nearest(&today, k).unwrap();

@@ -140,7 +140,7 @@ fn filled(data: Data, leaf_size: usize) -> Full {
     Full { library, samples: stored.concat(), nearby, fresh, add: median(add.split_off(CAPACITY - ADDED)) }
 }
 
-fn matched(library: &mut TraceLibrary, samples: &[i16], queries: &[Trace]) -> Compared {
+fn matched(library: &TraceLibrary, samples: &[i16], queries: &[Trace]) -> Compared {
     compared(
         queries,
         |q| {
@@ -152,7 +152,7 @@ fn matched(library: &mut TraceLibrary, samples: &[i16], queries: &[Trace]) -> Co
     )
 }
 
-fn listed(library: &mut TraceLibrary, samples: &[i16], queries: &[Trace]) -> Compared {
+fn listed(library: &TraceLibrary, samples: &[i16], queries: &[Trace]) -> Compared {
     compared(
         queries,
         |q| {
@@ -165,7 +165,7 @@ fn listed(library: &mut TraceLibrary, samples: &[i16], queries: &[Trace]) -> Com
 }
 
 /// A match whose query has another length is refused right behind the test of the tables.
-fn test_of_tables(library: &mut TraceLibrary) -> f64 {
+fn test_of_tables(library: &TraceLibrary) -> f64 {
     let wrong = [0i16; N - 1];
     median((0..QUERIES).map(|_| time(|| black_box(library.nearest(black_box(&wrong)))).0).collect())
 }
@@ -178,21 +178,21 @@ fn sheets(library: &TraceLibrary) -> (String, String) {
 }
 
 fn line(data: Data, leaf_size: usize) {
-    let Full { mut library, samples, nearby, fresh, add } = filled(data, leaf_size);
+    let Full { library, samples, nearby, fresh, add } = filled(data, leaf_size);
     // one round of each first, so that memory and branches are warm
-    matched(&mut library, &samples, &nearby[..20]);
-    let a = matched(&mut library, &samples, &nearby).columns();
-    let b = matched(&mut library, &samples, &fresh).columns();
-    let tested = test_of_tables(&mut library);
+    matched(&library, &samples, &nearby[..20]);
+    let a = matched(&library, &samples, &nearby).columns();
+    let b = matched(&library, &samples, &fresh).columns();
+    let tested = test_of_tables(&library);
     let (write, read) = sheets(&library);
     println!("{:<14}{leaf_size:>5} |{a} |{b} |{tested:>8.1}{add:>8.1}{write:>8}{read:>9}", data.name());
 }
 
 fn line_of_lists(data: Data, leaf_size: usize) {
-    let Full { mut library, samples, nearby, fresh, .. } = filled(data, leaf_size);
-    listed(&mut library, &samples, &nearby[..20]);
-    let a = listed(&mut library, &samples, &nearby).columns();
-    let b = listed(&mut library, &samples, &fresh).columns();
+    let Full { library, samples, nearby, fresh, .. } = filled(data, leaf_size);
+    listed(&library, &samples, &nearby[..20]);
+    let a = listed(&library, &samples, &nearby).columns();
+    let b = listed(&library, &samples, &fresh).columns();
     println!("{:<14}{leaf_size:>5} |{a} |{b}", data.name());
 }
 

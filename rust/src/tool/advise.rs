@@ -25,7 +25,7 @@ pub fn run(a: &Arguments) -> Answer {
     if count < 2 {
         return refused(format!("{}: holds {count} of the 2 traces that it takes to leave one out. Add some.", shelf.path.display()));
     }
-    let traces: Vec<Vec<i16>> = (0..count).map(|number| shelf.trace(number).to_vec()).collect();
+    let traces: Vec<Vec<i16>> = shelf.library.traces().map(<[i16]>::to_vec).collect();
     let trial = Trial::of(&traces);
     let sizes: Vec<Tried> = LEAF_SIZES.into_iter().map(|leaf_size| trial.tried(leaf_size)).collect();
     let scans = trial.scanned();
@@ -87,11 +87,11 @@ impl Trial<'_> {
         let mut found = Vec::new();
         for group in 0..self.groups {
             progress.show(group);
-            let mut library = library(self.without(group), leaf_size);
-            found.extend(self.left_out(group).map(|query| lookup(&mut library, query)));
+            let library = library(self.without(group), leaf_size);
+            found.extend(self.left_out(group).map(|query| lookup(&library, query)));
         }
-        let mut all = library(self.traces.iter(), leaf_size);
-        let noisy = self.noisy.iter().map(|query| lookup(&mut all, query)).collect();
+        let all = library(self.traces.iter(), leaf_size);
+        let noisy = self.noisy.iter().map(|query| lookup(&all, query)).collect();
         Tried { leaf_size, left_out: medians(found), noisy: medians(noisy) }
     }
 
@@ -126,7 +126,7 @@ fn library<'a>(traces: impl Iterator<Item = &'a Vec<i16>>, leaf_size: usize) -> 
 }
 
 /// The part of leaves that a match reads, in per cent, and its microseconds.
-fn lookup(library: &mut TraceLibrary, query: &[i16]) -> (f64, f64) {
+fn lookup(library: &TraceLibrary, query: &[i16]) -> (f64, f64) {
     let mut leaves = 0;
     let micros = micros(|| leaves = library.nearest(query).map_or(0, |found| found.leaves));
     (100.0 * leaves as f64 / library.leaf_count() as f64, micros)

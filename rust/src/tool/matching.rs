@@ -14,9 +14,9 @@ const LISTED: usize = 5;
 pub fn run(a: &Arguments) -> Answer {
     let [library, file] = a.exactly(["LIBRARY", "a FILE with a sweep"])?;
     let k = a.number("-k")?.unwrap_or(LISTED);
-    let mut shelf = Shelf::load(Path::new(library))?;
+    let shelf = Shelf::load(Path::new(library))?;
     let sweeps = reading::sweeps(Path::new(file), shelf.library.n())?;
-    let found = sweeps.iter().map(|sweep| Match::of(&mut shelf, sweep, k)).collect::<Result<Vec<_>, _>>()?;
+    let found = sweeps.iter().map(|sweep| Match::of(&shelf, sweep, k)).collect::<Result<Vec<_>, _>>()?;
     done(match found.as_slice() {
         _ if a.has("--json") => in_json(&shelf, &found),
         [one] => one.in_full(&shelf),
@@ -35,7 +35,7 @@ pub struct Match<'a> {
 }
 
 impl Match<'_> {
-    pub fn of<'a>(shelf: &mut Shelf, sweep: &'a Sweep, k: usize) -> Result<Match<'a>, Failure> {
+    pub fn of<'a>(shelf: &Shelf, sweep: &'a Sweep, k: usize) -> Result<Match<'a>, Failure> {
         // a k that is no k is refused as it is
         let asked = if k == 1 { 2 } else { k };
         match shelf.library.k_nearest(&sweep.samples, asked) {

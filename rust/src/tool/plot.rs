@@ -24,12 +24,12 @@ pub fn run(a: &Arguments) -> Answer {
     if !over {
         files::must_be_free(&out)?;
     }
-    let mut shelf = Shelf::load(library)?;
+    let shelf = Shelf::load(library)?;
     let sweeps = reading::sweeps(file, shelf.library.n())?;
     let Some(sweep) = which.checked_sub(1).and_then(|at| sweeps.get(at)) else {
         return refused(format!("{}: there is no sweep {which}; it holds {}, counted from 1.", file.display(), sweeps.len()));
     };
-    let found = Match::of(&mut shelf, sweep, k)?;
+    let found = Match::of(&shelf, sweep, k)?;
     files::write(&out, drawing(&shelf, &found).as_bytes(), over)?;
     let more = if sweeps.len() > 1 { format!(" (sweep {which} of {})", sweeps.len()) } else { String::new() };
     let drawn = numbers::count(found.list.len(), "nearest trace");

@@ -16,7 +16,7 @@ pub fn import(bytes: &[u8], n: usize) -> Result<Vec<Vec<i16>>, String> {
     let room = (bytes.len() / 2 / n.max(1)).clamp(1, MOST_TRACES);
     let mut library = TraceLibrary::open(n, room, 64).map_err(|why| why.to_string())?;
     match library.import_recording(bytes) {
-        Ok(count) => Ok((0..count).filter_map(|number| library.trace(number).map(<[i16]>::to_vec)).collect()),
+        Ok(_) => Ok(library.traces().map(<[i16]>::to_vec).collect()),
         Err(Refusal::Full) => Err(format!("holds more than {MOST_TRACES} traces of {n} samples, which no library does. Cut it.")),
         Err(why) => Err(format!("refused {}, no recording that can be taken: {}", why.number(), in_words(bytes, n))),
     }

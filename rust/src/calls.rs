@@ -16,6 +16,7 @@ pub struct Lent<'a> {
 
 /// What a match answers: the leaves read are those at the beginning of the trail.
 #[derive(Clone, Copy, Debug, PartialEq, Eq)]
+#[non_exhaustive]
 pub struct Found {
     pub trace: u64,
     pub distance: u64,
@@ -26,6 +27,7 @@ pub struct Found {
 /// What a search for the k nearest answers: so many leaves and traces were read, and so many traces are listed. The leaves read are those at the beginning
 /// of the trail; the list begins with two places for each trace that is listed, its number and its distance.
 #[derive(Clone, Copy, Debug, PartialEq, Eq)]
+#[non_exhaustive]
 pub struct Listed {
     pub leaves: u64,
     pub traces: u64,

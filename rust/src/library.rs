@@ -22,7 +22,7 @@ const MOST_LISTED: usize = 16;
 /// assert_eq!(library.add(&[0, 0, 0])?, 0);
 /// assert_eq!(library.add(&[7, 7, 7])?, 1);
 /// assert_eq!(library.add(&[8, 8, 8]), Err(Refusal::Full));
-/// assert_eq!(library.add(&[8, 8]), Err(Refusal::WrongTrace));
+/// assert_eq!(library.add(&[8, 8]).unwrap_err().to_string(), "wrong trace: 2 samples, and n is 3");
 /// assert_eq!(library.nearest(&[7, 6, 7])?.trace, 1);
 /// assert_eq!(library.trace(1), Some(&[7, 7, 7][..]));
 /// # Ok::<(), Refusal>(())
@@ -68,6 +68,7 @@ impl fmt::Debug for TraceLibrary {
 
 /// The nearest trace, and what was read to find it.
 #[derive(Clone, Debug, PartialEq, Eq)]
+#[non_exhaustive]
 pub struct Nearest {
     /// The trace's number: traces are numbered from 0 as added.
     pub trace: usize,
@@ -83,6 +84,7 @@ pub struct Nearest {
 
 /// The k nearest traces, and what was read to find them.
 #[derive(Clone, Debug, PartialEq, Eq)]
+#[non_exhaustive]
 pub struct KNearest {
     /// The traces, by distance, then number.
     pub list: Vec<Neighbour>,
@@ -96,6 +98,7 @@ pub struct KNearest {
 
 /// A trace of a list, with its distance to the query.
 #[derive(Clone, Copy, Debug, PartialEq, Eq)]
+#[non_exhaustive]
 pub struct Neighbour {
     /// The trace's number.
     pub trace: usize,
@@ -142,7 +145,9 @@ impl TraceLibrary {
 
     /// Adds a trace of n samples. Its number is the answer.
     pub fn add(&mut self, trace: &[i16]) -> Result<usize, Refusal> {
-        calls::add(&mut self.control, &mut self.samples, &mut self.nodes, &mut self.links, &self.work, trace).map(|number| number as usize)
+        let n = self.n();
+        let added = calls::add(&mut self.control, &mut self.samples, &mut self.nodes, &mut self.links, &self.work, trace);
+        added.map(|number| number as usize).map_err(|why| why.with_lengths(trace.len(), n))
     }
 
     /// Search work and a trail, of a search's own.
@@ -153,7 +158,8 @@ impl TraceLibrary {
     /// Finds the stored trace that is nearest to a query of n samples: the lowest number among equals.
     pub fn nearest(&self, query: &[i16]) -> Result<Nearest, Refusal> {
         let (mut work, mut trail) = self.room();
-        let found = calls::nearest(&self.control, &self.samples, &self.nodes, &self.links, &mut work, &mut trail, query)?;
+        let found = calls::nearest(&self.control, &self.samples, &self.nodes, &self.links, &mut work, &mut trail, query)
+            .map_err(|why| why.with_lengths(query.len(), self.n()))?;
         trail.truncate(found.leaves as usize);
         Ok(Nearest { trace: found.trace as usize, distance: found.distance, leaves: found.leaves as usize, traces: found.traces as usize, trail })
     }
@@ -161,14 +167,15 @@ impl TraceLibrary {
     /// Lists the k stored traces (1 to 16) that are nearest to a query of n samples, by distance, then number. A library of fewer traces lists all it has.
     ///
     /// ```
-    /// use silkendoz::{Neighbour, Refusal, TraceLibrary};
+    /// use silkendoz::{Refusal, TraceLibrary};
     ///
     /// let mut library = TraceLibrary::open(1, 8, 1)?;
     /// for trace in [4, 0, 9] {
     ///     library.add(&[trace])?;
     /// }
     /// let found = library.k_nearest(&[2], 2)?;
-    /// assert_eq!(found.list, [Neighbour { trace: 0, distance: 4 }, Neighbour { trace: 1, distance: 4 }]);
+    /// let list: Vec<(usize, u64)> = found.list.iter().map(|near| (near.trace, near.distance)).collect();
+    /// assert_eq!(list, [(0, 4), (1, 4)]);
     /// assert_eq!((found.leaves, found.traces), (2, 2));
     /// assert_eq!(library.k_nearest(&[2], 16)?.list.len(), 3);
     /// assert_eq!(library.k_nearest(&[2], 17), Err(Refusal::BadK));
@@ -178,7 +185,9 @@ impl TraceLibrary {
         let (mut work, mut trail) = self.room();
         // a larger k is refused before the list is looked at
         let mut list = vec![0; 2 * k.min(MOST_LISTED)];
-        let found = calls::k_nearest(&self.control, &self.samples, &self.nodes, &self.links, &mut work, &mut trail, &mut list, query, k as u64)?;
+        let (control, samples) = (&self.control, &self.samples);
+        let found = calls::k_nearest(control, samples, &self.nodes, &self.links, &mut work, &mut trail, &mut list, query, k as u64)
+            .map_err(|why| why.with_lengths(query.len(), self.n()))?;
         trail.truncate(found.leaves as usize);
         let listed = list.chunks_exact(2).take(found.listed as usize);
         let list = listed.map(|record| Neighbour { trace: record[0] as usize, distance: record[1] }).collect();

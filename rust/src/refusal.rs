@@ -13,6 +13,7 @@ use std::fmt;
 /// assert_eq!(why.to_string(), "measure: n, capacity or leaf size outside its range");
 /// ```
 #[derive(Clone, Copy, Debug, PartialEq, Eq, Hash)]
+#[non_exhaustive]
 pub enum Refusal {
     /// 1: n, capacity or leaf size outside its range.
     Measure,
@@ -20,8 +21,8 @@ pub enum Refusal {
     ShortTable,
     /// 3: tables not well formed.
     Spoiled,
-    /// 4: length not n.
-    WrongTrace,
+    /// 4: length not n. [`crate::TraceLibrary`] knows both.
+    WrongTrace(Option<Lengths>),
     /// 5: count equals capacity; an import of more traces than there is room for.
     Full,
     /// 6: a match with no trace stored.
@@ -40,14 +41,32 @@ pub enum Refusal {
     BadRecording,
 }
 
+/// How many samples a trace or query has that is refused for its length, and how many it has to have.
+#[derive(Clone, Copy, Debug, PartialEq, Eq, Hash)]
+#[non_exhaustive]
+pub struct Lengths {
+    /// Samples that were given.
+    pub given: usize,
+    /// Samples a trace of this library.
+    pub n: usize,
+}
+
 impl Refusal {
+    /// The same, with both lengths if it is a wrong trace.
+    pub(crate) fn with_lengths(self, given: usize, n: usize) -> Refusal {
+        match self {
+            Refusal::WrongTrace(_) => Refusal::WrongTrace(Some(Lengths { given, n })),
+            other => other,
+        }
+    }
+
     /// The refusal with this number and place. There is none with another number.
     pub fn from_number(number: u64, place: u64) -> Option<Refusal> {
         Some(match number {
             1 => Refusal::Measure,
             2 => Refusal::ShortTable,
             3 => Refusal::Spoiled,
-            4 => Refusal::WrongTrace,
+            4 => Refusal::WrongTrace(None),
             5 => Refusal::Full,
             6 => Refusal::Empty,
             7 => Refusal::ShortTrail,
@@ -66,7 +85,7 @@ impl Refusal {
             Refusal::Measure => 1,
             Refusal::ShortTable => 2,
             Refusal::Spoiled => 3,
-            Refusal::WrongTrace => 4,
+            Refusal::WrongTrace(_) => 4,
             Refusal::Full => 5,
             Refusal::Empty => 6,
             Refusal::ShortTrail => 7,
@@ -92,7 +111,7 @@ impl Refusal {
             Refusal::Measure => "measure",
             Refusal::ShortTable => "short table",
             Refusal::Spoiled => "spoiled",
-            Refusal::WrongTrace => "wrong trace",
+            Refusal::WrongTrace(_) => "wrong trace",
             Refusal::Full => "full",
             Refusal::Empty => "empty",
             Refusal::ShortTrail => "short trail",
@@ -111,7 +130,8 @@ impl fmt::Display for Refusal {
             Refusal::Measure => "n, capacity or leaf size outside its range",
             Refusal::ShortTable => "a lent table below the need",
             Refusal::Spoiled => "tables not well formed",
-            Refusal::WrongTrace => "length not n",
+            Refusal::WrongTrace(Some(Lengths { given, n })) => return write!(f, "wrong trace: {given} samples, and n is {n}"),
+            Refusal::WrongTrace(None) => "length not n",
             Refusal::Full => "no room for what is added",
             Refusal::Empty => "a match with no trace stored",
             Refusal::ShortTrail => "trail shorter than the number of leaves, or list shorter than k",

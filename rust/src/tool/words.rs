@@ -8,7 +8,6 @@ use silkendoz::{Refusal, TraceLibrary};
 pub fn of_call(why: Refusal) -> String {
     let what = match why {
         Refusal::Measure => "samples a trace are 1 to 256, the capacity is 1 to 4096, the leaf size 1 to 64",
-        Refusal::WrongTrace => "the trace has another number of samples than those of the library",
         Refusal::Full => "there is room for no more traces",
         Refusal::Empty => "the library holds no trace: add one first",
         Refusal::BadK => "a search lists 1 to 16 traces",

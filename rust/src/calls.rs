@@ -7,10 +7,15 @@ use crate::Refusal;
 
 /// The five tables of a library, lent to a call that may write all of them.
 pub struct Lent<'a> {
+    /// n, capacity, leaf size, how many traces and how many nodes there are.
     pub control: &'a mut [u16],
+    /// The traces, one behind another.
     pub samples: &'a mut [i16],
+    /// The tree's nodes, a record each.
     pub nodes: &'a mut [i64],
+    /// For each trace the next one of its leaf.
     pub links: &'a mut [u16],
+    /// Search work, kept by no call.
     pub work: &'a mut [u64],
 }
 
@@ -18,9 +23,13 @@ pub struct Lent<'a> {
 #[derive(Clone, Copy, Debug, PartialEq, Eq)]
 #[non_exhaustive]
 pub struct Found {
+    /// The nearest trace's number.
     pub trace: u64,
+    /// The sum of squared differences.
     pub distance: u64,
+    /// How many leaves were read.
     pub leaves: u64,
+    /// How many traces those leaves hold.
     pub traces: u64,
 }
 
@@ -29,8 +38,11 @@ pub struct Found {
 #[derive(Clone, Copy, Debug, PartialEq, Eq)]
 #[non_exhaustive]
 pub struct Listed {
+    /// How many leaves were read.
     pub leaves: u64,
+    /// How many traces those leaves hold.
     pub traces: u64,
+    /// How many traces are listed.
     pub listed: u64,
 }
 

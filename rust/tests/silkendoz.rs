@@ -445,7 +445,7 @@ fn advised() {
 
 /// A square wave of one height: level 0 and swing 5,000 for all.
 fn normalised(at: usize) -> String {
-    let trace: Vec<i16> = (0..N).map(|i| if (i * (1 + at % 31) + at) / 2 % 2 == 0 { 5000 } else { -5000 }).collect();
+    let trace: Vec<i16> = (0..N).map(|i| if ((i * (1 + at % 31) + at) / 2).is_multiple_of(2) { 5000 } else { -5000 }).collect();
     let level: i64 = trace.iter().map(|&x| i64::from(x)).sum();
     // as many above as below
     let mut trace = trace;

@@ -55,7 +55,7 @@ fn in_words(bytes: &[u8], n: usize) -> String {
 fn in_sizes(said: u64, there: u64, n: u64) -> String {
     if said != there {
         format!("its header says {said} bytes of data, and there are {there}. It was cut off, or something stands behind: save it again.")
-    } else if said % 2 == 0 && said / 2 % n != 0 {
+    } else if said.is_multiple_of(2) && !(said / 2).is_multiple_of(n) {
         format!("it has {} samples, which is no multiple of {n}. Cut it to whole traces.", said / 2)
     } else {
         "a number of its header does not fit the others (sizes, rates, block align). Save it again as 16-bit PCM, mono.".to_string()

@@ -21,10 +21,28 @@
  * A slice is passed as a pointer and then its length in elements (not bytes). A table may be longer than its need: places behind the need are neither
  * read nor written. A shorter one is refused (2). What the tables hold is in docs/LAYOUT.md, in the machine's own byte order.
  *
- * WHAT A CALLER OWES, which C cannot test: each pointer is aligned for its element and leads to as many elements as its length says, all of them
- * readable, and writable where the pointer is not const; no slice that a call may write overlaps another slice of the same call; nobody else
- * writes or reads a lent slice meanwhile. With a length of 0 the pointer is not followed, but it has to be aligned and not null.
- * There is nothing else: any contents, any lengths and any numbers are answered.
+ * WHAT A CALLER OWES, which C cannot test: each pointer is aligned for its element and leads to as many elements as its length says, all
+ * of them readable, and writable where the pointer is not const; no slice that a call may write overlaps another slice of the same call;
+ * meanwhile nobody else writes a lent slice, nor reads one that the call may write. With a length of 0 the pointer is not followed, but it
+ * has to be aligned and not null. There is nothing else: any contents, any lengths and any numbers are answered.
+ *
+ * SEVERAL AT ONCE. A slice that a call takes as const may be lent to other calls at the same time. So several threads or cores may match
+ * over the same tables at once (silkendoz_nearest, silkendoz_k_nearest), each with work, trail, list and out of its own: a copy of
+ * `struct silkendoz_tables` with another `work` is all it takes (tests/threads.c). Opening, adding and reading a sheet write the tables:
+ * let nobody else touch them until the call is back.
+ *
+ * COMMON SLIPS, none of which a call can notice:
+ *
+ *   bytes for elements    sizeof gives bytes: `sizeof nodes / sizeof *nodes`, or better the macros below. A length that is too great lets
+ *                         the call write behind the table
+ *   null with length 0    a pointer has to lead somewhere even if its length is 0: take the address of any object of that type
+ *   overlapping slices    one buffer for work and sheet, or a query that lies in the trail's memory; a trace to be added that lies in
+ *                         `samples` itself has to be copied first
+ *   interrupts            a handler that matches, or only looks at the tables, while the main program adds; or that uses the same work,
+ *                         trail or out as a match that it interrupted. Give it its own, and keep it out while the tables are written
+ *   DMA                   a query or sheet that the converter or the card is still filling: wait for its end, and where there is a data
+ *                         cache, invalidate it before the call and clean it before the card takes a sheet that was written
+ *   stack                 a task with less than what is said above: the call then writes over its neighbour
  *
  * ANSWERS. A call gives back 0, or the number of a refusal. It writes the values that belong to the answer into the slice `out`, from its first place
  * on, and leaves the places behind them:
@@ -56,6 +74,16 @@
 extern "C" {
 #endif
 
+/* The version of these calls, as numbers and as text. */
+#define SILKENDOZ_VERSION_MAJOR 0
+#define SILKENDOZ_VERSION_MINOR 1
+#define SILKENDOZ_VERSION_PATCH 0
+#define SILKENDOZ_VERSION "0.1.0"
+
+/* The version of the tables' layout (docs/LAYOUT.md). Another number is another layout: a firmware that keeps tables in battery-backed
+ * memory keeps this number beside them, and reads its sheet if it finds another one there after an update. Sheets stay readable. */
+#define SILKENDOZ_LAYOUT 1
+
 /* Measures: n from 1 to 256, capacity 1 to 4,096, leaf size 1 to 64. */
 #define SILKENDOZ_MAX_N 256
 #define SILKENDOZ_MAX_CAPACITY 4096
@@ -64,12 +92,12 @@ extern "C" {
 /* As many traces as one search lists at most. */
 #define SILKENDOZ_MAX_K 16
 
-/* Places that the tables need. */
+/* Places that the tables need; none for a capacity of 0. An argument may be taken more than once. */
 #define SILKENDOZ_CONTROL 5
 #define SILKENDOZ_SAMPLES(n, c) ((size_t)(n) * (size_t)(c))
-#define SILKENDOZ_NODES(c) ((2 * (size_t)(c) - 1) * 87)
+#define SILKENDOZ_NODES(c) (SILKENDOZ_WORK(c) * 87)
 #define SILKENDOZ_LINKS(c) ((size_t)(c))
-#define SILKENDOZ_WORK(c) (2 * (size_t)(c) - 1)
+#define SILKENDOZ_WORK(c) ((size_t)(c) == 0 ? (size_t)0 : 2 * (size_t)(c) - 1)
 
 /* Places of a trail that are enough for every search: there are at most as many leaves as traces. */
 #define SILKENDOZ_TRAIL(c) ((size_t)(c))
@@ -159,7 +187,7 @@ uint64_t silkendoz_write_sheet(
     uint64_t *out, size_t out_len);
 
 /* Opens the library that a sheet of any bytes holds, and adds its traces in order. What the tables held before does not matter. Every refusal is decided
- * before a table is written. A sheet's n stands in its bytes 8 and 9, its capacity in bytes 10 and 11, low byte first. Refuses 8, 9, 10, 2. */
+ * before a table is written. silkendoz_sheet_measures says what tables a sheet needs. Refuses 8, 9, 10, 2. */
 uint64_t silkendoz_read_sheet(
     uint16_t *control, size_t control_len,
     int16_t *samples, size_t samples_len,
@@ -323,6 +351,24 @@ static inline const char *silkendoz_word(uint64_t number)
     case SILKENDOZ_BAD_RECORDING: return "bad recording";
     default: return "unknown";
     }
+}
+
+/* The n and capacity of a sheet of any bytes, for which tables have to be lent to read it. The whole sheet is judged first, as reading
+ * it does: 0 says that it is sound, and that reading refuses it no more but for short tables (2). Refuses 8, 9, 10, and then leaves *n and
+ * *capacity as they were; which block is torn, reading says. */
+static inline uint64_t silkendoz_sheet_measures(const uint8_t *sheet, size_t sheet_len, size_t *n, size_t *capacity)
+{
+    /* tables of no length: a sheet is judged before them, and a sound one is refused for them */
+    uint16_t control = 0, links = 0;
+    int16_t samples = 0;
+    int64_t nodes = 0;
+    uint64_t work = 0, out = 0;
+    uint64_t number = silkendoz_read_sheet(&control, 0, &samples, 0, &nodes, 0, &links, 0, &work, 0, sheet, sheet_len, &out, 1);
+    if (number != SILKENDOZ_SHORT_TABLE)
+        return number;
+    *n = (size_t)sheet[8] + 256 * (size_t)sheet[9];
+    *capacity = (size_t)sheet[10] + 256 * (size_t)sheet[11];
+    return SILKENDOZ_DONE;
 }
 
 #ifdef __cplusplus

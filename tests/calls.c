@@ -202,6 +202,50 @@ static void words(void)
     EXPECT(strcmp(silkendoz_word(UINT64_MAX), "unknown") == 0);
 }
 
+/* Places for no traces at all are none. */
+static void needs(void)
+{
+    EXPECT(SILKENDOZ_NODES(0) == 0 && SILKENDOZ_WORK(0) == 0 && SILKENDOZ_SAMPLES(4, 0) == 0 && SILKENDOZ_LINKS(0) == 0);
+    EXPECT(SILKENDOZ_NODES(1) == 87 && SILKENDOZ_WORK(1) == 1);
+    EXPECT(SILKENDOZ_NODES(4096) == 8191u * 87 && SILKENDOZ_WORK(4096) == 8191);
+    EXPECT(SILKENDOZ_NODES(2 + 1) == 5 * 87 && SILKENDOZ_WORK(2 + 1) == 5);
+    EXPECT(SILKENDOZ_NODES(1) * 2 == 174 && SILKENDOZ_WORK(1) + 1 == 2);
+}
+
+/* Sizes for a sheet that nobody knows: judged as a whole, and refused as reading refuses it. */
+static void measures_of_sheets(void)
+{
+    static struct tables t;
+    const int16_t trace[N] = {1, -2, 3, -4};
+    uint8_t sheet[SILKENDOZ_SHEET(1, N)];
+    uint64_t out[SILKENDOZ_OUT];
+    size_t n = 77, c = 78, at;
+
+    EXPECT(open_in(&t, N, C, 2, out) == SILKENDOZ_DONE);
+    EXPECT(add_to(&t, trace, N, out, SILKENDOZ_OUT) == SILKENDOZ_DONE);
+    EXPECT(write_from(&t, sheet, sizeof sheet, out) == SILKENDOZ_DONE && out[0] == 2);
+
+    EXPECT(silkendoz_sheet_measures(sheet, 0, &n, &c) == SILKENDOZ_SHEET_LENGTH);
+    EXPECT(silkendoz_sheet_measures(sheet, 1023, &n, &c) == SILKENDOZ_SHEET_LENGTH);
+    EXPECT(silkendoz_sheet_measures(sheet, 512, &n, &c) == SILKENDOZ_BAD_SHEET);
+    for (at = 0; at < sizeof sheet; at++) {
+        sheet[at] ^= 0x20;
+        EXPECT(silkendoz_sheet_measures(sheet, sizeof sheet, &n, &c) == SILKENDOZ_TORN_BLOCK);
+        sheet[at] ^= 0x20;
+    }
+    EXPECT(n == 77 && c == 78);
+    EXPECT(silkendoz_sheet_measures(sheet, sizeof sheet, &n, &c) == SILKENDOZ_DONE && n == N && c == C);
+}
+
+/* The version as text is the version as numbers. */
+static void version(void)
+{
+    char text[64];
+    snprintf(text, sizeof text, "%d.%d.%d", SILKENDOZ_VERSION_MAJOR, SILKENDOZ_VERSION_MINOR, SILKENDOZ_VERSION_PATCH);
+    EXPECT(strcmp(text, SILKENDOZ_VERSION) == 0);
+    EXPECT(SILKENDOZ_LAYOUT == 1);
+}
+
 static void matches(struct tables *t, int16_t level, uint64_t trace, uint64_t distance, uint64_t leaves, uint64_t traces, uint16_t first)
 {
     int16_t query[N] = {level, level, level, level};
@@ -504,6 +548,9 @@ int main(void)
     largest();
     lengths();
     words();
+    needs();
+    measures_of_sheets();
+    version();
     adding_and_matching();
     listing();
     sheets();

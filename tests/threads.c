@@ -1,0 +1,114 @@
+/* Several matches at once over the same tables: each thread has work, trail, list and out of its own, and the tables are only read.
+ * Prints one line, and fails at the first difference. */
+
+#include "silkendoz.h"
+
+#include <pthread.h>
+#include <stdio.h>
+#include <stdlib.h>
+#include <string.h>
+
+enum { N = 32, C = 400, LEAF_SIZE = 4, THREADS = 8, QUERIES = 300, K = 5 };
+
+static uint16_t control[SILKENDOZ_CONTROL];
+static int16_t samples[SILKENDOZ_SAMPLES(N, C)];
+static int64_t nodes[SILKENDOZ_NODES(C)];
+static uint16_t links[SILKENDOZ_LINKS(C)];
+
+/* What a search is lent that nobody else may touch, and what it left there. */
+struct own {
+    uint64_t work[SILKENDOZ_WORK(C)];
+    uint16_t trail[SILKENDOZ_TRAIL(C)];
+    struct silkendoz_neighbour list[K];
+    uint64_t match[SILKENDOZ_OUT], listing[SILKENDOZ_OUT];
+};
+
+static int16_t queries[QUERIES][N];
+static struct own alone[QUERIES];
+static int failed[THREADS];
+
+static void stop(const char *what)
+{
+    fprintf(stderr, "threads: %s\n", what);
+    exit(1);
+}
+
+static struct silkendoz_tables with(uint64_t *work)
+{
+    struct silkendoz_tables t = {control, SILKENDOZ_CONTROL, samples, SILKENDOZ_SAMPLES(N, C), nodes, SILKENDOZ_NODES(C),
+        links, SILKENDOZ_LINKS(C), work, SILKENDOZ_WORK(C)};
+    return t;
+}
+
+/* A match, and a list that writes its trail over the match's. Gives back whether both were done. */
+static int search(struct own *own, const int16_t *query)
+{
+    struct silkendoz_tables t = with(own->work);
+    memset(own, 0, sizeof *own);
+    return silkendoz_nearest_in(&t, own->trail, SILKENDOZ_TRAIL(C), query, N, own->match, SILKENDOZ_OUT) == SILKENDOZ_DONE
+        && silkendoz_k_nearest_in(&t, own->trail, SILKENDOZ_TRAIL(C), own->list, K, query, N, K, own->listing, SILKENDOZ_OUT)
+            == SILKENDOZ_DONE;
+}
+
+static void *searches(void *number)
+{
+    size_t first = *(const size_t *)number, i;
+    struct own *own = malloc(sizeof *own);
+    for (i = 0; i < QUERIES; i++) {
+        /* each begins elsewhere, so that at any time they look for different things */
+        size_t at = (i + first * (QUERIES / THREADS)) % QUERIES;
+        if (!own || !search(own, queries[at]) || memcmp(own, &alone[at], sizeof *own) != 0)
+            failed[first] = 1;
+    }
+    free(own);
+    return NULL;
+}
+
+/* Numbers that look like any: the same ones each time. */
+static int16_t next(uint32_t *state)
+{
+    *state = *state * 1664525u + 1013904223u;
+    return (int16_t)((int)(*state >> 18) - 8192);
+}
+
+int main(void)
+{
+    static uint64_t work[SILKENDOZ_WORK(C)];
+    static int16_t kept[SILKENDOZ_SAMPLES(N, C)];
+    struct silkendoz_tables t = with(work);
+    pthread_t threads[THREADS];
+    size_t numbers[THREADS], i, j;
+    uint64_t out[SILKENDOZ_OUT];
+    uint32_t state = 7;
+
+    if (silkendoz_open_in(&t, N, C, LEAF_SIZE, out, SILKENDOZ_OUT) != SILKENDOZ_DONE)
+        stop("not opened");
+    for (i = 0; i < C; i++) {
+        int16_t trace[N];
+        for (j = 0; j < N; j++)
+            trace[j] = next(&state);
+        if (silkendoz_add_in(&t, trace, N, out, SILKENDOZ_OUT) != SILKENDOZ_DONE)
+            stop("not added");
+    }
+    memcpy(kept, samples, sizeof samples);
+    for (i = 0; i < QUERIES; i++) {
+        for (j = 0; j < N; j++)
+            queries[i][j] = (int16_t)(samples[i * N + j] + next(&state) / 64);
+        if (!search(&alone[i], queries[i]))
+            stop("not found alone");
+    }
+    for (i = 0; i < THREADS; i++) {
+        numbers[i] = i;
+        if (pthread_create(&threads[i], NULL, searches, &numbers[i]) != 0)
+            stop("no thread");
+    }
+    for (i = 0; i < THREADS; i++)
+        pthread_join(threads[i], NULL);
+    for (i = 0; i < THREADS; i++)
+        if (failed[i])
+            stop("another answer than alone");
+    if (memcmp(kept, samples, sizeof samples) != 0)
+        stop("the tables changed");
+    printf("C: %d searches by each of %d threads at once, as alone\n", 2 * QUERIES, THREADS);
+    return 0;
+}

@@ -196,6 +196,45 @@ fn line_of_lists(data: Data, leaf_size: usize) {
     println!("{:<14}{leaf_size:>5} |{a} |{b}", data.name());
 }
 
+/// Traces that differ, and that no split parts: two samples of the same half change places, so that sums and scatters of the whole and of
+/// its halves stay.
+fn unparted(of: &Trace) -> Vec<Trace> {
+    let half = N / 2;
+    let pairs = (0..N).flat_map(|a| (a + 1..N).map(move |b| (a, b))).filter(|(a, b)| a / half == b / half && of[*a] != of[*b]);
+    let swapped = pairs.map(|(a, b)| {
+        let mut trace = of.clone();
+        trace.swap(a, b);
+        trace
+    });
+    swapped.take(CAPACITY).collect()
+}
+
+/// What an adding takes at the end, what reading a full sheet takes, and a match of a stored trace.
+fn line_of_worst(name: &str, stored: &[Trace], leaf_size: usize) {
+    let mut library = TraceLibrary::open(N, CAPACITY, leaf_size).expect("measures are in range");
+    let mut add: Vec<f64> = stored.iter().map(|trace| time(|| library.add(trace).expect("there is room")).0).collect();
+    let last = median(add.split_off(stored.len() - ADDED));
+    let sheet = library.write_sheet().expect("it is sound");
+    let read = median((0..3).map(|_| time(|| black_box(TraceLibrary::read_sheet(&sheet))).0).collect());
+    let found = median(stored.iter().take(QUERIES).map(|q| time(|| black_box(library.nearest(q))).0).collect());
+    println!("{leaf_size:>9}  {name:<22}{:>7}{last:>9.1}{found:>9.1}{:>10.1}", library.leaf_count(), read / 1000.0);
+}
+
+fn lines_of_worst(leaf_size: usize) {
+    let random = &mut Random::seeded(2026);
+    let walks: Vec<Trace> = (0..CAPACITY).map(|_| Data::Walks.trace(random)).collect();
+    line_of_worst("random walks", &walks, leaf_size);
+    line_of_worst("all the same", &vec![walks[0].clone(); CAPACITY], leaf_size);
+    line_of_worst("differ, no test parts", &unparted(&walks[0]), leaf_size);
+}
+
+/// `bench worst`: many traces that end up in one leaf.
+fn worst() {
+    println!("n = {N}, {CAPACITY} traces; an adding at the end and a match of a stored trace in microseconds, reading a full sheet in milliseconds");
+    println!("leaf size  {:<22}{:>7}{:>9}{:>9}{:>10}", "traces", "leaves", "add", "match", "read, ms");
+    [64, 4].into_iter().for_each(lines_of_worst);
+}
+
 /// Microseconds for adding all of these to an empty library.
 fn building(stored: &[Trace], leaf_size: usize) -> f64 {
     let mut library = TraceLibrary::open(N, CAPACITY, leaf_size).expect("measures are in range");
@@ -255,6 +294,9 @@ fn line_of_recordings(leaf_size: usize) {
 }
 
 fn main() {
+    if std::env::args().nth(1).as_deref() == Some("worst") {
+        return worst();
+    }
     println!("n = {N}, capacity {CAPACITY}, full; times in microseconds, medians ({QUERIES} queries, the last {ADDED} traces added)");
     println!("scan: every trace; leaving: the same scan, leaving a trace that is no longer below the best; x: scan / match and leaving / match, query by query");
     println!();

@@ -1,0 +1,148 @@
+/* How much stack each call takes: it is run on a stack that was filled with a pattern, and what no longer has it was used. Prints a line a
+ * call, and fails if one takes more than the guide says. Measured, not proved: this compiler, this machine, these libraries. */
+
+#define _POSIX_C_SOURCE 200809L
+#define _DEFAULT_SOURCE
+
+#include "silkendoz.h"
+
+#include <pthread.h>
+#include <stdio.h>
+#include <stdlib.h>
+#include <string.h>
+
+enum { N = 256, C = 1024, K = SILKENDOZ_MAX_K, STACK = 1 << 20, PATTERN = 0xa5, TRACES = 1000 };
+
+static uint16_t control[SILKENDOZ_CONTROL];
+static int16_t samples[SILKENDOZ_SAMPLES(N, C)];
+static int64_t nodes[SILKENDOZ_NODES(C)];
+static uint16_t links[SILKENDOZ_LINKS(C)];
+static uint64_t work[SILKENDOZ_WORK(C)];
+static const struct silkendoz_tables tables = {control, SILKENDOZ_CONTROL, samples, SILKENDOZ_SAMPLES(N, C), nodes, SILKENDOZ_NODES(C),
+    links, SILKENDOZ_LINKS(C), work, SILKENDOZ_WORK(C)};
+
+static uint16_t trail[SILKENDOZ_TRAIL(C)];
+static struct silkendoz_neighbour list[K];
+static uint8_t sheet[SILKENDOZ_SHEET(C, N)];
+static uint64_t out[SILKENDOZ_OUT];
+static int16_t trace[N];
+static size_t sheet_size;
+static uint64_t number;
+
+/* The traces that are added: random ones, ones that are all the same, ones that differ and that no test parts. */
+enum kind { RANDOM, SAME, UNPARTED, KINDS };
+static enum kind kind;
+static uint32_t state = 1;
+
+static int16_t next(void)
+{
+    state = state * 1664525u + 1013904223u;
+    return (int16_t)((int)(state >> 16) - 32768);
+}
+
+static void make(int at)
+{
+    int i;
+    for (i = 0; i < N; i++)
+        trace[i] = kind == RANDOM ? next() : (int16_t)(100 * i);
+    if (kind == UNPARTED) {
+        /* another order of the first samples: sums and scatters of whole and halves stay */
+        int a = at % (N / 4), b = at / (N / 4) % (N / 4);
+        int16_t kept = trace[a];
+        trace[a] = trace[b];
+        trace[b] = kept;
+    }
+}
+
+static void opening(void) { number = silkendoz_open_in(&tables, N, C, 1, out, SILKENDOZ_OUT); }
+static void adding(void) { number = silkendoz_add_in(&tables, trace, N, out, SILKENDOZ_OUT); }
+static void matching(void) { number = silkendoz_nearest_in(&tables, trail, SILKENDOZ_TRAIL(C), trace, N, out, SILKENDOZ_OUT); }
+static void listing(void)
+{
+    number = silkendoz_k_nearest_in(&tables, trail, SILKENDOZ_TRAIL(C), list, K, trace, N, K, out, SILKENDOZ_OUT);
+}
+static void writing(void) { number = silkendoz_write_sheet_in(&tables, sheet, sizeof sheet, out, SILKENDOZ_OUT); }
+static void reading(void) { number = silkendoz_read_sheet_in(&tables, sheet, sheet_size, out, SILKENDOZ_OUT); }
+static void nothing(void) { number = SILKENDOZ_DONE; }
+
+struct call {
+    const char *name;
+    void (*run)(void);
+    /* KiB that it stays below, by the guide */
+    size_t limit;
+    size_t used;
+};
+
+static void *run(void *call)
+{
+    ((struct call *)call)->run();
+    return NULL;
+}
+
+/* Bytes of a filled stack that are no longer as they were. */
+static size_t used_by(struct call *call, uint8_t *stack)
+{
+    pthread_attr_t attributes;
+    pthread_t thread;
+    size_t free_bytes = 0;
+    memset(stack, PATTERN, STACK);
+    if (pthread_attr_init(&attributes) != 0 || pthread_attr_setstack(&attributes, stack, STACK) != 0
+        || pthread_create(&thread, &attributes, run, call) != 0) {
+        fprintf(stderr, "stack: no thread\n");
+        exit(1);
+    }
+    pthread_join(thread, NULL);
+    pthread_attr_destroy(&attributes);
+    while (free_bytes < STACK && stack[free_bytes] == PATTERN)
+        free_bytes++;
+    return STACK - free_bytes;
+}
+
+static void measure(struct call *call, uint8_t *stack, size_t before)
+{
+    size_t used = used_by(call, stack) - before;
+    if (number != SILKENDOZ_DONE) {
+        fprintf(stderr, "stack: %s is refused, %s\n", call->name, silkendoz_word(number));
+        exit(1);
+    }
+    if (used > call->used)
+        call->used = used;
+}
+
+int main(void)
+{
+    struct call none = {"nothing", nothing, 0, 0};
+    struct call calls[] = {{"open", opening, 16, 0}, {"add", adding, 96, 0}, {"nearest", matching, 16, 0}, {"k_nearest", listing, 16, 0},
+        {"write_sheet", writing, 16, 0}, {"read_sheet", reading, 96, 0}};
+    size_t before, i;
+    int at;
+    void *stack;
+    if (posix_memalign(&stack, 4096, STACK) != 0)
+        return 1;
+    /* what a thread takes by itself */
+    before = used_by(&none, stack);
+    for (kind = RANDOM; kind < KINDS; kind++) {
+        measure(&calls[0], stack, before);
+        for (at = 0; at < TRACES; at++) {
+            make(at);
+            if (at < 4 || at % 50 == 0 || at + 4 > TRACES)
+                measure(&calls[1], stack, before);
+            else
+                adding();
+        }
+        measure(&calls[2], stack, before);
+        measure(&calls[3], stack, before);
+        measure(&calls[4], stack, before);
+        sheet_size = 512 * (size_t)out[0];
+        measure(&calls[5], stack, before);
+    }
+    free(stack);
+    for (i = 0; i < sizeof calls / sizeof *calls; i++) {
+        printf("stack: %-12s %6zu bytes\n", calls[i].name, calls[i].used);
+        if (calls[i].used >= 1024 * calls[i].limit) {
+            fprintf(stderr, "stack: %s takes %zu KiB or more\n", calls[i].name, calls[i].limit);
+            return 1;
+        }
+    }
+    return 0;
+}

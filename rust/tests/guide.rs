@@ -81,3 +81,45 @@ fn the_line_of_the_example_sheet() {
         assert!(running.contains(name), "{page}: {name}");
     }
 }
+
+/// What the guide says of stack is what `tests/stack.c` holds the calls to.
+#[test]
+fn stack() {
+    let held = text("tests/stack.c");
+    for row in table(&text("docs/GUIDE.md"), "Stack") {
+        let call = row[0].trim_matches('`').strip_prefix("silkendoz_").unwrap().to_string();
+        let limit: usize = row[2].strip_suffix(" KiB").unwrap().parse().unwrap();
+        let measured: usize = row[1].replace(',', "").parse().unwrap();
+        assert!(measured < 1024 * limit);
+        let start = held.find(&format!("{{\"{call}\", ")).unwrap();
+        assert!(held[start..].split(", ").nth(2).unwrap() == limit.to_string(), "{call}");
+    }
+}
+
+/// The refusals of the program that reads a sheet, as the guide's table has them.
+#[test]
+fn refusals_of_the_program() {
+    let rows = table(&text("docs/GUIDE.md"), "The program `match_sheet`");
+    let printed: Vec<String> = rows.iter().map(|row| row[0].trim_matches('`').replace('B', "1")).collect();
+    let sheet = |n, capacity, count| {
+        let mut library = TraceLibrary::open(n, capacity, 2).unwrap();
+        (0..count).for_each(|_| drop(library.add(&vec![1; n])));
+        library.write_sheet().unwrap()
+    };
+    let mut torn = sheet(4, 8, 3);
+    torn[600] ^= 1;
+    // a sound block too many
+    let bad = [&sheet(4, 8, 3)[..], &sheet(4, 300, 300)[1024..1536]].concat();
+    let shown = [vec![], torn, bad, sheet(65, 4, 2), sheet(4, 64, 1)].map(|bytes| program_line(&bytes));
+    assert_eq!(printed, shown);
+    assert_eq!(program_line(&vec![0; 65_536 + 512]), printed[0]);
+    assert_eq!(program_line(&sheet(4, 65, 2)), printed[3]);
+    assert_eq!(program_line(&sheet(4, 64, 0)), printed[4]);
+}
+
+/// One version for the header and the crate.
+#[test]
+fn version() {
+    let header = text("include/silkendoz.h");
+    assert!(header.contains(&format!("#define SILKENDOZ_VERSION \"{}\"\n", env!("CARGO_PKG_VERSION"))));
+}

@@ -103,7 +103,9 @@ fn refusals_of_the_program() {
     let printed: Vec<String> = rows.iter().map(|row| row[0].trim_matches('`').replace('B', "1")).collect();
     let sheet = |n, capacity, count| {
         let mut library = TraceLibrary::open(n, capacity, 2).unwrap();
-        (0..count).for_each(|_| drop(library.add(&vec![1; n])));
+        for _ in 0..count {
+            library.add(&vec![1; n]).unwrap();
+        }
         library.write_sheet().unwrap()
     };
     let mut torn = sheet(4, 8, 3);
@@ -122,4 +124,13 @@ fn refusals_of_the_program() {
 fn version() {
     let header = text("include/silkendoz.h");
     assert!(header.contains(&format!("#define SILKENDOZ_VERSION \"{}\"\n", env!("CARGO_PKG_VERSION"))));
+}
+
+/// The page's program in Rust is the one under `examples/`.
+#[test]
+fn the_program_in_rust() {
+    let page = text("docs/GUIDE.md");
+    let shown = page.split("\n```rust\n").nth(1).unwrap().split("```").next().unwrap();
+    let (_, program) = include_str!("../examples/faults.rs").split_once("\n\n").unwrap();
+    assert_eq!(shown, program);
 }

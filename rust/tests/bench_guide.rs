@@ -1,5 +1,5 @@
-//! The commands of `docs/GUIDE.md`, run one after another in a folder with the recordings that the page speaks of. What they print is what the page
-//! says, and the picture that they leave is the one that stands there.
+//! The commands of `docs/GUIDE.md`, run one after another in a folder with the recordings that the page speaks of. What they print is what
+//! the page says, and the picture that they leave is the one that stands there.
 
 use silkendoz::example;
 use std::fs;
@@ -29,7 +29,8 @@ fn commands(page: &str) -> Vec<(String, String)> {
 /// Runs a line of the shell in a folder, with the program on the path. What it prints, whatever its exit status.
 fn printed(folder: &Path, line: &str) -> String {
     let bin = Path::new(env!("CARGO_BIN_EXE_silkendoz")).parent().unwrap();
-    let path = std::env::join_paths([bin.to_path_buf()].into_iter().chain(std::env::split_paths(&std::env::var_os("PATH").unwrap()))).unwrap();
+    let others = std::env::var_os("PATH").unwrap_or_default();
+    let path = std::env::join_paths([bin.to_path_buf()].into_iter().chain(std::env::split_paths(&others))).unwrap();
     let ran = Command::new("sh").arg("-c").arg(line).current_dir(folder).env("PATH", path).env("LC_ALL", "C").output().unwrap();
     String::from_utf8([ran.stdout, ran.stderr].concat()).unwrap()
 }
@@ -68,7 +69,8 @@ fn the_commands_print_what_the_page_says() {
         assert_eq!(printed(&folder, &line), below, "{line}");
     }
     let picture = fs::read_to_string(folder.join("today.svg")).unwrap();
-    assert!(picture == fs::read_to_string(repository().join("docs/match.svg")).unwrap(), "docs/match.svg is the picture of the page's commands");
+    let shown = fs::read_to_string(repository().join("docs/match.svg")).unwrap();
+    assert!(picture == shown, "docs/match.svg is the picture of the page's commands");
     // a command whose times differ from run to run
     assert!(printed(&folder, "silkendoz advise faults.sheet").contains("do not look normalised"));
 }

@@ -534,7 +534,10 @@ fn what_is_wrong_with_a_sheet() {
     }
     let ran = folder.line("check nowhere.sheet faults.sheet");
     assert_eq!(ran.status, 1);
-    assert_eq!(ran.out, "nowhere.sheet: there is no such file.\nfaults.sheet: sound. 11 blocks, 36 traces of 64 samples.\n");
+    assert_eq!(
+        ran.out,
+        "nowhere.sheet: there is no such file. Look at its name and folder.\nfaults.sheet: sound. 11 blocks, 36 traces of 64 samples.\n"
+    );
 }
 
 #[test]

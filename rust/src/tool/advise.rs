@@ -161,7 +161,7 @@ fn shown(sizes: &[Tried], scans: &Scanned, alone: bool) -> String {
     let columns = heads.map(|(head, right)| Column(head, right));
     let how = if alone { "alone" } else { "with a tenth of the others" };
     let left_out = format!("left out: each trace, looked up in a library without it ({how})");
-    format!("{}  Medians. {left_out}; noisy copy: each trace, its samples moved a little.\n", table::text(&columns, &rows))
+    format!("{}  Medians, on this machine. {left_out}; noisy copy: each trace, its samples moved a little.\n", table::text(&columns, &rows))
 }
 
 /// The leaf size with the least time; of those that are nearly as fast, the largest, which makes the fewest nodes.

@@ -24,7 +24,9 @@ pub fn run(a: &Arguments) -> Answer {
     open(out, n, said.unwrap_or(1), leaf_size)?;
     let sweeps = reading::all(&sources, n)?;
     let mut shelf = open(out, n, said.unwrap_or_else(|| room_for(sweeps.len())), leaf_size)?;
-    shelf.put(&sweeps)?;
+    if let Err(Failure::Refused(why)) = shelf.put(&sweeps) {
+        return refused(format!("{}: {why} Say `--capacity` for all of them, or leave some out.", out.display()));
+    }
     shelf.save_new(over)?;
     let (traces, room) = (numbers::count(shelf.library.len(), "trace"), shelf.library.capacity());
     done(format!("{}: {traces} of {n} samples, room for {room}, leaf size {leaf_size}.\n", out.display()))

@@ -12,9 +12,13 @@ pub fn read(path: &Path) -> Result<Vec<u8>, Failure> {
     let mut bytes = Vec::new();
     let count = File::open(path).and_then(|file| file.take(LIMIT + 1).read_to_end(&mut bytes));
     match count {
-        Err(why) if why.kind() == io::ErrorKind::NotFound => refused(format!("{}: there is no such file.", path.display())),
+        Err(why) if why.kind() == io::ErrorKind::NotFound => {
+            refused(format!("{}: there is no such file. Look at its name and folder.", path.display()))
+        }
         Err(why) => refused(format!("{}: cannot be read: {why}.", path.display())),
-        Ok(count) if count as u64 > LIMIT => refused(format!("{}: larger than 64 MiB, as no sheet or recording is.", path.display())),
+        Ok(count) if count as u64 > LIMIT => {
+            refused(format!("{}: larger than 64 MiB, as no sheet or recording is. Take another file.", path.display()))
+        }
         Ok(_) => Ok(bytes),
     }
 }
@@ -26,10 +30,15 @@ pub fn exists(path: &Path) -> bool {
 
 /// Refuses a place where something is.
 pub fn must_be_free(path: &Path) -> Result<(), Failure> {
-    match exists(path) {
-        true => refused(format!("{}: is there already. Take another name, or say `--force` to overwrite it.", path.display())),
-        false => Ok(()),
+    if exists(path) {
+        taken(path)
+    } else {
+        Ok(())
     }
+}
+
+fn taken(path: &Path) -> Result<(), Failure> {
+    refused(format!("{}: is there already. Take another name, or say `--force` to overwrite it.", path.display()))
 }
 
 /// A file that is written and synced beside its place, and not yet there. If it is never put there, it is removed.
@@ -70,7 +79,7 @@ impl Staged {
         let moved = if over { fs::rename(&self.beside, &self.place) } else { self.put_new() };
         match moved.and_then(|()| sync_folder(&self.place)) {
             Ok(()) => Ok(()),
-            Err(why) if why.kind() == io::ErrorKind::AlreadyExists => must_be_free(&self.place),
+            Err(why) if why.kind() == io::ErrorKind::AlreadyExists => taken(&self.place),
             Err(why) => refused(format!("{}: cannot be written: {why}.", self.place.display())),
         }
     }

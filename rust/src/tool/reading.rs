@@ -64,7 +64,11 @@ fn recorded(path: &Path, bytes: &[u8], n: usize) -> Result<Vec<Sweep>, Failure> 
 fn shelved(path: &Path, n: usize) -> Result<Vec<Sweep>, Failure> {
     let shelf = Shelf::load(path)?;
     if shelf.library.n() != n {
-        return refused(format!("{}: a library of traces of {} samples, and {n} are wanted.", path.display(), shelf.library.n()));
+        return refused(format!(
+            "{}: a library of traces of {} samples, and {n} are wanted. Take traces of one length.",
+            path.display(),
+            shelf.library.n()
+        ));
     }
     let named = (0..shelf.library.len()).map(|t| (t, shelf.names.of(t).map(|name| name.name.clone()), shelf.trace(t).to_vec()));
     Ok(named_by_file(path, "trace", named.collect()))

@@ -47,11 +47,15 @@ nothing is added. FILEs are those of `silkendoz help build`.
 Finds the stored traces that are nearest to the sweep in FILE: exactly those that reading every stored trace would find.
 
   -k K     list so many, 1 to 16; 5 unless said
-  --json   for programs
+  --json   one object for programs
 
 Each line has the trace's number and name, its distance (the sum of squared sample differences), and how far a sample is off, which is the
 root of the mean square. Below stand how many times as far the runner-up is, and how much of the library was read. If FILE holds several
 sweeps, each gets a line with its nearest trace.
+
+The object has `library` (`file`, `samples`, `traces`, `leaves`), `file`, and `sweeps`, a list: of each sweep its `name`, `nearest` (a list
+of K: `number`, `name`, `distance`, `a_sample`), `runner_up` (the second of them), `runner_up_times_as_far`, `leaves_read`, `traces_read`.
+What there is none of is null: a name, a runner-up, how many times as far it is as nothing.
 ",
         values: &["-k"],
         flags: &["--json"],

@@ -37,6 +37,9 @@ static uint64_t out[SILKENDOZ_OUT];
 /* One byte more than the largest sheet of this library: a longer file is then refused by its length. */
 static uint8_t sheet[SILKENDOZ_SHEET(CAPACITY, N) + 1];
 
+/* A recording of one trace, as a WAV file has it. */
+static uint8_t recording[SILKENDOZ_RECORDING_BYTES(N)];
+
 /* The library keeps no names. Trace 0 is the first one added, and so on. */
 struct fault {
     const char *name;
@@ -140,6 +143,18 @@ static int damage(const char *name)
     return file && fclose(file) == 0 && fine;
 }
 
+/* A stored trace as a recording of 2,000 samples a second, and that recording added as a further trace. */
+static int record(uint64_t trace)
+{
+    if (!done("export", silkendoz_export_recording_in(&tables, recording, sizeof recording, trace, 2000, out, SILKENDOZ_OUT)))
+        return 0;
+    printf("exported trace %" PRIu64 ": %" PRIu64 " bytes\n", trace, out[0]);
+    if (!done("import", silkendoz_import_recording_in(&tables, recording, (size_t)out[0], out, SILKENDOZ_OUT)))
+        return 0;
+    printf("imported: %" PRIu64 " trace\n", out[0]);
+    return 1;
+}
+
 int main(void)
 {
     static const int16_t today[N] = {10, 5150, 1620, 1590, 1690, 2050, 2260, -2950};
@@ -163,5 +178,5 @@ int main(void)
         return EXIT_FAILURE;
     if (!restore("faults-a.sheet", "faults-b.sheet") || !load("faults-a.sheet"))
         return EXIT_FAILURE;
-    return find(today, N) ? EXIT_SUCCESS : EXIT_FAILURE;
+    return find(today, N) && record(2) ? EXIT_SUCCESS : EXIT_FAILURE;
 }

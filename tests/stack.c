@@ -24,6 +24,7 @@ static const struct silkendoz_tables tables = {control, SILKENDOZ_CONTROL, sampl
 static uint16_t trail[SILKENDOZ_TRAIL(C)];
 static struct silkendoz_neighbour list[K];
 static uint8_t sheet[SILKENDOZ_SHEET(C, N)];
+static uint8_t recording[SILKENDOZ_RECORDING_BYTES(N)];
 static uint64_t out[SILKENDOZ_OUT];
 static int16_t trace[N];
 static size_t sheet_size;
@@ -63,6 +64,11 @@ static void listing(void)
 }
 static void writing(void) { number = silkendoz_write_sheet_in(&tables, sheet, sizeof sheet, out, SILKENDOZ_OUT); }
 static void reading(void) { number = silkendoz_read_sheet_in(&tables, sheet, sheet_size, out, SILKENDOZ_OUT); }
+static void exporting(void)
+{
+    number = silkendoz_export_recording_in(&tables, recording, sizeof recording, 0, 8000, out, SILKENDOZ_OUT);
+}
+static void importing(void) { number = silkendoz_import_recording_in(&tables, recording, sizeof recording, out, SILKENDOZ_OUT); }
 static void nothing(void) { number = SILKENDOZ_DONE; }
 
 struct call {
@@ -113,7 +119,8 @@ int main(void)
 {
     struct call none = {"nothing", nothing, 0, 0};
     struct call calls[] = {{"open", opening, 16, 0}, {"add", adding, 96, 0}, {"nearest", matching, 16, 0}, {"k_nearest", listing, 16, 0},
-        {"write_sheet", writing, 16, 0}, {"read_sheet", reading, 96, 0}};
+        {"write_sheet", writing, 16, 0}, {"read_sheet", reading, 96, 0}, {"export_recording", exporting, 16, 0},
+        {"import_recording", importing, 96, 0}};
     size_t before, i;
     int at;
     void *stack;
@@ -135,10 +142,12 @@ int main(void)
         measure(&calls[4], stack, before);
         sheet_size = 512 * (size_t)out[0];
         measure(&calls[5], stack, before);
+        measure(&calls[6], stack, before);
+        measure(&calls[7], stack, before);
     }
     free(stack);
     for (i = 0; i < sizeof calls / sizeof *calls; i++) {
-        printf("stack: %-12s %6zu bytes\n", calls[i].name, calls[i].used);
+        printf("stack: %-16s %6zu bytes\n", calls[i].name, calls[i].used);
         if (calls[i].used >= 1024 * calls[i].limit) {
             fprintf(stderr, "stack: %s takes %zu KiB or more\n", calls[i].name, calls[i].limit);
             return 1;

@@ -305,7 +305,7 @@ fn the_example_file() {
     assert_eq!(sweeps.import_recording(&file), Ok(4));
     let (rate, held) = read(64, &file).unwrap();
     assert_eq!((rate, held.len()), (2000, 4));
-    let mut faults = TraceLibrary::read_sheet(&fs::read(example("faults.sheet")).unwrap()).unwrap();
+    let faults = TraceLibrary::read_sheet(&fs::read(example("faults.sheet")).unwrap()).unwrap();
     for (number, stored) in [7, 16, 25, 31].into_iter().enumerate() {
         let sweep = sweeps.trace(number).unwrap().to_vec();
         assert_eq!(sweep, held[number]);

@@ -15,7 +15,7 @@ use Rattle.dstree.specs.WellFormed.{childrenOf, testFits}
 use Rattle.tables.specs.Layout.{kindPlace, firstPlace, rightPlace, segmentsPlace}
 use Rattle.tables.specs.Tables.{recordOf}
 use Rattle.tables.specs.View.{smallAt, segmentsIn, kindIn}
-use Rattle.records_fit.specs.Fits.{kindAlone, childFits, headFits, segmentsHold, recordFits, endsIn, keptAt, recordsFit, EndsRise}
+use Rattle.records_fit.specs.Fits.{kindAlone, childFits, headFits, segmentsHold, recordFits, endsIn, keptAt, Under, ChildrenUnder, recordsFit, EndsRise, AllFit, HeadFits}
 use Rattle.records_fit.proofs.Limits.{passing}
 use Rattle.records_fit.proofs.Segments.{hold-rise}
 use Rattle.records_fit.proofs.Heads.{kind-inner}
@@ -28,12 +28,18 @@ module _ (n m j : ℕ) (r : List ℤ) (t : recordFits n m j r ≡ true) where
   unfolding recordFits
   parts = and-yes (headFits n m j r) (segmentsHold n r) (is-true t)
 
-  head : T (leb (smallAt r kindPlace) 2) × (T (every (childFits m j) (childrenOf (kindAlone r))) × T (testFits sampleLimit n (kindAlone r)))
-  unfolding headFits
-  head = passed (leb (smallAt r kindPlace) 2) (every (childFits m j) (childrenOf (kindAlone r)) ∷ testFits sampleLimit n (kindAlone r) ∷ []) (parts .0)
+  pub head-of : headFits n m j r ≡ true
+  head-of = sym (passing (parts .0))
 
   pub ends-rise : n ≤ 256 → EndsRise r (smallAt r segmentsPlace)
   ends-rise l = hold-rise n r l (sym (passing (parts .1)))
+
+-- ---- one head that fits
+
+module _ (n m j : ℕ) (r : List ℤ) (t : headFits n m j r ≡ true) where
+  head : T (leb (smallAt r kindPlace) 2) × (T (every (childFits m j) (childrenOf (kindAlone r))) × T (testFits sampleLimit n (kindAlone r)))
+  unfolding headFits
+  head = passed (leb (smallAt r kindPlace) 2) (every (childFits m j) (childrenOf (kindAlone r)) ∷ testFits sampleLimit n (kindAlone r) ∷ []) (is-true t)
 
   pub kind-named : smallAt r kindPlace ≤ 2
   kind-named = leb→le (smallAt r kindPlace) 2 (head .0)
@@ -60,6 +66,12 @@ module _ (n m j : ℕ) (r : List ℤ) (t : recordFits n m j r ≡ true) where
 pub record-fits-at : (n m : ℕ) (nodes : List ℤ) → recordsFit n m nodes ≡ true → (j : ℕ) → j < m → recordFits n m j (recordOf nodes j) ≡ true
 unfolding recordsFit
 record-fits-at n m nodes e j h = each-passes (λ x. recordFits n m x (recordOf nodes x)) m 0 e j (omega arith) (omega arith)
+
+pub head-fits-at : {m : ℕ} {nodes : List ℤ} (a : AllFit m nodes) (j : ℕ) → j < m → headFits (a .n) m j (recordOf nodes j) ≡ true
+head-fits-at {m} {nodes} a j h = head-of (a .n) m j (recordOf nodes j) (record-fits-at (a .n) m nodes (a .fit) j h)
+
+pub head-in-use : {m : ℕ} {nodes : List ℤ} → AllFit m nodes → (j : ℕ) → j < m → HeadFits j nodes
+head-in-use {m} {nodes} a j h = record { n = a .n; m = m; fit = head-fits-at a j h; room = a .room; low = a .low; inside = h }
 
 -- ---- ends that a node's children keep
 
@@ -88,3 +100,25 @@ module _ (nodes : List ℤ) (j : ℕ) where
         by : (b : Bool) → b && true ≡ b
         by true = refl
         by false = refl
+
+-- ---- children that hold and keep the ends
+
+module _ (n : ℕ) (nodes : List ℤ) (j : ℕ) where
+  abbrev mine : List ℤ
+  mine = recordOf nodes j
+
+  none-hold : smallAt mine kindPlace ≡ 0 → every (λ child. segmentsHold n (recordOf nodes child)) (childrenOf (kindAlone mine)) ≡ true
+  unfolding kindIn childrenOf every
+  none-hold e = rw e
+
+  pub leaf-under : smallAt mine kindPlace ≡ 0 → ChildrenUnder n nodes j
+  leaf-under e = record { hold = none-hold e; kept = leaf-keeps nodes j e }
+
+  module _ (f : smallAt mine kindPlace ≡ 0 → ⊥) (h : smallAt mine kindPlace ≤ 2) where
+    both-hold : Under n (recordOf nodes (smallAt mine firstPlace)) mine → Under n (recordOf nodes (smallAt mine rightPlace)) mine
+        → every (λ child. segmentsHold n (recordOf nodes child)) (childrenOf (kindAlone mine)) ≡ true
+    unfolding childrenOf every
+    both-hold x y = rw (kind-inner [] 0 mine (smallAt mine kindPlace) f h, x .hold, y .hold)
+
+    pub inner-under : Under n (recordOf nodes (smallAt mine firstPlace)) mine → Under n (recordOf nodes (smallAt mine rightPlace)) mine → ChildrenUnder n nodes j
+    inner-under x y = record { hold = both-hold x y; kept = right-decides nodes j f h (x .keeps) ∙ y .keeps }

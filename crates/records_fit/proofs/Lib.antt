@@ -5,3 +5,4 @@ pub mod Ends
 pub mod Heads
 pub mod Loops
 pub mod Children
+pub mod Siblings

@@ -1,5 +1,5 @@
 -- The rules of "Well-formed tables" on one record, on the records of a node and its child, and on all records in use.
-use Prim.Native.Nat.{ℕ, suc, _*_, _≤_, _<_}
+use Prim.Native.Nat.{ℕ, suc, _*_, _-_, _≤_, _<_}
 use mathlib.Core.Path.{_≡_}
 use mathlib.Core.Bool.{Bool, true, _&&_}
 use mathlib.Core.List.{List, [], _∷_, map}
@@ -54,6 +54,12 @@ unfoldable pub restHolds : ℕ → ℕ → List Segment → Bool
 restHolds n before [] = eqb before n
 restHolds n before (s ∷ rest) = ltb before (s .end) && segmentFits sampleLimit (width (run (suc before) (s .end))) s && restHolds n (s .end) rest
 
+-- a segment's end is behind the end before it, 256 at most, and its figures are in their limits
+pub record Behind (before : ℕ) (s : Segment) : Type 0 where
+  pub above : before < s .end
+  pub inside : s .end ≤ 256
+  pub figures : segmentFits sampleLimit (s .end - before) s ≡ true
+
 -- ---- a node and its child
 
 -- "a child's ends including its parent's"
@@ -63,6 +69,16 @@ endsIn child parent = every (λ end. isIn end (ends child)) (ends parent)
 -- of node j and each of its children
 unfoldable pub keptAt : List ℤ → ℕ → Bool
 keptAt nodes j = every (λ child. endsIn (segmentsIn (recordOf nodes child)) (segmentsIn (recordOf nodes j))) (childrenOf (kindAlone (recordOf nodes j)))
+
+-- the segments of a child's record hold, and its ends include its parent's
+pub record Under (n : ℕ) (child parent : List ℤ) : Type 0 where
+  pub hold : segmentsHold n child ≡ true
+  pub keeps : endsIn (segmentsIn child) (segmentsIn parent) ≡ true
+
+-- of node j and each of its children
+pub record ChildrenUnder (n : ℕ) (nodes : List ℤ) (j : ℕ) : Type 0 where
+  pub hold : every (λ child. segmentsHold n (recordOf nodes child)) (childrenOf (kindAlone (recordOf nodes j))) ≡ true
+  pub kept : keptAt nodes j ≡ true
 
 -- ---- all records in use
 
@@ -92,4 +108,13 @@ pub record AllFit (m : ℕ) (nodes : List ℤ) : Type 0 where
 pub record InUse (j : ℕ) (nodes : List ℤ) : Type 0 where
   pub m : ℕ
   pub all : AllFit m nodes
+  pub inside : j < m
+
+-- node j is in the table, and its head fits
+pub record HeadFits (j : ℕ) (nodes : List ℤ) : Type 0 where
+  pub n : ℕ
+  pub m : ℕ
+  pub fit : headFits n m j (recordOf nodes j) ≡ true
+  pub room : m * recordPlaces ≤ length nodes
+  pub low : m ≤ 8191
   pub inside : j < m

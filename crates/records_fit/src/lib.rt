@@ -3,4 +3,5 @@
 
 pub mod figures; // the limits of sums, scatters and thresholds
 pub mod records; // one record
+pub mod twins; // the records of two children with the same ends
 pub mod nodes; // records as parts of the table, and all records in use

@@ -6,12 +6,13 @@ use tables::places::RIGHT;
 use tables::records::node_small;
 use tables::records::record_at;
 ghost use mathlib.Core.Path.{_≡_};
+ghost use mathlib.Core.Bool.{true};
 ghost use Prim.Native.Nat.{_+_, _*_, _≤_, _<_};
 ghost use lib.ListN.{length};
 ghost use Rattle.tables.specs.Layout.{segmentsPlace, recordPlaces};
 ghost use Rattle.tables.specs.Tables.{recordOf};
 ghost use Rattle.tables.specs.View.{smallAt, segmentsIn};
-ghost use Rattle.records_fit.specs.Fits.{recordFits, endsIn, keptAt, recordsFit, allKept, EndsRise, AllFit, InUse};
+ghost use Rattle.records_fit.specs.Fits.{headFits, segmentsHold, recordFits, endsIn, keptAt, Under, ChildrenUnder, recordsFit, allKept, EndsRise, AllFit, InUse, HeadFits};
 
 fn node_fits(nodes: &[i64], j: usize, m: usize, n: usize) -> bool
     requires { ⌜ (j * recordPlaces + recordPlaces ≤ length (now nodes)) × (j ≤ 8191) × (n ≤ 256) ⌝ }
@@ -75,4 +76,55 @@ pub fn ends_kept(nodes: &[i64], m: usize) -> bool
         j += 1;
     }
     true
+}
+
+// ---- in one visit to a node
+
+// The head of node j, of m.
+pub fn head_fits(nodes: &[i64], j: usize, m: usize, n: usize) -> bool
+    requires { ⌜ (j * recordPlaces + recordPlaces ≤ length (now nodes)) × (j ≤ 8191) × (n ≤ 256) ⌝ }
+    ensures { λ r. ⌜ r ≡ headFits n m j (recordOf (now (nodes .entry)) j) ⌝ }
+{
+    crate::records::head_fits(record_at(nodes, j), j, m, n)
+}
+
+// The segments of node j.
+pub fn segments_fit(nodes: &[i64], j: usize, n: usize) -> bool
+    requires { ⌜ (j * recordPlaces + recordPlaces ≤ length (now nodes)) × (j ≤ 8191) × (n ≤ 256) ⌝ }
+    ensures { λ r. ⌜ r ≡ segmentsHold n (recordOf (now (nodes .entry)) j) ⌝ }
+{
+    crate::records::segments_fit(record_at(nodes, j), n)
+}
+
+fn twins_fit(nodes: &[i64], left: usize, right: usize, parent: usize, n: usize) -> bool
+    requires { ⌜ (left * recordPlaces + recordPlaces ≤ length (now nodes)) × (left ≤ 8191)
+        × (right * recordPlaces + recordPlaces ≤ length (now nodes)) × (right ≤ 8191)
+        × (parent * recordPlaces + recordPlaces ≤ length (now nodes)) × (parent ≤ 8191) ⌝ }
+    ensures { λ r. ⌜ (r ≡ true → Under n (recordOf (now (nodes .entry)) left) (recordOf (now (nodes .entry)) parent)
+        × Under n (recordOf (now (nodes .entry)) right) (recordOf (now (nodes .entry)) parent)) ⌝ }
+{
+    crate::twins::twins_fit(
+        record_at(nodes, left),
+        record_at(nodes, right),
+        record_at(nodes, parent),
+        n,
+    )
+}
+
+// The segments of both children of node j hold and they keep its ends, if it is an inner node. A no says nothing.
+pub fn children_fit(nodes: &[i64], j: usize, n: usize) -> bool
+    requires { ⌜ HeadFits j (now nodes) ⌝ }
+    ensures { λ r. ⌜ (r ≡ true → ChildrenUnder n (now (nodes .entry)) j) ⌝ }
+{
+    let kind = node_small(nodes, j, KIND);
+    if kind == 0 {
+        return true;
+    }
+    twins_fit(
+        nodes,
+        node_small(nodes, j, FIRST),
+        node_small(nodes, j, RIGHT),
+        j,
+        n,
+    )
 }

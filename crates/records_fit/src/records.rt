@@ -40,7 +40,7 @@ fn between(low: usize, high: usize, v: i64) -> bool
 }
 
 // The right end of segment i, from 0, is behind the end before it, and n at most.
-fn end_behind(places: &[i64], i: usize, before: usize, n: usize) -> bool
+pub fn end_behind(places: &[i64], i: usize, before: usize, n: usize) -> bool
     requires { ⌜ (length (now places) ≡ recordPlaces) × (i < 16) × (before ≤ n) × (n ≤ 256) ⌝ }
     ensures { λ r. ⌜ r ≡ between before n (segmentIn (now (places .entry)) i .end) ⌝ }
 {
@@ -56,7 +56,7 @@ fn known(v: i64) -> usize
 }
 
 // The right end of segment i, which was tested.
-fn end_at(places: &[i64], i: usize) -> usize
+pub fn end_at(places: &[i64], i: usize) -> usize
     requires { ⌜ (length (now places) ≡ recordPlaces) × (i < 16) × (segmentIn (now places) i .end ≤ 256) ⌝ }
     ensures { λ r. ⌜ r ≡ segmentIn (now (places .entry)) i .end ⌝ }
 {
@@ -64,7 +64,7 @@ fn end_at(places: &[i64], i: usize) -> usize
 }
 
 // The figures of segment i, which is w samples wide.
-fn segment_fits(places: &[i64], i: usize, w: u64) -> bool
+pub fn segment_fits(places: &[i64], i: usize, w: u64) -> bool
     requires { ⌜ (length (now places) ≡ recordPlaces) × (i < 16) × (w ≤ 256) ⌝ }
     ensures { λ r. ⌜ r ≡ segmentFits sampleLimit w (segmentIn (now (places .entry)) i) ⌝ }
 {
@@ -98,7 +98,7 @@ fn segments_run(places: &[i64], count: usize, n: usize) -> bool
 }
 
 // All segments of a record, which are 1 to 16.
-fn segments_fit(places: &[i64], n: usize) -> bool
+pub fn segments_fit(places: &[i64], n: usize) -> bool
     requires { ⌜ (length (now places) ≡ recordPlaces) × (n ≤ 256) ⌝ }
     ensures { λ r. ⌜ r ≡ segmentsHold n (now (places .entry)) ⌝ }
 {
@@ -142,7 +142,7 @@ fn test_fits(kind: usize, first: usize, last: usize, threshold: i64, n: usize) -
 }
 
 // The kind of node j, and if it is an inner node its children and its test.
-fn head_fits(places: &[i64], j: usize, m: usize, n: usize) -> bool
+pub fn head_fits(places: &[i64], j: usize, m: usize, n: usize) -> bool
     requires { ⌜ (length (now places) ≡ recordPlaces) × (n ≤ 256) ⌝ }
     ensures { λ r. ⌜ r ≡ headFits n m j (now (places .entry)) ⌝ }
 {

@@ -25,6 +25,7 @@ use Rattle.tables.proofs.Views.{tree-size, tree-segments}
 use Rattle.records_fit.specs.Fits.{kindAlone, childFits, headFits, segmentsHold, recordFits, endsIn, keptAt, recordsFit, allKept}
 use Rattle.records_fit.proofs.Limits.{same-test}
 use Rattle.well_formed.specs.Tests.{countsFit, childrenAt, childrenOnce, leafFitsAt, numbersAt, numbersOfFirst, leavesHold}
+use Rattle.well_formed.specs.Tests.{treeFits}
 use Rattle.well_formed.proofs.Once.{every-same}
 
 -- ---- lists made for the numbers below m
@@ -242,26 +243,13 @@ module _ (control : List ℕ) (nodes : List ℤ) (links : List ℕ) where
   pub test-same : inRange (measuresOf t) ≡ true → wellFormed t ≡ countsFit m k capacity && recordsFit n m nodes && allKept m nodes && childrenOnce m nodes && leavesHold m nodes k links
   test-same e = same-test shown (meant (is-true e))
 
-  -- .. test by test, as far as the tests before it passed
-
   module _ (e : inRange (measuresOf t) ≡ true) where
     pub counts-refuse : countsFit m k capacity ≡ false → false ≡ wellFormed t
     counts-refuse a = sym (test-same e ∙ rw a)
 
-    module _ (a : countsFit m k capacity ≡ true) where
-      pub records-refuse : recordsFit n m nodes ≡ false → false ≡ wellFormed t
-      records-refuse b = sym (test-same e ∙ rw (a, b))
-
-      module _ (b : recordsFit n m nodes ≡ true) where
-        pub ends-refuse : allKept m nodes ≡ false → false ≡ wellFormed t
-        ends-refuse c = sym (test-same e ∙ rw (a, b, c))
-
-        module _ (c : allKept m nodes ≡ true) where
-          pub children-refuse : childrenOnce m nodes ≡ false → false ≡ wellFormed t
-          children-refuse d = sym (test-same e ∙ rw (a, b, c, d))
-
-          pub leaves-decide : childrenOnce m nodes ≡ true → leavesHold m nodes k links ≡ wellFormed t
-          leaves-decide d = sym (test-same e ∙ rw (a, b, c, d))
+    pub tree-decides : countsFit m k capacity ≡ true → treeFits n m nodes k links ≡ wellFormed t
+    unfolding treeFits
+    tree-decides a = sym (test-same e ∙ rw a)
 
 -- ---- sizes
 

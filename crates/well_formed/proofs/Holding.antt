@@ -6,7 +6,7 @@ use mathlib.Core.List.{List, _++_}
 use native.Mathlib.Omega.{arith}
 use native.Mathlib.Decide.{decLt}
 use lib.IntN.{ℤ}
-use lib.ListN.{length, length-append, getD, length-replicate}
+use lib.ListN.{length, length-append, getD, replicate, length-replicate}
 use lib.Dec.{T}
 use Rattle.integer.specs.Words.{timesIn}
 use Rattle.integer.proofs.Lists.{In}
@@ -16,8 +16,11 @@ use Rattle.records_fit.proofs.Limits.{passing, failing}
 use Rattle.well_formed.specs.Marks.{Grown, Named, Rises, Linked}
 use Rattle.well_formed.specs.Tests.{childrenOnce, firstsOf, linksOf, leavesHold}
 use Rattle.well_formed.proofs.Growth.{none-at}
-use Rattle.well_formed.proofs.Once.{blank}
 use Rattle.well_formed.proofs.Naming.{leaves-many, leaves-sound, links-fit, called-once, firsts-low, called-low}
+
+-- no marks of traces
+abbrev unnamed : List ℕ
+unnamed = replicate 4096 0
 
 module _ (nodes : List ℤ) (m : ℕ) (a : AllFit m nodes) (links : List ℕ) (k : ℕ) (few : k ≤ 4096) where
   abbrev firsts : List ℕ
@@ -42,24 +45,24 @@ module _ (nodes : List ℤ) (m : ℕ) (a : AllFit m nodes) (links : List ℕ) (k
         ∙ once-length k 0 (firsts ++ follow) (λ x _ h. called-once nodes m a links k t x (omega (arith, h))) (λ x i. (omega arith, omega (arith, called-under x i)))
 
   -- a leaf's first number is refused
-  pub firsts-refused : {after : List ℕ} {r : Bool} → Named k blank after firsts r → r ≡ false → false ≡ leavesHold m nodes k links
+  pub firsts-refused : {after : List ℕ} {r : Bool} → Named k unnamed after firsts r → r ≡ false → false ≡ leavesHold m nodes k links
   firsts-refused n e = failing never
     where
       never : T (leavesHold m nodes k links) → ⊥
-      never t = let w = n .old e (firsts-low nodes m a links k t) in never-twice t (w .number) (omega (arith, w .again, none-at 8192 (w .number)))
+      never t = let w = n .old e (firsts-low nodes m a links k t) in never-twice t (w .number) (omega (arith, w .again, none-at 4096 (w .number)))
 
   -- the first numbers are marked
-  module _ (h : 0 < m) (c : childrenOnce m nodes ≡ true) {marks : List ℕ} {r : Bool} (n : Named k blank marks firsts r) (e : r ≡ true) where
-    grown : Grown blank marks firsts
+  module _ (h : 0 < m) (c : childrenOnce m nodes ≡ true) {marks : List ℕ} {r : Bool} (n : Named k unnamed marks firsts r) (e : r ≡ true) where
+    grown : Grown unnamed marks firsts
     grown = n .new e
 
-    at : (x : ℕ) → x < 8192 → getD marks x 0 ≡ timesIn x firsts
-    at x g = omega (arith, grown .at x (omega (arith, g, length-replicate {A = ℕ} 8192 0)), none-at 8192 x)
+    at : (x : ℕ) → x < 4096 → getD marks x 0 ≡ timesIn x firsts
+    at x g = omega (arith, grown .at x (omega (arith, g, length-replicate {A = ℕ} 4096 0)), none-at 4096 x)
 
     links-refuse : {after : List ℕ} → Linked links k m marks after false → T (leavesHold m nodes k links) → ⊥
     links-refuse l t =
         let w = l .old refl (links-fit nodes m a links k t) (omega (arith, called-many t, leaves-many nodes m a h c)) in
-        never-twice t (w .number) (omega (arith, w .again, at (w .number) (omega (arith, w .inside, grown .size, length-replicate {A = ℕ} 8192 0))))
+        never-twice t (w .number) (omega (arith, w .again, at (w .number) (omega (arith, w .inside, grown .size, length-replicate {A = ℕ} 4096 0))))
 
     links-take : {after : List ℕ} → Linked links k m marks after true → T (leavesHold m nodes k links)
     links-take {after} l = leaves-sound nodes m a links k (n .below e) fit once
@@ -71,7 +74,7 @@ module _ (nodes : List ℤ) (m : ℕ) (a : AllFit m nodes) (links : List ℕ) (k
         low = called-low nodes m a links k (n .below e) fit
 
         single : (x : ℕ) → getD after x 0 ≤ 1
-        single = l .new refl .single (grown .single (λ x. omega (arith, none-at 8192 x)))
+        single = l .new refl .single (grown .single (λ x. omega (arith, none-at 4096 x)))
 
         most : (x : ℕ) → timesIn x (firsts ++ follow) ≤ 1
         most x = by (decLt x k)
@@ -82,7 +85,7 @@ module _ (nodes : List ℤ) (m : ℕ) (a : AllFit m nodes) (links : List ℕ) (k
                   arith,
                   times-append x firsts follow,
                   at x (omega (arith, g, few)),
-                  l .new refl .at x (omega (arith, g, few, grown .size, length-replicate {A = ℕ} 8192 0)),
+                  l .new refl .at x (omega (arith, g, few, grown .size, length-replicate {A = ℕ} 4096 0)),
                   single x,
                 )
             by (no f) = omega (arith, times-none x (firsts ++ follow) (λ i. f (low x i)))

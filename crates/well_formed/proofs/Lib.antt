@@ -5,5 +5,6 @@ pub mod Once
 pub mod Naming
 pub mod Taking
 pub mod Holding
+pub mod Looking
 pub mod Equal
 pub mod Refused

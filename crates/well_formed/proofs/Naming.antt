@@ -23,7 +23,7 @@ use Rattle.tables.specs.Tables.{recordOf}
 use Rattle.tables.specs.View.{smallAt, numbersFrom}
 use Rattle.records_fit.specs.Fits.{AllFit}
 use Rattle.records_fit.proofs.Loops.{each-passes}
-use Rattle.records_fit.proofs.Children.{kind-named, record-fits-at}
+use Rattle.records_fit.proofs.Children.{kind-named, head-fits-at}
 use Rattle.well_formed.specs.Marks.{Rises}
 use Rattle.well_formed.specs.Tests.{childrenAt, childrenOfFirst, childrenOnce, kindAt, leafFitsAt, numbersAt, numbersOfFirst, firstAt, firstsOf, linkAt, linksOf, leavesHold}
 use Rattle.well_formed.proofs.ByKind.{no-child, two-children, is-leaf, no-number, inner-fits, leaf-numbers}
@@ -70,7 +70,7 @@ module _ (nodes : List ℤ) (links : List ℕ) (k : ℕ) where
   sort-of {m} a j h = by (same-or-not (smallAt (recordOf nodes j) kindPlace) 0)
     where
       named : smallAt (recordOf nodes j) kindPlace ≤ 2
-      named = kind-named (a .n) m j (recordOf nodes j) (record-fits-at (a .n) m nodes (a .fit) j h)
+      named = kind-named (a .n) m j (recordOf nodes j) (head-fits-at a j h)
 
       by : Dec (smallAt (recordOf nodes j) kindPlace ≡ 0) → Sort j
       by (yes e) = a-leaf (smallAt (recordOf nodes j) firstPlace) (is-leaf nodes j links k e) (rw (eq-eqb (smallAt (recordOf nodes j) kindPlace) 0 e)) (no-child nodes j e)

@@ -15,9 +15,9 @@ use Rattle.integer.proofs.Times.{times-in}
 use Rattle.tables.specs.Layout.{kindPlace, firstPlace, rightPlace}
 use Rattle.tables.specs.Tables.{recordOf}
 use Rattle.tables.specs.View.{smallAt}
-use Rattle.records_fit.specs.Fits.{recordFits, AllFit}
+use Rattle.records_fit.specs.Fits.{headFits, AllFit}
 use Rattle.records_fit.proofs.Loops.{all-passed, one-failed}
-use Rattle.records_fit.proofs.Children.{kind-named, left-above, right-above, record-fits-at}
+use Rattle.records_fit.proofs.Children.{kind-named, left-above, right-above, head-fits-at}
 use Rattle.well_formed.specs.Marks.{Grown, Twice}
 use Rattle.well_formed.specs.Tests.{childrenAt, childrenOfFirst, childrenOnce, markedOnce}
 use Rattle.well_formed.proofs.Growth.{none-at}
@@ -60,8 +60,8 @@ module _ (nodes : List ℤ) (m : ℕ) (a : AllFit m nodes) where
       r : List ℤ
       r = recordOf nodes j
 
-      fits : recordFits (a .n) m j (recordOf nodes j) ≡ true
-      fits = record-fits-at (a .n) m nodes (a .fit) j h
+      fits : headFits (a .n) m j (recordOf nodes j) ≡ true
+      fits = head-fits-at a j h
 
       among : (l u : ℕ) → (j < l) × (l < m) → (j < u) × (u < m) → (x ≡ l) ⊎ In x (u ∷ []) → (1 ≤ x) × (x < 1 + (m - 1))
       among l u p q (inl e) = (omega (arith, p .0, e), omega (arith, p .1, e))

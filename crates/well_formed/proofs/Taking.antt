@@ -24,6 +24,9 @@ named-as {count} {a} {b} {r} e n = subst (λ (l : List ℕ). Named count a b l r
 pub named-new : {count : ℕ} {a b xs : List ℕ} → T (every (λ number. ltb number count) xs) → Grown a b xs → Named count a b xs true
 named-new t g = record { below = λ _. t; new = λ _. g; old = λ e. clash e }
 
+pub named-yes : {count : ℕ} {a b xs : List ℕ} {r : Bool} → Named count a b xs r → r ≡ true → Named count a b xs true
+named-yes n e = named-new (n .below e) (n .new e)
+
 pub named-old : {count : ℕ} {a b xs : List ℕ} → (T (every (λ number. ltb number count) xs) → Twice a xs) → Named count a b xs false
 named-old f = record { below = λ e. clash (sym e); new = λ e. clash (sym e); old = λ _. f }
 

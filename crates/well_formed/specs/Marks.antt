@@ -4,10 +4,13 @@ use mathlib.Core.Path.{_≡_}
 use mathlib.Core.Logic.{_⊎_}
 use mathlib.Core.Bool.{Bool, true, false}
 use mathlib.Core.List.{List}
+use lib.IntN.{ℤ}
 use lib.ListN.{length, getD}
 use lib.Dec.{T, ltb}
 use Rattle.integer.specs.Words.{every, timesIn}
-use Rattle.well_formed.specs.Tests.{linksOf}
+use Rattle.tables.specs.Tables.{recordOf}
+use Rattle.records_fit.specs.Fits.{headFits, recordsFit, allKept, ChildrenUnder}
+use Rattle.well_formed.specs.Tests.{childrenAt, childrenOfFirst, childrenOnce, firstAt, firstsOf, linksOf}
 
 -- the marks after some numbers more, none of which is met a second time
 pub record Grown (before after numbers : List ℕ) : Type 0 where
@@ -42,3 +45,27 @@ pub record Linked (links : List ℕ) (k m : ℕ) (before after : List ℕ) (all 
   pub new : all ≡ true → Grown before after (linksOf links k)
   pub ends : all ≡ true → 2 * (k - length (linksOf links k)) ≡ m + 1
   pub old : all ≡ false → ((i : ℕ) → i < k → Rises k i (getD links i 0)) → 2 * (k - length (linksOf links k)) ≡ m + 1 → Twice before (linksOf links k)
+
+-- ---- what a visit to a node shows
+
+-- node j's head fits, its children's segments hold and keep its ends, and its children and its first trace number are marked
+pub record Visited (n m k : ℕ) (nodes : List ℤ) (j : ℕ) (marks marked named after : List ℕ) : Type 0 where
+  pub head : headFits n m j (recordOf nodes j) ≡ true
+  pub under : ChildrenUnder n nodes j
+  pub children : Grown marks marked (childrenAt nodes j)
+  pub first : Named k named after (firstAt nodes j) true
+
+-- the same of the first j nodes
+pub record VisitedFirst (n m k : ℕ) (nodes : List ℤ) (j : ℕ) (marks marked named after : List ℕ) : Type 0 where
+  pub heads : (x : ℕ) → x < j → headFits n m x (recordOf nodes x) ≡ true
+  pub unders : (x : ℕ) → x < j → ChildrenUnder n nodes x
+  pub children : Grown marks marked (childrenOfFirst nodes j)
+  pub firsts : Named k named after (firstsOf nodes j) true
+
+-- all rules on records hold, and the first trace numbers are marked
+pub record RecordsPassed (n m k : ℕ) (nodes : List ℤ) (named after : List ℕ) : Type 0 where
+  pub some : 0 < m
+  pub fit : recordsFit n m nodes ≡ true
+  pub kept : allKept m nodes ≡ true
+  pub once : childrenOnce m nodes ≡ true
+  pub firsts : Named k named after (firstsOf nodes m) true

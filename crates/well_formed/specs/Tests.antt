@@ -1,18 +1,18 @@
 -- The rules of "Well-formed tables" that records do not show one by one, over the numbers of the nodes in use.
-use Prim.Native.Nat.{ℕ, _*_, _-_}
+use Prim.Native.Nat.{ℕ, _*_, _-_, _≤_}
 use mathlib.Core.Bool.{Bool, _&&_, Bool·beq}
 use mathlib.Core.List.{List, [], _∷_, map, flatten}
 use lib.IntN.{ℤ}
-use lib.ListN.{getD}
+use lib.ListN.{length, getD}
 use lib.Dec.{leb, ltb, eqb}
 use Rattle.integer.specs.Words.{if_then_else_, every, counting, timesIn}
 use Rattle.dstree.specs.Node.{Kind}
 use Rattle.dstree.specs.Matching.{numbersIn}
 use Rattle.dstree.specs.WellFormed.{childrenOf, leafFits}
-use Rattle.tables.specs.Layout.{kindPlace, firstPlace}
+use Rattle.tables.specs.Layout.{kindPlace, firstPlace, recordPlaces}
 use Rattle.tables.specs.Tables.{recordOf}
 use Rattle.tables.specs.View.{smallAt, kindIn}
-use Rattle.records_fit.specs.Fits.{kindAlone}
+use Rattle.records_fit.specs.Fits.{kindAlone, recordsFit, allKept}
 
 -- "trace count at most capacity; no node exactly when no trace", and of k traces at most 2k − 1 nodes, which follows from the rules on children and leaves
 unfoldable pub countsFit : ℕ → ℕ → ℕ → Bool
@@ -71,6 +71,19 @@ unfoldable pub leavesHold : ℕ → List ℤ → ℕ → List ℕ → Bool
 leavesHold m nodes k links =
     every (leafFitsAt nodes links k) (counting m 0)
     && (every (λ number. eqb (timesIn number (numbersOfFirst nodes links k m)) 1) (counting k 0) && every (λ number. ltb number k) (numbersOfFirst nodes links k m))
+
+-- ---- all rules on nodes and links
+
+unfoldable pub treeFits : ℕ → ℕ → List ℤ → ℕ → List ℕ → Bool
+treeFits n m nodes k links = recordsFit n m nodes && allKept m nodes && childrenOnce m nodes && leavesHold m nodes k links
+
+-- the tables have the records of m nodes and the links of k traces, and none of the numbers is above its limit
+pub record TreeLent (n m : ℕ) (nodes : List ℤ) (k : ℕ) (links : List ℕ) : Type 0 where
+  pub room : m * recordPlaces ≤ length nodes
+  pub low : m ≤ 8191
+  pub short : n ≤ 256
+  pub linked : k ≤ length links
+  pub few : k ≤ 4096
 
 -- ---- marks
 

@@ -6,13 +6,13 @@ use tables::places::RIGHT;
 use tables::records::node_small;
 ghost use mathlib.Core.Path.{_≡_};
 ghost use lib.ListN.{length};
-ghost use Rattle.records_fit.specs.Fits.{AllFit, InUse};
+ghost use Rattle.records_fit.specs.Fits.{AllFit, HeadFits};
 ghost use Rattle.well_formed.specs.Marks.{Took};
 ghost use Rattle.well_formed.specs.Tests.{childrenAt, childrenOfFirst, childrenOnce};
 
 // Marks the children of node j, if it is an inner node.
-fn mark_children(nodes: &[i64], j: usize, marks: &mut [u8; 8192]) -> bool
-    requires { ⌜ InUse j (now nodes) × (length (now marks) ≡ 8192) ⌝ }
+pub fn mark_children(nodes: &[i64], j: usize, marks: &mut [u8; 8192]) -> bool
+    requires { ⌜ HeadFits j (now nodes) × (length (now marks) ≡ 8192) ⌝ }
     ensures { λ r. ⌜ Took (now (marks .entry)) (now (marks .exit)) (childrenAt (now (nodes .entry)) j) r ⌝ }
 {
     let kind = node_small(nodes, j, KIND);

@@ -9,13 +9,13 @@ ghost use mathlib.Core.Path.{_≡_};
 ghost use mathlib.Core.Bool.{true};
 ghost use Prim.Native.Nat.{_≤_};
 ghost use lib.ListN.{length};
-ghost use Rattle.records_fit.specs.Fits.{AllFit, InUse};
+ghost use Rattle.records_fit.specs.Fits.{AllFit, HeadFits};
 ghost use Rattle.well_formed.specs.Marks.{Named, Linked};
 ghost use Rattle.well_formed.specs.Tests.{childrenOnce, firstAt, firstsOf, leavesHold};
 
 // Marks the first trace number of node j, if it is a leaf. It has to be the number of one of k traces.
-fn mark_first(nodes: &[i64], j: usize, k: usize, marks: &mut [u8; 8192]) -> bool
-    requires { ⌜ InUse j (now nodes) × (k ≤ 4096) × (length (now marks) ≡ 8192) ⌝ }
+pub fn mark_first(nodes: &[i64], j: usize, k: usize, marks: &mut [u8; 4096]) -> bool
+    requires { ⌜ HeadFits j (now nodes) × (k ≤ 4096) × (length (now marks) ≡ 4096) ⌝ }
     ensures { λ r. ⌜ Named k (now (marks .entry)) (now (marks .exit)) (firstAt (now (nodes .entry)) j) r ⌝ }
 {
     let kind = node_small(nodes, j, KIND);
@@ -26,12 +26,12 @@ fn mark_first(nodes: &[i64], j: usize, k: usize, marks: &mut [u8; 8192]) -> bool
     if k <= first {
         return false;
     }
-    crate::marks::mark(marks, first)
+    crate::marks::mark_trace(marks, first)
 }
 
 // Marks the first trace number of every leaf.
-fn mark_firsts(nodes: &[i64], m: usize, k: usize, marks: &mut [u8; 8192]) -> bool
-    requires { ⌜ AllFit m (now nodes) × (k ≤ 4096) × (length (now marks) ≡ 8192) ⌝ }
+fn mark_firsts(nodes: &[i64], m: usize, k: usize, marks: &mut [u8; 4096]) -> bool
+    requires { ⌜ AllFit m (now nodes) × (k ≤ 4096) × (length (now marks) ≡ 4096) ⌝ }
     ensures { λ r. ⌜ Named k (now (marks .entry)) (now (marks .exit)) (firstsOf (now (nodes .entry)) m) r ⌝ }
 {
     let mut j: usize = 0;
@@ -46,8 +46,8 @@ fn mark_firsts(nodes: &[i64], m: usize, k: usize, marks: &mut [u8; 8192]) -> boo
 
 // Marks the links of k traces, each of which is 0 behind the last of a leaf, else the number of a later trace. As many end a list as there are leaves, of m
 // nodes.
-fn mark_links(links: &[u16], k: usize, m: usize, marks: &mut [u8; 8192]) -> bool
-    requires { ⌜ (k ≤ length (now links)) × (k ≤ 4096) × (length (now marks) ≡ 8192) × (m ≤ 8191) ⌝ }
+pub fn mark_links(links: &[u16], k: usize, m: usize, marks: &mut [u8; 4096]) -> bool
+    requires { ⌜ (k ≤ length (now links)) × (k ≤ 4096) × (length (now marks) ≡ 4096) × (m ≤ 8191) ⌝ }
     ensures { λ r. ⌜ Linked (now (links .entry)) k m (now (marks .entry)) (now (marks .exit)) r ⌝ }
 {
     let mut ends: usize = 0;
@@ -65,7 +65,7 @@ fn mark_links(links: &[u16], k: usize, m: usize, marks: &mut [u8; 8192]) -> bool
         if k <= link {
             return false;
         }
-        if !crate::marks::mark(marks, link) {
+        if !crate::marks::mark_trace(marks, link) {
             return false;
         }
         i += 1;
@@ -81,7 +81,7 @@ pub fn leaves_hold(nodes: &[i64], m: usize, links: &[u16], k: usize) -> bool
     if m == 0 {
         return k == 0;
     }
-    let mut marks = [0u8; 8192];
+    let mut marks = [0u8; 4096];
     if !mark_firsts(nodes, m, k, &mut marks) {
         return false;
     }

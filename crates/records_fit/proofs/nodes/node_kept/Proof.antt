@@ -11,8 +11,8 @@ use borrow.Author.Tests.{not-true, not-false}
 use Rattle.tables.specs.Layout.{kindPlace, firstPlace, segmentsPlace, recordPlaces}
 use Rattle.tables.specs.Tables.{recordOf}
 use Rattle.tables.specs.View.{smallAt, segmentsIn}
-use Rattle.records_fit.specs.Fits.{recordFits, endsIn, EndsRise}
-use Rattle.records_fit.proofs.Children.{ends-rise, kind-named, left-above, right-above, record-fits-at, leaf-keeps, left-loses, right-decides}
+use Rattle.records_fit.specs.Fits.{headFits, recordFits, endsIn, EndsRise}
+use Rattle.records_fit.proofs.Children.{head-of, ends-rise, kind-named, left-above, right-above, record-fits-at, leaf-keeps, left-loses, right-decides}
 use Rattle.records_fit.proofs.nodes.node_kept.Statement.{statement}
 use Rattle.records_fit.proofs.nodes.node_kept.Tie as tie
 
@@ -36,6 +36,9 @@ module _ (s : tie.Start) where
   fits : (x : ℕ) → x < m → recordFits n m x (recordOf nodes x) ≡ true
   fits x h = record-fits-at n m nodes (s .pre .all .fit) x h
 
+  heads : headFits n m j r ≡ true
+  heads = head-of n m j r (fits j (s .pre .inside))
+
   rise : (x : ℕ) → x < m → EndsRise (recordOf nodes x) (smallAt (recordOf nodes x) segmentsPlace)
   rise x h = ends-rise n m x (recordOf nodes x) (fits x h) (s .pre .all .short)
 
@@ -49,7 +52,7 @@ module _ (s : tie.Start) where
   mine = (omega (arith, s .pre .all .room, s .pre .inside), omega (arith, s .pre .all .low, s .pre .inside))
 
   named : smallAt r kindPlace ≤ 2
-  named = kind-named n m j r (fits j (s .pre .inside))
+  named = kind-named n m j r heads
 
 node-small-requires : tie.Need-node-small-requires
 node-small-requires c κs = (mine c .0, mine c .1, omega arith)
@@ -67,7 +70,7 @@ inner c e = c .if1 .left (c .before .node-small .ensures ∙ e)
 kept-requires : tie.Need-kept-requires
 kept-requires c κs =
     let s = c .before .before .before in
-    askable s (c .node-small2 .result) (omega (arith, c .node-small2 .ensures, left-above (n s) (m s) (j s) (r s) (fits s (j s) (s .pre .inside)) (inner (c .before)) .1))
+    askable s (c .node-small2 .result) (omega (arith, c .node-small2 .ensures, left-above (n s) (m s) (j s) (r s) (heads s) (inner (c .before)) .1))
 
 left-is : (c : tie.After-kept) {b : Bool} → c .kept .result ≡ b
     → endsIn (segmentsIn (recordOf (nodes (c .before .before .before .before)) (smallAt (r (c .before .before .before .before)) firstPlace))) (segmentsIn (r (c .before .before .before .before))) ≡ b
@@ -92,8 +95,8 @@ kept-requires-2 c κs =
     (omega (
       arith,
       c .node-small3 .ensures,
-      left-above (n s) (m s) (j s) (r s) (fits s (j s) (s .pre .inside)) (inner k) .1,
-      right-above (n s) (m s) (j s) (r s) (fits s (j s) (s .pre .inside)) (inner k) .1,
+      left-above (n s) (m s) (j s) (r s) (heads s) (inner k) .1,
+      right-above (n s) (m s) (j s) (r s) (heads s) (inner k) .1,
     ))
 
 returns-3 : tie.Need-returns-3

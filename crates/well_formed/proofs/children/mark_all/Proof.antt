@@ -4,6 +4,7 @@ use Prim.Native.Nat.{ℕ, _-_, _≤_}
 use native.Mathlib.Omega.{arith}
 use denote.Ref.{now}
 use borrow.Author.Tests.{not-true, not-false}
+use Rattle.records_fit.proofs.Children.{head-in-use}
 use Rattle.well_formed.specs.Marks.{Grown}
 use Rattle.well_formed.specs.Tests.{childrenAt, childrenOfFirst}
 use Rattle.well_formed.proofs.Growth.{grown-firsts, again-firsts, took-new, took-old, firsts-none}
@@ -23,7 +24,7 @@ mark-children-requires : tie.Need-mark-children-requires Inv-loop μ-loop
 mark-children-requires c κs =
     let L = c .before .before .loop in
     let s = c .before .before .before in
-    (record { m = s .args .m; all = s .pre .0; inside = c .before .loop-test .taken }, L .inv .1 .size ∙ s .pre .1)
+    (head-in-use (s .pre .0) (L .j) (c .before .loop-test .taken), L .inv .1 .size ∙ s .pre .1)
 
 returns : tie.Need-returns Inv-loop μ-loop
 returns c =

@@ -1,6 +1,5 @@
 -- `well_formed::children::mark_children` meets its contract, by the kind field: a leaf has no child, and an inner node's two are marked one after the other.
 use mathlib.Core.Path.{_≡_, sym, _∙_}
-use mathlib.Core.Bool.{true}
 use mathlib.Core.List.{List, [], _∷_}
 use Prim.Native.Nat.{ℕ, _+_, _*_, _≤_, _<_}
 use native.Mathlib.Omega.{arith}
@@ -11,8 +10,7 @@ use borrow.Author.Tests.{not-true, not-false}
 use Rattle.tables.specs.Layout.{kindPlace, firstPlace, rightPlace, recordPlaces}
 use Rattle.tables.specs.Tables.{recordOf}
 use Rattle.tables.specs.View.{smallAt}
-use Rattle.records_fit.specs.Fits.{recordFits}
-use Rattle.records_fit.proofs.Children.{kind-named, left-above, right-above, record-fits-at}
+use Rattle.records_fit.proofs.Children.{kind-named, left-above, right-above}
 use Rattle.well_formed.specs.Tests.{childrenAt}
 use Rattle.well_formed.proofs.Growth.{took-none, took-first, took-both, took-as}
 use Rattle.well_formed.proofs.ByKind.{no-child, two-children}
@@ -33,24 +31,21 @@ module _ (s : tie.Start) where
   abbrev r : List ℤ
   r = recordOf nodes j
 
-  fits : recordFits (s .pre .0 .all .n) m j r ≡ true
-  fits = record-fits-at (s .pre .0 .all .n) m nodes (s .pre .0 .all .fit) j (s .pre .0 .inside)
-
   in-table : j * recordPlaces + recordPlaces ≤ length nodes
-  in-table = omega (arith, s .pre .0 .all .room, s .pre .0 .inside)
+  in-table = omega (arith, s .pre .0 .room, s .pre .0 .inside)
 
   low : j ≤ 8191
-  low = omega (arith, s .pre .0 .all .low, s .pre .0 .inside)
+  low = omega (arith, s .pre .0 .low, s .pre .0 .inside)
 
   named : smallAt r kindPlace ≤ 2
-  named = kind-named (s .pre .0 .all .n) m j r fits
+  named = kind-named (s .pre .0 .n) m j r (s .pre .0 .fit)
 
   module _ (f : smallAt r kindPlace ≡ 0 → ⊥) where
     left-low : smallAt r firstPlace < 8192
-    left-low = omega (arith, left-above (s .pre .0 .all .n) m j r fits f .1, s .pre .0 .all .low)
+    left-low = omega (arith, left-above (s .pre .0 .n) m j r (s .pre .0 .fit) f .1, s .pre .0 .low)
 
     right-low : smallAt r rightPlace < 8192
-    right-low = omega (arith, right-above (s .pre .0 .all .n) m j r fits f .1, s .pre .0 .all .low)
+    right-low = omega (arith, right-above (s .pre .0 .n) m j r (s .pre .0 .fit) f .1, s .pre .0 .low)
 
 node-small-requires : tie.Need-node-small-requires
 node-small-requires c κs = (in-table c, low c, omega arith)

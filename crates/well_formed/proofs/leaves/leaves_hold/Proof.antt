@@ -14,7 +14,7 @@ returns : tie.Need-returns
 returns c = let a = c .before .before .args in no-leaves (now (a .nodes)) (a .m) (now (a .links)) (a .k) (c .if1 .taken)
 
 mark-firsts-requires : tie.Need-mark-firsts-requires
-mark-firsts-requires c κs = let p = c .before .before .before .pre in (p .0, p .3, length-replicate {A = ℕ} 8192 0)
+mark-firsts-requires c κs = let p = c .before .before .before .pre in (p .0, p .3, length-replicate {A = ℕ} 4096 0)
 
 -- some node
 some : (c : tie.Else1) → 0 < c .before .before .args .m
@@ -32,7 +32,7 @@ mark-links-requires c κs =
     let e = c .before in
     let d = e .before in
     let s = d .before .before .before .before in
-    (s .pre .2, s .pre .3, d .mark-firsts .ensures .new (not-false (d .mark-firsts .result) (e .if2 .left)) .size ∙ length-replicate {A = ℕ} 8192 0, s .pre .0 .low)
+    (s .pre .2, s .pre .3, d .mark-firsts .ensures .new (not-false (d .mark-firsts .result) (e .if2 .left)) .size ∙ length-replicate {A = ℕ} 4096 0, s .pre .0 .low)
 
 returns-3 : tie.Need-returns-3
 returns-3 c =

@@ -23,10 +23,10 @@ module _ (s : tie.Start) where
   r = recordOf (now (s .args .nodes)) (s .args .j)
 
   in-table : s .args .j * recordPlaces + recordPlaces ≤ length (now (s .args .nodes))
-  in-table = omega (arith, s .pre .0 .all .room, s .pre .0 .inside)
+  in-table = omega (arith, s .pre .0 .room, s .pre .0 .inside)
 
   low : s .args .j ≤ 8191
-  low = omega (arith, s .pre .0 .all .low, s .pre .0 .inside)
+  low = omega (arith, s .pre .0 .low, s .pre .0 .inside)
 
 node-small-requires : tie.Need-node-small-requires
 node-small-requires c κs = (in-table c, low c, omega arith)
@@ -51,15 +51,15 @@ first-is c =
 returns-2 : tie.Need-returns-2
 returns-2 c = named-as (first-is (c .before)) (named-above (c .before .node-small2 .result) (c .if2 .taken))
 
-mark-requires : tie.Need-mark-requires
-mark-requires c κs = let s = c .before .before .before .before .before in (omega (arith, c .before .if2 .left, s .pre .1), s .pre .2)
+mark-trace-requires : tie.Need-mark-trace-requires
+mark-trace-requires c κs = let s = c .before .before .before .before .before in (omega (arith, c .before .if2 .left, s .pre .1), s .pre .2)
 
 returns-3 : tie.Need-returns-3
 returns-3 c =
     let d = c .before .before in
-    named-as (first-is (d .before)) (named-one (d .before .node-small2 .result) (omega (arith, d .if2 .left)) (c .mark .ensures))
+    named-as (first-is (d .before)) (named-one (d .before .node-small2 .result) (omega (arith, d .if2 .left)) (c .mark-trace .ensures))
 
 pub mark-first-spec : {M : Type 1} → statement M
 mark-first-spec =
     tie.close
-    (tie.spec node-small-requires returns node-small-requires-2 returns-2 mark-requires returns-3)
+    (tie.spec node-small-requires returns node-small-requires-2 returns-2 mark-trace-requires returns-3)

@@ -4,6 +4,7 @@ use Prim.Native.Nat.{_-_, _≤_}
 use native.Mathlib.Omega.{arith}
 use denote.Ref.{now}
 use borrow.Author.Tests.{not-true, not-false}
+use Rattle.records_fit.proofs.Children.{head-in-use}
 use Rattle.well_formed.specs.Tests.{firstAt}
 use Rattle.well_formed.proofs.Taking.{Marked, marked-start, marked-more, marked-refused, marked-end}
 use Rattle.well_formed.proofs.leaves.mark_firsts.Statement.{statement}
@@ -22,7 +23,7 @@ mark-first-requires : tie.Need-mark-first-requires Inv-loop μ-loop
 mark-first-requires c κs =
     let L = c .before .before .loop in
     let s = c .before .before .before in
-    (record { m = s .args .m; all = s .pre .0; inside = c .before .loop-test .taken }, s .pre .1, L .inv .1 .grown .size ∙ s .pre .2)
+    (head-in-use (s .pre .0) (L .j) (c .before .loop-test .taken), s .pre .1, L .inv .1 .grown .size ∙ s .pre .2)
 
 returns : tie.Need-returns Inv-loop μ-loop
 returns c =

@@ -63,8 +63,8 @@ returns-2 c =
     let w = c .before .before in
     links-refused (now (s w .args .links)) (s w .args .k) (l w .loop .inv) (more w) (read w) (leaves (above (c .before)) (c .if3 .taken)) (s w .args .m)
 
-mark-requires : tie.Need-mark-requires Inv-loop μ-loop
-mark-requires c κs =
+mark-trace-requires : tie.Need-mark-trace-requires Inv-loop μ-loop
+mark-trace-requires c κs =
     let e = c .before in
     let w = e .before .before in
     (omega (arith, e .if3 .left, s w .pre .1), l w .loop .inv .grown .size ∙ s w .pre .2)
@@ -74,16 +74,16 @@ returns-3 c =
     let d = c .before in
     let o = d .before .before .before in
     let w = o .before in
-    links-again (now (s w .args .links)) (s w .args .k) (l w .loop .inv) (more w) (read w) (above o) (d .mark .ensures)
-    (not-true (d .mark .result) (c .if4 .taken)) (s w .args .m)
+    links-again (now (s w .args .links)) (s w .args .k) (l w .loop .inv) (more w) (read w) (above o) (d .mark-trace .ensures)
+    (not-true (d .mark-trace .result) (c .if4 .taken)) (s w .args .m)
 
 loop-again-2 : tie.Need-loop-again-2 Inv-loop μ-loop
 loop-again-2 c =
     let d = c .before in
     let e = d .before .before in
     let w = e .before .before in
-    links-more (now (s w .args .links)) (s w .args .k) (l w .loop .inv) (more w) (read w) (above (e .before)) (d .mark .ensures)
-    (omega (arith, e .if3 .left)) (not-false (d .mark .result) (c .if4 .left))
+    links-more (now (s w .args .links)) (s w .args .k) (l w .loop .inv) (more w) (read w) (above (e .before)) (d .mark-trace .ensures)
+    (omega (arith, e .if3 .left)) (not-false (d .mark-trace .result) (c .if4 .left))
 
 -- no more links end a list than were passed
 few-ends : (c : tie.At-loop Inv-loop μ-loop) → c .loop .ends ≤ 4096
@@ -102,7 +102,7 @@ mark-links-spec =
     Inv-loop μ-loop loop-holds (λ c. omega (arith, c .before .before .before .pre .1)) (λ c. omega (arith, c .before .before .before .before .pre .0))
     (λ c κs. search needs) returns
     (λ c. let w = c .before .before in omega (arith, few-ends (l w))) (λ c. let w = c .before .before in omega (arith, more w, s w .pre .1))
-    (λ c. let w = c .before .before in omega (arith, more w)) loop-again returns-2 mark-requires returns-3
+    (λ c. let w = c .before .before in omega (arith, more w)) loop-again returns-2 mark-trace-requires returns-3
     (λ c. let w = c .before .before .before .before .before in omega (arith, more w, s w .pre .1))
     (λ c. let w = c .before .before .before .before .before in omega (arith, more w)) loop-again-2
     (λ c. omega (arith, few-ends (c .before))) (λ c. omega (arith, c .before .before .before .pre .3)) returns-4)

@@ -12,7 +12,7 @@ use Rattle.dstree.specs.Figures.{samplesOn}
 use Rattle.dstree.specs.Node.{figureOf, goesLeft, totalOver, changeAll}
 use Rattle.dstree.specs.Adding.{nextNode, wayFrom, widenSegment, widen, widenAll, joinKind, join, segmentOf, segmentsFrom, newLeaf}
 use Rattle.dstree.specs.Adding.{byEither, cutAt, leftHalfEnd, halves, candidatesFrom, spreadOn, spread, thresholdOf, testOf}
-use Rattle.dstree.specs.Adding.{splitBy, parts, gain, bestOf, best, splitInto, splitKind, splitNew, insertion, grown}
+use Rattle.dstree.specs.Adding.{splitBy, parts, showSides, fewestFirst, gain, bestOf, best, splitInto, splitKind, splitNew, insertion, grown}
 use Rattle.dstree.specs.Matching.{boundOn, ownBound, hasChild, parentFrom, boundFrom, isLeaf, numbersIn, leaves, before}
 use Rattle.dstree.specs.Matching.{readingOrder, readOn, isNearer, nearer, bestWith, distancesIn, readLeaf, isAbove}
 use Rattle.dstree.specs.Matching.{searched, answerOf, matchBySteps, leastDistance, lowestAt, leavesR, matchOf}
@@ -58,7 +58,8 @@ unfolding nextNode wayFrom widenSegment widen widenAll joinKind join segmentOf s
 addingOpen = tt
 
 unfoldable addingOpen2 : Unit {0}
-unfolding candidatesFrom spreadOn spread thresholdOf testOf splitBy parts gain bestOf best splitInto splitKind splitNew insertion grown
+unfolding candidatesFrom spreadOn spread thresholdOf testOf splitBy parts showSides fewestFirst gain bestOf best splitInto splitKind splitNew
+    insertion grown
 addingOpen2 = tt
 
 unfoldable matchingOpen : Unit {0}

@@ -17,7 +17,8 @@ use Rattle.segment.specs.Partition.{Ranges, totalBound}
 use Rattle.dstree.specs.Measures.{Trace, measures, sampleLimit, inRange, samplesNeeded, recordsNeeded, linksNeeded, workNeeded, isTrace, isLibrary}
 use Rattle.dstree.specs.Figures.{run, width, samplesOn}
 use Rattle.dstree.specs.Node.{Segment, bySum, byScatter, Test, Kind, leaf, inner, Node, node, Tree, nodeAt, changeAt, goesLeft}
-use Rattle.dstree.specs.Adding.{way, widen, join, byEither, cutAt, leftHalfEnd, candidates, spread, thresholdOf, splitBy, parts, best, splitInto, treeOf}
+use Rattle.dstree.specs.Adding.{way, widen, join, byEither, cutAt, leftHalfEnd, candidates, spread, thresholdOf, testOf, splitBy, parts, best, splitInto, treeOf}
+use Rattle.dstree.specs.Adding.{Candidate, tracesOf, goesBy, showSides, fewestFirst}
 use Rattle.dstree.specs.Matching.{ownBound, parentFrom, bound, LeafBound, leaves, before, readingOrder, Near, bestWith, isAbove, matchBySteps, leastDistance, lowestAt}
 use Rattle.dstree.specs.Claims.{numbersAmong}
 use Rattle.dstree.specs.WellFormed.{wellFormed}
@@ -124,6 +125,14 @@ fifteen = map (λ k. 2 * k) (counting 15 1)
 abbrev sixteen : List ℕ
 sixteen = counting 15 1 ++ (256 ∷ [])
 
+-- traces of one sample, 0, 1 and 9
+abbrev nine : List Trace
+nine = (+ 0 ∷ []) ∷ (+ 1 ∷ []) ∷ (+ 9 ∷ []) ∷ []
+
+-- which of a leaf's traces go left by a candidate
+abbrev sidesOf : List Trace → List ℕ → Candidate → ℕ → Bool
+sidesOf stored numbers c = goesBy stored (testOf c (tracesOf stored numbers))
+
 pub record AddingExamples : Type 0 where
   -- "A trace goes left if twice its figure is at most T, else right": samples 2 to 3 by sum, of (9,k,0,9)
   pub left-or-right : map (λ (k : ℕ). goesLeft (test 2 3 bySum (+ 5)) (+ 9 ∷ pos k ∷ + 0 ∷ + 9 ∷ [])) (2 ∷ 3 ∷ []) ≡ true ∷ false ∷ []
@@ -156,6 +165,13 @@ pub record AddingExamples : Type 0 where
   pub parting : map (λ c. parts (splitBy ABC (0 ∷ 1 ∷ 2 ∷ []) c)) (candidates (4 ∷ [])) ≡ replicate 6 true
   pub not-parting : map (λ c. parts (splitBy twins (0 ∷ 1 ∷ []) c)) (candidates (4 ∷ [])) ≡ replicate 6 false
   pub no-best : best twins (4 ∷ []) (0 ∷ 1 ∷ []) ≡ none
+  -- document 02, §3, "the fewest first ones that show both sides, or all when none do": 0, 1, 9 with T = 9 go left, left, right; by scatter,
+  -- and (1,2,1,2) and (2,1,2,1), all go left; of 9, 0, 1 two are enough, and of no trace there is none to take
+  pub seen : map (λ c. showSides (sidesOf nine (0 ∷ 1 ∷ 2 ∷ []) c) (0 ∷ 1 ∷ 2 ∷ [])) (candidates (1 ∷ [])) ≡ true ∷ false ∷ []
+  pub taken : map (λ c. fewestFirst (sidesOf nine (0 ∷ 1 ∷ 2 ∷ []) c) (0 ∷ 1 ∷ 2 ∷ [])) (candidates (1 ∷ [])) ≡ 3 ∷ 3 ∷ []
+  pub taken-twins : map (λ c. fewestFirst (sidesOf twins (0 ∷ 1 ∷ []) c) (0 ∷ 1 ∷ [])) (candidates (4 ∷ [])) ≡ replicate 6 2
+  pub taken-early : map (λ c. fewestFirst (sidesOf nine (2 ∷ 0 ∷ 1 ∷ []) c) (2 ∷ 0 ∷ 1 ∷ [])) (candidates (1 ∷ [])) ≡ 2 ∷ 3 ∷ []
+  pub taken-none : fewestFirst (λ number. true) [] ≡ 0
   -- "((greatest sum − least sum)² + greatest scatter) / w, each term rounded down": 2/3 twice
   pub spread-terms : spreadTerm 3 (− 2) (+ 1) 0 ∷ spreadTerm 3 (+ 1) (+ 1) 2 ∷ [] ≡ 3 ∷ 0 ∷ []
   pub spread-of-two : spread (3 ∷ 6 ∷ []) (ones ∷ []) ≡ 0
@@ -187,6 +203,11 @@ adding-examples = record {
   parting = refl;
   not-parting = refl;
   no-best = refl;
+  seen = refl;
+  taken = refl;
+  taken-twins = refl;
+  taken-early = refl;
+  taken-none = refl;
   spread-terms = refl;
   spread-of-two = refl;
   six-gains = refl;

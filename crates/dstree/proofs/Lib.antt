@@ -1,7 +1,7 @@
 -- Laws of the definitions. The tree that adding makes: Invariant, Joins, Splits and Grown; a query: Bounds, Reading, Search and Closed;
 -- all together: Laws. The k nearest: Ranks, KSteps and KClosed; all together: KLaws.
 -- Sheets: SheetWritten, SheetRead, ReadBack and WrittenAgain; all together: RoundTrips.
--- Recorder's files: Recordings.
+-- Recorder's files: Recordings. Both sides seen: Looking.
 pub mod Everything
 pub mod Notation
 pub mod Examples
@@ -9,6 +9,7 @@ pub mod Cases
 pub mod Exercises
 pub mod BookExamples
 pub mod Parting
+pub mod Looking
 pub mod Formed
 pub mod Nodes
 pub mod Ranges

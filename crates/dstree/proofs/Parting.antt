@@ -19,7 +19,7 @@ use Rattle.dstree.specs.Claims.{Parting}
 
 -- ---- a side is empty exactly if nothing is in it
 
-not-empty : {A : Type 0} {a : A} {l : List A} → In a l → isEmpty l ≡ false
+pub not-empty : {A : Type 0} {a : A} {l : List A} → In a l → isEmpty l ≡ false
 unfolding isEmpty
 not-empty first = refl
 not-empty (later i) = refl

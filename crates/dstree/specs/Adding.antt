@@ -3,11 +3,11 @@ use Prim.Native.Nat.{ℕ, zero, suc, _+_, _*_, _-_, _/_, min, max}
 use mathlib.Core.Bool.{Bool, not, _&&_}
 use mathlib.Core.Option.{Option, none, some}
 use mathlib.Core.List.{List, [], _∷_, _++_, map, foldl}
-use lib.ListN.{length, getD}
+use lib.ListN.{length, getD, take}
 use lib.IntN.{ℤ, pos, _+ℤ_, _-ℤ_}
 use lib.Signed.{ltZ}
 use lib.Dec.{leb, ltb}
-use Rattle.integer.specs.Words.{if_then_else_, lesser, greater, leastℤ, greatestℤ, least, greatest, those, isEmpty, lastOf}
+use Rattle.integer.specs.Words.{if_then_else_, lesser, greater, leastℤ, greatestℤ, least, greatest, counting, those, chosen, isEmpty, lastOf}
 use Rattle.segment.specs.Terms.{spreadTerm}
 use Rattle.dstree.specs.Measures.{Trace, Measures}
 use Rattle.dstree.specs.Figures.{Run, run, width, sumOn, scatterOn}
@@ -154,6 +154,18 @@ splitBy stored numbers c =
 -- "A candidate parts the leaf if both sides receive a trace"
 unfoldable pub parts : Split → Bool
 parts s = not (isEmpty (s .left)) && not (isEmpty (s .right))
+
+-- Document 02, §3, of a leaf's traces by rising number: `goes` says which of them go left by a candidate's test
+abbrev pub goesBy : List Trace → Test → ℕ → Bool
+goesBy stored test number = goesLeft test (getD stored number [])
+
+-- "one trace on each side is enough": whether some traces show both sides
+unfoldable pub showSides : (ℕ → Bool) → List ℕ → Bool
+showSides goes numbers = not (isEmpty (those goes numbers)) && not (isEmpty (those (λ number. not (goes number)) numbers))
+
+-- "how many it took: the fewest first ones that show both sides, or all when none do"
+unfoldable pub fewestFirst : (ℕ → Bool) → List ℕ → ℕ
+fewestFirst goes numbers = chosen min (length numbers) (those (λ k. showSides goes (take k numbers)) (counting (suc (length numbers)) 0))
 
 -- "twice the leaf's spread less both children's", a signed number. "Children use the cut segments"
 unfoldable pub gain : List Trace → List ℕ → List ℕ → Split → ℤ

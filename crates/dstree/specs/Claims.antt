@@ -2,10 +2,10 @@
 -- "Adding", "Matching", "Well-formed tables" and "Demand 3, over a list of calls". `proofs/Laws` proves them for every library.
 use Prim.Native.Nat.{ℕ, suc, _*_, _-_, _≤_, _<_}
 use mathlib.Core.Path.{_≡_}
-use mathlib.Core.Bool.{not}
+use mathlib.Core.Bool.{Bool, true, false, not}
 use mathlib.Core.Option.{some}
 use mathlib.Core.List.{List, [], _∷_, _++_, map, flatten}
-use lib.ListN.{length, getD}
+use lib.ListN.{length, getD, take}
 use lib.IntN.{ℤ}
 use lib.Signed.{_≤ℤ_, ltZ, leZ}
 use lib.Dec.{T}
@@ -14,7 +14,8 @@ use Rattle.segment.specs.Figures.{distance}
 use Rattle.dstree.specs.Measures.{Trace, Measures}
 use Rattle.dstree.specs.Figures.{Run, run, sumOn, scatterOn}
 use Rattle.dstree.specs.Node.{Segment, Test, leaf, inner, Tree, nodeAt, ends, figureOf}
-use Rattle.dstree.specs.Adding.{way, tracesOf, Candidate, candidates, Split, splitBy, parts, bestOf, insertion}
+use Rattle.dstree.specs.Adding.{way, tracesOf, Candidate, candidates, testOf, Split, splitBy, parts, bestOf, insertion}
+use Rattle.dstree.specs.Adding.{goesBy, showSides, fewestFirst}
 use Rattle.dstree.specs.Matching.{hasChild, bound, numbersIn, leaves, searched, matchBySteps, leastDistance, matchOf}
 use Rattle.dstree.specs.WellFormed.{wellFormed}
 
@@ -70,6 +71,23 @@ pub record TestsOf (m : Measures) (traces : List Trace) (tree : Tree) : Type 0 w
 abbrev pub Parting : Type 0
 Parting = (stored : List Trace) (numbers : List ℕ) (c : Candidate) → parts (splitBy stored numbers c) ≡ ltZ
     (leastℤ (map (figureOf (c .figure) (c .on)) (tracesOf stored numbers))) (greatestℤ (map (figureOf (c .figure) (c .on)) (tracesOf stored numbers)))
+
+-- Document 02, §3, "Its yes or no remains": a leaf's traces show both sides of a candidate's test exactly if the candidate parts the leaf
+abbrev pub YesOrNo : Type 0
+YesOrNo = (stored : List Trace) (numbers : List ℕ) (c : Candidate)
+    → showSides (goesBy stored (testOf c (tracesOf stored numbers))) numbers ≡ parts (splitBy stored numbers c)
+
+-- how many of a leaf's first traces are taken, whatever the test
+pub record TakenOf (goes : ℕ → Bool) (numbers : List ℕ) : Type 0 where
+  -- "the fewest first ones that show both sides": these show them, and fewer do not
+  pub shown : showSides goes numbers ≡ true → showSides goes (take (fewestFirst goes numbers) numbers) ≡ true
+  pub no-fewer : (k : ℕ) → k < fewestFirst goes numbers → showSides goes (take k numbers) ≡ false
+  -- "or all when none do"
+  pub all-else : showSides goes numbers ≡ false → fewestFirst goes numbers ≡ length numbers
+  -- never more than all, one of a leaf that has one, and two where both sides are seen
+  pub at-most : fewestFirst goes numbers ≤ length numbers
+  pub one : 0 < length numbers → 1 ≤ fewestFirst goes numbers
+  pub two : showSides goes numbers ≡ true → 2 ≤ fewestFirst goes numbers
 
 -- "Among the candidates that part the leaf the greatest gain wins, the earliest among equals": what stands before the winner has less gain, what
 -- stands behind it no more

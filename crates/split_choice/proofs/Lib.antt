@@ -1,5 +1,7 @@
 pub mod Marked
 pub mod Sided
+pub mod Seen
+pub mod Threshold
 pub mod Cuts
 pub mod Tried
 pub mod Halved

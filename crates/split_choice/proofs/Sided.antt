@@ -1,8 +1,8 @@
 -- A side of a list, number by number, and an array that it is written to.
-use mathlib.Core.Path.{_≡_, refl, sym, ap, _∙_}
+use mathlib.Core.Path.{_≡_, refl, sym, ap, subst, _∙_}
 use mathlib.Core.Bool.{Bool, true, false, Bool·beq}
 use mathlib.Core.List.{List, [], _∷_, _++_, append-assoc}
-use Prim.Native.Nat.{ℕ, suc, _≤_, _<_}
+use Prim.Native.Nat.{ℕ, suc, _+_, _*_, _≤_, _<_}
 use native.Mathlib.Omega.{arith}
 use lib.IntN.{ℤ}
 use lib.ListN.{length, getD, set, take}
@@ -15,7 +15,7 @@ use Rattle.dstree.specs.Adding.{tracesOf}
 use Rattle.tables.specs.View.{traceIn}
 use Rattle.tables.specs.Walk.{storedIn}
 use Rattle.tables.proofs.Listed.{stored-at}
-use Rattle.leaf_figures.specs.Rows.{tracesAt, Rows}
+use Rattle.leaf_figures.specs.Rows.{tracesAt, Kept, Rows}
 use Rattle.split_choice.specs.Siding.{onSide, sideOf}
 
 -- one number more, if it is on the side
@@ -68,6 +68,18 @@ module _ (samples : List ℤ) (n k : ℕ) (numbers : List ℕ) (below : (t : ℕ
 
 pub side-in : (samples : List ℤ) (n : ℕ) (test : Test) (left : Bool) (numbers : List ℕ) {t : ℕ} → In t (sideOf samples n test left numbers) → In t numbers
 side-in samples n test left numbers i = from-those (λ (u : ℕ). onSide left (goesLeft test (traceIn samples n u))) numbers i .0
+
+-- what a table keeps of a listed trace, in the column of a run
+pub row-at : {samples : List ℤ} {n : ℕ} {numbers place runs : List ℕ} {sums : List ℤ} {scatters : List ℕ}
+    → Rows samples n numbers place runs sums scatters → (column first last : ℕ) → 0 < last → (column < 48 → getD runs column 0 ≡ first)
+    → (column < 48 → getD runs (48 + column) 0 ≡ last) → (t : ℕ) → In t numbers
+    → (column < 48 → t < length place) × (column < 48 → Kept (traceIn samples n t) first last sums scatters (column * 65 + getD place t 0))
+row-at {samples} {n} {numbers} {place} {runs} {sums} {scatters} r column first last some from to t i =
+    let kept : (f l : ℕ) → Type 0 = λ (f l : ℕ). Kept (traceIn samples n t) f l sums scatters (column * 65 + getD place t 0) in (
+      (λ h. r .placed column t h (omega (arith, to h, some)) i),
+      (λ h. subst (λ (f : ℕ). kept f last) (from h)
+          (subst (λ (l : ℕ). kept (getD runs column 0) l) (to h) (r .kept column t h (omega (arith, to h, some)) i))),
+    )
 
 pub rows-among : {samples : List ℤ} {n : ℕ} {numbers some place runs : List ℕ} {sums : List ℤ} {scatters : List ℕ} → ((t : ℕ) → In t some → In t numbers)
     → Rows samples n numbers place runs sums scatters → Rows samples n some place runs sums scatters

@@ -77,7 +77,7 @@ fn better(best: Choice, c: Trial, threshold: i64, gain: i64) -> Choice
     }
 }
 
-// One candidate tried: if its least figure is below its greatest it parts the leaf, and its gain is compared. Otherwise no spread is taken.
+// One candidate tried: if both its sides are seen it parts the leaf, and its gain is compared. Otherwise no spread is taken.
 fn try_one(
     samples: &[i16],
     n: usize,
@@ -102,7 +102,21 @@ fn try_one(
     ensures { λ r. ⌜ After n (storedIn (now (samples .entry)) n k) (endsOf e) (take count (now (list .entry))) old (candidateBy (endsOf e) c ∷ []) r ⌝ }
     ensures room { λ _. ⌜ length (now (side .exit)) ≡ 4096 ⌝ }
 {
-    if low < high {
+    let seen = crate::parting::look_at(
+        samples,
+        n,
+        k,
+        list,
+        count,
+        place,
+        runs,
+        sums,
+        scatters,
+        c,
+        low,
+        high,
+    );
+    if seen.both {
         let threshold = low + high;
         let g = crate::gains::gain_of(
             samples,

@@ -15,7 +15,7 @@ ghost use Rattle.leaf_figures.specs.Rows.{Listed, Kept, Rows};
 ghost use Rattle.split_choice.specs.Siding.{trialTest, onSide, sideOf};
 
 // Whether trace t goes left: if twice its figure is at most the threshold.
-fn goes_left_at(
+pub fn goes_left_at(
     samples: &[i16],
     n: usize,
     place: &[u16],

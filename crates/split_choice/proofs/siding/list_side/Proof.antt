@@ -3,7 +3,7 @@
 use mathlib.Core.Path.{_≡_, refl, sym, ap, subst, _∙_}
 use mathlib.Core.Bool.{Bool}
 use mathlib.Core.List.{List, [], _++_, append-nil}
-use Prim.Native.Nat.{ℕ, suc, _+_, _*_, _-_, _≤_, _<_}
+use Prim.Native.Nat.{ℕ, suc, _+_, _-_, _≤_, _<_}
 use native.Mathlib.Omega.{arith}
 use lib.IntN.{ℤ}
 use lib.ListN.{length, getD, set, take, drop, length-set}
@@ -17,11 +17,10 @@ use Rattle.integer.proofs.Lists.{In}
 use Rattle.dstree.specs.Node.{goesLeft}
 use Rattle.tables.specs.View.{traceIn}
 use Rattle.tables.specs.Runs.{testBy}
-use Rattle.leaf_figures.specs.Rows.{Kept}
 use Rattle.leaf_figures.proofs.Placed.{end-at, no-end}
 use Rattle.leaf_figures.proofs.Listing.{in-listed}
 use Rattle.split_choice.specs.Siding.{onSide, sideOf}
-use Rattle.split_choice.proofs.Sided.{side-more, side-none, listed-more, counted-most}
+use Rattle.split_choice.proofs.Sided.{side-more, side-none, listed-more, counted-most, row-at}
 use Rattle.split_choice.proofs.siding.list_side.Statement.{statement}
 use Rattle.split_choice.proofs.siding.list_side.Tie as tie
 
@@ -59,15 +58,9 @@ goes-left-at-requires c κs =
     let p = s c .pre in
     let a = s c .args in
     let column = turn c .before .before .column-of in
-    let some : 0 < a .c .last = omega (arith, p .1 .from-1, p .1 .rises) in (
-      record { narrow = p .0 .narrow; room = p .0 .inside (t c) (among c); inside = p .1 },
-      (λ h. p .2 .placed (column .result) (t c) h (omega (arith, column .ensures .1 h, some)) (among c)),
-      (λ h. subst (λ (first : ℕ). Kept (traceIn (a .samples .now) (a .n) (t c)) first (a .c .last) (a .sums .now) (a .scatters .now) (column .result * 65 + getD (a .place .now) (t c) 0))
-          (column .ensures .0 h)
-          (subst (λ (last : ℕ). Kept (traceIn (a .samples .now) (a .n) (t c)) (getD (a .runs .now) (column .result) 0) last (a .sums .now) (a .scatters .now)
-          (column .result * 65 + getD (a .place .now) (t c) 0))
-          (column .ensures .1 h) (p .2 .kept (column .result) (t c) h (omega (arith, column .ensures .1 h, some)) (among c)))),
-    )
+    let row = row-at (p .2) (column .result) (a .c .first) (a .c .last) (omega (arith, p .1 .from-1, p .1 .rises))
+    (column .ensures .0) (column .ensures .1) (t c) (among c) in
+    (record { narrow = p .0 .narrow; room = p .0 .inside (t c) (among c); inside = p .1 }, row .0, row .1)
 
 loop-again : tie.Need-loop-again Inv-loop μ-loop
 loop-again c =

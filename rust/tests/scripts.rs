@@ -52,6 +52,13 @@ fn play(file: &str, at_least: usize) {
 fn the_stage() {
     play("stage-01.txt", 40);
     play("stage-02.txt", 40);
+    play("stage-03.txt", 40);
+}
+
+/// The tree, bounds and walks between the calls.
+#[test]
+fn looked_inside() {
+    play("inside-03.txt", 25);
 }
 
 #[test]
@@ -63,7 +70,7 @@ fn altered_tables() {
 /// The smallest cases that tell two readings of document 02 apart.
 #[test]
 fn telling_cases() {
-    play("telling.txt", 21);
+    play("telling.txt", 24);
 }
 
 /// A script of lines and replies.
@@ -144,6 +151,8 @@ fn lines_that_are_no_calls() {
         "write 1",
         "tree 1",
         "below 1",
+        "walks",
+        "walks 1",
         "alter 1 0 least_sum 0",
         "alter 0 1 least_sum 0",
         "alter 0 0 least 0",

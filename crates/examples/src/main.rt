@@ -1,13 +1,16 @@
-// The examples of document 01, run: what each call answers, held to the file stdout. A step answers values, with a contract (`steps`); here the steps are
+// The examples of document 01, and some of document 02, run: what each call answers, held to the file stdout. A step answers values, with a contract (`steps`); here the steps are
 // put together, and printed.
 
 mod steps; // traces added, queries matched, a sheet written
+mod walks; // a candidate's test, along a leaf
 mod printing; // answers as text
 
 use crate::printing::item;
 use crate::steps::add_to;
 use crate::steps::match_of;
 use crate::steps::put_starred;
+use crate::walks::nine;
+use crate::walks::twins;
 use opening::Opened;
 use sheet::fields::put_bytes;
 ghost use mathlib.Core.Path.{_≡_};
@@ -270,8 +273,19 @@ fn run_sheets() {
     read_back(&sheets);
 }
 
+// ---- document 02, §3: "the fewest first ones that show both sides, or all when none do"
+
+fn run_walks() {
+    // 0, 1 and 9: T = 9 by sum, so that 9 alone goes right; T = 0 by scatter, and all go left
+    printing::walked(b"walk 0 1 9 by sum, T 9: ", nine(false, 9));
+    printing::walked(b"walk 0 1 9 by scatter, T 0: ", nine(true, 0));
+    // (1,2,1,2) and (2,1,2,1), which nothing parts: sums of 6, T = 12
+    printing::walked(b"walk 1 2 1 2, 2 1 2 1 by sum, T 12: ", twins());
+}
+
 fn main() {
     run_openings();
     run_libraries();
     run_sheets();
+    run_walks();
 }

@@ -8,6 +8,7 @@ use opening::Opened;
 use segment::samples::apart;
 use sheet_reading::Read;
 use sheet_writing::Written;
+use split_choice::parting::Look;
 use tables::Refusal;
 use tables::numbers::wider;
 
@@ -119,6 +120,17 @@ pub fn read(answer: Read) {
             io::write_all(1, b"done");
         }
         Read::Refused(why) => refusal(why),
+    }
+    line_end();
+}
+
+// Whether both sides were seen, and how many traces that took.
+pub fn walked(words: &[u8], seen: Look) {
+    io::write_all(1, words);
+    if seen.both {
+        item(b"yes, took ", seen.taken as u64);
+    } else {
+        item(b"no, took ", seen.taken as u64);
     }
     line_end();
 }

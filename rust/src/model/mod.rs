@@ -349,12 +349,34 @@ impl Library {
         }
     }
 
+    /// The test of a candidate for a leaf: "T is the least plus the greatest figure among the leaf's traces."
+    fn test_of(&self, leaf: usize, candidate: &Candidate) -> Test {
+        let all = figures(candidate.figure, candidate.run, &self.named(self.numbers(leaf)));
+        Test { figure: candidate.figure, first: candidate.run.0, last: candidate.run.1, threshold: least(&all) + greatest(&all) }
+    }
+
+    /// Document 02, §3: takes the leaf's traces by rising number until both sides are seen; whether they are, and how many it took.
+    pub fn walk(&self, leaf: usize, candidate: &Candidate) -> (bool, usize) {
+        let test = self.test_of(leaf, candidate);
+        let (mut left, mut right, mut taken) = (false, false, 0);
+        for &t in self.numbers(leaf) {
+            if test.goes_left(&self.traces[t]) {
+                left = true;
+            } else {
+                right = true;
+            }
+            taken += 1;
+            if left && right {
+                break;
+            }
+        }
+        (left && right, taken)
+    }
+
     /// What a candidate does to a leaf, if "both sides receive a trace".
     pub fn try_candidate(&self, leaf: usize, candidate: &Candidate) -> Option<Split> {
         let numbers = self.numbers(leaf).to_vec();
-        let all = figures(candidate.figure, candidate.run, &self.named(&numbers));
-        // "T is the least plus the greatest figure among the leaf's traces."
-        let test = Test { figure: candidate.figure, first: candidate.run.0, last: candidate.run.1, threshold: least(&all) + greatest(&all) };
+        let test = self.test_of(leaf, candidate);
         let (left, right): (Vec<usize>, Vec<usize>) = numbers.iter().partition(|&&t| test.goes_left(&self.traces[t]));
         if left.is_empty() || right.is_empty() {
             return None;

@@ -1,10 +1,10 @@
-//! Lines that are no calls: the tree and a query's bounds as the model works them out from what the tables record, tables altered between two calls, and the
-//! program's line.
+//! Lines that are no calls: the tree, a query's bounds and a leaf's walks as the model works them out from what the tables record, tables altered between two
+//! calls, and the program's line.
 
 use super::line::number;
 use super::{list, malformed, Line, Reply, Session, Unanswered};
 use crate::model::tables::{segment_place, Tables, RECORD_PLACES, RUN, THRESHOLD};
-use crate::model::{Figure, Kind, Node, Segment};
+use crate::model::{candidates, Figure, Kind, Node, Segment};
 use crate::program;
 
 /// Every node's record.
@@ -44,6 +44,18 @@ pub fn below(session: &mut Session, mut line: Line<'_>) -> Reply {
     }
     let (bounds, uppers) = (library.bounds(&query), library.uppers(&query));
     Ok(list("below", library.reading_order(&bounds).into_iter().map(|j| format!("{j}:{}:{}", bounds[j], uppers[j]))))
+}
+
+/// Each candidate of a leaf: whether its walk sees both sides, and how many traces it takes.
+pub fn walks(session: &mut Session, mut line: Line<'_>) -> Reply {
+    let leaf: usize = line.next()?;
+    line.end()?;
+    let library = session.library(&line).recorded()?;
+    if !library.leaves().contains(&leaf) {
+        return Err(malformed("no such leaf"));
+    }
+    let walks = candidates(&library.nodes[leaf].ends()).into_iter().map(|candidate| library.walk(leaf, &candidate));
+    Ok(list("walks", walks.map(|(both, taken)| format!("{}:{taken}", if both { "yes" } else { "no" }))))
 }
 
 /// Somebody writes the tables: a sample, or fields of a node's record.

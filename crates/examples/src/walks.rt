@@ -1,0 +1,64 @@
+// The walk along a leaf by a candidate's test, document 02's §3: whether both sides are seen, and how many traces it takes.
+
+use leaf_figures::lists::list_leaf;
+use leaf_figures::lists::place_list;
+use split_choice::choice::Trial;
+use split_choice::parting::Look;
+use split_choice::parting::look_along;
+ghost use mathlib.Core.Path.{_≡_};
+ghost use Rattle.tables.specs.Walk.{storedIn, numbersOf, Stored};
+ghost use Rattle.tables.specs.Runs.{testBy};
+ghost use Rattle.split_choice.specs.Parting.{lookOf};
+
+// The whole run of n samples, by its sum or by its scatter. No figures are kept: they are taken from the samples.
+pub fn walk_of(
+    samples: &[i16],
+    links: &[u16],
+    n: usize,
+    k: usize,
+    head: usize,
+    by_scatter: bool,
+    threshold: i64,
+) -> Look
+    requires { ⌜ Stored (now samples) (now links) n k head ⌝ }
+    ensures { λ r. ⌜ r ≡ lookOf (storedIn (now (samples .entry)) n k) (testBy 1 n «by_scatter» threshold)
+        (numbersOf (now (links .entry)) k head) ⌝ }
+{
+    let mut list = [0u16; 4096];
+    let mut place = [0u16; 4096];
+    let runs = [0usize; 96];
+    let sums = [0i64; 3120];
+    let scatters = [0u64; 3120];
+    let count = list_leaf(links, k, head, &mut list);
+    place_list(&list, count, &mut place);
+    let c = Trial {
+        first: 1,
+        last: n,
+        by_scatter,
+        cut: 0,
+        column: 48,
+    };
+    look_along(
+        samples,
+        n,
+        k,
+        &list,
+        count,
+        &place,
+        &runs,
+        &sums,
+        &scatters,
+        c,
+        threshold,
+    )
+}
+
+// 0, 1 and 9 in one leaf, n = 1.
+pub fn nine(by_scatter: bool, threshold: i64) -> Look {
+    walk_of(&[0i16, 1, 9], &[1u16, 2, 0], 1, 3, 0, by_scatter, threshold)
+}
+
+// "(1,2,1,2) and (2,1,2,1): one leaf of two", by sum, T = 12.
+pub fn twins() -> Look {
+    walk_of(&[1i16, 2, 1, 2, 2, 1, 2, 1], &[1u16, 0], 4, 2, 0, false, 12)
+}

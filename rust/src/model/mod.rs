@@ -355,22 +355,16 @@ impl Library {
         Test { figure: candidate.figure, first: candidate.run.0, last: candidate.run.1, threshold: least(&all) + greatest(&all) }
     }
 
-    /// Document 02, §3: takes the leaf's traces by rising number until both sides are seen; whether they are, and how many it took.
+    /// Document 02, §3: whether a leaf's traces show both sides of a candidate's test, and how many the walk took: "the fewest first ones that show both
+    /// sides, or all when none do."
     pub fn walk(&self, leaf: usize, candidate: &Candidate) -> (bool, usize) {
         let test = self.test_of(leaf, candidate);
-        let (mut left, mut right, mut taken) = (false, false, 0);
-        for &t in self.numbers(leaf) {
-            if test.goes_left(&self.traces[t]) {
-                left = true;
-            } else {
-                right = true;
-            }
-            taken += 1;
-            if left && right {
-                break;
-            }
+        let sides: Vec<bool> = self.named(self.numbers(leaf)).into_iter().map(|t| test.goes_left(t)).collect();
+        let shown = |taken: &usize| sides[..*taken].contains(&true) && sides[..*taken].contains(&false);
+        match (0..=sides.len()).find(shown) {
+            Some(taken) => (true, taken),
+            None => (false, sides.len()),
         }
-        (left && right, taken)
     }
 
     /// What a candidate does to a leaf, if "both sides receive a trace".

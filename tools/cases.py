@@ -4,23 +4,25 @@
     tools/cases.py LIBRARIES CHOSEN > CASES
 
 LIBRARIES (vectors/libraries.txt) has small libraries with what another implementation of
-document 01 makes of them: the tree, each node's bound for one query, and the match with its
-trail. A library begins with a line `== NAME` and ends with its line `match:`.
+documents 01 and 02 makes of them: the tree, and, of most, each node's bound for one query and the
+match with its trail. A library begins with a line `== NAME`.
 
 CHOSEN (vectors/cases.txt) says which of them the table holds, in which order: a line is a name,
 a colon and what that library shows, in plain words, which becomes the comment in front of its
 case. Empty lines and lines that begin with `#` are skipped.
 
-CASES (crates/dstree/proofs/Cases.antt) is the table with its one theorem: the definitions,
-computed, give the same. Nothing is computed here; figures are carried over as they stand.
+CASES (crates/dstree/proofs/Cases.antt) has them as two tables, those with a query and those
+without, each with its theorem: the definitions, computed, give the same. Nothing is computed
+here; figures are carried over as they stand.
 """
 import re
 import sys
 
 HEAD = """\
--- Small libraries with what another implementation of document 01 makes of them, as one table; and the definitions give the same, by computation.
--- These few have each kind of split (by sum and scatter, whole and cut segments), ties in gain and in distance, a leaf over size, gains and sums below
--- zero. The calls, which are proved equal to the definitions, are run on all of `vectors/` (`rust/tests/vectors.rs`).
+-- Small libraries with what another implementation of documents 01 and 02 makes of them, as two tables, with a query and without; and the
+-- definitions give the same, by computation. These few have each kind of split (by sum and scatter, whole and cut segments), ties in gain and in
+-- distance, leaves over size, gains and sums below zero. The calls, which are proved equal to the definitions, are run on all of `vectors/`
+-- (`rust/tests/vectors.rs`).
 -- Written by `tools/cases.py` from `vectors/libraries.txt`, the libraries that `vectors/cases.txt` names.
 use Prim.Native.Nat.{ℕ}
 use mathlib.Core.Path.{_≡_, refl}
@@ -90,14 +92,34 @@ abbrev pub cases : List Case
 cases =
 """
 
-TAIL = """\
-    []
-
--- ---- the theorem
+BETWEEN = """\
+    ∷ []
 
 pub cases-agree : map computed cases ≡ map expected cases
 unfolding everything
 cases-agree = refl
+
+-- ---- without a query: a library, and the tree that the other implementation makes of it
+
+pub record Grown : Type 0 where
+  pub measures : Measures
+  pub traces : List Trace
+  pub tree : Tree
+
+abbrev pub grownCases : List Grown
+grownCases =
+"""
+
+TAIL = """\
+    ∷ []
+
+pub grown-agree : map (λ (c : Grown). treeOf (c .measures) (c .traces)) grownCases ≡ map (λ (c : Grown). c .tree) grownCases
+unfolding everything
+grown-agree = refl
+
+pub grown-formed : map (λ (c : Grown). wellFormed sampleLimit (c .measures) (length (c .traces)) (c .tree)) grownCases ≡ map (λ (c : Grown). true) grownCases
+unfolding everything
+grown-formed = refl
 """
 
 
@@ -152,23 +174,12 @@ def signed_list(xs):
     return listed(signed(x) for x in xs)
 
 
-SEGMENT = re.compile(r"    segment \d+ to (\d+): sum (-?\d+) to (-?\d+), scatter (\d+) to (\d+);")
-LEAF = re.compile(r"node \d+ leaf(?: over size)?, made by trace \d+: traces (\[.*\])$")
-INNER = re.compile(r"node \d+ inner, made by trace \d+: (Sum|Scatter) of samples (\d+) to (\d+), twice at most T = (-?\d+): left (\d+) right (\d+)$")
+SEGMENT = re.compile(r"    segment \d+ to (\d+): sum (-?\d+) to (-?\d+), scatter (\d+) to (\d+)(?:;|$)")
+LEAF = re.compile(r"node \d+ leaf(?: over size)?(?:, made by trace \d+)?: traces (\[.*\])$")
+INNER = re.compile(r"node \d+ inner(?:, made by trace \d+)?: (Sum|Scatter) of samples (\d+) to (\d+), twice at most T = (-?\d+): left (\d+) right (\d+)$")
 BOUND = re.compile(r"    own bound \d+ bound (\d+)$")
 MATCH = re.compile(r"match: trace (\d+) distance (\d+) leaves (\d+) traces (\d+) trail (\[.*\])$")
 HEADING = re.compile(r"n (\d+) capacity (\d+) leaf size (\d+) traces (\d+) nodes (\d+) leaves (\d+)$")
-
-
-def broken(line, width=196):
-    """A line, broken before a `∷` where it would be longer than this; what follows is indented as an element of the list."""
-    element = line.lstrip()[0] in "(n∷"
-    indent = " " * (len(line) - len(line.lstrip()) + (0 if element else 4))
-    while len(line) > width:
-        at = line.rfind(" ∷ ", len(indent) + 1, width)
-        yield line[:at]
-        line = indent + line[at + 1:]
-    yield line
 
 
 def case(name, lines):
@@ -196,21 +207,35 @@ def case(name, lines):
             match = MATCH.match(line).groups()
         elif line.strip():
             raise SystemExit(f"{name}: not understood: {line}")
-    if len(traces) != trace_count or not len(kinds) == len(bounds) == node_count or match is None:
-        raise SystemExit(f"{name}: traces, nodes, bounds or match missing")
+    if len(traces) != trace_count or len(kinds) != node_count:
+        raise SystemExit(f"{name}: traces or nodes missing")
+    if query is not None and (len(bounds) != node_count or match is None):
+        raise SystemExit(f"{name}: bounds or match missing")
     nodes = [f"node ({listed(s)}) ({k})" for s, k in zip(segments, kinds)]
     yield "record {"
     yield f"  measures = measures {n} {capacity} {leaf_size};"
     yield f"  traces = {broken(listed(f'({signed_list(x)})' for x in traces), '      ')};"
-    yield f"  query = {broken(signed_list(query), '      ')};"
+    if query is not None:
+        yield f"  query = {broken(signed_list(query), '      ')};"
     yield f"  tree ="
     yield f"      {broken(nodes[0], '          ')}"
     for each in nodes[1:]:
         yield f"      {broken(f'∷ {each}', '          ')}"
     yield f"      ∷ [];"
-    yield f"  bounds = {listed(bounds)};"
-    yield f"  match = found {' '.join(match[:4])} ({listed(numbers(match[4]))});"
+    if query is not None:
+        yield f"  bounds = {listed(bounds)};"
+        yield f"  match = found {' '.join(match[:4])} ({listed(numbers(match[4]))});"
     yield "}"
+
+
+def table(names, known):
+    """The lines of a table."""
+    for number, (name, shows) in enumerate(names):
+        lines = list(case(name, known[name]))
+        if number:
+            lines[0] = "∷ " + lines[0]
+        yield f"    -- {name}: {shows}\n"
+        yield from (f"    {line}\n" for line in lines)
 
 
 def main(words):
@@ -220,17 +245,15 @@ def main(words):
         known = libraries(file.read())
     with open(words[1], encoding="utf-8") as file:
         names = list(chosen(file.read()))
-    out = [HEAD]
-    for number, (name, shows) in enumerate(names):
+    for name, _ in names:
         if name not in known:
             raise SystemExit(f"no library is called {name}")
-        lines = list(case(name, known[name]))
-        if number:
-            lines[0] = "∷ " + lines[0]
-        out.append(f"    -- {name}: {shows}\n")
-        out.extend(f"{part}\n" for line in lines for part in broken(f"    {line}"))
-    out.append(TAIL.replace("    []", "    ∷ []", 1))
-    sys.stdout.write("".join(out))
+    asked = lambda name: any(line.startswith("query: ") for line in known[name])
+    sys.stdout.write(HEAD)
+    sys.stdout.writelines(table([each for each in names if asked(each[0])], known))
+    sys.stdout.write(BETWEEN)
+    sys.stdout.writelines(table([each for each in names if not asked(each[0])], known))
+    sys.stdout.write(TAIL)
 
 
 main(sys.argv[1:])

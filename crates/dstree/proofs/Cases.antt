@@ -1,6 +1,7 @@
--- Small libraries with what another implementation of document 01 makes of them, as one table; and the definitions give the same, by computation.
--- These few have each kind of split (by sum and scatter, whole and cut segments), ties in gain and in distance, a leaf over size, gains and sums below
--- zero. The calls, which are proved equal to the definitions, are run on all of `vectors/` (`rust/tests/vectors.rs`).
+-- Small libraries with what another implementation of documents 01 and 02 makes of them, as two tables, with a query and without; and the
+-- definitions give the same, by computation. These few have each kind of split (by sum and scatter, whole and cut segments), ties in gain and in
+-- distance, leaves over size, gains and sums below zero. The calls, which are proved equal to the definitions, are run on all of `vectors/`
+-- (`rust/tests/vectors.rs`).
 -- Written by `tools/cases.py` from `vectors/libraries.txt`, the libraries that `vectors/cases.txt` names.
 use Prim.Native.Nat.{ℕ}
 use mathlib.Core.Path.{_≡_, refl}
@@ -54,7 +55,15 @@ computed c = record {
 
 -- expected: the given tree, bounds and match, the match by its steps too; well-formed tables of a library, whose sheet reads back
 abbrev pub expected : Case → Outcome
-expected c = record { tree = c .tree; bounds = c .bounds; match = c .match; steps = some (c .match); sound = true; library = true; sheet = holds (c .measures) (c .traces) }
+expected c = record {
+  tree = c .tree;
+  bounds = c .bounds;
+  match = c .match;
+  steps = some (c .match);
+  sound = true;
+  library = true;
+  sheet = holds (c .measures) (c .traces);
+}
 
 -- ---- the table
 
@@ -116,7 +125,7 @@ cases =
       query = + 5 ∷ − 8 ∷ + 3 ∷ − 7 ∷ − 7 ∷ [];
       tree =
           node (seg 5 (− 17) (− 7) 120 626 ∷ []) (inner (test 1 2 bySum (− 4)) 1 2)
-          ∷ node (seg 2 (− 6) (− 3) 9 144 ∷ seg 5 (− 13) (− 9) 18 248 ∷ []) (inner (test 4 5 byScatter (+ 16)) 3 4)
+          ∷ node (seg 2 (− 6) (− 3) 9 144 ∷ seg 5 (− 13) (− 9) 18 248 ∷ []) (inner (test 4 5 byScatter (+ 4)) 3 4)
           ∷ node (seg 2 (− 1) (+ 2) 9 81 ∷ seg 5 (− 9) (− 8) 24 86 ∷ []) (inner (test 1 1 bySum (+ 5)) 7 8)
           ∷ node (seg 2 (− 6) (− 3) 9 144 ∷ seg 3 (− 1) (+ 3) 0 0 ∷ seg 5 (− 16) (− 8) 0 4 ∷ []) (inner (test 2 2 bySum (− 11)) 5 6)
           ∷ node (seg 2 (− 6) (− 5) 100 121 ∷ seg 3 (+ 1) (+ 3) 0 0 ∷ seg 5 (− 14) (− 13) 9 16 ∷ []) (leaf (1 ∷ 3 ∷ []))
@@ -186,7 +195,7 @@ cases =
       query = − 2 ∷ − 1 ∷ + 0 ∷ + 2 ∷ + 2 ∷ [];
       tree =
           node (seg 5 (− 2) (+ 5) 20 66 ∷ []) (inner (test 1 5 bySum (+ 3)) 1 2)
-          ∷ node (seg 5 (− 2) (+ 1) 20 66 ∷ []) (inner (test 1 2 byScatter (+ 9)) 3 4)
+          ∷ node (seg 5 (− 2) (+ 1) 20 66 ∷ []) (inner (test 1 2 byScatter (+ 3)) 3 4)
           ∷ node (seg 5 (+ 5) (+ 5) 20 20 ∷ []) (leaf (1 ∷ []))
           ∷ node (seg 2 (− 2) (− 1) 0 1 ∷ seg 5 (+ 1) (+ 3) 6 8 ∷ []) (leaf (2 ∷ 4 ∷ []))
           ∷ node (seg 2 (− 1) (+ 1) 9 9 ∷ seg 5 (− 1) (− 1) 8 26 ∷ []) (leaf (0 ∷ 3 ∷ []))
@@ -213,7 +222,7 @@ cases =
       traces = (+ 2 ∷ + 0 ∷ − 2 ∷ + 1 ∷ []) ∷ (+ 1 ∷ + 0 ∷ − 2 ∷ + 2 ∷ []) ∷ (− 2 ∷ + 2 ∷ + 1 ∷ + 0 ∷ []) ∷ [];
       query = + 0 ∷ + 1 ∷ + 0 ∷ + 1 ∷ [];
       tree =
-          node (seg 4 (+ 1) (+ 1) 35 35 ∷ []) (inner (test 1 2 byScatter (+ 17)) 1 2)
+          node (seg 4 (+ 1) (+ 1) 35 35 ∷ []) (inner (test 1 2 byScatter (+ 5)) 1 2)
           ∷ node (seg 2 (+ 1) (+ 2) 1 4 ∷ seg 4 (− 1) (+ 0) 9 16 ∷ []) (leaf (0 ∷ 1 ∷ []))
           ∷ node (seg 2 (+ 0) (+ 0) 16 16 ∷ seg 4 (+ 1) (+ 1) 1 1 ∷ []) (leaf (2 ∷ []))
           ∷ [];
@@ -292,8 +301,73 @@ cases =
     }
     ∷ []
 
--- ---- the theorem
-
 pub cases-agree : map computed cases ≡ map expected cases
 unfolding everything
 cases-agree = refl
+
+-- ---- without a query: a library, and the tree that the other implementation makes of it
+
+pub record Grown : Type 0 where
+  pub measures : Measures
+  pub traces : List Trace
+  pub tree : Tree
+
+abbrev pub grownCases : List Grown
+grownCases =
+    -- floor-roots-4a: scatters 4, 9 and 0: the middle of the roots parts 0 from 4 and 9, and the candidate wins that was not the winner by scatters
+    record {
+      measures = measures 2 8 2;
+      traces = (+ 0 ∷ + 2 ∷ []) ∷ (+ 1 ∷ − 2 ∷ []) ∷ (− 2 ∷ − 2 ∷ []) ∷ [];
+      tree =
+          node (seg 2 (− 4) (+ 2) 0 9 ∷ []) (inner (test 1 2 byScatter (+ 3)) 1 2)
+          ∷ node (seg 2 (− 4) (− 4) 0 0 ∷ []) (leaf (2 ∷ []))
+          ∷ node (seg 2 (− 1) (+ 2) 4 9 ∷ []) (leaf (0 ∷ 1 ∷ []))
+          ∷ [];
+    }
+    -- floor-roots-4b: unequal scatters with equal floor roots, of the whole segment and of its halves: no candidate parts the leaf, which stays whole
+    ∷ record {
+      measures = measures 5 4 1;
+      traces = (+ 50 ∷ − 50 ∷ + 0 ∷ + 0 ∷ + 3 ∷ []) ∷ (+ 50 ∷ − 50 ∷ − 1 ∷ + 1 ∷ + 3 ∷ []) ∷ [];
+      tree =
+          node (seg 5 (+ 3) (+ 3) 25036 25046 ∷ []) (leaf (0 ∷ 1 ∷ []))
+          ∷ [];
+    }
+    -- floor-roots-4c: T is a sum of roots, the records keep scatters
+    ∷ record {
+      measures = measures 3 8 1;
+      traces = (+ 0 ∷ + 0 ∷ + 0 ∷ []) ∷ (+ 0 ∷ + 1 ∷ − 1 ∷ []) ∷ [];
+      tree =
+          node (seg 3 (+ 0) (+ 0) 0 6 ∷ []) (inner (test 1 3 byScatter (+ 2)) 1 2)
+          ∷ node (seg 3 (+ 0) (+ 0) 0 0 ∷ []) (leaf (0 ∷ []))
+          ∷ node (seg 3 (+ 0) (+ 0) 6 6 ∷ []) (leaf (1 ∷ []))
+          ∷ [];
+    }
+    -- inside-04-11: three tests, the first by scatter: the floor roots of 13,000,000 and 28,000,000 make T
+    ∷ record {
+      measures = measures 14 17 3;
+      traces = (+ 0 ∷ + 0 ∷ + 0 ∷ + 0 ∷ + 0 ∷ + 0 ∷ + 0 ∷ + 0 ∷ + 0 ∷ + 0 ∷ + 0 ∷ + 0 ∷ + 0 ∷ + 1000 ∷ []) ∷ (+ 0 ∷ + 0 ∷ + 0 ∷ + 0 ∷ + 0
+          ∷ + 0 ∷ + 0 ∷ + 0 ∷ + 0 ∷ + 1000 ∷ + 0 ∷ + 0 ∷ + 0 ∷ + 1000 ∷ []) ∷ (+ 0 ∷ + 0 ∷ + 0 ∷ + 0 ∷ + 0 ∷ + 0 ∷ + 0 ∷ + 0 ∷ + 0 ∷ + 0
+          ∷ + 0 ∷ + 1000 ∷ + 0 ∷ − 1000 ∷ []) ∷ (+ 0 ∷ + 0 ∷ + 0 ∷ + 0 ∷ + 0 ∷ + 0 ∷ + 1000 ∷ + 0 ∷ + 0 ∷ + 0 ∷ + 0 ∷ + 0 ∷ + 0 ∷ + 0
+          ∷ []) ∷ (+ 0 ∷ + 1000 ∷ + 0 ∷ + 0 ∷ + 0 ∷ + 0 ∷ + 0 ∷ + 1000 ∷ − 1000 ∷ + 0 ∷ + 0 ∷ + 0 ∷ + 0 ∷ + 0 ∷ []) ∷ (+ 0 ∷ + 1000
+          ∷ + 0 ∷ + 0 ∷ + 0 ∷ + 0 ∷ + 0 ∷ + 0 ∷ + 0 ∷ + 0 ∷ + 0 ∷ − 1000 ∷ + 0 ∷ + 0 ∷ []) ∷ (+ 0 ∷ + 0 ∷ + 0 ∷ − 1000 ∷ + 0 ∷ + 0 ∷ + 0
+          ∷ + 1000 ∷ + 0 ∷ + 0 ∷ + 0 ∷ + 0 ∷ + 0 ∷ + 0 ∷ []) ∷ (+ 0 ∷ + 1000 ∷ + 0 ∷ + 0 ∷ + 0 ∷ + 0 ∷ + 0 ∷ + 0 ∷ + 0 ∷ + 0 ∷ − 1000
+          ∷ + 0 ∷ + 0 ∷ + 0 ∷ []) ∷ (+ 1000 ∷ + 0 ∷ + 0 ∷ + 0 ∷ + 0 ∷ + 0 ∷ + 1000 ∷ + 0 ∷ + 0 ∷ + 0 ∷ + 0 ∷ + 0 ∷ + 0 ∷ + 0 ∷ []) ∷ [];
+      tree =
+          node (seg 14 (+ 0) (+ 2000) 13000000 41000000 ∷ []) (inner (test 1 14 byScatter (+ 8896)) 1 2)
+          ∷ node (seg 14 (+ 1000) (+ 1000) 13000000 13000000 ∷ []) (leaf (0 ∷ 3 ∷ []))
+          ∷ node (seg 14 (+ 0) (+ 2000) 24000000 41000000 ∷ []) (inner (test 8 14 bySum (+ 1000)) 3 4)
+          ∷ node (seg 7 (+ 0) (+ 2000) 0 10000000 ∷ seg 14 (− 1000) (+ 0) 0 14000000 ∷ []) (inner (test 8 14 bySum (− 1000)) 5 6)
+          ∷ node (seg 7 (− 1000) (+ 0) 0 6000000 ∷ seg 14 (+ 1000) (+ 2000) 6000000 10000000 ∷ []) (leaf (1 ∷ 6 ∷ []))
+          ∷ node (seg 7 (+ 1000) (+ 1000) 6000000 6000000 ∷ seg 14 (− 1000) (− 1000) 6000000 6000000 ∷ []) (leaf (5 ∷ 7 ∷ []))
+          ∷ node (seg 7 (+ 0) (+ 2000) 0 10000000 ∷ seg 14 (+ 0) (+ 0) 0 14000000 ∷ []) (leaf (2 ∷ 4 ∷ 8 ∷ []))
+          ∷ [];
+    }
+    ∷ []
+
+pub grown-agree : map (λ (c : Grown). treeOf (c .measures) (c .traces)) grownCases ≡ map (λ (c : Grown). c .tree) grownCases
+unfolding everything
+grown-agree = refl
+
+pub grown-formed : map (λ (c : Grown). wellFormed sampleLimit (c .measures) (length (c .traces)) (c .tree)) grownCases ≡ map (λ (c : Grown). true) grownCases
+unfolding everything
+grown-formed = refl

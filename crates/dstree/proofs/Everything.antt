@@ -6,7 +6,7 @@ use Rattle.segment.specs.Figures.{sum, sumOfSquares, scatter, distance}
 use Rattle.segment.specs.Roots.{fallingFrom, floorRoot, ceilingRoot}
 use Rattle.segment.specs.Terms.{sumGap, scatterGap, boundTerm, spreadTerm}
 use Rattle.segment.specs.Partition.{totalBound}
-use Rattle.segment.specs.Limits.{sumLimit, scatterLimit, largestDistance}
+use Rattle.segment.specs.Limits.{sumLimit, scatterLimit, rootLimit, largestDistance}
 use Rattle.dstree.specs.Measures.{sampleLimit, inRange, samplesNeeded, recordsNeeded, linksNeeded, workNeeded, isTrace, isLibrary}
 use Rattle.dstree.specs.Figures.{samplesOn}
 use Rattle.dstree.specs.Node.{figureOf, goesLeft, totalOver, changeAll}
@@ -42,7 +42,7 @@ unfolding sum sumOfSquares scatter distance fallingFrom floorRoot ceilingRoot su
 figuresOpen = tt
 
 unfoldable figuresOpen2 : Unit {0}
-unfolding scatterLimit largestDistance
+unfolding scatterLimit rootLimit largestDistance
 figuresOpen2 = tt
 
 unfoldable nodesOpen : Unit {0}

@@ -138,8 +138,9 @@ pub record AddingExamples : Type 0 where
   pub left-or-right : map (λ (k : ℕ). goesLeft (test 2 3 bySum (+ 5)) (+ 9 ∷ pos k ∷ + 0 ∷ + 9 ∷ [])) (2 ∷ 3 ∷ []) ≡ true ∷ false ∷ []
   pub just-at-T : map (λ (k : ℕ). goesLeft (test 2 3 bySum (+ 6)) (+ 9 ∷ pos k ∷ + 0 ∷ + 9 ∷ [])) (2 ∷ 3 ∷ 4 ∷ []) ≡ true ∷ true ∷ false ∷ []
   pub below-zero : map (goesLeft (test 1 1 bySum (− 3))) ((− 2 ∷ []) ∷ (− 1 ∷ []) ∷ []) ≡ true ∷ false ∷ []
-  -- .. and by scatter, which is k² here
-  pub by-scatter : map (λ (k : ℕ). goesLeft (test 2 3 byScatter (+ 18)) (+ 9 ∷ pos k ∷ + 0 ∷ + 9 ∷ [])) (3 ∷ 4 ∷ []) ≡ true ∷ false ∷ []
+  -- .. and document 02's floor roots: samples 2 to 4 by scatter, which is 2k² here, 8 and 18: roots 2 and 4
+  pub by-scatter : map (λ (k : ℕ). goesLeft (test 2 4 byScatter (+ 4)) (+ 9 ∷ pos k ∷ + 0 ∷ + 0 ∷ [])) (2 ∷ 3 ∷ []) ≡ true ∷ false ∷ []
+  pub half-rounded-down : map (λ (t : ℕ). goesLeft (test 2 4 byScatter (pos t)) (+ 9 ∷ + 3 ∷ + 0 ∷ + 0 ∷ [])) (7 ∷ 8 ∷ 9 ∷ []) ≡ false ∷ true ∷ true ∷ []
   -- "its first trace makes leaf 0 with one segment"
   pub first-trace : treeOf (measures 4 8 2) (level 9 ∷ []) ≡ node (seg 4 (+ 36) (+ 36) 0 0 ∷ []) (leaf (0 ∷ [])) ∷ []
   -- "Otherwise the trace goes down by the tests"
@@ -160,7 +161,10 @@ pub record AddingExamples : Type 0 where
   pub of-15-segments : length (candidates fifteen) ≡ 90
   pub of-16-segments : length (candidates sixteen) ≡ 32
   -- "T is the least plus the greatest figure among the leaf's traces"
-  pub thresholds : thresholdOf bySum (run 1 4) ABC ∷ thresholdOf byScatter (run 1 4) ABC ∷ thresholdOf bySum (run 1 1) ABC ∷ [] ≡ + 16 ∷ + 256 ∷ + 4 ∷ []
+  pub thresholds : thresholdOf bySum (run 1 4) ABC ∷ thresholdOf bySum (run 1 1) ABC ∷ [] ≡ + 16 ∷ + 4 ∷ []
+  -- .. by scatter "the floor root of the least scatter plus that of the greatest": 0 and 16; 2 and 3, of 4 and 9; 1 and 1, of 2 and 2
+  pub scatter-thresholds : thresholdOf byScatter (run 1 4) ABC ∷ thresholdOf byScatter (run 1 2) ((+ 0 ∷ + 2 ∷ []) ∷ (+ 1 ∷ − 2 ∷ []) ∷ [])
+      ∷ thresholdOf byScatter (run 1 3) ((+ 1 ∷ + 0 ∷ + 0 ∷ []) ∷ (+ 1 ∷ + 1 ∷ + 0 ∷ []) ∷ []) ∷ [] ≡ + 16 ∷ + 5 ∷ + 2 ∷ []
   -- "A candidate parts the leaf if both sides receive a trace": all six do with A, B, C; none with (1,2,1,2) and (2,1,2,1)
   pub parting : map (λ c. parts (splitBy ABC (0 ∷ 1 ∷ 2 ∷ []) c)) (candidates (4 ∷ [])) ≡ replicate 6 true
   pub not-parting : map (λ c. parts (splitBy twins (0 ∷ 1 ∷ []) c)) (candidates (4 ∷ [])) ≡ replicate 6 false
@@ -187,6 +191,7 @@ adding-examples = record {
   just-at-T = refl;
   below-zero = refl;
   by-scatter = refl;
+  half-rounded-down = refl;
   first-trace = refl;
   ways = refl;
   widened = refl;
@@ -200,6 +205,7 @@ adding-examples = record {
   of-15-segments = refl;
   of-16-segments = refl;
   thresholds = refl;
+  scatter-thresholds = refl;
   parting = refl;
   not-parting = refl;
   no-best = refl;
@@ -377,7 +383,7 @@ endingAt ends = node (map (λ end. seg end (+ 0) (+ 0) 0 0) ends) (leaf (0 ∷ 1
 pub record WellFormedExamples : Type 0 where
   -- what adding makes; a tree that somebody altered: the test, the children's order, the ranges, up to their limits; the traces of the leaves; leaves above the leaf size
   pub as-made : fits tree ≡ true
-  pub other-tests : map (λ t. fits (testedBy t)) (test 2 3 bySum (− 131072) ∷ test 4 4 bySum (+ 65536) ∷ test 2 3 byScatter (+ 0) ∷ test 2 3 byScatter (+ 8589934592) ∷ []) ≡ replicate 4 true
+  pub other-tests : map (λ t. fits (testedBy t)) (test 2 3 bySum (− 131072) ∷ test 4 4 bySum (+ 65536) ∷ test 2 3 byScatter (+ 0) ∷ test 2 3 byScatter (+ 131072) ∷ []) ≡ replicate 4 true
   pub other-children : fits (withChildren 2 1) ≡ true
   pub other-ranges : map (λ s. fits (segmentsAt 1 s)) ((seg 2 (+ 9) (+ 9) 0 1 ∷ seg 4 (− 65536) (+ 65536) 7 7 ∷ []) ∷ (seg 4 (− 131072) (− 131072) 0 17179869184 ∷ []) ∷ []) ≡ true ∷ true ∷ []
   pub other-leaves : map fits (withLeaves (1 ∷ []) (0 ∷ 2 ∷ []) ∷ withLeaves (0 ∷ 1 ∷ []) (2 ∷ []) ∷ []) ≡ true ∷ true ∷ []
@@ -415,7 +421,7 @@ pub record WellFormedExamples : Type 0 where
   -- "sums within w × 32,768 either side of 0, scatters 0 to w² × 2^30"
   pub past-limits : map (λ s. fits (segmentsAt 1 (s ∷ []))) (seg 4 (− 131073) (+ 0) 0 0 ∷ seg 4 (+ 0) (+ 131073) 0 0 ∷ seg 4 (+ 0) (+ 0) 0 17179869185 ∷ []) ≡ replicate 3 false
   -- "T between twice those limits"
-  pub thresholds-refused : map (λ t. fits (testedBy t)) (test 4 4 bySum (+ 65537) ∷ test 4 4 bySum (− 65537) ∷ test 4 4 byScatter (− 1) ∷ test 4 4 byScatter (+ 2147483649) ∷ []) ≡ replicate 4 false
+  pub thresholds-refused : map (λ t. fits (testedBy t)) (test 4 4 bySum (+ 65537) ∷ test 4 4 bySum (− 65537) ∷ test 4 4 byScatter (− 1) ∷ test 4 4 byScatter (+ 65537) ∷ []) ≡ replicate 4 false
   -- "on a run inside 1 to n": from 0, to 5, none
   pub runs-refused : map (λ t. fits (testedBy t)) (test 0 4 bySum (+ 0) ∷ test 1 5 bySum (+ 0) ∷ test 3 2 bySum (+ 0) ∷ []) ≡ replicate 3 false
 

@@ -17,7 +17,7 @@ use Rattle.integer.proofs.Tests.{Each, passed, passes, eq→eqb}
 use Rattle.integer.proofs.Order.{natAbs-le, le-natAbs}
 use Rattle.integer.proofs.Lists.{In, first, later, is-in, in-is, in-nil, every-of, from-every, in-counting, from-counting, Up, u-none, u-more, InFlat, flat, from-flat, in-flat, in-getD}
 use Rattle.integer.proofs.Times.{times-same, times-other, times-none, times-in, up-once, OnceAt, once-at, times-once, place-of}
-use Rattle.segment.specs.Limits.{sumLimit, scatterLimit}
+use Rattle.segment.specs.Limits.{sumLimit, scatterLimit, rootLimit}
 use Rattle.dstree.specs.Measures.{Measures, inRange}
 use Rattle.dstree.specs.Figures.{run, width}
 use Rattle.dstree.specs.Node.{Segment, Figure, bySum, byScatter, Test, Kind, leaf, inner, Node, node, Tree, nodeAt, ends}
@@ -211,12 +211,12 @@ of-all-limited {limit} (l-more {from} {s} {rest} h a) =
 between-of : (limit : ℕ) (figure : Figure) (w : ℕ) (t : ℤ) → T (thresholdFits limit figure w t) → Between limit figure w t
 unfolding thresholdFits
 between-of limit bySum w t h = within-of (2 * sumLimit limit w) t h
-between-of limit byScatter w t h = let p = and-yes (leZ (pos 0) t) (leZ t (pos (2 * scatterLimit limit w))) h in (leZ-yes (p .0), leZ-yes (p .1))
+between-of limit byScatter w t h = let p = and-yes (leZ (pos 0) t) (leZ t (pos (2 * rootLimit limit w))) h in (leZ-yes (p .0), leZ-yes (p .1))
 
 of-between : (limit : ℕ) (figure : Figure) (w : ℕ) (t : ℤ) → Between limit figure w t → T (thresholdFits limit figure w t)
 unfolding thresholdFits
 of-between limit bySum w t h = of-within (2 * sumLimit limit w) t h
-of-between limit byScatter w t h = yes-and (leZ (pos 0) t) (leZ t (pos (2 * scatterLimit limit w))) (h .0 .le) (h .1 .le)
+of-between limit byScatter w t h = yes-and (leZ (pos 0) t) (leZ t (pos (2 * rootLimit limit w))) (h .0 .le) (h .1 .le)
 
 module _ (limit n : ℕ) (test : Test) where
   abbrev testTests : List Bool

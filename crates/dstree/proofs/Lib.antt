@@ -10,6 +10,7 @@ pub mod Exercises
 pub mod BookExamples
 pub mod Parting
 pub mod Looking
+pub mod Deviations
 pub mod Formed
 pub mod Nodes
 pub mod Ranges

@@ -1,6 +1,6 @@
 -- Every figure that a tree records is within document 01's limits, for any sample limit, and joining and splitting keep it so, whoever made the tree.
 -- The idea: a trace's own figures are within the limits; a widened record takes figures that it has or the trace's, a new leaf's those of stored traces,
--- and a new threshold is the sum of two such figures, within twice the limits.
+-- and a new threshold is the sum of two such sums, or of two roots of such scatters, within twice the limits.
 use Prim.Native.Nat.{ℕ, _-_, _≤_, _<_}
 use mathlib.Core.Path.{_≡_, sym, subst}
 use mathlib.Core.Logic.{_⊎_, inl, inr}
@@ -15,7 +15,9 @@ use Rattle.integer.specs.Words.{every}
 use Rattle.integer.proofs.Tests.{passed}
 use Rattle.integer.proofs.Order.{≤ℤ-trans, natAbs-add, pos-mono, nat}
 use Rattle.integer.proofs.Lists.{In, in-is, is-in, in-getD, from-every, lesser-left, greater-left, lesser-either, greater-either, set-cases}
-use Rattle.segment.specs.Limits.{Within, sumLimit, scatterLimit}
+use Rattle.segment.specs.Roots.{floorRoot}
+use Rattle.segment.specs.Limits.{Within, sumLimit, scatterLimit, rootLimit}
+use Rattle.segment.proofs.Newton.{floor-bound}
 use Rattle.segment.proofs.Limits.{within-take, within-drop, sum-limit, scatter-limit}
 use Rattle.dstree.specs.Measures.{Trace, isTrace}
 use Rattle.dstree.specs.Figures.{Run, run, width, samplesOn, sumOn, scatterOn}
@@ -115,6 +117,10 @@ module _ (limit n : ℕ) (stored : List Trace) (each : (t : ℕ) → t < length 
     scatter-of : (on : Run) → RunIn n on → (t : ℕ) → P t → scatterOn on (getD stored t []) ≤ scatterLimit limit (width on)
     scatter-of on r t p = scatter-in limit n (getD stored t []) (each t (number t p)) on r
 
+    root-of : (on : Run) → RunIn n on → (t : ℕ) → P t → floorRoot (scatterOn on (getD stored t [])) ≤ rootLimit limit (width on)
+    unfolding scatterLimit rootLimit
+    root-of on r t p = floor-bound (omega (arith, scatter-of on r t p))
+
     limited : (on : Run) → RunIn n on → (s : Segment) → ExactOn stored P on s → Limited limit (width on) s
     limited on r s e = record {
       sums = rw (e .greatest-sum .has) (e .least-sum .none-beyond (e .greatest-sum .trace) (e .greatest-sum .is-one));
@@ -134,7 +140,7 @@ module _ (limit n : ℕ) (stored : List Trace) (each : (t : ℕ) → t < length 
     unfolding figureOf
     between bySum on r t u h k = omega
         (arith, natAbs-add (sumOn on (getD stored t [])) (sumOn on (getD stored u [])), sum-of on r t h, sum-of on r u k)
-    between byScatter on r t u h k = (nat _, pos-mono (omega (arith, scatter-of on r t h, scatter-of on r u k)))
+    between byScatter on r t u h k = (nat _, pos-mono (omega (arith, root-of on r t h, root-of on r u k)))
 
   pub leaf-limited : (es numbers : List ℕ) → Fits n es → 0 < length numbers → ((t : ℕ) → In t numbers → t < length stored)
       → AllLimited limit 1 (newLeaf stored es numbers .segments)

@@ -127,7 +127,8 @@ spreadOn on s = spreadTerm (width on) (s .leastSum) (s .greatestSum) (s .greates
 unfoldable pub spread : List ℕ → List Trace → ℕ
 spread ends traces = totalOver spreadOn 1 (segmentsOf ends traces)
 
--- "T is the least plus the greatest figure among the leaf's traces"
+-- "T is the least plus the greatest figure among the leaf's traces"; by scatter, document 02 §4, "T is the floor root of the least scatter plus that of
+-- the greatest", which is the same, as roots keep the order (`Claims`, `Deviations`). It replaces the least plus the greatest scatter
 unfoldable pub thresholdOf : Figure → Run → List Trace → ℤ
 thresholdOf figure on traces = leastℤ (map (figureOf figure on) traces) +ℤ greatestℤ (map (figureOf figure on) traces)
 

@@ -1,19 +1,20 @@
 -- What is claimed of the tree that insertion makes of a list of traces, as statements: the laws behind document 01's sections "A node's record",
 -- "Adding", "Matching", "Well-formed tables" and "Demand 3, over a list of calls". `proofs/Laws` proves them for every library.
-use Prim.Native.Nat.{ℕ, suc, _*_, _-_, _≤_, _<_}
+use Prim.Native.Nat.{ℕ, suc, _+_, _*_, _-_, _≤_, _<_}
 use mathlib.Core.Path.{_≡_}
 use mathlib.Core.Bool.{Bool, true, false, not}
 use mathlib.Core.Option.{some}
 use mathlib.Core.List.{List, [], _∷_, _++_, map, flatten}
 use lib.ListN.{length, getD, take}
-use lib.IntN.{ℤ}
+use lib.IntN.{ℤ, pos}
 use lib.Signed.{_≤ℤ_, ltZ, leZ}
-use lib.Dec.{T}
-use Rattle.integer.specs.Words.{leastℤ, greatestℤ, every, isEmpty, isIn, lastOf}
+use lib.Dec.{T, eqb}
+use Rattle.integer.specs.Words.{leastℤ, greatestℤ, least, greatest, every, isEmpty, isIn, lastOf}
 use Rattle.segment.specs.Figures.{distance}
+use Rattle.segment.specs.Roots.{floorRoot}
 use Rattle.dstree.specs.Measures.{Trace, Measures}
 use Rattle.dstree.specs.Figures.{Run, run, sumOn, scatterOn}
-use Rattle.dstree.specs.Node.{Segment, Test, leaf, inner, Tree, nodeAt, ends, figureOf}
+use Rattle.dstree.specs.Node.{Segment, byScatter, Test, leaf, inner, Tree, nodeAt, ends, figureOf, goesLeft}
 use Rattle.dstree.specs.Adding.{way, tracesOf, Candidate, candidates, testOf, Split, splitBy, parts, bestOf, insertion}
 use Rattle.dstree.specs.Adding.{goesBy, showSides, fewestFirst}
 use Rattle.dstree.specs.Matching.{hasChild, bound, numbersIn, leaves, searched, matchBySteps, leastDistance, matchOf}
@@ -88,6 +89,24 @@ pub record TakenOf (goes : ℕ → Bool) (numbers : List ℕ) : Type 0 where
   pub at-most : fewestFirst goes numbers ≤ length numbers
   pub one : 0 < length numbers → 1 ≤ fewestFirst goes numbers
   pub two : showSides goes numbers ≡ true → 2 ≤ fewestFirst goes numbers
+
+-- Document 02 §4, of a candidate by scatter, over the traces of some numbers
+pub record ByDeviation (stored : List Trace) (numbers : List ℕ) (c : Candidate) (scatters : List ℕ) : Type 0 where
+  -- "T is the floor root of the least scatter plus that of the greatest"
+  pub threshold-is : splitBy stored numbers c .test .threshold ≡ pos (floorRoot (least scatters) + floorRoot (greatest scatters))
+  -- "Scatters with equal floor roots are then not parted": it parts exactly if the least's and the greatest's differ
+  pub parts-is : parts (splitBy stored numbers c) ≡ not (eqb (floorRoot (least scatters)) (floorRoot (greatest scatters)))
+  -- .. and any two traces with equal roots go to the same side
+  pub equal-roots : (x y : Trace) → floorRoot (scatterOn (c .on) x) ≡ floorRoot (scatterOn (c .on) y)
+      → goesLeft (splitBy stored numbers c .test) x ≡ goesLeft (splitBy stored numbers c .test) y
+  -- the least always goes left, the greatest right if it parts
+  pub least-left : (x : Trace) → scatterOn (c .on) x ≡ least scatters → goesLeft (splitBy stored numbers c .test) x ≡ true
+  pub greatest-right : (x : Trace) → scatterOn (c .on) x ≡ greatest scatters
+      → goesLeft (splitBy stored numbers c .test) x ≡ not (parts (splitBy stored numbers c))
+
+abbrev pub Deviations : Type 0
+Deviations = (stored : List Trace) (numbers : List ℕ) (c : Candidate) → c .figure ≡ byScatter
+    → ByDeviation stored numbers c (map (scatterOn (c .on)) (tracesOf stored numbers))
 
 -- "Among the candidates that part the leaf the greatest gain wins, the earliest among equals": what stands before the winner has less gain, what
 -- stands behind it no more

@@ -10,7 +10,7 @@ use lib.Signed.{_≤ℤ_}
 use lib.Dec.{T}
 use Rattle.integer.specs.Words.{isIn}
 use Rattle.integer.specs.Lists.{In, Up}
-use Rattle.segment.specs.Limits.{sumLimit, scatterLimit}
+use Rattle.segment.specs.Limits.{sumLimit, scatterLimit, rootLimit}
 use Rattle.dstree.specs.Measures.{Measures, inRange}
 use Rattle.dstree.specs.Figures.{Run, run, width}
 use Rattle.dstree.specs.Node.{Segment, Figure, bySum, byScatter, Test, leaf, inner, Tree, nodeAt, ends}
@@ -95,10 +95,10 @@ pub data AllLimited (limit : ℕ) : ℕ → List Segment → Type 0 where
   l-more : {from : ℕ} {s : Segment} {rest : List Segment} → Limited limit (width (run from (s .end))) s
       → AllLimited limit (suc (s .end)) rest → AllLimited limit from (s ∷ rest)
 
--- "T between twice those limits", on a run that is w wide
+-- "T between twice those limits", on a run that is w wide; by scatter, document 02 §4, "2 × w × 32,768"
 abbrev pub Between : ℕ → Figure → ℕ → ℤ → Type 0
 Between limit bySum w t = natAbs t ≤ 2 * sumLimit limit w
-Between limit byScatter w t = (pos 0 ≤ℤ t) × (t ≤ℤ pos (2 * scatterLimit limit w))
+Between limit byScatter w t = (pos 0 ≤ℤ t) × (t ≤ℤ pos (2 * rootLimit limit w))
 
 pub record TestIn (limit n : ℕ) (test : Test) : Type 0 where
   -- "on a run inside 1 to n"

@@ -7,7 +7,7 @@ use lib.IntN.{ℤ, pos, negℤ}
 use lib.Signed.{leZ}
 use lib.Dec.{leb, ltb, eqb}
 use Rattle.integer.specs.Words.{every, counting, isEmpty, isIn, timesIn, lastOf}
-use Rattle.segment.specs.Limits.{sumLimit, scatterLimit}
+use Rattle.segment.specs.Limits.{sumLimit, scatterLimit, rootLimit}
 use Rattle.dstree.specs.Measures.{Measures, inRange}
 use Rattle.dstree.specs.Figures.{run, width}
 use Rattle.dstree.specs.Node.{Segment, Figure, bySum, byScatter, Kind, leaf, inner, Node, Tree, nodeAt, ends}
@@ -77,10 +77,11 @@ unfoldable pub segmentsFit : ℕ → ℕ → List Segment → Bool
 segmentsFit limit first [] = true
 segmentsFit limit first (s ∷ rest) = segmentFits limit (width (run first (s .end))) s && segmentsFit limit (suc (s .end)) rest
 
--- "T between twice those limits"
+-- "T between twice those limits"; by scatter, document 02 §4, "T's limit among the well-formed rules becomes 2 × w × 32,768", in place of twice
+-- that of scatters
 unfoldable pub thresholdFits : ℕ → Figure → ℕ → ℤ → Bool
 thresholdFits limit bySum w t = withinℤ (2 * sumLimit limit w) t
-thresholdFits limit byScatter w t = leZ (pos 0) t && leZ t (pos (2 * scatterLimit limit w))
+thresholdFits limit byScatter w t = leZ (pos 0) t && leZ t (pos (2 * rootLimit limit w))
 
 -- ".. on a run inside 1 to n"
 unfoldable pub testFits : ℕ → ℕ → Kind → Bool

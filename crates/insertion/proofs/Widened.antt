@@ -8,6 +8,7 @@ use lib.IntN.{ℤ, pos}
 use lib.ListN.{length, getD, set, take, drop, length-append, length-drop, take-append-drop}
 use lib.Seq.{sets-eq, getD-set-other, set-getD, take-at, drop-at, drop-drop, getD-append-add, getD-drop, length-take-le}
 use Rattle.integer.specs.Words.{counting, lesser, greater}
+use Rattle.integer.proofs.Lists.{lesser-pos, greater-pos}
 use Rattle.dstree.specs.Measures.{Trace}
 use Rattle.dstree.specs.Figures.{Run, run, sumOn, scatterOn}
 use Rattle.dstree.specs.Node.{Segment, changeAll}
@@ -15,7 +16,7 @@ use Rattle.dstree.specs.Adding.{widenSegment}
 use Rattle.tables.specs.Layout.{segmentsPlace, headPlaces, segmentPlaces, segmentAt, recordPlaces}
 use Rattle.tables.specs.View.{smallOf, scatterIn, placeOf, smallAt, segmentIn, segmentsIn}
 use Rattle.tables.specs.Runs.{Inside}
-use Rattle.tables.proofs.Small.{small-back, scatter-back, lesser-pos, greater-pos}
+use Rattle.tables.proofs.Small.{small-back, scatter-back}
 use Rattle.insertion_memory.specs.Records.{segmentFields, fieldsOf, widenRecord}
 use Rattle.insertion.specs.Widening.{rangeWith, withSegment, endIn, startIn, SegmentReadable}
 

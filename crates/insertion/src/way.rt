@@ -12,6 +12,7 @@ use tables::records::record_end;
 use tables::records::record_start;
 use tables::records::small_at;
 use tables::records::value_at;
+use tables::runs::is_left;
 ghost use mathlib.Core.Path.{_≡_};
 ghost use Prim.Native.Nat.{_≤_};
 ghost use lib.ListN.{length};
@@ -30,8 +31,9 @@ pub fn goes_left(record: &[i64], trace: &[i16], sums: &[i64; 257], squares: &[u6
     let by_scatter = small_at(record, KIND) == 2;
     let first = small_at(record, RUN_FIRST);
     let last = small_at(record, RUN_LAST);
-    let figure = prefixes::figure_on(trace, sums, squares, first, last, by_scatter);
-    2 * figure <= value_at(record, THRESHOLD)
+    let own = prefixes::figures_on(trace, sums, squares, first, last);
+    let threshold = value_at(record, THRESHOLD);
+    is_left(own.sum, own.scatter, by_scatter, threshold)
 }
 
 // One of two numbers, by a test.

@@ -12,9 +12,9 @@ use lib.ListN.{length, getD, set, take, drop, replicate}
 use lib.Seq.{drop-drop}
 use lib.IntN.{ℤ, pos}
 use lib.Signed.{ltZ, ≤ℤ-refl, ltZ-yes, ltZ-no}
-use lib.Dec.{T, eqb, eqb-refl}
+use lib.Dec.{T, ltb, eqb, eqb-refl}
 use mir.Facts.{and-yes, yes-and}
-use borrow.Author.Tests.{eqb-true, eqb-false}
+use borrow.Author.Tests.{ltb-true, ltb-false, eqb-true, eqb-false}
 use Rattle.integer.specs.Words.{if_then_else_, lesser, greater, those, every, counting, chosen, isEmpty, isIn, least, greatest, leastℤ, greatestℤ, lastOf}
 pub use Rattle.integer.specs.Lists.{In, first, later, All, all-none, all-more, Up, u-none, u-more}
 use Rattle.integer.proofs.Tests.{is-true, is-false}
@@ -473,6 +473,21 @@ max-either a b = by (decLe a b)
     by : Dec (a ≤ b) → (max a b ≡ a) ⊎ (max a b ≡ b)
     by (yes h) = inr (omega arith)
     by (no f) = inl (omega (arith, lt-of-not-le f))
+
+-- .. of two that are not below zero
+pub lesser-pos : (a b : ℕ) → lesser (pos a) (pos b) ≡ pos (min a b)
+lesser-pos a b = by (ltb b a) refl
+  where
+    by : (t : Bool) → ltb b a ≡ t → (if t then pos b else pos a) ≡ pos (min a b)
+    by true e = ap pos (omega (arith, ltb-true b a e))
+    by false e = ap pos (omega (arith, ltb-false b a e))
+
+pub greater-pos : (a b : ℕ) → greater (pos a) (pos b) ≡ pos (max a b)
+greater-pos a b = by (ltb a b) refl
+  where
+    by : (t : Bool) → ltb a b ≡ t → (if t then pos b else pos a) ≡ pos (max a b)
+    by true e = ap pos (omega (arith, ltb-true a b e))
+    by false e = ap pos (omega (arith, ltb-false a b e))
 
 -- the least and the greatest: no element is beyond
 pub leastℤ-low : {b : ℤ} {l : List ℤ} → In b l → leastℤ l ≤ℤ b

@@ -8,8 +8,7 @@ ghost use Rattle.integer.specs.Words.{square};
 ghost use Rattle.segment.specs.Limits.{sumLimit, scatterLimit, totalRoom};
 ghost use Rattle.dstree.specs.Measures.{sampleLimit};
 ghost use Rattle.dstree.specs.Figures.{run, width, sumOn, scatterOn};
-ghost use Rattle.dstree.specs.Node.{figureOf};
-ghost use Rattle.tables.specs.Runs.{figureBy, Inside};
+ghost use Rattle.tables.specs.Runs.{Inside};
 ghost use Rattle.prefixes.specs.Prefixes.{Prefixes};
 
 // A sum and one sample more.
@@ -65,21 +64,4 @@ pub fn figures_on(
         sum,
         scatter: segment::figures::scatter_from(w, sum, total),
     }
-}
-
-// The one or the other, as a number with a sign, as records hold it.
-pub fn figure_on(
-    trace: &[i16],
-    sums: &[i64; 257],
-    squares: &[u64; 257],
-    first: usize,
-    last: usize,
-    by_scatter: bool,
-) -> i64
-    requires { ⌜ Prefixes (now trace) (now sums) (now squares) × Inside (length (now trace)) first last ⌝ }
-    ensures { λ r. ⌜ r ≡ figureOf (figureBy «by_scatter») (run first last) (now (trace .entry)) ⌝ }
-    ensures size { λ r. ⌜ natAbs r ≤ scatterLimit sampleLimit 256 ⌝ }
-{
-    let f = figures_on(trace, sums, squares, first, last);
-    if by_scatter { f.scatter as i64 } else { f.sum }
 }

@@ -11,7 +11,7 @@ use lib.Dec.{T, leb, leb→le, le→leb}
 use mir.Facts.{and-yes, yes-and}
 use Rattle.integer.proofs.Tests.{is-true, joined, passed, passes, test-true, test-false}
 use Rattle.integer.proofs.Order.{≤ℤ→, →≤ℤ, ≤ℤ-trans, up, down, sum-parts, neg-parts}
-use Rattle.segment.specs.Limits.{sumLimit, scatterLimit}
+use Rattle.segment.specs.Limits.{sumLimit, scatterLimit, rootLimit}
 use Rattle.dstree.specs.Measures.{sampleLimit}
 use Rattle.dstree.specs.Node.{bySum, byScatter}
 use Rattle.dstree.specs.WellFormed.{withinℤ, segmentFits, thresholdFits}
@@ -136,6 +136,6 @@ sum-threshold w t = either-way (leZ (negℤ (pos (2 * (w * 32768)))) t) (leZ t (
     either-way false true = refl
     either-way false false = refl
 
-pub scatter-threshold : (w : ℕ) (t : ℤ) → thresholdFits sampleLimit byScatter w t ≡ leZ (pos 0) t && leZ t (pos (2 * ((w * 32768) * (w * 32768))))
-unfolding thresholdFits scatterLimit sampleLimit
-scatter-threshold w t = let e : 2 * (w * w * (32768 * 32768)) ≡ 2 * ((w * 32768) * (w * 32768)) = omega arith in rw e
+pub scatter-threshold : (w : ℕ) (t : ℤ) → thresholdFits sampleLimit byScatter w t ≡ leZ (pos 0) t && leZ t (pos (2 * (w * 32768)))
+unfolding thresholdFits rootLimit sampleLimit
+scatter-threshold w t = refl

@@ -75,7 +75,8 @@ pub fn figures_fit(
     not_above(limit * limit, greatest_scatter)
 }
 
-// A threshold on a run of w samples, by the kind of its node: twice the limits, either side of 0 for a sum, from 0 for a scatter.
+// A threshold on a run of w samples, by the kind of its node: up to twice the limit of a sum, which is that of a scatter's root too; either side of
+// 0 by sum, from 0 by scatter.
 pub fn threshold_fits(kind: usize, w: u64, threshold: i64) -> bool
     requires { ⌜ w ≤ 256 ⌝ }
     ensures { λ r. ⌜ r ≡ thresholdFits sampleLimit (figureNamed kind) w threshold ⌝ }
@@ -90,5 +91,5 @@ pub fn threshold_fits(kind: usize, w: u64, threshold: i64) -> bool
     if !in_order(0, threshold) {
         return false;
     }
-    not_above(2 * (limit * limit), threshold)
+    not_above(2 * limit, threshold)
 }

@@ -1,15 +1,16 @@
--- The two roots: the definitions' roots are the largest and the least that document 01 asks for, and no other number is.
+-- The two roots: the definitions' roots are the largest and the least that document 01 asks for, and no other number is; and document 02's test of
+-- twice a floor root, by squares.
 -- The idea is Newton's: the mean of an estimate and v / estimate is never below the root (twice a product is at most the two squares),
 -- and an estimate that does not fall is not above it. So the last of the falling estimates is the floor root, whatever the first was.
 use mathlib.Core.Path.{_≡_, refl}
 use mathlib.Core.Bool.{Bool, true, false}
 use mathlib.Core.List.{[], _∷_}
-use Prim.Native.Nat.{ℕ, zero, suc, _+_, _*_, _/_, _%_, _^_, _≤_, _<_}
+use Prim.Native.Nat.{ℕ, zero, suc, _+_, _*_, _/_, _%_, _^_, _≤_, _<_, min, max}
 use native.Mathlib.Nat.{mul-le-mul, mul-le-mul-right, div-add-mod', mod-lt, div-lt-iff-lt-mul}
 use native.Mathlib.Decide.{decLe}
 use native.Mathlib.Omega.{arith}
-use borrow.Author.Tests.{ltb-true, ltb-false, eqb-true, eqb-false}
-use lib.Dec.{ltb, eqb}
+use borrow.Author.Tests.{ltb-true, ltb-false, eqb-true, eqb-false, lt-ltb, le-ltb, lt-leb, le-leb}
+use lib.Dec.{ltb, leb, eqb}
 use lib.IntN.{pos, _-ℤ_}
 use Rattle.integer.specs.Words.{if_then_else_}
 use Rattle.integer.proofs.Order.{sq}
@@ -104,6 +105,37 @@ floor-is {v} e = rw e (floor-root v)
 -- a bound of the floor root from one of v: v ≤ 2 ^ 54 has a root of at most 2 ^ 27
 pub floor-bound : {v k : ℕ} → v ≤ k * k → floorRoot v ≤ k
 floor-bound {v} {k} h = square-le (omega (arith, floor-root v .square-at-most))
+
+-- the floor root keeps the order, so that the root of the lesser of two is the lesser root, and of the greater the greater
+pub floor-mono : {a b : ℕ} → a ≤ b → floorRoot a ≤ floorRoot b
+floor-mono {a} {b} h = floor-root b .is-largest (floorRoot a) (omega (arith, floor-root a .square-at-most))
+
+pub floor-min : (a b : ℕ) → min (floorRoot a) (floorRoot b) ≡ floorRoot (min a b)
+floor-min a b = by (decLe a b)
+  where
+    by : Dec (a ≤ b) → min (floorRoot a) (floorRoot b) ≡ floorRoot (min a b)
+    by (yes h) = let e : min a b ≡ a = omega arith in rw e (omega (arith, floor-mono h))
+    by (no f) = let h : b ≤ a = omega arith in let e : min a b ≡ b = omega arith in rw e (omega (arith, floor-mono h))
+
+pub floor-max : (a b : ℕ) → max (floorRoot a) (floorRoot b) ≡ floorRoot (max a b)
+floor-max a b = by (decLe a b)
+  where
+    by : Dec (a ≤ b) → max (floorRoot a) (floorRoot b) ≡ floorRoot (max a b)
+    by (yes h) = let e : max a b ≡ b = omega arith in rw e (omega (arith, floor-mono h))
+    by (no f) = let h : b ≤ a = omega arith in let e : max a b ≡ a = omega arith in rw e (omega (arith, floor-mono h))
+
+-- ---- twice a floor root against a threshold, without the root: twice the floor root of v is at most t exactly if v is below the square of
+-- t / 2, rounded down, and one
+pub twice-floor : (v t : ℕ) → leb (2 * floorRoot v) t ≡ ltb v ((t / 2 + 1) * (t / 2 + 1))
+twice-floor v t = by (decLe (t / 2 + 1) (floorRoot v))
+  where
+    by : Dec (t / 2 + 1 ≤ floorRoot v) → leb (2 * floorRoot v) t ≡ ltb v ((t / 2 + 1) * (t / 2 + 1))
+    by (yes h) = rw (lt-leb (2 * floorRoot v) t (omega arith), le-ltb v ((t / 2 + 1) * (t / 2 + 1)) (omega (arith, mul-le-mul h h, floor-root v .square-at-most)))
+    by (no f) = rw (le-leb (2 * floorRoot v) t (omega arith), lt-ltb v ((t / 2 + 1) * (t / 2 + 1)) (below (decLe ((t / 2 + 1) * (t / 2 + 1)) v)))
+      where
+        below : Dec ((t / 2 + 1) * (t / 2 + 1) ≤ v) → v < (t / 2 + 1) * (t / 2 + 1)
+        below (yes k) = absurd (f (floor-root v .is-largest (t / 2 + 1) k))
+        below (no g) = omega arith
 
 -- ---- the ceiling root: the floor root of a square, and one more than it otherwise
 module _ {v r : ℕ} (h : IsFloorRoot v r) where

@@ -23,6 +23,10 @@ sumLimit limit w = w * limit
 unfoldable pub scatterLimit : ℕ → ℕ → ℕ
 scatterLimit limit w = w * w * (limit * limit)
 
+-- the floor root of such a scatter is at most this; document 02 §4: "T's limit among the well-formed rules becomes 2 × w × 32,768", twice it
+unfoldable pub rootLimit : ℕ → ℕ → ℕ
+rootLimit limit w = w * limit
+
 -- ---- what code counts on, of w samples of 16 bits: these compute, so that they are numbers wherever they stand
 
 -- the size of a sum

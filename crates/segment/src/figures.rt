@@ -77,7 +77,8 @@ pub struct Figures {
     pub scatter: u64,
 }
 
-// A segment's sum and scatter. There is a loop for each total: of one loop with totals of two widths the compiler makes no vector code.
+// A segment's sum and scatter. The squared deviation times w, and the variance, do not meet this: the scatter has the factor w twice. There is a
+// loop for each total: of one loop with totals of two widths the compiler makes no vector code.
 pub fn figures_of(samples: &[i16]) -> Figures
     requires { do ⌜ (← ⟦samples.len()⟧) ≤ 256 ⌝ }
     ensures sum { λ r. ⌜ (r .sum ≡ figure.sum (now (samples .entry))) × (natAbs (r .sum) ≤ sumMost (length (now (samples .entry)))) ⌝ }
@@ -91,15 +92,6 @@ pub fn figures_of(samples: &[i16]) -> Figures
         sum,
         scatter: scatter_from(w, sum, squares),
     }
-}
-
-// A segment's scatter. The squared deviation times w, and the variance, do not meet this: the scatter has the factor w twice.
-pub fn scatter(samples: &[i16]) -> u64
-    requires { do ⌜ (← ⟦samples.len()⟧) ≤ 256 ⌝ }
-    ensures { λ r. ⌜ r ≡ figure.scatter (now (samples .entry)) ⌝ }
-    ensures size { λ r. ⌜ r ≤ scatterMost (length (now (samples .entry))) ⌝ }
-{
-    figures_of(samples).scatter
 }
 
 // The square of the difference of two samples, taken at 32 bits, which hold it, and widened only then: at 64 bits there is no product

@@ -1,6 +1,8 @@
 // The roots of a scatter, in whole numbers.
 ghost use mathlib.Core.Path.{_≡_};
 ghost use Prim.Native.Nat.{_+_, _*_, _^_, _<_};
+ghost use lib.IntN.{pos, _*ℤ_};
+ghost use lib.Signed.{leZ};
 ghost use Rattle.segment.specs.Roots.{floorRoot, ceilingRoot};
 
 // The estimate that follows 2 ^ s, where s is half of v's length in bits: a shift does the division. As every estimate that follows
@@ -38,4 +40,19 @@ pub fn ceiling_root(v: u64) -> u64
 {
     let r = floor_root(v);
     if r * r == v { r } else { r + 1 }
+}
+
+// Whether twice the floor root of v is at most t. No root is taken: it is so exactly if v is below the square of t / 2, rounded down, and one.
+// Half of t rounded up does not meet this, nor does a square that is too large for its type: from 2 ^ 32 on every v is below it.
+pub fn twice_root_within(v: u64, t: i64) -> bool
+    ensures { λ r. ⌜ r ≡ leZ (pos 2 *ℤ pos (floorRoot v)) t ⌝ }
+{
+    if t < 0 {
+        return false;
+    }
+    let beyond = (t as u64) / 2 + 1;
+    if 4294967296 <= beyond {
+        return true;
+    }
+    v < beyond * beyond
 }

@@ -10,8 +10,11 @@ ghost use mathlib.Core.Path.{_≡_};
 ghost use mathlib.Core.Bool.{true, false};
 ghost use mathlib.Core.List.{_∷_, [], _++_};
 ghost use Prim.Native.Nat.{ℕ, _≤_, _<_};
+ghost use lib.IntN.{pos, natAbs};
 ghost use lib.ListN.{length, take};
 ghost use Rattle.integer.specs.Lists.{In};
+ghost use Rattle.segment.specs.Roots.{floorRoot};
+ghost use Rattle.segment.specs.Limits.{scatterMost};
 ghost use Rattle.dstree.specs.Figures.{run};
 ghost use Rattle.dstree.specs.Adding.{tracesOf, byEither, halves, cutAt, best};
 ghost use Rattle.dstree.specs.Formed.{Rises};
@@ -153,14 +156,22 @@ fn trial_of(first: usize, last: usize, by_scatter: bool, cut: usize, column: usi
     }
 }
 
-// What a run tried by sum leaves: the best so far, and the least and greatest scatter on the run, by which it is tried next.
+// What a run tried by sum leaves: the best so far, and the floor roots of the least and the greatest scatter on the run, by which it is tried next.
 struct BySum {
     best: Choice,
     low: i64,
     high: i64,
 }
 
-// A run tried by sum. The least and greatest of both figures are taken at once.
+// A scatter's floor root, as a figure that a test compares.
+fn root_of(scatter: u64) -> i64
+    requires { ⌜ scatter ≤ scatterMost 256 ⌝ }
+    ensures { λ r. ⌜ (r ≡ pos (floorRoot scatter)) × (natAbs r ≤ scatterMost 256) ⌝ }
+{
+    segment::roots::floor_root(scatter) as i64
+}
+
+// A run tried by sum. The least and greatest of both figures are taken at once, and two roots a run.
 fn try_sum(
     samples: &[i16],
     n: usize,
@@ -222,8 +233,8 @@ fn try_sum(
     );
     BySum {
         best,
-        low: f.least_scatter as i64,
-        high: f.greatest_scatter as i64,
+        low: root_of(f.least_scatter),
+        high: root_of(f.greatest_scatter),
     }
 }
 

@@ -4,6 +4,7 @@ use crate::choice::Trial;
 use leaf_figures::rows::column_of;
 use leaf_figures::rows::figures_at;
 use tables::numbers::wide;
+use tables::runs::is_left;
 ghost use mathlib.Core.Path.{_≡_};
 ghost use Prim.Native.Nat.{suc, _+_, _*_, _≤_, _<_};
 ghost use lib.ListN.{length, getD, take};
@@ -14,7 +15,7 @@ ghost use Rattle.tables.specs.Runs.{RunIn, Inside, testBy};
 ghost use Rattle.leaf_figures.specs.Rows.{Listed, Kept, Rows};
 ghost use Rattle.split_choice.specs.Siding.{trialTest, onSide, sideOf};
 
-// Whether trace t goes left: if twice its figure is at most the threshold.
+// Whether trace t goes left, by its figures from the table.
 pub fn goes_left_at(
     samples: &[i16],
     n: usize,
@@ -33,11 +34,7 @@ pub fn goes_left_at(
     ensures { λ r. ⌜ r ≡ goesLeft (testBy first last «by_scatter» threshold) (traceIn (now (samples .entry)) n t) ⌝ }
 {
     let own = figures_at(samples, n, place, sums, scatters, column, t, first, last);
-    if by_scatter {
-        2 * (own.scatter as i64) <= threshold
-    } else {
-        2 * own.sum <= threshold
-    }
+    is_left(own.sum, own.scatter, by_scatter, threshold)
 }
 
 // One more, if it is on the side.

@@ -7,5 +7,6 @@ pub mod Beginning
 pub mod Views
 pub mod Listed
 pub mod Parts
+pub mod Compared
 pub mod Samples
 pub mod Linked

@@ -1,13 +1,13 @@
--- Fields as numbers without a sign: what the tests of a field's value tell, fields that come back as they were read, and the lesser and the greater of two.
-use mathlib.Core.Path.{_≡_, refl, sym, ap}
+-- Fields as numbers without a sign: what the tests of a field's value tell, and fields that come back as they were read.
+use mathlib.Core.Path.{_≡_, refl, sym}
 use mathlib.Core.Bool.{Bool, true, false}
-use Prim.Native.Nat.{ℕ, _≤_, _^_, min, max}
+use Prim.Native.Nat.{ℕ, _≤_, _^_}
 use native.Mathlib.Omega.{arith}
 use lib.Dec.{T, ltb}
 use lib.IntN.{ℤ, pos, negsuc, natAbs}
 use lib.Signed.{ltZ, nonNeg}
 use borrow.Author.Tests.{ltb-true, ltb-false, lt-ltb}
-use Rattle.integer.specs.Words.{if_then_else_, lesser, greater}
+use Rattle.integer.specs.Words.{if_then_else_}
 use Rattle.tables.specs.View.{smallOf, scatterIn}
 
 clash : {X : Type 0} → true ≡ false → X
@@ -60,19 +60,3 @@ small-back (negsuc n) h = absurd (omega arith)
 pub scatter-back : (z : ℤ) → scatterIn z ≤ 2 ^ 54 → pos (scatterIn z) ≡ z
 scatter-back (pos n) h = refl
 scatter-back (negsuc n) h = absurd (omega arith)
-
--- ---- the lesser and the greater of two scatters
-
-pub lesser-pos : (a b : ℕ) → lesser (pos a) (pos b) ≡ pos (min a b)
-lesser-pos a b = by (ltb b a) refl
-  where
-    by : (t : Bool) → ltb b a ≡ t → (if t then pos b else pos a) ≡ pos (min a b)
-    by true e = ap pos (omega (arith, ltb-true b a e))
-    by false e = ap pos (omega (arith, ltb-false b a e))
-
-pub greater-pos : (a b : ℕ) → greater (pos a) (pos b) ≡ pos (max a b)
-greater-pos a b = by (ltb a b) refl
-  where
-    by : (t : Bool) → ltb a b ≡ t → (if t then pos b else pos a) ≡ pos (max a b)
-    by true e = ap pos (omega (arith, ltb-true a b e))
-    by false e = ap pos (omega (arith, ltb-false a b e))

@@ -3,13 +3,16 @@
 
 ghost use mathlib.Core.Path.{_≡_};
 ghost use Prim.Native.Nat.{_+_, _*_, _≤_};
-ghost use lib.IntN.{natAbs};
+ghost use lib.IntN.{pos, natAbs, _*ℤ_};
 ghost use lib.ListN.{length};
-ghost use Rattle.segment.specs.Limits.{sumMost, scatterMost};
+ghost use lib.Signed.{leZ};
+ghost use Rattle.integer.specs.Words.{if_then_else_};
+ghost use Rattle.segment.specs.Roots.{floorRoot};
+ghost use Rattle.segment.specs.Limits.{sumMost, scatterMost, sumRoom};
 ghost use Rattle.dstree.specs.Figures.{run, sumOn, scatterOn};
-ghost use Rattle.dstree.specs.Node.{figureOf, goesLeft};
+ghost use Rattle.dstree.specs.Node.{goesLeft};
 ghost use Rattle.tables.specs.View.{traceIn};
-ghost use Rattle.tables.specs.Runs.{figureBy, testBy, RunOf};
+ghost use Rattle.tables.specs.Runs.{testBy, RunOf};
 
 // Trace t.
 pub fn trace_at(samples: &[i16], n: usize, t: usize) -> &[i16]
@@ -21,25 +24,7 @@ pub fn trace_at(samples: &[i16], n: usize, t: usize) -> &[i16]
     &samples[a..e]
 }
 
-pub fn sum_on(trace: &[i16], first: usize, last: usize) -> i64
-    requires { ⌜ RunOf (length (now trace)) first last ⌝ }
-    ensures { λ r. ⌜ r ≡ sumOn (run first last) (now (trace .entry)) ⌝ }
-    ensures size { λ r. ⌜ natAbs r ≤ sumMost 256 ⌝ }
-{
-    let before = first - 1;
-    segment::figures::sum(&trace[before..last])
-}
-
-pub fn scatter_on(trace: &[i16], first: usize, last: usize) -> u64
-    requires { ⌜ RunOf (length (now trace)) first last ⌝ }
-    ensures { λ r. ⌜ r ≡ scatterOn (run first last) (now (trace .entry)) ⌝ }
-    ensures size { λ r. ⌜ r ≤ scatterMost 256 ⌝ }
-{
-    let before = first - 1;
-    segment::figures::scatter(&trace[before..last])
-}
-
-// Both figures.
+// Both figures on the samples `first` to `last`.
 pub fn figures_on(trace: &[i16], first: usize, last: usize) -> segment::figures::Figures
     requires { ⌜ RunOf (length (now trace)) first last ⌝ }
     ensures sum { λ r. ⌜ (r .sum ≡ sumOn (run first last) (now (trace .entry))) × (natAbs (r .sum) ≤ sumMost 256) ⌝ }
@@ -49,24 +34,24 @@ pub fn figures_on(trace: &[i16], first: usize, last: usize) -> segment::figures:
     segment::figures::figures_of(&trace[before..last])
 }
 
-// The one or the other, as a number with a sign, as records hold it.
-pub fn figure_on(trace: &[i16], first: usize, last: usize, by_scatter: bool) -> i64
-    requires { ⌜ RunOf (length (now trace)) first last ⌝ }
-    ensures { λ r. ⌜ r ≡ figureOf (figureBy «by_scatter») (run first last) (now (trace .entry)) ⌝ }
-    ensures size { λ r. ⌜ natAbs r ≤ scatterMost 256 ⌝ }
+// Whether a trace with these figures on a test's run goes left: by sum, if twice the sum is at most the threshold; by scatter, if twice the
+// scatter's floor root is, for which no root is taken. What is equal to half of the threshold goes left. The way down, the sides of a split and
+// the marks all go by this.
+pub fn is_left(sum: i64, scatter: u64, by_scatter: bool, threshold: i64) -> bool
+    requires { ⌜ natAbs sum ≤ sumRoom ⌝ }
+    ensures { λ r. ⌜ r ≡ leZ (pos 2 *ℤ (if «by_scatter» then pos (floorRoot scatter) else sum)) threshold ⌝ }
 {
     if by_scatter {
-        scatter_on(trace, first, last) as i64
-    } else {
-        sum_on(trace, first, last)
+        return segment::roots::twice_root_within(scatter, threshold);
     }
+    2 * sum <= threshold
 }
 
-// Whether a trace goes left by a test: if twice its figure is at most the threshold. A figure that is equal to half of it goes left.
+// Whether a trace goes left by a test.
 pub fn goes_left(trace: &[i16], first: usize, last: usize, by_scatter: bool, threshold: i64) -> bool
     requires { ⌜ RunOf (length (now trace)) first last ⌝ }
     ensures { λ r. ⌜ r ≡ goesLeft (testBy first last «by_scatter» threshold) (now (trace .entry)) ⌝ }
 {
-    let figure = figure_on(trace, first, last, by_scatter);
-    2 * figure <= threshold
+    let own = figures_on(trace, first, last);
+    is_left(own.sum, own.scatter, by_scatter, threshold)
 }

@@ -1,7 +1,7 @@
 -- `records_fit::figures::threshold_fits` meets its contract: twice the limit that the figure has, one side at a time.
 use mathlib.Core.Path.{_≡_, sym, ap, subst, _∙_}
 use mathlib.Core.Bool.{Bool, true}
-use Prim.Native.Nat.{_*_, _<_, _^_}
+use Prim.Native.Nat.{_*_}
 use native.Mathlib.Omega.{arith}
 use lib.IntN.{ℤ, pos, negℤ}
 use lib.Signed.{leZ}
@@ -12,16 +12,12 @@ use mir.ValLaws.{toZ-ofZ}
 use borrow.Author.Needs.{needs}
 use borrow.Author.Tests.{eq-eqb, ne-eqb, not-true, not-false}
 use Rattle.integer.proofs.Tests.{is-true}
-use Rattle.records_fit.proofs.Limits.{sum-threshold, scatter-threshold, square-fits}
+use Rattle.records_fit.proofs.Limits.{sum-threshold, scatter-threshold}
 use Rattle.records_fit.proofs.figures.threshold_fits.Statement.{statement}
 use Rattle.records_fit.proofs.figures.threshold_fits.Tie as tie
 
 same : (c : tie.Start) → toZ w64 (ofZ w64 (c .args .threshold)) ≡ c .args .threshold
 same c = toZ-ofZ w64 (c .args .threshold) (c .fits .threshold)
-
--- twice the limit fits 64 bits
-top : (c : tie.Start) → 2 * ((c .args .w * 32768) * (c .args .w * 32768)) < 2 ^ 63
-top c = omega (arith, square-fits (c .args .w) 256 (c .pre))
 
 -- ---- by sum
 
@@ -64,15 +60,6 @@ returns-3 c =
     rw (ne-eqb (a .kind) 1 (k .if1 .left))
     (sym (scatter-threshold (a .w) (a .threshold) ∙ rw (from-zero (c .before) (not-true (c .before .in-order .result) (c .if3 .taken)))))
 
-mul-not-above-2 : tie.Need-mul-not-above-2
-mul-not-above-2 c = omega (arith, top (c .before .before .before))
-
-mul-not-above-3 : tie.Need-mul-not-above-3
-mul-not-above-3 c = omega (arith, top (c .before .before .before))
-
-not-above-requires-2 : tie.Need-not-above-requires-2
-not-above-requires-2 c κs = top (c .before .before .before)
-
 returns-4 : tie.Need-returns-4
 returns-4 c =
     let f = c .before in
@@ -80,7 +67,7 @@ returns-4 c =
     let a = k .before .args in
     rw (ne-eqb (a .kind) 1 (k .if1 .left))
     (c .not-above2 .ensures
-    ∙ (ap (λ (z : ℤ). leZ z (pos (2 * ((a .w * 32768) * (a .w * 32768))))) (same (k .before))
+    ∙ (ap (λ (z : ℤ). leZ z (pos (2 * (a .w * 32768)))) (same (k .before))
     ∙ sym (scatter-threshold (a .w) (a .threshold) ∙ rw (from-zero (f .before) (not-false (f .before .in-order .result) (f .if3 .left))))))
 
 pub threshold-fits-spec : {M : Type 1} → statement M
@@ -88,4 +75,4 @@ threshold-fits-spec =
     tie.close
     (tie.spec
     (λ c. search needs) (λ c. search needs) (λ c κs. search needs) returns (λ c. search needs) not-below-requires returns-2
-    (λ c κs. search needs) returns-3 mul-not-above-2 mul-not-above-3 not-above-requires-2 returns-4)
+    (λ c κs. search needs) returns-3 (λ c. search needs) (λ c κs. search needs) returns-4)

@@ -2,22 +2,21 @@
 use mathlib.Core.Path.{_≡_, ap, subst, _∙_}
 use mathlib.Core.Bool.{Bool, true, false}
 use mathlib.Core.List.{List, [], _∷_}
-use Prim.Native.Nat.{ℕ}
+use Prim.Native.Nat.{ℕ, _^_, _≤_}
 use native.Mathlib.Omega.{arith}
-use lib.IntN.{pos}
+use lib.IntN.{ℤ, pos, natAbs}
 use lib.ListN.{take}
 use mir.Syntax.{w64}
-use mir.Val.{toZ}
 use mir.Facts.{toZ-ofZ}
-use borrow.Author.Needs.{needs}
-use Rattle.integer.proofs.Width.{small, read}
+use Rattle.integer.proofs.Width.{of-mag, small, read}
+use Rattle.segment.specs.Roots.{floorRoot}
 use Rattle.dstree.specs.Measures.{Trace}
 use Rattle.dstree.specs.Figures.{run}
 use Rattle.dstree.specs.Adding.{segmentOf, tracesOf}
 use Rattle.tables.specs.Walk.{storedIn}
 use Rattle.leaf_figures.specs.Sides.{segmentBy}
 use Rattle.leaf_figures.specs.Ends.{endsOf}
-use Rattle.leaf_figures.proofs.Ranged.{least-sum-is, greatest-sum-is, least-scatter-is, greatest-scatter-is}
+use Rattle.leaf_figures.proofs.Ranged.{least-sum-is, greatest-sum-is, least-root-is, greatest-root-is}
 use Rattle.split_choice.specs.Choosing.{trialBy, candidateBy, After, Reached}
 use Rattle.split_choice.specs.declared.choice.Trial.{Trial}
 use Rattle.split_choice.proofs.Sided.{list-traces}
@@ -61,18 +60,17 @@ module _ (g : tie.After-figures-along) where
         high-size = rw high (omega (arith, m .greatest-sum));
       }
 
-  by-scatter : Reached traces (trial true) (toZ w64 (g .figures-along .result .«least_scatter»)) (toZ w64 (g .figures-along .result .«greatest_scatter»))
-  by-scatter =
+  by-scatter : (low high : ℤ) → (low ≡ pos (floorRoot (g .figures-along .result .«least_scatter»))) × (natAbs low ≤ 2 ^ 46)
+      → (high ≡ pos (floorRoot (g .figures-along .result .«greatest_scatter»))) × (natAbs high ≤ 2 ^ 46)
+      → Reached traces (trial true) low high
+  by-scatter low high h k =
       let f = g .figures-along .result in
-      let m = g .figures-along .ensures .1 in
       let on = run (s .args .first) (s .args .last) in
-      let low : toZ w64 (f .«least_scatter») ≡ pos (f .«least_scatter») = toZ-ofZ (small {w = w64} {z = pos (f .«least_scatter»)} (omega (arith, m .least-scatter))) in
-      let high : toZ w64 (f .«greatest_scatter») ≡ pos (f .«greatest_scatter») = toZ-ofZ (small {w = w64} {z = pos (f .«greatest_scatter»)} (omega (arith, m .greatest-scatter))) in
       record {
-        low-is = low ∙ least-scatter-is traces on f whole;
-        high-is = high ∙ greatest-scatter-is traces on f whole;
-        low-size = rw low (omega (arith, m .least-scatter));
-        high-size = rw high (omega (arith, m .greatest-scatter));
+        low-is = h .0 ∙ least-root-is traces on f whole;
+        high-is = k .0 ∙ greatest-root-is traces on f whole;
+        low-size = h .1;
+        high-size = k .1;
       }
 
 figures-along-requires : tie.Need-figures-along-requires
@@ -84,17 +82,27 @@ try-one-requires c κs =
     let g = t .before in
     rw (t .trial-of .ensures) (s g .pre .0, s g .pre .1, by-sum g, s g .pre .2, s g .pre .3)
 
+root-of-requires : tie.Need-root-of-requires
+root-of-requires c κs = c .before .before .before .before .before .figures-along .ensures .1 .least-scatter
+
+root-of-requires-2 : tie.Need-root-of-requires-2
+root-of-requires-2 c κs = c .before .before .before .before .before .before .figures-along .ensures .1 .greatest-scatter
+
 returns : tie.Need-returns
 returns c =
     let o = c .before .before in
     let t = o .before .before .before .before in
-    let e = o .try-one .ensures in (
+    let e = o .try-one .ensures in
+    let low = c .before .root-of in
+    let high = c .root-of2 in
+    let low-read : read w64 (low .result) ≡ low .result = toZ-ofZ (of-mag {w = w64} (low .result) (low .ok)) in
+    let high-read : read w64 (high .result) ≡ high .result = toZ-ofZ (of-mag {w = w64} (high .result) (high .ok)) in (
       subst (λ (x : Trial). After (s (t .before) .args .n) (stored (t .before)) (endsOf (s (t .before) .args .e)) (numbers (t .before))
           (s (t .before) .args .old) (candidateBy (endsOf (s (t .before) .args .e)) x ∷ []) (o .try-one .result)) (t .trial-of .ensures) (e .0),
-      (by-scatter (t .before), e .1),
+      (rw (low-read, high-read) (by-scatter (t .before) (low .result) (high .result) (low .ensures) (high .ensures)), e .1),
     )
 
 pub try-sum-spec : {M : Type 1} → statement M
 try-sum-spec =
     tie.close
-    (tie.spec figures-along-requires (λ c κs. tt) try-one-requires (λ c. search needs) (λ c. search needs) returns)
+    (tie.spec figures-along-requires (λ c κs. tt) try-one-requires root-of-requires root-of-requires-2 returns)

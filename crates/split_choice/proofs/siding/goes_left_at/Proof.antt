@@ -1,58 +1,35 @@
--- `split_choice::siding::goes_left_at` meets its contract: the figure, doubled, against the threshold.
-use mathlib.Core.Path.{_≡_, ap, ap₂, _∙_}
+-- `split_choice::siding::goes_left_at` meets its contract: the trace's figures, from the table or its samples, are what the test compares.
+use mathlib.Core.Path.{_≡_, ap₂, _∙_}
 use native.Mathlib.Omega.{arith}
-use Prim.Native.Nat.{ℕ, _^_, _≤_}
-use lib.IntN.{ℤ, pos, natAbs, _*ℤ_}
+use lib.IntN.{ℤ, pos, _*ℤ_}
 use lib.Signed.{leZ}
 use mir.Syntax.{w64}
-use mir.Val.{SFits, toZ}
 use mir.Facts.{toZ-ofZ}
 use borrow.Author.Needs.{needs}
-use Rattle.integer.proofs.Order.{natAbs-mul}
-use Rattle.integer.proofs.Width.{read, small}
-use Rattle.dstree.specs.Node.{figureOf, goesLeft}
+use Rattle.integer.specs.Words.{if_then_else_}
+use Rattle.integer.proofs.Width.{of-mag, read}
+use Rattle.segment.specs.Roots.{floorRoot}
+use Rattle.tables.specs.View.{traceIn}
+use Rattle.tables.proofs.Compared.{left-is}
 use Rattle.split_choice.proofs.siding.goes_left_at.Statement.{statement}
 use Rattle.split_choice.proofs.siding.goes_left_at.Tie as tie
 
--- a figure, doubled
-module _ (z : ℤ) (h : natAbs z ≤ 2 ^ 46) where
-  double-fits : SFits w64 (pos 2 *ℤ z)
-  double-fits = small (omega (arith, natAbs-mul (pos 2) z, h))
+-- the sum as it is handed on
+sum-read : (c : tie.After-struct-told) → read w64 (c .before .figures-at .result .sum) ≡ c .before .figures-at .result .sum
+sum-read c = toZ-ofZ (of-mag {w = w64} (c .before .figures-at .result .sum) (c .struct-told .given .0 .1))
 
-  figure-read : read w64 z ≡ z
-  figure-read = toZ-ofZ (small {w = w64} {z = z} (omega (arith, h)))
-
-mul-result : tie.Need-mul-result
-mul-result c =
-    let g = c .before .before .figures-at in
-    let h : natAbs (pos (g .result .scatter)) ≤ 2 ^ 46 = omega (arith, g .ensures .1 .1) in
-    let back : toZ w64 (g .result .scatter) ≡ pos (g .result .scatter) = figure-read (pos (g .result .scatter)) h in
-    rw back (double-fits (pos (g .result .scatter)) h)
-
-mul-result-2 : tie.Need-mul-result-2
-mul-result-2 c =
-    let g = c .before .before .before .figures-at in
-    let h : natAbs (g .result .sum) ≤ 2 ^ 46 = omega (arith, g .ensures .0 .1) in
-    rw (figure-read (g .result .sum) h) (double-fits (g .result .sum) h)
+is-left-requires : tie.Need-is-left-requires
+is-left-requires c κs = rw (sum-read c) (omega (arith, c .before .figures-at .ensures .0 .1))
 
 returns : tie.Need-returns
-unfolding goesLeft figureOf
 returns c =
-    let s = c .before .before .before .before .before in
-    let g = c .before .before .figures-at in
-    let h : natAbs (pos (g .result .scatter)) ≤ 2 ^ 46 = omega (arith, g .ensures .1 .1) in
-    let back : toZ w64 (g .result .scatter) ≡ pos (g .result .scatter) = figure-read (pos (g .result .scatter)) h in
-    rw (back, c .before .if1 .taken)
-    (ap₂ leZ (toZ-ofZ (double-fits (pos (g .result .scatter)) h) ∙ ap (λ (v : ℕ). pos 2 *ℤ pos v) (g .ensures .1 .0)) (toZ-ofZ (s .fits .threshold)))
-
-returns-2 : tie.Need-returns-2
-unfolding goesLeft figureOf
-returns-2 c =
-    let s = c .before .before .before .before .before .before in
-    let g = c .before .before .before .figures-at in
-    let h : natAbs (g .result .sum) ≤ 2 ^ 46 = omega (arith, g .ensures .0 .1) in
-    rw (figure-read (g .result .sum) h, c .before .before .if1 .left)
-    (ap₂ leZ (toZ-ofZ (double-fits (g .result .sum) h) ∙ ap (λ (z : ℤ). pos 2 *ℤ z) (g .ensures .0 .0)) (toZ-ofZ (s .fits .threshold)))
+    let f = c .before .before in
+    let s = f .before .before .before in
+    let a = s .args in
+    let g = f .figures-at in
+    c .is-left .ensures
+    ∙ ap₂ (λ (z t : ℤ). leZ (pos 2 *ℤ (if a .by-scatter then pos (floorRoot (g .result .scatter)) else z)) t) (sum-read (c .before)) (toZ-ofZ (s .fits .threshold))
+    ∙ left-is (a .first) (a .last) (traceIn (a .samples .now) (a .n) (a .t)) (g .ensures .0 .0) (g .ensures .1 .0) (a .by-scatter) (a .threshold)
 
 pub goes-left-at-spec : {M : Type 1} → statement M
-goes-left-at-spec = tie.close (tie.spec (λ c κs. c .before .before .pre) (λ c. search needs) mul-result mul-result-2 returns returns-2)
+goes-left-at-spec = tie.close (tie.spec (λ c κs. search needs) is-left-requires returns)

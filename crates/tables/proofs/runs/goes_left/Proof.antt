@@ -1,35 +1,36 @@
--- `tables::runs::goes_left` meets its contract: the figure, doubled, against the threshold.
-use mathlib.Core.Path.{_≡_, ap, ap₂, _∙_}
+-- `tables::runs::goes_left` meets its contract: the trace's figures on the run are what the test compares.
+use mathlib.Core.Path.{_≡_, ap₂, _∙_}
 use native.Mathlib.Omega.{arith}
 use lib.IntN.{ℤ, pos, _*ℤ_}
 use lib.Signed.{leZ}
-use mir.Syntax.{w64}
-use mir.Val.{SFits}
-use mir.Facts.{toZ-ofZ}
 use denote.Ref.{now}
-use borrow.Author.Needs.{needs, sfits-of}
-use Rattle.integer.proofs.Order.{natAbs-mul}
-use Rattle.integer.proofs.Width.{read, small}
-use Rattle.dstree.specs.Figures.{run}
-use Rattle.dstree.specs.Node.{figureOf, goesLeft}
-use Rattle.tables.specs.Runs.{figureBy}
+use mir.Syntax.{w64}
+use mir.Facts.{toZ-ofZ}
+use Rattle.integer.specs.Words.{if_then_else_}
+use Rattle.integer.proofs.Width.{of-mag, read}
+use Rattle.segment.specs.Roots.{floorRoot}
+use Rattle.tables.proofs.Compared.{left-is}
 use Rattle.tables.proofs.runs.goes_left.Statement.{statement}
 use Rattle.tables.proofs.runs.goes_left.Tie as tie
 
-figure-read : (c : tie.After-figure-on) → read w64 (c .figure-on .result) ≡ c .figure-on .result
-figure-read c = toZ-ofZ (sfits-of {w = w64} {z = c .figure-on .result} (c .figure-on .ok))
+figures-on-requires : tie.Need-figures-on-requires
+figures-on-requires c κs = c .pre
 
-double-fits : (c : tie.After-figure-on) → SFits w64 (pos 2 *ℤ c .figure-on .result)
-double-fits c = small (omega (arith, natAbs-mul (pos 2) (c .figure-on .result), c .figure-on .ensures .1))
+-- the sum as it is handed on
+sum-read : (c : tie.After-struct-told) → read w64 (c .before .figures-on .result .sum) ≡ c .before .figures-on .result .sum
+sum-read c = toZ-ofZ (of-mag {w = w64} (c .before .figures-on .result .sum) (c .struct-told .given .0 .1))
+
+is-left-requires : tie.Need-is-left-requires
+is-left-requires c κs = rw (sum-read c) (omega (arith, c .before .figures-on .ensures .0 .1))
 
 returns : tie.Need-returns
-unfolding goesLeft
 returns c =
-    let s = c .before in
-    let a = s .args in
-    let double : read w64 (pos 2 *ℤ read w64 (c .figure-on .result)) ≡ pos 2 *ℤ figureOf (figureBy (a .by-scatter)) (run (a .first) (a .last)) (now (a .trace)) =
-    ap (λ (z : ℤ). read w64 (pos 2 *ℤ z)) (figure-read c) ∙ (toZ-ofZ (double-fits c) ∙ ap (λ (z : ℤ). pos 2 *ℤ z) (c .figure-on .ensures .0)) in
-    ap₂ leZ double (toZ-ofZ (s .fits .threshold))
+    let f = c .before .before in
+    let a = f .before .args in
+    let g = f .figures-on in
+    c .is-left .ensures
+    ∙ ap₂ (λ (s t : ℤ). leZ (pos 2 *ℤ (if a .by-scatter then pos (floorRoot (g .result .scatter)) else s)) t) (sum-read (c .before)) (toZ-ofZ (f .before .fits .threshold))
+    ∙ left-is (a .first) (a .last) (now (a .trace)) (g .ensures .0 .0) (g .ensures .1 .0) (a .by-scatter) (a .threshold)
 
 pub goes-left-spec : {M : Type 1} → statement M
-goes-left-spec = tie.close (tie.spec (λ c κs. search needs) (λ c. rw (figure-read c) (double-fits c)) returns)
+goes-left-spec = tie.close (tie.spec figures-on-requires is-left-requires returns)

@@ -80,9 +80,10 @@ extern "C" {
 #define SILKENDOZ_VERSION_PATCH 0
 #define SILKENDOZ_VERSION "0.1.0"
 
-/* The version of the tables' layout (docs/LAYOUT.md). Another number is another layout: a firmware that keeps tables in battery-backed
- * memory keeps this number beside them, and reads its sheet if it finds another one there after an update. Sheets stay readable. */
-#define SILKENDOZ_LAYOUT 1
+/* The version of the tables' layout (docs/LAYOUT.md). Another number is another layout, or another tree: a firmware that keeps tables in
+ * battery-backed memory keeps this number beside them, and reads its sheet if it finds another one there after an update. Sheets stay
+ * readable. */
+#define SILKENDOZ_LAYOUT 2
 
 /* Measures: n from 1 to 256, capacity 1 to 4,096, leaf size 1 to 64. */
 #define SILKENDOZ_MAX_N 256

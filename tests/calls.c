@@ -243,7 +243,7 @@ static void version(void)
     char text[64];
     snprintf(text, sizeof text, "%d.%d.%d", SILKENDOZ_VERSION_MAJOR, SILKENDOZ_VERSION_MINOR, SILKENDOZ_VERSION_PATCH);
     EXPECT(strcmp(text, SILKENDOZ_VERSION) == 0);
-    EXPECT(SILKENDOZ_LAYOUT == 1);
+    EXPECT(SILKENDOZ_LAYOUT == 2);
 }
 
 static void matches(struct tables *t, int16_t level, uint64_t trace, uint64_t distance, uint64_t leaves, uint64_t traces, uint16_t first)

@@ -50,27 +50,30 @@ fn play(file: &str, at_least: usize) {
 
 #[test]
 fn the_stage() {
-    play("stage-01.txt", 40);
-    play("stage-02.txt", 40);
-    play("stage-03.txt", 40);
+    play("stage-04.txt", 40);
 }
 
 /// The tree, bounds and walks between the calls.
 #[test]
 fn looked_inside() {
-    play("inside-03.txt", 25);
+    play("inside-04.txt", 25);
 }
 
 #[test]
 fn altered_tables() {
-    play("altered-00.txt", 30);
-    play("altered-01.txt", 30);
+    play("altered-04.txt", 30);
+}
+
+/// The program's line for a sheet.
+#[test]
+fn the_program() {
+    play("program-04.txt", 20);
 }
 
 /// The smallest cases that tell two readings of document 02 apart.
 #[test]
 fn telling_cases() {
-    play("telling.txt", 24);
+    play("telling.txt", 29);
 }
 
 /// A script of lines and replies.

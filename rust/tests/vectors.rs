@@ -35,16 +35,19 @@ fn all() -> Vec<Vector> {
 }
 
 impl Vector {
-    fn library(&self) -> (Library, Trace) {
+    /// The library, and its query; those from the scripts' `tree` lines have none, and nothing that rests on one.
+    fn library(&self) -> (Library, Option<Trace>) {
         let [n, capacity, leaf_size, ..] = numbers(&self.lines[0])[..] else { panic!("{}", self.name) };
         let samples = |line: &String| -> Trace { list(line).into_iter().map(|x| x as i16).collect() };
         let traces: Vec<Trace> = self.lines.iter().filter(|l| l.starts_with("trace ")).map(samples).collect();
-        let query = self.lines.iter().find(|l| l.starts_with("query:")).map(samples).expect("a query");
+        let query = self.lines.iter().find(|l| l.starts_with("query:")).map(samples);
         (Library::of(measures(n as usize, capacity as usize, leaf_size as usize), &traces), query)
     }
 
     /// Every figure of the vector, line by line, against a library.
-    fn compare(&self, library: &Library, query: &[i16]) {
+    fn compare(&self, library: &Library, asked: Option<&[i16]>) {
+        let nothing = vec![0; library.measures.n as usize];
+        let query = asked.unwrap_or(&nothing);
         let bounds = library.bounds(query);
         let mut node = 0;
         let mut segment = 0;
@@ -55,8 +58,10 @@ impl Vector {
                 let counts = [m.n, m.capacity, m.leaf_size, library.traces.len() as u64, library.nodes.len() as u64, library.leaves().len() as u64];
                 says(&counts.map(i128::from));
             } else if line.starts_with("trace ") {
-                let [t, d, ..] = numbers(line)[..] else { panic!() };
-                assert_eq!(silkendoz::model::distance(&library.traces[t as usize], query), d, "{}: {line}", self.name);
+                if asked.is_some() {
+                    let [t, d, ..] = numbers(line)[..] else { panic!() };
+                    assert_eq!(silkendoz::model::distance(&library.traces[t as usize], query), d, "{}: {line}", self.name);
+                }
             } else if line.starts_with("node ") {
                 node = numbers(line)[0] as usize;
                 segment = 0;
@@ -69,7 +74,8 @@ impl Vector {
                 let w = width(run);
                 let term = (g * g + h * h + w - 1) / w;
                 let ranges = [s.least_sum, s.greatest_sum, s.least_scatter, s.greatest_scatter];
-                says(&[&[run.0 as i128, run.1 as i128], &ranges[..], &[sum(part), scatter(part), g, h, term]].concat());
+                let of_query = [sum(part), scatter(part), g, h, term];
+                says(&[&[run.0 as i128, run.1 as i128], &ranges[..], if asked.is_some() { &of_query } else { &[] }].concat());
                 segment += 1;
             } else if line.trim_start().starts_with("own bound ") {
                 assert_eq!(segment, library.nodes[node].segments.len(), "{}: segments of node {node}", self.name);
@@ -96,7 +102,7 @@ impl Vector {
                 let figure = if line.contains("Sum of") { Figure::Sum } else { Figure::Scatter };
                 assert!(line.contains("Sum of") || line.contains("Scatter of"), "{}: {line}", self.name);
                 assert_eq!(figure, test.figure, "{}: {line}", self.name);
-                let says = numbers(line)[2..].to_vec();
+                let says = numbers(line.split_once(": ").expect("a test").1);
                 let has = [test.first as i128, test.last as i128, test.threshold, *left as i128, *right as i128];
                 assert_eq!(says, has, "{}: {line}", self.name);
             }
@@ -107,10 +113,10 @@ impl Vector {
 #[test]
 fn libraries_and_the_model() {
     let list = all();
-    assert!(list.len() >= 68);
+    assert!(list.len() >= 76);
     for vector in &list {
         let (library, query) = vector.library();
-        vector.compare(&library, &query);
+        vector.compare(&library, query.as_deref());
     }
 }
 
@@ -125,9 +131,11 @@ fn libraries_and_the_calls() {
             check_add(&mut t, l, trace).unwrap();
         }
         let held = t.library().expect("well formed");
-        vector.compare(&held, &query);
-        let mut trail = vec![0; held.leaves().len()];
-        check_nearest(&mut t, l, &mut trail, &query).unwrap();
+        vector.compare(&held, query.as_deref());
+        if let Some(query) = query {
+            let mut trail = vec![0; held.leaves().len()];
+            check_nearest(&mut t, l, &mut trail, &query).unwrap();
+        }
     }
 }
 

@@ -85,10 +85,11 @@ pub enum Figure {
 }
 
 impl Figure {
+    /// What a test compares, of a trace's samples on its run: "From now on a scatter test compares floor roots" (document 02, §4).
     pub fn of(self, run: &[i16]) -> i128 {
         match self {
             Figure::Sum => sum(run),
-            Figure::Scatter => scatter(run),
+            Figure::Scatter => floor_root(scatter(run)),
         }
     }
 }
@@ -103,7 +104,7 @@ pub struct Test {
 }
 
 impl Test {
-    /// "A trace goes left if twice its figure is at most T, else right."
+    /// "A trace goes left if twice its figure is at most T, else right": by scatter, "if twice its own floor root is at most T".
     pub fn goes_left(&self, trace: &[i16]) -> bool {
         2 * self.figure.of(&trace[self.first - 1..self.last]) <= self.threshold
     }
@@ -172,8 +173,8 @@ fn greatest(figures: &[i128]) -> i128 {
     *figures.iter().max().expect("no leaf is empty")
 }
 
-fn figures(figure: Figure, run: (usize, usize), traces: &[&[i16]]) -> Vec<i128> {
-    traces.iter().map(|t| figure.of(part(t, run))).collect()
+fn figures(of: impl Fn(&[i16]) -> i128, run: (usize, usize), traces: &[&[i16]]) -> Vec<i128> {
+    traces.iter().map(|t| of(part(t, run))).collect()
 }
 
 /// The segments with these ends, of these traces.
@@ -181,8 +182,8 @@ pub fn segments_of(ends: &[usize], traces: &[&[i16]]) -> Vec<Segment> {
     runs(ends)
         .into_iter()
         .map(|run| {
-            let sums = figures(Figure::Sum, run, traces);
-            let scatters = figures(Figure::Scatter, run, traces);
+            let sums = figures(sum, run, traces);
+            let scatters = figures(scatter, run, traces);
             Segment {
                 end: run.1,
                 least_sum: least(&sums),
@@ -199,8 +200,8 @@ pub fn spread(ends: &[usize], traces: &[&[i16]]) -> i128 {
     runs(ends)
         .into_iter()
         .map(|run| {
-            let sums = figures(Figure::Sum, run, traces);
-            let scatters = figures(Figure::Scatter, run, traces);
+            let sums = figures(sum, run, traces);
+            let scatters = figures(scatter, run, traces);
             let term = (greatest(&sums) - least(&sums)).pow(2) + greatest(&scatters);
             term.div_euclid(width(run))
         })
@@ -349,9 +350,10 @@ impl Library {
         }
     }
 
-    /// The test of a candidate for a leaf: "T is the least plus the greatest figure among the leaf's traces."
+    /// The test of a candidate for a leaf: "T is the least plus the greatest figure among the leaf's traces"; by scatter (document 02, §4) "T is the floor
+    /// root of the least scatter plus that of the greatest".
     fn test_of(&self, leaf: usize, candidate: &Candidate) -> Test {
-        let all = figures(candidate.figure, candidate.run, &self.named(self.numbers(leaf)));
+        let all = figures(|run| candidate.figure.of(run), candidate.run, &self.named(self.numbers(leaf)));
         Test { figure: candidate.figure, first: candidate.run.0, last: candidate.run.1, threshold: least(&all) + greatest(&all) }
     }
 

@@ -347,7 +347,7 @@ fn figures_in_limits(library: &Library) -> bool {
     library.nodes.iter().all(|node| runs(&node.ends()).into_iter().zip(&node.segments).all(inside))
 }
 
-/// "T between twice those limits, on a run inside 1 to n"
+/// "T between twice those limits, on a run inside 1 to n"; by scatter (document 02, §4) "2 × w × 32,768"
 fn tests_in_limits(library: &Library) -> bool {
     library.nodes.iter().all(|node| match &node.kind {
         Kind::Leaf(_) => true,
@@ -358,7 +358,7 @@ fn tests_in_limits(library: &Library) -> bool {
             let w = width((test.first, test.last));
             match test.figure {
                 Figure::Sum => (-2 * w * 32_768..=2 * w * 32_768).contains(&test.threshold),
-                Figure::Scatter => (0..=2 * w * w * (1 << 30)).contains(&test.threshold),
+                Figure::Scatter => (0..=2 * w * 32_768).contains(&test.threshold),
             }
         }
     })

@@ -51,12 +51,14 @@ fn play(file: &str, at_least: usize) {
 #[test]
 fn the_stage() {
     play("stage-04.txt", 40);
+    play("stage-05.txt", 40);
 }
 
-/// The tree, bounds and walks between the calls.
+/// The tree, bounds, walks and distances with a limit between the calls.
 #[test]
 fn looked_inside() {
     play("inside-04.txt", 25);
+    play("inside-05.txt", 25);
 }
 
 #[test]
@@ -156,6 +158,10 @@ fn lines_that_are_no_calls() {
         "below 1",
         "walks",
         "walks 1",
+        "distance 1",
+        "distance -1 0 3 3",
+        "distance 1 1 3 3",
+        "distance 1 0 3",
         "alter 1 0 least_sum 0",
         "alter 0 1 least_sum 0",
         "alter 0 0 least 0",

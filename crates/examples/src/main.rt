@@ -1,5 +1,5 @@
-// The examples of document 01, and some of document 02, run: what each call answers, held to the file stdout. A step answers values, with a contract (`steps`); here the steps are
-// put together, and printed.
+// The examples of document 01, and some of document 02, run: what each call answers, held to the file stdout; walks along a leaf, and
+// distances with a limit. A step answers values, with a contract (`steps`); here the steps are put together, and printed.
 
 mod steps; // traces added, queries matched, a sheet written
 mod walks; // a candidate's test, along a leaf
@@ -283,9 +283,42 @@ fn run_walks() {
     printing::walked(b"walk 1 2 1 2, 2 1 2 1 by sum, T 12: ", twins());
 }
 
+// ---- distances with a limit: document 02, "Leave a hopeless trace early"
+
+// How far x is from y, in a line that begins with words and the limit.
+fn distance_of(words: &[u8], x: &[i16], y: &[i16], limit: u64)
+    requires { ⌜ (length (now x) ≡ length (now y)) × (length (now x) ≤ 256) ⌝ }
+{
+    item(words, limit);
+    io::write_all(1, b": ");
+    printing::distance(segment::within::distance_within(x, y, limit));
+}
+
+fn run_distances() {
+    let words = b"two samples, 2 apart, limit ";
+    let x = [0i16, 0];
+    let y = [2i16, 2];
+    distance_of(words, &x, &y, 3);
+    distance_of(words, &x, &y, 4);
+    distance_of(words, &x, &y, 8);
+}
+
+// More samples than are taken at once.
+fn run_longer_distances() {
+    let words = b"twenty samples, 1 apart, limit ";
+    let x = [0i16; 20];
+    let y = [1i16; 20];
+    distance_of(words, &x, &y, 15);
+    distance_of(words, &x, &y, 16);
+    distance_of(words, &x, &y, 20);
+    distance_of(words, &x, &y, 18446744073709551615);
+}
+
 fn main() {
     run_openings();
     run_libraries();
     run_sheets();
     run_walks();
+    run_distances();
+    run_longer_distances();
 }

@@ -6,6 +6,7 @@ use adding::Added;
 use matching::Found;
 use opening::Opened;
 use segment::samples::apart;
+use segment::within::Distance;
 use sheet_reading::Read;
 use sheet_writing::Written;
 use split_choice::parting::Look;
@@ -131,6 +132,14 @@ pub fn walked(words: &[u8], seen: Look) {
         item(b"yes, took ", seen.taken as u64);
     } else {
         item(b"no, took ", seen.taken as u64);
+    }
+    line_end();
+}
+
+pub fn distance(answer: Distance) {
+    match answer {
+        Distance::Exact(d) => item(b"exact ", d),
+        Distance::Beyond(samples) => item(b"beyond ", samples as u64),
     }
     line_end();
 }

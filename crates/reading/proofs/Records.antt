@@ -7,6 +7,7 @@ use native.Mathlib.Omega.{arith}
 use lib.ListN.{length, getD, take, drop, set, length-map, length-set, drop-of-length-le}
 use lib.Seq.{length-take-le, take-all, take-at, take-take, take-set-le, drop-cons, drop-set-lt, set-split, getD-take, getD-set-same}
 use lib.Seq.{getD-set-other, ext-getD}
+use borrow.Author.Tests.{le-ltb, ne-eqb}
 use Rattle.integer.specs.Words.{counting}
 use Rattle.integer.specs.Sorting.{insertedBy, Ordered}
 use Rattle.integer.proofs.Lists.{same-or-not, map-take, All, all-none, all-more}
@@ -234,6 +235,13 @@ module _ (k many t d : ℕ) (l : List ℕ) (r : ListRoom k many l) where
           few = omega arith;
           rest = refl;
         }
+
+    -- the trace is beyond the last one's distance, whatever their numbers
+    pub placed-beyond : recordAt l (k - 1) .distance < d → Lists k k (listWith k held (near t d)) l l
+    unfolding isNearer
+    placed-beyond h =
+        let last = recordAt l (k - 1) .distance in
+        placed-none (rw (le-ltb d last (omega (arith, h)), ne-eqb d last (λ e. omega (arith, h, e))))
 
     -- the trace is before the last, which goes
     pub placed-nearer : (l′ : List ℕ) → isNearer (near t d) (recordAt l (k - 1)) ≡ true

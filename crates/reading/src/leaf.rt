@@ -1,9 +1,13 @@
-// The distances of a leaf's traces.
+// The distances of a leaf's traces, each as far as the k-th distance so far.
+use crate::list::kth_distance;
+use crate::list::place;
+use segment::within::Distance;
 ghost use mathlib.Core.Path.{_≡_};
 ghost use mathlib.Core.List.{map, foldl};
 ghost use Prim.Native.Nat.{_+_, _*_, _≤_};
 ghost use lib.ListN.{length};
 ghost use Rattle.segment.specs.Figures as figure;
+ghost use Rattle.segment.specs.Within.{distanceWithin};
 ghost use Rattle.dstree.specs.KNearest.{listWith};
 ghost use Rattle.tables.specs.View.{traceIn};
 ghost use Rattle.tables.specs.Walk.{numbersOf, Stored};
@@ -16,6 +20,47 @@ pub fn trace_distance(samples: &[i16], n: usize, t: usize, query: &[i16]) -> u64
     ensures { λ r. ⌜ r ≡ figure.distance (now (query .entry)) (traceIn (now (samples .entry)) n t) ⌝ }
 {
     segment::figures::distance(query, tables::runs::trace_at(samples, n, t))
+}
+
+// The same with a limit.
+fn trace_within(samples: &[i16], n: usize, t: usize, query: &[i16], limit: u64) -> Distance
+    requires { ⌜ (n ≤ 256) × (t * n + n ≤ length (now samples)) × (length (now query) ≡ n) ⌝ }
+    ensures { λ r. ⌜ r ≡ distanceWithin limit (now (query .entry)) (traceIn (now (samples .entry)) n t) ⌝ }
+{
+    segment::within::distance_within(query, tables::runs::trace_at(samples, n, t), limit)
+}
+
+// Trace t goes to its place, and those listed are answered. While fewer than k are listed every trace has a place, and no limit is set;
+// then the k-th distance is the limit, and a trace beyond it is left as soon as that shows. A trace just as far as the k-th has to come
+// back, since its number may be lower: a limit that is one less does not meet this.
+fn take_trace(
+    list: &mut [u64],
+    listed: usize,
+    k: usize,
+    samples: &[i16],
+    n: usize,
+    t: usize,
+    query: &[i16],
+) -> usize
+    requires { ⌜ (n ≤ 256) × (t * n + n ≤ length (now samples)) × (length (now query) ≡ n) × ListRoom k listed (now list) ⌝ }
+    ensures { λ r. ⌜ Lists k r
+        (listWith k (nearsIn listed (now (list .entry))) (nearOf (now (samples .entry)) n (now (query .entry)) t))
+        (now (list .entry)) (now (list .exit)) ⌝ }
+{
+    if listed < k {
+        return place(
+            list,
+            listed,
+            k,
+            t as u64,
+            trace_distance(samples, n, t, query),
+        );
+    }
+    let limit = kth_distance(list, k);
+    match trace_within(samples, n, t, query, limit) {
+        Distance::Exact(distance) => place(list, listed, k, t as u64, distance),
+        Distance::Beyond(_) => k,
+    }
 }
 
 // What a leaf's reading leaves: how many traces are listed, and how many were read.
@@ -49,7 +94,7 @@ pub fn read_leaf(
     let mut traces: usize = 0;
     let mut t = head;
     while t < count {
-        m = crate::list::place(list, m, k, t as u64, trace_distance(samples, n, t, query));
+        m = take_trace(list, m, k, samples, n, t, query);
         traces += 1;
         t = tables::walk::behind(links, count, t);
     }

@@ -4,5 +4,7 @@ pub mod Apart
 pub mod Newton
 pub mod Sums
 pub mod Steps
+pub mod Fewest
 pub mod Limits
 pub mod Bound
+pub mod Examples

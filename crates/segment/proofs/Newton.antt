@@ -55,6 +55,12 @@ next-above v e h =
     let r : v % e < e = mod-lt v h in
     step-above v e (v / e) ((e + v / e) / 2) (omega arith) (omega arith)
 
+-- nor does it rise by more than one
+pub next-most : (v e : ℕ) → 0 < e → v < (e + 1) * (e + 1) → v / e ≤ e + 2
+next-most v e h k =
+    let l : v / e < e + 3 = div-lt-iff-lt-mul {k = e} {x = v} {y = e + 3} h .1 (omega arith) in
+    omega (arith, l)
+
 -- nor is it 0, where v is not
 pub above-zero : (v e : ℕ) → 0 < v → v < (e + 1) * (e + 1) → 0 < e
 above-zero v zero h k = omega arith
@@ -69,6 +75,18 @@ at-end : (v e : ℕ) → e ≤ (e + v / e) / 2 → e * e ≤ v
 at-end v e h =
     let k : e ≤ v / e = omega arith in
     omega (arith, mul-le-mul-right e k, div-add-mod' v e)
+
+-- ---- lines above the root: a line a x + b p is, where 4 a b is at least 1 (here in parts of 256)
+pub line-above : (v x p m y : ℕ) → v < x * p → y < 256 * m → 65536 * (x * p) ≤ y * y → v < m * m
+line-above v x p m y h k l =
+    let k₁ : y + 1 ≤ 256 * m = omega arith in
+    omega (arith, mul-le-mul k₁ k₁)
+
+pub lower-line : (x p : ℕ) → 65536 * (x * p) ≤ (151 * x + 109 * p) * (151 * x + 109 * p)
+lower-line x p = omega (arith, twice-product (151 * x) (109 * p))
+
+pub upper-line : (x p : ℕ) → 65536 * (x * p) ≤ (107 * x + 154 * p) * (107 * x + 154 * p)
+upper-line x p = omega (arith, twice-product (107 * x) (154 * p))
 
 -- ---- the floor root
 -- v is between its square and the next one

@@ -3,3 +3,4 @@ pub mod figures;
 pub mod roots;
 pub mod samples;
 pub mod terms;
+pub mod within;

@@ -1,18 +1,44 @@
 // The roots of a scatter, in whole numbers.
 ghost use mathlib.Core.Path.{_≡_};
-ghost use Prim.Native.Nat.{_+_, _*_, _^_, _<_};
+ghost use Prim.Native.Nat.{_+_, _*_, _/_, _^_, _≤_, _<_};
 ghost use lib.IntN.{pos, _*ℤ_};
 ghost use lib.Signed.{leZ};
 ghost use Rattle.segment.specs.Roots.{floorRoot, ceilingRoot};
 
-// The estimate that follows 2 ^ s, where s is half of v's length in bits: a shift does the division. As every estimate that follows
-// another it is not below the root, and it is at most a sixteenth above it, so that two or three more do.
+// A line above the root: of v / 4 ^ s, where s is half of v's length in bits, which is from a half to 2. One line serves up to 1, another
+// from there on, and each is at most a fiftieth above the root. Shifts do the divisions.
+fn line(v: u64) -> u64
+    requires { ⌜ 0 < v ⌝ }
+    ensures { λ r. ⌜ (r ≤ 2 ^ 33) × (v < (r + 1) * (r + 1)) ⌝ }
+{
+    let s = (64 - u64::leading_zeros(v)) / 2;
+    let one: u64 = 1 << s;
+    let x = (v >> s) + 1;
+    if x <= one {
+        return (151 * x + 109 * one) / 256;
+    }
+    (107 * x + 154 * one) / 256
+}
+
+// The estimate that follows another.
+fn next(v: u64, est: u64) -> u64
+    requires { ⌜ (0 < est) × (est ≤ 2 ^ 34) × (v < (est + 1) * (est + 1)) ⌝ }
+    ensures { λ r. ⌜ r ≡ (est + v / est) / 2 ⌝ }
+{
+    (est + v / est) / 2
+}
+
+// The second estimate behind a line: mostly it is the root, so that a loop that begins with it need not go on. As every estimate that
+// follows another it is not below the root.
 fn first_estimate(v: u64) -> u64
     requires { ⌜ 0 < v ⌝ }
     ensures { λ r. ⌜ (0 < r) × (r < 2 ^ 32) × (v < (r + 1) * (r + 1)) ⌝ }
 {
-    let s = (64 - u64::leading_zeros(v)) / 2;
-    ((1 << s) + (v >> s)) / 2
+    let est = next(v, next(v, line(v)));
+    if est < 4294967296 {
+        return est;
+    }
+    4294967295
 }
 
 // The floor root: the largest r whose square is at most v. Stopping one estimate late, or at the first estimate whose square is near v,

@@ -1,6 +1,6 @@
 // One segment's part in a node's bound and in a node's spread.
 ghost use mathlib.Core.Path.{_≡_};
-ghost use Prim.Native.Nat.{_-_, _<_, _≤_, max};
+ghost use Prim.Native.Nat.{_-_, _/_, _<_, _≤_, max};
 ghost use lib.IntN.{natAbs};
 ghost use Rattle.segment.specs.Limits.{sumRoom, scatterRoom, gapRoom, totalRoom, termMost};
 ghost use Rattle.segment.specs.Roots.{floorRoot, ceilingRoot};
@@ -53,12 +53,25 @@ pub fn scatter_gap(u: u64, least: u64, greatest: u64) -> u64
     larger(root_excess(least, u), root_excess(u, greatest))
 }
 
+// v / w. Segments that come of halving 256 samples are powers of two wide, and a shift then does the division.
+fn quotient(v: u64, w: u64) -> u64
+    requires { ⌜ 0 < w ⌝ }
+    ensures { λ r. ⌜ r ≡ v / w ⌝ }
+{
+    let s = 63 - u64::leading_zeros(w);
+    let power: u64 = 1 << s;
+    if power == w {
+        return v >> s;
+    }
+    v / w
+}
+
 // A segment's term of a node's bound, rounded up. Rounded down it does not meet this, nor with one added always.
 pub fn bound_term(w: u64, g: u64, h: u64) -> u64
     requires { ⌜ (0 < w) × (w ≤ 256) × (g ≤ gapRoom) × (h ≤ gapRoom) ⌝ }
     ensures { λ r. ⌜ r ≡ boundTerm w g h ⌝ }
 {
-    (g * g + h * h + (w - 1)) / w
+    quotient(g * g + h * h + (w - 1), w)
 }
 
 // A segment's term of a node's bound, from the query's sum t and scatter u and the node's ranges. The ranges need not be in order.

@@ -75,6 +75,22 @@ pub fn distance(a: &[i16], b: &[i16]) -> i128 {
     a.iter().zip(b).map(|(&x, &y)| (i128::from(x) - i128::from(y)).pow(2)).sum()
 }
 
+/// A distance with a limit.
+#[derive(Clone, Copy, Debug, PartialEq, Eq)]
+pub enum Within {
+    Exact(i128),
+    Beyond(usize),
+}
+
+/// Document 02, §5: "gives the exact distance when that is at most the limit, else "beyond" and how many samples it took, the fewest from the first on whose
+/// squared differences total more than the limit".
+pub fn distance_within(a: &[i16], b: &[i16], limit: i128) -> Within {
+    match (1..=a.len()).find(|&taken| distance(&a[..taken], &b[..taken]) > limit) {
+        Some(taken) => Within::Beyond(taken),
+        None => Within::Exact(distance(a, b)),
+    }
+}
+
 // ---- a node's record
 
 /// What a test looks at.
@@ -561,6 +577,14 @@ mod tests {
         assert_eq!(found(3).list, [(0, 16), (1, 16), (2, 80)]);
         assert_eq!(found(16), found(3));
         assert_eq!(library.k_nearest(&[4, 4, 4, 4], 2), KNearest { list: vec![(1, 0), (0, 64)], leaves: 2, traces: 3, trail: vec![2, 1] });
+    }
+
+    #[test]
+    fn distances_with_a_limit() {
+        let within = |limit| distance_within(&[0, 0], &[2, 2], limit);
+        assert_eq!([within(0), within(3), within(4)], [Within::Beyond(1), Within::Beyond(1), Within::Beyond(2)]);
+        assert_eq!([within(7), within(8), within(9)], [Within::Beyond(2), Within::Exact(8), Within::Exact(8)]);
+        assert_eq!(distance_within(&[5], &[5], 0), Within::Exact(0));
     }
 
     #[test]

@@ -1,10 +1,10 @@
-//! Lines that are no calls: the tree, a query's bounds and a leaf's walks as the model works them out from what the tables record, tables altered between two
-//! calls, and the program's line.
+//! Lines that are no calls: the tree, a query's bounds, a leaf's walks and a distance with a limit as the model works them out from what the tables record,
+//! tables altered between two calls, and the program's line.
 
 use super::line::number;
 use super::{list, malformed, Line, Reply, Session, Unanswered};
 use crate::model::tables::{segment_place, Tables, RECORD_PLACES, RUN, THRESHOLD};
-use crate::model::{candidates, Figure, Kind, Node, Segment};
+use crate::model::{candidates, distance_within, Figure, Kind, Node, Segment, Within};
 use crate::program;
 
 /// Every node's record.
@@ -56,6 +56,21 @@ pub fn walks(session: &mut Session, mut line: Line<'_>) -> Reply {
     }
     let walks = candidates(&library.nodes[leaf].ends()).into_iter().map(|candidate| library.walk(leaf, &candidate));
     Ok(list("walks", walks.map(|(both, taken)| format!("{}:{taken}", if both { "yes" } else { "no" }))))
+}
+
+/// The distance of a query to a stored trace, with a limit.
+pub fn distance(session: &mut Session, mut line: Line<'_>) -> Reply {
+    let (limit, trace): (u64, usize) = (line.next()?, line.next()?);
+    let query: Vec<i16> = line.rest()?;
+    let library = session.library(&line).recorded()?;
+    let Some(stored) = library.traces.get(trace) else { return Err(malformed("no stored trace")) };
+    if query.len() != stored.len() {
+        return Err(malformed("a query of another length than n"));
+    }
+    Ok(match distance_within(stored, &query, limit.into()) {
+        Within::Exact(distance) => format!("exact {distance}"),
+        Within::Beyond(samples) => format!("beyond {samples}"),
+    })
 }
 
 /// Somebody writes the tables: a sample, or fields of a node's record.

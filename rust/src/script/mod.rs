@@ -30,7 +30,7 @@ use memory::{Area, Effect, Memory};
 use std::fmt::Display;
 
 /// How many of document 02's requests have landed.
-pub const STAGE: usize = 4;
+pub const STAGE: usize = 5;
 
 /// Two libraries, of which nothing was opened at first: the factory's is the first, the bench's the second.
 pub struct Session {
@@ -59,7 +59,7 @@ struct Played {
     play: fn(&mut Session, Line<'_>) -> Reply,
 }
 
-const LINES: [Played; 13] = [
+const LINES: [Played; 14] = [
     Played { name: "open", keys: &["short"], play: open },
     Played { name: "add", keys: &["short"], play: add },
     Played { name: "match", keys: &["short", "trail"], play: nearest },
@@ -71,6 +71,7 @@ const LINES: [Played; 13] = [
     Played { name: "tree", keys: &[], play: looking::tree },
     Played { name: "below", keys: &[], play: looking::below },
     Played { name: "walks", keys: &[], play: looking::walks },
+    Played { name: "distance", keys: &[], play: looking::distance },
     Played { name: "alter", keys: &[], play: looking::alter },
     Played { name: "program", keys: &[], play: looking::program },
 ];

@@ -1,15 +1,12 @@
 -- `reading::leaf::read_leaf` meets its contract: what is listed so far and what the walk still meets give what the whole walk lists
 -- (`Walked`), and so it is
 -- with their number. The links rise, and the measure is how far the walk is from the count.
-use mathlib.Core.Path.{_≡_, ap, subst}
+use mathlib.Core.Path.{_≡_, ap}
 use Prim.Native.Nat.{ℕ, _+_, _-_, _≤_, _<_}
 use native.Mathlib.Omega.{arith}
 use lib.ListN.{length}
-use Rattle.dstree.specs.KNearest.{listWith}
 use Rattle.tables.specs.Walk.{numbersOf, behindOf}
 use Rattle.tables.proofs.Listed.{metFrom, met-start, behind-rises}
-use Rattle.reading.specs.Nearest.{near, nearOf}
-use Rattle.reading.specs.Listed.{nearsIn, Lists}
 use Rattle.reading.proofs.Walked.{Walking, walk-start, walk-next, walk-end, length-more, length-end, trace-room}
 use Rattle.reading.proofs.leaf.read_leaf.Statement.{statement}
 use Rattle.reading.proofs.leaf.read_leaf.Tie as tie
@@ -40,21 +37,22 @@ loop-holds c =
       omega (arith, ap length e),
     )
 
-trace-distance-requires : tie.Need-trace-distance-requires Inv-loop μ-loop
-trace-distance-requires c κs =
+take-trace-requires : tie.Need-take-trace-requires Inv-loop μ-loop
+take-trace-requires c κs =
     let l = c .before .before in
     let s = given l in
-    (s .pre .0 .narrow, trace-room (s .pre .0) (l .loop .t) (omega (arith, c .before .loop-test .taken)), s .pre .1)
+    let room = trace-room (s .pre .0) (l .loop .t) (omega (arith, c .before .loop-test .taken)) in
+    (s .pre .0 .narrow, room, s .pre .1, l .loop .inv .2 .room)
 
 behind-requires : tie.Need-behind-requires Inv-loop μ-loop
 behind-requires c κs =
-    let l = c .before .before .before .before .before .before in
+    let l = c .before .before .before .before .before in
     omega (arith, given l .pre .0 .links-room)
 
 -- a turn
 module _ (c : tie.After-behind Inv-loop μ-loop) where
   abbrev turn : tie.In-loop Inv-loop μ-loop
-  turn = c .before .before .before .before .before .before
+  turn = c .before .before .before .before .before
 
   abbrev l : tie.At-loop Inv-loop μ-loop
   l = turn .before
@@ -77,18 +75,12 @@ loop-again : tie.Need-loop-again Inv-loop μ-loop
 loop-again c =
     let a = s c .args in
     let L = l c .loop in
-    let p = c .before .before .before in
-    let at = near (L .t) in
-    let put : Lists (a .k) (p .place .result)
-    (listWith (a .k) (nearsIn (L .m) (L .list)) (nearOf (a .samples .now) (a .n) (a .query .now) (L .t))) (L .list)
-    (p .place .last .0) =
-    subst (λ (d : ℕ). Lists (a .k) (p .place .result) (listWith (a .k) (nearsIn (L .m) (L .list)) (at d)) (L .list) (p .place .last .0))
-    (p .before .trace-distance .ensures) (p .place .ensures) in (
+    let p = c .before .before .before in (
       omega (arith, c .behind .ensures, rises c),
       omega (arith, c .behind .ensures, rises c, L .inv .1),
       rw (c .behind .ensures)
           (walk-next (a .samples .now) (a .n) (a .query .now) (a .links .now) (a .count) (a .k) (a .head) (a .listed) (a .list .now)
-          (s c .pre .0 .rising) (L .inv .2) (inside c) put (p .place .kept .0)),
+          (s c .pre .0 .rising) (L .inv .2) (inside c) (p .take-trace .ensures) (p .take-trace .kept .0)),
       omega (
         arith,
         L .inv .3,
@@ -111,9 +103,8 @@ pub read-leaf-spec : {M : Type 1} → statement M
 read-leaf-spec =
     tie.close
     (tie.spec
-    Inv-loop μ-loop loop-holds trace-distance-requires
-    (λ c κs. c .before .before .before .loop .inv .2 .room)
-    (λ c. let l = c .before .before .before .before .before .before in
+    Inv-loop μ-loop loop-holds take-trace-requires
+    (λ c. let l = c .before .before .before .before .before in
     omega (arith, l .loop .inv .0, l .loop .inv .1, given l .pre .0 .few))
     behind-requires loop-less loop-again
     (λ c. c .before .loop .inv .2 .long)

@@ -7,13 +7,9 @@ use native.Mathlib.Omega.{arith}
 use lib.Dec.{eqb}
 use borrow.Author.Tests.{eq-eqb, ne-eqb}
 use Rattle.integer.specs.Words.{if_then_else_, timesIn}
-use Rattle.integer.proofs.Lists.{in-nil}
-use Rattle.integer.proofs.Times.{times-same, times-other, times-none}
+use Rattle.integer.proofs.Times.{times-nil, times-same, times-other}
 use Rattle.heap.specs.Keys.{insertKey, pour, sortedOf}
 use Rattle.heap.proofs.Sorting.{equal-or-not, insert-comm, pour-cons}
-
-times-nil : (k : ℕ) → timesIn k [] ≡ 0
-times-nil k = times-none k [] (λ i. in-nil i)
 
 times-is : (k x : ℕ) (l : List ℕ) → k ≡ x → timesIn k (x ∷ l) ≡ suc (timesIn k l)
 times-is k x l e = subst (λ (y : ℕ). timesIn k (y ∷ l) ≡ suc (timesIn k l)) e (times-same k l)

@@ -3,7 +3,7 @@
 -- The idea: each step on nodes and links stands for the step on the tree, so that what they are read as in the end is the tree in the end.
 use Prim.Native.Nat.{ℕ, zero, suc, _+_, _*_, _<_}
 use mathlib.Core.Path.{_≡_, refl, sym, _∙_, ap, subst}
-use mathlib.Core.Bool.{Bool, true, false}
+use mathlib.Core.Bool.{true}
 use mathlib.Core.List.{List, [], _∷_, _++_, map}
 use native.Mathlib.Omega.{arith}
 use lib.ListN.{length, set, drop, length-append, length-set}
@@ -12,6 +12,7 @@ use lib.Dec.{T, leb, le→leb}
 use mir.Facts.{yes-and}
 use Rattle.integer.specs.Words.{counting, every, lastOf}
 use Rattle.integer.proofs.Lists.{every-of, from-counting}
+use Rattle.integer.proofs.Tests.{test-true}
 use Rattle.dstree.specs.Measures.{Trace, Measures, sampleLimit, samplesNeeded, recordsNeeded, linksNeeded}
 use Rattle.dstree.specs.Node.{Kind, leaf, Tree, nodeAt}
 use Rattle.dstree.specs.Adding.{way, widenAll, join, newLeaf, splitAll, insertion}
@@ -191,13 +192,9 @@ module _ (t : Tables) (x : Trace) (w : T (wellFormed t)) (long : Long t) (size :
 
   kinds-after : kindsNamed (addedTo t x) ≡ true
   unfolding kindsNamed addedTo
-  kinds-after = is-true (every (λ j. leb (smallAt (recordOf (after .nodes) j) kindPlace) 2) (counting (nodeCount (addedTo t x)) 0))
+  kinds-after = test-true (every (λ j. leb (smallAt (recordOf (after .nodes) j) kindPlace) 2) (counting (nodeCount (addedTo t x)) 0))
       (every-of (λ j. leb (smallAt (recordOf (after .nodes) j) kindPlace) 2) (counting (nodeCount (addedTo t x)) 0)
       (λ j i. le→leb _ 2 (kind-named (after-represents .reads j (omega (arith, from-counting (nodeCount (addedTo t x)) 0 i .1, nodes-after, after-represents .count)) .kind))))
-    where
-      is-true : (b : Bool) → T b → b ≡ true
-      is-true true t = refl
-      is-true false t = absurd t
 
   -- ---- all of it
 

@@ -7,7 +7,6 @@ use native.Mathlib.Omega.{arith}
 use lib.ListN.{length, getD, take, drop, replicate, length-append, length-drop, length-replicate, List·getD-append}
 use lib.Seq.{length-take-le, drop-at, drop-drop, getD-take, getD-drop, getD-append-add}
 use lib.IntN.{ℤ, pos}
-use borrow.Author.Tests.{le-ltb}
 use Rattle.integer.specs.Words.{counting}
 use Rattle.integer.proofs.Lists.{In, first, later, map-agree}
 use Rattle.dstree.specs.Measures.{Trace}
@@ -15,15 +14,12 @@ use Rattle.dstree.specs.Node.{Segment, Figure, bySum, byScatter, Test, changeAl
 use Rattle.dstree.specs.Adding.{widenSegment}
 use Rattle.tables.specs.Layout.{kindPlace, segmentsPlace, firstPlace, rightPlace, segmentAt, headPlaces, segmentPlaces, recordPlaces}
 use Rattle.tables.specs.View.{smallOf, scatterIn, placeOf, smallAt, segmentIn, segmentsIn, testIn}
+use Rattle.tables.proofs.Small.{small-read}
 use Rattle.tables.proofs.Views.{segments-length}
 use Rattle.insertion_memory.specs.Records.{segmentFields, fieldsOf, leafRecord, widenRecord, innerKind, innerRecord}
 unfoldable pub use Rattle.insertion_memory.specs.Represents.{kindNumber}
 
 -- ---- fields
-
--- a 16-bit number reads back
-pub small-back : (v : ℕ) → v ≤ 65535 → smallOf (pos v) ≡ v
-small-back v h = rw (le-ltb 65535 v h)
 
 pub fields-length : (l : List Segment) → length (fieldsOf l) ≡ 5 * length l
 unfolding fieldsOf segmentFields flatten
@@ -51,7 +47,7 @@ module _ (r : List ℤ) where
       let end : placeOf r (segmentAt i) ≡ pos (s .end) = ap (λ (k : ℕ). placeOf r k) start ∙ at-place i 0 e in
       let least : placeOf r (segmentAt i + 3) ≡ pos (s .leastScatter) = at-place i 3 e in
       let most : placeOf r (segmentAt i + 4) ≡ pos (s .greatestScatter) = at-place i 4 e in
-      segment-is s (ap smallOf end ∙ small-back (s .end) h) (at-place i 1 e) (at-place i 2 e) (ap scatterIn least) (ap scatterIn most)
+      segment-is s (ap smallOf end ∙ small-read (s .end) h) (at-place i 1 e) (at-place i 2 e) (ap scatterIn least) (ap scatterIn most)
 
   -- segments from number i on, as they lie in the record
   segments-from : (l : List Segment) (i : ℕ) (rest : List ℤ) → SmallEnds l → drop (segmentAt i) r ≡ fieldsOf l ++ rest → map (segmentIn r) (counting (length l) i) ≡ l
@@ -83,11 +79,11 @@ module _ (l : List Segment) (start : ℕ) where
 
   pub leaf-first : start ≤ 65535 → smallAt (leafRecord l start) firstPlace ≡ start
   unfolding leafRecord
-  leaf-first h = small-back start h
+  leaf-first h = small-read start h
 
   leaf-count : length l ≤ 16 → smallAt (leafRecord l start) segmentsPlace ≡ length l
   unfolding leafRecord
-  leaf-count h = small-back (length l) (omega arith)
+  leaf-count h = small-read (length l) (omega arith)
 
   pub leaf-segments : length l ≤ 16 → SmallEnds l → segmentsIn (leafRecord l start) ≡ l
   leaf-segments h g = segments-back (leafRecord l start) l (replicate (recordPlaces - headPlaces - segmentPlaces * length l) (pos 0)) g (leaf-count h) leaf-drop
@@ -150,15 +146,15 @@ module _ (test : Test) (left right : ℕ) (r : List ℤ) where
 
   pub inner-left : left ≤ 65535 → smallAt (innerRecord test left right r) firstPlace ≡ left
   unfolding innerRecord
-  inner-left h = small-back left h
+  inner-left h = small-read left h
 
   pub inner-right : right ≤ 65535 → smallAt (innerRecord test left right r) rightPlace ≡ right
   unfolding innerRecord
-  inner-right h = small-back right h
+  inner-right h = small-read right h
 
   pub inner-test : test .on .first ≤ 65535 → test .on .last ≤ 65535 → testIn (innerRecord test left right r) (test .figure) ≡ test
   unfolding innerRecord testIn
-  inner-test h g = rw (small-back (test .on .first) h, small-back (test .on .last) g)
+  inner-test h g = rw (small-read (test .on .first) h, small-read (test .on .last) g)
 
   -- its segments stay
   inner-behind : (q m : ℕ) → q ≡ headPlaces + m → placeOf (innerRecord test left right r) q ≡ placeOf r q

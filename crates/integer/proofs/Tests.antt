@@ -55,6 +55,19 @@ pub test-false : (b : Bool) → (T b → ⊥) → b ≡ false
 test-false true f = absurd (f tt)
 test-false false f = refl
 
+-- no test both passes and fails
+pub clash : {X : Type 0} → true ≡ false → X
+clash e = absurd (subst T e tt)
+
+-- a test beside one whose answer is known
+pub and-true : (b : Bool) → b && true ≡ b
+and-true true = refl
+and-true false = refl
+
+pub and-false : (b : Bool) → b && false ≡ false
+and-false true = refl
+and-false false = refl
+
 -- neither of two tests passes
 pub neither : (a b : Bool) → a || b ≡ false → (a ≡ false) × (b ≡ false)
 neither true b e = absurd (subst T e tt)

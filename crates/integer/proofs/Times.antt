@@ -7,7 +7,7 @@ use native.Mathlib.Omega.{arith}
 use lib.ListN.{length, getD}
 use lib.Dec.{T, eqb, eqb→eq, eqb-refl}
 use Rattle.integer.specs.Words.{if_then_else_, those, counting, timesIn}
-use Rattle.integer.proofs.Lists.{same-or-not, In, first, later, Up, u-none, u-more, up-in, up-those, in-those, from-those, in-counting, from-counting}
+use Rattle.integer.proofs.Lists.{same-or-not, In, first, later, Up, u-more, up-in, up-those, counting-up, in-those, from-those, in-counting, from-counting}
 use Rattle.integer.proofs.Tests.{eq→eqb}
 
 -- ---- one more element
@@ -28,7 +28,7 @@ times-other k a l f = by (eqb k a) refl
     by true e = absurd (f (eqb→eq k a (subst T (sym e) tt)))
     by false e = refl
 
-times-nil : (k : ℕ) → timesIn k [] ≡ 0
+pub times-nil : (k : ℕ) → timesIn k [] ≡ 0
 unfolding timesIn
 times-nil k = refl
 
@@ -184,34 +184,29 @@ unfolding counting
 counting-length zero a = refl
 counting-length (suc m) a = ap suc (counting-length m (suc a))
 
-counting-rises : (m a : ℕ) → Up a (counting m a)
-unfolding counting
-counting-rises zero a = u-none
-counting-rises (suc m) a = u-more {k = a} {a = a} (omega arith) (counting-rises m (suc a))
-
 -- the m numbers from a on, each once and no other
 pub once-length : (m a : ℕ) (l : List ℕ) → ((x : ℕ) → a ≤ x → x < a + m → timesIn x l ≡ 1) → ((x : ℕ) → In x l → (a ≤ x) × (x < a + m)) → length l ≡ m
 once-length m a l once inside =
-    sym (tally-length (counting m a) l (λ b i. up-once (counting-rises m a) (in-counting m a b (inside b i .0) (inside b i .1))))
+    sym (tally-length (counting m a) l (λ b i. up-once (counting-up m a) (in-counting m a b (inside b i .0) (inside b i .1))))
     ∙ tally-once (counting m a) l (λ x i. once x (from-counting m a i .0) (from-counting m a i .1))
     ∙ counting-length m a
 
--- .. and as many as that, each at most once and no other, are each in it
+-- .. and as many as that, each at least once and no other, are each in it once
 
-tally-most : (xs l : List ℕ) → ((x : ℕ) → timesIn x l ≤ 1) → tally xs l ≤ length xs
+tally-least : (xs l : List ℕ) → ((x : ℕ) → In x xs → 0 < timesIn x l) → length xs ≤ tally xs l
 unfolding tally
-tally-most [] l h = omega arith
-tally-most (x ∷ xs) l h = omega (arith, h x, tally-most xs l h)
+tally-least [] l h = omega arith
+tally-least (x ∷ xs) l h = omega (arith, h x first, tally-least xs l (λ y i. h y (later i)))
 
-tally-full : (xs l : List ℕ) → ((x : ℕ) → timesIn x l ≤ 1) → tally xs l ≡ length xs → {x : ℕ} → In x xs → timesIn x l ≡ 1
+tally-full : (xs l : List ℕ) → ((x : ℕ) → In x xs → 0 < timesIn x l) → tally xs l ≡ length xs → {x : ℕ} → In x xs → timesIn x l ≡ 1
 unfolding tally
-tally-full (x ∷ xs) l h e first = omega (arith, h x, tally-most xs l h, e)
-tally-full (x ∷ xs) l h e (later i) = tally-full xs l h (omega (arith, h x, tally-most xs l h, e)) i
+tally-full (x ∷ xs) l h e first = omega (arith, h x first, tally-least xs l (λ y i. h y (later i)), e)
+tally-full (x ∷ xs) l h e (later i) = tally-full xs l (λ y j. h y (later j)) (omega (arith, h x first, tally-least xs l (λ y j. h y (later j)), e)) i
 
-pub all-once : (m a : ℕ) (l : List ℕ) → length l ≡ m → ((x : ℕ) → timesIn x l ≤ 1) → ((x : ℕ) → In x l → (a ≤ x) × (x < a + m)) → (x : ℕ) → a ≤ x → x < a + m → timesIn x l ≡ 1
-all-once m a l e most inside x g h =
-    tally-full (counting m a) l most
-    (tally-length (counting m a) l (λ b i. up-once (counting-rises m a) (in-counting m a b (inside b i .0) (inside b i .1))) ∙ e ∙ sym (counting-length m a))
+pub all-once : (m a : ℕ) (l : List ℕ) → length l ≡ m → ((x : ℕ) → a ≤ x → x < a + m → 0 < timesIn x l) → ((x : ℕ) → In x l → (a ≤ x) × (x < a + m)) → (x : ℕ) → a ≤ x → x < a + m → timesIn x l ≡ 1
+all-once m a l e least inside x g h =
+    tally-full (counting m a) l (λ y i. least y (from-counting m a i .0) (from-counting m a i .1))
+    (tally-length (counting m a) l (λ b i. up-once (counting-up m a) (in-counting m a b (inside b i .0) (inside b i .1))) ∙ e ∙ sym (counting-length m a))
     (in-counting m a x g h)
 
 -- ---- parts of the numbers below k: a list of such numbers that has each number once whose part has x, has x as often as all parts have it
@@ -226,7 +221,7 @@ module _ (f : ℕ → List ℕ) (k x : ℕ) (most : (y : ℕ) → timesIn x (f y
   times-holders b h = by (same-or-not (timesIn x (f b)) 1)
     where
       by : Dec (timesIn x (f b) ≡ 1) → timesIn b (those (λ y. eqb (timesIn x (f y)) 1) (counting k 0)) ≡ timesIn x (f b)
-      by (yes e) = up-once (up-those (λ y. eqb (timesIn x (f y)) 1) (counting-rises k 0)) (in-those (λ y. eqb (timesIn x (f y)) 1) (in-counting k 0 b (omega arith) (omega arith)) (eq→eqb e)) ∙ sym e
+      by (yes e) = up-once (up-those (λ y. eqb (timesIn x (f y)) 1) (counting-up k 0)) (in-those (λ y. eqb (timesIn x (f y)) 1) (in-counting k 0 b (omega arith) (omega arith)) (eq→eqb e)) ∙ sym e
       by (no g) = omega (
         arith,
         times-none b (those (λ y. eqb (timesIn x (f y)) 1) (counting k 0)) (λ i. g (eqb→eq (timesIn x (f b)) 1 (from-those (λ y. eqb (timesIn x (f y)) 1) (counting k 0) i .1))),
@@ -257,4 +252,4 @@ module _ (f : ℕ → List ℕ) (k x : ℕ) (most : (y : ℕ) → timesIn x (f y
   pub parts-same : (l : List ℕ) → ((b : ℕ) → In b l → b < k) → ((y : ℕ) → y < k → In x (f y) → timesIn y l ≡ 1) → timesIn x (flatten (map f l)) ≡ timesIn x (flatten (map f (counting k 0)))
   parts-same l low once =
       parts-once l low once
-      ∙ sym (parts-once (counting k 0) (λ b i. omega (arith, from-counting k 0 i .1)) (λ y h i. up-once (counting-rises k 0) (in-counting k 0 y (omega arith) (omega arith))))
+      ∙ sym (parts-once (counting k 0) (λ b i. omega (arith, from-counting k 0 i .1)) (λ y h i. up-once (counting-up k 0) (in-counting k 0 y (omega arith) (omega arith))))

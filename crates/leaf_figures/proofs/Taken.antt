@@ -8,7 +8,10 @@ use lib.ListN.{getD}
 use lib.IntN.{ℤ, natAbs}
 use lib.Signed.{ltZ}
 use lib.Dec.{eqb}
+use mir.Syntax.{w64}
+use mir.Facts.{toZ-ofZ}
 use Rattle.integer.specs.Words.{if_then_else_, lesser, greater, those, chosen, leastℤ, greatestℤ, least, greatest}
+use Rattle.integer.proofs.Width.{small, read}
 use Rattle.dstree.specs.Measures.{Trace}
 use Rattle.dstree.specs.Figures.{Run, sumOn, scatterOn}
 use Rattle.dstree.specs.Node.{Segment}
@@ -118,3 +121,12 @@ with-small f s v h hs hv = by (f .any)
       greatest-scatter = omega (arith, h .greatest-scatter);
     }
     by false = record { least-sum = hs; greatest-sum = hs; least-scatter = hv; greatest-scatter = hv }
+
+-- ---- the sums of small figures, read back
+
+module _ (f : Figures) (m : Small f) where
+  pub least-back : read w64 (f .«least_sum») ≡ f .«least_sum»
+  least-back = toZ-ofZ (small {w = w64} {z = f .«least_sum»} (omega (arith, m .least-sum)))
+
+  pub greatest-back : read w64 (f .«greatest_sum») ≡ f .«greatest_sum»
+  greatest-back = toZ-ofZ (small {w = w64} {z = f .«greatest_sum»} (omega (arith, m .greatest-sum)))

@@ -7,14 +7,11 @@ use lib.ListN.{length, take, drop, length-append}
 use lib.Seq.{drop-drop}
 use lib.Dec.{eqb}
 use borrow.Author.Tests.{eq-eqb, ne-eqb}
+use Rattle.integer.proofs.Tests.{and-true}
 use Rattle.dstree.specs.Sheet.{part, bytesOf, numberIn}
 use Rattle.dstree.specs.Recording.{Field, number, header, fieldBytes, begins}
 use Rattle.dstree.proofs.SheetFields.{bytes-length}
 use Rattle.recording.specs.Sections.{riffFields, formatFields, rateFields, dataFields, formatPlace, ratePlace, dataPlace}
-
-and-true : (b : Bool) → b && true ≡ b
-and-true true = refl
-and-true false = refl
 
 -- the field of a width at a place, and the fields behind it
 module _ (place width v : ℕ) (rest : List Field) (bytes : List ℕ) where

@@ -1,6 +1,6 @@
 -- A node's record and its children's: what records that fit say of them, and that a child's ends include its parent's.
 use Prim.Native.Nat.{ℕ, _≤_, _<_}
-use mathlib.Core.Path.{_≡_, refl, sym, _∙_}
+use mathlib.Core.Path.{_≡_, sym, _∙_}
 use mathlib.Core.Bool.{Bool, true, false, _&&_}
 use mathlib.Core.List.{List, [], _∷_}
 use native.Mathlib.Omega.{arith}
@@ -9,7 +9,7 @@ use lib.Dec.{T, leb, ltb, leb→le, ltb→lt}
 use mir.Facts.{and-yes}
 use Rattle.integer.specs.Words.{every}
 use Rattle.integer.proofs.Lists.{first, later, from-every}
-use Rattle.integer.proofs.Tests.{is-true, passed}
+use Rattle.integer.proofs.Tests.{is-true, passed, and-true}
 use Rattle.dstree.specs.Measures.{sampleLimit}
 use Rattle.dstree.specs.WellFormed.{childrenOf, testFits}
 use Rattle.tables.specs.Layout.{kindPlace, firstPlace, rightPlace, segmentsPlace}
@@ -95,11 +95,7 @@ module _ (nodes : List ℤ) (j : ℕ) where
     left-loses e = kept-is ∙ rw e
 
     pub right-decides : keeps (smallAt r firstPlace) ≡ true → keptAt nodes j ≡ keeps (smallAt r rightPlace)
-    right-decides e = kept-is ∙ (rw e (by (keeps (smallAt r rightPlace))))
-      where
-        by : (b : Bool) → b && true ≡ b
-        by true = refl
-        by false = refl
+    right-decides e = kept-is ∙ (rw e (and-true (keeps (smallAt r rightPlace))))
 
 -- ---- children that hold and keep the ends
 

@@ -8,6 +8,7 @@ use native.Mathlib.Numerals.{add-one}
 use lib.IntN.{ℤ}
 use lib.Dec.{leb}
 use borrow.Author.Tests.{lt-leb, le-leb}
+use Rattle.integer.proofs.Tests.{and-true}
 use Rattle.integer.specs.Words.{every}
 use Rattle.dstree.specs.Measures.{sampleLimit}
 use Rattle.dstree.specs.Figures.{run}
@@ -16,10 +17,6 @@ use Rattle.dstree.specs.WellFormed.{childrenOf, thresholdFits, testFits}
 use Rattle.tables.specs.Layout.{kindPlace, firstPlace, rightPlace, runFirstPlace, runLastPlace, thresholdPlace}
 use Rattle.tables.specs.View.{placeOf, smallAt, testIn, kindIn}
 use Rattle.records_fit.specs.Fits.{figureNamed, childFits, headFits}
-
-and-yes : (a : Bool) → a && true ≡ a
-and-yes true = refl
-and-yes false = refl
 
 -- an inner node of this kind field
 abbrev pub innerNamed : List ℤ → ℕ → Kind
@@ -42,7 +39,7 @@ module _ (n m j : ℕ) (r : List ℤ) where
 
   inner-fits : (kind : ℕ) → (kind ≡ 0 → ⊥) → kind ≤ 2 → headFor kind ≡ childFits m j (smallAt r firstPlace) && childFits m j (smallAt r rightPlace) && testFits sampleLimit n (innerNamed r kind)
   unfolding childrenOf every
-  inner-fits kind f h = rw (kind-inner [] 0 r kind f h, le-leb kind 2 h, and-yes (childFits m j (smallAt r rightPlace)))
+  inner-fits kind f h = rw (kind-inner [] 0 r kind f h, le-leb kind 2 h, and-true (childFits m j (smallAt r rightPlace)))
 
   pub head-leaf : smallAt r kindPlace ≡ 0 → headFits n m j r ≡ true
   unfolding headFits

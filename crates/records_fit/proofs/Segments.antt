@@ -14,7 +14,7 @@ use mir.Facts.{and-yes as and-both}
 use borrow.Author.Tests.{lt-ltb, le-ltb, lt-leb, le-leb, ne-eqb, ltb-true, leb-true, leb-false}
 use Rattle.integer.specs.Words.{if_then_else_, counting, isEmpty, lastOf}
 use Rattle.integer.proofs.Lists.{In, in-nil, in-cons, in-map, in-counting, Up, u-none, u-more}
-use Rattle.integer.proofs.Tests.{is-true, passed}
+use Rattle.integer.proofs.Tests.{is-true, passed, and-true, and-false}
 use Rattle.integer.proofs.Times.{counting-length}
 use Rattle.dstree.specs.Measures.{sampleLimit}
 use Rattle.dstree.specs.Figures.{run, width}
@@ -22,12 +22,9 @@ use Rattle.dstree.specs.Node.{Segment, ends}
 use Rattle.dstree.specs.WellFormed.{rising, endsFit, segmentFits, segmentsFit}
 use Rattle.tables.specs.Layout.{segmentAt, segmentsPlace}
 use Rattle.tables.specs.View.{smallOf, scatterIn, placeOf, smallAt, segmentIn, segmentsIn}
+use Rattle.tables.proofs.Small.{small-read}
 use Rattle.records_fit.proofs.Limits.{clash}
 use Rattle.records_fit.specs.Fits.{between, segmentsHold, segmentsFrom, restHolds, EndsRise}
-
-and-no : (a : Bool) → a && false ≡ false
-and-no true = refl
-and-no false = refl
 
 -- ---- a number in between
 
@@ -50,16 +47,13 @@ module _ (low high : ℕ) where
 
 -- a field, as it stands: what is no small number is below 0 or above any end
 module _ (low high : ℕ) (g : low ≤ high) (h : high ≤ 256) where
-  field-is : (n : ℕ) → n ≤ 65535 → smallOf (pos n) ≡ n
-  field-is n f = rw (le-ltb 65535 n f)
-
   outside : false ≡ between low high 65536
   outside = sym (sym (between-above low high 65536 (omega (arith, g, h))) ∙ lt-leb 65536 high (omega (arith, h)))
 
   pub field-below : (z : ℤ) → leZ z (pos low) ≡ true → false ≡ between low high (smallOf z)
   field-below (pos n) e =
       let f = leb-true n low e in
-      subst (λ (x : ℕ). false ≡ between low high x) (sym (field-is n (omega (arith, f, g, h)))) (between-below low high n f)
+      subst (λ (x : ℕ). false ≡ between low high x) (sym (small-read n (omega (arith, f, g, h)))) (between-below low high n f)
   field-below (negsuc n) e = outside
 
   pub field-above : (z : ℤ) → leZ z (pos low) ≡ false → leZ z (pos high) ≡ between low high (smallOf z)
@@ -106,7 +100,7 @@ past n before (s ∷ rest) h = by (ltb before (s .end)) refl (past n (s .end) re
   where
     by : (b : Bool) → ltb before (s .end) ≡ b → (n < s .end → restHolds n (s .end) rest ≡ false)
         → b && segmentFits sampleLimit (width (run (suc before) (s .end))) s && restHolds n (s .end) rest ≡ false
-    by true e ih = rw (ih (omega (arith, ltb-true before (s .end) e, h))) (and-no (segmentFits sampleLimit (width (run (suc before) (s .end))) s))
+    by true e ih = rw (ih (omega (arith, ltb-true before (s .end) e, h))) (and-false (segmentFits sampleLimit (width (run (suc before) (s .end))) s))
     by false e ih = refl
 
 module _ (n before : ℕ) (s : Segment) (rest : List Segment) where
@@ -116,7 +110,7 @@ module _ (n before : ℕ) (s : Segment) (rest : List Segment) where
     where
       by : (s .end ≤ before) ⊎ (n < s .end) → ltb before (s .end) && segmentFits sampleLimit (width (run (suc before) (s .end))) s && restHolds n (s .end) rest ≡ false
       by (inl h) = rw (le-ltb before (s .end) h)
-      by (inr h) = rw (past n (s .end) rest h) (and-no (ltb before (s .end) && segmentFits sampleLimit (width (run (suc before) (s .end))) s))
+      by (inr h) = rw (past n (s .end) rest h) (and-false (ltb before (s .end) && segmentFits sampleLimit (width (run (suc before) (s .end))) s))
 
   module _ (h : before < s .end) where
     same-width : width (run (suc before) (s .end)) ≡ s .end - before
@@ -163,18 +157,14 @@ rest-done n before = refl
 
 -- ---- both rules of a record's segments, from the rest's rule
 
-and-yes : (a : Bool) → a && true ≡ a
-and-yes true = refl
-and-yes false = refl
-
 sorted : (a r e f g : Bool) → ((a && r) && e) && (f && g) ≡ (a && f) && ((r && e) && g)
 sorted false r e f g = refl
 sorted true r e true g = refl
-sorted true r e false g = and-no (r && e)
+sorted true r e false g = and-false (r && e)
 
 rest-is : (n before : ℕ) (l : List Segment) → (rising (before ∷ ends l) && eqb (foldl (λ x y. y) before (ends l)) n) && segmentsFit sampleLimit (suc before) l ≡ restHolds n before l
 unfolding rising segmentsFit restHolds
-rest-is n before [] = and-yes (eqb before n)
+rest-is n before [] = and-true (eqb before n)
 rest-is n before (s ∷ rest) =
     sorted (ltb before (s .end)) (rising (s .end ∷ ends rest)) (eqb (foldl (λ x y. y) (s .end) (ends rest)) n)
     (segmentFits sampleLimit (width (run (suc before) (s .end))) s) (segmentsFit sampleLimit (suc (s .end)) rest)

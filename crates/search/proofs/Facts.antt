@@ -1,14 +1,13 @@
 -- What is known of tables that are ready for a search: where records lie, what their nodes are, and what may be asked of them.
 use Prim.Native.Nat.{ℕ, zero, suc, _+_, _*_, _≤_, _<_}
 use mathlib.Core.Path.{_≡_, refl, sym, subst}
-use mathlib.Core.Bool.{Bool}
 use mathlib.Core.List.{List, [], _∷_, map}
 use native.Mathlib.Nat.{mul-le-mul-right}
 use native.Mathlib.Omega.{arith}
 use native.Mathlib.Decide.{decLe}
 use lib.IntN.{ℤ}
 use lib.ListN.{length}
-use Rattle.integer.specs.Words.{those, counting}
+use Rattle.integer.specs.Words.{counting}
 use Rattle.integer.proofs.Lists.{In, first, in-is, those-lengths}
 use Rattle.integer.proofs.Times.{counting-length}
 use Rattle.dstree.specs.Measures.{Trace, sampleLimit, samplesNeeded, recordsNeeded, linksNeeded, workNeeded}
@@ -52,13 +51,9 @@ shape-alike t = by (counting (nodeCount t) 0)
         alike-more refl (kind-alike (t .links) (traceCount t) (recordOf (t .nodes) j) (smallAt (recordOf (t .nodes) j) kindPlace)) (by l)
 
 -- no more leaves than nodes
-leaves-most : (tree : Tree) → length (leaves tree) ≤ length tree
+pub leaves-most : (tree : Tree) → length (leaves tree) ≤ length tree
 unfolding leaves
-leaves-most tree =
-    omega (arith, those-most (λ number. isLeaf (nodeAt tree number .kind)) (counting (length tree) 0), counting-length (length tree) 0)
-  where
-    those-most : (p : ℕ → Bool) (l : List ℕ) → length (those p l) ≤ length l
-    those-most p l = omega (arith, those-lengths p l)
+leaves-most tree = omega (arith, those-lengths (λ (number : ℕ). isLeaf (nodeAt tree number .kind)) (counting (length tree) 0), counting-length (length tree) 0)
 
 module _ (t : Tables) (query : Trace) (trail : ℕ) (r : Ready t query trail) where
   rules : Formed sampleLimit (measuresOf t) (traceCount t) (treeIn t)

@@ -8,6 +8,7 @@ use lib.ListN.{length, getD, drop, length-take, drop-of-length-le}
 use lib.Dec.{eqb}
 use borrow.Author.Tests.{eq-eqb, ne-eqb}
 use Rattle.integer.specs.Words.{every}
+use Rattle.integer.proofs.Tests.{and-true}
 use Rattle.dstree.specs.Sheet.{blockSize, checkedSize, carriedSize, narrow, sampleSize, part, areZero, thirdsIn, blocksIn, carriedIn}
 use Rattle.dstree.specs.Sheet.{sampleBytesIn, zerosIn}
 use Rattle.sheet_judging.specs.Blocks.{blockCount, InBlocks, blockAt, laterBlocks}
@@ -22,10 +23,6 @@ pub zero-append : (a b : List ℕ) → areZero (a ++ b) ≡ (areZero a && areZer
 unfolding areZero every
 zero-append [] b = refl
 zero-append (x ∷ a) b = ap (λ (t : Bool). eqb x 0 && t) (zero-append a b) ∙ and-assoc (eqb x 0) (areZero a) (areZero b)
-
-and-true : (a : Bool) → (a && true) ≡ a
-and-true true = refl
-and-true false = refl
 
 -- four areas, of which the third has no byte
 four-apart : (a b c d : List ℕ) → c ≡ [] → areZero (a ++ b ++ c ++ d) ≡ ((areZero a && areZero b) && areZero d)

@@ -8,12 +8,9 @@ use native.Mathlib.Omega.{arith}
 use lib.ListN.{length, take}
 use lib.Seq.{length-take-le}
 use lib.Dec.{T}
-use Rattle.integer.specs.Words.{counting}
-use Rattle.integer.proofs.Lists.{those-lengths}
-use Rattle.integer.proofs.Times.{counting-length}
 use Rattle.dstree.specs.Measures.{Trace, Measures, sampleLimit, isLibrary}
-use Rattle.dstree.specs.Node.{Tree, nodeAt}
-use Rattle.dstree.specs.Matching.{isLeaf, leaves, Search, Match, searched, answerOf, matchBySteps}
+use Rattle.dstree.specs.Node.{Tree}
+use Rattle.dstree.specs.Matching.{Search, Match, searched, answerOf, matchBySteps}
 use Rattle.dstree.specs.Refusals.{empty}
 use Rattle.dstree.specs.Program.{Line, found, refusalLine, matchLine, lineOf}
 use Rattle.dstree.proofs.Laws.{claims, node-count}
@@ -25,13 +22,9 @@ use Rattle.insertion_memory.proofs.Made.{Holds, count-is}
 use Rattle.reading.specs.Nearest.{bestOf}
 use Rattle.reading.specs.declared.best.Best.{Best}
 use Rattle.search.specs.Searched.{seen, Ready}
+use Rattle.search.proofs.Facts.{leaves-most}
 use Rattle.matching.specs.declared.Found.the-variants as f
 use Rattle.sheet_line.specs.Lines.{lineBy}
-
--- no more leaves than nodes
-leaves-most : (tree : Tree) → length (leaves tree) ≤ length tree
-unfolding leaves
-leaves-most tree = omega (arith, those-lengths (λ (number : ℕ). isLeaf (nodeAt tree number .kind)) (counting (length tree) 0), counting-length (length tree) 0)
 
 -- the line of a match, if there is one
 unfoldable optionLine : Option Match → Line

@@ -1,32 +1,23 @@
 -- Along a leaf's list: the traces with a mark that are still to come, an array that they are listed in, and a list that is laid link by link.
 use mathlib.Core.Path.{_≡_, refl, sym, ap, _∙_}
-use mathlib.Core.Bool.{Bool, true, false}
-use mathlib.Core.List.{List, [], _∷_, _++_, append-assoc}
+use mathlib.Core.List.{List, [], _∷_}
 use Prim.Native.Nat.{ℕ, suc, _≤_, _<_}
 use native.Mathlib.Omega.{arith}
-use lib.ListN.{length, getD, set, take, drop, drop-of-length-le, length-set}
-use lib.Seq.{drop-cons, take-suc-set, take-set-le, length-take-le, getD-take}
+use lib.ListN.{length, getD, set, take, drop, drop-of-length-le}
+use lib.Seq.{drop-cons, length-take-le, getD-take}
 use lib.Dec.{eqb}
-use Rattle.integer.specs.Words.{if_then_else_, those}
+use Rattle.integer.specs.Words.{those}
 use Rattle.integer.proofs.Lists.{In, in-getD, from-those}
 use Rattle.tables.specs.Walk.{Rising, behindOf, numbersOf}
 use Rattle.leaf_figures.specs.Sides.{marked}
 use Rattle.tables.proofs.Listed.{metFrom, met-more, met-end, numbers-below}
+use Rattle.split_choice.proofs.Sided.{withOne}
 use Rattle.insertion_memory.specs.Links.{linked}
 
--- one trace more, if it has the mark
-abbrev pub withMarked : Bool → ℕ → List ℕ → List ℕ
-withMarked b t rest = if b then t ∷ rest else rest
-
 pub side-more : (links : List ℕ) (k : ℕ) → Rising links k → (marks : List ℕ) (mark t : ℕ) → t < k
-    → marked marks mark (metFrom links k t) ≡ withMarked (eqb (getD marks t 0) mark) t (marked marks mark (metFrom links k (behindOf links k t)))
+    → marked marks mark (metFrom links k t) ≡ withOne (eqb (getD marks t 0) mark) t (marked marks mark (metFrom links k (behindOf links k t)))
 unfolding those
 side-more links k rising marks mark t h = ap (marked marks mark) (met-more links k rising t h)
-
-pub listed-more : (order : List ℕ) (count t : ℕ) (b : Bool) (rest : List ℕ) → count < length order
-    → take (if b then suc count else count) (set order count t) ++ rest ≡ take count order ++ withMarked b t rest
-listed-more order count t true rest h = rw (take-suc-set order count t h) (append-assoc (take count order) (t ∷ []) rest)
-listed-more order count t false rest h = rw (take-set-le count order count t (omega arith))
 
 -- ---- a list laid link by link
 
@@ -48,10 +39,6 @@ pub side-end : (links : List ℕ) (k : ℕ) (marks : List ℕ) (mark t : ℕ) �
 unfolding those
 side-end links k marks mark t h = ap (marked marks mark) (met-end links k t h)
 
-pub counted-most : (b : Bool) (count : ℕ) → (if b then suc count else count) ≤ suc count
-counted-most true count = omega arith
-counted-most false count = omega arith
-
 -- ---- a side in an array's first places
 
 module _ (order side : List ℕ) (count : ℕ) (is : take count order ≡ side) (room : count ≤ length order) where
@@ -65,14 +52,6 @@ module _ (order side : List ℕ) (count : ℕ) (is : take count order ≡ side) 
 
 pub marked-below : (links : List ℕ) (k : ℕ) → Rising links k → (head : ℕ) → head < k → (marks : List ℕ) (mark t : ℕ) → In t (marked marks mark (numbersOf links k head)) → t < k
 marked-below links k rising head h marks mark t i = numbers-below links k rising head t h (from-those (λ u. eqb (getD marks u 0) mark) (numbersOf links k head) i .0)
-
--- ---- a list that is laid keeps the links' length
-
-pub laid-length : (l links : List ℕ) → length (linked l links) ≡ length links
-unfolding linked
-laid-length [] links = refl
-laid-length (x ∷ []) links = length-set links x 0
-laid-length (x ∷ (y ∷ l)) links = laid-length (y ∷ l) (set links x y) ∙ length-set links x y
 
 -- the first of some
 pub first-of-some : (l : List ℕ) (a b : ℕ) → 0 < length l → getD l 0 a ≡ getD l 0 b

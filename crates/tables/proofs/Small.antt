@@ -6,12 +6,10 @@ use native.Mathlib.Omega.{arith}
 use lib.Dec.{T, ltb}
 use lib.IntN.{ℤ, pos, negsuc, natAbs}
 use lib.Signed.{ltZ, nonNeg}
-use borrow.Author.Tests.{ltb-true, ltb-false, lt-ltb}
+use borrow.Author.Tests.{ltb-true, ltb-false, lt-ltb, le-ltb}
 use Rattle.integer.specs.Words.{if_then_else_}
+use Rattle.integer.proofs.Tests.{clash}
 use Rattle.tables.specs.View.{smallOf, scatterIn}
-
-clash : {X : Type 0} → true ≡ false → X
-clash e = let z : _≡_ {A = ℕ} 0 1 = cc in absurd (omega arith)
 
 pub below-zero : (z : ℤ) → ltZ z (pos 0) ≡ true → _≡_ {A = ℕ} 65536 (smallOf z)
 below-zero (pos n) e = let h = ltb-true n 0 e in absurd (omega arith)
@@ -48,6 +46,10 @@ scatter-above (pos n) e = (tt, refl)
 scatter-above (negsuc n) e = clash e
 
 -- ---- fields that come back as they were read
+
+-- a 16-bit number reads as itself
+pub small-read : (v : ℕ) → v ≤ 65535 → smallOf (pos v) ≡ v
+small-read v h = rw (le-ltb 65535 v h)
 
 pub small-back : (z : ℤ) → smallOf z ≤ 65535 → pos (smallOf z) ≡ z
 small-back (pos n) h = by (ltb 65535 n) h

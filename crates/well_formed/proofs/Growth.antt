@@ -8,15 +8,12 @@ use native.Mathlib.Nat.{add-zero}
 use native.Mathlib.Numerals.{add-one}
 use lib.ListN.{length, length-set, getD, set, replicate}
 use lib.Seq.{getD-set-same, getD-set-other}
+use borrow.Author.Count.{below-more}
 use Rattle.integer.specs.Words.{counting, timesIn}
 use Rattle.integer.proofs.Lists.{same-or-not}
-use Rattle.integer.proofs.Times.{times-same, times-other, times-append}
+use Rattle.integer.proofs.Times.{times-nil, times-same, times-other, times-append}
 use Rattle.records_fit.proofs.Limits.{clash}
 use Rattle.well_formed.specs.Marks.{Grown, Twice, Took}
-
-times-nil : (x : ℕ) → timesIn x [] ≡ 0
-unfolding timesIn
-times-nil x = refl
 
 -- ---- no number, one number, more numbers
 
@@ -131,3 +128,21 @@ firsts-none f marks = grown-none marks
 -- the same numbers
 pub took-as : {a b xs ys : List ℕ} {r : Bool} → xs ≡ ys → Took a b ys r → Took a b xs r
 took-as {a} {b} {r} e t = subst (λ (l : List ℕ). Took a b l r) (sym e) t
+
+-- ---- of the first i numbers so many pass, all of them exactly if that is i
+
+pub record Tallied (P : ℕ → Type 0) (passed i : ℕ) : Type 0 where
+  pub most : passed ≤ i
+  pub each : passed ≡ i → (x : ℕ) → x < i → P x
+  pub all : ((x : ℕ) → x < i → P x) → passed ≡ i
+
+module _ (P : ℕ → Type 0) where
+  pub tallied-none : Tallied P 0 0
+  tallied-none = record { most = omega arith; each = λ _ x h. absurd (omega arith); all = λ _. refl }
+
+  pub tallied-more : {passed i r : ℕ} → Tallied P passed i → r ≤ 1 → (r ≡ 1 → P i) → (P i → r ≡ 1) → Tallied P (passed + r) (i + 1)
+  tallied-more {passed} {i} {r} w h yields shows = record {
+    most = omega (arith, w .most, h);
+    each = λ e. below-more P i (w .each (omega (arith, e, w .most, h))) (yields (omega (arith, e, w .most, h)));
+    all = λ f. omega (arith, w .all (λ x g. f x (omega (arith, g))), shows (f i (omega arith)));
+  }

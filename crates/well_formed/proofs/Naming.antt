@@ -14,7 +14,7 @@ use borrow.Author.Tests.{eq-eqb, ne-eqb, eqb-true}
 use Rattle.integer.specs.Words.{if_then_else_, every, counting, timesIn}
 use Rattle.integer.proofs.Lists.{same-or-not, In, first, later, in-cons, in-nil, in-append, in-flat, InFlat, flat, from-flat, every-of, from-every, in-counting, from-counting}
 use Rattle.integer.proofs.Tests.{is-true, eq→eqb}
-use Rattle.integer.proofs.Times.{times-same, times-other, times-append, times-in, once-length, counting-length, parts-same}
+use Rattle.integer.proofs.Times.{times-nil, times-same, times-other, times-append, times-in, once-length, counting-length, parts-same}
 use Rattle.dstree.specs.Node.{leaf}
 use Rattle.dstree.specs.Matching.{numbersIn}
 use Rattle.dstree.specs.WellFormed.{rising, leafFits}
@@ -30,10 +30,6 @@ use Rattle.well_formed.proofs.ByKind.{no-child, two-children, is-leaf, 
 use Rattle.well_formed.proofs.Chains.{leaf-rises, leaf-of, flat-append, followers, list-rest, list-is, list-first, Chain, chain, Rising, list-rises}
 use Rattle.well_formed.proofs.Once.{children-inside}
 
-times-nil : (x : ℕ) → timesIn x [] ≡ 0
-unfolding timesIn
-times-nil x = refl
-
 -- ---- a link
 
 module _ (links : List ℕ) (y x : ℕ) where
@@ -48,7 +44,7 @@ module _ (links : List ℕ) (y x : ℕ) where
       by true = omega (arith, times-nil x)
       by false = side (same-or-not x (getD links y 0))
 
-  link-in : In x (linkAt links y) → (x ≡ getD links y 0) × (getD links y 0 ≡ 0 → ⊥)
+  pub link-in : In x (linkAt links y) → (x ≡ getD links y 0) × (getD links y 0 ≡ 0 → ⊥)
   link-in = by (same-or-not (getD links y 0) 0)
     where
       only : (x ≡ getD links y 0) ⊎ In x [] → x ≡ getD links y 0

@@ -5,15 +5,16 @@ use mathlib.Core.Bool.{Bool, true, false}
 use mathlib.Core.Logic.{_⊎_, inl, inr}
 use mathlib.Core.List.{List, [], _∷_, map, flatten}
 use native.Mathlib.Omega.{arith}
-use lib.ListN.{length, length-append, getD}
+use lib.ListN.{length, length-append, length-set, getD, set}
+use lib.Seq.{getD-set-same, getD-set-other}
 use lib.Dec.{T, ltb, eqb, ltb→lt, lt→ltb}
-use borrow.Author.Tests.{eq-eqb, ne-eqb, eqb-true, eqb-false}
-use Rattle.integer.specs.Words.{if_then_else_, every, counting}
+use borrow.Author.Tests.{eqb-true, eqb-false}
+use Rattle.integer.specs.Words.{every, counting}
 use Rattle.integer.proofs.Lists.{same-or-not, In, first, in-cons, in-nil, in-append, in-flat, every-of, from-every, in-counting}
 use Rattle.records_fit.proofs.Limits.{clash}
-use Rattle.well_formed.specs.Marks.{Grown, Twice, Took, Named, Rises, Linked}
-use Rattle.well_formed.specs.Tests.{linkAt, linksOf}
-use Rattle.well_formed.proofs.Growth.{grown-none, grown-firsts, again-firsts, firsts-more}
+use Rattle.well_formed.specs.Marks.{Grown, Twice, Took, Named, Rises, LinksRise, LinksMarked}
+use Rattle.well_formed.specs.Tests.{notZero, linkAt, linksOf}
+use Rattle.well_formed.proofs.Growth.{grown-none, grown-firsts, again-firsts, firsts-more, Tallied, tallied-none, tallied-more}
 
 -- ---- numbers below a count
 
@@ -85,90 +86,64 @@ module _ (f : ℕ → List ℕ) (count : ℕ) where
 -- ---- one link after another
 
 module _ (links : List ℕ) (k : ℕ) where
-  pub record Links (before marks : List ℕ) (ends i : ℕ) : Type 0 where
+  abbrev pub Fits : ℕ → Type 0
+  Fits x = Rises k x (getD links x 0)
+
+  -- how many of the first i links rise, and how many end a list
+  pub record Counted (fit ends i : ℕ) : Type 0 where
     pub few : i ≤ k
-    pub fit : (x : ℕ) → x < i → Rises k x (getD links x 0)
-    pub grown : Grown before marks (linksOf links i)
+    pub passed : Tallied Fits fit i
     pub count : ends + length (linksOf links i) ≡ i
 
-  pub links-start : (marks : List ℕ) → Links marks marks 0 0
+  pub counted-start : Counted 0 0 0
   unfolding counting flatten
-  links-start marks = record { few = omega arith; fit = λ x h. absurd (omega arith); grown = grown-none marks; count = refl }
+  counted-start = record { few = omega arith; passed = tallied-none Fits; count = refl }
 
-  -- a trace more, whose link was read
-  module _ {before marks : List ℕ} {ends i : ℕ} (w : Links before marks ends i) (h : i < k) {link : ℕ} (e : link ≡ getD links i 0) where
-    fits-on : Rises k i link → (x : ℕ) → x < i + 1 → Rises k x (getD links x 0)
-    fits-on r x g = by (same-or-not x i)
-      where
-        by : Dec (x ≡ i) → Rises k x (getD links x 0)
-        by (yes p) = subst (λ (y : ℕ). Rises k y (getD links y 0)) (sym p) (subst (Rises k i) e r)
-        by (no f) = w .fit x (omega (arith, g, f))
+  pub counted-more : {fit ends i link : ℕ} (r e : ℕ) → Counted fit ends i → i < k → link ≡ getD links i 0
+      → (r ≤ 1) × (r ≡ 1 → Rises k i link) × (Rises k i link → r ≡ 1) → e + length (notZero link) ≡ 1 → Counted (fit + r) (ends + e) (i + 1)
+  counted-more {fit} {ends} {i} {link} r e w h q p z =
+      let one = subst (λ (x : ℕ). e + length (notZero x) ≡ 1) q z in record {
+        few = omega arith;
+        passed = tallied-more Fits (w .passed) (p .0) (λ f. subst (Rises k i) q (p .1 f)) (λ f. p .2 (subst (Rises k i) (sym q) f));
+        count = omega (arith, w .count, one, ap length (firsts-more (linkAt links) i) ∙ length-append (linksOf links i) (linkAt links i));
+      }
 
-    counts : length (linksOf links (i + 1)) ≡ length (linksOf links i) + length (linkAt links i)
-    counts = ap length (firsts-more (linkAt links) i) ∙ length-append (linksOf links i) (linkAt links i)
+  module _ {fit ends i : ℕ} (w : Counted fit ends i) (e : i ≡ k) (m : ℕ) where
+    pub counted-short : (fit ≡ k → ⊥) → LinksRise links k m → ⊥
+    counted-short f l = f (omega (arith, w .passed .all (λ x h. l .fit x (omega (arith, h, e))), e))
 
-    -- it ends a list
-    pub links-end-here : link ≡ 0 → Links before marks (ends + 1) (i + 1)
-    links-end-here z =
-        let q : linkAt links i ≡ [] = ap (λ (b : Bool). if b then [] else getD links i 0 ∷ []) (eq-eqb (getD links i 0) 0 (sym e ∙ z)) in
-        record {
-          few = omega arith;
-          fit = fits-on (inl z);
-          grown = grown-firsts (linkAt links) (w .grown) (subst (Grown marks marks) (sym q) (grown-none marks));
-          count = omega (arith, w .count, counts, ap length q);
-        }
-
-    -- it is no number of a later trace
-    pub links-refused : (Rises k i link → ⊥) → (m : ℕ) → {end : List ℕ} → Linked links k m before end false
-    links-refused f m = record {
-      fit = λ z. clash (sym z);
-      new = λ z. clash (sym z);
-      ends = λ z. clash (sym z);
-      old = λ _ fit _. absurd (f (subst (Rises k i) (sym e) (fit i h)));
-    }
-
-    module _ (g : i < link) where
-      alone : linkAt links i ≡ link ∷ []
-      alone =
-          ap (λ (b : Bool). if b then [] else getD links i 0 ∷ []) (ne-eqb (getD links i 0) 0 (λ z. omega (arith, e, z, g)))
-          ∙ ap (λ (x : ℕ). x ∷ []) (sym e)
-
-      module _ {after : List ℕ} {r : Bool} (t : Took marks after (link ∷ []) r) where
-        -- it is marked
-        pub links-more : link < k → r ≡ true → Links before after ends (i + 1)
-        links-more l q = record {
-          few = omega arith;
-          fit = fits-on (inr (g, l));
-          grown = grown-firsts (linkAt links) (w .grown) (subst (Grown marks after) (sym alone) (t .new q));
-          count = omega (arith, w .count, counts, ap length alone);
-        }
-
-        -- it is met again
-        pub links-again : r ≡ false → (m : ℕ) → {end : List ℕ} → Linked links k m before end false
-        links-again q m = record {
-          fit = λ z. clash (sym z);
-          new = λ z. clash (sym z);
-          ends = λ z. clash (sym z);
-          old = λ _ _ _. again-firsts (linkAt links) (w .grown) k h (subst (Twice marks) (sym alone) (t .old q));
-        }
-
-  module _ {before marks : List ℕ} {ends i : ℕ} (w : Links before marks ends i) (e : i ≡ k) where
     total : ends + length (linksOf links k) ≡ k
     total = subst (λ (x : ℕ). ends + length (linksOf links x) ≡ x) e (w .count)
 
-    pub links-end : (m : ℕ) → Linked links k m before marks (eqb (2 * ends) (m + 1))
-    links-end m = by (eqb (2 * ends) (m + 1)) refl
-      where
-        by : (b : Bool) → eqb (2 * ends) (m + 1) ≡ b → Linked links k m before marks b
-        by true q = record {
-          fit = λ _ x h. w .fit x (omega (arith, e, h));
-          new = λ _. subst (λ (x : ℕ). Grown before marks (linksOf links x)) e (w .grown);
-          ends = λ _. omega (arith, total, eqb-true (2 * ends) (m + 1) q);
-          old = λ z. clash z;
-        }
-        by false q = record {
-          fit = λ z. clash (sym z);
-          new = λ z. clash (sym z);
-          ends = λ z. clash (sym z);
-          old = λ _ _ z. absurd (eqb-false (2 * ends) (m + 1) q (omega (arith, total, z)));
-        }
+    pub counted-all : fit ≡ k → (b : Bool) → eqb (2 * ends) (m + 1) ≡ b → (b ≡ true → LinksRise links k m) × (b ≡ false → LinksRise links k m → ⊥)
+    counted-all f b q = (
+      λ t. record { fit = λ x h. w .passed .each (omega (arith, f, e)) x (omega (arith, h, e)); ends = omega (arith, total, eqb-true (2 * ends) (m + 1) (q ∙ t)) },
+      λ t l. eqb-false (2 * ends) (m + 1) (q ∙ t) (omega (arith, total, l .ends)),
+    )
+
+-- ---- one link after another, marked
+
+module _ (links : List ℕ) where
+  pub links-none : (marks : List ℕ) → LinksMarked links 0 marks marks
+  links-none marks = record { size = refl; on = λ i h. absurd (omega arith); off = λ x _. refl; kept = λ x e. e }
+
+  pub links-more : {before marks : List ℕ} {i link : ℕ} → LinksMarked links i before marks → link ≡ getD links i 0 → link < length marks
+      → LinksMarked links (i + 1) before (set marks link 1)
+  links-more {before} {marks} {i} {link} w e h = record {
+    size = length-set marks link 1 ∙ w .size;
+    on = λ x g. on x g (same-or-not x i);
+    off = λ x f. getD-set-other marks link x 1 0 (λ p. f i (omega arith) (p ∙ e)) ∙ w .off x (λ y g. f y (omega (arith, g)));
+    kept = λ x p. still x (w .kept x p);
+  }
+    where
+      still : (x : ℕ) → getD marks x 0 ≡ 1 → getD (set marks link 1) x 0 ≡ 1
+      still x p = by (same-or-not x link)
+        where
+          by : Dec (x ≡ link) → getD (set marks link 1) x 0 ≡ 1
+          by (yes q) = subst (λ (y : ℕ). getD (set marks link 1) y 0 ≡ 1) (sym q) (getD-set-same marks link 1 0 h)
+          by (no f) = getD-set-other marks link x 1 0 f ∙ p
+
+      on : (x : ℕ) → x < i + 1 → Dec (x ≡ i) → getD (set marks link 1) (getD links x 0) 0 ≡ 1
+      on x g (yes p) =
+          subst (λ (y : ℕ). getD (set marks link 1) y 0 ≡ 1) (e ∙ ap (λ (y : ℕ). getD links y 0) (sym p)) (getD-set-same marks link 1 0 h)
+      on x g (no f) = still (getD links x 0) (w .on x (omega (arith, g, f)))

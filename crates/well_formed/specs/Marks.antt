@@ -8,6 +8,7 @@ use lib.IntN.{ℤ}
 use lib.ListN.{length, getD}
 use lib.Dec.{T, ltb}
 use Rattle.integer.specs.Words.{every, timesIn}
+use Rattle.integer.specs.Lists.{In}
 use Rattle.tables.specs.Tables.{recordOf}
 use Rattle.records_fit.specs.Fits.{headFits, recordsFit, allKept, ChildrenUnder}
 use Rattle.well_formed.specs.Tests.{childrenAt, childrenOfFirst, childrenOnce, firstAt, firstsOf, linksOf}
@@ -39,12 +40,22 @@ pub record Named (count : ℕ) (before after numbers : List ℕ) (all : Bool) : 
 abbrev pub Rises : ℕ → ℕ → ℕ → Type 0
 Rises k i link = (link ≡ 0) ⊎ ((i < link) × (link < k))
 
--- the links of k traces: all are so and are marked, and twice as many end a list as m + 1, or not, or one is met again
-pub record Linked (links : List ℕ) (k m : ℕ) (before after : List ℕ) (all : Bool) : Type 0 where
-  pub fit : all ≡ true → (i : ℕ) → i < k → Rises k i (getD links i 0)
-  pub new : all ≡ true → Grown before after (linksOf links k)
-  pub ends : all ≡ true → 2 * (k - length (linksOf links k)) ≡ m + 1
-  pub old : all ≡ false → ((i : ℕ) → i < k → Rises k i (getD links i 0)) → 2 * (k - length (linksOf links k)) ≡ m + 1 → Twice before (linksOf links k)
+-- the links of k traces: all are so, and twice as many end a list as m + 1
+pub record LinksRise (links : List ℕ) (k m : ℕ) : Type 0 where
+  pub fit : (i : ℕ) → i < k → Rises k i (getD links i 0)
+  pub ends : 2 * (k - length (linksOf links k)) ≡ m + 1
+
+-- a place for each link of k traces holds 1, and any other what it did
+pub record LinksMarked (links : List ℕ) (k : ℕ) (before after : List ℕ) : Type 0 where
+  pub size : length after ≡ length before
+  pub on : (i : ℕ) → i < k → getD after (getD links i 0) 0 ≡ 1
+  pub off : (x : ℕ) → ((i : ℕ) → i < k → x ≡ getD links i 0 → ⊥) → getD after x 0 ≡ getD before x 0
+  pub kept : (x : ℕ) → getD before x 0 ≡ 1 → getD after x 0 ≡ 1
+
+-- .. and each of the k traces is marked before or is a link
+pub record LinksName (links : List ℕ) (k m : ℕ) (before : List ℕ) : Type 0 where
+  pub rise : LinksRise links k m
+  pub covers : (x : ℕ) → x < k → (getD before x 0 ≡ 1) ⊎ In x (linksOf links k)
 
 -- ---- what a visit to a node shows
 

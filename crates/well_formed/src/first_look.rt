@@ -86,5 +86,5 @@ pub fn passes(nodes: &[i64], links: &[u16], m: usize, n: usize, k: usize) -> boo
     if !records_pass(nodes, m, n, k, &mut named) {
         return false;
     }
-    crate::leaves::mark_links(links, k, m, &mut named)
+    crate::leaves::links_name(links, k, m, &mut named)
 }

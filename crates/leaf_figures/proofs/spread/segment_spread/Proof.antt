@@ -2,24 +2,13 @@
 use mathlib.Core.Path.{_≡_, ap, _∙_}
 use Prim.Native.Nat.{suc, _+_, _-_}
 use native.Mathlib.Omega.{arith}
-use mir.Syntax.{w64}
-use mir.Facts.{toZ-ofZ}
-use Rattle.integer.proofs.Width.{small, read}
 use Rattle.segment.specs.Terms.{spreadTerm}
 use Rattle.dstree.specs.Figures.{run}
 use Rattle.dstree.specs.Adding.{spreadOn}
-use Rattle.leaf_figures.specs.declared.sides.Figures.{Figures}
-use Rattle.leaf_figures.specs.Sides.{Small}
+use Rattle.leaf_figures.proofs.Taken.{least-back, greatest-back}
 use borrow.Author.Needs.{needs}
 use Rattle.leaf_figures.proofs.spread.segment_spread.Statement.{statement}
 use Rattle.leaf_figures.proofs.spread.segment_spread.Tie as tie
-
--- the sums, read back
-least-back : (f : Figures) → Small f → read w64 (f .«least_sum») ≡ f .«least_sum»
-least-back f m = toZ-ofZ (small {w = w64} {z = f .«least_sum»} (omega (arith, m .least-sum)))
-
-greatest-back : (f : Figures) → Small f → read w64 (f .«greatest_sum») ≡ f .«greatest_sum»
-greatest-back f m = toZ-ofZ (small {w = w64} {z = f .«greatest_sum»} (omega (arith, m .greatest-sum)))
 
 spread-term-requires : tie.Need-spread-term-requires
 spread-term-requires c κs =

@@ -9,9 +9,8 @@ use lib.IntN.{ℤ}
 use lib.ListN.{length, getD, take, drop}
 use lib.Seq.{length-take-le, take-all}
 use mir.Syntax.{w64}
-use mir.Facts.{toZ-ofZ}
 use denote.Ref.{now}
-use Rattle.integer.proofs.Width.{small, read}
+use Rattle.integer.proofs.Width.{read}
 use Rattle.dstree.specs.Measures.{Trace}
 use Rattle.dstree.specs.Figures.{run}
 use Rattle.dstree.specs.Node.{Segment}
@@ -19,8 +18,8 @@ use Rattle.dstree.specs.Adding.{segmentOf, segmentsFrom, tracesOf}
 use Rattle.dstree.specs.Formed.{Rises}
 use Rattle.tables.specs.Layout.{recordPlaces}
 use Rattle.tables.specs.Walk.{storedIn, numbersOf}
-use Rattle.leaf_figures.specs.Sides.{marked, Small}
-use Rattle.leaf_figures.specs.declared.sides.Figures.{Figures}
+use Rattle.leaf_figures.specs.Sides.{marked}
+use Rattle.leaf_figures.proofs.Taken.{least-back, greatest-back}
 use Rattle.leaf_figures.proofs.Totals.{Next, next-at}
 use Rattle.insertion.specs.Heads.{segmentBy}
 use Rattle.insertion.specs.Widening.{withSegment}
@@ -32,13 +31,6 @@ use Rattle.splitting.proofs.leaves.write_segments.Tie as tie
 -- the side's traces
 abbrev side : List ℤ → List ℕ → ℕ → ℕ → ℕ → List ℕ → ℕ → List Trace
 side samples links n k head marks mark = tracesOf (storedIn samples n k) (marked marks mark (numbersOf links k head))
-
--- the sums, read back
-least-back : (f : Figures) → Small f → read w64 (f .«least_sum») ≡ f .«least_sum»
-least-back f m = toZ-ofZ (small {w = w64} {z = f .«least_sum»} (omega (arith, m .least-sum)))
-
-greatest-back : (f : Figures) → Small f → read w64 (f .«greatest_sum») ≡ f .«greatest_sum»
-greatest-back f m = toZ-ofZ (small {w = w64} {z = f .«greatest_sum»} (omega (arith, m .greatest-sum)))
 
 abbrev Inv-loop : tie.InvT-loop
 Inv-loop record₀ samples links n k head marks mark at count first₀ i₀ «record» first i =

@@ -11,7 +11,8 @@ use Rattle.integer.specs.Words.{if_then_else_}
 use Rattle.tables.specs.Walk.{numbersOf, behindOf}
 use Rattle.leaf_figures.specs.Sides.{marked}
 use Rattle.tables.proofs.Listed.{metFrom, met-start, behind-rises}
-use Rattle.splitting.proofs.Walks.{side-more, side-end, listed-more, counted-most, withMarked}
+use Rattle.split_choice.proofs.Sided.{withOne, listed-more, counted-most}
+use Rattle.splitting.proofs.Walks.{side-more, side-end}
 use Rattle.splitting.proofs.lists.list_side.Statement.{statement}
 use Rattle.splitting.proofs.lists.list_side.Tie as tie
 
@@ -43,7 +44,7 @@ loop-again c =
     let b : Bool = eqb (getD (a .marks .now) (l .t) 0) (a .mark) in
     let e : c .before .counted .result ≡ (if b then suc (l .count) else l .count) = c .before .counted .ensures in
     let after = marked (a .marks .now) (a .mark) (metFrom (a .links .now) (a .k) (behindOf (a .links .now) (a .k) (l .t))) in
-    let more : marked (a .marks .now) (a .mark) (metFrom (a .links .now) (a .k) (l .t)) ≡ withMarked b (l .t) after =
+    let more : marked (a .marks .now) (a .mark) (metFrom (a .links .now) (a .k) (l .t)) ≡ withOne b (l .t) after =
     side-more (a .links .now) (a .k) (s .pre .3) (a .marks .now) (a .mark) (l .t) (c .before .before .before .loop-test .taken) in (
       omega arith,
       omega (arith, e, counted-most b (l .count)),

@@ -9,7 +9,8 @@ use borrow.Author.Needs.{needs}
 use Rattle.tables.specs.Walk.{numbersOf}
 use Rattle.leaf_figures.specs.Sides.{marked}
 use Rattle.insertion_memory.specs.Links.{linked}
-use Rattle.splitting.proofs.Walks.{side-length, side-inside, marked-below, laid-length}
+use Rattle.insertion_memory.proofs.Following.{laid-length}
+use Rattle.splitting.proofs.Walks.{side-length, side-inside, marked-below}
 use Rattle.splitting.proofs.lists.relink.Statement.{statement}
 use Rattle.splitting.proofs.lists.relink.Tie as tie
 

@@ -1,8 +1,8 @@
 -- `well_formed::children::children_once` meets its contract: with a child that is met again the rule fails, and else the marks tell how often each node is a child.
-use mathlib.Core.Path.{_∙_}
+use mathlib.Core.Path.{_≡_, sym, _∙_}
 use Prim.Native.Nat.{ℕ}
 use native.Mathlib.Omega.{arith}
-use lib.ListN.{length-replicate}
+use lib.ListN.{length, length-replicate}
 use denote.Ref.{now}
 use borrow.Author.Tests.{not-true, not-false}
 use Rattle.well_formed.proofs.Once.{children-again, children-marked, no-children}
@@ -21,6 +21,13 @@ returns c =
 returns-2 : tie.Need-returns-2
 returns-2 c = let s = c .before .before .before .before in no-children (now (s .args .nodes)) (s .args .m) (c .if2 .taken)
 
+-- as many places as there were
+size : (c : tie.After-marks2) → length (c .before .before .before .mark-all .last .1 .1 .0) ≡ 8192
+size c =
+    let e = c .before .before in
+    let d = e .before in
+    d .mark-all .ensures .new (not-false (d .mark-all .result) (e .if1 .left)) .size ∙ length-replicate {A = ℕ} 8192 0
+
 returns-3 : tie.Need-returns-3
 returns-3 c =
     let e = c .before .before .before in
@@ -32,5 +39,5 @@ pub children-once-spec : {M : Type 1} → statement M
 children-once-spec =
     tie.close
     (tie.spec
-    mark-all-requires returns returns-2 (λ c. omega (arith, c .before .if2 .left))
-    (λ c κs. omega (arith, c .before .before .before .before .before .pre .low)) returns-3)
+    mark-all-requires returns returns-2 (λ c. sym (size c)) (λ c. omega (arith, c .before .if2 .left))
+    (λ c κs. let low = c .before .before .before .before .before .pre .low in (omega (arith, size c, low), omega (arith, low))) returns-3)

@@ -11,8 +11,8 @@ use Rattle.well_formed.proofs.Holding.{links-decide}
 use Rattle.well_formed.proofs.first_look.passes.Statement.{statement}
 use Rattle.well_formed.proofs.first_look.passes.Tie as tie
 
-mark-links-requires : tie.Need-mark-links-requires
-mark-links-requires c κs =
+links-name-requires : tie.Need-links-name-requires
+links-name-requires c κs =
     let o = c .before in
     let d = o .before in
     let p = d .before .before .before .pre in
@@ -28,7 +28,7 @@ returns-2 c e =
     let w = d .records-pass .ensures (not-false (d .records-pass .result) (o .if1 .left)) in
     let leaves : leavesHold (a .m) (now (a .nodes)) (a .k) (now (a .links)) ≡ true =
     sym (links-decide (now (a .nodes)) (a .m) (record { n = a .n; short = s .pre .short; fit = w .fit; room = s .pre .room; low = s .pre .low })
-    (now (a .links)) (a .k) (s .pre .few) (w .some) (w .once) (w .firsts) refl (c .mark-links .ensures)) ∙ e in
+    (now (a .links)) (a .k) (s .pre .few) (w .some) (w .once) (w .firsts) refl (c .links-name .ensures)) ∙ e in
     rw (w .fit, w .kept, w .once, leaves)
 
 pub passes-spec : {M : Type 1} → statement M
@@ -36,4 +36,4 @@ passes-spec =
     tie.close
     (tie.spec
     (λ c κs. let p = c .before .before .pre in (p .room, p .low, p .short, p .few, length-replicate {A = ℕ} 4096 0))
-    (λ c e. clash (sym e)) mark-links-requires returns-2)
+    (λ c e. clash (sym e)) links-name-requires returns-2)

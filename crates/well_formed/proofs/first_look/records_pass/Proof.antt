@@ -1,14 +1,20 @@
 -- `well_formed::first_look::records_pass` meets its contract: all nodes were visited, and by the marks each but node 0 is a child (`Looking`).
-use mathlib.Core.Path.{sym, _∙_}
+use mathlib.Core.Path.{_≡_, sym, _∙_}
 use Prim.Native.Nat.{ℕ}
 use native.Mathlib.Omega.{arith}
-use lib.ListN.{length-replicate}
+use lib.ListN.{length, length-replicate}
 use denote.Ref.{now}
 use borrow.Author.Tests.{not-false}
 use Rattle.records_fit.proofs.Limits.{clash}
 use Rattle.well_formed.proofs.Looking.{all-visited}
 use Rattle.well_formed.proofs.first_look.records_pass.Statement.{statement}
 use Rattle.well_formed.proofs.first_look.records_pass.Tie as tie
+
+-- as many places as there were
+size : (c : tie.After-marks2) → length (c .before .before .nodes-pass .last .1 .1 .1 .1 .0) ≡ 8192
+size c =
+    let v = c .before .before in
+    v .nodes-pass .ensures (not-false (v .nodes-pass .result) (c .before .if3 .left)) .children .size ∙ length-replicate {A = ℕ} 8192 0
 
 returns-4 : tie.Need-returns-4
 returns-4 c e =
@@ -31,6 +37,6 @@ records-pass-spec =
     (λ c e. clash (sym e))
     (λ c κs. let p = c .before .before .before .before .before .pre in (p .0, p .1, p .2, p .3, length-replicate {A = ℕ} 8192 0, p .4))
     (λ c e. clash (sym e))
-    (λ c. omega (arith, c .before .before .before .before .before .before .before .if1 .left))
-    (λ c κs. omega (arith, c .before .before .before .before .before .before .before .before .pre .1))
+    (λ c. sym (size c)) (λ c. omega (arith, c .before .before .before .before .before .before .before .if1 .left))
+    (λ c κs. let low = c .before .before .before .before .before .before .before .before .pre .1 in (omega (arith, size c, low), omega (arith, low)))
     returns-4)

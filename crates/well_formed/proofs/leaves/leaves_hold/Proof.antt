@@ -27,8 +27,8 @@ returns-2 c =
     firsts-refused (now (s .args .nodes)) (s .args .m) (s .pre .0) (now (s .args .links)) (s .args .k) (s .pre .3)
     (d .mark-firsts .ensures) (not-true (d .mark-firsts .result) (c .if2 .taken))
 
-mark-links-requires : tie.Need-mark-links-requires
-mark-links-requires c κs =
+links-name-requires : tie.Need-links-name-requires
+links-name-requires c κs =
     let e = c .before in
     let d = e .before in
     let s = d .before .before .before .before in
@@ -41,7 +41,7 @@ returns-3 c =
     let o = d .before .before in
     let s = o .before .before in
     links-decide (now (s .args .nodes)) (s .args .m) (s .pre .0) (now (s .args .links)) (s .args .k) (s .pre .3) (some o) (s .pre .1)
-    (d .mark-firsts .ensures) (not-false (d .mark-firsts .result) (e .if2 .left)) (c .mark-links .ensures)
+    (d .mark-firsts .ensures) (not-false (d .mark-firsts .result) (e .if2 .left)) (c .links-name .ensures)
 
 pub leaves-hold-spec : {M : Type 1} → statement M
-leaves-hold-spec = tie.close (tie.spec returns mark-firsts-requires returns-2 mark-links-requires returns-3)
+leaves-hold-spec = tie.close (tie.spec returns mark-firsts-requires returns-2 links-name-requires returns-3)

@@ -34,9 +34,10 @@ fn cases(file: &str) -> Vec<Case> {
     list
 }
 
-/// Plays the cases that hold at this stage; so many there are at least.
+/// Plays the cases that hold at this stage; so many there are at least. A case "before" shows a rule that the next stage replaces.
 fn play(file: &str, at_least: usize) {
-    let held: Vec<Case> = cases(file).into_iter().filter(|case| (0..=STAGE).contains(&case.stage)).collect();
+    let holds = |case: &Case| case.stage == STAGE || case.stage < STAGE && !case.name.contains(" before:");
+    let held: Vec<Case> = cases(file).into_iter().filter(holds).collect();
     assert!(held.len() >= at_least, "{file}: {} cases", held.len());
     for case in held {
         // seen if a call breaks a rule
@@ -75,7 +76,7 @@ fn the_program() {
 /// The smallest cases that tell two readings of document 02 apart.
 #[test]
 fn telling_cases() {
-    play("telling.txt", 29);
+    play("telling.txt", 32);
 }
 
 /// A script of lines and replies.

@@ -62,7 +62,7 @@ fn test(random: &mut Random, n: usize, below: &[&[i16]]) -> Test {
     let w = width((first, last));
     let (low, high) = match figure {
         Figure::Sum => (-2 * w * 32_768, 2 * w * 32_768),
-        Figure::Scatter => (0, (2 * w * w) << 30),
+        Figure::Scatter => (0, 2 * w * 32_768),
     };
     let threshold = if random.once_in(2) { 2 * figure.of(&below[random.below(below.len())][first - 1..last]) } else { pair(random, low, high).0 };
     Test { figure, first, last, threshold }

@@ -34,10 +34,9 @@ fn cases(file: &str) -> Vec<Case> {
     list
 }
 
-/// Plays the cases that hold at this stage; so many there are at least. A case "before" shows a rule that the next stage replaces.
+/// Plays the cases that hold at this stage; so many there are at least.
 fn play(file: &str, at_least: usize) {
-    let holds = |case: &Case| case.stage == STAGE || case.stage < STAGE && !case.name.contains(" before:");
-    let held: Vec<Case> = cases(file).into_iter().filter(holds).collect();
+    let held: Vec<Case> = cases(file).into_iter().filter(|case| (0..=STAGE).contains(&case.stage)).collect();
     assert!(held.len() >= at_least, "{file}: {} cases", held.len());
     for case in held {
         // seen if a call breaks a rule

@@ -32,6 +32,7 @@ use Rattle.dstree.specs.KNearest.{nears, nearestList, listPlaces, kth, r
 use Rattle.dstree.specs.KNearest.{leavesRk, kNearestOf, listOfMatch, inRank, distancesAmong}
 use Rattle.dstree.specs.Recording.{header, fieldBytes, recordingOf, rateIn, sizeIn, begins, isRecording, recordedTraces}
 use Rattle.dstree.specs.Recording.{judgeRecording, fileTraces, isBadFile}
+use Rattle.dstree.specs.Checking.{belowFrom, sameℤ, sameFigures, areExact, isExactAt, isExact}
 
 unfoldable wordsOpen : Unit {0}
 unfolding flatten roundedUp total counting those every chosen isEmpty isIn timesIn same
@@ -99,6 +100,10 @@ unfoldable recordingsOpen : Unit {0}
 unfolding header fieldBytes recordingOf rateIn sizeIn begins isRecording recordedTraces judgeRecording fileTraces isBadFile
 recordingsOpen = tt
 
+unfoldable checkingOpen : Unit {0}
+unfolding belowFrom sameℤ sameFigures areExact isExactAt isExact
+checkingOpen = tt
+
 unfoldable booksOpen : Unit {0}
 unfolding besideOf controlShort tablesShort readingConditions putRead openingEntry addingEntry matchingEntry writingEntry readingEntry
 booksOpen = tt
@@ -113,5 +118,5 @@ linesOpen = tt
 
 unfoldable pub everything : Unit {0}
 unfolding wordsOpen figuresOpen figuresOpen2 nodesOpen nodesOpen2 addingOpen addingOpen2 matchingOpen matchingOpen2 nearestOpen rulesOpen rulesOpen2
-    sheetsOpen sheetsOpen2 sheetTestsOpen recordingsOpen booksOpen booksOpen2 linesOpen
+    sheetsOpen sheetsOpen2 sheetTestsOpen recordingsOpen checkingOpen booksOpen booksOpen2 linesOpen
 everything = tt

@@ -1,7 +1,7 @@
 -- Laws of the definitions. The tree that adding makes: Invariant, Joins, Splits and Grown; a query: Bounds, Reading, Search and Closed;
 -- all together: Laws. The k nearest: Ranks, KSteps and KClosed; all together: KLaws.
 -- Sheets: SheetWritten, SheetRead, ReadBack and WrittenAgain; all together: RoundTrips.
--- Recorder's files: Recordings. Both sides seen: Looking.
+-- Recorder's files: Recordings. Both sides seen: Looking. The check of tables: Checking.
 pub mod Everything
 pub mod Notation
 pub mod Examples
@@ -51,4 +51,5 @@ pub mod Laws
 pub mod KLaws
 pub mod KExamples
 pub mod RecordingExamples
+pub mod CheckingExamples
 pub mod Recordings

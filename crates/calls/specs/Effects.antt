@@ -9,11 +9,12 @@ use lib.Dec.{eqb, ltb}
 use Rattle.dstree.specs.Measures.{Trace, Measures, workNeeded}
 use Rattle.dstree.specs.Matching.{leaves, Match, matchBySteps}
 use Rattle.dstree.specs.KNearest.{isK, listPlaces, kNearestBySteps}
-use Rattle.dstree.specs.Refusals.{Condition, _refuses_, wrongTrace, full, empty, shortTrail, sheetLength, badK}
+use Rattle.dstree.specs.Refusals.{Condition, _refuses_, wrongTrace, full, empty, shortTrail, sheetLength, badK, looseRecord}
+use Rattle.dstree.specs.Checking.{isExact}
 use Rattle.dstree.specs.Sheet.{blockSize, blocksNeeded, sheetOf, Judged, refused, holds, judgeSheet}
 use Rattle.dstree.specs.Recording.{recordingSize, recordingOf, judgeRecording, fileTraces}
-use Rattle.dstree.specs.Book.{Ask, opening, adding, matching, writing, reading, listing, importing, exporting, besideOf}
-use Rattle.dstree.specs.Book.{Result, done, added, matched, written, neighbours, imported, exported, over}
+use Rattle.dstree.specs.Book.{Ask, opening, adding, matching, writing, reading, listing, importing, exporting, checking, besideOf}
+use Rattle.dstree.specs.Book.{Result, done, added, matched, written, neighbours, imported, exported, accepted, over}
 use Rattle.dstree.specs.Book.{readingConditions, importConditions, exportConditions}
 use Rattle.tables.specs.Layout.{layout}
 use Rattle.tables.specs.Tables.{Tables, tables, lentOf, measuresOf, traceCount, filled}
@@ -151,6 +152,17 @@ exports t number rate buffer =
       beside = over bytes buffer ∷ [];
     }
 
+-- ---- the check (document 02, §6): "13 loose record, when well-formed tables hold a figure that isn't exactly the recomputed one, last in
+-- order". It leaves everything as it was, search work too
+
+unfoldable pub checks : Tables → Effect
+checks t = record {
+  conditions = madeConditions t ++ not (isExact (tracesIn t) (treeIn t)) refuses looseRecord ∷ [];
+  result = accepted;
+  after = t;
+  beside = [];
+}
+
 -- ---- any call
 
 unfoldable pub effectOf : Ask → Tables → Effect
@@ -162,6 +174,7 @@ effectOf (reading bytes) t = reads t bytes
 effectOf (listing k query trail list) t = lists t k query trail list
 effectOf (importing bytes) t = imports t bytes
 effectOf (exporting number rate buffer) t = exports t number rate buffer
+effectOf checking t = checks t
 
 -- what a call answers and leaves that asks this of these tables
 unfoldable pub outcomeOn : Ask → Tables → Outcome

@@ -3,8 +3,8 @@ use Prim.Native.Nat.{ℕ}
 use mathlib.Core.List.{List, [], _∷_}
 use lib.ListN.{length}
 use Rattle.dstree.specs.Refusals.{numberOf, placeOf}
-use Rattle.dstree.specs.Book.{Result, done, added, matched, written, neighbours, imported, exported, Answer, refusing}
-use Rattle.dstree.specs.Book.{answering}
+use Rattle.dstree.specs.Book.{Result, done, added, matched, written, neighbours, imported, exported, accepted, Answer}
+use Rattle.dstree.specs.Book.{refusing, answering}
 
 -- "A refusal gives its number": 0 is no refusal
 unfoldable pub codeOf : Answer → ℕ
@@ -13,7 +13,7 @@ codeOf (refusing why) = numberOf why
 
 -- "Opening and sheet reading answer only that they succeeded, adding the new trace's number, writing the number of blocks"; "The answer is trace number,
 -- distance, leaves read and traces read"; of the k nearest, leaves read, traces read, and how many are listed; of an import how many traces, of an export
--- how many bytes
+-- how many bytes; of a check nothing, as of an opening
 unfoldable pub resultValues : Result → List ℕ
 resultValues done = []
 resultValues (added number) = number ∷ []
@@ -22,6 +22,7 @@ resultValues (written blocks sheet) = blocks ∷ []
 resultValues (neighbours m) = m .leaves ∷ m .traces ∷ length (m .list) ∷ []
 resultValues (imported count) = count ∷ []
 resultValues (exported size bytes) = size ∷ []
+resultValues accepted = []
 
 -- a refusal gives "a place"
 unfoldable pub valuesOf : Answer → List ℕ

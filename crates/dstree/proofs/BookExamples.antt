@@ -8,9 +8,9 @@ use Rattle.dstree.specs.Measures.{Trace, measures}
 use Rattle.dstree.specs.Refusals.{measure, shortTable, wrongTrace, full, empty, shortTrail, sheetLength, tornBlock, badSheet, badK, badRecording}
 use Rattle.dstree.specs.Sheet.{sheetOf}
 use Rattle.dstree.specs.Recording.{recordingOf}
-use Rattle.dstree.specs.Book.{Layout, Lent, Call, call, opening, adding, matching, writing, reading, listing, importing, exporting, Ask}
+use Rattle.dstree.specs.Book.{Layout, Lent, Call, call, opening, adding, matching, writing, reading, listing, importing, exporting, Ask, checking}
 use Rattle.dstree.specs.Book.{Book, book, judge, turn, after, start}
-use Rattle.dstree.specs.Book.{Answer, refusing, answering, done, added, matched, written, neighbours, imported, exported}
+use Rattle.dstree.specs.Book.{Answer, refusing, answering, done, added, matched, written, neighbours, imported, exported, accepted}
 use Rattle.dstree.specs.Book.{Reply, reply, replyOf, repliesOf}
 use Rattle.dstree.specs.Examples.{level, C, ABC, found}
 use Rattle.dstree.proofs.Notation.{+}
@@ -207,6 +207,11 @@ pub record BookExamples : Type 0 where
       ≡ refusing badRecording ∷ refusing badRecording ∷ refusing badRecording ∷ refusing sheetLength ∷ []
   -- "answers its bytes' number"; bytes of the buffer behind them stay
   pub exports : replyWith ABC (exporting 2 8000 (replicate 54 7)) ≡ reply (answering (exported 52 one)) ((one ++ (7 ∷ 7 ∷ [])) ∷ [])
+  -- document 02, §6: "It accepts every library made by calls", one that holds nothing too, and puts nothing; short tables are refused before
+  pub checks : map (λ (r : Reply). r .answer)
+      (replyWith ABC checking ∷ replyWith [] checking ∷ replyOf layout (book (measures 4 3 2) ABC) (call (lent 5 12 435 3 4) checking) ∷ [])
+      ≡ answering accepted ∷ answering accepted ∷ refusing shortTable ∷ []
+  pub checks-put : turn layout (book (measures 4 3 2) ABC) (call exact checking) ≡ book (measures 4 3 2) ABC
 
 pub book-examples : BookExamples
 unfolding everything
@@ -225,5 +230,7 @@ book-examples = record {
   imports-put = refl;
   exports-refused = refl;
   exports = refl;
+  checks = refl;
+  checks-put = refl;
   lists = refl;
 }

@@ -24,7 +24,7 @@ use Rattle.dstree.specs.Sheet.{letters, headOf, coded, sampleBlocksNeede
 use Rattle.dstree.specs.Sheet.{blocksIn, measuresIn, countIn, decoded, sampleBytesIn, tracesIn, isWrongLength, isTorn}
 use Rattle.dstree.specs.Sheet.{tornConditions, areZero, zerosIn, badConditions, conditionsAs, libraryIn, judgedBy, judgeAs}
 use Rattle.dstree.specs.Book.{besideOf, controlShort, tablesShort, readingConditions, putRead, openingEntry, addingEntry}
-use Rattle.dstree.specs.Book.{matchingEntry, writingEntry, readingEntry, listingEntry, importingEntry, exportingEntry}
+use Rattle.dstree.specs.Book.{matchingEntry, writingEntry, readingEntry, listingEntry, importingEntry, exportingEntry, checkingEntry}
 use Rattle.dstree.specs.Book.{entryOf, judge, putUnless, turn, after, replyUnless, replyOf, repliesOf, start}
 use Rattle.dstree.specs.Program.{refusalLine, matchLine, lineOf, judgedLine, programLine, digitsFrom, decimal, spaced, text, printed}
 use Rattle.dstree.specs.Claims.{numbersAmong}
@@ -109,7 +109,7 @@ unfolding besideOf controlShort tablesShort readingConditions putRead openingEnt
 booksOpen = tt
 
 unfoldable booksOpen2 : Unit {0}
-unfolding listingEntry importingEntry exportingEntry entryOf judge putUnless turn after replyUnless replyOf repliesOf start
+unfolding listingEntry importingEntry exportingEntry checkingEntry entryOf judge putUnless turn after replyUnless replyOf repliesOf start
 booksOpen2 = tt
 
 unfoldable linesOpen : Unit {0}

@@ -35,7 +35,7 @@ pub record Lent : Type 0 where
 -- what a call asks for: "calls of opening, adding, match, sheet writing and sheet reading .. with any arguments". "Trails and sheets are not part of" the
 -- tables: a match comes with its query and the contents of its trail, a writing and a reading with the bytes of their sheet; the search of document 02, §1,
 -- with k, its query, and the contents of its trail and its list; an import of §2 with the bytes of its file, an export with a trace's number, a rate, and
--- the contents of its buffer
+-- the contents of its buffer; the check of §6 with nothing but the tables
 pub data Ask : Type 0 where
   opening : Measures → Ask
   adding : Trace → Ask
@@ -45,6 +45,7 @@ pub data Ask : Type 0 where
   listing : ℕ → Trace → List ℕ → List ℕ → Ask
   importing : List ℕ → Ask
   exporting : ℕ → ℕ → List ℕ → Ask
+  checking : Ask
 
 -- a call: "arguments .., lengths of tables included"
 pub record Call : Type 0 where
@@ -64,12 +65,13 @@ besideOf (reading bytes) = []
 besideOf (listing k query trail list) = trail ∷ list ∷ []
 besideOf (importing bytes) = []
 besideOf (exporting number rate buffer) = buffer ∷ []
+besideOf checking = []
 
 -- ---- answers
 
 -- what a call answers that is not refused: "Opening and sheet reading answer only that they succeeded, adding the new trace's number, writing the number
 -- of blocks"; a match with its trail, a writing with its sheet, a listing with list and trail; an import "how many" traces it added, an export "its bytes'
--- number", with these bytes
+-- number", with these bytes; a check that "it accepts"
 pub data Result : Type 0 where
   done : Result
   added : ℕ → Result
@@ -78,6 +80,7 @@ pub data Result : Type 0 where
   neighbours : KNearest → Result
   imported : ℕ → Result
   exported : ℕ → List ℕ → Result
+  accepted : Result
 
 -- "does its work or gives the one refusal that document 01 fixes"
 pub data Answer : Type 0 where
@@ -248,6 +251,10 @@ module _ (layout : Layout) (lent : Lent) (b : Book) where
         beside = over bytes buffer ∷ [];
       }
 
+  -- document 02, §6: "It accepts every library made by calls". (13 is refused of other tables alone)
+  unfoldable pub checkingEntry : Entry
+  checkingEntry = record { conditions = shortConditions layout lent (b .measures); puts = b; result = accepted; beside = [] }
+
   unfoldable pub entryOf : Ask → Entry
   entryOf (opening m) = openingEntry m
   entryOf (adding x) = addingEntry x
@@ -257,6 +264,7 @@ module _ (layout : Layout) (lent : Lent) (b : Book) where
   entryOf (listing k query trail list) = listingEntry k query trail list
   entryOf (importing bytes) = importingEntry bytes
   entryOf (exporting number rate buffer) = exportingEntry number rate buffer
+  entryOf checking = checkingEntry
 
 -- ---- every call
 

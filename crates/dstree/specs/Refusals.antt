@@ -14,6 +14,8 @@ pub data Refusal : Type 0 where
   badK : Refusal
   -- document 02, §2: "12 bad recording"
   badRecording : Refusal
+  -- document 02, §6: "13 loose record, when well-formed tables hold a figure that isn't exactly the recomputed one"
+  looseRecord : Refusal
 
 -- the table's numbers
 unfoldable pub numberOf : Refusal → ℕ
@@ -29,6 +31,7 @@ numberOf (tornBlock block) = 9
 numberOf badSheet = 10
 numberOf badK = 11
 numberOf badRecording = 12
+numberOf looseRecord = 13
 
 -- "a place: the first block at fault for 9, else 0"
 unfoldable pub placeOf : Refusal → ℕ
@@ -44,6 +47,7 @@ placeOf (tornBlock block) = block
 placeOf badSheet = 0
 placeOf badK = 0
 placeOf badRecording = 0
+placeOf looseRecord = 0
 
 -- a condition of the table with its refusal
 pub record Condition : Type 0 where

@@ -34,6 +34,7 @@ wordOf (r.TornBlock block) = word.tornBlock block
 wordOf r.BadSheet = word.badSheet
 wordOf r.BadK = word.badK
 wordOf r.BadRecording = word.badRecording
+wordOf r.LooseRecord = word.looseRecord
 
 -- what a judge found: the first condition that holds, or none
 unfoldable pub foundBy : Verdict → Option word.Refusal

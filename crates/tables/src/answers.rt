@@ -22,6 +22,7 @@ pub fn number(why: Refusal) -> u64
         Refusal::BadSheet => 10,
         Refusal::BadK => 11,
         Refusal::BadRecording => 12,
+        Refusal::LooseRecord => 13,
     }
 }
 
@@ -42,5 +43,6 @@ pub fn place(why: Refusal) -> u64
         Refusal::BadSheet => 0,
         Refusal::BadK => 0,
         Refusal::BadRecording => 0,
+        Refusal::LooseRecord => 0,
     }
 }

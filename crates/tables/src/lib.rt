@@ -23,6 +23,7 @@ pub enum Refusal {
     BadSheet,
     BadK,
     BadRecording,
+    LooseRecord,
 }
 
 // What a judge found.

@@ -3,7 +3,7 @@
 use Prim.Native.Nat.{ℕ, _+_}
 use mathlib.Core.Path.{_≡_, refl}
 use mathlib.Core.Bool.{true, false}
-use mathlib.Core.List.{List, [], _∷_, map}
+use mathlib.Core.List.{[], _∷_, map}
 use lib.IntN.{pos, negsuc, _+ℤ_}
 use Rattle.dstree.specs.Node.{Segment, Kind, leaf, inner, Node, node, Tree, changeAt}
 use Rattle.dstree.specs.Checking.{tracesBelow, isExact}

@@ -12,8 +12,8 @@ use Rattle.dstree.specs.Measures.{Trace}
 use Rattle.dstree.specs.Figures.{Run, run, sumOn, scatterOn}
 use Rattle.dstree.specs.Node.{Segment, Node, Tree, nodeAt, changeAt, changeAll}
 use Rattle.dstree.specs.Adding.{widenSegment, widen, widenAll, segmentOf, segmentsFrom, tracesOf, newLeaf}
-use Rattle.dstree.specs.Claims.{AllExact, exact-none, exact-more}
-use Rattle.dstree.proofs.Ranges.{CoveredOn, Covered, covered-more}
+use Rattle.dstree.specs.Claims.{Extreme, AllExact, exact-none, exact-more}
+use Rattle.dstree.proofs.Ranges.{CoveredOn, Covered, covered-none, covered-more}
 use Rattle.dstree.proofs.Formed.{nothing}
 
 -- a is the figure v of a trace of P
@@ -96,7 +96,7 @@ module _ (stored : List Trace) (numbers : List ℕ) (one : 0 < length numbers) w
           → Of (λ (t : ℕ). In t numbers) (λ (t : ℕ). f (getD stored t [])) (chosen choice other (map f (tracesOf stored numbers)))
       by (of y i e) = to (chosen choice other (map f (tracesOf stored numbers))) y e (from-map (λ (k : ℕ). getD stored k []) numbers i)
 
-  from-reached : (from : ℕ) (es : List ℕ) → AllReached stored (λ (t : ℕ). In t numbers) from (segmentsFrom from es (tracesOf stored numbers))
+  pub from-reached : (from : ℕ) (es : List ℕ) → AllReached stored (λ (t : ℕ). In t numbers) from (segmentsFrom from es (tracesOf stored numbers))
   unfolding segmentsFrom segmentOf
   from-reached from [] = reached-none
   from-reached from (e ∷ es) =
@@ -133,3 +133,32 @@ exact stored P (reached-more r w) cover =
       greatest-scatter = record { trace = r .greatest-scatter .trace; is-one = r .greatest-scatter .below; has = r .greatest-scatter .is; none-beyond = λ t p. covered-head (cover t p) .scatter-high };
     })
     (exact stored P w (λ t p. covered-tail (cover t p)))
+
+-- .. and back
+pub exact-reached : {stored : List Trace} {P : ℕ → Type 0} {from : ℕ} {l : List Segment} → AllExact stored P from l → AllReached stored P from l
+exact-reached exact-none = reached-none
+exact-reached {stored} {P} (exact-more e w) =
+    reached-more
+    (record {
+      least-sum = of-extreme (e .least-sum);
+      greatest-sum = of-extreme (e .greatest-sum);
+      least-scatter = of-extreme (e .least-scatter);
+      greatest-scatter = of-extreme (e .greatest-scatter);
+    })
+    (exact-reached w)
+  where
+    of-extreme : {A : Type 0} {R : A → A → Type 0} {v : ℕ → A} {a : A} → Extreme R P v a → Of P v a
+    of-extreme x = record { trace = x .trace; below = x .is-one; is = x .has }
+
+pub exact-covers : {stored : List Trace} {P : ℕ → Type 0} {from : ℕ} {l : List Segment} {t : ℕ} → AllExact stored P from l → P t
+    → Covered (getD stored t []) from l
+exact-covers exact-none p = covered-none
+exact-covers {t = t} (exact-more e w) p =
+    covered-more
+    (record {
+      sum-low = e .least-sum .none-beyond t p;
+      sum-high = e .greatest-sum .none-beyond t p;
+      scatter-low = e .least-scatter .none-beyond t p;
+      scatter-high = e .greatest-scatter .none-beyond t p;
+    })
+    (exact-covers w p)

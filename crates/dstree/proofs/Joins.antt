@@ -26,7 +26,7 @@ use Rattle.dstree.proofs.Change.{widen-length, widen-kind, widen-keeps,
 use Rattle.dstree.proofs.Below.{below-stored}
 use Rattle.dstree.proofs.Cuts.{widen-ends}
 use Rattle.dstree.proofs.Exact.{AllReached, reached-by-more, widen-reached}
-use Rattle.dstree.proofs.Invariant.{Sends, Exact}
+use Rattle.dstree.proofs.Invariant.{Sends, Ranged, Exact}
 
 -- ---- trees that differ in the figures of their records only
 
@@ -149,7 +149,7 @@ module _ {n count : ℕ} {tree : Tree} (s : Shape n count tree) (x : Trace) (met
 
 -- ---- records and tests: the trace goes down by the tests, and joins the leaf at the end
 
-module _ {n : ℕ} {stored : List Trace} {root : Node} {rest : Tree} (x : Trace) (s : Shape n (length stored) (root ∷ rest)) (old : Exact stored (root ∷ rest)) where
+module _ {n : ℕ} (stored : List Trace) {root : Node} {rest : Tree} (x : Trace) (s : Shape n (length stored) (root ∷ rest)) where
   abbrev tree : Tree
   tree = root ∷ rest
 
@@ -233,8 +233,8 @@ module _ {n : ℕ} {stored : List Trace} {root : Node} {rest : Tree} (x : Trace)
       let s : some (if goesLeft test x then l else r) ≡ some c = subst (λ (a : Kind). nextNode a x ≡ some c) e q in
       cc
 
-  join-sends : (p : ℕ) (test : Test) (l r : ℕ) → nodeAt new p .kind ≡ inner test l r → Sends more new test l r
-  join-sends p test l r q = record { goes-left = λ t b. left t (below-back b); goes-right = λ t b. right t (below-back b) }
+  join-sends : Exact stored tree → (p : ℕ) (test : Test) (l r : ℕ) → nodeAt new p .kind ≡ inner test l r → Sends more new test l r
+  join-sends old p test l r q = record { goes-left = λ t b. left t (below-back b); goes-right = λ t b. right t (below-back b) }
     where
       is-inner : nodeAt tree p .kind ≡ inner test l r
       is-inner = inner-back s x met at (ending .numbers) (ending .inside) (ending .is) p test l r q
@@ -260,16 +260,21 @@ module _ {n : ℕ} {stored : List Trace} {root : Node} {rest : Tree} (x : Trace)
 
   -- ---- records
 
-  join-reached : (k : ℕ) → AllReached more (λ (t : ℕ). Below new t k) 1 (nodeAt new k .segments)
-  join-reached k =
+  join-reached : Ranged stored tree → (k : ℕ) → AllReached more (λ (t : ℕ). Below new t k) 1 (nodeAt new k .segments)
+  join-reached old k =
       rw (join-segments (length stored) at (widenAll x met tree) k)
       (widen-reached more x (length stored) (new-trace refl) (λ (k t : ℕ). Below new t k) met tree
       (λ k i. way-below (length tree) 0 (of-leaf (holds-new s x met at (ending .numbers) (ending .inside) (ending .is))) i)
       (λ k. reached-by-more stored more (λ (t : ℕ). Below tree t k) (λ (t : ℕ). Below new t k) (λ t b. below-on b) (λ t b. old-trace (below-stored s b)) (old .reached k)) k)
 
-  join-ranges : (t k : ℕ) → Below tree t k ⊎ ((t ≡ length stored) × In k met) → Covered (getD more t []) 1 (nodeAt new k .segments)
-  join-ranges t k (inl b) = rw (old-trace (below-stored s b), join-segments (length stored) at (widenAll x met tree) k) (widen-keeps x (getD stored t []) met tree k (old .ranges t k b))
-  join-ranges t k (inr (e, i)) = rw (new-trace e, join-segments (length stored) at (widenAll x met tree) k) (widen-gets x tree i)
+  join-ranges : Ranged stored tree → (t k : ℕ) → Below tree t k ⊎ ((t ≡ length stored) × In k met) → Covered (getD more t []) 1 (nodeAt new k .segments)
+  join-ranges old t k (inl b) = rw (old-trace (below-stored s b), join-segments (length stored) at (widenAll x met tree) k) (widen-keeps x (getD stored t []) met tree k (old .ranges t k b))
+  join-ranges old t k (inr (e, i)) = rw (new-trace e, join-segments (length stored) at (widenAll x met tree) k) (widen-gets x tree i)
 
-  pub join-exact : Exact (stored ++ (x ∷ [])) (join (length stored) (lastOf (way (root ∷ rest) x)) (widenAll x (way (root ∷ rest) x) (root ∷ rest)))
-  join-exact = record { ranges = λ t k b. join-ranges t k (below-back b); reached = join-reached; sends = join-sends }
+  pub join-ranged : Ranged stored (root ∷ rest) → Ranged (stored ++ (x ∷ []))
+      (join (length stored) (lastOf (way (root ∷ rest) x)) (widenAll x (way (root ∷ rest) x) (root ∷ rest)))
+  join-ranged old = record { ranges = λ t k b. join-ranges old t k (below-back b); reached = join-reached old }
+
+  pub join-exact : Exact stored (root ∷ rest) → Exact (stored ++ (x ∷ []))
+      (join (length stored) (lastOf (way (root ∷ rest) x)) (widenAll x (way (root ∷ rest) x) (root ∷ rest)))
+  join-exact old = record { ranged = join-ranged (old .ranged); sends = join-sends old }

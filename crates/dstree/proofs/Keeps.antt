@@ -23,9 +23,9 @@ use Rattle.dstree.proofs.Ranges.{Covered, covered-none, new-covered}
 use Rattle.dstree.proofs.Change.{LeafAt, way-leaf}
 use Rattle.dstree.proofs.Cuts.{new-ends}
 use Rattle.dstree.proofs.Exact.{AllReached, reached-none, reached-by-more, new-reached}
-use Rattle.dstree.proofs.Invariant.{Exact, Inv}
-use Rattle.dstree.proofs.Joins.{join-shape, join-exact}
-use Rattle.dstree.proofs.Splits.{Good, split-shape, split-exact, split-keeps, pass-keeps}
+use Rattle.dstree.proofs.Invariant.{Ranged, Exact, Inv, RangedInv}
+use Rattle.dstree.proofs.Joins.{join-shape, join-ranged, join-exact}
+use Rattle.dstree.proofs.Splits.{Good, split-shape, split-ranged, split-exact, split-keeps, pass-keeps}
 use Rattle.dstree.proofs.Limits.{leaf-limited, join-limits, split-limits}
 
 -- ---- the first leaf
@@ -97,9 +97,9 @@ module _ (n : ℕ) (x : Trace) (wide : 1 ≤ n) where
       rise zero ns e = let p : 0 ∷ [] ≡ ns = cc in subst (Up 0) p (u-more {k = 0} {a = 0} (omega arith) u-none)
       rise (suc k) ns e = let p : [] ≡ ns = cc in subst (Up 0) p u-none
 
-  first-exact : Exact (x ∷ []) one
+  first-ranged : Ranged (x ∷ []) one
   unfolding newLeaf numbersIn
-  first-exact = record { ranges = covers; reached = reach; sends = λ p test l r e. no-inner p test l r e }
+  first-ranged = record { ranges = covers; reached = reach }
     where
       reach : (k : ℕ) → AllReached (x ∷ []) (λ (t : ℕ). Below one t k) 1 (nodeAt one k .segments)
       reach zero =
@@ -112,6 +112,9 @@ module _ (n : ℕ) (x : Trace) (wide : 1 ≤ n) where
       covers t zero (of-leaf h) = new-covered (x ∷ []) (n ∷ []) (0 ∷ []) t h
       covers t zero (of-child {child} h b) = no-child zero child h
       covers t (suc k) b = covered-none
+
+  first-exact : Exact (x ∷ []) one
+  first-exact = record { ranged = first-ranged; sends = λ p test l r e. no-inner p test l r e }
 
   first-limits : (limit : ℕ) → T (isTrace limit n x) → Limits limit n one
   first-limits limit is-trace = record { figures = figures; tests = λ k test l r e. no-inner k test l r e }
@@ -142,7 +145,7 @@ none-inv limit m measured = record {
       tests = λ k test l r e. no-inner e;
     };
   };
-  exact = record { ranges = λ t k b. covered-none; reached = λ k. reached-none; sends = λ k test l r e. no-inner e };
+  exact = record { ranged = record { ranges = λ t k b. covered-none; reached = λ k. reached-none }; sends = λ k test l r e. no-inner e };
 }
   where
     no-inner : {X : Type 0} {test : Test} {l r : ℕ} → leaf [] ≡ inner test l r → X
@@ -224,6 +227,16 @@ module _ (limit : ℕ) (m : Measures) where
               (v .exact);
         }
 
+    split-ranged-inv : (tree : Tree) → RangedInv limit m stored tree → (at : ℕ) (ns : List ℕ) → nodeAt tree at .kind ≡ leaf ns
+        → (s : Split) → Good (m .n) stored (ends (nodeAt tree at .segments)) ns s → RangedInv limit m stored
+        (splitInto stored tree at (some s))
+    split-ranged-inv tree v at ns is s good =
+        record {
+          formed = split-formed tree (v .formed) at ns is s good;
+          ranged = split-ranged (v .formed .shape) stored at ns is s good
+              (v .ranged);
+        }
+
   -- ---- one trace more
 
   -- what joining gives and each split keeps, adding keeps
@@ -278,4 +291,19 @@ module _ (limit : ℕ) (m : Measures) where
   insertion-inv stored (root ∷ rest) x v room all is-trace =
       added (λ (tree : Tree). Inv limit m (stored ++ (x ∷ [])) tree) stored root rest x (λ tree v. v .formed .shape .fits)
       (split-inv (stored ++ (x ∷ [])) (more-traces stored x all is-trace))
-      (record { formed = join-formed stored root rest x (v .formed) room is-trace; exact = join-exact x (v .formed .shape) (v .exact) })
+      (record { formed = join-formed stored root rest x (v .formed) room is-trace; exact = join-exact stored x (v .formed .shape) (v .exact) })
+
+  -- .. its records alone, whatever its tests: a tree whose records are those of the traces below stays one, whoever made it
+  pub insertion-ranged : (stored : List Trace) (tree : Tree) (x : Trace) → RangedInv limit m stored tree → length stored < m .capacity
+      → T (every (isTrace limit (m .n)) stored) → T (isTrace limit (m .n) x)
+      → RangedInv limit m (stored ++ (x ∷ [])) (insertion m stored tree x)
+  unfolding insertion
+  insertion-ranged stored [] x v room all is-trace =
+      rw (none-stored stored (v .formed)) (record {
+        formed = first-formed x (v .formed .measured) (omega arith) is-trace;
+        ranged = first-ranged (m .n) x (some-samples (v .formed .measured));
+      })
+  insertion-ranged stored (root ∷ rest) x v room all is-trace =
+      added (λ (tree : Tree). RangedInv limit m (stored ++ (x ∷ [])) tree) stored root rest x (λ tree v. v .formed .shape .fits)
+      (split-ranged-inv (stored ++ (x ∷ [])) (more-traces stored x all is-trace))
+      (record { formed = join-formed stored root rest x (v .formed) room is-trace; ranged = join-ranged stored x (v .formed .shape) (v .ranged) })

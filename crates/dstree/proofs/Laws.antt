@@ -60,7 +60,7 @@ module _ (limit : ℕ) (m : Measures) (traces : List Trace) (library : T (isLibr
 
   -- "the least and greatest sum and scatter of the traces below"
   pub ranges : RangesOf traces tree
-  ranges = ranges-of (made .inv .exact)
+  ranges = ranges-of (made .inv .exact .ranged)
 
   -- "moving no threshold"; "the trace goes down by the tests .. and joins a leaf"
   pub tests : TestsOf m traces tree

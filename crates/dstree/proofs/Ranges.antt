@@ -71,7 +71,7 @@ on-own y traces on i = record {
   scatter-high = greatest-high (in-map (scatterOn on) i);
 }
 
-from-covered : (y : Trace) (from : ℕ) (ends : List ℕ) (traces : List Trace) → In y traces → Covered y from (segmentsFrom from ends traces)
+pub from-covered : (y : Trace) (from : ℕ) (ends : List ℕ) (traces : List Trace) → In y traces → Covered y from (segmentsFrom from ends traces)
 unfolding segmentsFrom segmentOf
 from-covered y from [] traces i = covered-none
 from-covered y from (end ∷ rest) traces i = covered-more (on-own y traces (run from end) i) (from-covered y (suc end) rest traces i)

@@ -31,7 +31,7 @@ use Rattle.dstree.proofs.Formed.{nothing, number-node}
 use Rattle.dstree.proofs.Change.{leaf-in, has-inner, has-left, has-right}
 use Rattle.dstree.proofs.Cuts.{FitsAs, candidates-fit, new-ends}
 use Rattle.dstree.proofs.Exact.{Of, AllReached, reached-none, reached-by-more, of-chosen, new-reached}
-use Rattle.dstree.proofs.Invariant.{Sends, Exact}
+use Rattle.dstree.proofs.Invariant.{Sends, Ranged, Exact}
 
 -- a test's threshold is the sum of the figures of two traces of P
 pub record Threshold (stored : List Trace) (P : ℕ → Type 0) (test : Test) : Type 0 where
@@ -317,7 +317,7 @@ module _ {n count : ℕ} {tree : Tree} (shape : Shape n count tree) (stored : Li
 
   -- ---- records and tests
 
-  module _ (exact : Exact stored tree) where
+  module _ (ranged : Ranged stored tree) where
     split-reached : (k : ℕ) → AllReached stored (λ (t : ℕ). Below new t k) 1 (nodeAt new k .segments)
     split-reached k =
         new-cases (λ (a : Node). AllReached stored (λ (t : ℕ). Below new t k) 1 (a .segments)) k
@@ -329,15 +329,19 @@ module _ {n count : ℕ} {tree : Tree} (shape : Shape n count tree) (stored : Li
         (λ g. reached-none)
       where
         old : AllReached stored (λ (t : ℕ). Below new t k) 1 (nodeAt tree k .segments)
-        old = reached-by-more stored stored (λ (t : ℕ). Below tree t k) (λ (t : ℕ). Below new t k) (λ t b. split-on b) (λ t b. refl) (exact .reached k)
+        old = reached-by-more stored stored (λ (t : ℕ). Below tree t k) (λ (t : ℕ). Below new t k) (λ t b. split-on b) (λ t b. refl) (ranged .reached k)
 
     split-ranges : (t k : ℕ) → Was t k → Covered (getD stored t []) 1 (nodeAt new k .segments)
     split-ranges t k w =
         new-cases (λ (a : Node). Covered (getD stored t []) 1 (a .segments)) k
-        (λ e h. subst (λ (j : ℕ). Covered (getD stored t []) 1 (nodeAt tree j .segments)) e (exact .ranges t k (w .old h)))
-        (λ f h. exact .ranges t k (w .old h)) (λ e. new-covered stored (s .childEnds) (s .left) t (w .in-left e))
+        (λ e h. subst (λ (j : ℕ). Covered (getD stored t []) 1 (nodeAt tree j .segments)) e (ranged .ranges t k (w .old h)))
+        (λ f h. ranged .ranges t k (w .old h)) (λ e. new-covered stored (s .childEnds) (s .left) t (w .in-left e))
         (λ e. new-covered stored (s .childEnds) (s .right) t (w .in-right e)) (λ g. covered-none)
 
+    pub split-ranged : Ranged stored (splitInto stored tree at (some s))
+    split-ranged = record { ranges = λ t k b. split-ranges t k (below-was b); reached = split-reached }
+
+  module _ (exact : Exact stored tree) where
     abbrev SendsBy : Kind → Type 0
     SendsBy (leaf ns) = Unit
     SendsBy (inner test l r) = Sends stored new test l r
@@ -359,7 +363,7 @@ module _ {n count : ℕ} {tree : Tree} (shape : Shape n count tree) (stored : Li
     split-sends p a e = subst SendsBy e (new-cases (λ (o : Node). SendsBy (o .kind)) p (λ e h. fresh-sends) (λ f h. old-sends p (nodeAt tree p .kind) refl) (λ e. tt) (λ e. tt) (λ g. tt))
 
     pub split-exact : Exact stored (splitInto stored tree at (some s))
-    split-exact = record { ranges = λ t k b. split-ranges t k (below-was b); reached = split-reached; sends = λ p test l r e. split-sends p (inner test l r) e }
+    split-exact = record { ranged = split-ranged (exact .ranged); sends = λ p test l r e. split-sends p (inner test l r) e }
 
 -- ---- the best split
 

@@ -1,15 +1,18 @@
 -- Document 02, §6: "A check before trusting tables", as far as it speaks of the tree.
-use Prim.Native.Nat.{ℕ, zero, suc}
+use Prim.Native.Nat.{ℕ, zero, suc, _<_}
+use mathlib.Core.Path.{_≡_}
 use mathlib.Core.Bool.{Bool, true, false, _&&_}
 use mathlib.Core.List.{List, [], _∷_, _++_}
-use lib.ListN.{length}
+use lib.ListN.{length, getD}
 use lib.IntN.{ℤ, pos, negsuc}
-use lib.Dec.{eqb}
+use lib.Dec.{T, eqb}
 use Rattle.integer.specs.Words.{counting, every}
-use Rattle.dstree.specs.Measures.{Trace}
+use Rattle.dstree.specs.Measures.{Trace, Measures, isTrace, isLibrary}
 use Rattle.dstree.specs.Figures.{run}
-use Rattle.dstree.specs.Node.{Segment, Kind, leaf, inner, Tree, nodeAt}
-use Rattle.dstree.specs.Adding.{tracesOf, segmentOf}
+use Rattle.dstree.specs.Node.{Segment, leaf, inner, Tree, nodeAt}
+use Rattle.dstree.specs.Adding.{tracesOf, segmentOf, insertion, treeOf}
+use Rattle.dstree.specs.WellFormed.{wellFormed}
+use Rattle.dstree.specs.Claims.{RangesOf, ExactTree}
 
 -- "the traces below", by the leaves' lists: a leaf's own, of an inner node those below its children. Tests do not bear on it.
 -- Children are numbered above their parent, so that the number of nodes is fuel enough
@@ -46,3 +49,31 @@ isExactAt stored tree number = areExact (tracesOf stored (tracesBelow tree numbe
 -- what the check accepts: of every node, inner or leaf
 unfoldable pub isExact : List Trace → Tree → Bool
 isExact stored tree = every (isExactAt stored tree) (counting (length tree) 0)
+
+-- ---- what is claimed
+
+-- the test says yes exactly if the records have the least and greatest figures of the traces below
+pub record Exactness (stored : List Trace) (tree : Tree) : Type 0 where
+  pub exact-ranges : T (isExact stored tree) → RangesOf stored tree
+  pub ranges-exact : RangesOf stored tree → T (isExact stored tree)
+
+-- .. in any well-formed tree, "whatever made the tables"
+abbrev pub ExactnessOfFormed : Type 0
+ExactnessOfFormed = (limit : ℕ) (m : Measures) (stored : List Trace) (tree : Tree) → T (wellFormed limit m (length stored) tree)
+    → Exactness stored tree
+
+-- "If it accepts, a match must be the nearest stored trace and read the fewest leaves, whatever made the tables": an accepted tree is exact, which is
+-- all that is claimed of a match (`Claims`: `ClaimsOfExact`) and of the k nearest needs
+abbrev pub AcceptedExact : Type 0
+AcceptedExact = (limit : ℕ) (m : Measures) (stored : List Trace) (tree : Tree) → T (wellFormed limit m (length stored) tree)
+    → ((t : ℕ) → t < length stored → length (getD stored t []) ≡ m .n) → T (isExact stored tree) → ExactTree limit m stored tree
+
+-- "It accepts every library made by calls"
+abbrev pub MadeAccepted : Type 0
+MadeAccepted = (limit : ℕ) (m : Measures) (traces : List Trace) → T (isLibrary limit m traces) → T (isExact traces (treeOf m traces))
+
+-- adding to a tree that is accepted leaves one that is, whatever made it: where a test was altered, the new trace goes by the altered one
+abbrev pub AddingAccepted : Type 0
+AddingAccepted = (limit : ℕ) (m : Measures) (stored : List Trace) (tree : Tree) (x : Trace)
+    → T (wellFormed limit m (length stored) tree) → T (every (isTrace limit (m .n)) stored) → T (isTrace limit (m .n) x)
+    → length stored < m .capacity → T (isExact stored tree) → T (isExact (stored ++ (x ∷ [])) (insertion m stored tree x))

@@ -19,10 +19,10 @@ use Rattle.dstree.specs.KNearest.{isK, kNearestBySteps, kNearestOf}
 use Rattle.dstree.specs.Refusals.{Condition, _refuses_, firstOf, measure, wrongTrace, full, empty, sheetLength, badK, badRecording}
 use Rattle.dstree.specs.Sheet.{areBytes, blockSize, blocksNeeded, sheetOf, Judged, refused, holds, judgeSheet}
 use Rattle.dstree.specs.Recording.{recordingSize, recordingOf, Recording, judgeRecording, fileTraces, isBadFile}
-use Rattle.dstree.specs.Book.{Ask, opening, adding, matching, writing, reading, listing, importing, exporting, Book, book, bookTree}
-use Rattle.dstree.specs.Book.{Entry, added, written, imported, exported, over, importConditions, exportConditions}
+use Rattle.dstree.specs.Book.{Ask, opening, adding, matching, writing, reading, listing, importing, exporting, checking, Book, book}
+use Rattle.dstree.specs.Book.{bookTree, Entry, added, written, imported, exported, over, importConditions, exportConditions}
 use Rattle.dstree.specs.Book.{shortConditions, queryConditions, listConditions, readingConditions, putRead, openingEntry, addingEntry}
-use Rattle.dstree.specs.Book.{matchingEntry, writingEntry, readingEntry, listingEntry, importingEntry, exportingEntry}
+use Rattle.dstree.specs.Book.{matchingEntry, writingEntry, readingEntry, listingEntry, importingEntry, exportingEntry, checkingEntry}
 use Rattle.dstree.specs.Book.{entryOf}
 use Rattle.dstree.proofs.Conditions.{none-first, none-both}
 use Rattle.dstree.proofs.Laws.{claims}
@@ -42,11 +42,12 @@ use Rattle.insertion_memory.proofs.Made.{takes-more}
 use Rattle.insertion_memory.proofs.AddedBeginnings.{added-begins}
 use Rattle.calls.specs.Outcome.{Effect}
 use Rattle.calls.specs.Library.{loaded, libraryTables, Keeps}
-use Rattle.calls.specs.Effects.{opens, adds, resultOf, trailOf, cleared, matches, writes, loadedBy, reads, lists, imports, exports}
+use Rattle.calls.specs.Effects.{opens, adds, resultOf, trailOf, cleared, matches, writes, loadedBy, reads, lists, imports, exports, checks}
 use Rattle.calls.specs.Effects.{effectOf}
 use Rattle.calls.specs.Follows.{Typed}
 use Rattle.calls.proofs.Finds.{last-never}
 use Rattle.calls.proofs.Library.{library-holds, library-work, loaded-more, loaded-begins, added-begin}
+use Rattle.calls.proofs.Trusted.{accepted-same, kept-trusts}
 use Rattle.calls.proofs.Kept.{short-room, library-begins, part-holds, made-same, counted}
 
 pub record Agrees (memory : Tables) (e : Effect) (n : Entry) : Type 0 where
@@ -101,7 +102,7 @@ module _ (memory part : Tables) (b : Book) where
 -- ---- the others
 
 -- more traces of n samples, where there is room, make a library
-library-grows : (m : Measures) (traces more : List Trace) → T (isLibrary sampleLimit m traces) → T (every (isTrace sampleLimit (m .n)) more)
+pub library-grows : (m : Measures) (traces more : List Trace) → T (isLibrary sampleLimit m traces) → T (every (isTrace sampleLimit (m .n)) more)
     → length traces + length more ≤ m .capacity → T (isLibrary sampleLimit m (traces ++ more))
 unfolding isLibrary
 library-grows m traces more library each room =
@@ -325,6 +326,16 @@ module _ (memory part : Tables) (begins : Begins part memory) (b : Book) (keeps 
       same-bytes : Holds part m (b .traces) → recordingOf rate (getD (tracesIn part) number []) ≡ recordingOf rate (getD (b .traces) number [])
       same-bytes h = ap (λ (l : List Trace). recordingOf rate (getD l number [])) (h .traces-are)
 
+  -- document 02, §6: "It accepts every library made by calls"
+  pub checking-agrees : Agrees memory (checks part) (checkingEntry layout (lentOf part) b)
+  unfolding checks checkingEntry
+  checking-agrees = record {
+    judged = accepted-same (kept-trusts keeps) begins;
+    result-is = λ e. refl;
+    beside-is = λ e. refl;
+    puts = λ e. rw (left-same part memory begins) keeps;
+  }
+
   -- ---- any call
 
   pub agrees : (ask : Ask) → Typed ask part → Agrees memory (effectOf ask part) (entryOf layout (lentOf part) b ask)
@@ -337,3 +348,4 @@ module _ (memory part : Tables) (begins : Begins part memory) (b : Book) (keeps 
   agrees (listing k query trail list) typed = listing-agrees query trail k list
   agrees (importing bytes) typed = importing-agrees bytes (typed .0)
   agrees (exporting number rate buffer) typed = exporting-agrees number rate buffer
+  agrees checking typed = checking-agrees

@@ -1,5 +1,5 @@
--- Tables lent of a memory that keeps a book have its measures, are well formed where they are long enough, and count its traces. So what
--- every call on made tables refuses first is what the book refuses, and 3 never holds.
+-- Tables lent of a memory have its measures where they are long enough. Those of a memory that keeps a book are then well formed, and count
+-- its traces: so what every call on made tables refuses first is what the book refuses, and 3 never holds.
 use Prim.Native.Nat.{ℕ, _≤_, _<_}
 use mathlib.Core.Path.{_≡_, refl, sym, ap, subst, _∙_}
 use mathlib.Core.Bool.{Bool, true, false}
@@ -8,13 +8,14 @@ use mathlib.Core.List.{List, _++_}
 use native.Mathlib.Omega.{arith}
 use lib.ListN.{length, getD}
 use lib.Seq.{getD-take}
+use lib.Dec.{T}
 use borrow.Author.Tests.{ltb-false}
 use Rattle.integer.proofs.Tests.{test-true}
 use Rattle.dstree.specs.Measures.{Measures, inRange}
 use Rattle.dstree.specs.Refusals.{Condition, firstOf, shortTable}
 use Rattle.dstree.specs.Book.{Lent, Book, controlShort, tablesShort, shortConditions}
 use Rattle.dstree.proofs.Conditions.{none-first}
-use Rattle.tables.specs.Layout.{layout, controlFields}
+use Rattle.tables.specs.Layout.{layout, nPlace, capacityPlace, leafSizePlace, controlFields}
 use Rattle.tables.specs.Tables.{Tables, lentOf, field, measuresOf, traceCount}
 use Rattle.tables.specs.View.{wellFormed}
 use Rattle.tables.specs.Judge.{lentConditionsOf, Room}
@@ -39,7 +40,7 @@ short-room lengths m rest e =
 -- ---- the conditions before a call's own, by what lengths and measures decide
 
 -- the two lists refuse the same first
-abbrev Same : List Condition → List Condition → Tables → Measures → Type 0
+abbrev pub Same : List Condition → List Condition → Tables → Measures → Type 0
 Same rest others t m = firstOf (madeConditions t ++ rest) ≡ firstOf (shortConditions layout (lentOf t) m ++ others)
 
 module _ (rest others : List Condition) (t : Tables) (m : Measures) where
@@ -53,6 +54,31 @@ module _ (rest others : List Condition) (t : Tables) (m : Measures) where
   unfolding madeConditions lentConditionsOf firstOf
   by-long long measured range true e f = rw (long, measured, range, e)
   by-long long measured range false e f = rw (long, measured, range, e, f refl .0) (f refl .1)
+
+-- ---- tables lent of a memory, whatever it holds
+
+module _ (memory part : Tables) (begins : Begins part memory) (m : Measures) (is : measuresOf memory ≡ m) where
+  -- a long enough control record has the memory's measures, whatever the other tables' lengths
+  pub measures-lent : controlFields ≤ length (part .control) → measuresOf part ≡ m
+  measures-lent long = rw (of nPlace (omega arith), of capacityPlace (omega arith), of leafSizePlace (omega arith)) is
+    where
+      of : (i : ℕ) → i < controlFields → field (part .control) i ≡ field (memory .control) i
+      of i h = ap (λ (l : List ℕ). getD l i 0) (sym (ap (λ (t : Tables). t .control) begins))
+          ∙ getD-take (length (part .control)) (memory .control) i 0 (omega (arith, long))
+
+  -- so what is refused before a call's own conditions is what lengths refuse, where long tables are well formed and those then refuse the
+  -- same
+  pub judged-same : (rest others : List Condition) → inRange m ≡ true
+      → (Room (lentOf part) m → T (wellFormed part) × (firstOf rest ≡ firstOf others)) → Same rest others part m
+  unfolding controlShort
+  judged-same rest others range same = by (controlShort layout (lentOf part)) refl
+    where
+      by : (c : Bool) → controlShort layout (lentOf part) ≡ c → Same rest others part m
+      by true e = by-short rest others part m e
+      by false e =
+          by-long rest others part m e (measures-lent (ltb-false (length (part .control)) controlFields e)) range
+          (tablesShort layout (lentOf part) m) refl
+          (λ f. let h = same (room-of (lentOf part) m e f) in (test-true (wellFormed part) (h .0), h .1))
 
 -- ---- tables lent of a memory that keeps a book
 
@@ -77,31 +103,12 @@ module _ {memory : Tables} {b : Book} (keeps : Keeps memory b) (part : Tables) (
   pub part-holds : Room (lentOf part) m → Holds part m (b .traces)
   part-holds r = holds-whole (library-begins r) own-holds
 
-  -- a field of the control record is the memory's
-  field-of : (t : Tables) → Begins t memory → (i : ℕ) → i < length (t .control) → field (t .control) i ≡ field (memory .control) i
-  field-of t e i h = ap (λ (l : List ℕ). getD l i 0) (sym (ap (λ (t : Tables). t .control) e))
-      ∙ getD-take (length (t .control)) (memory .control) i 0 h
-
-  -- a long enough control record has the book's measures, whatever the other tables' lengths
-  measures-are : controlFields ≤ length (part .control) → measuresOf part ≡ m
-  measures-are long =
-      let own-long : length (own .control) ≡ controlFields = ap (λ (l : Lent). l .control) own-lent in
-      let of : (i : ℕ) → i < controlFields → field (part .control) i ≡ field (own .control) i =
-      λ i h. field-of part begins i (omega arith) ∙ sym (field-of own (keeps .needed-places) i (omega arith)) in
-      rw (of 0 (omega arith), of 1 (omega arith), of 2 (omega arith)) (own-holds .measures-are)
-
   -- so what is refused before a call's own conditions is what the book refuses, where those then refuse the same
   pub made-same : (rest others : List Condition) → (Holds part m (b .traces) → firstOf rest ≡ firstOf others) → Same rest others part m
-  unfolding controlShort
-  made-same rest others same = by (controlShort layout (lentOf part)) refl
-    where
-      by : (c : Bool) → controlShort layout (lentOf part) ≡ c → Same rest others part m
-      by true e = by-short rest others part m e
-      by false e =
-          by-long rest others part m e (measures-are (ltb-false (length (part .control)) controlFields e))
-          (test-true (inRange m) (library-range m (b .traces) (keeps .library)))
-          (tablesShort layout (lentOf part) m) refl
-          (λ f. let h = part-holds (room-of (lentOf part) m e f) in (test-true (wellFormed part) (h .formed), same h))
+  made-same rest others same =
+      judged-same memory part begins m (holds-whole (keeps .needed-places) own-holds .measures-are) rest others
+      (test-true (inRange m) (library-range m (b .traces) (keeps .library)))
+      (λ room. let h = part-holds room in (h .formed, same h))
 
   pub counted : Holds part m (b .traces) → traceCount part ≡ length (b .traces)
   counted h = count-is part ∙ ap length (h .traces-are)

@@ -2,6 +2,7 @@
 pub mod Finds
 pub mod Library
 pub mod Kept
+pub mod Trusted
 pub mod Agrees
 pub mod Ends
 pub mod Steps
@@ -10,4 +11,6 @@ pub mod NeverSpoiled
 pub mod RoundTrips
 pub mod OffTrail
 pub mod Imports
+pub mod Trusting
+pub mod Queries
 pub mod Demands

@@ -35,9 +35,17 @@ blank-lent : (m : Measures) → lentOf (blank m) ≡ need m
 unfolding blank
 blank-lent m = simp length-replicate
 
+pub need-room : (m : Measures) → Room (need m) m
+need-room m = record {
+  control-room = omega arith;
+  samples-room = omega arith;
+  nodes-room = omega arith;
+  links-room = omega arith;
+  work-room = omega arith;
+}
+
 blank-room : (m : Measures) → Room (lentOf (blank m)) m
-blank-room m = subst (λ (l : Lent). Room l m) (sym (blank-lent m))
-    (record { control-room = omega arith; samples-room = omega arith; nodes-room = omega arith; links-room = omega arith; work-room = omega arith })
+blank-room m = subst (λ (l : Lent). Room l m) (sym (blank-lent m)) (need-room m)
 
 -- long enough for the measures is as long as the need
 pub room-within : {lengths : Lent} {m : Measures} → Room lengths m → Within (need m) lengths

@@ -1,7 +1,8 @@
--- "3 never arises from these tables": no condition of the book's refuses with 3, nor does what a sheet is refused for.
+-- "3 never arises from these tables", nor does document 02's 13: no condition of the book's refuses with one of them, nor does what a sheet
+-- is refused for.
 use Prim.Native.Nat.{ℕ, suc}
 use mathlib.Core.Path.{_≡_, sym, ap, subst, _∙_}
-use mathlib.Core.Bool.{Bool, true, false, not}
+use mathlib.Core.Bool.{Bool, true, false, not, _&&_}
 use mathlib.Core.Option.{Option, none, some}
 use mathlib.Core.Logic.{_⊎_, inl, inr}
 use mathlib.Core.List.{List, [], _∷_, _++_}
@@ -11,34 +12,51 @@ use Rattle.integer.specs.Words.{if_then_else_, every}
 use Rattle.integer.proofs.Tests.{passed, passes}
 use Rattle.integer.specs.Lists.{In}
 use Rattle.integer.proofs.Lists.{in-nil, in-cons}
-use Rattle.dstree.specs.Refusals.{Refusal, spoiled, numberOf, Condition, _refuses_, firstOf}
+use Rattle.dstree.specs.Refusals.{Refusal, spoiled, looseRecord, numberOf, Condition, _refuses_, firstOf}
 use Rattle.dstree.specs.Sheet.{Format, narrow, blocksIn, tornConditions, badConditions, conditionsAs, Judged, refused, holds, libraryIn}
 use Rattle.dstree.specs.Sheet.{judgedBy, judgeAs, judgeSheet}
-use Rattle.dstree.specs.Book.{Layout, Lent, Ask, opening, adding, matching, writing, reading, listing, importing, exporting, Call, refusing}
+use Rattle.dstree.specs.Book.{Layout, Lent, Ask, opening, adding, matching, writing, reading, listing, importing, exporting, Call}
+use Rattle.dstree.specs.Book.{checking, refusing}
 use Rattle.dstree.specs.Book.{Reply, Book, Entry}
 use Rattle.dstree.specs.Book.{readingConditions, openingEntry, addingEntry, matchingEntry, writingEntry, readingEntry, listingEntry}
-use Rattle.dstree.specs.Book.{importingEntry, exportingEntry}
+use Rattle.dstree.specs.Book.{importingEntry, exportingEntry, checkingEntry}
 use Rattle.dstree.specs.Book.{entryOf, entry, judge, turn}
 use Rattle.dstree.specs.Book.{replyUnless, replyOf, repliesOf}
 
--- a refusal other than 3, if any
-notThree : Option Refusal → Bool
-unfolding numberOf
-notThree none = true
-notThree (some r) = not (eqb (numberOf r) 3)
+-- a refusal passes a test, if there is one
+unfoldable pub ifAny : (Refusal → Bool) → Option Refusal → Bool
+ifAny passes none = true
+ifAny passes (some r) = passes r
 
-abbrev other : Condition → Bool
-other c = notThree (some (c .refusal))
-
--- where no condition's refusal is 3, the first that holds is another
-first-other : (l : List Condition) → T (every other l) → T (notThree (firstOf l))
-unfolding firstOf every notThree
-first-other [] t = tt
-first-other (c ∷ l) t = let p = passed (other c) (every other l ∷ []) t in by (c .holds) (p .0) (first-other l (p .1))
+-- where each condition's refusal passes, the first that holds does
+pub first-any : (passes : Refusal → Bool) (l : List Condition) → T (every (λ c. passes (c .refusal)) l) → T (ifAny passes (firstOf l))
+unfolding firstOf every ifAny
+first-any passes [] t = tt
+first-any passes (c ∷ l) t =
+    let p = passed (passes (c .refusal)) (every (λ c. passes (c .refusal)) l ∷ []) t in by (c .holds) (p .0) (first-any passes l (p .1))
   where
-    by : (h : Bool) → T (other c) → T (notThree (firstOf l)) → T (notThree (if h then some (c .refusal) else firstOf l))
+    by : (h : Bool) → T (passes (c .refusal)) → T (ifAny passes (firstOf l)) → T (ifAny passes (if h then some (c .refusal) else firstOf l))
     by true p q = p
     by false p q = q
+
+-- a refusal for what a call is given, and not for what the tables hold: neither 3 nor 13
+unfoldable pub ofArguments : Refusal → Bool
+unfolding numberOf
+ofArguments r = not (eqb (numberOf r) 3) && not (eqb (numberOf r) 13)
+
+pub spoiled-is-not : T (ofArguments spoiled) → ⊥
+unfolding ofArguments numberOf
+spoiled-is-not t = t
+
+pub loose-is-not : T (ofArguments looseRecord) → ⊥
+unfolding ofArguments numberOf
+loose-is-not t = t
+
+abbrev pub other : Condition → Bool
+other c = ofArguments (c .refusal)
+
+pub first-other : (l : List Condition) → T (every other l) → T (ifAny ofArguments (firstOf l))
+first-other = first-any ofArguments
 
 -- ---- a sheet
 
@@ -50,42 +68,43 @@ refusalIn (holds m traces) = none
 module _ (f : Format) where
   torn-other : (number : ℕ) (blocks : List (List ℕ)) (rest : List Condition) → T (every other rest)
       → T (every other (tornConditions f number blocks ++ rest))
-  unfolding tornConditions every notThree numberOf
+  unfolding tornConditions every ofArguments numberOf
   torn-other number [] rest t = t
   torn-other number (b ∷ blocks) rest t = torn-other (suc number) blocks rest t
 
   bad-other : (blocks : List (List ℕ)) → T (every other (badConditions f blocks))
-  unfolding badConditions every notThree numberOf
+  unfolding badConditions every ofArguments numberOf
   bad-other [] = tt
   bad-other (first ∷ others) = tt
 
   sheet-other : (bytes : List ℕ) → T (every other (conditionsAs f bytes))
-  unfolding conditionsAs every notThree numberOf
+  unfolding conditionsAs every ofArguments numberOf
   sheet-other bytes = torn-other 0 (blocksIn bytes) (badConditions f (blocksIn bytes)) (bad-other (blocksIn bytes))
 
-  library-other : (blocks : List (List ℕ)) → T (notThree (refusalIn (libraryIn f blocks)))
-  unfolding libraryIn notThree numberOf
+  library-other : (blocks : List (List ℕ)) → T (ifAny ofArguments (refusalIn (libraryIn f blocks)))
+  unfolding libraryIn ifAny ofArguments numberOf
   library-other [] = tt
   library-other (first ∷ others) = tt
 
-  judge-other : (bytes : List ℕ) → T (notThree (refusalIn (judgeAs f bytes)))
-  unfolding judgeAs judgedBy notThree
+  judge-other : (bytes : List ℕ) → T (ifAny ofArguments (refusalIn (judgeAs f bytes)))
+  unfolding judgeAs judgedBy ifAny
   judge-other bytes = by (firstOf (conditionsAs f bytes)) (first-other (conditionsAs f bytes) (sheet-other bytes))
     where
-      by : (o : Option Refusal) → T (notThree o) → T (notThree (refusalIn (judgedBy o (libraryIn f (blocksIn bytes)))))
+      by : (o : Option Refusal) → T (ifAny ofArguments o) → T (ifAny ofArguments (refusalIn (judgedBy o (libraryIn f (blocksIn bytes)))))
       by none t = library-other (blocksIn bytes)
       by (some why) t = t
 
 -- ---- the book
 
 module _ (layout : Layout) where
-  reading-other : (lent : Lent) (j : Judged) → T (notThree (refusalIn j)) → T (every other (readingConditions layout lent j))
-  unfolding readingConditions every notThree numberOf
+  reading-other : (lent : Lent) (j : Judged) → T (ifAny ofArguments (refusalIn j)) → T (every other (readingConditions layout lent j))
+  unfolding readingConditions every ofArguments numberOf ifAny
   reading-other lent (refused why) h = passes (other (true refuses why)) (true ∷ []) (h, tt)
   reading-other lent (holds m traces) h = tt
 
-  entry-other : (lent : Lent) (b : Book) (ask : Ask) → T (every other (entryOf layout lent b ask .conditions))
-  unfolding entryOf openingEntry addingEntry matchingEntry writingEntry readingEntry listingEntry importingEntry exportingEntry every notThree numberOf
+  pub entry-other : (lent : Lent) (b : Book) (ask : Ask) → T (every other (entryOf layout lent b ask .conditions))
+  unfolding entryOf openingEntry addingEntry matchingEntry writingEntry readingEntry listingEntry importingEntry exportingEntry checkingEntry
+      every ofArguments numberOf
   entry-other lent b (opening m) = tt
   entry-other lent b (adding x) = tt
   entry-other lent b (matching query trail) = tt
@@ -94,26 +113,29 @@ module _ (layout : Layout) where
   entry-other lent b (listing k query trail list) = tt
   entry-other lent b (importing bytes) = tt
   entry-other lent b (exporting number rate buffer) = tt
+  entry-other lent b checking = tt
 
-  reply-other : (o : Option Refusal) → T (notThree o) → (beside : List (List ℕ)) (e : Entry)
-      → replyUnless o beside e .answer ≡ refusing spoiled → ⊥
-  unfolding replyUnless notThree numberOf
-  reply-other none t beside e q = let z : _≡_ {A = ℕ} 0 1 = cc in absurd (omega arith)
-  reply-other (some why) t beside e q = let same : why ≡ spoiled = cc in subst (λ (r : Refusal). T (notThree (some r))) same t
+  reply-other : (w : Refusal) → (T (ofArguments w) → ⊥) → (o : Option Refusal) → T (ifAny ofArguments o)
+      → (beside : List (List ℕ)) (e : Entry) → replyUnless o beside e .answer ≡ refusing w → ⊥
+  unfolding replyUnless ifAny
+  reply-other w never none t beside e q = let z : _≡_ {A = ℕ} 0 1 = cc in absurd (omega arith)
+  reply-other w never (some why) t beside e q = let same : why ≡ w = cc in never (subst (λ (r : Refusal). T (ofArguments r)) same t)
 
-  never-one : (b : Book) (c : Call) → replyOf layout b c .answer ≡ refusing spoiled → ⊥
+  never-one : (w : Refusal) → (T (ofArguments w) → ⊥) → (b : Book) (c : Call) → replyOf layout b c .answer ≡ refusing w → ⊥
   unfolding replyOf judge
-  never-one b c = reply-other (judge layout b c) (first-other (entry layout b c .conditions) (entry-other (c .lent) b (c .ask))) _
-      (entry layout b c)
+  never-one w never b c = reply-other w never (judge layout b c)
+      (first-other (entry layout b c .conditions) (entry-other (c .lent) b (c .ask))) _ (entry layout b c)
 
-  pub never : (b : Book) (calls : List Call) (r : Reply) → In r (repliesOf layout b calls) → r .answer ≡ refusing spoiled → ⊥
+  -- no call of a list is refused for what the tables hold
+  pub never : (w : Refusal) → (T (ofArguments w) → ⊥) → (b : Book) (calls : List Call) (r : Reply) → In r (repliesOf layout b calls)
+      → r .answer ≡ refusing w → ⊥
   unfolding repliesOf
-  never b [] r i e = in-nil i
-  never b (c ∷ calls) r i e = by (in-cons i) (λ j. never (turn layout b c) calls r j e)
+  never w is-not b [] r i e = in-nil i
+  never w is-not b (c ∷ calls) r i e = by (in-cons i) (λ j. never w is-not (turn layout b c) calls r j e)
     where
       rest : List Reply
       rest = repliesOf layout (turn layout b c) calls
 
       by : (r ≡ replyOf layout b c) ⊎ In r rest → (In r rest → ⊥) → ⊥
-      by (inl p) later = never-one b c (sym (ap (λ (x : Reply). x .answer) p) ∙ e)
+      by (inl p) later = never-one w is-not b c (sym (ap (λ (x : Reply). x .answer) p) ∙ e)
       by (inr j) later = later j

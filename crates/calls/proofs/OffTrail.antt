@@ -17,7 +17,7 @@ use Rattle.dstree.specs.Measures.{Trace, Measures}
 use Rattle.dstree.specs.Matching.{Search, Near, answerOf, searched, matchBySteps}
 use Rattle.dstree.specs.KNearest.{listed, kNearestBySteps, SameIn}
 use Rattle.dstree.specs.Refusals.{Refusal, firstOf}
-use Rattle.dstree.specs.Book.{Lent, Ask, opening, adding, matching, writing, reading, listing, importing, exporting, besideOf}
+use Rattle.dstree.specs.Book.{Lent, Ask, opening, adding, matching, writing, reading, listing, importing, exporting, checking, besideOf}
 use Rattle.dstree.specs.Book.{Result, answering, Reply, reply}
 use Rattle.dstree.specs.Claims.{numbersAmong}
 use Rattle.dstree.proofs.OffTrail as trees
@@ -33,7 +33,7 @@ use Rattle.tables.specs.Holds.{Long}
 use Rattle.insertion_memory.proofs.FromTables.{long-of}
 use Rattle.insertion_memory.proofs.Beginnings.{Agree, begins-agree, measures-same, tree-same}
 use Rattle.calls.specs.Outcome.{Effect, unlessRefused}
-use Rattle.calls.specs.Effects.{opens, adds, resultOf, matches, writes, reads, lists, imports, exports}
+use Rattle.calls.specs.Effects.{opens, adds, resultOf, matches, writes, reads, lists, imports, exports, checks}
 use Rattle.calls.specs.Effects.{effectOf, outcomeOn}
 use Rattle.calls.specs.Demands.{DifferOutside, trailFound, SamplesOffTrail}
 use Rattle.tables.proofs.Judged.{Accepted, accepted}
@@ -181,7 +181,7 @@ module _ (lent : Lent) {these other : Tables} {trail : List ℕ} (differ : Diffe
 
   -- no other call answers with a trail
   any-same : (ask : Ask) → Same ask
-  unfolding effectOf opens adds writes reads imports exports trailFound
+  unfolding effectOf opens adds writes reads imports exports checks trailFound
   any-same (opening m) fine found = let z : _≡_ {A = ℕ} 0 1 = cc in absurd (omega arith)
   any-same (adding x) fine found = let z : _≡_ {A = ℕ} 0 1 = cc in absurd (omega arith)
   any-same (matching query place) fine found = match-same query place fine found
@@ -190,6 +190,7 @@ module _ (lent : Lent) {these other : Tables} {trail : List ℕ} (differ : Diffe
   any-same (listing k query place list) fine found = list-same k query place list fine found
   any-same (importing bytes) fine found = let z : _≡_ {A = ℕ} 0 1 = cc in absurd (omega arith)
   any-same (exporting number rate buffer) fine found = let z : _≡_ {A = ℕ} 0 1 = cc in absurd (omega arith)
+  any-same checking fine found = let z : _≡_ {A = ℕ} 0 1 = cc in absurd (omega arith)
 
 -- ---- the law
 

@@ -15,7 +15,7 @@ use Rattle.dstree.specs.Measures.{Trace, Measures, sampleLimit, inRange, areSam
 use Rattle.dstree.specs.Refusals.{Refusal, _refuses_, firstOf, measure, wrongTrace, full, badRecording}
 use Rattle.dstree.specs.Recording.{judgeRecording, fileTraces, isBadFile}
 use Rattle.dstree.specs.Sheet.{areBytes, Judged, refused, holds, judgeSheet}
-use Rattle.dstree.specs.Book.{Ask, opening, adding, matching, writing, reading, listing, importing, exporting, Call, besideOf}
+use Rattle.dstree.specs.Book.{Ask, opening, adding, matching, writing, reading, listing, importing, exporting, checking, Call, besideOf}
 use Rattle.dstree.specs.Book.{Reply, reply, shortConditions, readingConditions}
 use Rattle.dstree.proofs.Conditions.{none-first, none-both}
 use Rattle.dstree.proofs.RoundTrips.{is-library}
@@ -35,7 +35,7 @@ use Rattle.insertion_memory.proofs.Meaning.{meaning}
 use Rattle.insertion_memory.proofs.Keeps.{TakesAll, keeps-all}
 use Rattle.calls.specs.Outcome.{Effect, unlessRefused}
 use Rattle.calls.specs.Library.{loaded, beyond}
-use Rattle.calls.specs.Effects.{opens, adds, cleared, matches, writes, loadedBy, reads, lists, imports, exports}
+use Rattle.calls.specs.Effects.{opens, adds, cleared, matches, writes, loadedBy, reads, lists, imports, exports, checks}
 use Rattle.calls.specs.Effects.{effectOf}
 use Rattle.calls.specs.Follows.{Typed, Follows}
 use Rattle.calls.specs.Demands.{OneCall}
@@ -106,7 +106,7 @@ module _ (t : Tables) where
         beyond-same = tables-same refl refl refl refl (fill-behind {A = ℕ} k 0 (t .work));
       }
 
-  -- a writing, an export
+  -- a writing, an export, a check
   read-untouched : firstOf (madeConditions t) ≡ none → Untouched t t
   read-untouched e = record { lengths-same = refl; room = accepted t e .room; beyond-same = refl }
 
@@ -140,7 +140,7 @@ module _ (t : Tables) where
       }
 
   pub after-untouched : (ask : Ask) → Typed ask t → firstOf (effectOf ask t .conditions) ≡ none → Untouched t (effectOf ask t .after)
-  unfolding effectOf opens adds matches writes reads lists imports exports Typed
+  unfolding effectOf opens adds matches writes reads lists imports exports checks Typed
   after-untouched (opening m) typed e = opening-untouched m e
   after-untouched (adding x) typed e = adding-untouched x e
   after-untouched (matching query trail) typed e = searching-untouched (none-both (madeConditions t) _ e .0)
@@ -149,6 +149,7 @@ module _ (t : Tables) where
   after-untouched (listing k query trail list) typed e = searching-untouched (none-both (madeConditions t) _ e .0)
   after-untouched (importing bytes) typed e = importing-untouched bytes (typed .0) (typed .1) e
   after-untouched (exporting number rate buffer) typed e = read-untouched (none-both (madeConditions t) _ e .0)
+  after-untouched checking typed e = read-untouched (none-both (madeConditions t) _ e .0)
 
 -- ---- the same of a memory whose first places are lent
 

@@ -11,23 +11,25 @@ use lib.Dec.{T}
 use Rattle.integer.specs.Words.{every, isIn, counting}
 use Rattle.integer.specs.Lists.{In}
 use Rattle.segment.specs.Figures.{distance}
-use Rattle.dstree.specs.Measures.{Trace}
+use Rattle.dstree.specs.Measures.{Trace, Measures, sampleLimit}
+use Rattle.dstree.specs.Node.{Tree}
 use Rattle.dstree.specs.Matching.{bound, leaves, leastDistance, Match, matchOf}
 use Rattle.dstree.specs.KNearest.{isK, ranking, listPlaces, KNearest, kNearestBySteps, kNearestOf, distancesAmong, ListClaims}
 use Rattle.dstree.specs.KNearest.{KNearestClaims, OneIsMatch}
-use Rattle.dstree.specs.Refusals.{Refusal, spoiled, empty, firstOf}
+use Rattle.dstree.specs.Refusals.{Refusal, spoiled, empty, looseRecord, firstOf}
 use Rattle.dstree.specs.Recording.{Recording, recording, judgeRecording}
-use Rattle.dstree.specs.Book.{Lent, adding, matching, writing, reading, listing, importing, exporting, Call, call, besideOf}
-use Rattle.dstree.specs.Book.{Result, done, added, matched, written, neighbours, imported, exported, refusing, answering, Reply, reply}
-use Rattle.dstree.specs.Book.{over, Book, bookTree, shortConditions, judge, after, repliesOf, start}
-use Rattle.dstree.specs.Claims.{Below, numbersAmong, LeavesOutOnlyAbove}
+use Rattle.dstree.specs.Book.{Lent, adding, matching, writing, reading, listing, importing, exporting, checking, Call, call, besideOf}
+use Rattle.dstree.specs.Book.{Result, done, added, matched, written, neighbours, imported, exported, accepted, refusing}
+use Rattle.dstree.specs.Book.{answering, Reply, reply, over, Book, bookTree, shortConditions, judge, after, repliesOf, start}
+use Rattle.dstree.specs.Claims.{Below, numbersAmong, LeavesOutOnlyAbove, RangesOf, ExactTree}
 use Rattle.tables.specs.Layout.{layout}
 use Rattle.tables.specs.Tables.{Tables, lentOf, measuresOf, traceCount}
-use Rattle.tables.specs.View.{traceIn, treeIn, tracesIn}
+use Rattle.tables.specs.View.{traceIn, treeIn, tracesIn, wellFormed}
 use Rattle.tables.specs.Beginning.{firstPlaces, left}
 use Rattle.tables.specs.Holds.{Holds}
 use Rattle.calls.specs.Outcome.{Effect}
 use Rattle.calls.specs.Library.{Keeps, beyond}
+use Rattle.calls.specs.Trusted.{bookIn, Trusts}
 use Rattle.calls.specs.Effects.{cleared, effectOf}
 use Rattle.calls.specs.Follows.{Follows, Ran}
 
@@ -73,6 +75,7 @@ trailFound (added number) = none
 trailFound (written blocks sheet) = none
 trailFound (imported count) = none
 trailFound (exported size bytes) = none
+trailFound accepted = none
 
 -- "well-formed tables that differ only there give the same answer and the same trail": of a search that is not refused, so that its tables
 -- are well formed, whoever made them
@@ -124,72 +127,89 @@ ImportsAnywhere = (lent : Lent) (bytes : List ℕ) (memory memory′ : Tables) (
     → Follows (call lent (importing bytes)) memory said memory′
     → (count : ℕ) → said .answer ≡ answering (imported count) → ImportedInto lent bytes memory count memory′
 
--- ---- demands 2 and 3
+-- ---- document 02, §6, on any tables
 
--- the match of a query in a book: number, distance, counts, and the trail, which is R
-abbrev pub matchIn : Book → Trace → Match
-matchIn b query = matchOf (b .traces) (bookTree b) query
+-- a check on some memory, whatever it holds
+pub record CheckedIn (lent : Lent) (memory : Tables) (said : Reply) (memory′ : Tables) : Type 0 where
+  -- it leaves everything as it was, search work too, whatever it answers
+  pub stays : memory′ ≡ memory
+  -- "If it accepts", tables are well formed, and each recorded "least and greatest sum and scatter" is that of "the traces below"
+  pub accepts : let t = firstPlaces lent memory in said .answer ≡ answering accepted
+      → ExactTree sampleLimit (measuresOf t) (tracesIn t) (treeIn t)
+  -- "13 loose record, when well-formed tables hold a figure that isn't exactly the recomputed one"
+  pub refuses-loose : let t = firstPlaces lent memory in said .answer ≡ refusing looseRecord
+      → T (wellFormed t) × (RangesOf (tracesIn t) (treeIn t) → ⊥)
+
+abbrev pub ChecksAnywhere : Type 0
+ChecksAnywhere = (lent : Lent) (memory memory′ : Tables) (said : Reply) → Follows (call lent checking) memory said memory′
+    → CheckedIn lent memory said memory′
+
+-- ---- any query, of stored traces and their tree in some memory. What a call is refused for is judged by a book (`judge`), which takes nothing
+-- from the tables, or, where these may be anyone's, by what they hold
+
+abbrev pub judgeIn : Tables → Call → Option Refusal
+judgeIn memory c = firstOf (effectIn c memory .conditions)
 
 -- a match on some memory, whatever it is lent there, "that the table doesn't refuse", gives this answer and this trail
-abbrev pub MatchGives : Book → Trace → Tables → Match → Type 0
-MatchGives b query memory m = (lent : Lent) (trail : List ℕ) (said : Reply) (memory′ : Tables)
+abbrev pub MatchGives : (Call → Option Refusal) → Trace → Tables → Match → Type 0
+MatchGives judges query memory m = (lent : Lent) (trail : List ℕ) (said : Reply) (memory′ : Tables)
     → Follows (call lent (matching query trail)) memory said memory′
-    → judge layout b (call lent (matching query trail)) ≡ none → said ≡ reply (answering (matched m)) (over (m .trail) trail ∷ [])
+    → judges (call lent (matching query trail)) ≡ none → said ≡ reply (answering (matched m)) (over (m .trail) trail ∷ [])
 
--- document 02, §1: the k nearest of a query in a book, with the counts, and the trail
-abbrev pub nearestIn : ℕ → Book → Trace → KNearest
-nearestIn k b query = kNearestOf k (b .traces) (bookTree b) query
-
--- a search for the k nearest on some memory, whatever it is lent there, that the table doesn't refuse, gives this list and this trail.
--- "List places past those filled keep their contents"
-abbrev pub ListGives : ℕ → Book → Trace → Tables → KNearest → Type 0
-ListGives k b query memory m = (lent : Lent) (trail list : List ℕ) (said : Reply) (memory′ : Tables)
+-- document 02, §1: a search for the k nearest on some memory, whatever it is lent there, that the table doesn't refuse, gives this list and
+-- this trail. "List places past those filled keep their contents"
+abbrev pub ListGives : (Call → Option Refusal) → ℕ → Trace → Tables → KNearest → Type 0
+ListGives judges k query memory m = (lent : Lent) (trail list : List ℕ) (said : Reply) (memory′ : Tables)
     → Follows (call lent (listing k query trail list)) memory said memory′
-    → judge layout b (call lent (listing k query trail list)) ≡ none
+    → judges (call lent (listing k query trail list)) ≡ none
     → said ≡ reply (answering (neighbours m)) (over (m .trail) trail ∷ over (listPlaces (m .list)) list ∷ [])
 
 -- of any query and each k. (A call refuses those outside 1 to 16; the claims hold of them too)
-pub record OfEachK (k : ℕ) (b : Book) (query : Trace) (memory : Tables) : Type 0 where
+pub record OfEachK (judges : Call → Option Refusal) (k : ℕ) (stored : List Trace) (tree : Tree) (query : Trace) (memory : Tables)
+    : Type 0 where
   -- "A search takes k from 1 to 16 and lists the k nearest traces"
-  pub list-gives : ListGives k b query memory (nearestIn k b query)
+  pub list-gives : ListGives judges k query memory (kNearestOf k stored tree query)
   -- what the list is: "the k nearest traces by distance, then number; a smaller library lists all it has"; "A shorter list must be the
   -- beginning of a longer one"
-  pub list-is : ListClaims k (b .traces) query
+  pub list-is : ListClaims k stored query
   -- which leaves are read: "those with a bound at most the last listed distance, or every leaf when fewer than k traces are stored"; "The
   -- fewest-leaves property is wanted for each k"
-  pub leaves-are : KNearestClaims k (b .traces) (bookTree b) query
+  pub leaves-are : KNearestClaims k stored tree query
   -- "The same [search] on tables that differ from these only in samples of traces outside" these leaves "gives that answer and that trail"
-  pub others-do-not-bear : (other : Tables) → DifferOutside (nearestIn k b query .trail) memory other
-      → ListGives k b query other (nearestIn k b query)
+  pub others-do-not-bear : (other : Tables) → DifferOutside (kNearestOf k stored tree query .trail) memory other
+      → ListGives judges k query other (kNearestOf k stored tree query)
 
 -- "take any query of n samples. Let d be its least distance to the book's traces, and R the leaves with a bound at most d"
-pub record OfAnyQuery (b : Book) (query : Trace) (memory : Tables) : Type 0 where
+pub record OfAnyQuery (judges : Call → Option Refusal) (stored : List Trace) (tree : Tree) (query : Trace) (memory : Tables)
+    : Type 0 where
   -- "No node's bound exceeds the query's distance to a trace below it"
-  pub bound-at-most : (number trace : ℕ) → Below (bookTree b) trace number
-      → bound (bookTree b) query number ≤ distance query (getD (b .traces) trace [])
+  pub bound-at-most : (number trace : ℕ) → Below tree trace number → bound tree query number ≤ distance query (getD stored trace [])
   -- "A match of this query that the table doesn't refuse answers the lowest trace number at distance d, d, the number of leaves in R, and
   -- the number of traces in them; the trail begins with R, by bound, then by number"
-  pub match-gives : MatchGives b query memory (matchIn b query)
+  pub match-gives : MatchGives judges query memory (matchOf stored tree query)
   -- demand 2: "the match is the stored trace with the least sum of squared sample differences, the lowest number among equals"
-  pub is-stored : matchIn b query .trace < length (b .traces)
-  pub has-distance : distance query (getD (b .traces) (matchIn b query .trace) []) ≡ matchIn b query .distance
-  pub is-least : (trace : ℕ) → trace < length (b .traces) → matchIn b query .distance ≤ distance query (getD (b .traces) trace [])
-  pub is-lowest : (trace : ℕ) → trace < matchIn b query .trace → matchIn b query .distance < distance query (getD (b .traces) trace [])
+  pub is-stored : matchOf stored tree query .trace < length stored
+  pub has-distance : distance query (getD stored (matchOf stored tree query .trace) []) ≡ matchOf stored tree query .distance
+  pub is-least : (trace : ℕ) → trace < length stored → matchOf stored tree query .distance ≤ distance query (getD stored trace [])
+  pub is-lowest : (trace : ℕ) → trace < matchOf stored tree query .trace
+      → matchOf stored tree query .distance < distance query (getD stored trace [])
   -- "The same match on tables that differ from these only in samples of traces outside R, still well formed, gives that answer and that
   -- trail"
-  pub others-do-not-bear : (other : Tables) → DifferOutside (matchIn b query .trail) memory other
-      → MatchGives b query other (matchIn b query)
+  pub others-do-not-bear : (other : Tables) → DifferOutside (matchOf stored tree query .trail) memory other
+      → MatchGives judges query other (matchOf stored tree query)
   -- "R leaves out only bounds above d"
-  pub out-of-R : (number : ℕ) → T (isIn number (leaves (bookTree b))) → T (not (isIn number (matchIn b query .trail)))
-      → leastDistance (b .traces) query < bound (bookTree b) query number
+  pub out-of-R : (number : ℕ) → T (isIn number (leaves tree)) → T (not (isIn number (matchOf stored tree query .trail)))
+      → leastDistance stored query < bound tree query number
   -- "Any set of one leaf or more that leaves out only bounds above the least distance in the set contains R, so it has at least as many
   -- leaves as the answer counts"
-  pub contains-R : (set : List ℕ) → LeavesOutOnlyAbove (b .traces) (bookTree b) query set
-      → T (every (λ number. isIn number set) (matchIn b query .trail))
-  pub fewest : (set : List ℕ) → LeavesOutOnlyAbove (b .traces) (bookTree b) query set → matchIn b query .leaves ≤ length set
+  pub contains-R : (set : List ℕ) → LeavesOutOnlyAbove stored tree query set
+      → T (every (λ number. isIn number set) (matchOf stored tree query .trail))
+  pub fewest : (set : List ℕ) → LeavesOutOnlyAbove stored tree query set → matchOf stored tree query .leaves ≤ length set
   -- document 02, §1; the one nearest is the match, "with its trail and counts"
-  pub each-k : (k : ℕ) → OfEachK k b query memory
-  pub one-is-match : OneIsMatch (b .traces) (bookTree b) query
+  pub each-k : (k : ℕ) → OfEachK judges k stored tree query memory
+  pub one-is-match : OneIsMatch stored tree query
+
+-- ---- demands 2 and 3
 
 -- demand 2: "Such a library, written to a sheet and read back, is the same library": in whatever memory that is long enough, at every
 -- needed place
@@ -216,6 +236,11 @@ ExportedSound b memory = (lent : Lent) (number rate : ℕ) (buffer : List ℕ) (
     → (said .beside ≡ over bytes buffer ∷ []) × ((size ≡ length bytes)
     × (judgeRecording (b .measures .n) bytes ≡ some (recording rate (getD (b .traces) number [] ∷ []))))
 
+-- document 02, §6: a check that is lent the places that the measures need accepts, and leaves everything as it was
+abbrev pub IsAccepted : Measures → Tables → Type 0
+IsAccepted m memory = (lent : Lent) (said : Reply) (memory′ : Tables) → Follows (call lent checking) memory said memory′
+    → firstOf (shortConditions layout lent m) ≡ none → (said ≡ reply (answering accepted) []) × (memory′ ≡ memory)
+
 -- what holds after a list of calls, from a book on
 pub record AfterList (b : Book) (calls : List Call) (said : List Reply) (memory : Tables) : Type 0 where
   -- "What is stored, a book says": every needed place is as the book's library has it ..
@@ -226,13 +251,31 @@ pub record AfterList (b : Book) (calls : List Call) (said : List Reply) (memory 
   -- "Refusals follow the table, judged by arguments and book", and every answer is the book's; "a refused call changes nothing"
   pub replies-are : said ≡ repliesOf layout b calls
   pub written-and-read : WrittenAndRead (after layout b calls) memory
-  -- "3 never arises from these tables"
+  -- "3 never arises from these tables", nor does document 02's 13
   pub never-spoiled : (r : Reply) → In r said → r .answer ≡ refusing spoiled → ⊥
+  pub never-loose : (r : Reply) → In r said → r .answer ≡ refusing looseRecord → ⊥
   -- "After the list, if the book has a trace, take any query of n samples"
   pub any-query : (query : Trace) → 0 < length (after layout b calls .traces) → length query ≡ after layout b calls .measures .n
-      → OfAnyQuery (after layout b calls) query memory
+      → OfAnyQuery (judge layout (after layout b calls)) (after layout b calls .traces) (bookTree (after layout b calls)) query memory
   pub empty-is-six : EmptyIsSix (after layout b calls) memory
   pub exported-sound : ExportedSound (after layout b calls) memory
+  -- document 02, §6: "It accepts every library made by calls"
+  pub is-accepted : IsAccepted (after layout b calls .measures) memory
+
+-- document 02, §6: what holds after a list of calls that a check started which has just accepted, "whatever made the tables". The book starts
+-- with what these hold
+pub record AfterCheck (b : Book) (calls : List Call) (said : List Reply) (memory : Tables) : Type 0 where
+  -- "What is stored, a book says", refused calls included: the tables have its measures and its traces, and every recorded figure is exact.
+  -- The tree is their own
+  pub trusts : Trusts memory (after layout b calls)
+  -- so that it goes on accepting: each of these calls leaves "libraries it would accept"
+  pub is-accepted : IsAccepted (after layout b calls .measures) memory
+  -- 3 and 13 never arise from these tables
+  pub never-spoiled : (r : Reply) → In r said → r .answer ≡ refusing spoiled → ⊥
+  pub never-loose : (r : Reply) → In r said → r .answer ≡ refusing looseRecord → ⊥
+  -- "If it accepts, a match must be the nearest stored trace and read the fewest leaves": of any query of n samples, if a trace is stored
+  pub any-query : (query : Trace) → 0 < length (after layout b calls .traces) → length query ≡ after layout b calls .measures .n
+      → OfAnyQuery (judgeIn memory) (after layout b calls .traces) (treeIn memory) query memory
 
 -- ---- all of it
 
@@ -241,10 +284,15 @@ pub record Demands : Type 0 where
   pub off-trail : SamplesOffTrail
   pub lists-anywhere : ListsAnywhere
   pub imports-anywhere : ImportsAnywhere
+  pub checks-anywhere : ChecksAnywhere
   -- "An opening or a sheet reading has just succeeded when it starts": the first call is one that answers `done`
   pub after-list : (first : Call) (calls : List Call) (memory₀ memory : Tables) (said₀ : Reply) (said : List Reply)
       → Ran memory₀ (first ∷ calls) (said₀ ∷ said) memory → said₀ .answer ≡ answering done
       → AfterList (start layout first) calls said memory
+  -- document 02, §6: a check has just accepted when it starts: the first call is one that answers `accepted`
+  pub after-check : (first : Call) (calls : List Call) (memory₀ memory : Tables) (said₀ : Reply) (said : List Reply)
+      → Ran memory₀ (first ∷ calls) (said₀ ∷ said) memory → said₀ .answer ≡ answering accepted
+      → AfterCheck (bookIn memory₀) calls said memory
   -- demand 2: "an accepted sheet is written again byte for byte"
   pub read-and-written : (lent : Lent) (bytes : List ℕ) (memory₀ memory₁ : Tables) (said₁ : Reply)
       → Follows (call lent (reading bytes)) memory₀ said₁ memory₁ → said₁ .answer ≡ answering done

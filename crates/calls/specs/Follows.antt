@@ -13,7 +13,8 @@ use Rattle.calls.specs.Outcome.{Outcome, outcome}
 use Rattle.calls.specs.Effects.{outcomeOn}
 
 -- what the types of lent slices say of what a call brings and of the tables, as far as it bears: the samples of a trace that is added are
--- 16-bit numbers, a sheet that is read is bytes, and so is a recording that is imported, into tables whose samples are 16-bit numbers
+-- 16-bit numbers, a sheet that is read is bytes, and so is a recording that is imported, into tables whose samples are 16-bit numbers, as
+-- are those of tables that are checked
 unfoldable pub Typed : Ask → Tables → Type 0
 Typed (opening m) t = Unit
 Typed (adding x) t = T (areSamples x)
@@ -23,7 +24,7 @@ Typed (reading bytes) t = T (areBytes bytes)
 Typed (listing k query trail list) t = Unit
 Typed (importing bytes) t = T (areBytes bytes) × T (areSamples (t .samples))
 Typed (exporting number rate buffer) t = Unit
-Typed checking t = Unit
+Typed checking t = T (areSamples (t .samples))
 
 -- what a call answers, and what it leaves in the memory and in what it is lent beside the tables. Places behind those that it is lent stay
 abbrev pub outcomeIn : Call → Tables → Outcome

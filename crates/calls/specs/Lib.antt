@@ -3,6 +3,7 @@
 pub mod Outcome
 pub mod Numbers
 pub mod Library
+pub mod Trusted
 pub mod Effects
 pub mod Follows
 pub mod Demands

@@ -31,6 +31,3 @@ module _ (limit : ℕ) (m : Measures) (traces : List Trace) (library : T (isLibr
     (lq : length query ≡ m .n) where
   pub k-nearest : (k : ℕ) → KNearestClaims k traces (treeOf m traces) query
   k-nearest = k-nearest-exact limit m traces (treeOf m traces) (exact limit m traces library) query lq
-
-  pub one-nearest : 0 < length traces → OneIsMatch traces (treeOf m traces) query
-  one-nearest = one-exact limit m traces (treeOf m traces) (exact limit m traces library) query lq

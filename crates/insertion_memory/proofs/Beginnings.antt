@@ -101,6 +101,21 @@ module _ {t s : Tables} (a : Agree t s) where
         (subst (λ (k : ℕ). T (abstract.wellFormed sampleLimit (measuresOf t) k (treeIn s))) (sym traces-counted)
         (subst (λ (r : Tree). T (abstract.wellFormed sampleLimit (measuresOf t) (traceCount t) r)) (sym tree-same) tree)))
 
+-- they agree the other way round
+pub agree-back : {t s : Tables} → Agree t s → Agree s t
+agree-back {t} {s} a = record {
+  control-agrees = λ i h. sym (a .control-agrees i h);
+  samples-agree = subst (λ (m : Measures). (i : ℕ) → i < m .capacity → traceIn (t .samples) (m .n) i ≡ traceIn (s .samples) (m .n) i) back
+      (λ i h. sym (a .samples-agree i h));
+  nodes-agree = subst (λ (m : Measures). (j : ℕ) → j < 2 * m .capacity - 1 → recordOf (t .nodes) j ≡ recordOf (s .nodes) j) back
+      (λ j h. sym (a .nodes-agree j h));
+  links-agree = subst (λ (m : Measures). (i : ℕ) → i < m .capacity → getD (t .links) i 0 ≡ getD (s .links) i 0) back
+      (λ i h. sym (a .links-agree i h));
+}
+  where
+    back : measuresOf t ≡ measuresOf s
+    back = sym (measures-same a)
+
 -- tables that agree hold the same
 pub holds-same : {t s : Tables} {m : Measures} {traces : List Trace} → Agree t s → Long s → Holds t m traces → Holds s m traces
 holds-same a long h = record {

@@ -1,0 +1,400 @@
+-- A call on a memory that the check would accept, whichever it is, leaves one that it would accept, with the measures and traces that the book
+-- then has: adding keeps figures exact, an opening and a reading make a library by calls, the others write nothing but search work. So does a
+-- list of calls, from a check on that has just accepted; and none of them is refused with 3 or 13.
+use Prim.Native.Nat.{ℕ, _+_, _≤_, _<_}
+use mathlib.Core.Path.{_≡_, refl, sym, ap, subst, _∙_}
+use mathlib.Core.Bool.{Bool, true, false, not}
+use mathlib.Core.Option.{Option, none, some}
+use mathlib.Core.Logic.{_⊎_, inl, inr}
+use mathlib.Core.List.{List, [], _∷_, _++_, foldl, append-assoc, append-nil}
+use native.Mathlib.Omega.{arith}
+use lib.ListN.{length, length-append}
+use lib.Dec.{T, leb, ltb, eqb, leb→le}
+use borrow.Author.Tests.{not-false, eqb-false, ltb-false}
+use Rattle.integer.specs.Words.{if_then_else_, every}
+use Rattle.integer.specs.Lists.{In, first, later}
+use Rattle.integer.proofs.Tests.{passed, passes, is-true, test-true}
+use Rattle.integer.proofs.Lists.{in-nil, in-cons, from-every, every-of, strict}
+use Rattle.dstree.specs.Measures.{Trace, Measures, sampleLimit, inRange, areSamples, isTrace, isLibrary, workNeeded}
+use Rattle.dstree.specs.Matching.{Match, matchBySteps}
+use Rattle.dstree.specs.Refusals.{Refusal, Condition, _refuses_, firstOf, wrongTrace, full, badRecording, looseRecord, numberOf}
+use Rattle.dstree.specs.Claims.{RangesOf}
+use Rattle.dstree.specs.Checking.{isExact}
+use Rattle.dstree.specs.WellFormed as abstract
+use Rattle.dstree.specs.Recording.{Recording, judgeRecording, fileTraces, isBadFile}
+use Rattle.dstree.specs.Sheet.{areBytes}
+use Rattle.dstree.specs.Book.{Lent, Ask, opening, adding, matching, writing, reading, listing, importing, exporting, checking, Call, call}
+use Rattle.dstree.specs.Book.{besideOf, accepted, refusing, answering, Reply, Book, book, Entry, importConditions, shortConditions}
+use Rattle.dstree.specs.Book.{addingEntry, matchingEntry, writingEntry, listingEntry, importingEntry, exportingEntry, checkingEntry}
+use Rattle.dstree.specs.Book.{entryOf, judge, putUnless, turn, after}
+use Rattle.dstree.proofs.Conditions.{none-first, none-both, first-some, first-none}
+use Rattle.dstree.proofs.Limits.{trace-length}
+use Rattle.dstree.proofs.Recordings.{file-traces}
+use Rattle.dstree.proofs.Checking.{exactness, adding-accepted}
+use Rattle.tables.specs.Layout.{layout}
+use Rattle.tables.specs.Tables.{Tables, lentOf, measuresOf, traceCount}
+use Rattle.tables.specs.View.{treeIn, tracesIn, kindsNamed, wellFormed}
+use Rattle.tables.specs.Judge.{lentConditionsOf}
+use Rattle.tables.specs.Beginning.{firstPlaces, left, Begins}
+use Rattle.tables.specs.Answers.{madeConditions}
+use Rattle.tables.proofs.Views.{traces-size, tree-passes}
+use Rattle.tables.proofs.Judged as judged
+use Rattle.tables.proofs.Beginning.{fill-length, left-same, left-begins, first-begins}
+use Rattle.insertion_memory.specs.Memory.{addedTo}
+use Rattle.insertion_memory.proofs.Meaning.{meaning}
+use Rattle.insertion_memory.proofs.Keeps.{keeps-well-formed}
+use Rattle.calls.specs.Outcome.{Effect, unlessRefused}
+use Rattle.calls.specs.Trusted.{bookIn, Trusts}
+use Rattle.calls.specs.Effects.{opens, adds, resultOf, cleared, matches, writes, reads, lists, imports, exports, checks}
+use Rattle.calls.specs.Effects.{effectOf}
+use Rattle.calls.specs.Follows.{Typed, Follows, Ran, no-call, a-call}
+use Rattle.calls.proofs.Trusted.{long-in, count-in, each-is, whole-trusts, part-trusts, fine-room}
+use Rattle.calls.proofs.Trusted.{trusted-same, accepted-same, checked-trusts, kept-trusts}
+use Rattle.calls.proofs.Agrees.{Agrees, opening-agrees, reading-agrees, library-grows}
+use Rattle.calls.proofs.Steps.{reply-is, memory-is}
+use Rattle.calls.proofs.NeverSpoiled.{ifAny, first-any, ofArguments, other, first-other, entry-other}
+use Rattle.calls.proofs.OffTrail.{answered}
+
+-- ---- adding
+
+-- one trace of n samples, where there is room
+pub add-trusts : {t : Tables} {b : Book} → Trusts t b → (x : Trace) → T (isTrace sampleLimit (b .measures .n) x)
+    → length (b .traces) < b .measures .capacity → Trusts (addedTo t x) (book (b .measures) (b .traces ++ (x ∷ [])))
+unfolding every
+add-trusts {t} {b} k x is-trace less =
+    let n-same : b .measures .n ≡ measuresOf t .n = ap (λ (m : Measures). m .n) (sym (k .measures-are)) in
+    let is : T (isTrace sampleLimit (measuresOf t .n) x) = subst (λ (n : ℕ). T (isTrace sampleLimit n x)) n-same is-trace in
+    let all : T (every (isTrace sampleLimit (measuresOf t .n)) (tracesIn t)) = rw (k .traces-are)
+    (subst (λ (n : ℕ). T (every (isTrace sampleLimit n) (b .traces))) n-same (each-is k)) in
+    let size : length x ≡ measuresOf t .n = trace-length sampleLimit (measuresOf t .n) x is in
+    let room : traceCount t < measuresOf t .capacity =
+    omega (arith, less, count-in k, ap (λ (m : Measures). m .capacity) (k .measures-are)) in
+    let passes-it = subst (λ (n : ℕ). T (abstract.wellFormed sampleLimit (measuresOf t) n (treeIn t))) (sym (traces-size t))
+    (tree-passes t (k .formed)) in
+    let a = meaning t x (k .formed) (long-in k) size room in
+    record {
+      library = library-grows (b .measures) (b .traces) (x ∷ []) (k .library)
+          (passes (isTrace sampleLimit (b .measures .n) x) (true ∷ []) (is-trace, tt)) (omega (arith, less));
+      room = rw (a .lengths-stay) (k .room);
+      formed = keeps-well-formed t x (k .formed) (long-in k) size room all is;
+      measures-are = a .measures-stay ∙ k .measures-are;
+      traces-are = a .traces ∙ ap (λ (l : List Trace). l ++ (x ∷ [])) (k .traces-are);
+      exact = rw (a .traces, a .tree) (adding-accepted sampleLimit (measuresOf t) (tracesIn t) (treeIn t) x passes-it all is
+          (omega (arith, room, traces-size t)) (k .exact));
+    }
+
+-- any number of them
+pub all-trust : (more : List Trace) {t : Tables} {b : Book} → Trusts t b → T (every (isTrace sampleLimit (b .measures .n)) more)
+    → length (b .traces) + length more ≤ b .measures .capacity → Trusts (foldl addedTo t more) (book (b .measures) (b .traces ++ more))
+all-trust [] {t} {b} k each room = subst (λ (l : List Trace). Trusts t (book (b .measures) l)) (sym (append-nil (b .traces))) k
+all-trust (x ∷ more) {t} {b} k each room =
+    let is = isTrace sampleLimit (b .measures .n) in
+    let next = add-trusts k x (from-every is (x ∷ more) each first) (omega (arith, room)) in
+    subst (λ (l : List Trace). Trusts (foldl addedTo (addedTo t x) more) (book (b .measures) l)) (append-assoc (b .traces) (x ∷ []) more)
+    (all-trust more next (every-of is more (λ y i. from-every is (x ∷ more) each (later i)))
+    (omega (arith, room, length-append (b .traces) (x ∷ []))))
+
+-- ---- one call
+
+-- what an effect leaves of a memory that the check would accept, beside what the book puts
+record Leads (memory : Tables) (b : Book) (e : Effect) (n : Entry) : Type 0 where
+  -- refused or not, the book has the same after it. (A short trail is judged by the leaves of the tables' own tree, and puts nothing)
+  puts-same : putUnless (firstOf (n .conditions)) b n ≡ putUnless (firstOf (e .conditions)) b n
+  trusts : firstOf (e .conditions) ≡ none → Trusts (left (e .after) memory) (n .puts)
+  by-arguments : T (ifAny ofArguments (firstOf (e .conditions)))
+
+-- what agrees with a library that calls made: an opening, a reading
+of-agrees : {memory : Tables} {b : Book} {e : Effect} {n : Entry} → Agrees memory e n → T (every other (n .conditions)) → Leads memory b e n
+of-agrees {b = b} {n = n} a all = record {
+  puts-same = ap (λ (o : Option Refusal). putUnless o b n) (sym (a .judged));
+  trusts = λ f. kept-trusts (a .puts (sym (a .judged) ∙ f));
+  by-arguments = subst (λ (o : Option Refusal). T (ifAny ofArguments o)) (sym (a .judged)) (first-other (n .conditions) all);
+}
+
+-- what puts nothing
+put-stays : (o : Option Refusal) (b : Book) (n : Entry) → n .puts ≡ b → putUnless o b n ≡ b
+unfolding putUnless
+put-stays (some why) b n e = refl
+put-stays none b n e = e
+
+module _ (memory part : Tables) (begins : Begins part memory) (b : Book) (k : Trusts memory b) where
+  -- a call on tables that it is lent is refused by its own conditions and by lengths
+  by-own : (rest : List Condition) → T (every other (shortConditions layout (lentOf part) (b .measures) ++ rest))
+      → T (ifAny ofArguments (firstOf (madeConditions part ++ rest)))
+  by-own rest all = subst (λ (o : Option Refusal). T (ifAny ofArguments o)) (sym (trusted-same k begins rest rest (λ t. refl)))
+      (first-other (shortConditions layout (lentOf part) (b .measures) ++ rest) all)
+
+  -- where it is not refused, its tables are accepted
+  lent-trusts : (rest : List Condition) → firstOf (madeConditions part ++ rest) ≡ none → Trusts part b
+  lent-trusts rest f = part-trusts k begins (fine-room k begins (none-both (madeConditions part) rest f .0))
+
+  left-trusts : {after : Tables} {b′ : Book} → Trusts after b′ → Trusts (left after memory) b′
+  left-trusts {after} t = whole-trusts (left-begins after memory) t
+
+  -- a search leaves search work zero, and all else
+  cleared-trusts : Trusts part b → Trusts (cleared part) b
+  unfolding wellFormed kindsNamed treeIn tracesIn
+  cleared-trusts t =
+      let w : ℕ = workNeeded (measuresOf part) in
+      let room : workNeeded (measuresOf part) ≤ length (part .work) = rw (t .measures-are) (t .room .work-room) in
+      record {
+        library = t .library;
+        room = rw (fill-length {A = ℕ} w 0 (part .work) room) (t .room);
+        formed = t .formed;
+        measures-are = t .measures-are;
+        traces-are = t .traces-are;
+        exact = t .exact;
+      }
+
+  -- an effect whose own conditions are `rest`
+  searching : (rest : List Condition) (e : Effect) (n : Entry) → e .conditions ≡ madeConditions part ++ rest → n .puts ≡ b
+      → e .after ≡ cleared part → T (every other (shortConditions layout (lentOf part) (b .measures) ++ rest)) → Leads memory b e n
+  searching rest e n c p l all = record {
+    puts-same = put-stays _ b n p ∙ sym (put-stays _ b n p);
+    trusts = λ f. rw (l, p) (left-trusts (cleared-trusts (lent-trusts rest (ap firstOf (sym c) ∙ f))));
+    by-arguments = rw c (by-own rest all);
+  }
+
+  staying : (e : Effect) (n : Entry) → n .puts ≡ b → e .after ≡ part → T (ifAny ofArguments (firstOf (e .conditions))) → Leads memory b e n
+  staying e n p l args = record {
+    puts-same = put-stays _ b n p ∙ sym (put-stays _ b n p);
+    trusts = λ f. rw (l, p, left-same part memory begins) k;
+    by-arguments = args;
+  }
+
+  abbrev m : Measures
+  m = b .measures
+
+  adding-leads : (x : Trace) → T (areSamples x) → Leads memory b (adds part x) (addingEntry layout (lentOf part) b x)
+  unfolding adds addingEntry isLibrary isTrace every ofArguments numberOf
+  adding-leads x samples = record {
+    puts-same = ap (λ (o : Option Refusal). putUnless o b (addingEntry layout (lentOf part) b x)) (sym judged);
+    trusts = λ f. left-trusts (added f);
+    by-arguments = by-own _ tt;
+  }
+    where
+      rest : List Condition
+      rest = not (eqb (length x) (m .n)) refuses wrongTrace ∷ eqb (length (b .traces)) (m .capacity) refuses full ∷ []
+
+      judged : firstOf (adds part x .conditions) ≡ firstOf (shortConditions layout (lentOf part) m ++ rest)
+      judged = trusted-same k begins _ rest (λ t. rw (
+        ap (λ (k : Measures). k .n) (t .measures-are),
+        ap (λ (k : Measures). k .capacity) (t .measures-are),
+        count-in t,
+      ))
+
+      added : firstOf (adds part x .conditions) ≡ none → Trusts (addedTo part x) (book m (b .traces ++ (x ∷ [])))
+      added f =
+          let own = none-both (shortConditions layout (lentOf part) m) rest (sym judged ∙ f) .1 in
+          let one = none-first (not (eqb (length x) (m .n))) wrongTrace _ own in
+          let two = none-first (eqb (length (b .traces)) (m .capacity)) full _ (one .1) in
+          let most : length (b .traces) ≤ m .capacity = leb→le (length (b .traces)) (m .capacity)
+          (passed (inRange m) (leb (length (b .traces)) (m .capacity) ∷ every (isTrace sampleLimit (m .n)) (b .traces) ∷ [])
+          (k .library) .1 .0) in
+          add-trusts (lent-trusts _ f) x (passes (eqb (length x) (m .n)) (areSamples x ∷ []) (is-true {b = eqb (length x) (m .n)} (not-false _ (one .0)), samples))
+          (strict most (λ q. eqb-false (length (b .traces)) (m .capacity) (two .0) q))
+
+  importing-leads : (bytes : List ℕ) → T (areBytes bytes) → Leads memory b (imports part bytes) (importingEntry layout (lentOf part) b bytes)
+  unfolding imports importingEntry every ofArguments numberOf
+  importing-leads bytes typed = record {
+    puts-same = ap (λ (o : Option Refusal). putUnless o b (importingEntry layout (lentOf part) b bytes)) (sym judged);
+    trusts = λ f. left-trusts (added f);
+    by-arguments = by-own _ tt;
+  }
+    where
+      file : Option Recording
+      file = judgeRecording (m .n) bytes
+
+      same-file : Trusts part b → judgeRecording (measuresOf part .n) bytes ≡ file
+      same-file t = ap (λ (k : Measures). judgeRecording (k .n) bytes) (t .measures-are)
+
+      judged : firstOf (imports part bytes .conditions)
+          ≡ firstOf (shortConditions layout (lentOf part) m ++ importConditions m (length (b .traces)) file)
+      judged = trusted-same k begins _ (importConditions m (length (b .traces)) file)
+          (λ t. rw (same-file t, ap (λ (k : Measures). k .capacity) (t .measures-are), count-in t))
+
+      added : firstOf (imports part bytes .conditions) ≡ none
+          → Trusts (foldl addedTo part (fileTraces (judgeRecording (measuresOf part .n) bytes))) (book m (b .traces ++ fileTraces file))
+      added f =
+          let own = none-both (shortConditions layout (lentOf part) m) (importConditions m (length (b .traces)) file) (sym judged ∙ f) .1 in
+          let two = none-first (ltb (m .capacity) (length (b .traces) + length (fileTraces file))) full _
+          (none-first (isBadFile file) badRecording _ own .1) in
+          let t = lent-trusts _ f in
+          subst (λ (o : Option Recording). Trusts (foldl addedTo part (fileTraces o)) (book m (b .traces ++ fileTraces file))) (sym (same-file t))
+          (all-trust (fileTraces file) t (file-traces (m .n) bytes typed)
+          (ltb-false (m .capacity) (length (b .traces) + length (fileTraces file)) (two .0)))
+
+  leads : (ask : Ask) → Typed ask part → Leads memory b (effectOf ask part) (entryOf layout (lentOf part) b ask)
+  unfolding effectOf entryOf Typed matches lists writes exports checks matchingEntry listingEntry writingEntry exportingEntry checkingEntry
+      every ofArguments numberOf
+  leads (opening x) typed = of-agrees (opening-agrees memory part b x) (entry-other layout (lentOf part) b (opening x))
+  leads (adding x) typed = adding-leads x typed
+  leads (matching query trail) typed = searching _ _ _ refl refl refl tt
+  leads (writing sheet) typed = staying _ _ refl refl (by-own _ tt)
+  leads (reading bytes) typed = of-agrees (reading-agrees memory part b bytes typed) (entry-other layout (lentOf part) b (reading bytes))
+  leads (listing j query trail list) typed = searching _ _ _ refl refl refl tt
+  leads (importing bytes) typed = importing-leads bytes (typed .0)
+  leads (exporting number rate buffer) typed = staying _ _ refl refl (by-own _ tt)
+  leads checking typed = staying _ _ refl refl
+      (subst (λ (o : Option Refusal). T (ifAny ofArguments o)) (sym (accepted-same k begins))
+      (first-other (shortConditions layout (lentOf part) m) tt))
+
+-- ---- the step
+
+-- what is said is no refusal for what the tables hold
+abbrev pub NotOfTables : Reply → Type 0
+NotOfTables said = (w : Refusal) → (T (ofArguments w) → ⊥) → said .answer ≡ refusing w → ⊥
+
+module _ {memory : Tables} {b : Book} {e : Effect} {n : Entry} (l : Leads memory b e n) (part : Tables) (begins : Begins part memory)
+    (beside : List (List ℕ)) where
+  leads-by : Trusts memory b → (o : Option Refusal) → firstOf (e .conditions) ≡ o
+      → Trusts (left (unlessRefused o part beside e .after) memory) (putUnless o b n)
+  unfolding unlessRefused putUnless
+  leads-by k (some why) q = rw (left-same part memory begins) k
+  leads-by k none q = l .trusts q
+
+  says-by : (o : Option Refusal) → T (ifAny ofArguments o) → (w : Refusal) → (T (ofArguments w) → ⊥)
+      → unlessRefused o part beside e .answer ≡ refusing w → ⊥
+  unfolding unlessRefused ifAny
+  says-by (some why) t w never q = let same : why ≡ w = cc in never (subst (λ (r : Refusal). T (ofArguments r)) same t)
+  says-by none t w never q = let z : _≡_ {A = ℕ} 0 1 = cc in absurd (omega arith)
+
+pub trusting : {c : Call} {memory memory′ : Tables} {said : Reply} {b : Book} → Follows c memory said memory′ → Trusts memory b
+    → Trusts memory′ (turn layout b c) × NotOfTables said
+unfolding turn judge
+trusting {c} {memory} {memory′} {said} {b} f k =
+    let part = firstPlaces (c .lent) memory in
+    let begins = first-begins (c .lent) memory in
+    let l : Leads memory b (effectOf (c .ask) part) (entryOf layout (c .lent) b (c .ask)) =
+    subst (λ (l : Lent). Leads memory b (effectOf (c .ask) part) (entryOf layout l b (c .ask))) (f .has-places)
+    (leads memory part begins b k (c .ask) (f .typed)) in (
+      rw (memory-is f, l .puts-same) (leads-by l part begins (besideOf (c .ask)) k (firstOf (effectOf (c .ask) part .conditions)) refl),
+      λ w never q. says-by l part begins (besideOf (c .ask)) (firstOf (effectOf (c .ask) part .conditions)) (l .by-arguments) w never
+          (sym (ap (λ (r : Reply). r .answer) (reply-is f)) ∙ q),
+    )
+
+-- ---- a list of calls
+
+pub all-trusting : {b : Book} {memory memory′ : Tables} {calls : List Call} {said : List Reply} → Trusts memory b
+    → Ran memory calls said memory′ → Trusts memory′ (after layout b calls) × ((r : Reply) → In r said → NotOfTables r)
+unfolding after
+all-trusting k no-call = (k, λ r i. absurd (in-nil i))
+all-trusting k (a-call {said = said} {others = others} f rest) =
+    let s = trusting f k in
+    let t = all-trusting (s .0) rest in
+    (t .0, λ r i. by r (in-cons i) (s .1) (t .1 r))
+  where
+    by : (r : Reply) → (r ≡ said) ⊎ In r others → NotOfTables said → (In r others → NotOfTables r) → NotOfTables r
+    by r (inl e) one rest = rw e one
+    by r (inr i) one rest = rest i
+
+-- ---- the first call
+
+-- only a check answers `accepted`
+match-accepts-none : (o : Option Match) → resultOf o ≡ accepted → ⊥
+unfolding resultOf
+match-accepts-none none e = let z : _≡_ {A = ℕ} 0 1 = cc in omega arith
+match-accepts-none (some m) e = let z : _≡_ {A = ℕ} 0 1 = cc in omega arith
+
+only-check : (ask : Ask) (t : Tables) → effectOf ask t .result ≡ accepted → ask ≡ checking
+unfolding effectOf opens adds matches writes reads lists imports exports checks
+only-check (opening m) t e = let z : _≡_ {A = ℕ} 0 1 = cc in absurd (omega arith)
+only-check (adding x) t e = let z : _≡_ {A = ℕ} 0 1 = cc in absurd (omega arith)
+only-check (matching query trail) t e = absurd (match-accepts-none (matchBySteps (tracesIn t) (treeIn t) query) e)
+only-check (writing sheet) t e = let z : _≡_ {A = ℕ} 0 1 = cc in absurd (omega arith)
+only-check (reading bytes) t e = let z : _≡_ {A = ℕ} 0 1 = cc in absurd (omega arith)
+only-check (listing k query trail list) t e = let z : _≡_ {A = ℕ} 0 1 = cc in absurd (omega arith)
+only-check (importing bytes) t e = let z : _≡_ {A = ℕ} 0 1 = cc in absurd (omega arith)
+only-check (exporting number rate buffer) t e = let z : _≡_ {A = ℕ} 0 1 = cc in absurd (omega arith)
+only-check checking t e = refl
+
+module _ {lent : Lent} {memory memory′ : Tables} {said : Reply} (f : Follows (call lent checking) memory said memory′) where
+  abbrev lentPart : Tables
+  lentPart = firstPlaces lent memory
+
+  -- a check leaves everything as it was, whatever it answers
+  pub check-stays : memory′ ≡ memory
+  unfolding effectOf besideOf checks unlessRefused
+  check-stays = memory-is f ∙ by (firstOf (checks lentPart .conditions))
+    where
+      by : (o : Option Refusal) → left (unlessRefused o lentPart [] (checks lentPart) .after) memory ≡ memory
+      by (some why) = left-same lentPart memory (first-begins lent memory)
+      by none = left-same lentPart memory (first-begins lent memory)
+
+  -- where it accepts, no condition holds
+  pub check-fine : said .answer ≡ answering accepted → firstOf (checks lentPart .conditions) ≡ none
+  unfolding effectOf besideOf
+  check-fine a = answered (firstOf (checks lentPart .conditions)) lentPart [] (checks lentPart) accepted
+      (sym (ap (λ (r : Reply). r .answer) (reply-is f)) ∙ a) .0
+
+  pub part-checked : said .answer ≡ answering accepted → Trusts lentPart (bookIn lentPart)
+  unfolding Typed
+  part-checked a = checked-trusts lentPart (f .typed) (check-fine a)
+
+  -- the memory is accepted with what it holds
+  whole-checked : said .answer ≡ answering accepted → Trusts memory (bookIn memory)
+  whole-checked a =
+      let k = whole-trusts (first-begins lent memory) (part-checked a) in
+      let same : bookIn lentPart ≡ bookIn memory = rw (k .measures-are, k .traces-are) in
+      subst (Trusts memory) same k
+
+-- ---- 13
+
+refused-with : (o : Option Refusal) (t : Tables) (beside : List (List ℕ)) (e : Effect) (w : Refusal)
+    → unlessRefused o t beside e .answer ≡ refusing w → o ≡ some w
+unfolding unlessRefused
+refused-with (some why) t beside e w q = cc
+refused-with none t beside e w q = let z : _≡_ {A = ℕ} 0 1 = cc in absurd (omega arith)
+
+-- 13 is none of the refusals before it
+below-13 : Refusal → Bool
+unfolding numberOf
+below-13 r = ltb (numberOf r) 13
+
+made-below : (t : Tables) → T (ifAny below-13 (firstOf (madeConditions t)))
+unfolding madeConditions lentConditionsOf every below-13 numberOf
+made-below t = first-any below-13 (madeConditions t) tt
+
+-- so where it is found, nothing before it was
+last-holds : (t : Tables) (loose : Bool) → firstOf (madeConditions t ++ loose refuses looseRecord ∷ []) ≡ some looseRecord
+    → (firstOf (madeConditions t) ≡ none) × (loose ≡ true)
+unfolding firstOf ifAny below-13 numberOf
+last-holds t loose q = by (firstOf (madeConditions t)) refl (made-below t)
+  where
+    is-loose : (b : Bool) → (if b then some looseRecord else none) ≡ some looseRecord → b ≡ true
+    is-loose true e = refl
+    is-loose false e = let z : _≡_ {A = ℕ} 0 1 = cc in absurd (omega arith)
+
+    by : (o : Option Refusal) → firstOf (madeConditions t) ≡ o → T (ifAny below-13 o) → (firstOf (madeConditions t) ≡ none) × (loose ≡ true)
+    by none e below = (e, is-loose loose (sym (first-none (madeConditions t) (loose refuses looseRecord ∷ []) e) ∙ q))
+    by (some why) e below =
+        let same : why ≡ looseRecord = cc (sym (first-some (madeConditions t) (loose refuses looseRecord ∷ []) why e) ∙ q) in
+        absurd (subst (λ (r : Refusal). T (below-13 r)) same below)
+
+-- "when well-formed tables hold a figure that isn't exactly the recomputed one"
+pub loose-is : {lent : Lent} {memory memory′ : Tables} {said : Reply} → Follows (call lent checking) memory said memory′
+    → said .answer ≡ refusing looseRecord → let t = firstPlaces lent memory in T (wellFormed t) × (RangesOf (tracesIn t) (treeIn t) → ⊥)
+unfolding effectOf besideOf checks
+loose-is {lent} {memory} f a =
+    let t = firstPlaces lent memory in
+    let q = refused-with (firstOf (checks t .conditions)) t [] (checks t) looseRecord (sym (ap (λ (r : Reply). r .answer) (reply-is f)) ∙ a) in
+    let p = last-holds t (not (isExact (tracesIn t) (treeIn t))) q in
+    let w = judged.accepted t (p .0) .formed in
+    let passes = subst (λ (n : ℕ). T (abstract.wellFormed sampleLimit (measuresOf t) n (treeIn t))) (sym (traces-size t)) (tree-passes t w) in (
+      w,
+      λ r. let e = test-true (isExact (tracesIn t) (treeIn t)) (exactness sampleLimit (measuresOf t) (tracesIn t) (treeIn t) passes .ranges-exact r) in
+          let z : _≡_ {A = ℕ} 0 1 = cc (p .1, e) in omega arith,
+    )
+
+-- ---- a memory on which a check has just accepted
+
+-- a memory on which a call has just answered so
+pub trusted : {c : Call} {memory memory′ : Tables} {said : Reply} → Follows c memory said memory′ → said .answer ≡ answering accepted
+    → Trusts memory′ (bookIn memory)
+trusted {c} {memory} {memory′} {said} f a =
+    let part = firstPlaces (c .lent) memory in
+    let e = effectOf (c .ask) part in
+    let is = answered (firstOf (e .conditions)) part (besideOf (c .ask)) e accepted (sym (ap (λ (r : Reply). r .answer) (reply-is f)) ∙ a) .1 in
+    let g : Follows (call (c .lent) checking) memory said memory′ =
+    subst (λ (d : Call). Follows d memory said memory′) (ap (call (c .lent)) (only-check (c .ask) part is)) f in
+    rw (check-stays g) (whole-checked g a)

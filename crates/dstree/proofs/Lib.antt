@@ -1,7 +1,7 @@
 -- Laws of the definitions. The tree that adding makes: Invariant, Joins, Splits and Grown; a query: Bounds, Reading, Search and Closed;
 -- all together: Laws. The k nearest: Ranks, KSteps and KClosed; all together: KLaws.
 -- Sheets: SheetWritten, SheetRead, ReadBack and WrittenAgain; all together: RoundTrips.
--- Recorder's files: Recordings. Both sides seen: Looking. The check of tables: TracesBelow and Recomputed; all together: Checking.
+-- Recorder's files: Recordings. Both sides seen: Looking. The check of tables: TracesBelow, BelowOnce and Recomputed; all together: Checking.
 pub mod Everything
 pub mod Notation
 pub mod Examples
@@ -53,6 +53,7 @@ pub mod KExamples
 pub mod RecordingExamples
 pub mod CheckingExamples
 pub mod TracesBelow
+pub mod BelowOnce
 pub mod Recomputed
 pub mod Checking
 pub mod Recordings

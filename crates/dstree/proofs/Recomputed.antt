@@ -51,7 +51,7 @@ unfolding sameℤ
 sameℤ-refl (pos a) = eqb-refl a
 sameℤ-refl (negsuc a) = eqb-refl a
 
-same-figures : (s t : Segment) → s .end ≡ t .end → T (sameFigures s t) → s ≡ t
+pub same-figures : (s t : Segment) → s .end ≡ t .end → T (sameFigures s t) → s ≡ t
 unfolding sameFigures
 same-figures s t e h =
     let all = passed (sameℤ (s .leastSum) (t .leastSum)) (sameℤ (s .greatestSum) (t .greatestSum)

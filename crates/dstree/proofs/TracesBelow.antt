@@ -26,7 +26,7 @@ unfolding belowFrom
 from-inner fuel tree k e = rw (e, belowFrom) refl
 
 -- what is listed is below
-from-below : (fuel : ℕ) (tree : Tree) {t : ℕ} (k : ℕ) → In t (belowFrom fuel tree k) → Below tree t k
+pub from-below : (fuel : ℕ) (tree : Tree) {t : ℕ} (k : ℕ) → In t (belowFrom fuel tree k) → Below tree t k
 unfolding belowFrom numbersIn
 from-below zero tree k i = absurd (in-nil i)
 from-below (suc fuel) tree {t} k i = by (nodeAt tree k .kind) refl (λ c j. from-below fuel tree c j)

@@ -1,0 +1,9 @@
+pub mod Steps
+pub mod Put
+pub mod ByKind
+pub mod Sizing
+pub mod Standing
+pub mod Laying
+pub mod Joining
+pub mod Segments
+pub mod Trusted

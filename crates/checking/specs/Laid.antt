@@ -1,0 +1,93 @@
+-- The traces below every node in one array: those of a node stand one behind another, of an inner node first those of its left child, then those
+-- of its right one. So all lists together take one place a trace.
+use Prim.Native.Nat.{ℕ, _+_, _*_, _≤_, _<_}
+use mathlib.Core.Path.{_≡_}
+use mathlib.Core.Logic.{_⊎_}
+use mathlib.Core.List.{List, [], _∷_, _++_}
+use lib.IntN.{ℤ}
+use lib.ListN.{length, getD, take, drop}
+use lib.Dec.{T}
+use Rattle.integer.specs.Lists.{In}
+use Rattle.dstree.specs.Node.{Test, inner, Tree, nodeAt, ends}
+use Rattle.dstree.specs.Matching.{hasChild, isLeaf}
+use Rattle.dstree.specs.Formed.{Fits, Shape}
+use Rattle.dstree.specs.Checking.{tracesBelow}
+use Rattle.tables.specs.Layout.{kindPlace, firstPlace, rightPlace, recordPlaces}
+use Rattle.tables.specs.Tables.{Tables, tables, recordOf}
+use Rattle.tables.specs.View.{smallAt, segmentsIn, treeIn}
+use Rattle.tables.specs.Walk.{Rising}
+
+-- tables of which only nodes, links and both counts are told
+abbrev pub counted : List ℤ → List ℕ → ℕ → ℕ → Tables
+counted nodes links k m = tables (0 ∷ 0 ∷ 0 ∷ k ∷ m ∷ []) [] nodes links []
+
+abbrev pub treeBy : List ℤ → List ℕ → ℕ → ℕ → Tree
+treeBy nodes links k m = treeIn (counted nodes links k m)
+
+-- m nodes over k traces that may be walked: they are well formed, and in the tables
+pub record Walks (nodes : List ℤ) (links : List ℕ) (k m : ℕ) : Type 0 where
+  pub n : ℕ
+  pub shape : Shape n k (treeBy nodes links k m)
+  pub named : (j : ℕ) → j < m → smallAt (recordOf nodes j) kindPlace ≤ 2
+  pub few : k ≤ 4096
+  pub nodes-few : m ≤ 8191
+  pub nodes-room : m * recordPlaces ≤ length nodes
+  pub links-room : k ≤ length links
+  pub rising : Rising links k
+
+-- how many traces are below each node, from node `from` on
+pub record Sized (tree : Tree) (sizes : List ℕ) (from : ℕ) : Type 0 where
+  pub places : length sizes ≡ 8192
+  pub sized : (j : ℕ) → from ≤ j → j < length tree → getD sizes j 0 ≡ length (tracesBelow tree j)
+
+-- some numbers are written from a place on, and the other places stay
+pub record PutFrom (before after : List ℕ) (at : ℕ) (numbers : List ℕ) : Type 0 where
+  pub size : length after ≡ length before
+  pub new : (x : ℕ) → x < length numbers → getD after (at + x) 0 ≡ getD numbers x 0
+  pub old : (y : ℕ) → (y < at) ⊎ (at + length numbers ≤ y) → getD after y 0 ≡ getD before y 0
+
+-- from a place on, the list of all traces begins with those below node j
+pub record StandsAt (tree : Tree) (j start : ℕ) : Type 0 where
+  pub rest : List ℕ
+  pub is : drop start (tracesBelow tree 0) ≡ tracesBelow tree j ++ rest
+
+-- nodes below `to` have been taken: each of their children has its start, and each leaf's numbers stand where they belong
+pub record LaidTo (tree : Tree) (to : ℕ) (starts order : List ℕ) : Type 0 where
+  pub starts-places : length starts ≡ 8192
+  pub order-places : length order ≡ 4096
+  pub started : (j : ℕ) → j < length tree → ((p : ℕ) → T (hasChild j (nodeAt tree p .kind)) → p < to) → StandsAt tree j (getD starts j 0)
+  pub placed : (p : ℕ) → p < to → (test : Test) (l r : ℕ) → nodeAt tree p .kind ≡ inner test l r
+      → (getD starts l 0 ≡ getD starts p 0) × (getD starts r 0 ≡ getD starts p 0 + length (tracesBelow tree l))
+  pub filled : (j : ℕ) → j < to → j < length tree → T (isLeaf (nodeAt tree j .kind)) → (x : ℕ) → x < length (tracesBelow tree j)
+      → getD order (getD starts j 0 + x) 0 ≡ getD (tracesBelow tree 0) (getD starts j 0 + x) 0
+
+-- the numbers of node j
+abbrev pub numbersAt : List ℕ → List ℕ → List ℕ → ℕ → List ℕ
+numbersAt sizes starts order j = take (getD sizes j 0) (drop (getD starts j 0) order)
+
+-- every node's numbers are in their places, and are those of the traces below it
+pub record LaidOut (tree : Tree) (sizes starts order : List ℕ) : Type 0 where
+  pub sizes-places : length sizes ≡ 8192
+  pub starts-places : length starts ≡ 8192
+  pub order-places : length order ≡ 4096
+  pub inside : (j : ℕ) → j < length tree → getD starts j 0 + getD sizes j 0 ≤ 4096
+  pub below : (j : ℕ) → j < length tree → numbersAt sizes starts order j ≡ tracesBelow tree j
+
+-- what is told of m nodes and their numbers where figures are compared: an inner node's numbers are those of its children
+pub record Ready (samples nodes : List ℤ) (n m : ℕ) (sizes starts order : List ℕ) : Type 0 where
+  pub narrow : n ≤ 256
+  pub nodes-few : m ≤ 8191
+  pub nodes-room : m * recordPlaces ≤ length nodes
+  pub sizes-places : length sizes ≡ 8192
+  pub starts-places : length starts ≡ 8192
+  pub order-places : length order ≡ 4096
+  pub inside : (j : ℕ) → j < m → getD starts j 0 + getD sizes j 0 ≤ 4096
+  pub stored : (j t : ℕ) → j < m → In t (numbersAt sizes starts order j) → t * n + n ≤ length samples
+  pub some : (j : ℕ) → j < m → 0 < length (numbersAt sizes starts order j)
+  pub fits : (j : ℕ) → j < m → Fits n (ends (segmentsIn (recordOf nodes j)))
+  pub left-in : (j : ℕ) → j < m → 1 ≤ smallAt (recordOf nodes j) kindPlace
+      → (j < smallAt (recordOf nodes j) firstPlace) × (smallAt (recordOf nodes j) firstPlace < m)
+  pub right-in : (j : ℕ) → j < m → 1 ≤ smallAt (recordOf nodes j) kindPlace
+      → (j < smallAt (recordOf nodes j) rightPlace) × (smallAt (recordOf nodes j) rightPlace < m)
+  pub of-both : (j : ℕ) → j < m → 1 ≤ smallAt (recordOf nodes j) kindPlace → numbersAt sizes starts order j
+      ≡ numbersAt sizes starts order (smallAt (recordOf nodes j) firstPlace) ++ numbersAt sizes starts order (smallAt (recordOf nodes j) rightPlace)

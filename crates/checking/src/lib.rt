@@ -1,0 +1,38 @@
+// The check before tables are trusted: whether every node's recorded least and greatest sums and scatters are those of the traces below it.
+
+pub mod sizes; // how many traces are below each node
+pub mod order; // the traces below every node, in one array
+pub mod figures; // figures of the traces below a node, from samples or from a child's record
+pub mod nodes; // records compared, node by node
+
+use tables::control::field;
+use tables::numbers::wide;
+use tables::places::N;
+use tables::places::NODE_COUNT;
+use tables::places::TRACE_COUNT;
+ghost use mathlib.Core.Path.{_≡_};
+ghost use mathlib.Core.List.{[]};
+ghost use lib.Dec.{T};
+ghost use Rattle.dstree.specs.Checking.{isExact};
+ghost use Rattle.tables.specs.Tables.{tables};
+ghost use Rattle.tables.specs.View.{treeIn, tracesIn, wellFormed};
+ghost use Rattle.tables.specs.Holds.{Long};
+
+// Of tables that are well formed and long enough. Each sample is read once for its leaf, and once more for each node on the way up where a
+// segment of the parent was cut: at most 16 times, as a record has 16 segments at most. Lists and places are the call's own.
+pub fn is_exact(control: &[u16], samples: &[i16], nodes: &[i64], links: &[u16]) -> bool
+    requires { ⌜ T (wellFormed (tables (now control) (now samples) (now nodes) (now links) []))
+        × Long (tables (now control) (now samples) (now nodes) (now links) []) ⌝ }
+    ensures { λ r. ⌜ r ≡ isExact (tracesIn (tables (now (control .entry)) (now (samples .entry)) (now (nodes .entry)) (now (links .entry)) []))
+        (treeIn (tables (now (control .entry)) (now (samples .entry)) (now (nodes .entry)) (now (links .entry)) [])) ⌝ }
+{
+    let n = wide(field(control, N));
+    let k = wide(field(control, TRACE_COUNT));
+    let m = wide(field(control, NODE_COUNT));
+    let mut sizes = [0u16; 8192];
+    let mut starts = [0u16; 8192];
+    let mut order = [0u16; 4096];
+    sizes::fill_sizes(nodes, links, k, m, &mut sizes);
+    order::lay_out(nodes, links, k, m, &sizes, &mut starts, &mut order);
+    nodes::all_exact(samples, nodes, n, m, &sizes, &starts, &order)
+}

@@ -1,13 +1,13 @@
 -- A node that may be walked, by its kind field: a leaf with its list, or an inner node with its two children, which are nodes above it.
-use mathlib.Core.Path.{_≡_, refl, sym, ap, subst, _∙_}
+use mathlib.Core.Path.{_≡_, refl, _∙_}
 use mathlib.Core.List.{List, _++_}
 use Prim.Native.Nat.{ℕ, zero, suc, _+_, _*_, _≤_, _<_}
 use native.Mathlib.Omega.{arith}
 use lib.IntN.{ℤ}
-use lib.ListN.{length, length-append}
+use lib.ListN.{length}
 use Rattle.integer.proofs.Lists.{In, first, in-is}
 use Rattle.dstree.specs.Node.{Test, Kind, leaf, inner, Tree, nodeAt}
-use Rattle.dstree.specs.Matching.{hasChild, numbersIn}
+use Rattle.dstree.specs.Matching.{numbersIn}
 use Rattle.dstree.specs.Checking.{tracesBelow}
 use Rattle.dstree.proofs.Change.{has-left, has-right}
 use Rattle.dstree.proofs.TracesBelow.{below-of-leaf, below-of-inner}
@@ -23,7 +23,8 @@ pub record Branches (kind : Kind) (l r : ℕ) : Type 0 where
   pub test : Test
   pub is : kind ≡ inner test l r
 
-branches : (links : List ℕ) (k : ℕ) (r : List ℤ) (v : ℕ) → 1 ≤ v → v ≤ 2 → Branches (kindIn links k r v) (smallAt r firstPlace) (smallAt r rightPlace)
+branches : (links : List ℕ) (k : ℕ) (r : List ℤ) (v : ℕ) → 1 ≤ v → v ≤ 2 → Branches (kindIn links k r v) (smallAt r firstPlace)
+    (smallAt r rightPlace)
 unfolding kindIn
 branches links k r zero h g = absurd (omega arith)
 branches links k r (suc zero) h g = record { test = _; is = refl }
@@ -66,7 +67,8 @@ module _ {nodes : List ℤ} {links : List ℕ} {k m : ℕ} (w : Walks nodes link
     -- ---- an inner node
 
     module _ (e : 1 ≤ smallAt (recordOf nodes j) kindPlace) where
-      pub inner-is : Branches (nodeAt (treeBy nodes links k m) j .kind) (smallAt (recordOf nodes j) firstPlace) (smallAt (recordOf nodes j) rightPlace)
+      pub inner-is : Branches (nodeAt (treeBy nodes links k m) j .kind) (smallAt (recordOf nodes j) firstPlace)
+          (smallAt (recordOf nodes j) rightPlace)
       inner-is =
           let b = branches links k r (smallAt r kindPlace) e (w .named j h) in
           record { test = b .test; is = tree-kind (counted nodes links k m) j h ∙ b .is }
@@ -74,15 +76,18 @@ module _ {nodes : List ℤ} {links : List ℕ} {k m : ℕ} (w : Walks nodes link
       pub left-above : (j < smallAt (recordOf nodes j) firstPlace) × (smallAt (recordOf nodes j) firstPlace < m)
       left-above =
           let b = inner-is in
-          let c = w .shape .child j (smallAt r firstPlace) (rw (b .is) (has-left (b .test) (smallAt r firstPlace) (smallAt r rightPlace))) in
+          let c = w .shape .child j (smallAt r firstPlace) (rw (b .is)
+          (has-left (b .test) (smallAt r firstPlace) (smallAt r rightPlace))) in
           (c .0, omega (arith, c .1, size-is))
 
       pub right-above : (j < smallAt (recordOf nodes j) rightPlace) × (smallAt (recordOf nodes j) rightPlace < m)
       right-above =
           let b = inner-is in
-          let c = w .shape .child j (smallAt r rightPlace) (rw (b .is) (has-right (b .test) (smallAt r firstPlace) (smallAt r rightPlace))) in
+          let c = w .shape .child j (smallAt r rightPlace) (rw (b .is)
+          (has-right (b .test) (smallAt r firstPlace) (smallAt r rightPlace))) in
           (c .0, omega (arith, c .1, size-is))
 
       pub inner-below : tracesBelow (treeBy nodes links k m) j
-          ≡ tracesBelow (treeBy nodes links k m) (smallAt (recordOf nodes j) firstPlace) ++ tracesBelow (treeBy nodes links k m) (smallAt (recordOf nodes j) rightPlace)
+          ≡ tracesBelow (treeBy nodes links k m) (smallAt (recordOf nodes j) firstPlace) ++ tracesBelow (treeBy nodes links k m)
+          (smallAt (recordOf nodes j) rightPlace)
       inner-below = below-of-inner (w .shape) in-tree (inner-is .is)

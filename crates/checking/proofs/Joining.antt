@@ -1,6 +1,7 @@
--- The least and the greatest of two lists together are the lesser and the greater of both lists' own. So the figures of an inner node's traces follow
+-- The least and the greatest of two lists together are the lesser and the greater of both lists' own. So the figures of an inner node's
+-- traces follow
 -- from its children's.
-use mathlib.Core.Path.{_≡_, refl, sym, ap, ap₂, _∙_}
+use mathlib.Core.Path.{_≡_, refl, ap, _∙_}
 use mathlib.Core.Logic.{_⊎_, inl, inr}
 use mathlib.Core.List.{List, [], _∷_, _++_, map, foldl, map-append}
 use Prim.Native.Nat.{ℕ, _<_, min, max}
@@ -26,7 +27,8 @@ module _ {A : Type 0} (choice : A → A → A) (other : A) (assoc : (a b c : A) 
   fold-on a b [] = refl
   fold-on a b (c ∷ l) = ap (λ (x : A). foldl choice x l) (assoc a b c) ∙ fold-on a (choice b c) l
 
-  chosen-both : (l m : List A) → 0 < length l → 0 < length m → chosen choice other (l ++ m) ≡ choice (chosen choice other l) (chosen choice other m)
+  chosen-both : (l m : List A) → 0 < length l → 0 < length m → chosen choice other (l ++ m) ≡ choice (chosen choice other l)
+      (chosen choice other m)
   unfolding chosen
   chosen-both [] m h g = absurd (omega arith)
   chosen-both (a ∷ l) [] h g = absurd (omega arith)
@@ -51,19 +53,25 @@ lesser-assoc a b c =
     let ab = lesser a b in
     let bc = lesser b c in
     ≤ℤ-antisym
-    (lesser-most (≤ℤ-trans (lesser-left ab c) (lesser-left a b)) (lesser-most (≤ℤ-trans (lesser-left ab c) (lesser-right a b)) (lesser-right ab c)))
-    (lesser-most (lesser-most (lesser-left a bc) (≤ℤ-trans (lesser-right a bc) (lesser-left b c))) (≤ℤ-trans (lesser-right a bc) (lesser-right b c)))
+    (lesser-most (≤ℤ-trans (lesser-left ab c) (lesser-left a b))
+    (lesser-most (≤ℤ-trans (lesser-left ab c) (lesser-right a b)) (lesser-right ab c)))
+    (lesser-most (lesser-most (lesser-left a bc) (≤ℤ-trans (lesser-right a bc) (lesser-left b c)))
+    (≤ℤ-trans (lesser-right a bc) (lesser-right b c)))
 
 greater-assoc : (a b c : ℤ) → greater (greater a b) c ≡ greater a (greater b c)
 greater-assoc a b c =
     let ab = greater a b in
     let bc = greater b c in
     ≤ℤ-antisym
-    (greater-least (greater-least (greater-left a bc) (≤ℤ-trans (greater-left b c) (greater-right a bc))) (≤ℤ-trans (greater-right b c) (greater-right a bc)))
-    (greater-least (≤ℤ-trans (greater-left a b) (greater-left ab c)) (greater-least (≤ℤ-trans (greater-right a b) (greater-left ab c)) (greater-right ab c)))
+    (greater-least (greater-least (greater-left a bc) (≤ℤ-trans (greater-left b c) (greater-right a bc)))
+    (≤ℤ-trans (greater-right b c) (greater-right a bc)))
+    (greater-least (≤ℤ-trans (greater-left a b) (greater-left ab c))
+    (greater-least (≤ℤ-trans (greater-right a b) (greater-left ab c)) (greater-right ab c)))
 
-mapped-both : {A : Type 0} (f : Trace → A) (choice : A → A → A) (other : A) → ((a b c : A) → choice (choice a b) c ≡ choice a (choice b c))
-    → (x y : List Trace) → 0 < length x → 0 < length y → chosen choice other (map f (x ++ y)) ≡ choice (chosen choice other (map f x)) (chosen choice other (map f y))
+mapped-both : {A : Type 0} (f : Trace → A) (choice : A → A → A) (other : A) →
+    ((a b c : A) → choice (choice a b) c ≡ choice a (choice b c))
+    → (x y : List Trace) → 0 < length x → 0 < length y → chosen choice other (map f (x ++ y)) ≡ choice (chosen choice other (map f x))
+    (chosen choice other (map f y))
 mapped-both f choice other assoc x y h g =
     ap (chosen choice other) (map-append f x y)
     ∙ chosen-both choice other assoc (map f x) (map f y) (rw (length-map x f) h) (rw (length-map y f) g)

@@ -1,26 +1,26 @@
--- Node after node is laid: a leaf's numbers are written, an inner node's children get their places. When all are, every node's numbers stand at
+-- Node after node is laid: a leaf's numbers are written, an inner node's children get their places. When all are, every node's numbers
+-- stand at
 -- its place.
 use mathlib.Core.Path.{_≡_, refl, sym, ap, subst, _∙_}
 use mathlib.Core.Logic.{_⊎_, inl, inr}
-use mathlib.Core.Bool.{true}
-use mathlib.Core.List.{List, [], _++_}
+use mathlib.Core.List.{List, _++_}
 use Prim.Native.Nat.{ℕ, zero, suc, _+_, _-_, _≤_, _<_}
 use native.Mathlib.Omega.{arith}
 use native.Mathlib.Decide.{decLe}
 use native.Mathlib.Nat.{lt-of-not-le}
-use lib.ListN.{length, getD, set, take, drop, length-set, length-append}
-use lib.Seq.{getD-set-same, getD-set-other, getD-append-add}
+use lib.ListN.{length, getD, set, length-set, length-append}
+use lib.Seq.{getD-set-same, getD-set-other}
 use lib.Dec.{T}
-use Rattle.integer.proofs.Lists.{same-or-not, strict, set-cases}
+use Rattle.integer.proofs.Lists.{same-or-not, strict}
 use Rattle.dstree.specs.Node.{Test, Kind, leaf, inner, Tree, nodeAt}
 use Rattle.dstree.specs.Matching.{hasChild, isLeaf}
 use Rattle.dstree.specs.Formed.{Shape, Parent}
 use Rattle.dstree.specs.Checking.{tracesBelow}
-use Rattle.dstree.proofs.Formed.{child-node, inner-node}
+use Rattle.dstree.proofs.Formed.{child-node}
 use Rattle.dstree.proofs.Change.{has-inner, has-left, has-right}
 use Rattle.dstree.proofs.TracesBelow.{some-below, below-of-inner}
 use Rattle.dstree.proofs.BelowOnce.{few-below}
-use Rattle.checking.specs.Laid.{Sized, PutFrom, StandsAt, LaidTo, LaidOut, numbersAt}
+use Rattle.checking.specs.Laid.{Sized, PutFrom, StandsAt, LaidTo, LaidOut}
 use Rattle.checking.proofs.Standing.{root-stands, stands-inside, left-stands, right-stands, put-stands, still-stands, standing-is}
 
 module _ {n count : ℕ} {tree : Tree} (s : Shape n count tree) where
@@ -35,9 +35,11 @@ module _ {n count : ℕ} {tree : Tree} (s : Shape n count tree) where
     filled = λ j h. absurd (omega arith);
   }
     where
-      root : (j : ℕ) → j < length tree → ((p : ℕ) → T (hasChild j (nodeAt tree p .kind)) → p < 0) → StandsAt tree j (getD (set starts 0 0) j 0)
+      root : (j : ℕ) → j < length tree → ((p : ℕ) → T (hasChild j (nodeAt tree p .kind)) → p < 0) → StandsAt tree j
+          (getD (set starts 0 0) j 0)
       root zero h none = rw (getD-set-same starts 0 0 0 (omega arith)) (root-stands tree)
-      root (suc j) h none = let p : Parent tree (suc j) = s .parented (suc j) (omega arith) h in absurd (omega (arith, none (p .parent) (p .has)))
+      root (suc j) h none = let p : Parent tree (suc j) = s .parented (suc j) (omega arith) h in absurd
+          (omega (arith, none (p .parent) (p .has)))
 
   -- ---- one node more
 
@@ -47,7 +49,8 @@ module _ {n count : ℕ} {tree : Tree} (s : Shape n count tree) where
     here = old .started j inside (λ p h. s .child p j h .0)
 
     -- a leaf
-    pub laid-leaf : {ns : List ℕ} → nodeAt tree j .kind ≡ leaf ns → {after : List ℕ} → PutFrom order after (getD starts j 0) (tracesBelow tree j)
+    pub laid-leaf : {ns : List ℕ} → nodeAt tree j .kind ≡ leaf ns → {after : List ℕ} → PutFrom order after (getD starts j 0)
+        (tracesBelow tree j)
         → LaidTo tree (j + 1) starts after
     unfolding hasChild
     laid-leaf {ns} e {after} put = record {
@@ -64,7 +67,8 @@ module _ {n count : ℕ} {tree : Tree} (s : Shape n count tree) where
         no-inner : (p : ℕ) (test : Test) (l r : ℕ) → nodeAt tree p .kind ≡ inner test l r → p ≡ j → ⊥
         no-inner p test l r q z = no-child l p (rw q (has-left test l r)) z
 
-        by : (i : ℕ) → i < j + 1 → i < length tree → T (isLeaf (nodeAt tree i .kind)) → (x : ℕ) → x < length (tracesBelow tree i) → Dec (i ≡ j)
+        by : (i : ℕ) → i < j + 1 → i < length tree → T (isLeaf (nodeAt tree i .kind)) → (x : ℕ) → x < length (tracesBelow tree i) → Dec
+            (i ≡ j)
             → getD after (getD starts i 0 + x) 0 ≡ getD (tracesBelow tree 0) (getD starts i 0 + x) 0
         by i h g is x k (yes q) =
             subst (λ (a : ℕ). getD after (getD starts a 0 + x) 0 ≡ getD (tracesBelow tree 0) (getD starts a 0 + x) 0) (sym q)
@@ -108,7 +112,8 @@ module _ {n count : ℕ} {tree : Tree} (s : Shape n count tree) where
         both : tracesBelow tree j ≡ tracesBelow tree l ++ tracesBelow tree r
         both = below-of-inner s inside e
 
-        pub laid-inner : LaidTo tree (j + 1) (set (set starts l (getD starts j 0)) r (getD starts j 0 + length (tracesBelow tree l))) order
+        pub laid-inner : LaidTo tree (j + 1) (set (set starts l (getD starts j 0)) r
+            (getD starts j 0 + length (tracesBelow tree l))) order
         unfolding isLeaf
         laid-inner = record {
           starts-places = length-set (set starts l start) r second ∙ (length-set starts l start ∙ old .starts-places);
@@ -130,7 +135,8 @@ module _ {n count : ℕ} {tree : Tree} (s : Shape n count tree) where
                 rw (at-other i f g) (old .started i h (λ p k. strict (omega (arith, parents p k)) (λ z. neither p k z)))
               where
                 neither : (p : ℕ) → T (hasChild i (nodeAt tree p .kind)) → p ≡ j → ⊥
-                neither p k z = one (has-inner i test l r (subst (λ (a : Kind). T (hasChild i a)) (ap (λ (x : ℕ). nodeAt tree x .kind) z ∙ e) k))
+                neither p k z = one (has-inner i test l r (subst (λ (a : Kind). T (hasChild i a))
+                    (ap (λ (x : ℕ). nodeAt tree x .kind) z ∙ e) k))
                   where
                     one : (i ≡ l) ⊎ (i ≡ r) → ⊥
                     one (inl u) = f u
@@ -185,7 +191,8 @@ module _ {n count : ℕ} {tree : Tree} (s : Shape n count tree) where
             size : length (tracesBelow tree j) ≡ length (tracesBelow tree l) + length (tracesBelow tree r)
             size = ap length (below-of-inner s g e) ∙ length-append (tracesBelow tree l) (tracesBelow tree r)
 
-            half : Dec (length (tracesBelow tree l) ≤ x) → getD order (getD starts j 0 + x) 0 ≡ getD (tracesBelow tree 0) (getD starts j 0 + x) 0
+            half : Dec (length (tracesBelow tree l) ≤ x) → getD order (getD starts j 0 + x) 0 ≡ getD (tracesBelow tree 0)
+                (getD starts j 0 + x) 0
             half (no f) =
                 subst (λ (a : ℕ). getD order (a + x) 0 ≡ getD (tracesBelow tree 0) (a + x) 0) (o .0)
                 (ih l (omega (arith, cl .0)) (cl .1) x (lt-of-not-le f))

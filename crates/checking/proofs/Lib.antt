@@ -7,3 +7,4 @@ pub mod Laying
 pub mod Joining
 pub mod Segments
 pub mod Trusted
+pub mod Ends

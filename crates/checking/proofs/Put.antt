@@ -1,10 +1,10 @@
 -- Numbers written one after another from a place on: those before have their places, the rest are to come, other places are as they were.
-use mathlib.Core.Path.{_≡_, refl, sym, ap, subst, _∙_}
+use mathlib.Core.Path.{_≡_, refl, sym, ap, _∙_}
 use mathlib.Core.Logic.{_⊎_, inl, inr}
 use mathlib.Core.List.{List, [], _∷_}
 use Prim.Native.Nat.{ℕ, _+_, _-_, _≤_, _<_}
 use native.Mathlib.Omega.{arith}
-use lib.ListN.{length, getD, set, drop, length-set, length-drop}
+use lib.ListN.{length, getD, set, drop, length-set}
 use lib.Seq.{getD-set-same, getD-set-other}
 use Rattle.integer.proofs.Lists.{same-or-not}
 use Rattle.checking.specs.Laid.{PutFrom}
@@ -57,10 +57,12 @@ module _ {before now : List ℕ} {at : ℕ} {numbers : List ℕ} {place t : ℕ}
           → getD (set now place t) (at + x) 0 ≡ getD numbers x 0
       at-new x h next (yes e) =
           let d : place - at ≡ x = omega (arith, p .from) in
-          ap (λ (y : ℕ). getD (set now place t) y 0) e ∙ (getD-set-same now place t 0 room ∙ (sym (next .is) ∙ ap (λ (y : ℕ). getD numbers y 0) d))
+          ap (λ (y : ℕ). getD (set now place t) y 0) e ∙ (getD-set-same now place t 0 room ∙
+          (sym (next .is) ∙ ap (λ (y : ℕ). getD numbers y 0) d))
       at-new x h next (no f) = getD-set-other now place (at + x) t 0 f ∙ p .new x (omega (arith, p .from))
 
-pub put-all : {before now : List ℕ} {at : ℕ} {numbers : List ℕ} {place : ℕ} → Putting before now at numbers place [] → PutFrom before now at numbers
+pub put-all : {before now : List ℕ} {at : ℕ} {numbers : List ℕ} {place : ℕ} → Putting before now at numbers place []
+    → PutFrom before now at numbers
 put-all {at = at} {numbers = numbers} {place = place} p = record {
   size = p .size;
   new = λ x h. p .new x (omega (arith, p .to, p .from));

@@ -1,6 +1,6 @@
 -- The segments of a record one after another: each starts behind the end of the one before it.
 use mathlib.Core.Path.{_≡_, refl, sym, ap, subst, _∙_}
-use mathlib.Core.Bool.{Bool, _&&_}
+use mathlib.Core.Bool.{_&&_}
 use mathlib.Core.List.{List, [], _∷_, map}
 use Prim.Native.Nat.{ℕ, zero, suc, _+_, _-_, _≤_, _<_}
 use native.Mathlib.Omega.{arith}
@@ -51,7 +51,8 @@ next-end r n count first i last h e p = by (subst (λ (l : List Segment). Rises 
     by (rises-more a b q) = record {
       rises = subst (λ (x : ℕ). first ≤ x) e a;
       to-n = subst (λ (x : ℕ). x ≤ n) e b;
-      on = subst (λ (x : ℕ). Rises n x (ends (leftFrom r count (i + 1)))) (sym (add-one (segmentIn r i .end)) ∙ ap (λ (x : ℕ). x + 1) e) q;
+      on = subst (λ (x : ℕ). Rises n x (ends (leftFrom r count (i + 1))))
+          (sym (add-one (segmentIn r i .end)) ∙ ap (λ (x : ℕ). x + 1) e) q;
     }
 
 -- ---- the test
@@ -66,7 +67,8 @@ test-more traces r count first i last h e =
     (rw (one-left r count i h, add-one (segmentIn r i .end)) refl)
 
 -- one segment of a record that passes
-passed-at : (traces : List Trace) (r : List ℤ) (count from i : ℕ) → T (areExact traces (firstOn r from) (map (segmentIn r) (counting count from)))
+passed-at : (traces : List Trace) (r : List ℤ) (count from i : ℕ) → T
+    (areExact traces (firstOn r from) (map (segmentIn r) (counting count from)))
     → i < count → T (sameFigures (segmentIn r (from + i)) (segmentOf traces (run (firstOn r (from + i)) (segmentIn r (from + i) .end))))
 unfolding areExact counting firstOn
 passed-at traces r zero from i t h = absurd (omega arith)

@@ -20,8 +20,10 @@ sized-more tree sizes j room old = record {
   sized = λ i h g. by i h g (same-or-not i j);
 }
   where
-    by : (i : ℕ) → j ≤ i → i < length tree → Dec (i ≡ j) → getD (set sizes j (length (tracesBelow tree j))) i 0 ≡ length (tracesBelow tree i)
+    by : (i : ℕ) → j ≤ i → i < length tree → Dec (i ≡ j) → getD (set sizes j (length (tracesBelow tree j))) i 0 ≡ length
+        (tracesBelow tree i)
     by i h g (yes e) =
         ap (λ (x : ℕ). getD (set sizes j (length (tracesBelow tree j))) x 0) e
         ∙ (getD-set-same sizes j (length (tracesBelow tree j)) 0 room ∙ ap (λ (x : ℕ). length (tracesBelow tree x)) (sym e))
-    by i h g (no f) = getD-set-other sizes j i (length (tracesBelow tree j)) 0 f ∙ old .sized i (omega (arith, strict h (λ e. f (sym e)))) g
+    by i h g (no f) = getD-set-other sizes j i (length (tracesBelow tree j)) 0 f ∙ old .sized i
+        (omega (arith, strict h (λ e. f (sym e)))) g

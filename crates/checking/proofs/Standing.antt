@@ -1,7 +1,8 @@
--- Where the traces below a node stand in the list of all: an inner node's children stand one behind the other, from its own place on. What is
+-- Where the traces below a node stand in the list of all: an inner node's children stand one behind the other, from its own place on.
+-- What is
 -- written there is what that list has there.
-use mathlib.Core.Path.{_≡_, refl, sym, ap, subst, _∙_}
-use mathlib.Core.Logic.{_⊎_, inl, inr}
+use mathlib.Core.Path.{_≡_, sym, ap, subst, _∙_}
+use mathlib.Core.Logic.{inl, inr}
 use mathlib.Core.List.{List, [], _++_, append-nil, append-assoc}
 use Prim.Native.Nat.{ℕ, _+_, _-_, _≤_, _<_}
 use native.Mathlib.Omega.{arith}
@@ -9,7 +10,7 @@ use native.Mathlib.Decide.{decLe}
 use native.Mathlib.Nat.{lt-of-not-le}
 use lib.ListN.{length, getD, take, drop, length-append, length-drop, List·getD-append}
 use lib.Seq.{getD-drop, getD-take, drop-drop, drop-append-seam, length-take-le, ext-getD}
-use Rattle.dstree.specs.Node.{Test, inner, Tree, nodeAt}
+use Rattle.dstree.specs.Node.{Tree}
 use Rattle.dstree.specs.Checking.{tracesBelow}
 use Rattle.checking.specs.Laid.{PutFrom, StandsAt}
 
@@ -56,7 +57,8 @@ module _ {tree : Tree} {j start : ℕ} (s : StandsAt tree j start) where
         by (yes h) (yes g) = put .old y (inr g) ∙ e
         by (yes h) (no f) =
             let same : start + (y - start) ≡ y = omega arith in
-            subst (λ (z : ℕ). getD after z 0 ≡ getD (tracesBelow tree 0) z 0) same (put-stands (y - start) (omega (arith, lt-of-not-le f)))
+            subst (λ (z : ℕ). getD after z 0 ≡ getD (tracesBelow tree 0) z 0) same
+            (put-stands (y - start) (omega (arith, lt-of-not-le f)))
 
   -- places that stand so are the node's list
   pub standing-is : (order : List ℕ) → start + length (tracesBelow tree j) ≤ length order

@@ -1,13 +1,14 @@
--- One step of a loop, over variables: the next number of a list, a figure with a sign compared by its bits, a field that holds a small number.
+-- One step of a loop, over variables: the next number of a list, a figure with a sign compared by its bits, a field that holds a small
+-- number.
 use mathlib.Core.Path.{_≡_, refl, sym, ap, subst, _∙_}
 use mathlib.Core.Bool.{Bool, true, false}
-use mathlib.Core.List.{List, [], _∷_}
+use mathlib.Core.List.{List, _∷_}
 use Prim.Native.Nat.{ℕ, _+_, _≤_, _<_}
 use native.Mathlib.Omega.{arith}
 use lib.IntN.{ℤ, pos, negsuc}
 use lib.ListN.{length, getD, drop, length-drop}
 use lib.Seq.{getD-drop, drop-drop}
-use lib.Dec.{T, ltb, eqb}
+use lib.Dec.{T, ltb}
 use mir.Syntax.{w64}
 use mir.Val.{SFits, toZ, ofZ}
 use mir.Facts.{toZ-ofZ}

@@ -1,12 +1,11 @@
--- Tables that are well formed and long enough: their nodes may be walked, and once the traces below each node are laid out their records may be
+-- Tables that are well formed and long enough: their nodes may be walked, and once the traces below each node are laid out their records
+-- may be
 -- compared. The comparison of all records is then the test of the tree.
 use mathlib.Core.Path.{_≡_, refl, sym, ap, ap₂, subst, _∙_}
-use mathlib.Core.Bool.{Bool}
-use mathlib.Core.List.{List, [], _∷_, _++_}
+use mathlib.Core.List.{List, [], _++_}
 use Prim.Native.Nat.{ℕ, suc, _+_, _*_, _-_, _≤_, _<_}
 use native.Mathlib.Nat.{mul-le-mul-right}
 use native.Mathlib.Omega.{arith}
-use lib.IntN.{ℤ}
 use lib.ListN.{length, getD}
 use lib.Dec.{T}
 use Rattle.integer.specs.Words.{every, counting}
@@ -21,7 +20,7 @@ use Rattle.dstree.proofs.Below.{below-stored}
 use Rattle.dstree.proofs.TracesBelow.{listed-below, some-below}
 use Rattle.tables.specs.Layout.{kindPlace, firstPlace, rightPlace}
 use Rattle.tables.specs.Tables.{Tables, measuresOf, traceCount, nodeCount, recordOf}
-use Rattle.tables.specs.View.{smallAt, segmentsIn, treeIn, traceIn, tracesIn, wellFormed}
+use Rattle.tables.specs.View.{smallAt, treeIn, traceIn, tracesIn, wellFormed}
 use Rattle.tables.specs.Holds.{Long}
 use Rattle.tables.proofs.Views.{tree-size, tree-segments, tree-inside, trace-at, tree-formed, measures-fit, kind-named}
 use Rattle.tables.proofs.Linked.{tables-rise}
@@ -68,7 +67,8 @@ module _ (t : Tables) (w : T (wellFormed t)) (long : Long t) where
     rising = tables-rise t w;
   }
 
-  module _ {sizes starts order : List ℕ} (laid : LaidOut (treeBy (t .nodes) (t .links) (traceCount t) (nodeCount t)) sizes starts order) where
+  module _ {sizes starts order : List ℕ} (laid : LaidOut (treeBy (t .nodes) (t .links) (traceCount t)
+      (nodeCount t)) sizes starts order) where
     below : (j : ℕ) → j < m → numbersAt sizes starts order j ≡ tracesBelow (treeIn t) j
     below j h = subst (λ (tree : Tree). numbersAt sizes starts order j ≡ tracesBelow tree j) same-tree
         (laid .below j (subst (λ (tree : Tree). j < length tree) (sym same-tree) (tree-inside t j h)))
@@ -101,24 +101,28 @@ module _ (t : Tables) (w : T (wellFormed t)) (long : Long t) where
             omega (arith, less, most, long .samples-long)
 
         both : (j : ℕ) → j < m → 1 ≤ smallAt (recordOf (t .nodes) j) kindPlace → numbersAt sizes starts order j
-            ≡ numbersAt sizes starts order (smallAt (recordOf (t .nodes) j) firstPlace) ++ numbersAt sizes starts order (smallAt (recordOf (t .nodes) j) rightPlace)
+            ≡ numbersAt sizes starts order (smallAt (recordOf (t .nodes) j) firstPlace) ++ numbersAt sizes starts order
+            (smallAt (recordOf (t .nodes) j) rightPlace)
         both j h e =
             let l = smallAt (recordOf (t .nodes) j) firstPlace in
             let r = smallAt (recordOf (t .nodes) j) rightPlace in
             let parted : tracesBelow (treeIn t) j ≡ tracesBelow (treeIn t) l ++ tracesBelow (treeIn t) r =
             subst (λ (tree : Tree). tracesBelow tree j ≡ tracesBelow tree l ++ tracesBelow tree r) same-tree (inner-below walks j h e) in
-            below j h ∙ (parted ∙ sym (ap₂ (λ (a b : List ℕ). a ++ b) (below l (left-above walks j h e .1)) (below r (right-above walks j h e .1))))
+            below j h ∙ (parted ∙ sym (ap₂ (λ (a b : List ℕ). a ++ b) (below l (left-above walks j h e .1))
+            (below r (right-above walks j h e .1))))
 
     -- one node
     exact-same : (j : ℕ) → j < m → exactIn (t .samples) (t .nodes) n sizes starts order j ≡ isExactAt (tracesIn t) (treeIn t) j
     unfolding isExactAt
     exact-same j h =
         let traces : tracesAt (t .samples) n (numbersAt sizes starts order j) ≡ tracesOf (tracesIn t) (tracesBelow (treeIn t) j) =
-        map-agree (traceIn (t .samples) n) (λ (x : ℕ). getD (tracesIn t) x []) (numbersAt sizes starts order j) (λ x i. sym (trace-at t x (stored j x h i)))
+        map-agree (traceIn (t .samples) n) (λ (x : ℕ). getD (tracesIn t) x []) (numbersAt sizes starts order j)
+        (λ x i. sym (trace-at t x (stored j x h i)))
         ∙ ap (tracesOf (tracesIn t)) (below j h) in
         ap₂ (λ (a : List Trace) (b : List Segment). areExact a 1 b) traces (sym (tree-segments t j h))
 
-    pub all-same : every (exactIn (t .samples) (t .nodes) (measuresOf t .n) sizes starts order) (counting (nodeCount t) 0) ≡ isExact (tracesIn t) (treeIn t)
+    pub all-same : every (exactIn (t .samples) (t .nodes) (measuresOf t .n) sizes starts order) (counting (nodeCount t) 0) ≡ isExact
+        (tracesIn t) (treeIn t)
     unfolding isExact
     all-same =
         every-same (exactIn (t .samples) (t .nodes) n sizes starts order) (isExactAt (tracesIn t) (treeIn t)) (counting m 0)

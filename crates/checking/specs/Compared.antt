@@ -1,4 +1,5 @@
--- Figures recomputed and compared. A child's record serves its parent, where the child has a segment on the same samples and was found exact.
+-- Figures recomputed and compared. A child's record serves its parent, where the child has a segment on the same samples and was found
+-- exact.
 use Prim.Native.Nat.{ℕ, zero, suc, _<_, min, max}
 use mathlib.Core.Bool.{Bool, true}
 use mathlib.Core.List.{List}

@@ -1,4 +1,5 @@
--- The traces below every node in one array: those of a node stand one behind another, of an inner node first those of its left child, then those
+-- The traces below every node in one array: those of a node stand one behind another, of an inner node first those of its left child,
+-- then those
 -- of its right one. So all lists together take one place a trace.
 use Prim.Native.Nat.{ℕ, _+_, _*_, _≤_, _<_}
 use mathlib.Core.Path.{_≡_}
@@ -90,4 +91,5 @@ pub record Ready (samples nodes : List ℤ) (n m : ℕ) (sizes starts order : Li
   pub right-in : (j : ℕ) → j < m → 1 ≤ smallAt (recordOf nodes j) kindPlace
       → (j < smallAt (recordOf nodes j) rightPlace) × (smallAt (recordOf nodes j) rightPlace < m)
   pub of-both : (j : ℕ) → j < m → 1 ≤ smallAt (recordOf nodes j) kindPlace → numbersAt sizes starts order j
-      ≡ numbersAt sizes starts order (smallAt (recordOf nodes j) firstPlace) ++ numbersAt sizes starts order (smallAt (recordOf nodes j) rightPlace)
+      ≡ numbersAt sizes starts order (smallAt (recordOf nodes j) firstPlace) ++ numbersAt sizes starts order
+      (smallAt (recordOf nodes j) rightPlace)

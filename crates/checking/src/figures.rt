@@ -40,7 +40,8 @@ ghost use Rattle.checking.specs.Compared.{joinedFigures, firstOn, traces
 
 // Of the traces whose numbers are listed.
 fn listed_figures(samples: &[i16], n: usize, list: &[u16], first: usize, last: usize) -> Figures
-    requires { ⌜ (n ≤ 256) × Inside n first last × (length (now list) ≤ 4096) × ((t : ℕ) → In t (now list) → t * n + n ≤ length (now samples)) ⌝ }
+    requires { ⌜ (n ≤ 256) × Inside n first last × (length (now list) ≤ 4096) ×
+        ((t : ℕ) → In t (now list) → t * n + n ≤ length (now samples)) ⌝ }
     ensures { λ r. ⌜ segmentBy last r ≡ segmentOf (tracesAt (now (samples .entry)) n (now (list .entry))) (run first last) ⌝ }
 {
     let mut f = Figures {
@@ -74,7 +75,8 @@ fn figures_below(
 ) -> Figures
     requires { ⌜ ReadyAt (now samples) (now nodes) n (now sizes) (now starts) (now order) j × Inside n first last ⌝ }
     ensures { λ r. ⌜ segmentBy last r
-        ≡ segmentOf (tracesUnder (now (samples .entry)) n (now (sizes .entry)) (now (starts .entry)) (now (order .entry)) j) (run first last) ⌝ }
+        ≡ segmentOf (tracesUnder (now (samples .entry)) n (now (sizes .entry)) (now (starts .entry)) (now (order .entry)) j)
+        (run first last) ⌝ }
 {
     let from = wide(starts[j]);
     let to = from + wide(sizes[j]);
@@ -145,7 +147,8 @@ fn child_figures(
     requires { ⌜ ReadyAt (now samples) (now nodes) n (now sizes) (now starts) (now order) c × Inside n first last
         × T (exactIn (now samples) (now nodes) n (now sizes) (now starts) (now order) c) ⌝ }
     ensures { λ r. ⌜ segmentBy last r
-        ≡ segmentOf (tracesUnder (now (samples .entry)) n (now (sizes .entry)) (now (starts .entry)) (now (order .entry)) c) (run first last) ⌝ }
+        ≡ segmentOf (tracesUnder (now (samples .entry)) n (now (sizes .entry)) (now (starts .entry)) (now (order .entry)) c)
+        (run first last) ⌝ }
 {
     let record = record_at(nodes, c);
     let i = segment_on(record, first, last);
@@ -169,7 +172,8 @@ pub fn node_figures(
 ) -> Figures
     requires { ⌜ AboveExact (now samples) (now nodes) n (now sizes) (now starts) (now order) j × Inside n first last ⌝ }
     ensures { λ r. ⌜ segmentBy last r
-        ≡ segmentOf (tracesUnder (now (samples .entry)) n (now (sizes .entry)) (now (starts .entry)) (now (order .entry)) j) (run first last) ⌝ }
+        ≡ segmentOf (tracesUnder (now (samples .entry)) n (now (sizes .entry)) (now (starts .entry)) (now (order .entry)) j)
+        (run first last) ⌝ }
 {
     let kind = node_small(nodes, j, KIND);
     if kind == 0 {

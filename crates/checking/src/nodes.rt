@@ -43,7 +43,8 @@ fn node_exact(
     j: usize,
 ) -> bool
     requires { ⌜ AboveExact (now samples) (now nodes) n (now sizes) (now starts) (now order) j ⌝ }
-    ensures { λ r. ⌜ r ≡ exactIn (now (samples .entry)) (now (nodes .entry)) n (now (sizes .entry)) (now (starts .entry)) (now (order .entry)) j ⌝ }
+    ensures { λ r. ⌜ r ≡ exactIn (now (samples .entry)) (now (nodes .entry)) n (now (sizes .entry)) (now (starts .entry))
+        (now (order .entry)) j ⌝ }
 {
     let record = record_at(nodes, j);
     let count = small_at(record, SEGMENTS);
@@ -74,7 +75,8 @@ pub fn all_exact(
 ) -> bool
     requires { ⌜ Ready (now samples) (now nodes) n m (now sizes) (now starts) (now order) ⌝ }
     ensures { λ r. ⌜ r ≡ every
-        (exactIn (now (samples .entry)) (now (nodes .entry)) n (now (sizes .entry)) (now (starts .entry)) (now (order .entry))) (counting m 0) ⌝ }
+        (exactIn (now (samples .entry)) (now (nodes .entry)) n (now (sizes .entry)) (now (starts .entry)) (now (order .entry)))
+        (counting m 0) ⌝ }
 {
     let mut j = m;
     while 0 < j {

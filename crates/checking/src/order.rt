@@ -27,7 +27,8 @@ fn put_list(links: &[u16], k: usize, head: usize, order: &mut [u16; 4096], at: u
     }
 }
 
-// Node j, one of m: a leaf's numbers are written from its start on; the left child of an inner node starts where it does, the right one behind
+// Node j, one of m: a leaf's numbers are written from its start on; the left child of an inner node starts where it does, the right one
+// behind
 // the left one's numbers.
 fn lay_node(
     nodes: &[i64],
@@ -68,7 +69,8 @@ pub fn lay_out(
 )
     requires { ⌜ Walks (now nodes) (now links) k m × Sized (treeBy (now nodes) (now links) k m) (now sizes) 0
         × (length (now starts) ≡ 8192) × (length (now order) ≡ 4096) ⌝ }
-    ensures { λ _. ⌜ LaidOut (treeBy (now (nodes .entry)) (now (links .entry)) k m) (now (sizes .entry)) (now (starts .exit)) (now (order .exit)) ⌝ }
+    ensures { λ _. ⌜ LaidOut (treeBy (now (nodes .entry)) (now (links .entry)) k m) (now (sizes .entry)) (now (starts .exit))
+        (now (order .exit)) ⌝ }
 {
     starts[0] = 0;
     let mut j: usize = 0;

@@ -1,9 +1,8 @@
--- A trace is below a node once: nodes with a trace below them lie on one way down, so that no trace is below both children of a node. So no list of
+-- A trace is below a node once: nodes with a trace below them lie on one way down, so that no trace is below both children of a node. So
+-- no list of
 -- the traces below a node is longer than there are traces.
 use Prim.Native.Nat.{ℕ, zero, suc, _≤_, _<_}
 use mathlib.Core.Path.{_≡_, refl, sym, subst}
-use mathlib.Core.Logic.{_⊎_, inl, inr}
-use mathlib.Core.List.{List}
 use native.Mathlib.Omega.{arith}
 use native.Mathlib.Decide.{decLe}
 use native.Mathlib.Nat.{lt-of-not-le}
@@ -11,8 +10,8 @@ use lib.ListN.{length}
 use lib.Dec.{T}
 use Rattle.integer.specs.Words.{isIn, counting}
 use Rattle.integer.proofs.Times.{counting-length}
-use Rattle.integer.proofs.Lists.{In, same-or-not, strict, in-counting, Apart, apart-none, up-same, apart-append, no-fewer}
-use Rattle.dstree.specs.Node.{Test, Kind, leaf, inner, Tree, nodeAt}
+use Rattle.integer.proofs.Lists.{same-or-not, strict, in-counting, Apart, apart-none, up-same, apart-append, no-fewer}
+use Rattle.dstree.specs.Node.{Kind, leaf, inner, Tree, nodeAt}
 use Rattle.dstree.specs.Matching.{hasChild, numbersIn}
 use Rattle.dstree.specs.Formed.{Shape}
 use Rattle.dstree.specs.Claims.{Below, of-leaf, of-child}
@@ -50,7 +49,8 @@ module _ {n count : ℕ} {tree : Tree} (s : Shape n count tree) where
 
   under : {t a b : ℕ} → Below tree t a → Below tree t b → a < b → Under t a b
   under (of-leaf h) below p = absurd (omega (arith, low h below))
-  under {t} {a} {b} (of-child {child} h c) below p = by (decLe child b) (same-or-not b child) (λ (d : ℕ) (e : Below tree t d) (q : child < d). under c e q)
+  under {t} {a} {b} (of-child {child} h c) below p = by (decLe child b) (same-or-not b child)
+      (λ (d : ℕ) (e : Below tree t d) (q : child < d). under c e q)
     where
       by : Dec (child ≤ b) → Dec (b ≡ child) → ((d : ℕ) → Below tree t d → child < d → Under t child d) → Under t a b
       by (yes q) (yes e) ih = record { parent = a; has = rw e h; above = omega arith }
@@ -60,7 +60,8 @@ module _ {n count : ℕ} {tree : Tree} (s : Shape n count tree) where
       by (no q) e ih = absurd (between h c p (lt-of-not-le q) ih below)
 
   -- no trace is below both children of a node
-  apart : (p : ℕ) {t l r : ℕ} → T (hasChild l (nodeAt tree p .kind)) → T (hasChild r (nodeAt tree p .kind)) → l < r → Below tree t l → Below tree t r → ⊥
+  apart : (p : ℕ) {t l r : ℕ} → T (hasChild l (nodeAt tree p .kind)) → T (hasChild r (nodeAt tree p .kind)) → l < r → Below tree t l
+      → Below tree t r → ⊥
   apart p {t} {l} {r} h g q a b =
       let u : Under t l r = under a b q in
       omega (arith, u .above, s .one-parent p (u .parent) r g (u .has), s .child p l h)
@@ -70,11 +71,13 @@ module _ {n count : ℕ} {tree : Tree} (s : Shape n count tree) where
   once zero k = apart-none
   once (suc fuel) k = by (nodeAt tree k .kind) refl (λ (c : ℕ). once fuel c)
     where
-      by : (a : Kind) → nodeAt tree k .kind ≡ a → ((c : ℕ) → Apart (λ (j : ℕ). j) (belowFrom fuel tree c)) → Apart (λ (j : ℕ). j) (belowFrom (suc fuel) tree k)
+      by : (a : Kind) → nodeAt tree k .kind ≡ a → ((c : ℕ) → Apart (λ (j : ℕ). j) (belowFrom fuel tree c)) → Apart (λ (j : ℕ). j)
+          (belowFrom (suc fuel) tree k)
       by (leaf ns) e ih = subst (Apart (λ (j : ℕ). j)) (sym (from-leaf fuel tree k e)) (up-same (s .rises k ns e))
       by (inner test l r) e ih =
           subst (Apart (λ (j : ℕ). j)) (sym (from-inner fuel tree k e))
-          (apart-append (λ (j : ℕ). j) (ih l) (ih r) (λ t u i j q. both t (from-below fuel tree l i) (subst (λ (x : ℕ). Below tree x r) q (from-below fuel tree r j))))
+          (apart-append (λ (j : ℕ). j) (ih l) (ih r) (λ t u i j q. both t (from-below fuel tree l i)
+          (subst (λ (x : ℕ). Below tree x r) q (from-below fuel tree r j))))
         where
           left : T (hasChild l (nodeAt tree k .kind))
           left = rw e (has-left test l r)

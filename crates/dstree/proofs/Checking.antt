@@ -1,4 +1,5 @@
--- Document 02, §6, of trees: the check says yes exactly if the records have the figures of the traces below; so it accepts what adding makes, and
+-- Document 02, §6, of trees: the check says yes exactly if the records have the figures of the traces below; so it accepts what adding
+-- makes, and
 -- adding to what it accepts leaves what it accepts. The statements are those of `specs/Checking`.
 use Prim.Native.Nat.{ℕ, _≤_, _<_}
 use mathlib.Core.Path.{_≡_}
@@ -26,7 +27,8 @@ use Rattle.dstree.proofs.Laws as laws
 module _ {n count : ℕ} {tree : Tree} (s : Shape n count tree) (stored : List Trace) where
   -- ---- one node
 
-  pub exact-at : (k : ℕ) → k < length tree → T (isExactAt stored tree k) → AllExact stored (λ t. Below tree t k) 1 (nodeAt tree k .segments)
+  pub exact-at : (k : ℕ) → k < length tree → T (isExactAt stored tree k) → AllExact stored (λ t. Below tree t k) 1
+      (nodeAt tree k .segments)
   unfolding isExactAt
   exact-at k h t =
       let l : List Segment = nodeAt tree k .segments in
@@ -50,7 +52,8 @@ module _ {n count : ℕ} {tree : Tree} (s : Shape n count tree) (stored : List T
       by (yes h) = rw (List·getD-eq-default tree nothing h) exact-none
       by (no f) =
           let h : k < length tree = lt-of-not-le f in
-          exact-at k h (from-every (isExactAt stored tree) (counting (length tree) 0) t (in-counting (length tree) 0 k (omega arith) (omega arith)))
+          exact-at k h (from-every (isExactAt stored tree) (counting (length tree) 0) t
+          (in-counting (length tree) 0 k (omega arith) (omega arith)))
 
   ranges-exact : RangesOf stored tree → T (isExact stored tree)
   unfolding isExact
@@ -81,5 +84,6 @@ adding-accepted limit m stored tree x w all is-trace room t =
       formed = formed limit m (length stored) tree w;
       ranged = ranged-by (exactness limit m stored tree w .exact-ranges t);
     } in
-    let new : RangedInv limit m (stored ++ (x ∷ [])) (insertion m stored tree x) = insertion-ranged limit m stored tree x old room all is-trace in
+    let new : RangedInv limit m (stored ++ (x ∷ []))
+    (insertion m stored tree x) = insertion-ranged limit m stored tree x old room all is-trace in
     exactness limit m (stored ++ (x ∷ [])) (insertion m stored tree x) (well-formed (new .formed)) .ranges-exact (ranges-of (new .ranged))

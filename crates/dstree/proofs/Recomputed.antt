@@ -1,4 +1,5 @@
--- The least and the greatest of some figures are one number each: records whose figures are exactly those of some traces are the segments that
+-- The least and the greatest of some figures are one number each: records whose figures are exactly those of some traces are the
+-- segments that
 -- are recomputed from these traces, and the other way round.
 use Prim.Native.Nat.{ℕ, suc, _<_}
 use mathlib.Core.Path.{_≡_, refl, ap, subst}
@@ -89,7 +90,13 @@ is-passed traces from (s ∷ rest) e =
 
 module _ {P Q : ℕ → Type 0} (to : (t : ℕ) → P t → Q t) (back : (t : ℕ) → Q t → P t) where
   same-extreme : {A : Type 0} {R : A → A → Type 0} {v : ℕ → A} {a : A} → Extreme R P v a → Extreme R Q v a
-  same-extreme x = record { trace = x .trace; is-one = to (x .trace) (x .is-one); has = x .has; none-beyond = λ t q. x .none-beyond t (back t q) }
+  same-extreme x = record {
+    trace = x .trace;
+    is-one = to (x .trace) (x .is-one);
+    has = x .has;
+    none-beyond = λ t q. x .none-beyond t
+        (back t q);
+  }
 
   pub same-on : {stored : List Trace} {on : Run} {s : Segment} → ExactOn stored P on s → ExactOn stored Q on s
   same-on e = record {
@@ -132,13 +139,7 @@ module _ (stored : List Trace) (numbers : List ℕ) (one : 0 < length numbers) w
   unfolding segmentsFrom segmentOf
   is-recomputed exact-none = refl
   is-recomputed (exact-more {first} {s} {rest} e w) =
-      let here : s ≡ segmentOf (tracesOf stored numbers) (run first (s .end)) = one-segment s _ refl e (recomputed-on (run first (s .end))) in
+      let here : s ≡ segmentOf (tracesOf stored numbers) (run first (s .end)) = one-segment s _ refl e
+      (recomputed-on (run first (s .end))) in
       let more : rest ≡ segmentsFrom (suc (s .end)) (ends rest) (tracesOf stored numbers) = is-recomputed w in
       cc
-
--- so figures recomputed from two lists with the same members are the same
-pub same-members : (stored : List Trace) (a b : List ℕ) → 0 < length a → 0 < length b → ((t : ℕ) → In t a → In t b)
-    → ((t : ℕ) → In t b → In t a) → (on : Run) → segmentOf (tracesOf stored a) on ≡ segmentOf (tracesOf stored b) on
-unfolding segmentOf
-same-members stored a b some-a some-b to back on =
-    one-segment _ _ refl (same-on to back (recomputed-on stored a some-a on)) (recomputed-on stored b some-b on)

@@ -19,7 +19,11 @@ use Rattle.dstree.specs.Claims.{RangesOf, ExactTree}
 unfoldable pub belowFrom : ℕ → Tree → ℕ → List ℕ
 belowFrom zero tree number = []
 belowFrom (suc fuel) tree number =
-    elim (nodeAt tree number .kind) [ leaf numbers ↦ numbers | inner test left right ↦ belowFrom fuel tree left ++ belowFrom fuel tree right ]
+    elim (nodeAt tree number .kind) [
+      | leaf numbers ↦ numbers
+      | inner test left right ↦ belowFrom fuel tree left ++ belowFrom fuel tree
+          right
+    ]
 
 abbrev pub tracesBelow : Tree → ℕ → List ℕ
 tracesBelow tree = belowFrom (length tree) tree
@@ -62,7 +66,8 @@ abbrev pub ExactnessOfFormed : Type 0
 ExactnessOfFormed = (limit : ℕ) (m : Measures) (stored : List Trace) (tree : Tree) → T (wellFormed limit m (length stored) tree)
     → Exactness stored tree
 
--- "If it accepts, a match must be the nearest stored trace and read the fewest leaves, whatever made the tables": an accepted tree is exact, which is
+-- "If it accepts, a match must be the nearest stored trace and read the fewest leaves, whatever made the tables": an accepted tree is
+-- exact, which is
 -- all that is claimed of a match (`Claims`: `ClaimsOfExact`) and of the k nearest needs
 abbrev pub AcceptedExact : Type 0
 AcceptedExact = (limit : ℕ) (m : Measures) (stored : List Trace) (tree : Tree) → T (wellFormed limit m (length stored) tree)

@@ -1,13 +1,13 @@
--- `checking::is_exact` meets its contract: what is laid out is what is below each node, and the comparison of all records is the test of the tree.
+-- `checking::is_exact` meets its contract: what is laid out is what is below each node, and the comparison of all records is the test of
+-- the tree.
 use mathlib.Core.Path.{_≡_, sym, ap, subst, _∙_}
 use mathlib.Core.List.{List, []}
 use Prim.Native.Nat.{ℕ}
 use lib.ListN.{length-replicate}
-use lib.Dec.{T}
 use borrow.Author.Needs.{needs}
 use Rattle.integer.specs.Words.{every, counting}
 use Rattle.tables.specs.Tables.{Tables, tables, measuresOf, traceCount, nodeCount}
-use Rattle.checking.specs.Laid.{treeBy, Walks, Sized, LaidOut, Ready}
+use Rattle.checking.specs.Laid.{treeBy, Walks, LaidOut, Ready}
 use Rattle.checking.specs.Compared.{exactIn}
 use Rattle.checking.proofs.Trusted.{walks, ready, all-same}
 use Rattle.checking.proofs.is_exact.Statement.{statement}
@@ -52,7 +52,8 @@ module _ (c : tie.After-lay-out) where
   laid : LaidOut (treeBy (t w .nodes) (t w .links) (traceCount (t w)) (nodeCount (t w))) sizes starts order
   laid =
       subst (λ (k : ℕ). LaidOut (treeBy (t w .nodes) (t w .links) k (nodeCount (t w))) sizes starts order) (k-is w)
-      (subst (λ (m : ℕ). LaidOut (treeBy (t w .nodes) (t w .links) (w .before .before .wide2 .result) m) sizes starts order) (m-is w) (c .lay-out .ensures))
+      (subst (λ (m : ℕ). LaidOut (treeBy (t w .nodes) (t w .links) (w .before .before .wide2 .result) m) sizes starts order) (m-is w)
+      (c .lay-out .ensures))
 
   compared : Ready (t w .samples) (t w .nodes) (w .before .before .before .before .wide .result) (w .wide3 .result) sizes starts order
   compared =
@@ -65,15 +66,24 @@ returns c =
     let l = c .before .before .before .before in
     let v = w l in
     c .all-exact .ensures
-    ∙ (ap (λ (n : ℕ). every (exactIn (t v .samples) (t v .nodes) n (sizes l) (starts l) (order l)) (counting (v .wide3 .result) 0)) (n-is v)
-    ∙ (ap (λ (m : ℕ). every (exactIn (t v .samples) (t v .nodes) (measuresOf (t v) .n) (sizes l) (starts l) (order l)) (counting m 0)) (m-is v)
+    ∙ (ap (λ (n : ℕ). every (exactIn (t v .samples) (t v .nodes) n (sizes l) (starts l) (order l)) (counting (v .wide3 .result) 0))
+    (n-is v)
+    ∙ (ap (λ (m : ℕ). every (exactIn (t v .samples) (t v .nodes) (measuresOf (t v) .n) (sizes l) (starts l) (order l)) (counting m 0))
+    (m-is v)
     ∙ all-same (t v) (start v .pre .0) (start v .pre .1) (laid l)))
 
 pub is-exact-spec : {M : Type 1} → statement M
 is-exact-spec =
     tie.close
     (tie.spec
-    (λ c κs. search needs) (λ c κs. search needs) (λ c κs. search needs) (λ c κs. search needs) (λ c κs. search needs) (λ c κs. search needs)
+    (λ c κs. search needs) (λ c κs. search needs) (λ c κs. search needs) (λ c κs. search needs) (λ c κs. search needs)
+    (λ c κs. search needs)
     (λ c κs. (walked (c .before), length-replicate {A = ℕ} 8192 0))
-    (λ c κs. let f = c .before .before .before in (walked (f .before .before), f .fill-sizes .ensures, length-replicate {A = ℕ} 8192 0, length-replicate {A = ℕ} 4096 0))
+    (λ c κs. let f = c .before .before .before in (
+      walked
+          (f .before .before),
+      f .fill-sizes .ensures,
+      length-replicate {A = ℕ} 8192 0,
+      length-replicate {A = ℕ} 4096 0,
+    ))
     (λ c. search needs) (λ c κs. compared (c .before .before .before)) returns)

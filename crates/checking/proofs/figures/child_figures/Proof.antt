@@ -1,7 +1,8 @@
--- `checking::figures::child_figures` meets its contract: a segment of a record that has exactly the figures of the traces below has those on its samples.
+-- `checking::figures::child_figures` meets its contract: a segment of a record that has exactly the figures of the traces below has
+-- those on its samples.
 use mathlib.Core.Path.{_≡_, sym, ap, subst, _∙_}
 use mathlib.Core.List.{List}
-use Prim.Native.Nat.{ℕ, _+_, _*_, _≤_, _<_}
+use Prim.Native.Nat.{ℕ, _+_, _*_, _≤_}
 use native.Mathlib.Omega.{arith}
 use lib.IntN.{ℤ}
 use lib.ListN.{length}
@@ -48,7 +49,8 @@ module _ (c : tie.After-record-at) where
       ))
 
   abbrev traces : List Trace
-  traces = tracesUnder (start .args .samples .now) (start .args .n) (start .args .sizes .now) (start .args .starts .now) (start .args .order .now) (start .args .c)
+  traces = tracesUnder (start .args .samples .now) (start .args .n) (start .args .sizes .now) (start .args .starts .now)
+      (start .args .order .now) (start .args .c)
 
   exact : T (areExact traces 1 (segmentsIn r))
   exact = subst (λ (x : List ℤ). T (areExact traces 1 (segmentsIn x))) (sym record-is) (start .pre .2)

@@ -41,7 +41,8 @@ module _ (c : tie.After-wide2) where
   inside : getD starts j 0 + getD sizes j 0 ≤ 4096
   inside = ready .inside j (start .pre .0 .inside)
 
-  part-is : take (c .before .before .wide .result + c .wide2 .result - c .before .before .wide .result) (drop (c .before .before .wide .result) order)
+  part-is : take (c .before .before .wide .result + c .wide2 .result - c .before .before .wide .result)
+      (drop (c .before .before .wide .result) order)
       ≡ numbersAt sizes starts order j
   part-is =
       let e : c .before .before .wide .result + c .wide2 .result - c .before .before .wide .result ≡ c .wide2 .result = omega arith in
@@ -53,7 +54,13 @@ low s = omega (arith, s .pre .0 .inside, s .pre .0 .ready .nodes-few)
 listed-figures-requires : tie.Need-listed-figures-requires
 listed-figures-requires c κs =
     let k = c .before in
-    rw (part-is k) (ready k .narrow, start k .pre .1, simp length-take (omega (arith, inside k)), λ t i. ready k .stored (j k) t (start k .pre .0 .inside) i)
+    rw (part-is k) (
+      ready k .narrow,
+      start k .pre .1,
+      simp length-take (omega (arith, inside k)),
+      λ t i. ready k .stored (j k) t
+          (start k .pre .0 .inside) i,
+    )
 
 returns : tie.Need-returns
 returns c =
@@ -66,8 +73,10 @@ pub figures-below-spec : {M : Type 1} → statement M
 figures-below-spec =
     tie.close
     (tie.spec
-    (λ c. let h = low (c .before) in omega (arith, h)) (λ c. let h = low (c .before) in omega (arith, h, c .before .pre .0 .ready .starts-places)) (λ c κs. search needs)
-    (λ c. let h = low (c .before .before .before) in omega (arith, h)) (λ c. let h = low (c .before .before .before) in omega (arith, h, c .before .before .before .pre .0 .ready .sizes-places))
+    (λ c. let h = low (c .before) in omega (arith, h)) (λ c. let h = low (c .before) in omega
+    (arith, h, c .before .pre .0 .ready .starts-places)) (λ c κs. search needs)
+    (λ c. let h = low (c .before .before .before) in omega (arith, h))
+    (λ c. let h = low (c .before .before .before) in omega (arith, h, c .before .before .before .pre .0 .ready .sizes-places))
     (λ c κs. search needs) (λ c. omega (arith, from-is c, size-is c, inside c)) (λ c. omega (arith, from-is c, size-is c, inside c))
     (λ c. omega (arith, from-is c, size-is c, inside c)) (λ c. omega (arith, from-is c, size-is c, inside c))
     (λ c. omega (arith, from-is c, size-is c, inside c, ready c .order-places)) listed-figures-requires returns)

@@ -19,10 +19,13 @@ returns c =
     let b = s .args .b in
     let low = l .lesser in
     let high = g .greater in
-    let a1 = toZ-ofZ {w = w64} {z = a .«least_sum»} (of-mag {w = w64} (a .«least_sum») (l .before .before .struct-told .given .1 .0 .1)) in
+    let a1 = toZ-ofZ {w = w64} {z = a .«least_sum»} (of-mag {w = w64} (a .«least_sum»)
+    (l .before .before .struct-told .given .1 .0 .1)) in
     let b1 = toZ-ofZ {w = w64} {z = b .«least_sum»} (of-mag {w = w64} (b .«least_sum») (l .before .struct-told2 .given .1 .0 .1)) in
-    let a2 = toZ-ofZ {w = w64} {z = a .«greatest_sum»} (of-mag {w = w64} (a .«greatest_sum») (g .before .before .struct-told3 .given .1 .1 .0 .1)) in
-    let b2 = toZ-ofZ {w = w64} {z = b .«greatest_sum»} (of-mag {w = w64} (b .«greatest_sum») (g .before .struct-told4 .given .1 .1 .0 .1)) in
+    let a2 = toZ-ofZ {w = w64} {z = a .«greatest_sum»} (of-mag {w = w64} (a .«greatest_sum»)
+    (g .before .before .struct-told3 .given .1 .1 .0 .1)) in
+    let b2 = toZ-ofZ {w = w64} {z = b .«greatest_sum»} (of-mag {w = w64} (b .«greatest_sum»)
+    (g .before .struct-told4 .given .1 .1 .0 .1)) in
     let e : read w64 (low .result) ≡ lesser (a .«least_sum») (b .«least_sum») =
     toZ-ofZ (of-mag {w = w64} (low .result) (low .ok)) ∙ (low .ensures ∙ ap₂ lesser a1 b1) in
     let f : read w64 (high .result) ≡ greater (a .«greatest_sum») (b .«greatest_sum») =

@@ -96,7 +96,8 @@ pub listed-figures-spec : {M : Type 1} → statement M
 listed-figures-spec =
     tie.close
     (tie.spec
-    Inv-loop μ-loop loop-holds (λ c. omega (arith, c .before .before .before .pre .2, c .loop-test .taken)) (λ c. omega (arith, c .before .loop-test .taken))
+    Inv-loop μ-loop loop-holds (λ c. omega (arith, c .before .before .before .pre .2, c .loop-test .taken))
+    (λ c. omega (arith, c .before .loop-test .taken))
     (λ c κs. search needs) trace-at-requires figures-on-requires (λ c κs. search needs)
     (λ c. let k = c .before .before .before .before in omega (arith, turn k .loop-test .taken, s k .pre .2))
     (λ c. let k = c .before .before .before .before in omega (arith, turn k .loop-test .taken)) loop-again returns)

@@ -1,5 +1,6 @@
--- `checking::figures::node_figures` meets its contract: a leaf's figures are taken from its traces, an inner node's are those of its children together.
-use mathlib.Core.Path.{_≡_, sym, ap, subst, _∙_}
+-- `checking::figures::node_figures` meets its contract: a leaf's figures are taken from its traces, an inner node's are those of its
+-- children together.
+use mathlib.Core.Path.{_≡_, sym, ap, _∙_}
 use mathlib.Core.List.{List, _++_, map, map-append}
 use Prim.Native.Nat.{ℕ, _+_, _*_, _≤_, _<_}
 use native.Mathlib.Omega.{arith}
@@ -13,9 +14,8 @@ use Rattle.tables.specs.Layout.{kindPlace, firstPlace, rightPlace, recordPlaces
 use Rattle.tables.specs.Tables.{recordOf}
 use Rattle.tables.specs.View.{smallAt, traceIn}
 use Rattle.leaf_figures.specs.Sides.{segmentBy}
-use Rattle.leaf_figures.specs.declared.sides.Figures.{Figures}
 use Rattle.checking.specs.Laid.{numbersAt, Ready}
-use Rattle.checking.specs.Compared.{tracesUnder, ReadyAt}
+use Rattle.checking.specs.Compared.{tracesUnder}
 use Rattle.checking.proofs.Joining.{joined-is}
 use Rattle.checking.proofs.figures.node_figures.Statement.{statement}
 use Rattle.checking.proofs.figures.node_figures.Tie as tie
@@ -37,7 +37,8 @@ module _ (c : tie.After-node-small3) where
   abbrev r : List ℤ
   r = recordOf (s .args .nodes .now) j
 
-  abbrev ready : Ready (s .args .samples .now) (s .args .nodes .now) (s .args .n) (s .pre .0 .m) (s .args .sizes .now) (s .args .starts .now) (s .args .order .now)
+  abbrev ready : Ready (s .args .samples .now) (s .args .nodes .now) (s .args .n) (s .pre .0 .m) (s .args .sizes .now)
+      (s .args .starts .now) (s .args .order .now)
   ready = s .pre .0 .ready
 
   inner : 1 ≤ smallAt r kindPlace
@@ -98,7 +99,8 @@ returns-2 c =
     let p = a .child-figures .ensures ∙ ap (λ (x : ℕ). segmentOf (under k x) on) (left-is k) in
     let q = b .child-figures2 .ensures ∙ ap (λ (x : ℕ). segmentOf (under k x) on) (right-is k) in
     ap (segmentBy (s k .args .last)) (c .joined .ensures)
-    ∙ (joined-is on (under k (smallAt (r k) firstPlace)) (under k (smallAt (r k) rightPlace)) (a .child-figures .result) (b .child-figures2 .result)
+    ∙ (joined-is on (under k (smallAt (r k) firstPlace)) (under k (smallAt (r k) rightPlace)) (a .child-figures .result)
+    (b .child-figures2 .result)
     (some k (smallAt (r k) firstPlace) (left-in k .1)) (some k (smallAt (r k) rightPlace) (right-in k .1)) p q
     ∙ ap (λ (l : List Trace). segmentOf l on) (sym (together k)))
 
@@ -107,7 +109,8 @@ node-figures-spec =
     tie.close
     (tie.spec
     (λ c κs. let h = in-table (c .before) in (h .0, h .1, omega arith))
-    (λ c κs. let s = c .before .before .before in (record { m = s .pre .0 .m; ready = s .pre .0 .ready; inside = s .pre .0 .inside }, s .pre .1))
+    (λ c κs. let s = c .before .before .before in
+    (record { m = s .pre .0 .m; ready = s .pre .0 .ready; inside = s .pre .0 .inside }, s .pre .1))
     (λ c. c .figures-below .ensures)
     (λ c κs. let h = in-table (c .before .before .before) in (h .0, h .1, omega arith))
     (λ c κs. let h = in-table (c .before .before .before .before) in (h .0, h .1, omega arith))

@@ -1,10 +1,10 @@
 -- `checking::figures::recorded` meets its contract: its fields are the record's, as they are read back.
-use mathlib.Core.Path.{_≡_, ap, _∙_}
+use mathlib.Core.Path.{ap, _∙_}
 use native.Mathlib.Omega.{arith}
 use mir.Syntax.{w64}
 use mir.Facts.{toZ-ofZ}
 use borrow.Author.Needs.{needs}
-use Rattle.integer.proofs.Width.{of-mag, read}
+use Rattle.integer.proofs.Width.{of-mag}
 use Rattle.tables.specs.View.{scatterIn, segmentIn}
 use Rattle.checking.proofs.figures.recorded.Statement.{statement}
 use Rattle.checking.proofs.figures.recorded.Tie as tie
@@ -27,5 +27,6 @@ recorded-spec =
     tie.close
     (tie.spec
     (λ c. omega arith) (λ c. omega arith) (λ c. omega arith) (λ c κs. (c .pre .0, omega arith)) (λ c. omega arith)
-    (λ c κs. (c .before .pre .0, omega arith)) (λ c. omega arith) (λ c κs. (c .before .before .pre .0, omega arith)) (λ c κs. search needs)
+    (λ c κs. (c .before .pre .0, omega arith)) (λ c. omega arith) (λ c κs. (c .before .before .pre .0, omega arith))
+    (λ c κs. search needs)
     (λ c. omega arith) (λ c κs. (c .before .before .before .before .pre .0, omega arith)) (λ c κs. search needs) returns)

@@ -1,6 +1,6 @@
 -- `checking::figures::segment_on` meets its contract: each segment starts behind the end of the one before it.
-use mathlib.Core.Path.{_≡_, refl, sym, ap, subst, _∙_}
-use Prim.Native.Nat.{ℕ, suc, _+_, _-_, _≤_, _<_}
+use mathlib.Core.Path.{_≡_, refl, sym, ap, _∙_}
+use Prim.Native.Nat.{suc, _-_, _≤_}
 use native.Mathlib.Omega.{arith}
 use native.Mathlib.Numerals.{add-one}
 use borrow.Author.Tests.{eqb-true}
@@ -55,6 +55,9 @@ pub segment-on-spec : {M : Type 1} → statement M
 segment-on-spec =
     tie.close
     (tie.spec
-    Inv-loop μ-loop (λ c κs. (c .pre .0, omega arith)) loop-holds (λ c. omega (arith, c .before .loop .inv .1)) (λ c. omega (arith, c .before .loop .inv .1))
-    (λ c κs. (c .before .before .before .pre .0, omega (arith, c .before .loop .inv .1))) returns (λ c. omega (arith, end-most (c .before)))
-    (λ c. omega (arith, c .before .before .before .loop .inv .1)) (λ c. omega (arith, c .before .before .loop-test .taken)) loop-again returns-2)
+    Inv-loop μ-loop (λ c κs. (c .pre .0, omega arith)) loop-holds (λ c. omega (arith, c .before .loop .inv .1))
+    (λ c. omega (arith, c .before .loop .inv .1))
+    (λ c κs. (c .before .before .before .pre .0, omega (arith, c .before .loop .inv .1))) returns
+    (λ c. omega (arith, end-most (c .before)))
+    (λ c. omega (arith, c .before .before .before .loop .inv .1))
+    (λ c. omega (arith, c .before .before .loop-test .taken)) loop-again returns-2)

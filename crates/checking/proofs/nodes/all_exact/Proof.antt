@@ -1,7 +1,7 @@
 -- `checking::nodes::all_exact` meets its contract: from the last node down, each is exact, or the test of all fails at one that is not.
 use mathlib.Core.Path.{_≡_, sym, subst, _∙_}
 use mathlib.Core.Bool.{Bool}
-use Prim.Native.Nat.{ℕ, _+_, _-_, _≤_, _<_}
+use Prim.Native.Nat.{ℕ, _-_, _≤_, _<_}
 use native.Mathlib.Omega.{arith}
 use lib.Dec.{T}
 use borrow.Author.Tests.{not-true, not-false}
@@ -13,14 +13,16 @@ use Rattle.checking.proofs.nodes.all_exact.Statement.{statement}
 use Rattle.checking.proofs.nodes.all_exact.Tie as tie
 
 abbrev Inv-loop : tie.InvT-loop
-Inv-loop samples nodes n m sizes starts order j₀ j = (j ≤ m) × ((c : ℕ) → j ≤ c → c < m → T (exactIn samples nodes n sizes starts order c))
+Inv-loop samples nodes n m sizes starts order j₀ j = (j ≤ m) ×
+    ((c : ℕ) → j ≤ c → c < m → T (exactIn samples nodes n sizes starts order c))
 
 abbrev μ-loop : tie.MeasureT-loop
 μ-loop samples nodes n m sizes starts order j₀ j = j
 
 module _ (s : tie.Start Inv-loop μ-loop) where
   abbrev test : ℕ → Bool
-  test = exactIn (s .args .samples .now) (s .args .nodes .now) (s .args .n) (s .args .sizes .now) (s .args .starts .now) (s .args .order .now)
+  test = exactIn (s .args .samples .now) (s .args .nodes .now) (s .args .n) (s .args .sizes .now) (s .args .starts .now)
+      (s .args .order .now)
 
 -- node j, and those above it
 module _ (c : tie.After-node-exact Inv-loop μ-loop) where
@@ -45,10 +47,14 @@ returns c =
 
 loop-again : tie.Need-loop-again Inv-loop μ-loop
 loop-again c =
-    let k = c .before in
-    (omega (arith, inside k), λ i h g. by k (is-true (sym (k .node-exact .ensures) ∙ not-false (k .node-exact .result) (c .if1 .left))) i h g (same-or-not i (j k)))
+    let k = c .before in (
+      omega (arith, inside k),
+      λ i h g. by k (is-true (sym (k .node-exact .ensures) ∙ not-false (k .node-exact .result)
+          (c .if1 .left))) i h g (same-or-not i (j k)),
+    )
   where
-    by : (k : tie.After-node-exact Inv-loop μ-loop) → T (test (s k) (j k)) → (i : ℕ) → j k ≤ i → i < s k .args .m → Dec (i ≡ j k) → T (test (s k) i)
+    by : (k : tie.After-node-exact Inv-loop μ-loop) → T (test (s k) (j k)) → (i : ℕ) → j k ≤ i → i < s k .args .m → Dec (i ≡ j k) → T
+        (test (s k) i)
     by k t i h g (yes e) = rw e t
     by k t i h g (no f) = turn k .before .loop .inv .1 i (omega (arith, strict h (λ e. f (sym e)))) g
 
@@ -57,7 +63,8 @@ returns-2 c =
     let s = c .before .before .before in
     let l = c .before .loop in
     sym (test-true (every (test s) (counting (s .args .m) 0))
-    (every-of (test s) (counting (s .args .m) 0) (λ i h. l .inv .1 i (omega (arith, c .loop-test .left)) (omega (arith, from-counting (s .args .m) 0 h)))))
+    (every-of (test s) (counting (s .args .m) 0) (λ i h. l .inv .1 i (omega (arith, c .loop-test .left))
+    (omega (arith, from-counting (s .args .m) 0 h)))))
 
 pub all-exact-spec : {M : Type 1} → statement M
 all-exact-spec =

@@ -1,8 +1,9 @@
--- `checking::nodes::node_exact` meets its contract: the segments passed are exact, and the test of those that are left is the test of all.
+-- `checking::nodes::node_exact` meets its contract: the segments passed are exact, and the test of those that are left is the test of
+-- all.
 use mathlib.Core.Path.{_≡_, sym, ap, ap₂, subst, _∙_}
 use mathlib.Core.Bool.{Bool, _&&_}
 use mathlib.Core.List.{List}
-use Prim.Native.Nat.{ℕ, _+_, _*_, _-_, _≤_, _<_}
+use Prim.Native.Nat.{ℕ, _+_, _*_, _-_, _≤_}
 use native.Mathlib.Omega.{arith}
 use lib.IntN.{ℤ}
 use lib.ListN.{length}
@@ -30,7 +31,8 @@ abbrev Inv-loop : tie.InvT-loop
 Inv-loop samples nodes n sizes starts order j «record» count first₀ i₀ first i =
     (i ≤ count)
     × (1 ≤ first)
-    × (areExact (tracesUnder samples n sizes starts order j) first (leftFrom (recordOf nodes j) count i) ≡ exactIn samples nodes n sizes starts order j)
+    × (areExact (tracesUnder samples n sizes starts order j) first (leftFrom (recordOf nodes j) count i)
+    ≡ exactIn samples nodes n sizes starts order j)
     × Rises n first (ends (leftFrom (recordOf nodes j) count i))
 
 abbrev μ-loop : tie.MeasureT-loop
@@ -44,7 +46,8 @@ module _ (s : tie.Start Inv-loop μ-loop) where
   r = recordOf (s .args .nodes .now) (s .args .j)
 
   abbrev traces : List Trace
-  traces = tracesUnder (s .args .samples .now) (s .args .n) (s .args .sizes .now) (s .args .starts .now) (s .args .order .now) (s .args .j)
+  traces = tracesUnder (s .args .samples .now) (s .args .n) (s .args .sizes .now) (s .args .starts .now) (s .args .order .now)
+      (s .args .j)
 
   few : smallAt r segmentsPlace ≤ 16
   few = omega (arith, ends-length r, s .pre .ready .fits (s .args .j) (s .pre .inside) .few)
@@ -72,7 +75,8 @@ loop-holds c =
       omega arith,
       omega arith,
       ap (areExact (traces s) 1) (all c),
-      subst (λ (l : List Segment). Rises (s .args .n) 1 (ends l)) (sym (all c)) (parted-rises (s .pre .ready .fits (s .args .j) (s .pre .inside) .parted)),
+      subst (λ (l : List Segment). Rises (s .args .n) 1 (ends l)) (sym (all c))
+          (parted-rises (s .pre .ready .fits (s .args .j) (s .pre .inside) .parted)),
     )
 
 -- a turn of the loop: segment i, and its end
@@ -91,7 +95,8 @@ module _ (c : tie.After-small-at2 Inv-loop μ-loop) where
 
   next : NextEnd (r (start k)) (start k .args .n) (k .small-at .result) (turn .before .loop .first) i (c .small-at2 .result)
   next =
-      next-end (r (start k)) (start k .args .n) (k .small-at .result) (turn .before .loop .first) i (c .small-at2 .result) (turn .loop-test .taken) end-is
+      next-end (r (start k)) (start k .args .n) (k .small-at .result) (turn .before .loop .first) i (c .small-at2 .result)
+      (turn .loop-test .taken) end-is
       (turn .before .loop .inv .3)
 
 -- the segment's figures compared
@@ -104,10 +109,12 @@ module _ (c : tie.After-same-figures Inv-loop μ-loop) where
 
   one-is : segmentBy (segmentIn (r (start (k e))) (i e) .end) (c .before .recorded .result) ≡ segmentIn (r (start (k e))) (i e)
   one-is =
-      subst (λ (x : List ℤ). segmentBy (segmentIn x (i e) .end) (c .before .recorded .result) ≡ segmentIn x (i e)) (record-is (k e)) (c .before .recorded .ensures)
+      subst (λ (x : List ℤ). segmentBy (segmentIn x (i e) .end) (c .before .recorded .result) ≡ segmentIn x (i e)) (record-is (k e))
+      (c .before .recorded .ensures)
 
   same-is : c .same-figures .result
-      ≡ sameFigures (segmentIn (r (start (k e))) (i e)) (segmentOf (traces (start (k e))) (run (turn e .before .loop .first) (e .small-at2 .result)))
+      ≡ sameFigures (segmentIn (r (start (k e))) (i e)) (segmentOf (traces (start (k e)))
+      (run (turn e .before .loop .first) (e .small-at2 .result)))
   same-is =
       c .same-figures .ensures (segmentIn (r (start (k e))) (i e) .end) (e .small-at2 .result)
       ∙ ap₂ sameFigures one-is (f .node-figures .ensures)
@@ -116,12 +123,14 @@ module _ (c : tie.After-same-figures Inv-loop μ-loop) where
   rest = areExact (traces (start (k e))) (e .small-at2 .result + 1) (leftFrom (r (start (k e))) (k e .small-at .result) (i e + 1))
 
   -- the test from this segment on
-  test-is : exactIn (start (k e) .args .samples .now) (start (k e) .args .nodes .now) (start (k e) .args .n) (start (k e) .args .sizes .now)
+  test-is : exactIn (start (k e) .args .samples .now) (start (k e) .args .nodes .now) (start (k e) .args .n)
+      (start (k e) .args .sizes .now)
       (start (k e) .args .starts .now) (start (k e) .args .order .now) (start (k e) .args .j)
       ≡ c .same-figures .result && rest
   test-is =
       sym (turn e .before .loop .inv .2)
-      ∙ (test-more (traces (start (k e))) (r (start (k e))) (k e .small-at .result) (turn e .before .loop .first) (i e) (e .small-at2 .result) (turn e .loop-test .taken) (end-is e)
+      ∙ (test-more (traces (start (k e))) (r (start (k e))) (k e .small-at .result) (turn e .before .loop .first) (i e)
+      (e .small-at2 .result) (turn e .loop-test .taken) (end-is e)
       ∙ ap (λ (b : Bool). b && rest) (sym same-is))
 
 returns : tie.Need-returns Inv-loop μ-loop
@@ -144,7 +153,8 @@ unfolding areExact
 returns-2 c =
     let l = c .before .loop in
     let s = start (c .before .before) in
-    sym (ap (areExact (traces s) (l .first)) (none-left (r s) (c .before .before .small-at .result) (l .i) (c .loop-test .left))) ∙ l .inv .2
+    sym (ap (areExact (traces s) (l .first)) (none-left (r s) (c .before .before .small-at .result) (l .i) (c .loop-test .left)))
+    ∙ l .inv .2
 
 pub node-exact-spec : {M : Type 1} → statement M
 node-exact-spec =
@@ -155,7 +165,8 @@ node-exact-spec =
     (λ c. let q = c .before .before in omega (arith, c .loop-test .taken, count-is q, few (start q)))
     (λ c. let q = c .before .before in omega (arith, c .loop-test .taken, count-is q, few (start q)))
     (λ c κs. let q = c .before .before in (places q, omega (arith, c .loop-test .taken, count-is q, few (start q))))
-    (λ c κs. let q = k c in let n = next c in (start q .pre, record { from-1 = turn c .before .loop .inv .1; rises = n .rises; to-n = n .to-n }))
+    (λ c κs. let q = k c in let n = next c in
+    (start q .pre, record { from-1 = turn c .before .loop .inv .1; rises = n .rises; to-n = n .to-n }))
     (λ c κs. let q = k (c .before) in (places q, omega (arith, turn (c .before) .loop-test .taken, count-is q, few (start q))))
     (λ c κs. search needs) returns
     (λ c. let x = e (c .before) in omega (arith, next x .to-n, start (k x) .pre .ready .narrow))

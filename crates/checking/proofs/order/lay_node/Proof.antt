@@ -85,8 +85,10 @@ returns c =
     let s = ls t in
     laid-leaf (s .pre .0 .shape) (inside s) (s .pre .3) (leaf-is (s .pre .0) (j s) (s .pre .1) (leaf-kind t))
     (subst (λ (l : List ℕ). PutFrom (s .args .order .now) (c .put-list .last .1 .1 .1 .0) (getD (starts s) (j s) 0) l) (sym (below-is t))
-    (subst (λ (x : ℕ). PutFrom (s .args .order .now) (c .put-list .last .1 .1 .1 .0) x (numbersOf (s .args .links .now) (s .args .k) (smallAt (r s) firstPlace))) (w .wide .ensures)
-    (subst (λ (x : ℕ). PutFrom (s .args .order .now) (c .put-list .last .1 .1 .1 .0) (w .wide .result) (numbersOf (s .args .links .now) (s .args .k) x)) (head-is t)
+    (subst (λ (x : ℕ). PutFrom (s .args .order .now) (c .put-list .last .1 .1 .1 .0) x
+    (numbersOf (s .args .links .now) (s .args .k) (smallAt (r s) firstPlace))) (w .wide .ensures)
+    (subst (λ (x : ℕ). PutFrom (s .args .order .now) (c .put-list .last .1 .1 .1 .0) (w .wide .result)
+    (numbersOf (s .args .links .now) (s .args .k) x)) (head-is t)
     (c .put-list .ensures))))
 
 -- an inner node
@@ -109,7 +111,8 @@ module _ (c : tie.After-node-small3) where
   right-in : (j s < smallAt (r s) rightPlace) × (smallAt (r s) rightPlace < s .args .m)
   right-in = right-above (s .pre .0) (j s) (s .pre .1) inner-kind
 
-  size-of-left : getD (s .args .sizes .now) (c .before .before .before .node-small2 .result) 0 ≡ length (tracesBelow (tree s) (smallAt (r s) firstPlace))
+  size-of-left : getD (s .args .sizes .now) (c .before .before .before .node-small2 .result) 0 ≡ length
+      (tracesBelow (tree s) (smallAt (r s) firstPlace))
   size-of-left =
       ap (λ (z : ℕ). getD (s .args .sizes .now) z 0) left-is
       ∙ s .pre .2 .sized (smallAt (r s) firstPlace) (omega arith) (omega (arith, left-in .1, size-is (s .pre .0)))
@@ -123,14 +126,18 @@ returns-2 c =
     let right = smallAt (r t) rightPlace in
     let put : ℕ → ℕ → ℕ → List ℕ = λ a b z. set (set (starts t) a at) b (at + z) in
     let size = getD (t .args .sizes .now) (k .before .before .before .node-small2 .result) 0 in
-    let same : put (k .before .before .before .node-small2 .result) (k .node-small3 .result) size ≡ put left right (length (tracesBelow (tree t) left)) =
-    ap (λ (a : ℕ). put a (k .node-small3 .result) size) (left-is k) ∙ (ap (λ (b : ℕ). put left b size) (right-is k) ∙ ap (put left right) (size-of-left k)) in
+    let same : put (k .before .before .before .node-small2 .result) (k .node-small3 .result) size ≡ put left right
+    (length (tracesBelow (tree t) left)) =
+    ap (λ (a : ℕ). put a (k .node-small3 .result) size) (left-is k) ∙
+    (ap (λ (b : ℕ). put left b size) (right-is k) ∙ ap (put left right) (size-of-left k)) in
     subst (λ (l : List ℕ). LaidTo (tree t) (j t + 1) l (t .args .order .now)) (sym same)
     (laid-inner (t .pre .0 .shape) (inside t) (t .pre .3) (inner-is (t .pre .0) (j t) (t .pre .1) (inner-kind k) .is)
-    (omega (arith, left-in k .1, t .pre .0 .nodes-few, t .pre .3 .starts-places)) (omega (arith, right-in k .1, t .pre .0 .nodes-few, t .pre .3 .starts-places)))
+    (omega (arith, left-in k .1, t .pre .0 .nodes-few, t .pre .3 .starts-places))
+    (omega (arith, right-in k .1, t .pre .0 .nodes-few, t .pre .3 .starts-places)))
 
 -- behind the left child's traces
-second : (c : tie.After-node-small3) → getD (starts (s c)) (j (s c)) 0 + getD (s c .args .sizes .now) (c .before .before .before .node-small2 .result) 0 ≤ 4096
+second : (c : tie.After-node-small3) → getD (starts (s c)) (j (s c)) 0 + getD (s c .args .sizes .now)
+    (c .before .before .before .node-small2 .result) 0 ≤ 4096
 second c =
     let t = s c in
     omega (
@@ -145,14 +152,18 @@ pub lay-node-spec : {M : Type 1} → statement M
 lay-node-spec =
     tie.close
     (tie.spec
-    (λ c κs. let h = room (c .before) in (h .0, h .1, omega arith)) (λ c κs. let h = room (c .before .before) in (h .0, h .1, omega arith))
-    (λ c. omega (arith, room (c .before .before .before))) (λ c. omega (arith, room (c .before .before .before), c .before .before .before .pre .3 .starts-places))
+    (λ c κs. let h = room (c .before) in (h .0, h .1, omega arith))
+    (λ c κs. let h = room (c .before .before) in (h .0, h .1, omega arith))
+    (λ c. omega (arith, room (c .before .before .before))) (λ c. omega
+    (arith, room (c .before .before .before), c .before .before .before .pre .3 .starts-places))
     (λ c κs. search needs) put-list-requires returns
     (λ c κs. let h = room (c .before .before .before .before .before) in (h .0, h .1, omega arith))
-    (λ c. omega (arith, left-is c, left-in c .1, s c .pre .0 .nodes-few)) (λ c. omega (arith, left-is c, left-in c .1, s c .pre .0 .nodes-few, s c .pre .2 .places))
+    (λ c. omega (arith, left-is c, left-in c .1, s c .pre .0 .nodes-few))
+    (λ c. omega (arith, left-is c, left-in c .1, s c .pre .0 .nodes-few, s c .pre .2 .places))
     (λ c. let k = c .before in omega (arith, left-is k, left-in k .1, s k .pre .0 .nodes-few))
     (λ c. let k = c .before in omega (arith, left-is k, left-in k .1, s k .pre .0 .nodes-few, s k .pre .3 .starts-places))
-    (λ c. let k = c .before in omega (arith, second k)) (λ c. let k = c .before in omega (arith, right-is k, right-in k .1, s k .pre .0 .nodes-few))
+    (λ c. let k = c .before in omega (arith, second k)) (λ c. let k = c .before in omega
+    (arith, right-is k, right-in k .1, s k .pre .0 .nodes-few))
     (λ c. let k = c .before in omega (
       arith,
       right-is k,

@@ -1,6 +1,6 @@
 -- `checking::order::lay_out` meets its contract: node after node is laid (`Laying`).
-use mathlib.Core.Path.{_≡_, sym, subst}
-use Prim.Native.Nat.{ℕ, _+_, _-_, _≤_, _<_}
+use mathlib.Core.Path.{_≡_, subst}
+use Prim.Native.Nat.{ℕ, _-_, _≤_}
 use native.Mathlib.Omega.{arith}
 use lib.ListN.{length}
 use Rattle.dstree.specs.Node.{Tree}
@@ -40,5 +40,6 @@ lay-out-spec =
     (tie.spec
     Inv-loop μ-loop (λ c. omega (arith, c .before .pre .2)) loop-holds
     (λ c κs. let k = c .before .before in (s k .pre .0, k .loop-test .taken, s k .pre .1, k .before .loop .inv .1))
-    (λ c. let k = c .before .before .before in omega (arith, k .loop-test .taken, s k .pre .0 .nodes-few)) (λ c. let k = c .before .before .before in omega (arith, k .loop-test .taken))
+    (λ c. let k = c .before .before .before in omega (arith, k .loop-test .taken, s k .pre .0 .nodes-few))
+    (λ c. let k = c .before .before .before in omega (arith, k .loop-test .taken))
     (λ c. let k = c .before .before .before in (omega (arith, k .loop-test .taken), c .lay-node .ensures)) returns)

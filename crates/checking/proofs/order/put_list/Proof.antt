@@ -1,16 +1,13 @@
--- `checking::order::put_list` meets its contract: the first numbers stand in their places, the rest of the list is still to come, and every other
+-- `checking::order::put_list` meets its contract: the first numbers stand in their places, the rest of the list is still to come, and
+-- every other
 -- place is as it was.
-use mathlib.Core.Path.{_≡_, refl, sym, ap, subst, _∙_}
-use mathlib.Core.Logic.{_⊎_, inl, inr}
+use mathlib.Core.Path.{_≡_, sym, subst, _∙_}
 use mathlib.Core.List.{List, _∷_}
 use Prim.Native.Nat.{ℕ, _+_, _-_, _≤_, _<_}
 use native.Mathlib.Omega.{arith}
-use lib.ListN.{length, getD, set, drop, length-set}
-use lib.Seq.{getD-set-same, getD-set-other}
+use lib.ListN.{length, set, length-set}
 use Rattle.tables.specs.Walk.{numbersOf, behindOf}
 use Rattle.tables.proofs.Listed.{metFrom, met-start, met-more, met-end, behind-rises}
-use Rattle.checking.specs.Laid.{PutFrom}
-use Rattle.checking.proofs.Steps.{NextIs, next-is}
 use Rattle.checking.proofs.Put.{Putting, put-none, put-more, put-all}
 use Rattle.checking.proofs.order.put_list.Statement.{statement}
 use Rattle.checking.proofs.order.put_list.Tie as tie
@@ -46,7 +43,8 @@ module _ (c : tie.In-loop Inv-loop μ-loop) where
   abbrev next : List ℕ
   next = metFrom (s .args .links .now) (s .args .k) (behindOf (s .args .links .now) (s .args .k) (c .before .loop .t))
 
-  putting : Putting (s .args .order .now) (c .before .loop .order) (s .args .at) (numbersOf (s .args .links .now) (s .args .k) (s .args .head))
+  putting : Putting (s .args .order .now) (c .before .loop .order) (s .args .at)
+      (numbersOf (s .args .links .now) (s .args .k) (s .args .head))
       (c .before .loop .place) (c .before .loop .t ∷ next)
   putting =
       subst (λ (l : List ℕ). Putting (s .args .order .now) (c .before .loop .order) (s .args .at)
@@ -82,4 +80,5 @@ put-list-spec =
     tie.close
     (tie.spec
     Inv-loop μ-loop loop-holds (λ c. omega (arith, s c .pre .1)) (λ c. let h = room c in omega arith) (λ c. let h = room c in omega arith)
-    (λ c. let h = room c in omega arith) (λ c κs. omega (arith, s c .pre .2)) (λ c. let h = further c in omega (arith, h)) loop-again returns)
+    (λ c. let h = room c in omega arith) (λ c κs. omega (arith, s c .pre .2))
+    (λ c. let h = further c in omega (arith, h)) loop-again returns)

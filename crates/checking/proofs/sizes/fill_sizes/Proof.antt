@@ -1,9 +1,8 @@
 -- `checking::sizes::fill_sizes` meets its contract: from the last node down, each has its size.
-use mathlib.Core.Path.{_≡_, sym, ap, subst, _∙_}
-use mathlib.Core.List.{List}
+use mathlib.Core.Path.{_≡_, sym, subst}
 use Prim.Native.Nat.{ℕ, _+_, _-_, _≤_, _<_}
 use native.Mathlib.Omega.{arith}
-use lib.ListN.{length, getD, set, length-set}
+use lib.ListN.{length, set}
 use Rattle.dstree.specs.Node.{Tree}
 use Rattle.dstree.specs.Checking.{tracesBelow}
 use Rattle.dstree.proofs.BelowOnce.{few-below}
@@ -23,7 +22,8 @@ loop-holds : tie.Need-loop-holds Inv-loop μ-loop
 loop-holds c =
     let s = c .before in (
       omega arith,
-      sized-none (treeBy (s .args .nodes .now) (s .args .links .now) (s .args .k) (s .args .m)) (s .args .sizes .now) (s .args .m) (s .pre .1)
+      sized-none (treeBy (s .args .nodes .now) (s .args .links .now) (s .args .k) (s .args .m)) (s .args .sizes .now) (s .args .m)
+          (s .pre .1)
           (omega (arith, size-is (s .pre .0))),
     )
 
@@ -53,7 +53,8 @@ loop-again c =
     let l = k .before .loop in (
       omega (arith, l .inv .0),
       subst (λ (x : ℕ). Sized (tree k) (set (l .sizes) (j k) x) (j k)) (sym (c .node-size .ensures))
-          (sized-more (tree k) (l .sizes) (j k) (omega (arith, low k, l .inv .1 .places)) (subst (Sized (tree k) (l .sizes)) (sym (again k)) (l .inv .1))),
+          (sized-more (tree k) (l .sizes) (j k) (omega (arith, low k, l .inv .1 .places))
+          (subst (Sized (tree k) (l .sizes)) (sym (again k)) (l .inv .1))),
     )
 
 returns : tie.Need-returns Inv-loop μ-loop
@@ -73,6 +74,8 @@ fill-sizes-spec =
       omega (arith, k .before .loop .inv .0, k .loop-test .taken),
       subst (Sized (tree k) (k .before .loop .sizes)) (sym (again k)) (k .before .loop .inv .1),
     ))
-    (λ c. let k = c .before .before in omega (arith, c .node-size .ensures, few k)) (λ c. let k = c .before .before in omega (arith, low k))
-    (λ c. let k = c .before .before in omega (arith, low k, k .before .loop .inv .1 .places)) (λ c. let k = c .before .before in omega (arith, k .loop-test .taken))
+    (λ c. let k = c .before .before in omega (arith, c .node-size .ensures, few k))
+    (λ c. let k = c .before .before in omega (arith, low k))
+    (λ c. let k = c .before .before in omega (arith, low k, k .before .loop .inv .1 .places))
+    (λ c. let k = c .before .before in omega (arith, k .loop-test .taken))
     loop-again returns)

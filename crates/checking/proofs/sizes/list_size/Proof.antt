@@ -1,4 +1,5 @@
--- `checking::sizes::list_size` meets its contract: what is counted and the numbers that are still to come make the list's length. The links rise.
+-- `checking::sizes::list_size` meets its contract: what is counted and the numbers that are still to come make the list's length. The
+-- links rise.
 use mathlib.Core.Path.{_≡_, ap}
 use Prim.Native.Nat.{ℕ, _+_, _-_, _≤_, _<_}
 use native.Mathlib.Omega.{arith}
@@ -17,8 +18,15 @@ abbrev μ-loop : tie.MeasureT-loop
 
 loop-holds : tie.Need-loop-holds Inv-loop μ-loop
 loop-holds c =
-    let s = c .before in
-    (omega (arith, s .pre .0), omega arith, omega (arith, ap length (met-start (s .args .links .now) (s .args .k) (s .args .head) (s .pre .0))))
+    let s = c .before in (
+      omega (arith, s .pre .0),
+      omega arith,
+      omega (
+        arith,
+        ap length
+            (met-start (s .args .links .now) (s .args .k) (s .args .head) (s .pre .0)),
+      ),
+    )
 
 -- how far the walk goes on
 further : (c : tie.After-behind Inv-loop μ-loop)

@@ -78,9 +78,11 @@ module _ (c : tie.After-node-small3) where
 
   -- what the array has for a child
   size-of : (x y : ℕ) → x ≡ y → j s < y → y < s .args .m → getD (s .args .sizes .now) x 0 ≡ length (tracesBelow (tree s) y)
-  size-of x y e h g = ap (λ (z : ℕ). getD (s .args .sizes .now) z 0) e ∙ s .pre .2 .sized y (omega arith) (omega (arith, size-is (s .pre .0)))
+  size-of x y e h g = ap (λ (z : ℕ). getD (s .args .sizes .now) z 0) e ∙ s .pre .2 .sized y (omega arith)
+      (omega (arith, size-is (s .pre .0)))
 
-  both : length (tracesBelow (tree s) (j s)) ≡ length (tracesBelow (tree s) (smallAt (r s) firstPlace)) + length (tracesBelow (tree s) (smallAt (r s) rightPlace))
+  both : length (tracesBelow (tree s) (j s)) ≡ length (tracesBelow (tree s) (smallAt (r s) firstPlace)) + length
+      (tracesBelow (tree s) (smallAt (r s) rightPlace))
   both = ap length (inner-below (s .pre .0) (j s) (s .pre .1) inner-kind)
       ∙ length-append (tracesBelow (tree s) (smallAt (r s) firstPlace)) (tracesBelow (tree s) (smallAt (r s) rightPlace))
 
@@ -102,9 +104,11 @@ pub node-size-spec : {M : Type 1} → statement M
 node-size-spec =
     tie.close
     (tie.spec
-    (λ c κs. let h = room (c .before) in (h .0, h .1, omega arith)) (λ c κs. let h = room (c .before .before) in (h .0, h .1, omega arith))
+    (λ c κs. let h = room (c .before) in (h .0, h .1, omega arith))
+    (λ c κs. let h = room (c .before .before) in (h .0, h .1, omega arith))
     list-size-requires returns (λ c κs. let h = room (c .before .before .before .before) in (h .0, h .1, omega arith))
-    (λ c. omega (arith, left-is c, left-in c .1, s c .pre .0 .nodes-few)) (λ c. omega (arith, left-is c, left-in c .1, s c .pre .0 .nodes-few, s c .pre .2 .places))
+    (λ c. omega (arith, left-is c, left-in c .1, s c .pre .0 .nodes-few))
+    (λ c. omega (arith, left-is c, left-in c .1, s c .pre .0 .nodes-few, s c .pre .2 .places))
     (λ c κs. search needs)
     (λ c. let k = c .before .before in omega (arith, right-is k, right-in k .1, s k .pre .0 .nodes-few))
     (λ c. let k = c .before .before in omega (arith, right-is k, right-in k .1, s k .pre .0 .nodes-few, s k .pre .2 .places))

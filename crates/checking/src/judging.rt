@@ -1,0 +1,33 @@
+// What the check refuses: what every call on made tables does, then a loose record (13).
+
+use tables::Refusal;
+use tables::Verdict;
+use well_formed::judging::judge_tables;
+ghost use mathlib.Core.Path.{_≡_};
+ghost use Rattle.dstree.specs.Refusals.{firstOf};
+ghost use Rattle.tables.specs.Tables.{tables};
+ghost use Rattle.tables.specs.Answers.{foundBy};
+ghost use Rattle.calls.specs.Effects.{checks};
+
+pub fn judge(
+    control: &[u16],
+    samples: &[i16],
+    nodes: &[i64],
+    links: &[u16],
+    work: &[u64],
+) -> Verdict
+    ensures { λ r. ⌜ foundBy r ≡ firstOf (checks
+        (tables (now (control .entry)) (now (samples .entry)) (now (nodes .entry)) (now (links .entry))
+        (now (work .entry))) .conditions) ⌝ }
+{
+    let made = judge_tables(control, samples, nodes, links, work);
+    match made {
+        Verdict::Refused(why) => Verdict::Refused(why),
+        Verdict::Fine => {
+            if !crate::is_exact(control, samples, nodes, links) {
+                return Verdict::Refused(Refusal::LooseRecord);
+            }
+            Verdict::Fine
+        }
+    }
+}

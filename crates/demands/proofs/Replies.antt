@@ -16,7 +16,7 @@ use Rattle.dstree.specs.KNearest.{KNearest, listPlaces, kNearestBySteps}
 use Rattle.dstree.specs.Refusals as word
 use Rattle.dstree.specs.Refusals.{firstOf}
 use Rattle.dstree.specs.Sheet.{blockSize, blocksNeeded, sheetOf}
-use Rattle.dstree.specs.Book.{Ask, opening, adding, matching, writing, reading, listing, importing, exporting, Call}
+use Rattle.dstree.specs.Book.{Ask, opening, adding, matching, writing, reading, listing, importing, exporting, checking, Call}
 use Rattle.dstree.specs.Book.{besideOf, Answer, answering, imported, reply, over}
 use Rattle.dstree.specs.Recording.{recordingSize, recordingOf, judgeRecording, fileTraces}
 use Rattle.dstree.proofs.RoundTrips.{sheet-length}
@@ -32,7 +32,7 @@ use Rattle.tables.proofs.Parts.{trace-length}
 use Rattle.insertion_memory.specs.Memory.{addedTo}
 use Rattle.insertion_memory.proofs.Made.{count-is}
 use Rattle.calls.specs.Outcome.{Outcome, outcome, unlessRefused}
-use Rattle.calls.specs.Effects.{opens, adds, resultOf, trailOf, isNone, cleared, matches, writes, reads, lists, imports, exports}
+use Rattle.calls.specs.Effects.{opens, adds, resultOf, trailOf, isNone, cleared, matches, writes, reads, lists, imports, exports, checks}
 use Rattle.calls.specs.Effects.{effectOf, outcomeOn}
 use Rattle.calls.specs.Follows.{Typed}
 use Rattle.calls.proofs.Finds.{found, last-never}
@@ -62,7 +62,11 @@ use Rattle.exporting.specs.declared.Exported.{Exported}
 use Rattle.exporting.specs.declared.Exported.the-variants as x
 use Rattle.exporting.specs.Answered as exporting-answer
 use Rattle.exporting.proofs.Exportable.{Exportable, exportable}
+use Rattle.checking.specs.declared.Checked.{Checked}
+use Rattle.checking.specs.declared.Checked.the-variants as k
+use Rattle.checking.specs.Answered as checking-answer
 use Rattle.demands.specs.Did.{WithTables, Made, by-open, by-add, by-nearest, by-write, by-read, by-list, by-import, by-export}
+use Rattle.demands.specs.Did.{by-check}
 use Rattle.demands.specs.Theorem.{Replied}
 
 -- ---- slices
@@ -90,6 +94,7 @@ caseOf (word.tornBlock block) = r.TornBlock block
 caseOf word.badSheet = r.BadSheet
 caseOf word.badK = r.BadK
 caseOf word.badRecording = r.BadRecording
+caseOf word.looseRecord = r.LooseRecord
 
 case-word : (why : word.Refusal) → wordOf (caseOf why) ≡ why
 unfolding wordOf
@@ -105,6 +110,7 @@ case-word (word.tornBlock block) = refl
 case-word word.badSheet = refl
 case-word word.badK = refl
 case-word word.badRecording = refl
+case-word word.looseRecord = refl
 
 -- a result, and what is left beside the tables, with which code says an outcome
 record Said {R Beside : Type 0} (outcomeBy : R → Beside → Outcome) (o : Outcome) : Type 0 where
@@ -247,6 +253,12 @@ exporting-said t number rate buffer none q = record {
       trace-length (t .samples) (measuresOf t .n) number (ok .inside),
     )
 
+checking-said : (t : Tables) (o : Option word.Refusal) → let e = unlessRefused o t [] (checks t) in
+    Said (λ (r : Checked) (l : List ℕ). outcome (checking-answer.answerBy r) t []) e
+unfolding unlessRefused checks checking-answer.answerBy
+checking-said t (some why) = record { result = k.Refused (caseOf why); beside = []; is = rw (case-word why) }
+checking-said t none = record { result = k.Accepted; beside = []; is = refl }
+
 -- ---- any call
 
 -- lifetimes, whichever
@@ -386,6 +398,20 @@ module _ (c : Call) (memory : Tables) (places : lentOf (firstPlaces (c .lent) me
           result = s .result;
           claim = s .is;
           made = in-place _ t (s .beside ∷ []) asked typed;
+        });
+      }
+  by-ask checking asked typed =
+      let s = checking-said t (firstOf (checks t .conditions)) in
+      record {
+        said = reply (checking-answer.answerBy (s .result)) [];
+        memory′ = left t memory;
+        did = by-check (record {
+          κs = lifetimes 5;
+          args = slices t tt;
+          exits = slices t tt;
+          result = s .result;
+          claim = s .is;
+          made = in-place _ t [] asked typed;
         });
       }
 

@@ -7,6 +7,7 @@ use Rattle.sheet_writing.proofs.write_sheet.Met as write-met
 use Rattle.sheet_reading.proofs.read_sheet.Met as read-met
 use Rattle.importing.proofs.import_recording.Met as import-met
 use Rattle.exporting.proofs.export_recording.Met as export-met
+use Rattle.checking.proofs.check_tables.Met as check-met
 use Rattle.calls.proofs.Demands.{demands}
 use Rattle.demands.specs.Theorem.{Theorem}
 use Rattle.demands.proofs.Follows.{follows}
@@ -22,6 +23,7 @@ theorem = record {
   list-meets = list-met.met;
   import-meets = import-met.met;
   export-meets = export-met.met;
+  check-meets = check-met.met;
   follows = follows;
   replies = replies;
   demands = demands;

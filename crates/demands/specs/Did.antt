@@ -8,7 +8,7 @@ use denote.Triple.Clauses.{AtExit}
 use borrow.Fn.Kinds.{Dens, endedOf}
 use contract.Lifetimes.{Lfts}
 use Rattle.dstree.specs.Measures.{measures}
-use Rattle.dstree.specs.Book.{Ask, opening, adding, matching, writing, reading, listing, importing, exporting, Call, Answer}
+use Rattle.dstree.specs.Book.{Ask, opening, adding, matching, writing, reading, listing, importing, exporting, checking, Call, Answer}
 use Rattle.dstree.specs.Book.{Reply, reply}
 use Rattle.tables.specs.Tables.{Tables, tables, lentOf}
 use Rattle.tables.specs.Beginning.{firstPlaces, left}
@@ -45,6 +45,10 @@ use Rattle.exporting.specs.declared.Exported.{Exported}
 use Rattle.exporting.specs.Answered as exporting-answer
 use Rattle.exporting.proofs.export_recording.Kinds as export-kinds
 use Rattle.exporting.proofs.export_recording.Reads as export-reads
+use Rattle.checking.specs.declared.Checked.{Checked}
+use Rattle.checking.specs.Answered as checking-answer
+use Rattle.checking.proofs.check_tables.Kinds as check-kinds
+use Rattle.checking.proofs.check_tables.Reads as check-reads
 
 -- ---- slices
 
@@ -177,6 +181,15 @@ pub record Exports (c : Call) (memory : Tables) (said : Reply) (memory′ : Tabl
       Made (exporting (own args .1 .0) (own args .1 .1 .0) (now (own args .0))) (tablesOf args)
       (exporting-answer.answerBy result buffer) (tablesOf args) (buffer ∷ []) c memory said memory′
 
+-- a check is lent all tables to read, and leaves them
+pub record Checks (c : Call) (memory : Tables) (said : Reply) (memory′ : Tables) : Type 0 where
+  pub κs : Lfts 5
+  pub args : Dens κs check-kinds.ps
+  pub exits : AtExit (endedOf 5 check-kinds.ps check-kinds.r) κs
+  pub result : Checked
+  pub claim : check-reads.Learnt κs args result exits
+  pub made : Made checking (tablesOf args) (checking-answer.answerBy result) (tablesOf args) [] c memory said memory′
+
 -- a call on a memory, what it answered, and the memory after it
 pub data Did (c : Call) (memory : Tables) (said : Reply) (memory′ : Tables) : Type 0 where
   by-open : Opens c memory said memory′ → Did c memory said memory′
@@ -187,3 +200,4 @@ pub data Did (c : Call) (memory : Tables) (said : Reply) (memory′ : Tables) : 
   by-list : Lists c memory said memory′ → Did c memory said memory′
   by-import : Imports c memory said memory′ → Did c memory said memory′
   by-export : Exports c memory said memory′ → Did c memory said memory′
+  by-check : Checks c memory said memory′ → Did c memory said memory′

@@ -12,6 +12,7 @@ use Rattle.sheet_writing.proofs.write_sheet.Statement as write-statement
 use Rattle.sheet_reading.proofs.read_sheet.Statement as read-statement
 use Rattle.importing.proofs.import_recording.Statement as import-statement
 use Rattle.exporting.proofs.export_recording.Statement as export-statement
+use Rattle.checking.proofs.check_tables.Statement as check-statement
 use Rattle.calls.specs.Follows.{Typed, Follows}
 use Rattle.calls.specs.Demands.{Demands}
 use Rattle.demands.specs.Did.{Did}
@@ -31,6 +32,7 @@ pub record Theorem : Type 2 where
   pub list-meets : {M : Type 1} → list-statement.statement M
   pub import-meets : {M : Type 1} → import-statement.statement M
   pub export-meets : {M : Type 1} → export-statement.statement M
+  pub check-meets : {M : Type 1} → check-statement.statement M
   -- demand 1: the reply and the memory after are those that the definition makes of the call and the memory before
   pub follows : (c : Call) (memory memory′ : Tables) (said : Reply) → Did c memory said memory′ → Follows c memory said memory′
   -- every call that its types allow has a reply and a memory after it, on every memory that has the places that it is lent

@@ -20,7 +20,7 @@ use Rattle.replay.specs.declared.Cursor.{Cursor}
 use Rattle.replay.specs.declared.Wanted.{Wanted}
 use Rattle.replay.specs.Numbers.{replyRow}
 use Rattle.replay.specs.Script.{ownNumber, cursor, Taken, taken, sizeOf, Kind, openings, addings, matchings, writings, readings}
-use Rattle.replay.specs.Script.{listings, importings, exportings, kinds, kindAt}
+use Rattle.replay.specs.Script.{listings, importings, exportings, checkings, kinds, kindAt}
 use Rattle.replay.specs.Script.{takesOf, wantedBy, takenBy, leftBy, Called, called, calledBy, Plays}
 
 -- ---- what nothing is taken of is empty
@@ -115,11 +115,19 @@ of-exportings = record {
   typed = λ row x t s b u. tt;
 }
 
+of-checkings : KindLaws checkings
+unfolding takenBy Typed
+of-checkings = record {
+  takes-all = λ row x e. taken-same (sym (no-samples x e refl)) (sym (no-trail x e refl)) (sym (no-sheet x e refl)) (sym (no-list x e
+      refl));
+  typed = λ row x t s b u. u;
+}
+
 of-kinds : All KindLaws kinds
 of-kinds =
     all-more of-openings
     (all-more of-addings (all-more of-matchings (all-more of-writings (all-more of-readings (all-more of-listings
-    (all-more of-importings (all-more of-exportings all-none)))))))
+    (all-more of-importings (all-more of-exportings (all-more of-checkings all-none))))))))
 
 of-some : {P : Kind → Type 0} (among : List Kind) → All P among → (number : ℕ) (k : Kind) → kindAt among number ≡ some k → P k
 unfolding kindAt
@@ -149,24 +157,26 @@ no-change (suc (suc (suc (suc zero)))) k f g h i e b = h refl
 no-change (suc (suc (suc (suc (suc zero))))) k f g h i e b = true-false (sym b ∙ kind-is listings k e)
 no-change (suc (suc (suc (suc (suc (suc zero)))))) k f g h i e b = i refl
 no-change (suc (suc (suc (suc (suc (suc (suc zero))))))) k f g h i e b = true-false (sym b ∙ kind-is exportings k e)
-no-change (suc (suc (suc (suc (suc (suc (suc (suc n)))))))) k f g h i e b = absurd (Option·none-ne-some k e)
+no-change (suc (suc (suc (suc (suc (suc (suc (suc zero)))))))) k f g h i e b = true-false (sym b ∙ kind-is checkings k e)
+no-change (suc (suc (suc (suc (suc (suc (suc (suc (suc n))))))))) k f g h i e b = absurd (Option·none-ne-some k e)
 
-pub changes-if : (number : ℕ) (k : Kind) → (number ≡ 2 → ⊥) → (number ≡ 3 → ⊥) → (number ≡ 5 → ⊥) → (number ≡ 7 → ⊥)
+pub changes-if : (number : ℕ) (k : Kind) → (number ≡ 2 → ⊥) → (number ≡ 3 → ⊥) → (number ≡ 5 → ⊥) → (number ≡ 7 → ⊥) → (number ≡ 8 → ⊥)
     → kindAt kinds number ≡ some k → k .changes ≡ true
 unfolding kindAt
-changes-if zero k f g h i e = kind-is openings k e
-changes-if (suc zero) k f g h i e = kind-is addings k e
-changes-if (suc (suc zero)) k f g h i e = absurd (f refl)
-changes-if (suc (suc (suc zero))) k f g h i e = absurd (g refl)
-changes-if (suc (suc (suc (suc zero)))) k f g h i e = kind-is readings k e
-changes-if (suc (suc (suc (suc (suc zero))))) k f g h i e = absurd (h refl)
-changes-if (suc (suc (suc (suc (suc (suc zero)))))) k f g h i e = kind-is importings k e
-changes-if (suc (suc (suc (suc (suc (suc (suc zero))))))) k f g h i e = absurd (i refl)
-changes-if (suc (suc (suc (suc (suc (suc (suc (suc n)))))))) k f g h i e = absurd (Option·none-ne-some k e)
+changes-if zero k f g h i j e = kind-is openings k e
+changes-if (suc zero) k f g h i j e = kind-is addings k e
+changes-if (suc (suc zero)) k f g h i j e = absurd (f refl)
+changes-if (suc (suc (suc zero))) k f g h i j e = absurd (g refl)
+changes-if (suc (suc (suc (suc zero)))) k f g h i j e = kind-is readings k e
+changes-if (suc (suc (suc (suc (suc zero))))) k f g h i j e = absurd (h refl)
+changes-if (suc (suc (suc (suc (suc (suc zero)))))) k f g h i j e = kind-is importings k e
+changes-if (suc (suc (suc (suc (suc (suc (suc zero))))))) k f g h i j e = absurd (i refl)
+changes-if (suc (suc (suc (suc (suc (suc (suc (suc zero)))))))) k f g h i j e = absurd (j refl)
+changes-if (suc (suc (suc (suc (suc (suc (suc (suc (suc n))))))))) k f g h i j e = absurd (Option·none-ne-some k e)
 
-no-ask : (number : ℕ) (k : Kind) → (number ≡ 2 → ⊥) → (number ≡ 3 → ⊥) → (number ≡ 5 → ⊥) → (number ≡ 7 → ⊥)
+no-ask : (number : ℕ) (k : Kind) → (number ≡ 2 → ⊥) → (number ≡ 3 → ⊥) → (number ≡ 5 → ⊥) → (number ≡ 7 → ⊥) → (number ≡ 8 → ⊥)
     → kindAt kinds number ≡ some k → k .changes ≡ false → ⊥
-no-ask number k f g h i e b = true-false (sym (changes-if number k f g h i e) ∙ b)
+no-ask number k f g h i j e b = true-false (sym (changes-if number k f g h i j e) ∙ b)
 
 -- the kind with a number
 pub changes-not : (number : ℕ) (k₀ k : Kind) → kindAt kinds number ≡ some k₀ → kindAt kinds number ≡ some k → k .changes ≡ k₀ .changes
@@ -183,8 +193,9 @@ module _ (number : ℕ) (row : List ℕ) (x : Taken) (t : Tables) (c : Called) w
   pub no-other-change : (number ≡ 0 → ⊥) → (number ≡ 1 → ⊥) → (number ≡ 4 → ⊥) → (number ≡ 6 → ⊥) → Plays true number row x t c
   no-other-change f g h i k e b s = absurd (no-change number k f g h i e b)
 
-  pub no-other-ask : (number ≡ 2 → ⊥) → (number ≡ 3 → ⊥) → (number ≡ 5 → ⊥) → (number ≡ 7 → ⊥) → Plays false number row x t c
-  no-other-ask f g h i k e b s = absurd (no-ask number k f g h i e b)
+  pub no-other-ask : (number ≡ 2 → ⊥) → (number ≡ 3 → ⊥) → (number ≡ 5 → ⊥) → (number ≡ 7 → ⊥) → (number ≡ 8 → ⊥)
+      → Plays false number row x t c
+  no-other-ask f g h i j k e b s = absurd (no-ask number k f g h i j e b)
 
 -- ---- the number of a kind
 
@@ -221,6 +232,10 @@ module _ {number : ℕ} where
   unfolding kindAt
   is-exportings e = ap (kindAt kinds) e
 
+  pub is-checkings : number ≡ 8 → kindAt kinds number ≡ some checkings
+  unfolding kindAt
+  is-checkings e = ap (kindAt kinds) e
+
 pub wanted-is : (r : Wanted) (row : List ℕ) (number : ℕ) (k : Kind) (size : Cursor) → r ≡ record { known = true; size = size }
     → kindAt kinds number ≡ some k → size ≡ k .takes row
     → wantedBy r ≡ takesOf (kindAt kinds number) row
@@ -248,7 +263,7 @@ pub wanted-bytes : (r : Wanted) (row : List ℕ) (number first : ℕ) → r ≡ 
 wanted-bytes r row number first e o f g h i l =
     ap (λ (r : Wanted). wantedBy r) e ∙ (ap (λ (x : ℕ). some (cursor 0 0 x 0)) o ∙ bytes-alone row number f g h i l)
 
-pub wanted-not : (row : List ℕ) (number : ℕ) → 8 ≤ number → none ≡ takesOf (kindAt kinds number) row
+pub wanted-not : (row : List ℕ) (number : ℕ) → 9 ≤ number → none ≡ takesOf (kindAt kinds number) row
 unfolding takesOf kindAt
 wanted-not row zero l = absurd (omega arith)
 wanted-not row (suc zero) l = absurd (omega arith)
@@ -258,7 +273,8 @@ wanted-not row (suc (suc (suc (suc zero)))) l = absurd (omega arith)
 wanted-not row (suc (suc (suc (suc (suc zero))))) l = absurd (omega arith)
 wanted-not row (suc (suc (suc (suc (suc (suc zero)))))) l = absurd (omega arith)
 wanted-not row (suc (suc (suc (suc (suc (suc (suc zero))))))) l = absurd (omega arith)
-wanted-not row (suc (suc (suc (suc (suc (suc (suc (suc n)))))))) l = refl
+wanted-not row (suc (suc (suc (suc (suc (suc (suc (suc zero)))))))) l = absurd (omega arith)
+wanted-not row (suc (suc (suc (suc (suc (suc (suc (suc (suc n))))))))) l = refl
 
 -- ---- a call follows its definition
 
@@ -327,3 +343,9 @@ module _ (row : List ℕ) (x : Taken) (t t′ : Tables) (told : List ℕ) where
   unfolding leftBy
   exports-it buffer a b c e =
       called-is (exportings .ask row x) t t′ told (taken (x .samples) (x .trail) buffer (x .list)) a b (bytes-only x e (one buffer _ c))
+
+  pub checks-it : told ≡ replyRow (outcomeOn (checkings .ask row x) t .answer) → t′ ≡ outcomeOn (checkings .ask row x) t .after
+      → sizeOf x ≡ checkings .takes row → called told t′ x ≡ calledBy (checkings .ask row x) t
+  unfolding leftBy
+  checks-it a b e = called-is (checkings .ask row x) t t′ told x a b (taken-same (no-samples x e refl) (no-trail x e refl) (no-sheet x e
+      refl) (no-list x e refl))

@@ -223,9 +223,12 @@ same-lengths t s c p n l w = rw (c, p, n, l, w)
 
 -- ---- the demands
 
--- calls that ran are as document 01 demands, from the first that succeeded on
-pub demanded : (calls : List Call) (said : List Reply) {memory memory′ : Tables} → Ran memory calls said memory′ → Demanded calls said
-    memory′
+-- calls that ran are as document 01 demands, from the first that succeeded on, and as document 02 claims, from a check on that accepted
+pub demanded : (calls : List Call) (said : List Reply) {memory memory′ : Tables} → Ran memory calls said memory′
+    → Demanded memory calls said memory′
 unfolding Demanded
 demanded [] said ran = tt
-demanded (first ∷ calls) (said₀ ∷ said) {memory} {memory′} ran = λ e. demands .after-list first calls memory memory′ said₀ said ran e
+demanded (first ∷ calls) (said₀ ∷ said) {memory} {memory′} ran = (
+  λ e. demands .after-list first calls memory memory′ said₀ said ran e,
+  λ e. demands .after-check first calls memory memory′ said₀ said ran e,
+)

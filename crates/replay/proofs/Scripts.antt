@@ -17,11 +17,12 @@ use Rattle.integer.proofs.Tests.{passes, test-true}
 use Rattle.integer.specs.Lists.{All, all-none, all-more}
 use Rattle.integer.proofs.Lists.{all-append, every-all, all-every}
 use Rattle.dstree.specs.Sheet.{areBytes}
-use Rattle.dstree.specs.Book.{Lent, Ask, opening, adding, matching, writing, reading, listing, importing, exporting, Call, call}
+use Rattle.dstree.specs.Book.{Lent, Ask, opening, adding, matching, writing, reading, listing, importing, exporting, checking, Call}
+use Rattle.dstree.specs.Book.{call}
 use Rattle.tables.specs.Tables.{Tables, lentOf}
 use Rattle.tables.specs.Beginning.{Within}
 use Rattle.replay.specs.Script.{State, lentBy, Taken, sizeOf, nextOf, aheadOf, Kind, openings, addings, matchings, writings}
-use Rattle.replay.specs.Script.{readings, listings, importings, exportings, kinds, kindAt}
+use Rattle.replay.specs.Script.{readings, listings, importings, exportings, checkings, kinds, kindAt}
 use Rattle.replay.specs.Script.{fitsIn, enough, ifEnough, playable, askedBy, asks, takenBy, stateAfter, made, Played, begun}
 use Rattle.replay.specs.Script.{playedOne, playedRow}
 use Rattle.replay.specs.declared.Cursor.{Cursor}
@@ -170,6 +171,21 @@ rowFor (exporting number rate buffer) = record {
   samples-fit = λ s. all-none;
   marks-fit = λ s. all-none;
   bytes-fit = λ s. every-all isByte buffer (s .2);
+  list-fits = λ s. all-none;
+}
+rowFor checking = record {
+  number = 8;
+  own = [];
+  kind = checkings;
+  is-kind = refl;
+  takes-that = λ lent. refl;
+  asks-that = λ lent. refl;
+  short = lit< tt;
+  numbers-fit = λ s. all-none;
+  number-fits = lit< tt;
+  samples-fit = λ s. all-none;
+  marks-fit = λ s. all-none;
+  bytes-fit = λ s. all-none;
   list-fits = λ s. all-none;
 }
 

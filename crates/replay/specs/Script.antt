@@ -10,8 +10,8 @@ use lib.ListN.{length, getD, take, drop}
 use lib.Dec.{leb}
 use Rattle.integer.specs.Words.{if_then_else_}
 use Rattle.dstree.specs.Measures.{measures}
-use Rattle.dstree.specs.Book.{Lent, Ask, opening, adding, matching, writing, reading, listing, importing, exporting, Call, call, Answer}
-use Rattle.dstree.specs.Book.{Reply, reply}
+use Rattle.dstree.specs.Book.{Lent, Ask, opening, adding, matching, writing, reading, listing, importing, exporting, checking, Call, call}
+use Rattle.dstree.specs.Book.{Answer, Reply, reply}
 use Rattle.tables.specs.Tables.{Tables, lentOf}
 use Rattle.calls.specs.Effects.{outcomeOn}
 use Rattle.calls.specs.Follows.{outcomeIn}
@@ -189,9 +189,13 @@ exportings = record {
   ask = λ row x. exporting (ownNumber row 1) (ownNumber row 2) (x .sheet);
 }
 
+-- a check
+abbrev pub checkings : Kind
+checkings = record { changes = false; takes = λ row. cursor 0 0 0 0; ask = λ row x. checking }
+
 -- a row's first number is its kind's place here
 abbrev pub kinds : List Kind
-kinds = openings ∷ addings ∷ matchings ∷ writings ∷ readings ∷ listings ∷ importings ∷ exportings ∷ []
+kinds = openings ∷ addings ∷ matchings ∷ writings ∷ readings ∷ listings ∷ importings ∷ exportings ∷ checkings ∷ []
 
 unfoldable pub kindAt : List Kind → ℕ → Option Kind
 kindAt [] n = none
@@ -268,6 +272,7 @@ takenBy (reading bytes) = taken [] [] bytes []
 takenBy (listing k query trail list) = taken query trail [] list
 takenBy (importing bytes) = taken [] [] bytes []
 takenBy (exporting number rate buffer) = taken [] [] buffer []
+takenBy checking = taken [] [] [] []
 
 -- .. and how it leaves that, by what it leaves beside the tables
 unfoldable pub leftBy : Ask → List (List ℕ) → Taken
@@ -279,6 +284,7 @@ leftBy (reading bytes) beside = taken [] [] bytes []
 leftBy (listing k query trail list) beside = taken query (getD beside 0 []) [] (getD beside 1 [])
 leftBy (importing bytes) beside = taken [] [] bytes []
 leftBy (exporting number rate buffer) beside = taken [] [] (getD beside 0 []) []
+leftBy checking beside = taken [] [] [] []
 
 -- the places that a call took are used, as it left them
 abbrev pub used : Supply → List ℕ → List ℕ → Supply

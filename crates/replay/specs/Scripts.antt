@@ -8,7 +8,7 @@ use lib.Dec.{T}
 use Rattle.integer.specs.Lists.{All}
 use Rattle.dstree.specs.Measures.{areSamples}
 use Rattle.dstree.specs.Sheet.{areBytes}
-use Rattle.dstree.specs.Book.{Lent, Ask, opening, adding, matching, writing, reading, listing, importing, exporting, Call}
+use Rattle.dstree.specs.Book.{Lent, Ask, opening, adding, matching, writing, reading, listing, importing, exporting, checking, Call}
 use Rattle.tables.specs.Tables.{Tables}
 use Rattle.tables.specs.Beginning.{Within}
 use Rattle.replay.specs.Script.{played}
@@ -32,6 +32,7 @@ Sized (listing k x trail list) =
     Word k × T (areSamples x) × Word (length x) × All Mark trail × Word (length trail) × All Word list × Word (length list)
 Sized (importing bytes) = T (areBytes bytes) × Word (length bytes)
 Sized (exporting number rate buffer) = Word number × Word rate × T (areBytes buffer) × Word (length buffer)
+Sized checking = Unit
 
 -- .. and no table is lent longer than it is
 pub record Possible (lengths : Lent) (c : Call) : Type 0 where

@@ -1,7 +1,9 @@
-// Rows whose calls change no table but search work: matches (2), writings (3), listings (5), exports (7). A kind is a reply and a branch.
+// Rows whose calls change no table but search work: matches (2), writings (3), listings (5), exports (7), checks (8). A kind is a reply and a
+// branch.
 
 use crate::replies::of_refusal;
 use crate::rows::number;
+use checking::Checked;
 use exporting::Exported;
 use listing::Listed;
 use matching::Found;
@@ -14,6 +16,7 @@ ghost use Rattle.matching.specs.Answered as found;
 ghost use Rattle.sheet_writing.specs.Answered as written;
 ghost use Rattle.listing.specs.Answered as listed;
 ghost use Rattle.exporting.specs.Answered as exported;
+ghost use Rattle.checking.specs.Answered as checked;
 ghost use Rattle.tables.specs.Tables.{tables};
 ghost use Rattle.replay.specs.Numbers.{replyRow};
 ghost use Rattle.replay.specs.Script.{taken, called, Plays};
@@ -55,6 +58,15 @@ fn of_exported(answer: Exported) -> [u64; 5]
     match answer {
         Exported::Bytes(size) => [0, size, 0, 0, 0],
         Exported::Refused(why) => of_refusal(why),
+    }
+}
+
+fn of_checked(answer: Checked) -> [u64; 5]
+    ensures { λ r. ⌜ r ≡ replyRow (checked.answerBy answer) ⌝ }
+{
+    match answer {
+        Checked::Accepted => [0; 5],
+        Checked::Refused(why) => of_refusal(why),
     }
 }
 
@@ -112,6 +124,9 @@ pub fn play(
             trace,
             rate,
         ));
+    }
+    if kind == 8 {
+        return of_checked(checking::check_tables(control, samples, nodes, links, work));
     }
     [0; 5]
 }

@@ -55,15 +55,15 @@ pub struct Turn {
 }
 
 // Every call of a script, in its order, on tables that hold anything. `script` has a row of numbers a call, each behind its length: which
-// call it is (0 opening, 1 adding, 2 match, 3 writing, 4 reading, 5 listing, 6 import, 7 export), the lengths of the five tables that it
-// is lent, and its own: an opening's measures; an adding's number of samples; a match's, then the places of its trail; the bytes of a
+// call it is (0 opening, 1 adding, 2 match, 3 writing, 4 reading, 5 listing, 6 import, 7 export, 8 check), the lengths of the five tables
+// that it is lent, and its own: an opening's measures; an adding's number of samples; a match's, then the places of its trail; the bytes of a
 // writing's or a reading's sheet, or of an import's recording; a listing's as a match's, then the places of its list and k; the bytes of an
-// export's buffer, then a trace's number and a rate. `pool` has the samples of traces and queries, one behind another, `trails` the trails
+// export's buffer, then a trace's number and a rate; a check has none. `pool` has the samples of traces and queries, one behind another, `trails` the trails
 // of matches and listings, `sheets` the sheets of writings and readings, with the recordings and buffers among them, `lists` the lists of
 // listings likewise. Each reply goes into five places of `replies`.
 //
-// What holds after the calls is document 01's demands over lists of calls. Two wrong programs that the contract rules out: one that leaves out an adding, and
-// one that lends a call a table one place shorter than it asks for.
+// What holds after the calls is document 01's demands over lists of calls, and document 02's claims from a check on that accepted. Two wrong
+// programs that the contract rules out: one that leaves out an adding, and one that lends a call a table one place shorter than it asks for.
 pub fn play(
     control: &mut [u16],
     samples: &mut [i16],
@@ -95,6 +95,7 @@ pub fn play(
         (now (script .entry)) (now (pool .entry)) (now (trails .entry)) (now (sheets .entry)) (now (lists .entry)) .said)) 0
         (now (replies .entry))) ⌝ }
     ensures demanded { λ _. ⌜ Demanded
+        (tables (now (control .entry)) (now (samples .entry)) (now (nodes .entry)) (now (links .entry)) (now (work .entry)))
         (played
         (tables (now (control .entry)) (now (samples .entry)) (now (nodes .entry)) (now (links .entry)) (now (work .entry)))
         (now (script .entry)) (now (pool .entry)) (now (trails .entry)) (now (sheets .entry)) (now (lists .entry)) .asked)
@@ -113,7 +114,7 @@ pub fn play(
     let mut place: usize = 0;
     let mut told: usize = 0;
     while place < script.len() {
-        look(samples); // an import is known to go to samples of 16 bits
+        look(samples); // an import, and a check, are known to be of samples of 16 bits
         let from = place + 1;
         let to = row_end(script, place);
         let turned = turn(

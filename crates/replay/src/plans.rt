@@ -28,7 +28,7 @@ fn size(samples: usize, trails: usize, sheets: usize, lists: usize) -> Wanted
     }
 }
 
-// By a row's kind and its first three own numbers. Sheets and recordings take bytes alone. (Behind the last kind there is none.)
+// By a row's kind and its first three own numbers. Sheets and recordings take bytes alone, a check nothing. (Behind the last kind there is none.)
 fn wanted(row: &[u64]) -> Wanted
     ensures { λ r. ⌜ wantedBy r ≡ takesOf (kindAt kinds (numberAt (now (row .entry)) 0)) (now (row .entry)) ⌝ }
 {
@@ -49,6 +49,9 @@ fn wanted(row: &[u64]) -> Wanted
     }
     if kind < 8 {
         return size(0, 0, first, 0);
+    }
+    if kind == 8 {
+        return size(0, 0, 0, 0);
     }
     Wanted {
         known: false,
@@ -75,6 +78,9 @@ pub fn changes(kind: u64) -> bool
         return false;
     }
     if kind == 7 {
+        return false;
+    }
+    if kind == 8 {
         return false;
     }
     true

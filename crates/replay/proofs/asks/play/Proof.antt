@@ -7,9 +7,9 @@ use Rattle.tables.specs.Tables.{Tables, tables}
 use Rattle.calls.specs.Outcome.{Outcome}
 use Rattle.calls.specs.Effects.{outcomeOn}
 use Rattle.replay.specs.Numbers.{replyRow}
-use Rattle.replay.specs.Script.{taken, matchings, writings, listings, exportings}
+use Rattle.replay.specs.Script.{taken, matchings, writings, listings, exportings, checkings}
 use Rattle.replay.proofs.OfKind.{own-kind, no-other-ask, is-matchings, is-writings, is-listings, is-exportings, matches-it}
-use Rattle.replay.proofs.OfKind.{writes-it, lists-it, exports-it}
+use Rattle.replay.proofs.OfKind.{is-checkings, writes-it, lists-it, exports-it, checks-it}
 use Rattle.replay.proofs.asks.play.Statement.{statement}
 use Rattle.replay.proofs.asks.play.Tie as tie
 
@@ -74,8 +74,21 @@ returns-4 c =
     .after) does) (ap (λ (o : Outcome). o .beside) does))
 
 returns-5 : tie.Need-returns-5
-returns-5 c = no-other-ask (c .before .before .before .before .before .before .before .before .before .before .before .args .kind) _ _ _ _
-    (c .before .before .before .if1 .left) (c .before .before .if2 .left) (c .before .if3 .left) (c .if4 .left)
+returns-5 c =
+    let a = c .before .before .before .before .before .before .before .before .before .before .before .before .before .before .before
+    .args in
+    let row = now (a .row) in
+    let x = taken (now (a .query)) (now (a .trail)) (now (a .sheet)) (now (a .list)) in
+    let t : Tables = tables (now (a .control)) (now (a .samples)) (now (a .nodes)) (now (a .links)) (now (a .work)) in
+    let call = c .before .check-tables in
+    let does = call .ensures in
+    own-kind (a .kind) row x t _ checkings (is-checkings (c .before .before .before .if5 .taken))
+    (checks-it row x t _ _ (c .of-checked .ensures ∙ ap (λ (o : Outcome). replyRow (o .answer)) does) (ap (λ (o : Outcome). o .after) does))
+
+returns-6 : tie.Need-returns-6
+returns-6 c = no-other-ask (c .before .before .before .before .before .before .before .before .before .before .before .before .args .kind)
+    _ _ _ _ (c .before .before .before .before .if1 .left) (c .before .before .before .if2 .left) (c .before .before .if3 .left)
+    (c .before .if4 .left) (c .if5 .left)
 
 pub play-spec : {M : Type 1} → statement M
 play-spec =
@@ -90,4 +103,5 @@ play-spec =
     (λ c. c .before .before .before .before .before .before .before .k-nearest .kept .1 .1 .1 .1 .1 .0)
     (λ c. c .before .before .before .before .before .before .before .k-nearest .kept .1 .1 .1 .1 .1 .1 .0)
     returns-3 (λ c κs. tt) (λ c κs. tt) (λ c κs. tt) (λ c κs. tt) (λ c. refl)
-    (λ c. c .before .before .before .export-recording .kept .1 .1 .1 .1 .1 .0) returns-4 returns-5)
+    (λ c. c .before .before .before .export-recording .kept .1 .1 .1 .1 .1 .0) returns-4
+    (λ c κs. tt) (λ c κs. tt) (λ c. refl) returns-5 returns-6)

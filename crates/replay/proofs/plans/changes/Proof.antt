@@ -1,6 +1,6 @@
 -- `replay::plans::changes` meets its contract, kind by kind.
-use Rattle.replay.specs.Script.{matchings, writings, listings, exportings}
-use Rattle.replay.proofs.OfKind.{is-matchings, is-writings, is-listings, is-exportings, changes-if, changes-not}
+use Rattle.replay.specs.Script.{matchings, writings, listings, exportings, checkings}
+use Rattle.replay.proofs.OfKind.{is-matchings, is-writings, is-listings, is-exportings, is-checkings, changes-if, changes-not}
 use Rattle.replay.proofs.plans.changes.Statement.{statement}
 use Rattle.replay.proofs.plans.changes.Tie as tie
 
@@ -12,5 +12,6 @@ changes-spec =
     (λ c. λ k e. changes-not (c .before .before .args .kind) writings k (is-writings (c .if2 .taken)) e)
     (λ c. λ k e. changes-not (c .before .before .before .args .kind) listings k (is-listings (c .if3 .taken)) e)
     (λ c. λ k e. changes-not (c .before .before .before .before .args .kind) exportings k (is-exportings (c .if4 .taken)) e)
-    (λ c. λ k e. changes-if (c .before .before .before .before .args .kind) k (c .before .before .before .if1 .left)
-    (c .before .before .if2 .left) (c .before .if3 .left) (c .if4 .left) e))
+    (λ c. λ k e. changes-not (c .before .before .before .before .before .args .kind) checkings k (is-checkings (c .if5 .taken)) e)
+    (λ c. λ k e. changes-if (c .before .before .before .before .before .args .kind) k (c .before .before .before .before .if1 .left)
+    (c .before .before .before .if2 .left) (c .before .before .if3 .left) (c .before .if4 .left) (c .if5 .left) e))

@@ -3,8 +3,9 @@ use Prim.Native.Nat.{ℕ}
 use mathlib.Core.Path.{refl, sym, ap, ap₂, _∙_}
 use native.Mathlib.Omega.{arith}
 use denote.Ref.{now}
-use Rattle.replay.specs.Script.{ownNumber, cursor, openings, addings, matchings, listings}
-use Rattle.replay.proofs.OfKind.{is-openings, is-addings, is-matchings, is-listings, wanted-is, wanted-bytes, wanted-not}
+use Rattle.replay.specs.Script.{ownNumber, cursor, openings, addings, matchings, listings, checkings}
+use Rattle.replay.proofs.OfKind.{is-openings, is-addings, is-matchings, is-listings, is-checkings, wanted-is, wanted-bytes}
+use Rattle.replay.proofs.OfKind.{wanted-not}
 use Rattle.replay.proofs.plans.wanted.Statement.{statement}
 use Rattle.replay.proofs.plans.wanted.Tie as tie
 
@@ -57,12 +58,24 @@ returns-5 c =
     (omega (arith, is, c .before .if5 .taken))
 
 returns-6 : tie.Need-returns-6
-returns-6 c = wanted-not (now (c .before .before .before .before .before .before .before .before .before .before .before .args .row)) _
-    (omega (arith, c .before .before .before .before .before .before .before .before .before .number .ensures, c .if5 .left))
+returns-6 c = wanted-is _ (now (c .before .before .before .before .before .before .before .before .before .before .before .before .before
+    .args .row)) _ checkings _ (c .size6 .ensures) (is-checkings (sym
+    (c .before .before .before .before .before .before .before .before .before .before .before .number .ensures)
+    ∙ c .before .if6 .taken)) refl
+
+returns-7 : tie.Need-returns-7
+returns-7 c = wanted-not
+    (now (c .before .before .before .before .before .before .before .before .before .before .before .before .args .row)) _
+    (omega (
+      arith,
+      c .before .before .before .before .before .before .before .before .before .before .number .ensures,
+      c .before .if5 .left,
+      c .if6 .left,
+    ))
 
 pub wanted-spec : {M : Type 1} → statement M
 wanted-spec =
     tie.close
     (tie.spec
     (λ c κs. tt) (λ c κs. tt) (λ c κs. tt) (λ c κs. tt) (λ c κs. tt) (λ c κs. tt) returns (λ c κs. tt) returns-2 (λ c κs. tt) returns-3
-    (λ c κs. tt) (λ c κs. tt) (λ c κs. tt) returns-4 (λ c κs. tt) returns-5 returns-6)
+    (λ c κs. tt) (λ c κs. tt) (λ c κs. tt) returns-4 (λ c κs. tt) returns-5 (λ c κs. tt) returns-6 returns-7)

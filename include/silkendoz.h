@@ -55,14 +55,15 @@
  *   silkendoz_read_sheet        0   none
  *   silkendoz_import_recording  0   the number of traces added
  *   silkendoz_export_recording  0   the number of bytes
+ *   silkendoz_check_tables      0   none
  *   any call              refused   the place
  *
  * If `out` has fewer places, the first values are written and the others are left out. SILKENDOZ_OUT places are enough for every call.
  *
  * REFUSALS. A refused call leaves every table, the trail, the list, the sheet, the buffer and all of `out` behind its first place as they
  * were. The place is 0, but for a torn block, where it is the first block at fault. The numbers are tested in this order: 1; a control
- * record too short (2); its measures (3); other tables (2); the rest of 3; 11 or 12, directly behind 3; then 4 to 8. Reading a sheet: 8; 9
- * over all blocks; 10; 2.
+ * record too short (2); its measures (3); other tables (2); the rest of 3; 11 or 12, directly behind 3; then 4 to 8; 13. Reading a sheet: 8;
+ * 9 over all blocks; 10; 2.
  */
 #ifndef SILKENDOZ_H
 #define SILKENDOZ_H
@@ -109,18 +110,19 @@ extern "C" {
 /* The numbers that a call gives back. */
 enum silkendoz_refusal {
     SILKENDOZ_DONE = 0,
-    SILKENDOZ_MEASURE = 1,       /* opening: n, capacity or leaf size outside its range */
-    SILKENDOZ_SHORT_TABLE = 2,   /* a lent table below the need */
-    SILKENDOZ_SPOILED = 3,       /* tables not well formed */
-    SILKENDOZ_WRONG_TRACE = 4,   /* length not n */
-    SILKENDOZ_FULL = 5,          /* count equals capacity; an import: not all traces fit */
-    SILKENDOZ_EMPTY = 6,         /* a search with no trace stored */
-    SILKENDOZ_SHORT_TRAIL = 7,   /* trail shorter than the number of leaves, or list shorter than k records */
-    SILKENDOZ_SHEET_LENGTH = 8,  /* writing, export: below the need; reading: 0, not a multiple of 512, above 4,146 blocks */
-    SILKENDOZ_TORN_BLOCK = 9,    /* check, block number or kind wrong; the place is the first block at fault */
-    SILKENDOZ_BAD_SHEET = 10,    /* letters, measures, count above capacity, number of blocks, or a nonzero byte that must be 0 */
-    SILKENDOZ_BAD_K = 11,        /* the k nearest, k not in 1 to 16 */
-    SILKENDOZ_BAD_RECORDING = 12 /* import: another form or length, no whole traces; export: rate or trace number out of range */
+    SILKENDOZ_MEASURE = 1,        /* opening: n, capacity or leaf size outside its range */
+    SILKENDOZ_SHORT_TABLE = 2,    /* a lent table below the need */
+    SILKENDOZ_SPOILED = 3,        /* tables not well formed */
+    SILKENDOZ_WRONG_TRACE = 4,    /* length not n */
+    SILKENDOZ_FULL = 5,           /* count equals capacity; an import: not all traces fit */
+    SILKENDOZ_EMPTY = 6,          /* a search with no trace stored */
+    SILKENDOZ_SHORT_TRAIL = 7,    /* trail shorter than the number of leaves, or list shorter than k records */
+    SILKENDOZ_SHEET_LENGTH = 8,   /* writing, export: below the need; reading: 0, not a multiple of 512, above 4,146 blocks */
+    SILKENDOZ_TORN_BLOCK = 9,     /* check, block number or kind wrong; the place is the first block at fault */
+    SILKENDOZ_BAD_SHEET = 10,     /* letters, measures, count above capacity, number of blocks, or a nonzero byte that must be 0 */
+    SILKENDOZ_BAD_K = 11,         /* the k nearest, k not in 1 to 16 */
+    SILKENDOZ_BAD_RECORDING = 12, /* import: another form or length, no whole traces; export: rate or trace number out of range */
+    SILKENDOZ_LOOSE_RECORD = 13   /* check: well-formed tables hold a figure that is not exactly the recomputed one */
 };
 
 /* Opens an empty library with these measures: the needed parts of the tables are set to zero, then the control record is written. What the tables held
@@ -228,6 +230,21 @@ uint64_t silkendoz_export_recording(
     uint64_t number, uint64_t rate,
     uint64_t *out, size_t out_len);
 
+/* Whether tables that nobody vouches for may be trusted: recomputes every node's least and greatest sums and scatters from the samples of
+ * the traces below it, by the leaves' lists, and compares them. If it gives 0, silkendoz_nearest and silkendoz_k_nearest answer the nearest
+ * stored traces and read the fewest leaves, whatever made the tables; and it still gives 0 after any calls that follow. It gives 0 for every
+ * library that calls made, an empty one too. A range that is wider than it need be is loose (13) as well as one that is too narrow. What it
+ * does not see: a sample that changed, where the figures that a node records stayed as they were, or changed with it; thresholds of tests,
+ * by which adding goes; places that hold nothing of the library. It looks at every stored sample several times, so it takes as long as many
+ * matches (docs/GUIDE.md). Nothing is written but `out`. Of `work` only the length is looked at. Refuses 2, 3, 13. */
+uint64_t silkendoz_check_tables(
+    const uint16_t *control, size_t control_len,
+    const int16_t *samples, size_t samples_len,
+    const int64_t *nodes, size_t nodes_len,
+    const uint16_t *links, size_t links_len,
+    const uint64_t *work, size_t work_len,
+    uint64_t *out, size_t out_len);
+
 /* ---- the same calls, with the tables in a struct ---- */
 
 /* A library's tables, each with its length in elements. All of them have to be set, whichever the call. */
@@ -333,6 +350,14 @@ static inline uint64_t silkendoz_export_recording_in(
         t->links, t->links_len, t->work, t->work_len, buffer, buffer_len, number, rate, out, out_len);
 }
 
+static inline uint64_t silkendoz_check_tables_in(
+    const struct silkendoz_tables *t,
+    uint64_t *out, size_t out_len)
+{
+    return silkendoz_check_tables(t->control, t->control_len, t->samples, t->samples_len, t->nodes, t->nodes_len,
+        t->links, t->links_len, t->work, t->work_len, out, out_len);
+}
+
 /* The word for a number that a call gives back: the documents', "done" for 0, "unknown" for a number that no call gives. */
 static inline const char *silkendoz_word(uint64_t number)
 {
@@ -350,6 +375,7 @@ static inline const char *silkendoz_word(uint64_t number)
     case SILKENDOZ_BAD_SHEET: return "bad sheet";
     case SILKENDOZ_BAD_K: return "bad k";
     case SILKENDOZ_BAD_RECORDING: return "bad recording";
+    case SILKENDOZ_LOOSE_RECORD: return "loose record";
     default: return "unknown";
     }
 }

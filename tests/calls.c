@@ -1,5 +1,5 @@
-/* The calls from C, over the struct of tables: document 01's examples, lists of the k nearest, recordings, refusals in their order, and
- * memory that has to stay. Prints one line, and fails at the first difference. */
+/* The calls from C, over the struct of tables: document 01's examples, lists of the k nearest, recordings, the check, refusals in their
+ * order, and memory that has to stay. Prints one line, and fails at the first difference. */
 
 #include "silkendoz.h"
 
@@ -92,6 +92,12 @@ static uint64_t export_from(
     return silkendoz_export_recording_in(&l, buffer, size, number, rate, out, out_len);
 }
 
+static uint64_t check_in(struct tables *t, uint64_t *out, size_t out_len)
+{
+    struct silkendoz_tables l = lent(t);
+    return silkendoz_check_tables_in(&l, out, out_len);
+}
+
 /* n 256, capacity 4,096, leaf size 64 open; 257, 4,097, 65 and 0 do not: measures come before lengths. */
 static void opening(void)
 {
@@ -139,7 +145,7 @@ static void largest(void)
     free(t.work);
 }
 
-enum { CALLS = 8, TABLES = 5 };
+enum { CALLS = 9, TABLES = 5 };
 
 /* What each call over the struct answers, an export before an import. */
 static void answers(const struct silkendoz_tables *t, const int16_t *trace, uint8_t *sheet, size_t size, uint64_t numbers[CALLS])
@@ -156,6 +162,7 @@ static void answers(const struct silkendoz_tables *t, const int16_t *trace, uint
     numbers[5] = silkendoz_read_sheet_in(t, sheet, size, out, SILKENDOZ_OUT);
     numbers[6] = silkendoz_export_recording_in(t, recording, sizeof recording, 0, 8000, out, SILKENDOZ_OUT);
     numbers[7] = silkendoz_import_recording_in(t, recording, sizeof recording, out, SILKENDOZ_OUT);
+    numbers[8] = silkendoz_check_tables_in(t, out, SILKENDOZ_OUT);
 }
 
 /* Each call over the struct passes on each length: just enough is done, one place less is a short table, whichever table it is. */
@@ -194,11 +201,11 @@ static void lengths(void)
 static void words(void)
 {
     static const char *const table[] = {"done", "measure", "short table", "spoiled", "wrong trace", "full", "empty", "short trail",
-        "sheet length", "torn block", "bad sheet", "bad k", "bad recording"};
+        "sheet length", "torn block", "bad sheet", "bad k", "bad recording", "loose record"};
     uint64_t number;
     for (number = 0; number < PLACES(table); number++)
         EXPECT(strcmp(silkendoz_word(number), table[number]) == 0);
-    EXPECT(strcmp(silkendoz_word(SILKENDOZ_BAD_RECORDING + 1), "unknown") == 0);
+    EXPECT(strcmp(silkendoz_word(SILKENDOZ_LOOSE_RECORD + 1), "unknown") == 0);
     EXPECT(strcmp(silkendoz_word(UINT64_MAX), "unknown") == 0);
 }
 
@@ -542,6 +549,63 @@ static void exports(void)
     EXPECT(memcmp(t.samples + 2 * N, t.samples, N * sizeof *t.samples) == 0);
 }
 
+/* A library of A, B, C is accepted, an empty one too; every figure of it that is altered is a loose record, and a test's threshold is none.
+ * Nothing is written but `out`. */
+static void checks(void)
+{
+    static struct tables t, before;
+    const int16_t traces[3][N] = {{0, 0, 0, 0}, {4, 4, 4, 4}, {0, 8, 0, 8}};
+    const int16_t query[N] = {1, 1, 1, 1};
+    uint16_t trail[TRAIL];
+    uint64_t out[SILKENDOZ_OUT] = {9, 9, 9, 9};
+    int node, figure, i;
+
+    memset(&t, 0x5a, sizeof t);
+    EXPECT(check_in(&t, out, SILKENDOZ_OUT) == SILKENDOZ_SPOILED && out[0] == 0 && out[1] == 9);
+    EXPECT(open_in(&t, N, C, 2, out) == SILKENDOZ_DONE);
+    out[0] = 9;
+    EXPECT(check_in(&t, out, SILKENDOZ_OUT) == SILKENDOZ_DONE && out[0] == 9);
+    for (i = 0; i < 3; i++)
+        EXPECT(add_to(&t, traces[i], N, out, 0) == SILKENDOZ_DONE);
+    memset(t.work, 0xff, sizeof t.work);
+    before = t;
+    EXPECT(check_in(&t, out, SILKENDOZ_OUT) == SILKENDOZ_DONE && out[0] == 9);
+    EXPECT(check_in(&t, out, 0) == SILKENDOZ_DONE);
+    EXPECT(memcmp(&t, &before, sizeof t) == 0);
+
+    /* three nodes of one segment: least and greatest sum, least and greatest scatter, each one wider */
+    for (node = 0; node < 3; node++)
+        for (figure = 0; figure < 4; figure++) {
+            int64_t *place = &t.nodes[node * 87 + 8 + figure];
+            int64_t by = figure % 2 == 0 ? -1 : 1;
+            if (*place + by >= 0 || figure < 2) {
+                *place += by;
+                before = t;
+                EXPECT(check_in(&t, out, SILKENDOZ_OUT) == SILKENDOZ_LOOSE_RECORD && out[0] == 0 && out[1] == 9);
+                EXPECT(memcmp(&t, &before, sizeof t) == 0);
+                *place -= by;
+            }
+        }
+
+    /* node 0 tests sums of 4 samples against 16. Another threshold bears on no match */
+    EXPECT(t.nodes[6] == 16);
+    t.nodes[6] = -1;
+    EXPECT(check_in(&t, out, SILKENDOZ_OUT) == SILKENDOZ_DONE);
+    EXPECT(nearest_in(&t, query, N, trail, TRAIL, out, SILKENDOZ_OUT) == SILKENDOZ_DONE && out[0] == 0 && out[1] == 4 && out[2] == 1);
+    t.nodes[6] = 16;
+
+    /* a sample that changed makes figures loose; short tables come before what they hold */
+    t.samples[2 * N] = 1;
+    EXPECT(check_in(&t, out, SILKENDOZ_OUT) == SILKENDOZ_LOOSE_RECORD);
+    {
+        struct silkendoz_tables less = lent(&t);
+        less.work_len = SILKENDOZ_WORK(C) - 1;
+        EXPECT(silkendoz_check_tables_in(&less, out, SILKENDOZ_OUT) == SILKENDOZ_SHORT_TABLE);
+    }
+    t.nodes[0] = 3;
+    EXPECT(check_in(&t, out, SILKENDOZ_OUT) == SILKENDOZ_SPOILED);
+}
+
 int main(void)
 {
     opening();
@@ -556,6 +620,7 @@ int main(void)
     sheets();
     imports();
     exports();
+    checks();
     printf("C: %d tests passed\n", tests);
     return 0;
 }

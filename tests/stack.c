@@ -69,6 +69,7 @@ static void exporting(void)
     number = silkendoz_export_recording_in(&tables, recording, sizeof recording, 0, 8000, out, SILKENDOZ_OUT);
 }
 static void importing(void) { number = silkendoz_import_recording_in(&tables, recording, sizeof recording, out, SILKENDOZ_OUT); }
+static void checking(void) { number = silkendoz_check_tables_in(&tables, out, SILKENDOZ_OUT); }
 static void nothing(void) { number = SILKENDOZ_DONE; }
 
 struct call {
@@ -120,7 +121,7 @@ int main(void)
     struct call none = {"nothing", nothing, 0, 0};
     struct call calls[] = {{"open", opening, 16, 0}, {"add", adding, 96, 0}, {"nearest", matching, 16, 0}, {"k_nearest", listing, 16, 0},
         {"write_sheet", writing, 16, 0}, {"read_sheet", reading, 96, 0}, {"export_recording", exporting, 16, 0},
-        {"import_recording", importing, 96, 0}};
+        {"import_recording", importing, 96, 0}, {"check_tables", checking, 64, 0}};
     size_t before, i;
     int at;
     void *stack;
@@ -144,6 +145,7 @@ int main(void)
         measure(&calls[5], stack, before);
         measure(&calls[6], stack, before);
         measure(&calls[7], stack, before);
+        measure(&calls[8], stack, before);
     }
     free(stack);
     for (i = 0; i < sizeof calls / sizeof *calls; i++) {

@@ -38,6 +38,9 @@ use Rattle.importing.specs.declared.Imported.the-variants as i
 use Rattle.exporting.specs.Answered as exporting
 use Rattle.exporting.specs.declared.Exported as e
 use Rattle.exporting.specs.declared.Exported.the-variants as x
+use Rattle.checking.specs.Answered as checking
+use Rattle.checking.specs.declared.Checked.{Checked}
+use Rattle.checking.specs.declared.Checked.the-variants as k
 use Rattle.calls.specs.Outcome.{Outcome, outcome}
 use Rattle.calls.specs.Numbers.{codeOf, resultValues, valuesOf, laid}
 use Rattle.library_c.specs.Exported.{Returned, returned, returnedOf, Exported, exported, exportedOf}
@@ -65,6 +68,10 @@ four-laid a b c d (p ∷ q ∷ r ∷ s ∷ out) = refl
 pub done-returned : (out : List ℕ) → returned 0 out ≡ returnedOf (answering done) out
 unfolding returnedOf codeOf valuesOf resultValues laid
 done-returned out = refl
+
+pub accepted-returned : (out : List ℕ) → returned 0 out ≡ returnedOf (answering book.accepted) out
+unfolding returnedOf codeOf valuesOf resultValues laid
+accepted-returned out = refl
 
 pub refusal-returned : (why : Refusal) (number place : ℕ) (out out′ : List ℕ)
     → number ≡ numberOf why → place ≡ placeOf why → out′ ≡ set out 0 place → returned number out′ ≡ returnedOf (refusing why) out
@@ -191,3 +198,12 @@ pub exported-refused : (answer : e.Exported) (buffer : List ℕ) (why : r.Refusa
     → returnedOf (refusing (wordOf why)) out ≡ returnedOf (exporting.answerBy answer buffer) out
 unfolding exporting.answerBy
 exported-refused answer buffer why out is = ap (λ (y : e.Exported). returnedOf (exporting.answerBy y buffer) out) (sym is)
+
+pub checked-accepted : (answer : Checked) (out : List ℕ) → answer ≡ k.Accepted → returned 0 out ≡ returnedOf (checking.answerBy answer) out
+unfolding checking.answerBy
+checked-accepted answer out is = accepted-returned out ∙ ap (λ (x : Checked). returnedOf (checking.answerBy x) out) (sym is)
+
+pub checked-refused : (answer : Checked) (why : r.Refusal) (out : List ℕ) → answer ≡ k.Refused why
+    → returnedOf (refusing (wordOf why)) out ≡ returnedOf (checking.answerBy answer) out
+unfolding checking.answerBy
+checked-refused answer why out is = ap (λ (x : Checked). returnedOf (checking.answerBy x) out) (sym is)

@@ -1,8 +1,8 @@
 // The calls for C and for Rust: numbers and slices only, a slice as a pointer and then its length. Each is the call of the same name, and its contract
 // is that call's own definition. The code is 0, or the number of the refusal; the answer's values go into the lent slice `out`, in order: adding the
 // trace's number, a match the trace's number, the distance, leaves read and traces read, a listing leaves read, traces read and how many it
-// lists, a writing the number of blocks, an import the number of traces, an export the number of bytes, a refusal its place. A shorter `out`
-// takes the first of them, and places behind them stay.
+// lists, a writing the number of blocks, an import the number of traces, an export the number of bytes, a refusal its place; an opening, a
+// reading and a check have none. A shorter `out` takes the first of them, and places behind them stay.
 
 pub mod telling; // an answer as numbers
 
@@ -203,4 +203,24 @@ pub extern "C" fn silkendoz_export_recording(
         rate,
     );
     telling::tell_exported(answer, out)
+}
+
+// Two wrong programs that the contract rules out: one that gives 3 for a loose record, and one that zeroes `out` when it accepts.
+#[no_mangle]
+pub extern "C" fn silkendoz_check_tables(
+    control: &[u16],
+    samples: &[i16],
+    nodes: &[i64],
+    links: &[u16],
+    work: &[u64],
+    out: &mut [u64],
+) -> u64
+    ensures { λ r. ⌜ exported r (now (out .exit))
+        (tables (now (control .entry)) (now (samples .entry)) (now (nodes .entry)) (now (links .entry)) (now (work .entry)))
+        []
+        ≡ exportedOf (outcomeOn book.checking
+        (tables (now (control .entry)) (now (samples .entry)) (now (nodes .entry)) (now (links .entry)) (now (work .entry)))) (now (out .entry)) ⌝ }
+{
+    let answer = checking::check_tables(control, samples, nodes, links, work);
+    telling::tell_checked(answer, out)
 }

@@ -1,6 +1,7 @@
 // An answer as numbers: its code is given back, its values go into a lent slice.
 
 use adding::Added;
+use checking::Checked;
 use exporting::Exported;
 use importing::Imported;
 use listing::Listed;
@@ -23,6 +24,7 @@ ghost use Rattle.sheet_writing.specs.Answered as writing;
 ghost use Rattle.sheet_reading.specs.Answered as reading;
 ghost use Rattle.importing.specs.Answered as importing;
 ghost use Rattle.exporting.specs.Answered as exporting;
+ghost use Rattle.checking.specs.Answered as checking;
 ghost use Rattle.library_c.specs.Exported.{returned, returnedOf};
 
 // A number at its place, if there is such a place.
@@ -140,5 +142,14 @@ pub fn tell_exported(answer: Exported, out: &mut [u64]) -> u64
             0
         }
         Exported::Refused(why) => tell_refusal(why, out),
+    }
+}
+
+pub fn tell_checked(answer: Checked, out: &mut [u64]) -> u64
+    ensures { λ r. ⌜ returned r (now (out .exit)) ≡ returnedOf (checking.answerBy answer) (now (out .entry)) ⌝ }
+{
+    match answer {
+        Checked::Accepted => 0,
+        Checked::Refused(why) => tell_refusal(why, out),
     }
 }

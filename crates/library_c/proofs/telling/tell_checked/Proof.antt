@@ -1,0 +1,25 @@
+-- `telling::tell_checked` meets its contract, arm by arm.
+use borrow.Author.Needs.{needs}
+use mathlib.Core.Path.{_∙_}
+use denote.Ref.{now}
+use Rattle.library_c.proofs.Answers.{checked-accepted, checked-refused}
+use Rattle.library_c.proofs.telling.tell_checked.Statement.{statement}
+use Rattle.library_c.proofs.telling.tell_checked.Tie as tie
+
+enum-told : tie.Need-enum-told
+enum-told c = search needs
+
+returns : tie.Need-returns
+returns c = let s = c .before .before .before in checked-accepted (s .args .answer) (now (s .args .out)) (c .enum-told .given .1)
+
+returns-2 : tie.Need-returns-2
+returns-2 c =
+    let r = c .before .before in
+    let s = r .before .before .before .before .before .before in
+    r .tell-refusal .ensures ∙ checked-refused (s .args .answer) _ (now (s .args .out)) (r .before .before .before .answer .given .1)
+
+pub tell-checked-spec : {M : Type 1} → statement M
+tell-checked-spec =
+    tie.close
+    (tie.spec
+    enum-told (λ c. search needs) (λ c κs. search needs) returns (λ c. search needs) returns-2)

@@ -193,6 +193,21 @@ extern "C" {
         out: *mut u64,
         out_len: usize,
     ) -> u64;
+
+    fn silkendoz_check_tables(
+        control: *const u16,
+        control_len: usize,
+        samples: *const i16,
+        samples_len: usize,
+        nodes: *const i64,
+        nodes_len: usize,
+        links: *const u16,
+        links_len: usize,
+        work: *const u64,
+        work_len: usize,
+        out: *mut u64,
+        out_len: usize,
+    ) -> u64;
 }
 
 /// Code 0 is the answer's values; any other is the number of a refusal, whose place is the first value.
@@ -345,4 +360,17 @@ pub fn export_recording(
         out
     );
     answer(code, out).map(|[size]| size)
+}
+
+/// Whether tables may be trusted, whatever made them: every recorded least and greatest sum and scatter is that of the traces below. If it
+/// is not refused, a match of these tables is the nearest stored trace. Nothing is written; search work is only looked at for its length.
+pub fn check_tables(control: &[u16], samples: &[i16], nodes: &[i64], links: &[u16], work: &[u64]) -> Result<(), Refusal> {
+    let mut out = [0; 1];
+    let code = call!(
+        silkendoz_check_tables,
+        [control => as_ptr, samples => as_ptr, nodes => as_ptr, links => as_ptr, work => as_ptr],
+        [],
+        out
+    );
+    answer(code, out).map(|_| ())
 }

@@ -56,3 +56,7 @@ pub fn export_recording(t: &Tables, l: Lengths, buffer: &mut [u8], number: u64, 
     let (nodes, links, work) = (&t.nodes[..l.nodes], &t.links[..l.links], &t.work[..l.work]);
     told(calls::export_recording(&t.control[..l.control], &t.samples[..l.samples], nodes, links, work, buffer, number, rate))
 }
+
+pub fn check_tables(t: &Tables, l: Lengths) -> Result<(), Refused> {
+    told(calls::check_tables(&t.control[..l.control], &t.samples[..l.samples], &t.nodes[..l.nodes], &t.links[..l.links], &t.work[..l.work]))
+}

@@ -3,7 +3,8 @@
 //! A trace is a run of 16-bit samples, such as the drive current of a machine's standard sweep. A [`TraceLibrary`] keeps traces and finds the stored one
 //! that is nearest to a new one: the least sum of squared differences, the lowest number among equals, just as reading every stored trace would find it.
 //! The work is done by a library that is proved to do exactly this (the crates beside this folder); here it gets tables of the right sizes, and its
-//! refusals a type. [`TraceLibrary::k_nearest`] lists the k nearest in the same way; [`TraceLibrary::import_recording`] takes the traces of a WAV file.
+//! refusals a type. [`TraceLibrary::k_nearest`] lists the k nearest in the same way; [`TraceLibrary::import_recording`] takes the traces of a WAV file;
+//! [`TraceLibrary::from_tables`] takes tables from elsewhere, once they are checked.
 //!
 //! ```
 //! use silkendoz::TraceLibrary;
@@ -46,7 +47,7 @@ pub mod scan;
 #[doc(hidden)]
 pub mod script;
 
-pub use library::{KNearest, Nearest, Neighbour, TraceLibrary};
+pub use library::{KNearest, Nearest, Neighbour, Tables, TraceLibrary};
 pub use refusal::{Lengths, Refusal};
 pub use shape::Leaf;
 

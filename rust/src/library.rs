@@ -106,6 +106,19 @@ pub struct Neighbour {
     pub distance: u64,
 }
 
+/// The tables of a library, as `docs/LAYOUT.md` has them, for memory that outlives the program. Search work is no part of them.
+#[derive(Clone, Copy, Debug, PartialEq, Eq)]
+pub struct Tables<'a> {
+    /// n, capacity, leaf size, how many traces and how many nodes there are.
+    pub control: &'a [u16],
+    /// The traces, one behind another.
+    pub samples: &'a [i16],
+    /// The tree's nodes, a record each.
+    pub nodes: &'a [i64],
+    /// For each trace the next one of its leaf.
+    pub links: &'a [u16],
+}
+
 impl TraceLibrary {
     /// Opens an empty library for up to `capacity` traces (1 to 4,096) of `n` samples (1 to 256), in leaves of up to `leaf_size` traces (1 to 64).
     ///
@@ -282,6 +295,63 @@ impl TraceLibrary {
         let (number, rate) = (number as u64, rate.into());
         calls::export_recording(&self.control, &self.samples, &self.nodes, &self.links, &self.work, &mut file, number, rate)?;
         Ok(file)
+    }
+
+    /// Whether every figure that the tree records is that of the traces below. It is, of every library that these methods made; a library from
+    /// elsewhere is tested as it comes in ([`TraceLibrary::from_tables`]). So what may make this fail is memory that fails.
+    ///
+    /// ```
+    /// use silkendoz::TraceLibrary;
+    ///
+    /// let mut library = TraceLibrary::open(3, 4, 1)?;
+    /// assert_eq!(library.check(), Ok(()));
+    /// library.add(&[5, -1, 2])?;
+    /// library.add(&[0, 0, 7])?;
+    /// assert_eq!(library.check(), Ok(()));
+    /// # Ok::<(), silkendoz::Refusal>(())
+    /// ```
+    pub fn check(&self) -> Result<(), Refusal> {
+        calls::check_tables(&self.control, &self.samples, &self.nodes, &self.links, &self.work)
+    }
+
+    /// The tables, to be kept somewhere and taken back by [`TraceLibrary::from_tables`]. A sheet ([`TraceLibrary::write_sheet`]) is smaller and
+    /// has check bytes; tables need no time to be read.
+    pub fn tables(&self) -> Tables<'_> {
+        Tables { control: &self.control, samples: &self.samples, nodes: &self.nodes, links: &self.links }
+    }
+
+    /// A library from tables that nobody vouches for, such as those of a controller that was switched off: they are taken, as far as their
+    /// measures need them, if the check accepts them. Then every answer is right for the traces that they hold.
+    ///
+    /// ```
+    /// use silkendoz::{Refusal, Tables, TraceLibrary};
+    ///
+    /// let mut library = TraceLibrary::open(3, 4, 1)?;
+    /// library.add(&[5, -1, 2])?;
+    /// library.add(&[0, 0, 7])?;
+    /// let kept = library.tables();
+    /// assert_eq!(TraceLibrary::from_tables(kept)?, library);
+    ///
+    /// // a sample that changed
+    /// let mut samples = kept.samples.to_vec();
+    /// samples[2] = 3;
+    /// assert_eq!(TraceLibrary::from_tables(Tables { samples: &samples, ..kept }), Err(Refusal::LooseRecord));
+    /// // a kind of node that there is not
+    /// let mut nodes = kept.nodes.to_vec();
+    /// nodes[0] = 7;
+    /// assert_eq!(TraceLibrary::from_tables(Tables { nodes: &nodes, ..kept }), Err(Refusal::Spoiled));
+    /// assert_eq!(TraceLibrary::from_tables(Tables { links: &kept.links[1..], ..kept }), Err(Refusal::ShortTable));
+    /// # Ok::<(), Refusal>(())
+    /// ```
+    pub fn from_tables(tables: Tables<'_>) -> Result<TraceLibrary, Refusal> {
+        let Tables { control, samples, nodes, links } = tables;
+        let field = |place: usize| control.get(place).copied().map_or(0, usize::from);
+        let (n, capacity) = (field(0), field(1));
+        let work = vec![0; (2 * capacity).saturating_sub(1)];
+        calls::check_tables(control, samples, nodes, links, &work)?;
+        // nothing was refused, so that measures are in range and each table has the places that are taken here
+        let (samples, nodes) = (samples[..n * capacity].to_vec(), nodes[..work.len() * RECORD_PLACES].to_vec());
+        Ok(TraceLibrary { control: control[..CONTROL_FIELDS].to_vec(), samples, nodes, links: links[..capacity].to_vec(), work })
     }
 
     /// Samples a trace.

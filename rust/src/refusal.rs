@@ -39,6 +39,8 @@ pub enum Refusal {
     BadK,
     /// 12: a file of any other form or length, an odd size, samples not a multiple of n; an export's rate or trace number out of range.
     BadRecording,
+    /// 13: well-formed tables hold a figure that isn't exactly the recomputed one.
+    LooseRecord,
 }
 
 /// How many samples a trace or query has that is refused for its length, and how many it has to have.
@@ -75,6 +77,7 @@ impl Refusal {
             10 => Refusal::BadSheet,
             11 => Refusal::BadK,
             12 => Refusal::BadRecording,
+            13 => Refusal::LooseRecord,
             _ => return None,
         })
     }
@@ -94,6 +97,7 @@ impl Refusal {
             Refusal::BadSheet => 10,
             Refusal::BadK => 11,
             Refusal::BadRecording => 12,
+            Refusal::LooseRecord => 13,
         }
     }
 
@@ -120,6 +124,7 @@ impl Refusal {
             Refusal::BadSheet => "bad sheet",
             Refusal::BadK => "bad k",
             Refusal::BadRecording => "bad recording",
+            Refusal::LooseRecord => "loose record",
         }
     }
 }
@@ -140,6 +145,7 @@ impl fmt::Display for Refusal {
             Refusal::BadSheet => "letters, measures, counts or a byte that must be 0",
             Refusal::BadK => "k outside 1 to 16",
             Refusal::BadRecording => "no recording of whole traces, or a rate or trace number out of range",
+            Refusal::LooseRecord => "a recorded figure is not that of the traces below",
         };
         write!(f, "{}: {why}", self.word())
     }
@@ -153,13 +159,13 @@ mod tests {
 
     #[test]
     fn numbers_go_both_ways() {
-        for number in 1..=12 {
+        for number in 1..=13 {
             let place = if number == 9 { 7 } else { 0 };
             let why = Refusal::from_number(number, place).unwrap();
             assert_eq!((why.number(), why.place()), (number, place));
             assert!(why.to_string().starts_with(why.word()));
         }
         assert_eq!(Refusal::from_number(0, 0), None);
-        assert_eq!(Refusal::from_number(13, 0), None);
+        assert_eq!(Refusal::from_number(14, 0), None);
     }
 }

@@ -2,7 +2,7 @@
 
 mod common;
 
-use common::{check_add, check_export, check_import, check_k_nearest, check_nearest, measures};
+use common::{check_add, check_checked, check_export, check_import, check_k_nearest, check_nearest, measures};
 use silkendoz::model::recording;
 use silkendoz::model::tables::{Tables, RECORD_PLACES};
 use silkendoz::model::{runs, segments_of, width, Figure, Kind, Library, Node, Segment, Test, Trace};
@@ -151,6 +151,7 @@ fn follow(random: &mut Random, library: &Library, shape: Shape, queries: usize, 
     let mut t = with_junk(random, library);
     let l = t.lengths();
     assert_eq!(t.library().as_ref(), Some(library), "the tables made here are well formed");
+    let _ = check_checked(&t, l);
     let n = library.measures.n as usize;
     for _ in 0..queries {
         let q: Trace = query(random, shape, n, &library.traces);

@@ -2,7 +2,7 @@
 
 mod common;
 
-use common::{check_add, check_export, check_import, check_k_nearest, check_nearest, measures};
+use common::{check_add, check_checked, check_export, check_import, check_k_nearest, check_nearest, measures};
 use silkendoz::model::recording;
 use silkendoz::model::tables::{Tables, RECORD_PLACES};
 use silkendoz::model::{Library, Trace};
@@ -50,8 +50,9 @@ fn spoiled(damaged: &Tables, query: &[i16]) -> bool {
     t.clone_from(damaged);
     let imported = check_import(&mut t, l, &recording::write(8000, &query.repeat(2))).map(|_| ());
     let exported = check_export(damaged, l, &mut [7; 99], 0, 8000).map(|_| ());
-    let verdicts = [added, found, listed, imported, exported].map(|answer| answer == Err((3, 0)));
-    assert!(verdicts == [verdicts[0]; 5], "{verdicts:?}");
+    let checked = check_checked(damaged, l).map(|_| ());
+    let verdicts = [added, found, listed, imported, exported, checked].map(|answer| answer == Err((3, 0)));
+    assert!(verdicts == [verdicts[0]; 6], "{verdicts:?}");
     verdicts[0]
 }
 

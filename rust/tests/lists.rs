@@ -3,7 +3,8 @@
 
 mod common;
 
-use common::{check_add, check_export, check_import, check_k_nearest, check_list, check_nearest, check_open, junk, longer, measures};
+use common::{check_add, check_checked, check_export, check_import, check_k_nearest, check_list, check_nearest, check_open};
+use common::{junk, longer, measures};
 use silkendoz::model::recording;
 use silkendoz::model::tables::{judge_opening, needs, Lengths, Tables};
 use silkendoz::model::{Library, Measures, Refused, Trace};
@@ -66,6 +67,7 @@ fn some_measures(random: &mut Random) -> Measures {
 const K_NEAREST_CALLS: usize = 4;
 const SHEET_CALLS: usize = 4;
 const RECORDING_CALLS: usize = 4;
+const CHECK_CALLS: usize = 2;
 
 /// A writing, whose sheet is as the book's; or a reading of a sheet, sound or damaged.
 fn sheet_step(random: &mut Random, shape: Shape, t: &mut Tables, book: &mut Book, l: Lengths) {
@@ -172,7 +174,7 @@ fn recording_step(random: &mut Random, shape: Shape, t: &mut Tables, book: &mut 
 fn step(random: &mut Random, shape: Shape, t: &mut Tables, book: &mut Book) {
     let l = lengths(random, t);
     let n = book.library().measures.n as usize;
-    match random.below(12 + K_NEAREST_CALLS + SHEET_CALLS + RECORDING_CALLS) {
+    match random.below(12 + K_NEAREST_CALLS + SHEET_CALLS + RECORDING_CALLS + CHECK_CALLS) {
         0 => {
             let m = some_measures(random);
             let judged = judge_opening(l, m);
@@ -193,7 +195,9 @@ fn step(random: &mut Random, shape: Shape, t: &mut Tables, book: &mut Book) {
         }
         12..=15 => k_nearest_step(random, shape, t, book, l),
         16..=19 => sheet_step(random, shape, t, book, l),
-        20.. => recording_step(random, shape, t, book, l),
+        20..=23 => recording_step(random, shape, t, book, l),
+        // a check accepts every library that calls made: 13 never arises
+        24.. => assert_eq!(check_checked(t, l).map(|_| ()), book.short(l).map(|_| ())),
         _ => {
             let (q, mut trail) = some_query(random, shape, book.library());
             let judged = book.judge_match(l, q.len(), trail.len());

@@ -52,6 +52,7 @@ fn play(file: &str, at_least: usize) {
 fn the_stage() {
     play("stage-04.txt", 40);
     play("stage-05.txt", 40);
+    play("stage-06.txt", 40);
 }
 
 /// The tree, bounds, walks and distances with a limit between the calls.
@@ -64,6 +65,7 @@ fn looked_inside() {
 #[test]
 fn altered_tables() {
     play("altered-04.txt", 30);
+    play("altered-06.txt", 30);
 }
 
 /// The program's line for a sheet.
@@ -75,7 +77,7 @@ fn the_program() {
 /// The smallest cases that tell two readings of document 02 apart.
 #[test]
 fn telling_cases() {
-    play("telling.txt", 32);
+    play("telling.txt", 38);
 }
 
 /// A script of lines and replies.
@@ -135,6 +137,34 @@ fn sheets() {
     says(&[(&format!("program {sheet}"), "refused 6 0"), ("program -", "refused 8 0")]);
 }
 
+/// Tables altered between the calls: a figure is loose, a threshold is not, a sample may be.
+#[test]
+fn checks() {
+    says(&[
+        ("check", "refused 3 0"),
+        ("open 1 8 1", "done"),
+        ("check", "trusted"),
+        ("check | short=work", "refused 2 0"),
+        ("add 0", "added 0"),
+        ("add 4", "added 1"),
+        ("check", "trusted"),
+        ("alter 2 0 greatest_sum 5", "altered"),
+        ("check", "refused 13 0"),
+        ("match 4", "matched 1 0 1 1 trail 2"),
+        ("alter 2 0 greatest_sum 4", "altered"),
+        ("alter 0 threshold -1", "altered"),
+        ("check", "trusted"),
+        ("match 0", "matched 0 0 1 1 trail 1"),
+        ("add 3", "added 2"),
+        ("check", "trusted"),
+        ("alter trace 0 1 1", "altered"),
+        ("check", "refused 13 0"),
+        ("alter 0 0 least_sum 1000000", "altered"),
+        ("check", "refused 3 0"),
+        ("2 check", "refused 3 0"),
+    ]);
+}
+
 #[test]
 fn lines_that_are_no_calls() {
     let mut session = Session::new();
@@ -154,6 +184,8 @@ fn lines_that_are_no_calls() {
         "match 1 1 | short=trail",
         "read 0",
         "write 1",
+        "check 1",
+        "check | trail=1",
         "tree 1",
         "below 1",
         "walks",

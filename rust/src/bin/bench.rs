@@ -1,13 +1,14 @@
 //! Tables of times, all in one run: the calls beside the scan on the same data, medians of many rounds, n = 256 and capacity 4,096. The
 //! first is of all calls, the second of lists of five; below them, what it takes to add traces that are all the same, and to import a
-//! recording beside reading the sheet of the same traces.
+//! recording beside reading the sheet of the same traces. `bench worst` is about many traces in one leaf, `bench check` about the check of
+//! tables.
 //!
 //! Machines differ, and so do runs; within a line the columns belong together, and the ratios are what counts. Every answer is compared
 //! with the scan's.
 
 use silkendoz::lending;
 use silkendoz::model::tables::{needs, Tables};
-use silkendoz::model::{recording, sheet, Measures, Trace};
+use silkendoz::model::{recording, segments_of, sheet, Figure, Kind, Library, Measures, Node, Segment, Test, Trace};
 use silkendoz::random::{near, noisy_sine, uniform, walk, Random};
 use silkendoz::{scan, TraceLibrary};
 use std::fmt::Debug;
@@ -235,6 +236,71 @@ fn worst() {
     [64, 4].into_iter().for_each(lines_of_worst);
 }
 
+/// The ranges of two lists of traces together.
+fn together(a: &[Segment], b: &[Segment]) -> Vec<Segment> {
+    let both = |(a, b): (&Segment, &Segment)| Segment {
+        end: a.end,
+        least_sum: a.least_sum.min(b.least_sum),
+        greatest_sum: a.greatest_sum.max(b.greatest_sum),
+        least_scatter: a.least_scatter.min(b.least_scatter),
+        greatest_scatter: a.greatest_scatter.max(b.greatest_scatter),
+    };
+    a.iter().zip(b).map(both).collect()
+}
+
+/// A tree that is a chain, a trace at each node of it, with one more cut at each of the first fifteen: below a cut, no record has the
+/// segment, so that its figures come from the samples of all traces below.
+fn chain(stored: Vec<Trace>) -> Library {
+    let cuts: Vec<usize> = (1..16).map(|i| N * i / 16).chain([N]).collect();
+    let ends = |depth: usize| cuts[15 - depth.min(15)..].to_vec();
+    let last = stored.len() - 1;
+    let mut nodes = vec![Node { segments: segments_of(&ends(last), &[&stored[last]]), kind: Kind::Leaf(vec![last]) }];
+    for i in (0..last).rev() {
+        let below: Vec<&[i16]> = stored[i..].iter().map(Vec::as_slice).collect();
+        let leaf = Node { segments: segments_of(&ends(i + 1), &below[..1]), kind: Kind::Leaf(vec![i]) };
+        let segments = if i < 15 { segments_of(&ends(i), &below) } else { together(&leaf.segments, &nodes[nodes.len() - 1].segments) };
+        let test = Test { figure: Figure::Sum, first: 1, last: N, threshold: 0 };
+        nodes.push(leaf);
+        nodes.push(Node { segments, kind: Kind::Inner { test, left: 2 * i + 1, right: 2 * i + 2 } });
+    }
+    nodes.reverse();
+    Library { measures: Measures { n: N as u64, capacity: CAPACITY as u64, leaf_size: 1 }, traces: stored, nodes }
+}
+
+/// What a check takes, beside a scan of the same traces: how many passes over the samples that is.
+fn line_of_check(name: &str, t: &Tables) {
+    let (l, query) = (t.lengths(), vec![0; N]);
+    let check = median((0..ROUNDS).map(|_| time(|| lending::check_tables(black_box(t), l).expect("it is exact")).0).collect());
+    let scan = median((0..ROUNDS).map(|_| time(|| black_box(scan::nearest(&t.samples, N, black_box(&query)))).0).collect());
+    println!("{name:<24}{:>7}{check:>10.0}{scan:>8.0}{:>9.1}", t.control[4], check / scan);
+}
+
+/// `bench check`: the check of full libraries, and of the tree that takes longest.
+fn check() {
+    println!("n = {N}, {CAPACITY} traces; microseconds, medians of {ROUNDS}; x: check / scan");
+    println!("{:<24}{:>7}{:>10}{:>8}{:>9}", "data, leaf size", "nodes", "check", "scan", "x");
+    let random = &mut Random::seeded(2026);
+    for data in [Data::Walks, Data::Sines, Data::Noise] {
+        let stored: Vec<Trace> = (0..CAPACITY).map(|_| data.trace(random)).collect();
+        for leaf_size in [64, 16, 4] {
+            let m = Measures { n: N as u64, capacity: CAPACITY as u64, leaf_size };
+            let l = needs(m);
+            let mut t = Tables {
+                control: vec![0; l.control],
+                samples: vec![0; l.samples],
+                nodes: vec![0; l.nodes],
+                links: vec![0; l.links],
+                work: vec![0; l.work],
+            };
+            lending::read_sheet(&mut t, l, &sheet::write(m, &stored)).expect("it is sound");
+            line_of_check(&format!("{} {leaf_size}", data.name()), &t);
+        }
+        if matches!(data, Data::Walks) {
+            line_of_check("a chain of cuts", &Tables::of(&chain(stored)));
+        }
+    }
+}
+
 /// Microseconds for adding all of these to an empty library.
 fn building(stored: &[Trace], leaf_size: usize) -> f64 {
     let mut library = TraceLibrary::open(N, CAPACITY, leaf_size).expect("measures are in range");
@@ -294,8 +360,10 @@ fn line_of_recordings(leaf_size: usize) {
 }
 
 fn main() {
-    if std::env::args().nth(1).as_deref() == Some("worst") {
-        return worst();
+    match std::env::args().nth(1).as_deref() {
+        Some("worst") => return worst(),
+        Some("check") => return check(),
+        _ => {}
     }
     println!("n = {N}, capacity {CAPACITY}, full; times in microseconds, medians ({QUERIES} queries, the last {ADDED} traces added)");
     println!("scan: every trace; leaving: the same scan, leaving a trace that is no longer below the best; x: scan / match and leaving / match, query by query");

@@ -321,6 +321,20 @@ impl Library {
         }
     }
 
+    /// "the traces below", by the leaves' lists.
+    pub fn below(&self, node: usize) -> Vec<usize> {
+        match &self.nodes[node].kind {
+            Kind::Leaf(numbers) => numbers.clone(),
+            Kind::Inner { left, right, .. } => [self.below(*left), self.below(*right)].concat(),
+        }
+    }
+
+    /// "recomputes every least and greatest sum and scatter from the traces below": whether each recorded one is exactly that.
+    pub fn is_exact(&self) -> bool {
+        let exact = |(j, node): (usize, &Node)| node.segments == segments_of(&node.ends(), &self.named(&self.below(j)));
+        self.nodes.iter().enumerate().all(exact)
+    }
+
     /// Adds a trace that nothing refuses; its number is the answer.
     pub fn add(&mut self, trace: &[i16]) -> usize {
         let number = self.traces.len();

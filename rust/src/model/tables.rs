@@ -265,6 +265,15 @@ impl Tables {
         library.judge_one(number, rate, buffer)?;
         Ok(library)
     }
+
+    /// A check: then "13 loose record, when well-formed tables hold a figure that isn't exactly the recomputed one, last in order".
+    pub fn judge_check(&self) -> Result<Library, Refused> {
+        let library = self.judge_made()?;
+        if !library.is_exact() {
+            return Err((13, 0));
+        }
+        Ok(library)
+    }
 }
 
 /// What a search, an import and an export refuse by the library alone, once its tables are sound.

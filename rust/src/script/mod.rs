@@ -30,7 +30,7 @@ use memory::{Area, Effect, Memory};
 use std::fmt::Display;
 
 /// How many of document 02's requests have landed.
-pub const STAGE: usize = 5;
+pub const STAGE: usize = 6;
 
 /// Two libraries, of which nothing was opened at first: the factory's is the first, the bench's the second.
 pub struct Session {
@@ -59,7 +59,7 @@ struct Played {
     play: fn(&mut Session, Line<'_>) -> Reply,
 }
 
-const LINES: [Played; 14] = [
+const LINES: [Played; 15] = [
     Played { name: "open", keys: &["short"], play: open },
     Played { name: "add", keys: &["short"], play: add },
     Played { name: "match", keys: &["short", "trail"], play: nearest },
@@ -68,6 +68,7 @@ const LINES: [Played; 14] = [
     Played { name: "near", keys: &["short", "trail", "list"], play: k_nearest },
     Played { name: "import", keys: &["short"], play: import },
     Played { name: "export", keys: &["short", "buffer"], play: export },
+    Played { name: "check", keys: &["short"], play: check },
     Played { name: "tree", keys: &[], play: looking::tree },
     Played { name: "below", keys: &[], play: looking::below },
     Played { name: "walks", keys: &[], play: looking::walks },
@@ -189,4 +190,10 @@ fn export(session: &mut Session, mut line: Line<'_>) -> Reply {
     let answer = library.call(&line, Effect::Looks, |t, l| lending::export_recording(t, l, buffer.lent(), number, rate.into()));
     let size = buffer.kept_if_refused(answer)?;
     Ok(format!("exported {size} {}", bytes::told(buffer.filled(size))))
+}
+
+fn check(session: &mut Session, line: Line<'_>) -> Reply {
+    line.end()?;
+    session.library(&line).call(&line, Effect::Looks, |t, l| lending::check_tables(t, l))?;
+    Ok("trusted".into())
 }

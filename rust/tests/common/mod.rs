@@ -1,7 +1,7 @@
 //! What several tests use: the calls on a set of tables, held to the model.
 #![allow(dead_code)]
 
-pub use silkendoz::lending::{add, export_recording, import_recording, k_nearest, nearest, open, read_sheet, write_sheet};
+pub use silkendoz::lending::{add, check_tables, export_recording, import_recording, k_nearest, nearest, open, read_sheet, write_sheet};
 use silkendoz::model::tables::{judge_opening, Lengths, Tables};
 use silkendoz::model::{KNearest, Kind, Library, Match, Measures, Refused};
 use silkendoz::program::repository;
@@ -273,4 +273,13 @@ pub fn check_export(t: &Tables, l: Lengths, buffer: &mut [u8], number: u64, rate
         }
     }
     answer
+}
+
+// ---- the check
+
+/// The answer is the model's. (Tables are lent to it only to be read.) The library that the tables hold is given back.
+pub fn check_checked(t: &Tables, l: Lengths) -> Result<Library, Refused> {
+    let judged = t.first(l).judge_check();
+    assert_eq!(check_tables(t, l), judged.as_ref().map(|_| ()).map_err(|&refused| refused));
+    judged
 }

@@ -51,12 +51,12 @@ fn listed_figures(samples: &[i16], n: usize, list: &[u16], first: usize, last: u
         least_scatter: 0,
         greatest_scatter: 0,
     };
-    let mut i: usize = 0;
-    while i < list.len() {
-        let trace = trace_at(samples, n, wide(list[i]));
+    let mut next: usize = 0;
+    while next < list.len() {
+        let trace = trace_at(samples, n, wide(list[next]));
         let own = figures_on(trace, first, last);
         f = widened(f, own.sum, own.scatter);
-        i += 1;
+        next += 1;
     }
     f
 }

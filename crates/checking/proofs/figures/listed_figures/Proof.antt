@@ -40,7 +40,7 @@ module _ (c : tie.After-wide Inv-loop μ-loop) where
   s = turn .before .before .before
 
   abbrev i : ℕ
-  i = turn .before .loop .i
+  i = turn .before .loop .next
 
   abbrev t : ℕ
   t = getD (s .args .list .now) i 0
@@ -75,10 +75,10 @@ loop-again c =
     let e : c .widened .result ≡ withFigures (l .f) (r .sum) (r .scatter) = c .widened .ensures ∙ ap₂ (withFigures (l .f)) back refl in
     let taken : c .widened .result ≡ step (l .f) (t k) =
     e ∙ ap₂ (withFigures (l .f)) (own .ensures .0 .0 ∙ ap (sumOn on) (traced tr)) (own .ensures .1 .0 ∙ ap (scatterOn on) (traced tr)) in
-    let rest : drop (l .i) list ≡ t k ∷ drop (l .i + 1) list =
-    rw (add-one (l .i)) (drop-cons list (l .i) 0 (turn k .loop-test .taken)) in (
+    let rest : drop (l .next) list ≡ t k ∷ drop (l .next + 1) list =
+    rw (add-one (l .next)) (drop-cons list (l .next) 0 (turn k .loop-test .taken)) in (
       omega (arith, turn k .loop-test .taken),
-      ap (λ (f : Figures). foldl step f (drop (l .i + 1) list)) taken ∙ (sym (ap (foldl step (l .f)) rest) ∙ l .inv .1),
+      ap (λ (f : Figures). foldl step f (drop (l .next + 1) list)) taken ∙ (sym (ap (foldl step (l .f)) rest) ∙ l .inv .1),
     )
 
 returns : tie.Need-returns Inv-loop μ-loop
@@ -88,7 +88,7 @@ returns c =
     let l = c .before .loop in
     let on = run (a .first) (a .last) in
     let step = takingAt (a .samples .now) (a .n) on in
-    let none = drop-of-length-le (a .list .now) {i = l .i} (c .loop-test .left) in
+    let none = drop-of-length-le (a .list .now) {i = l .next} (c .loop-test .left) in
     let e : l .f ≡ foldl step noFigures (a .list .now) = sym (ap (foldl step (l .f)) none) ∙ l .inv .1 in
     ap (segmentBy (a .last)) e ∙ along-taken (a .samples .now) (a .n) on (a .list .now)
 

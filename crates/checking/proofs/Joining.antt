@@ -68,8 +68,8 @@ greater-assoc a b c =
     (greater-least (≤ℤ-trans (greater-left a b) (greater-left ab c))
     (greater-least (≤ℤ-trans (greater-right a b) (greater-left ab c)) (greater-right ab c)))
 
-mapped-both : {A : Type 0} (f : Trace → A) (choice : A → A → A) (other : A) →
-    ((a b c : A) → choice (choice a b) c ≡ choice a (choice b c))
+mapped-both : {A : Type 0} (f : Trace → A) (choice : A → A → A) (other : A)
+    → ((a b c : A) → choice (choice a b) c ≡ choice a (choice b c))
     → (x y : List Trace) → 0 < length x → 0 < length y → chosen choice other (map f (x ++ y)) ≡ choice (chosen choice other (map f x))
     (chosen choice other (map f y))
 mapped-both f choice other assoc x y h g =

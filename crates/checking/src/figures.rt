@@ -40,8 +40,8 @@ ghost use Rattle.checking.specs.Compared.{joinedFigures, firstOn, traces
 
 // Of the traces whose numbers are listed.
 fn listed_figures(samples: &[i16], n: usize, list: &[u16], first: usize, last: usize) -> Figures
-    requires { ⌜ (n ≤ 256) × Inside n first last × (length (now list) ≤ 4096) ×
-        ((t : ℕ) → In t (now list) → t * n + n ≤ length (now samples)) ⌝ }
+    requires { ⌜ (n ≤ 256) × Inside n first last × (length (now list) ≤ 4096)
+        × ((t : ℕ) → In t (now list) → t * n + n ≤ length (now samples)) ⌝ }
     ensures { λ r. ⌜ segmentBy last r ≡ segmentOf (tracesAt (now (samples .entry)) n (now (list .entry))) (run first last) ⌝ }
 {
     let mut f = Figures {

@@ -1,6 +1,5 @@
 -- What the judge of tables leaves to the check: tables that are well formed and long enough, in which neither the test nor what it looks
--- at depends on
--- search work. And the two ways that the check ends.
+-- at depends on search work. And the two ways that the check ends.
 use mathlib.Core.Path.{_≡_, refl, _∙_}
 use mathlib.Core.Bool.{Bool, not}
 use mathlib.Core.Option.{none}

@@ -1,6 +1,5 @@
 -- The least and the greatest of two lists together are the lesser and the greater of both lists' own. So the figures of an inner node's
--- traces follow
--- from its children's.
+-- traces follow from its children's.
 use mathlib.Core.Path.{_≡_, refl, ap, _∙_}
 use mathlib.Core.Logic.{_⊎_, inl, inr}
 use mathlib.Core.List.{List, [], _∷_, _++_, map, foldl, map-append}

@@ -1,6 +1,5 @@
 -- Node after node is laid: a leaf's numbers are written, an inner node's children get their places. When all are, every node's numbers
--- stand at
--- its place.
+-- stand at its place.
 use mathlib.Core.Path.{_≡_, refl, sym, ap, subst, _∙_}
 use mathlib.Core.Logic.{_⊎_, inl, inr}
 use mathlib.Core.List.{List, _++_}

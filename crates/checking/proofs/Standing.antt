@@ -1,6 +1,5 @@
 -- Where the traces below a node stand in the list of all: an inner node's children stand one behind the other, from its own place on.
--- What is
--- written there is what that list has there.
+-- What is written there is what that list has there.
 use mathlib.Core.Path.{_≡_, sym, ap, subst, _∙_}
 use mathlib.Core.Logic.{inl, inr}
 use mathlib.Core.List.{List, [], _++_, append-nil, append-assoc}

@@ -1,6 +1,5 @@
 -- Tables that are well formed and long enough: their nodes may be walked, and once the traces below each node are laid out their records
--- may be
--- compared. The comparison of all records is then the test of the tree.
+-- may be compared. The comparison of all records is then the test of the tree.
 use mathlib.Core.Path.{_≡_, refl, sym, ap, ap₂, subst, _∙_}
 use mathlib.Core.List.{List, [], _++_}
 use Prim.Native.Nat.{ℕ, suc, _+_, _*_, _-_, _≤_, _<_}

@@ -1,6 +1,5 @@
 -- The traces below every node in one array: those of a node stand one behind another, of an inner node first those of its left child,
--- then those
--- of its right one. So all lists together take one place a trace.
+-- then those of its right one. So all lists together take one place a trace.
 use Prim.Native.Nat.{ℕ, _+_, _*_, _≤_, _<_}
 use mathlib.Core.Path.{_≡_}
 use mathlib.Core.Logic.{_⊎_}

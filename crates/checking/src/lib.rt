@@ -32,9 +32,8 @@ pub enum Checked {
     Refused(Refusal),
 }
 
-// Of tables that are well formed and long enough. Each sample is read once for its leaf, and once more for each node on the way up where
-// a
-// segment of the parent was cut: at most 16 times, as a record has 16 segments at most. Lists and places are the call's own.
+// Of tables that are well formed and long enough. Each sample is taken once for its leaf, and once more for each node on the way up in
+// which its segment of the parent is cut: 16 times at most, as a record has 16 segments at most. Lists and places are the call's own.
 pub fn is_exact(control: &[u16], samples: &[i16], nodes: &[i64], links: &[u16]) -> bool
     requires { ⌜ T (wellFormed (tables (now control) (now samples) (now nodes) (now links) []))
         × Long (tables (now control) (now samples) (now nodes) (now links) []) ⌝ }
@@ -57,8 +56,7 @@ pub fn is_exact(control: &[u16], samples: &[i16], nodes: &[i64], links: &[u16]) 
 // too.
 //
 // Two wrong programs that the contract rules out: one that accepts a range within which the traces below lie, though it is too wide, and
-// one
-// that looks at leaves only.
+// one that looks at leaves only.
 pub fn check_tables(
     control: &[u16],
     samples: &[i16],

@@ -28,8 +28,7 @@ fn put_list(links: &[u16], k: usize, head: usize, order: &mut [u16; 4096], at: u
 }
 
 // Node j, one of m: a leaf's numbers are written from its start on; the left child of an inner node starts where it does, the right one
-// behind
-// the left one's numbers.
+// behind the left one's numbers.
 fn lay_node(
     nodes: &[i64],
     links: &[u16],

@@ -1,5 +1,5 @@
--- `checking::figures::child_figures` meets its contract: a segment of a record that has exactly the figures of the traces below has
--- those on its samples.
+-- `checking::figures::child_figures` meets its contract: a segment of a record that has exactly the figures of the traces below has those
+-- on its samples.
 use mathlib.Core.Path.{_≡_, sym, ap, subst, _∙_}
 use mathlib.Core.List.{List}
 use Prim.Native.Nat.{ℕ, _+_, _*_, _≤_}

@@ -1,6 +1,5 @@
 -- `checking::order::put_list` meets its contract: the first numbers stand in their places, the rest of the list is still to come, and
--- every other
--- place is as it was.
+-- every other place is as it was.
 use mathlib.Core.Path.{_≡_, sym, subst, _∙_}
 use mathlib.Core.List.{List, _∷_}
 use Prim.Native.Nat.{ℕ, _+_, _-_, _≤_, _<_}

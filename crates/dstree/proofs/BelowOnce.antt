@@ -1,6 +1,5 @@
 -- A trace is below a node once: nodes with a trace below them lie on one way down, so that no trace is below both children of a node. So
--- no list of
--- the traces below a node is longer than there are traces.
+-- no list of the traces below a node is longer than there are traces.
 use Prim.Native.Nat.{ℕ, zero, suc, _≤_, _<_}
 use mathlib.Core.Path.{_≡_, refl, sym, subst}
 use native.Mathlib.Omega.{arith}

@@ -1,6 +1,5 @@
 -- Document 02, §6, of trees: the check says yes exactly if the records have the figures of the traces below; so it accepts what adding
--- makes, and
--- adding to what it accepts leaves what it accepts. The statements are those of `specs/Checking`.
+-- makes, and adding to what it accepts leaves what it accepts. The statements are those of `specs/Checking`.
 use Prim.Native.Nat.{ℕ, _≤_, _<_}
 use mathlib.Core.Path.{_≡_}
 use mathlib.Core.List.{List, [], _∷_, _++_}

@@ -1,6 +1,5 @@
 -- Document 01's A, B and C: what is below each node; the tree that adding makes is exact, and with one figure altered by one it is not.
--- By
--- computation.
+-- By computation.
 use Prim.Native.Nat.{ℕ, _+_}
 use mathlib.Core.Path.{_≡_, refl}
 use mathlib.Core.Bool.{true, false}

@@ -1,6 +1,5 @@
--- The least and the greatest of some figures are one number each: records whose figures are exactly those of some traces are the
--- segments that
--- are recomputed from these traces, and the other way round.
+-- The least and the greatest of some figures are one number each: records whose figures are exactly those of some traces are the segments
+-- that are recomputed from these traces, and the other way round.
 use Prim.Native.Nat.{ℕ, suc, _<_}
 use mathlib.Core.Path.{_≡_, refl, ap, subst}
 use mathlib.Core.List.{List, [], _∷_}

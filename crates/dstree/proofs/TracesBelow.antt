@@ -1,6 +1,5 @@
--- The numbers that are listed as below a node are those of the traces below it. Of a well-formed tree: the fuel is enough, since
--- children are
--- numbered above their parent; an inner node's list is its children's, one behind the other; and no list is empty.
+-- The numbers that are listed as below a node are those of the traces below it. Of a well-formed tree: the fuel is enough, since children
+-- are numbered above their parent; an inner node's list is its children's, one behind the other; and no list is empty.
 use Prim.Native.Nat.{ℕ, zero, suc, _+_, _≤_, _<_}
 use mathlib.Core.Path.{_≡_, refl, sym, _∙_, subst}
 use mathlib.Core.Logic.{_⊎_, inl, inr}

@@ -14,8 +14,8 @@ use Rattle.dstree.specs.Adding.{tracesOf, segmentOf, insertion, treeOf}
 use Rattle.dstree.specs.WellFormed.{wellFormed}
 use Rattle.dstree.specs.Claims.{RangesOf, ExactTree}
 
--- "the traces below", by the leaves' lists: a leaf's own, of an inner node those below its children. Tests do not bear on it.
--- Children are numbered above their parent, so that the number of nodes is fuel enough
+-- "the traces below", by the leaves' lists: a leaf's own, of an inner node those below its children. Tests do not bear on it. Children
+-- are numbered above their parent, so that the number of nodes is fuel enough
 unfoldable pub belowFrom : ℕ → Tree → ℕ → List ℕ
 belowFrom zero tree number = []
 belowFrom (suc fuel) tree number =
@@ -67,8 +67,7 @@ ExactnessOfFormed = (limit : ℕ) (m : Measures) (stored : List Trace) (tree : T
     → Exactness stored tree
 
 -- "If it accepts, a match must be the nearest stored trace and read the fewest leaves, whatever made the tables": an accepted tree is
--- exact, which is
--- all that is claimed of a match (`Claims`: `ClaimsOfExact`) and of the k nearest needs
+-- exact, which is all that is claimed of a match (`Claims`: `ClaimsOfExact`) and of the k nearest needs
 abbrev pub AcceptedExact : Type 0
 AcceptedExact = (limit : ℕ) (m : Measures) (stored : List Trace) (tree : Tree) → T (wellFormed limit m (length stored) tree)
     → ((t : ℕ) → t < length stored → length (getD stored t []) ≡ m .n) → T (isExact stored tree) → ExactTree limit m stored tree

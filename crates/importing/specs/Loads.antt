@@ -15,7 +15,7 @@ use Rattle.adding.specs.Putting.{Takes}
 -- tables that refuse nothing of a file's trace with this number
 pub record Next (control : List ℕ) (samples nodes : List ℤ) (links bytes : List ℕ) (n number : ℕ) : Type 0 where
   pub few : n ≤ mostSamples
-  pub held : file.Holds n bytes number
+  pub held : file.HoldsTrace n bytes number
   pub takes : Takes control samples nodes links (getD (recordedTraces n bytes) number [])
 
 -- tables for traces of n samples, which refuse nothing of those of a sound file, so many

@@ -14,11 +14,11 @@ use Rattle.integer.proofs.Lists.{same-or-not}
 use Rattle.dstree.specs.Measures.{Trace}
 use Rattle.dstree.specs.Figures.{run, sumOn, scatterOn}
 use Rattle.tables.specs.View.{traceIn}
-use Rattle.leaf_figures.specs.Rows.{Kept, Rows, Placed, Column, Columns}
+use Rattle.leaf_figures.specs.Rows.{FiguresAt, Rows, Placed, Column, Columns}
 
 -- figures that are the same elsewhere
-pub kept-at : {x : Trace} {first last : ℕ} {sums : List ℤ} {scatters : List ℕ} {i : ℕ} (sums′ : List ℤ) (scatters′ : List ℕ) → Kept x first last sums scatters i
-    → i < length sums′ → i < length scatters′ → getD sums′ i (pos 0) ≡ getD sums i (pos 0) → getD scatters′ i 0 ≡ getD scatters i 0 → Kept x first last sums′ scatters′ i
+pub kept-at : {x : Trace} {first last : ℕ} {sums : List ℤ} {scatters : List ℕ} {i : ℕ} (sums′ : List ℤ) (scatters′ : List ℕ) → FiguresAt x first last sums scatters i
+    → i < length sums′ → i < length scatters′ → getD sums′ i (pos 0) ≡ getD sums i (pos 0) → getD scatters′ i 0 ≡ getD scatters i 0 → FiguresAt x first last sums′ scatters′ i
 kept-at sums′ scatters′ k a b e g = record {
   in-sums = a;
   in-scatters = b;
@@ -131,6 +131,6 @@ pub rows-of : (samples : List ℤ) (n : ℕ) (list : List ℕ) (count : ℕ) (pl
 rows-of samples n list count place runs sums scatters p c = record {
   places = c .runs-places;
   placed = λ f t h some i. omega (arith, p .inside t i, p .places);
-  kept = λ f t h some i. subst (λ (u : ℕ). Kept (traceIn samples n u) (getD runs f 0) (getD runs (48 + f) 0) sums scatters (f * 65 + getD place t 0)) (p .back t i)
+  kept = λ f t h some i. subst (λ (u : ℕ). FiguresAt (traceIn samples n u) (getD runs f 0) (getD runs (48 + f) 0) sums scatters (f * 65 + getD place t 0)) (p .back t i)
       (c .column f h some (getD place t 0) (p .row t i));
 }

@@ -12,7 +12,7 @@ abbrev pub endsOf : Ends → List ℕ
 endsOf e = take (e .count) (e .at)
 
 -- an array of 16 places, and no more ends than places
-pub record Room (e : Ends) : Type 0 where
+pub record EndsRoom (e : Ends) : Type 0 where
   pub places : length (e .at) ≡ 16
   pub few : e .count ≤ 16
 

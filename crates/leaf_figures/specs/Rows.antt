@@ -7,7 +7,7 @@ use lib.IntN.{ℤ, pos, natAbs}
 use lib.ListN.{length, getD, take}
 use Rattle.integer.specs.Lists.{In}
 use Rattle.segment.specs.Limits.{sumMost, scatterMost}
-use Rattle.dstree.specs.Measures.{Trace}
+use Rattle.dstree.specs.Measures.{Trace, mostSamples, mostTraces}
 use Rattle.dstree.specs.Figures.{run, sumOn, scatterOn}
 use Rattle.tables.specs.View.{traceIn}
 
@@ -17,13 +17,13 @@ tracesAt samples n numbers = map (traceIn samples n) numbers
 
 -- the first `count` places hold numbers of traces that lie in the table whole
 pub record Listed (samples : List ℤ) (n : ℕ) (list : List ℕ) (count : ℕ) : Type 0 where
-  pub narrow : n ≤ 256
+  pub narrow : n ≤ mostSamples
   pub places : length list ≡ 4096
-  pub few : count ≤ 4096
+  pub few : count ≤ mostTraces
   pub inside : (t : ℕ) → In t (take count list) → t * n + n ≤ length samples
 
 -- a trace's figures on a run stand at place i
-pub record Kept (x : Trace) (first last : ℕ) (sums : List ℤ) (scatters : List ℕ) (i : ℕ) : Type 0 where
+pub record FiguresAt (x : Trace) (first last : ℕ) (sums : List ℤ) (scatters : List ℕ) (i : ℕ) : Type 0 where
   pub in-sums : i < length sums
   pub in-scatters : i < length scatters
   pub sum-is : getD sums i (pos 0) ≡ sumOn (run first last) x
@@ -36,7 +36,7 @@ pub record Kept (x : Trace) (first last : ℕ) (sums : List ℤ) (scatters : Lis
 pub record Rows (samples : List ℤ) (n : ℕ) (numbers place runs : List ℕ) (sums : List ℤ) (scatters : List ℕ) : Type 0 where
   pub places : length runs ≡ 96
   pub placed : (f t : ℕ) → f < 48 → 0 < getD runs (48 + f) 0 → In t numbers → t < length place
-  pub kept : (f t : ℕ) → f < 48 → 0 < getD runs (48 + f) 0 → In t numbers → Kept (traceIn samples n t) (getD runs f 0) (getD runs (48 + f) 0) sums scatters (f * 65 + getD place t 0)
+  pub kept : (f t : ℕ) → f < 48 → 0 < getD runs (48 + f) 0 → In t numbers → FiguresAt (traceIn samples n t) (getD runs f 0) (getD runs (48 + f) 0) sums scatters (f * 65 + getD place t 0)
 
 -- ---- while the table is made
 
@@ -49,7 +49,7 @@ pub record Placed (list : List ℕ) (count : ℕ) (place : List ℕ) : Type 0 wh
 
 -- the first m figures of column f
 abbrev pub Column : List ℤ → ℕ → List ℕ → ℕ → ℕ → ℕ → List ℤ → List ℕ → ℕ → Type 0
-Column samples n list f first last sums scatters m = (p : ℕ) → p < m → Kept (traceIn samples n (getD list p 0)) first last sums scatters (f * 65 + p)
+Column samples n list f first last sums scatters m = (p : ℕ) → p < m → FiguresAt (traceIn samples n (getD list p 0)) first last sums scatters (f * 65 + p)
 
 pub record Columns (samples : List ℤ) (n : ℕ) (list : List ℕ) (count : ℕ) (runs : List ℕ) (sums : List ℤ) (scatters : List ℕ) : Type 0 where
   pub runs-places : length runs ≡ 96

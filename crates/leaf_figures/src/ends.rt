@@ -11,7 +11,7 @@ ghost use Rattle.dstree.specs.Node.{ends};
 ghost use Rattle.dstree.specs.Adding.{cutAt};
 ghost use Rattle.tables.specs.Layout.{recordPlaces, segmentsPlace};
 ghost use Rattle.tables.specs.View.{smallAt, segmentsIn};
-ghost use Rattle.leaf_figures.specs.Ends.{endsOf, Room, placeIn};
+ghost use Rattle.leaf_figures.specs.Ends.{endsOf, EndsRoom, placeIn};
 
 // The first `count` places hold the ends; the others are not looked at.
 pub struct Ends {
@@ -23,7 +23,7 @@ pub struct Ends {
 pub fn ends_of(record: &[i64]) -> Ends
     requires { ⌜ (length (now «record») ≡ recordPlaces) × (smallAt (now «record») segmentsPlace ≤ 16) ⌝ }
     ensures { λ r. ⌜ endsOf r ≡ ends (segmentsIn (now («record» .entry))) ⌝ }
-    ensures room { λ r. ⌜ Room r ⌝ }
+    ensures room { λ r. ⌜ EndsRoom r ⌝ }
 {
     let count = small_at(record, SEGMENTS);
     let mut at = [0usize; 16];
@@ -37,7 +37,7 @@ pub fn ends_of(record: &[i64]) -> Ends
 
 // How many of the ends are passed before the first that is above `middle`.
 fn place_of(e: Ends, middle: usize) -> usize
-    requires { ⌜ Room e ⌝ }
+    requires { ⌜ EndsRoom e ⌝ }
     ensures { λ r. ⌜ r ≡ placeIn middle (endsOf e) ⌝ }
     ensures inside { λ r. ⌜ r ≤ e .count ⌝ }
 {
@@ -55,9 +55,9 @@ fn place_of(e: Ends, middle: usize) -> usize
 
 // The ends with one more, in its place: those above it move up by one.
 pub fn with_cut(e: Ends, middle: usize) -> Ends
-    requires { ⌜ Room e × (e .count < 16) ⌝ }
+    requires { ⌜ EndsRoom e × (e .count < 16) ⌝ }
     ensures { λ r. ⌜ endsOf r ≡ cutAt middle (endsOf e) ⌝ }
-    ensures room { λ r. ⌜ Room r ⌝ }
+    ensures room { λ r. ⌜ EndsRoom r ⌝ }
 {
     let place = place_of(e, middle);
     let from = e.at;

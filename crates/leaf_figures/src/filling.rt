@@ -10,7 +10,7 @@ ghost use lib.IntN.{pos};
 ghost use lib.ListN.{length, getD};
 ghost use Rattle.tables.specs.Runs.{Inside};
 ghost use Rattle.dstree.specs.Formed.{Rises};
-ghost use Rattle.leaf_figures.specs.Ends.{endsOf, Room};
+ghost use Rattle.leaf_figures.specs.Ends.{endsOf, EndsRoom};
 ghost use Rattle.leaf_figures.specs.Rows.{Listed, Column, Columns};
 
 // Column f becomes the figures of the list's traces on a run. Other columns stay.
@@ -142,7 +142,7 @@ pub fn fill_rows(
     sums: &mut [i64; 3120],
     scatters: &mut [u64; 3120],
 )
-    requires { ⌜ Listed (now samples) n (now list) count × Room e × Rises n 1 (endsOf e)
+    requires { ⌜ Listed (now samples) n (now list) count × EndsRoom e × Rises n 1 (endsOf e)
         × Columns (now samples) n (now list) count (now runs) (now sums) (now scatters) ⌝ }
     ensures { λ _. ⌜ Columns (now (samples .entry)) n (now (list .entry)) count (now (runs .exit)) (now (sums .exit)) (now (scatters .exit)) ⌝ }
 {

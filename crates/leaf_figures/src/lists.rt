@@ -5,14 +5,15 @@ ghost use mathlib.Core.Path.{_≡_};
 ghost use Prim.Native.Nat.{ℕ, _≤_, _<_};
 ghost use lib.ListN.{length, take};
 ghost use Rattle.integer.specs.Lists.{In};
+ghost use Rattle.dstree.specs.Measures.{mostTraces};
 ghost use Rattle.tables.specs.Walk.{Rising, numbersOf};
 ghost use Rattle.leaf_figures.specs.Rows.{Placed};
 
 // The numbers of the list that starts at `head`, in its order. The answer is how many there are; places behind them are not looked at.
 pub fn list_leaf(links: &[u16], k: usize, head: usize, list: &mut [u16; 4096]) -> usize
-    requires { ⌜ (head < k) × (k ≤ 4096) × (k ≤ length (now links)) × Rising (now links) k × (length (now list) ≡ 4096) ⌝ }
+    requires { ⌜ (head < k) × (k ≤ mostTraces) × (k ≤ length (now links)) × Rising (now links) k × (length (now list) ≡ 4096) ⌝ }
     ensures { λ r. ⌜ take r (now (list .exit)) ≡ numbersOf (now (links .entry)) k head ⌝ }
-    ensures few { λ r. ⌜ r ≤ 4096 ⌝ }
+    ensures few { λ r. ⌜ r ≤ mostTraces ⌝ }
     ensures size { λ _. ⌜ length (now (list .exit)) ≡ 4096 ⌝ }
 {
     let mut count: usize = 0;
@@ -27,7 +28,7 @@ pub fn list_leaf(links: &[u16], k: usize, head: usize, list: &mut [u16; 4096]) -
 
 // Where each number stands in the list.
 pub fn place_list(list: &[u16; 4096], count: usize, place: &mut [u16; 4096])
-    requires { ⌜ (length (now list) ≡ 4096) × (count ≤ 4096) × (length (now place) ≡ 4096) × ((t : ℕ) → In t (take count (now list)) → t < 4096) ⌝ }
+    requires { ⌜ (length (now list) ≡ 4096) × (count ≤ mostTraces) × (length (now place) ≡ 4096) × ((t : ℕ) → In t (take count (now list)) → t < 4096) ⌝ }
     ensures { λ _. ⌜ Placed (now (list .entry)) count (now (place .exit)) ⌝ }
 {
     let mut i: usize = 0;

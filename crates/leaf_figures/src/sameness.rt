@@ -7,6 +7,7 @@ ghost use mathlib.Core.Bool.{true};
 ghost use Prim.Native.Nat.{ℕ, _≤_};
 ghost use lib.ListN.{length, getD, take};
 ghost use Rattle.integer.specs.Lists.{In};
+ghost use Rattle.dstree.specs.Measures.{mostSamples};
 ghost use Rattle.tables.specs.View.{traceIn};
 ghost use Rattle.leaf_figures.specs.Rows.{Listed};
 
@@ -20,7 +21,7 @@ fn differs(a: i16, b: i16) -> u16
 
 // Samples that differ are counted, and the loop does not end at the first: so the compiler takes several at a time.
 fn same_trace(x: &[i16], y: &[i16]) -> bool
-    requires { ⌜ (length (now x) ≡ length (now y)) × (length (now x) ≤ 256) ⌝ }
+    requires { ⌜ (length (now x) ≡ length (now y)) × (length (now x) ≤ mostSamples) ⌝ }
     ensures { λ r. ⌜ (r ≡ true → now (x .entry) ≡ now (y .entry)) ⌝ }
 {
     let n = x.len();

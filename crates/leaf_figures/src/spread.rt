@@ -7,7 +7,7 @@ ghost use Rattle.dstree.specs.Figures.{run};
 ghost use Rattle.dstree.specs.Adding.{segmentOf, spreadOn, spread};
 ghost use Rattle.dstree.specs.Formed.{Rises};
 ghost use Rattle.tables.specs.Runs.{Inside};
-ghost use Rattle.leaf_figures.specs.Ends.{endsOf, Room};
+ghost use Rattle.leaf_figures.specs.Ends.{endsOf, EndsRoom};
 ghost use Rattle.leaf_figures.specs.Rows.{tracesAt, Listed, Rows};
 
 // One segment's term of the spread.
@@ -76,7 +76,7 @@ pub fn spread_along(
     halved: usize,
     e: crate::ends::Ends,
 ) -> u64
-    requires { ⌜ Listed (now samples) n (now list) count × Rows (now samples) n (take count (now list)) (now place) (now runs) (now sums) (now scatters) × Room e × Rises n 1 (endsOf e) ⌝ }
+    requires { ⌜ Listed (now samples) n (now list) count × Rows (now samples) n (take count (now list)) (now place) (now runs) (now sums) (now scatters) × EndsRoom e × Rises n 1 (endsOf e) ⌝ }
     ensures { λ r. ⌜ r ≡ spread (endsOf e) (tracesAt (now (samples .entry)) n (take count (now (list .entry)))) ⌝ }
     ensures size { λ r. ⌜ r ≤ spreadMost ⌝ }
 {

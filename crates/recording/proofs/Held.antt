@@ -12,14 +12,14 @@ use Rattle.dstree.proofs.SheetPieces.{pieces-length}
 use Rattle.dstree.proofs.Recordings.{SoundFile, passed-sound}
 use Rattle.sheet.specs.Codes.{samplesIn}
 use Rattle.sheet.proofs.SamplesIn.{samples-first, trace-at}
-use Rattle.recording.specs.Held.{Holds}
+use Rattle.recording.specs.Held.{HoldsTrace}
 
 pub traces-count : (n : ℕ) (bytes : List ℕ) → length (recordedTraces n bytes) ≡ sizeIn bytes / 2 / n
 unfolding recordedTraces
 traces-count n bytes =
     pieces-length n (sizeIn bytes / 2 / n) (map (decoded narrow) (pieces (narrow .sampleBytes) (sizeIn bytes / 2) (drop headerSize bytes)))
 
-module _ (n : ℕ) (bytes : List ℕ) (number : ℕ) (h : Holds n bytes number) where
+module _ (n : ℕ) (bytes : List ℕ) (number : ℕ) (h : HoldsTrace n bytes number) where
   abbrev samples : ℕ
   samples = sizeIn bytes / 2
 

@@ -5,11 +5,11 @@ ghost use mathlib.Core.Path.{_≡_};
 ghost use mathlib.Core.List.{[]};
 ghost use lib.ListN.{length, getD};
 ghost use Rattle.dstree.specs.Recording.{recordedTraces};
-ghost use Rattle.recording.specs.Held.{Holds};
+ghost use Rattle.recording.specs.Held.{HoldsTrace};
 
 // A trace by its number. Its samples stand one behind another.
 pub fn read_trace(bytes: &[u8], number: usize, trace: &mut [i16])
-    requires { ⌜ Holds (length (now trace)) (now bytes) number ⌝ }
+    requires { ⌜ HoldsTrace (length (now trace)) (now bytes) number ⌝ }
     ensures { λ _. ⌜ now (trace .exit) ≡ getD (recordedTraces (length (now (trace .entry))) (now (bytes .entry))) number [] ⌝ }
 {
     let n = trace.len();

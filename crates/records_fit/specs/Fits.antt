@@ -8,7 +8,7 @@ use lib.ListN.{length}
 use lib.Dec.{leb, ltb, eqb}
 use Rattle.integer.specs.Words.{if_then_else_, every, counting, isIn}
 use Rattle.integer.specs.Lists.{Up}
-use Rattle.dstree.specs.Measures.{sampleLimit}
+use Rattle.dstree.specs.Measures.{sampleLimit, mostSamples}
 use Rattle.dstree.specs.Figures.{run, width}
 use Rattle.dstree.specs.Node.{Segment, Figure, bySum, byScatter, Kind, ends}
 use Rattle.dstree.specs.WellFormed.{childrenOf, endsFit, segmentFits, segmentsFit, testFits}
@@ -57,7 +57,7 @@ restHolds n before (s ∷ rest) = ltb before (s .end) && segmentFits sampleLimit
 -- a segment's end is behind the end before it, 256 at most, and its figures are in their limits
 pub record Behind (before : ℕ) (s : Segment) : Type 0 where
   pub above : before < s .end
-  pub inside : s .end ≤ 256
+  pub inside : s .end ≤ mostSamples
   pub figures : segmentFits sampleLimit (s .end - before) s ≡ true
 
 -- ---- a node and its child
@@ -94,12 +94,12 @@ allKept m nodes = every (keptAt nodes) (counting m 0)
 pub record EndsRise (r : List ℤ) (count : ℕ) : Type 0 where
   pub few : count ≤ 16
   pub rise : Up 0 (ends (segmentsFrom r count 0))
-  pub low : (i : ℕ) → i < count → segmentIn r i .end ≤ 256
+  pub low : (i : ℕ) → i < count → segmentIn r i .end ≤ mostSamples
 
 -- the records of m nodes are in the table, and fit
 pub record AllFit (m : ℕ) (nodes : List ℤ) : Type 0 where
   pub n : ℕ
-  pub short : n ≤ 256
+  pub short : n ≤ mostSamples
   pub fit : recordsFit n m nodes ≡ true
   pub room : m * recordPlaces ≤ length nodes
   pub low : m ≤ 8191

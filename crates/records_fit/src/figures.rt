@@ -5,7 +5,7 @@ ghost use Prim.Native.Nat.{ℕ, _≤_, _<_, _^_};
 ghost use lib.IntN.{pos, negℤ};
 ghost use lib.Signed.{leZ};
 ghost use lib.Dec.{T};
-ghost use Rattle.dstree.specs.Measures.{sampleLimit};
+ghost use Rattle.dstree.specs.Measures.{sampleLimit, mostSamples};
 ghost use Rattle.dstree.specs.WellFormed.{segmentFits, thresholdFits};
 ghost use Rattle.tables.specs.View.{scatterIn};
 ghost use Rattle.records_fit.specs.Fits.{figureNamed};
@@ -47,7 +47,7 @@ pub fn figures_fit(
     least_scatter: i64,
     greatest_scatter: i64,
 ) -> bool
-    requires { ⌜ w ≤ 256 ⌝ }
+    requires { ⌜ w ≤ mostSamples ⌝ }
     ensures { λ r. ⌜ ((end : ℕ) → r ≡ segmentFits sampleLimit w (record {
       end = end;
       leastSum = «least_sum»;
@@ -78,7 +78,7 @@ pub fn figures_fit(
 // A threshold on a run of w samples, by the kind of its node: up to twice the limit of a sum, which is that of a scatter's root too; either side of
 // 0 by sum, from 0 by scatter.
 pub fn threshold_fits(kind: usize, w: u64, threshold: i64) -> bool
-    requires { ⌜ w ≤ 256 ⌝ }
+    requires { ⌜ w ≤ mostSamples ⌝ }
     ensures { λ r. ⌜ r ≡ thresholdFits sampleLimit (figureNamed kind) w threshold ⌝ }
 {
     let limit = w * SAMPLE_LIMIT;

@@ -9,13 +9,14 @@ ghost use mathlib.Core.Path.{_≡_};
 ghost use mathlib.Core.Bool.{true};
 ghost use Prim.Native.Nat.{_+_, _*_, _≤_, _<_};
 ghost use lib.ListN.{length};
+ghost use Rattle.dstree.specs.Measures.{mostSamples};
 ghost use Rattle.tables.specs.Layout.{segmentsPlace, recordPlaces};
 ghost use Rattle.tables.specs.Tables.{recordOf};
 ghost use Rattle.tables.specs.View.{smallAt, segmentsIn};
 ghost use Rattle.records_fit.specs.Fits.{headFits, segmentsHold, recordFits, endsIn, keptAt, Under, ChildrenUnder, recordsFit, allKept, EndsRise, AllFit, InUse, HeadFits};
 
 fn node_fits(nodes: &[i64], j: usize, m: usize, n: usize) -> bool
-    requires { ⌜ (j * recordPlaces + recordPlaces ≤ length (now nodes)) × (j ≤ 8191) × (n ≤ 256) ⌝ }
+    requires { ⌜ (j * recordPlaces + recordPlaces ≤ length (now nodes)) × (j ≤ 8191) × (n ≤ mostSamples) ⌝ }
     ensures { λ r. ⌜ r ≡ recordFits n m j (recordOf (now (nodes .entry)) j) ⌝ }
 {
     crate::records::record_fits(record_at(nodes, j), j, m, n)
@@ -23,7 +24,7 @@ fn node_fits(nodes: &[i64], j: usize, m: usize, n: usize) -> bool
 
 // Every record in use fits by itself.
 pub fn records_fit(nodes: &[i64], m: usize, n: usize) -> bool
-    requires { ⌜ (m * recordPlaces ≤ length (now nodes)) × (m ≤ 8191) × (n ≤ 256) ⌝ }
+    requires { ⌜ (m * recordPlaces ≤ length (now nodes)) × (m ≤ 8191) × (n ≤ mostSamples) ⌝ }
     ensures { λ r. ⌜ r ≡ recordsFit n m (now (nodes .entry)) ⌝ }
 {
     let mut j: usize = 0;
@@ -82,7 +83,7 @@ pub fn ends_kept(nodes: &[i64], m: usize) -> bool
 
 // The head of node j, of m.
 pub fn head_fits(nodes: &[i64], j: usize, m: usize, n: usize) -> bool
-    requires { ⌜ (j * recordPlaces + recordPlaces ≤ length (now nodes)) × (j ≤ 8191) × (n ≤ 256) ⌝ }
+    requires { ⌜ (j * recordPlaces + recordPlaces ≤ length (now nodes)) × (j ≤ 8191) × (n ≤ mostSamples) ⌝ }
     ensures { λ r. ⌜ r ≡ headFits n m j (recordOf (now (nodes .entry)) j) ⌝ }
 {
     crate::records::head_fits(record_at(nodes, j), j, m, n)
@@ -90,7 +91,7 @@ pub fn head_fits(nodes: &[i64], j: usize, m: usize, n: usize) -> bool
 
 // The segments of node j.
 pub fn segments_fit(nodes: &[i64], j: usize, n: usize) -> bool
-    requires { ⌜ (j * recordPlaces + recordPlaces ≤ length (now nodes)) × (j ≤ 8191) × (n ≤ 256) ⌝ }
+    requires { ⌜ (j * recordPlaces + recordPlaces ≤ length (now nodes)) × (j ≤ 8191) × (n ≤ mostSamples) ⌝ }
     ensures { λ r. ⌜ r ≡ segmentsHold n (recordOf (now (nodes .entry)) j) ⌝ }
 {
     crate::records::segments_fit(record_at(nodes, j), n)

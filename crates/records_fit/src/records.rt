@@ -18,7 +18,7 @@ use tables::records::value_at;
 ghost use mathlib.Core.Path.{_≡_};
 ghost use Prim.Native.Nat.{ℕ, _≤_, _<_};
 ghost use lib.ListN.{length};
-ghost use Rattle.dstree.specs.Measures.{sampleLimit};
+ghost use Rattle.dstree.specs.Measures.{sampleLimit, mostSamples};
 ghost use Rattle.dstree.specs.Figures.{run};
 ghost use Rattle.dstree.specs.Node.{inner};
 ghost use Rattle.dstree.specs.WellFormed.{segmentFits, testFits};
@@ -30,7 +30,7 @@ ghost use Rattle.records_fit.specs.Fits.{figureNamed, between, childFits
 
 // A field holds a number above `low`, `high` at most. It is tested as it stands, which spares reading it as a small number first.
 fn between(low: usize, high: usize, v: i64) -> bool
-    requires { ⌜ (low ≤ high) × (high ≤ 256) ⌝ }
+    requires { ⌜ (low ≤ high) × (high ≤ mostSamples) ⌝ }
     ensures { λ r. ⌜ r ≡ between low high (smallOf v) ⌝ }
 {
     if v <= low as i64 {
@@ -41,7 +41,7 @@ fn between(low: usize, high: usize, v: i64) -> bool
 
 // The right end of segment i, from 0, is behind the end before it, and n at most.
 pub fn end_behind(places: &[i64], i: usize, before: usize, n: usize) -> bool
-    requires { ⌜ (length (now places) ≡ recordPlaces) × (i < 16) × (before ≤ n) × (n ≤ 256) ⌝ }
+    requires { ⌜ (length (now places) ≡ recordPlaces) × (i < 16) × (before ≤ n) × (n ≤ mostSamples) ⌝ }
     ensures { λ r. ⌜ r ≡ between before n (segmentIn (now (places .entry)) i .end) ⌝ }
 {
     between(before, n, value_at(places, HEAD + i * SEGMENT))
@@ -57,7 +57,7 @@ fn known(v: i64) -> usize
 
 // The right end of segment i, which was tested.
 pub fn end_at(places: &[i64], i: usize) -> usize
-    requires { ⌜ (length (now places) ≡ recordPlaces) × (i < 16) × (segmentIn (now places) i .end ≤ 256) ⌝ }
+    requires { ⌜ (length (now places) ≡ recordPlaces) × (i < 16) × (segmentIn (now places) i .end ≤ mostSamples) ⌝ }
     ensures { λ r. ⌜ r ≡ segmentIn (now (places .entry)) i .end ⌝ }
 {
     known(value_at(places, HEAD + i * SEGMENT))
@@ -65,7 +65,7 @@ pub fn end_at(places: &[i64], i: usize) -> usize
 
 // The figures of segment i, which is w samples wide.
 pub fn segment_fits(places: &[i64], i: usize, w: u64) -> bool
-    requires { ⌜ (length (now places) ≡ recordPlaces) × (i < 16) × (w ≤ 256) ⌝ }
+    requires { ⌜ (length (now places) ≡ recordPlaces) × (i < 16) × (w ≤ mostSamples) ⌝ }
     ensures { λ r. ⌜ r ≡ segmentFits sampleLimit w (segmentIn (now (places .entry)) i) ⌝ }
 {
     let at = HEAD + i * SEGMENT;
@@ -78,7 +78,7 @@ pub fn segment_fits(places: &[i64], i: usize, w: u64) -> bool
 
 // The first `count` segments: their ends rise to n, and their figures are in their limits.
 fn segments_run(places: &[i64], count: usize, n: usize) -> bool
-    requires { ⌜ (length (now places) ≡ recordPlaces) × (count ≤ 16) × (n ≤ 256) ⌝ }
+    requires { ⌜ (length (now places) ≡ recordPlaces) × (count ≤ 16) × (n ≤ mostSamples) ⌝ }
     ensures { λ r. ⌜ r ≡ restHolds n 0 (segmentsFrom (now (places .entry)) count 0) ⌝ }
 {
     let mut before: usize = 0;
@@ -99,7 +99,7 @@ fn segments_run(places: &[i64], count: usize, n: usize) -> bool
 
 // All segments of a record, which are 1 to 16.
 pub fn segments_fit(places: &[i64], n: usize) -> bool
-    requires { ⌜ (length (now places) ≡ recordPlaces) × (n ≤ 256) ⌝ }
+    requires { ⌜ (length (now places) ≡ recordPlaces) × (n ≤ mostSamples) ⌝ }
     ensures { λ r. ⌜ r ≡ segmentsHold n (now (places .entry)) ⌝ }
 {
     let count = small_at(places, SEGMENTS);
@@ -125,7 +125,7 @@ fn child_fits(m: usize, j: usize, child: usize) -> bool
 
 // A test: its run lies inside 1 to n, and its threshold within the limits.
 fn test_fits(kind: usize, first: usize, last: usize, threshold: i64, n: usize) -> bool
-    requires { ⌜ n ≤ 256 ⌝ }
+    requires { ⌜ n ≤ mostSamples ⌝ }
     ensures { λ r. ⌜ ((left right : ℕ) →
         r ≡ testFits sampleLimit n (inner (record { on = run first last; figure = figureNamed kind; threshold = threshold }) left right)) ⌝ }
 {
@@ -143,7 +143,7 @@ fn test_fits(kind: usize, first: usize, last: usize, threshold: i64, n: usize) -
 
 // The kind of node j, and if it is an inner node its children and its test.
 pub fn head_fits(places: &[i64], j: usize, m: usize, n: usize) -> bool
-    requires { ⌜ (length (now places) ≡ recordPlaces) × (n ≤ 256) ⌝ }
+    requires { ⌜ (length (now places) ≡ recordPlaces) × (n ≤ mostSamples) ⌝ }
     ensures { λ r. ⌜ r ≡ headFits n m j (now (places .entry)) ⌝ }
 {
     let kind = small_at(places, KIND);
@@ -166,7 +166,7 @@ pub fn head_fits(places: &[i64], j: usize, m: usize, n: usize) -> bool
 
 // All that the record of node j, of m, shows by itself.
 pub fn record_fits(places: &[i64], j: usize, m: usize, n: usize) -> bool
-    requires { ⌜ (length (now places) ≡ recordPlaces) × (n ≤ 256) ⌝ }
+    requires { ⌜ (length (now places) ≡ recordPlaces) × (n ≤ mostSamples) ⌝ }
     ensures { λ r. ⌜ r ≡ recordFits n m j (now (places .entry)) ⌝ }
 {
     if !head_fits(places, j, m, n) {

@@ -14,6 +14,7 @@ ghost use mathlib.Core.Bool.{true};
 ghost use mathlib.Core.Logic.{_⊎_};
 ghost use Prim.Native.Nat.{_+_, _≤_, _<_};
 ghost use lib.ListN.{length};
+ghost use Rattle.dstree.specs.Measures.{mostSamples};
 ghost use Rattle.tables.specs.Layout.{segmentsPlace, recordPlaces};
 ghost use Rattle.tables.specs.View.{smallAt, segmentIn};
 ghost use Rattle.records_fit.specs.Fits.{Behind, Under};
@@ -22,7 +23,7 @@ const LONGEST: usize = 256; // samples of a trace, at most
 
 // The right end of segment i is this one.
 fn ends_at(places: &[i64], i: usize, end: usize) -> bool
-    requires { ⌜ (length (now places) ≡ recordPlaces) × (i < 16) × (end ≤ 256) ⌝ }
+    requires { ⌜ (length (now places) ≡ recordPlaces) × (i < 16) × (end ≤ mostSamples) ⌝ }
     ensures { λ r. ⌜ (r ≡ true → segmentIn (now (places .entry)) i .end ≡ end) ⌝ }
 {
     value_at(places, HEAD + i * SEGMENT) == end as i64
@@ -30,7 +31,7 @@ fn ends_at(places: &[i64], i: usize, end: usize) -> bool
 
 // So many of the parent's ends were met, and one more if its next one is this one.
 fn met(parent: &[i64], p: usize, end: usize) -> usize
-    requires { ⌜ (length (now parent) ≡ recordPlaces) × (p < 16) × (end ≤ 256) ⌝ }
+    requires { ⌜ (length (now parent) ≡ recordPlaces) × (p < 16) × (end ≤ mostSamples) ⌝ }
     ensures { λ r. ⌜ (r ≡ p) ⊎ ((r ≡ p + 1) × (segmentIn (now (parent .entry)) p .end ≡ end)) ⌝ }
 {
     if ends_at(parent, p, end) {
@@ -41,7 +42,7 @@ fn met(parent: &[i64], p: usize, end: usize) -> usize
 
 // Segment i of both, behind the end before it. That no end is above n shows when the last one is n.
 fn segments_fit(left: &[i64], right: &[i64], i: usize, before: usize) -> bool
-    requires { ⌜ (length (now left) ≡ recordPlaces) × (length (now right) ≡ recordPlaces) × (i < 16) × (before ≤ 256) ⌝ }
+    requires { ⌜ (length (now left) ≡ recordPlaces) × (length (now right) ≡ recordPlaces) × (i < 16) × (before ≤ mostSamples) ⌝ }
     ensures { λ r. ⌜ (r ≡ true → Behind before (segmentIn (now (left .entry)) i) × Behind before (segmentIn (now (right .entry)) i)
         × (segmentIn (now (right .entry)) i .end ≡ segmentIn (now (left .entry)) i .end)) ⌝ }
 {

@@ -14,7 +14,7 @@ use Rattle.calls.specs.Effects.{outcomeOn}
 use Rattle.replay.specs.declared.Cursor.{Cursor}
 use Rattle.replay.specs.declared.Turn.{Turn}
 use Rattle.replay.specs.Numbers.{replyRow}
-use Rattle.replay.specs.Script.{State, supplyAt, stateAt, Inside, lentBy, cursor, Taken, taken, sizeOf, nextOf, aheadOf, Kind}
+use Rattle.replay.specs.Script.{State, supplyAt, stateAt, CursorInside, lentBy, cursor, Taken, taken, sizeOf, nextOf, aheadOf, Kind}
 use Rattle.replay.specs.Script.{playable, asks, moved}
 use Rattle.replay.specs.Script.{takenBy, leftBy, used, stateAfter, Called, called, calledBy, turned, made, turnOf}
 use Rattle.replay.proofs.OfKind.{of-kind, taken-same}
@@ -74,7 +74,7 @@ moved-on : (from many : ℕ) (l taken left part : List ℕ) → from ≤ length 
     → supplyAt (from + many) (put from (from + many) part l) ≡ used (supplyAt from l) taken left
 moved-on from many l taken left part h g t p n = rw (t, ← p) (supply-moved from many l part h g n)
 
-module _ (memory : Tables) (pool : List ℤ) (trails sheets lists : List ℕ) (at : Cursor) (inside : Inside at pool trails sheets lists)
+module _ (memory : Tables) (pool : List ℤ) (trails sheets lists : List ℕ) (at : Cursor) (inside : CursorInside at pool trails sheets lists)
     (row : List ℕ)
     (k : Kind)
     (can : playable (lentOf memory) (aheadOf (stateAt memory pool trails sheets lists at)) row ≡ some k) where
@@ -101,7 +101,7 @@ module _ (memory : Tables) (pool : List ℤ) (trails sheets lists : List ℕ) (a
     so-many (at .lists) (size .lists) lists (is .lists-there),
   ) refl
 
-  pub inside-then : Inside (moved at size) pool trails sheets lists
+  pub inside-then : CursorInside (moved at size) pool trails sheets lists
   inside-then = record {
     samples-inside = omega (arith, inside .samples-inside, is .samples-there);
     trails-inside = omega (arith, inside .trails-inside, is .trails-there);

@@ -23,7 +23,7 @@ use Rattle.replay.specs.Demanded.{Demanded}
 use Rattle.replay.specs.declared.Cursor.{Cursor}
 use Rattle.replay.specs.declared.Turn.{Turn}
 use Rattle.replay.specs.Numbers.{replyRow, withRow, repliesLaid}
-use Rattle.replay.specs.Script.{rowsIn, rowsOf, lentBy, State, stateAt, Inside, cursor, asks, replyIn, stateAfter, Turned, turned}
+use Rattle.replay.specs.Script.{rowsIn, rowsOf, lentBy, State, stateAt, CursorInside, cursor, asks, replyIn, stateAfter, Turned, turned}
 use Rattle.replay.specs.Script.{made, turnOf}
 use Rattle.replay.specs.Script.{Played, begun, playedOne, playedRow, answersOf, played, whole, tellsRow, nextRow}
 use Rattle.replay.proofs.Asking.{Sound, isSample, asked-typed, asked-within, sound-after}
@@ -127,7 +127,7 @@ module _ (t₀ : Tables) (script : List ℕ) (pool : List ℤ) (trails₀ sheets
     pub state-is : stateAt t pool trails sheets lists at ≡ so-far .now
     pub fine : Fine t₀ replies₀ so-far replies k
     pub onward : foldl (playedRow (lentOf t₀)) so-far (rowsOf (drop place script)) ≡ end
-    pub inside : Inside at pool trails sheets lists
+    pub inside : CursorInside at pool trails sheets lists
     pub few : k ≤ place
 
   pub playing-first : T (areSamples pool) → T (areBytes sheets₀) → Playing t₀ trails₀ sheets₀ lists₀ replies₀ (cursor 0 0 0 0) 0 0
@@ -156,7 +156,7 @@ module _ (t₀ : Tables) (script : List ℕ) (pool : List ℤ) (trails₀ sheets
       → rowsOf (drop place script) ≡ row ∷ rowsOf (drop to script) → place + 1 ≤ to
       → turnOf r t′ pool trails′ sheets′ lists′ ≡ made (lentBy row) (asks (lentOf t) row (stateAt t pool trails sheets lists at))
       (stateAt t pool trails sheets lists at)
-      → Inside (r .at) pool trails sheets lists → length trails′ ≡ length trails → length sheets′ ≡ length sheets → length lists′ ≡
+      → CursorInside (r .at) pool trails sheets lists → length trails′ ≡ length trails → length sheets′ ≡ length sheets → length lists′ ≡
       length lists
       → (replies′ : List ℕ) (k′ : ℕ) → replies′ ≡ tellsRow r k replies → k′ ≡ nextRow r k → Playing t′ trails′ sheets′ lists′ replies′
       (r .at) to k′

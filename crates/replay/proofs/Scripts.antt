@@ -26,7 +26,7 @@ use Rattle.replay.specs.Script.{readings, listings, importings, exportin
 use Rattle.replay.specs.Script.{fitsIn, enough, ifEnough, playable, askedBy, asks, takenBy, stateAfter, made, Played, begun}
 use Rattle.replay.specs.Script.{playedOne, playedRow}
 use Rattle.replay.specs.declared.Cursor.{Cursor}
-use Rattle.replay.specs.Scripts.{Word, Mark, Sized, Possible, Long, Script}
+use Rattle.replay.specs.Scripts.{Word, Mark, Sized, Possible, MachineLengths, Script}
 use Rattle.replay.proofs.ReadBack.{scriptOf, rows-of-script}
 use Rattle.replay.proofs.Asking.{isSample, isByte}
 
@@ -349,7 +349,7 @@ unfolding behind
 behind-all lengths f each [] all-none = all-none
 behind-all lengths f each (c ∷ calls) (all-more h others) = all-append (each c h) (behind-all lengths f each calls others)
 
-module _ (lengths : Lent) (long : Long lengths) where
+module _ (lengths : Lent) (long : MachineLengths lengths) where
   lengths-fit : (lent : Lent) → Within lent lengths → (own : List ℕ) → All Word own → All Word (lengthsAnd lent own)
   unfolding lengthsAnd
   lengths-fit lent w own h =
@@ -375,7 +375,7 @@ module _ (lengths : Lent) (long : Long lengths) where
 
 -- ---- the lemma
 
-pub every-list : (memory : Tables) (calls : List Call) → Long (lentOf memory) → All (Possible (lentOf memory)) calls → Script memory calls
+pub every-list : (memory : Tables) (calls : List Call) → MachineLengths (lentOf memory) → All (Possible (lentOf memory)) calls → Script memory calls
 unfolding areBytes
 every-list memory calls long possible =
     let lengths = lentOf memory in

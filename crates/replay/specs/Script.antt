@@ -97,7 +97,7 @@ stateAt memory pool trails sheets lists at =
     state memory (drop (at .samples) pool) (supplyAt (at .trails) trails) (supplyAt (at .sheets) sheets) (supplyAt (at .lists) lists)
 
 -- no more is taken than there is
-pub record Inside (at : Cursor) (pool : List ℤ) (trails sheets lists : List ℕ) : Type 0 where
+pub record CursorInside (at : Cursor) (pool : List ℤ) (trails sheets lists : List ℕ) : Type 0 where
   pub samples-inside : at .samples ≤ length pool
   pub trails-inside : at .trails ≤ length trails
   pub sheets-inside : at .sheets ≤ length sheets

@@ -40,7 +40,7 @@ pub record Possible (lengths : Lent) (c : Call) : Type 0 where
   pub sized : Sized (c .ask)
 
 -- tables as they are in a machine
-pub record Long (lengths : Lent) : Type 0 where
+pub record MachineLengths (lengths : Lent) : Type 0 where
   pub control-long : Word (lengths .control)
   pub samples-long : Word (lengths .samples)
   pub nodes-long : Word (lengths .nodes)

@@ -13,7 +13,7 @@ ghost use mathlib.Core.Option.{some};
 ghost use mathlib.Core.List.{[], _∷_};
 ghost use mathlib.Core.Bool.{Bool, false};
 ghost use Rattle.tables.specs.Tables.{tables, lentOf};
-ghost use Rattle.replay.specs.Script.{lentBy, stateAt, Inside, taken, aheadOf, playable, asks, movedBy};
+ghost use Rattle.replay.specs.Script.{lentBy, stateAt, CursorInside, taken, aheadOf, playable, asks, movedBy};
 ghost use Rattle.replay.specs.Script.{called, Plays, turned, made, turnOf};
 
 // A row that makes no call takes nothing.
@@ -92,7 +92,7 @@ fn lend(
     at: Cursor,
     to: Cursor,
 ) -> [u64; 5]
-    requires { ⌜ Inside at (now pool) (now trails) (now sheets) (now lists) ⌝ }
+    requires { ⌜ CursorInside at (now pool) (now trails) (now sheets) (now lists) ⌝ }
     requires { ⌜ some to ≡ movedBy (playable (lentOf (tables (now control) (now samples) (now nodes) (now links) (now work)))
         (aheadOf (stateAt (tables (now control) (now samples) (now nodes) (now links) (now work)) (now pool)
         (now trails) (now sheets) (now lists) at)) (now row)) (now row) at ⌝ }
@@ -150,7 +150,7 @@ pub fn turn(
     row: &[u64],
     at: Cursor,
 ) -> Turn
-    requires { ⌜ Inside at (now pool) (now trails) (now sheets) (now lists) ⌝ }
+    requires { ⌜ CursorInside at (now pool) (now trails) (now sheets) (now lists) ⌝ }
     ensures { λ r. ⌜ (turnOf r
         (tables (now (control .exit)) (now (samples .exit)) (now (nodes .exit)) (now (links .exit)) (now (work .exit)))
         (now (pool .entry)) (now (trails .exit)) (now (sheets .exit)) (now (lists .exit))
@@ -160,7 +160,7 @@ pub fn turn(
         (now (pool .entry)) (now (trails .entry)) (now (sheets .entry)) (now (lists .entry)) at)) (stateAt
         (tables (now (control .entry)) (now (samples .entry)) (now (nodes .entry)) (now (links .entry)) (now (work .entry)))
         (now (pool .entry)) (now (trails .entry)) (now (sheets .entry)) (now (lists .entry)) at))
-        × Inside (r .at) (now (pool .entry)) (now (trails .entry)) (now (sheets .entry)) (now (lists .entry)) ⌝ }
+        × CursorInside (r .at) (now (pool .entry)) (now (trails .entry)) (now (sheets .entry)) (now (lists .entry)) ⌝ }
 {
     let lent = Lengths {
         control: control.len(),

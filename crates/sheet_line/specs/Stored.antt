@@ -27,7 +27,7 @@ pub record Roomy (lengths : Lent) (sheet : List ℕ) : Type 0 where
   pub room : Room lengths most
 
 -- tables that hold the traces before the last one of such a sheet
-pub record Stored (control : List ℕ) (samples nodes : List ℤ) (links work sheet : List ℕ) (n last : ℕ) : Type 0 where
+pub record EarlierStored (control : List ℕ) (samples nodes : List ℤ) (links work sheet : List ℕ) (n last : ℕ) : Type 0 where
   pub fine : firstOf (programConditions sheet) ≡ none
   pub size : n ≡ sizeOf sheet
   pub before-last : last + 1 ≡ countOf sheet

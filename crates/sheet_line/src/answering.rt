@@ -20,7 +20,7 @@ ghost use Rattle.sheet_judging.specs.Blocks.{blockAt};
 ghost use Rattle.sheet_judging.specs.Traces.{tracesOf};
 ghost use Rattle.sheet_line.specs.Conditions.{programConditions};
 ghost use Rattle.sheet_line.specs.Lines.{lineBy};
-ghost use Rattle.sheet_line.specs.Stored.{Stored, Roomy, most};
+ghost use Rattle.sheet_line.specs.Stored.{EarlierStored, Roomy, most};
 
 // The match of the last trace among those that the tables hold. `query` is a place for its samples.
 fn match_query(
@@ -34,7 +34,7 @@ fn match_query(
     last: usize,
     query: &mut [i16],
 ) -> Found
-    requires { ⌜ Stored (now control) (now samples) (now nodes) (now links) (now work) (now sheet) (length (now query)) last
+    requires { ⌜ EarlierStored (now control) (now samples) (now nodes) (now links) (now work) (now sheet) (length (now query)) last
         × (recordsNeeded most ≤ length (now trail)) ⌝ }
     ensures { λ r. ⌜ lineBy r ≡ lineOf (measuresIn (blockAt (now (sheet .entry)) 0)) (take last (tracesOf (now (sheet .entry)))) (getD (tracesOf (now (sheet .entry))) last []) ⌝ }
 {
@@ -62,7 +62,7 @@ fn match_last(
     n: usize,
     last: usize,
 ) -> Found
-    requires { ⌜ Stored (now control) (now samples) (now nodes) (now links) (now work) (now sheet) n last ⌝ }
+    requires { ⌜ EarlierStored (now control) (now samples) (now nodes) (now links) (now work) (now sheet) n last ⌝ }
     ensures { λ r. ⌜ lineBy r ≡ lineOf (measuresIn (blockAt (now (sheet .entry)) 0)) (take last (tracesOf (now (sheet .entry)))) (getD (tracesOf (now (sheet .entry))) last []) ⌝ }
 {
     let mut query = [0i16; 64];

@@ -8,7 +8,7 @@ use lib.IntN.{ℤ, pos}
 use lib.ListN.{replicate}
 use Rattle.tables.specs.Walk.{Rising, Stored}
 use Rattle.dstree.specs.Formed.{Rises, rises-none, rises-more}
-use Rattle.leaf_figures.specs.Ends.{endsOf, Room}
+use Rattle.leaf_figures.specs.Ends.{endsOf, EndsRoom}
 use Rattle.leaf_figures.specs.declared.ends.Ends.{Ends}
 
 abbrev pub samples : List ℤ
@@ -29,7 +29,7 @@ rising (suc (suc (suc s))) h = absurd (omega arith)
 pub stored : Stored samples links 4 3 0
 stored = record { wide = omega arith; narrow = omega arith; few = omega arith; samples-room = omega arith; links-room = omega arith; rising = rising; inside = omega arith }
 
-pub room : Room ends
+pub room : EndsRoom ends
 room = record { places = refl; few = omega arith }
 
 pub rise : Rises 4 1 (endsOf ends)

@@ -11,12 +11,12 @@ use lib.Dec.{ltb}
 use borrow.Author.Tests.{lt-ltb, le-ltb, le-leb, lt-leb, ne-eqb}
 use Rattle.dstree.specs.Figures.{run}
 use Rattle.dstree.specs.Adding.{byEither, leftHalfEnd, halves}
-use Rattle.leaf_figures.specs.Ends.{endsOf, Room}
+use Rattle.leaf_figures.specs.Ends.{endsOf, EndsRoom}
 use Rattle.leaf_figures.specs.declared.ends.Ends.{Ends}
 use Rattle.split_choice.specs.Choosing.{childEnds}
 
 -- no more ends than places
-pub ends-count : (e : Ends) → Room e → length (endsOf e) ≡ e .count
+pub ends-count : (e : Ends) → EndsRoom e → length (endsOf e) ≡ e .count
 ends-count e r = length-take-le (e .count) (e .at) (omega (arith, r .places, r .few))
 
 and-false : (b : Bool) → b && false ≡ false

@@ -15,7 +15,7 @@ use Rattle.dstree.specs.Adding.{tracesOf}
 use Rattle.tables.specs.View.{traceIn}
 use Rattle.tables.specs.Walk.{storedIn}
 use Rattle.tables.proofs.Listed.{stored-at}
-use Rattle.leaf_figures.specs.Rows.{tracesAt, Kept, Rows}
+use Rattle.leaf_figures.specs.Rows.{tracesAt, FiguresAt, Rows}
 use Rattle.split_choice.specs.Siding.{onSide, sideOf}
 
 -- one number more, if it is on the side
@@ -73,9 +73,9 @@ side-in samples n test left numbers i = from-those (λ (u : ℕ). onSide left (g
 pub row-at : {samples : List ℤ} {n : ℕ} {numbers place runs : List ℕ} {sums : List ℤ} {scatters : List ℕ}
     → Rows samples n numbers place runs sums scatters → (column first last : ℕ) → 0 < last → (column < 48 → getD runs column 0 ≡ first)
     → (column < 48 → getD runs (48 + column) 0 ≡ last) → (t : ℕ) → In t numbers
-    → (column < 48 → t < length place) × (column < 48 → Kept (traceIn samples n t) first last sums scatters (column * 65 + getD place t 0))
+    → (column < 48 → t < length place) × (column < 48 → FiguresAt (traceIn samples n t) first last sums scatters (column * 65 + getD place t 0))
 row-at {samples} {n} {numbers} {place} {runs} {sums} {scatters} r column first last some from to t i =
-    let kept : (f l : ℕ) → Type 0 = λ (f l : ℕ). Kept (traceIn samples n t) f l sums scatters (column * 65 + getD place t 0) in (
+    let kept : (f l : ℕ) → Type 0 = λ (f l : ℕ). FiguresAt (traceIn samples n t) f l sums scatters (column * 65 + getD place t 0) in (
       (λ h. r .placed column t h (omega (arith, to h, some)) i),
       (λ h. subst (λ (f : ℕ). kept f last) (from h)
           (subst (λ (l : ℕ). kept (getD runs column 0) l) (to h) (r .kept column t h (omega (arith, to h, some)) i))),

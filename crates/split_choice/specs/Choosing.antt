@@ -18,7 +18,7 @@ use Rattle.dstree.specs.Adding.{Candidate, cutAt, tracesOf, Split, splitBy, par
 use Rattle.dstree.specs.Formed.{Rises}
 use Rattle.tables.specs.Walk.{storedIn, numbersOf}
 use Rattle.tables.specs.Runs.{figureBy, Inside}
-use Rattle.leaf_figures.specs.Ends.{endsOf, Room}
+use Rattle.leaf_figures.specs.Ends.{endsOf, EndsRoom}
 use Rattle.leaf_figures.specs.Rows.{Listed, Rows}
 use Rattle.leaf_figures.specs.declared.ends.Ends.{Ends}
 use Rattle.tables.specs.Runs.{testBy}
@@ -114,7 +114,7 @@ pub record Leaf (samples : List ℤ) (n k : ℕ) (list : List ℕ) (count : ℕ)
   pub listed : Listed samples n list count
   pub below : (t : ℕ) → In t (take count list) → t < k
   pub rows : Rows samples n (take count list) place runs sums scatters
-  pub room : Room e
+  pub room : EndsRoom e
   pub rise : Rises n 1 (endsOf e)
   pub spread-is : whole ≡ spread (endsOf e) (tracesOf (storedIn samples n k) (take count list))
   pub size : whole ≤ spreadMost

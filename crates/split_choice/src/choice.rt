@@ -15,12 +15,13 @@ ghost use lib.ListN.{length, take};
 ghost use Rattle.integer.specs.Lists.{In};
 ghost use Rattle.segment.specs.Roots.{floorRoot};
 ghost use Rattle.segment.specs.Limits.{scatterMost};
+ghost use Rattle.dstree.specs.Measures.{mostTraces};
 ghost use Rattle.dstree.specs.Figures.{run};
 ghost use Rattle.dstree.specs.Adding.{tracesOf, byEither, halves, cutAt, best};
 ghost use Rattle.dstree.specs.Formed.{Rises};
 ghost use Rattle.tables.specs.Walk.{storedIn, numbersOf, Stored};
 ghost use Rattle.tables.specs.Runs.{Inside};
-ghost use Rattle.leaf_figures.specs.Ends.{endsOf, Room};
+ghost use Rattle.leaf_figures.specs.Ends.{endsOf, EndsRoom};
 ghost use Rattle.leaf_figures.specs.Rows.{Listed, Rows};
 ghost use Rattle.split_choice.specs.Choosing.{nothing, choiceOf, betterOf, trialBy, candidateBy, childEnds, chosenBy, chosenIn, Sound, SoundIn};
 ghost use Rattle.split_choice.specs.Choosing.{After, Fit, Leaf, Reached};
@@ -458,7 +459,7 @@ fn best_along(
     e: Ends,
 ) -> Choice
     requires { ⌜ Listed (now samples) n (now list) count × ((t : ℕ) → In t (take count (now list)) → t < k)
-        × Rows (now samples) n (take count (now list)) (now place) (now runs) (now sums) (now scatters) × Room e × Rises n 1 (endsOf e) ⌝ }
+        × Rows (now samples) n (take count (now list)) (now place) (now runs) (now sums) (now scatters) × EndsRoom e × Rises n 1 (endsOf e) ⌝ }
     ensures { λ r. ⌜ chosenBy (storedIn (now (samples .entry)) n k) (endsOf e) (take count (now (list .entry))) r
         ≡ best (storedIn (now (samples .entry)) n k) (endsOf e) (take count (now (list .entry))) ⌝ }
     ensures sound { λ r. ⌜ Sound n (storedIn (now (samples .entry)) n k) (endsOf e) (take count (now (list .entry))) r ⌝ }
@@ -505,7 +506,7 @@ fn best_kept(
     count: usize,
     e: Ends,
 ) -> Choice
-    requires { ⌜ Listed (now samples) n (now list) count × ((t : ℕ) → In t (take count (now list)) → t < k) × (k ≤ 4096) × Room e × Rises n 1 (endsOf e) ⌝ }
+    requires { ⌜ Listed (now samples) n (now list) count × ((t : ℕ) → In t (take count (now list)) → t < k) × (k ≤ mostTraces) × EndsRoom e × Rises n 1 (endsOf e) ⌝ }
     ensures { λ r. ⌜ chosenBy (storedIn (now (samples .entry)) n k) (endsOf e) (take count (now (list .entry))) r
         ≡ best (storedIn (now (samples .entry)) n k) (endsOf e) (take count (now (list .entry))) ⌝ }
     ensures sound { λ r. ⌜ Sound n (storedIn (now (samples .entry)) n k) (endsOf e) (take count (now (list .entry))) r ⌝ }
@@ -542,7 +543,7 @@ fn best_kept(
 // The split that a leaf takes, over the right ends of its node: the greatest gain, which can be below zero, and the earliest among equals.
 // Nothing is found if no candidate parts the leaf. A leaf whose traces are all the same is not tried: nothing parts it, and it may hold many.
 pub fn choose(samples: &[i16], links: &[u16], n: usize, k: usize, head: usize, e: Ends) -> Choice
-    requires { ⌜ Stored (now samples) (now links) n k head × Room e × Rises n 1 (endsOf e) ⌝ }
+    requires { ⌜ Stored (now samples) (now links) n k head × EndsRoom e × Rises n 1 (endsOf e) ⌝ }
     ensures { λ r. ⌜ chosenIn (now (samples .entry)) (now (links .entry)) n k head e r ≡ best (storedIn (now (samples .entry)) n k) (endsOf e) (numbersOf (now (links .entry)) k head) ⌝ }
     ensures sound { λ r. ⌜ SoundIn (now (samples .entry)) (now (links .entry)) n k head e r ⌝ }
 {

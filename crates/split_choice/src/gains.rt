@@ -14,7 +14,7 @@ ghost use Rattle.dstree.specs.Adding.{spread};
 ghost use Rattle.dstree.specs.Formed.{Rises};
 ghost use Rattle.tables.specs.Walk.{storedIn};
 ghost use Rattle.tables.specs.Runs.{Inside};
-ghost use Rattle.leaf_figures.specs.Ends.{endsOf, Room};
+ghost use Rattle.leaf_figures.specs.Ends.{endsOf, EndsRoom};
 ghost use Rattle.leaf_figures.specs.Rows.{tracesAt, Listed, Rows};
 ghost use Rattle.split_choice.specs.Siding.{trialTest, sideOf};
 ghost use Rattle.split_choice.specs.Choosing.{childEnds, Fit, Leaf, splitOn};
@@ -29,9 +29,9 @@ pub fn gain(whole: u64, left: u64, right: u64) -> i64
 
 // The children's right ends: the leaf's own, or with one more. A cut at 0 is none.
 pub fn child_ends(e: Ends, cut: usize) -> Ends
-    requires { ⌜ Room e × ((cut ≡ 0 → ⊥) → e .count < 16) ⌝ }
+    requires { ⌜ EndsRoom e × ((cut ≡ 0 → ⊥) → e .count < 16) ⌝ }
     ensures { λ r. ⌜ endsOf r ≡ childEnds cut (endsOf e) ⌝ }
-    ensures room { λ r. ⌜ Room r ⌝ }
+    ensures room { λ r. ⌜ EndsRoom r ⌝ }
 {
     if cut == 0 {
         return e;
@@ -56,7 +56,7 @@ fn side_spread(
     side: &mut [u16; 4096],
 ) -> u64
     requires { ⌜ Listed (now samples) n (now list) count × Inside n (c .first) (c .last)
-        × Rows (now samples) n (take count (now list)) (now place) (now runs) (now sums) (now scatters) × (length (now side) ≡ 4096) × Room child × Rises n 1 (endsOf child) ⌝ }
+        × Rows (now samples) n (take count (now list)) (now place) (now runs) (now sums) (now scatters) × (length (now side) ≡ 4096) × EndsRoom child × Rises n 1 (endsOf child) ⌝ }
     ensures { λ r. ⌜ r ≡ spread (endsOf child) (tracesAt (now (samples .entry)) n (sideOf (now (samples .entry)) n (trialTest c threshold) left (take count (now (list .entry))))) ⌝ }
     ensures size { λ r. ⌜ r ≤ spreadMost ⌝ }
     ensures room { λ _. ⌜ length (now (side .exit)) ≡ 4096 ⌝ }

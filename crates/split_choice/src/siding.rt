@@ -9,10 +9,11 @@ ghost use mathlib.Core.Path.{_≡_};
 ghost use Prim.Native.Nat.{suc, _+_, _*_, _≤_, _<_};
 ghost use lib.ListN.{length, getD, take};
 ghost use Rattle.integer.specs.Words.{if_then_else_};
+ghost use Rattle.dstree.specs.Measures.{mostTraces};
 ghost use Rattle.dstree.specs.Node.{goesLeft};
 ghost use Rattle.tables.specs.View.{traceIn};
 ghost use Rattle.tables.specs.Runs.{RunIn, Inside, testBy};
-ghost use Rattle.leaf_figures.specs.Rows.{Listed, Kept, Rows};
+ghost use Rattle.leaf_figures.specs.Rows.{Listed, FiguresAt, Rows};
 ghost use Rattle.split_choice.specs.Siding.{trialTest, onSide, sideOf};
 
 // Whether trace t goes left, by its figures from the table.
@@ -30,7 +31,7 @@ pub fn goes_left_at(
     threshold: i64,
 ) -> bool
     requires { ⌜ RunIn (now samples) n t first last × (column < 48 → t < length (now place))
-        × (column < 48 → Kept (traceIn (now samples) n t) first last (now sums) (now scatters) (column * 65 + getD (now place) t 0)) ⌝ }
+        × (column < 48 → FiguresAt (traceIn (now samples) n t) first last (now sums) (now scatters) (column * 65 + getD (now place) t 0)) ⌝ }
     ensures { λ r. ⌜ r ≡ goesLeft (testBy first last «by_scatter» threshold) (traceIn (now (samples .entry)) n t) ⌝ }
 {
     let own = figures_at(samples, n, place, sums, scatters, column, t, first, last);
@@ -39,7 +40,7 @@ pub fn goes_left_at(
 
 // One more, if it is on the side.
 fn counted(count: usize, left: bool, goes: bool) -> usize
-    requires { ⌜ count ≤ 4096 ⌝ }
+    requires { ⌜ count ≤ mostTraces ⌝ }
     ensures { λ r. ⌜ r ≡ (if onSide left goes then suc count else count) ⌝ }
 {
     if left == goes {
@@ -66,7 +67,7 @@ pub fn list_side(
     requires { ⌜ Listed (now samples) n (now list) count × Inside n (c .first) (c .last)
         × Rows (now samples) n (take count (now list)) (now place) (now runs) (now sums) (now scatters) × (length (now side) ≡ 4096) ⌝ }
     ensures { λ r. ⌜ take r (now (side .exit)) ≡ sideOf (now (samples .entry)) n (trialTest c threshold) left (take count (now (list .entry))) ⌝ }
-    ensures few { λ r. ⌜ r ≤ 4096 ⌝ }
+    ensures few { λ r. ⌜ r ≤ mostTraces ⌝ }
     ensures size { λ _. ⌜ length (now (side .exit)) ≡ 4096 ⌝ }
 {
     let first = c.first;

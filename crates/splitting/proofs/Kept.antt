@@ -91,7 +91,7 @@ module _ {nodes : List ℤ} {links : List ℕ} {samples : List ℤ} {n k count :
         inside = leaf-first k is (s .represents .reads at here .kind) (λ t i. s .represents .shape .numbers t at (in-is i));
       }
 
-      parted : (cut : Split) → best traces (ends (segmentsIn r)) (numbersOf links k (smallAt r firstPlace)) ≡ some cut → needs.Parted nodes count cut
+      parted : (cut : Split) → best traces (ends (segmentsIn r)) (numbersOf links k (smallAt r firstPlace)) ≡ some cut → needs.TwoSides nodes count cut
       unfolding splitTo
       parted cut e =
           let good = best-is-good n traces (ends (segmentsIn r)) (numbersOf links k (smallAt r firstPlace)) fits e in

@@ -10,7 +10,7 @@ use Rattle.dstree.specs.Adding.{segmentsOf, tracesOf}
 use Rattle.dstree.specs.Formed.{Rises}
 use Rattle.tables.specs.Walk.{storedIn, numbersOf, Stored}
 use Rattle.leaf_figures.specs.Sides.{marked}
-use Rattle.leaf_figures.specs.Ends.{endsOf, Room}
+use Rattle.leaf_figures.specs.Ends.{endsOf, EndsRoom}
 use Rattle.leaf_figures.specs.declared.ends.Ends.{Ends}
 use Rattle.insertion_memory.specs.Records.{fieldsOf, leafRecord}
 
@@ -22,7 +22,7 @@ withSegments r segments = take headPlaces r ++ (fieldsOf segments ++ drop (headP
 pub record Side (samples : List ℤ) (links : List ℕ) (n k head : ℕ) (marks : List ℕ) (mark : ℕ) (e : Ends) : Type 0 where
   pub stored : Stored samples links n k head
   pub all-marks : length marks ≡ 4096
-  pub room : Room e
+  pub room : EndsRoom e
   pub rise : Rises n 1 (endsOf e)
   pub some : 0 < length (marked marks mark (numbersOf links k head))
 

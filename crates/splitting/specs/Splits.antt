@@ -13,13 +13,13 @@ use Rattle.tables.specs.Layout.{kindPlace, segmentsPlace, firstPlace, recordPla
 use Rattle.tables.specs.Tables.{recordOf}
 use Rattle.tables.specs.View.{smallAt, segmentsIn}
 use Rattle.tables.specs.Walk.{storedIn, numbersOf, Stored}
-use Rattle.leaf_figures.specs.Ends.{endsOf, Room}
+use Rattle.leaf_figures.specs.Ends.{endsOf, EndsRoom}
 use Rattle.leaf_figures.specs.declared.ends.Ends.{Ends}
 use Rattle.split_choice.specs.Choosing.{Fit, splitOf}
 use Rattle.split_choice.specs.declared.choice.Choice.{Choice}
 
 -- both sides have a trace, and there is room for two nodes more
-pub record Parted (nodes : List ℤ) (count : ℕ) (cut : Split) : Type 0 where
+pub record TwoSides (nodes : List ℤ) (count : ℕ) (cut : Split) : Type 0 where
   pub left-some : 0 < length (cut .left)
   pub right-some : 0 < length (cut .right)
   pub room : suc (suc count) * recordPlaces ≤ length nodes
@@ -29,17 +29,17 @@ pub record Parted (nodes : List ℤ) (count : ℕ) (cut : Split) : Type 0 where
 pub record Parts (nodes : List ℤ) (links : List ℕ) (samples : List ℤ) (n k count at head : ℕ) (e : Ends) (c : Choice) : Type 0 where
   pub inside : at < count
   pub stored : Stored samples links n k head
-  pub room : Room e
+  pub room : EndsRoom e
   pub fit : Fit n (endsOf e) (c .first) (c .last) (c .cut)
   pub threshold-size : natAbs (c .threshold) ≤ 2 * scatterMost 256
-  pub parted : Parted nodes count (splitOf (storedIn samples n k) (endsOf e) (numbersOf links k head) c)
+  pub parted : TwoSides nodes count (splitOf (storedIn samples n k) (endsOf e) (numbersOf links k head) c)
 
 -- node `at`, if it is a leaf: its list, its right ends, and room for two nodes more if a split parts it
 pub record IsLeaf (nodes : List ℤ) (links : List ℕ) (samples : List ℤ) (n k count at : ℕ) : Type 0 where
   pub stored : Stored samples links n k (smallAt (recordOf nodes at) firstPlace)
   pub few : smallAt (recordOf nodes at) segmentsPlace ≤ 16
   pub rise : Rises n 1 (ends (segmentsIn (recordOf nodes at)))
-  pub parted : (cut : Split) → best (storedIn samples n k) (ends (segmentsIn (recordOf nodes at))) (numbersOf links k (smallAt (recordOf nodes at) firstPlace)) ≡ some cut → Parted nodes count cut
+  pub parted : (cut : Split) → best (storedIn samples n k) (ends (segmentsIn (recordOf nodes at))) (numbersOf links k (smallAt (recordOf nodes at) firstPlace)) ≡ some cut → TwoSides nodes count cut
 
 pub record Splits (nodes : List ℤ) (links : List ℕ) (samples : List ℤ) (n k count at : ℕ) : Type 0 where
   pub inside : at < count

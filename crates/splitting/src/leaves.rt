@@ -15,7 +15,7 @@ ghost use Rattle.tables.specs.Layout.{recordPlaces};
 ghost use Rattle.tables.specs.Tables.{withRecord};
 ghost use Rattle.tables.specs.Walk.{storedIn, numbersOf, Stored};
 ghost use Rattle.leaf_figures.specs.Sides.{marked};
-ghost use Rattle.leaf_figures.specs.Ends.{endsOf, Room};
+ghost use Rattle.leaf_figures.specs.Ends.{endsOf, EndsRoom};
 ghost use Rattle.splitting.specs.Leaves.{withSegments, Side, sideRecord};
 
 // The segments of a record, over those of the leaf's traces that have a mark. Its head stays, and so does what is behind the segments.
@@ -30,7 +30,7 @@ pub fn write_segments(
     mark: u8,
     e: leaf_figures::ends::Ends,
 )
-    requires { ⌜ (length (now «record») ≡ recordPlaces) × Stored (now samples) (now links) n k head × (length (now marks) ≡ 4096) × Room e × Rises n 1 (endsOf e) ⌝ }
+    requires { ⌜ (length (now «record») ≡ recordPlaces) × Stored (now samples) (now links) n k head × (length (now marks) ≡ 4096) × EndsRoom e × Rises n 1 (endsOf e) ⌝ }
     ensures { λ _. ⌜ now («record» .exit) ≡ withSegments (now («record» .entry))
         (segmentsOf (endsOf e) (tracesOf (storedIn (now (samples .entry)) n k) (marked (now (marks .entry)) mark (numbersOf (now (links .entry)) k head)))) ⌝ }
 {

@@ -15,7 +15,7 @@ use Rattle.integer.proofs.Lists.{same-or-not, In, first, later, in-cons, in-nil
 use Rattle.dstree.specs.Node.{leaf}
 use Rattle.dstree.specs.WellFormed.{rising, leafFits}
 use Rattle.tables.specs.View.{numbersFrom}
-use Rattle.well_formed.specs.Marks.{Rises}
+use Rattle.well_formed.specs.Marks.{LinkRises}
 use Rattle.well_formed.specs.Tests.{linkAt}
 
 -- ---- numbers that rise
@@ -145,7 +145,7 @@ module _ (links : List ℕ) where
     pub rise : T (rising l)
     pub low : (x : ℕ) → In x l → x < k
 
-  module _ (k : ℕ) (fit : (i : ℕ) → i < k → Rises k i (link i)) where
+  module _ (k : ℕ) (fit : (i : ℕ) → i < k → LinkRises k i (link i)) where
     one : (at : ℕ) → at < k → Rising k (at ∷ [])
     one at h = record { rise = rising-one at; low = λ x i. by x (in-cons i) }
       where
@@ -173,7 +173,7 @@ module _ (links : List ℕ) where
         by (no f) = subst (Rising k) (sym (list-goes 0 at f ∙ ap (λ (l : List ℕ). at ∷ l) (list-stops (link at)))) (one at h)
     list-rises (suc fuel) at h = by (same-or-not (link at) 0) (fit at h) (list-rises fuel (link at))
       where
-        by : Dec (link at ≡ 0) → Rises k at (link at) → (link at < k → Rising k (numbersFrom links (suc fuel) (link at))) → Rising k (numbersFrom links (suc (suc fuel)) at)
+        by : Dec (link at ≡ 0) → LinkRises k at (link at) → (link at < k → Rising k (numbersFrom links (suc fuel) (link at))) → Rising k (numbersFrom links (suc (suc fuel)) at)
         by (yes e) r ih = subst (Rising k) (sym (list-ends (suc fuel) at e)) (one at h)
         by (no f) (inl e) ih = absurd (f e)
         by (no f) (inr p) ih = subst (Rising k) (sym (list-goes (suc fuel) at f)) (more at fuel h (p .0) (ih (p .1)))

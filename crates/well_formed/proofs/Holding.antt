@@ -16,7 +16,7 @@ use Rattle.integer.proofs.Times.{times-append, in-times, times-in, once-length,
 use Rattle.records_fit.specs.Fits.{AllFit}
 use Rattle.records_fit.proofs.Limits.{passing, failing, clash}
 use Rattle.records_fit.proofs.Loops.{all-passed, each-passes}
-use Rattle.well_formed.specs.Marks.{Grown, Named, Rises, LinksRise, LinksMarked, LinksName}
+use Rattle.well_formed.specs.Marks.{Grown, Named, LinkRises, LinksRise, LinksMarked, LinksName}
 use Rattle.well_formed.specs.Tests.{childrenOnce, firstsOf, notZero, linkAt, linksOf, leavesHold, markedOnce}
 use Rattle.well_formed.proofs.Growth.{none-at}
 use Rattle.well_formed.proofs.Naming.{link-in, leaves-many, leaves-sound, links-fit, called-once, firsts-low, called-low}
@@ -118,7 +118,7 @@ module _ (nodes : List ℤ) (m : ℕ) (a : AllFit m nodes) (links : List ℕ) (k
     links-take : LinksName links k m marks → T (leavesHold m nodes k links)
     links-take l = leaves-sound nodes m a links k (n .below e) fit once
       where
-        fit : (i : ℕ) → i < k → Rises k i (getD links i 0)
+        fit : (i : ℕ) → i < k → LinkRises k i (getD links i 0)
         fit = l .rise .fit
 
         some : (x : ℕ) → x < k → 0 < timesIn x (firsts ++ follow)

@@ -16,7 +16,7 @@ use Rattle.tables.specs.Tables.{recordOf}
 use Rattle.records_fit.specs.Fits.{segmentsHold, recordFits, recordsFit, keptAt, allKept}
 use Rattle.records_fit.proofs.Limits.{passing}
 use Rattle.records_fit.proofs.Loops.{all-passed, each-passes}
-use Rattle.well_formed.specs.Marks.{Visited, VisitedFirst, RecordsPassed}
+use Rattle.well_formed.specs.Marks.{NodeVisited, VisitedFirst, RecordsPassed}
 use Rattle.well_formed.specs.Tests.{childrenAt, childrenOfFirst, childrenOnce, firstAt, markedOnce}
 use Rattle.well_formed.proofs.Growth.{grown-firsts, firsts-none}
 use Rattle.well_formed.proofs.Taking.{marked-start, marked-more, marked-end}
@@ -32,7 +32,7 @@ module _ (n m k : ℕ) (nodes : List ℤ) where
   }
 
   pub visited-more : {marks marked more named after last : List ℕ} {j : ℕ} → VisitedFirst n m k nodes j marks marked named after
-      → Visited n m k nodes j marked more after last → VisitedFirst n m k nodes (j + 1) marks more named last
+      → NodeVisited n m k nodes j marked more after last → VisitedFirst n m k nodes (j + 1) marks more named last
   visited-more {j = j} w v = record {
     heads = below-more _ j (w .heads) (v .head);
     unders = below-more _ j (w .unders) (v .under);

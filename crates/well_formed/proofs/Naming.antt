@@ -24,7 +24,7 @@ use Rattle.tables.specs.View.{smallAt, numbersFrom}
 use Rattle.records_fit.specs.Fits.{AllFit}
 use Rattle.records_fit.proofs.Loops.{each-passes}
 use Rattle.records_fit.proofs.Children.{kind-named, head-fits-at}
-use Rattle.well_formed.specs.Marks.{Rises}
+use Rattle.well_formed.specs.Marks.{LinkRises}
 use Rattle.well_formed.specs.Tests.{childrenAt, childrenOfFirst, childrenOnce, kindAt, leafFitsAt, numbersAt, numbersOfFirst, firstAt, firstsOf, linkAt, linksOf, leavesHold}
 use Rattle.well_formed.proofs.ByKind.{no-child, two-children, is-leaf, no-number, inner-fits, leaf-numbers}
 use Rattle.well_formed.proofs.Chains.{leaf-rises, leaf-of, flat-append, followers, list-rest, list-is, list-first, Chain, chain, Rising, list-rises}
@@ -147,20 +147,20 @@ module _ (nodes : List ℤ) (m : ℕ) (a : AllFit m nodes) (links : List ℕ) (k
         )
 
     -- what is in a leaf has a link that rises
-    pub links-rise : (y : ℕ) → In y all → Rises k y (getD links y 0)
+    pub links-rise : (y : ℕ) → In y all → LinkRises k y (getD links y 0)
     links-rise y i = by (from-flat (numbersAt nodes links k) (counting m 0) i)
       where
-        low-too : (j : ℕ) → In j (counting m 0) → (getD links y 0 ≡ 0) ⊎ ((y < getD links y 0) × In (getD links y 0) (numbersAt nodes links k j)) → Rises k y (getD links y 0)
+        low-too : (j : ℕ) → In j (counting m 0) → (getD links y 0 ≡ 0) ⊎ ((y < getD links y 0) × In (getD links y 0) (numbersAt nodes links k j)) → LinkRises k y (getD links y 0)
         low-too j p (inl e) = inl e
         low-too j p (inr q) = inr (q .0, w .low (getD links y 0) (in-flat (numbersAt nodes links k) p (q .1)))
 
-        at : (j : ℕ) → In j (counting m 0) → In y (numbersAt nodes links k j) → Sort nodes links k j → Rises k y (getD links y 0)
+        at : (j : ℕ) → In j (counting m 0) → In y (numbersAt nodes links k j) → Sort nodes links k j → LinkRises k y (getD links y 0)
         at j p q (a-leaf number e _ _) =
             let s = numbers-are nodes links k j number e in
             low-too j p (subst (λ (l : List ℕ). (getD links y 0 ≡ 0) ⊎ ((y < getD links y 0) × In (getD links y 0) l)) (sym s) (leaf-chain j number (under p) e .on y (subst (In y) s q)))
         at j p q (an-inner _ _ e _ _ _) = absurd (in-nil (subst (In y) e q))
 
-        by : InFlat (numbersAt nodes links k) y (counting m 0) → Rises k y (getD links y 0)
+        by : InFlat (numbersAt nodes links k) y (counting m 0) → LinkRises k y (getD links y 0)
         by (flat j p q) = at j p q (sorted j (under p))
 
 -- no node has no number
@@ -222,7 +222,7 @@ module _ (nodes : List ℤ) (m : ℕ) (a : AllFit m nodes) (links : List ℕ) (k
   at : (j : ℕ) → j < m → In j (counting m 0)
   at j h = in-counting m 0 j (omega arith) (omega arith)
 
-  module _ (low : T (every within (firstsOf nodes m))) (fit : (i : ℕ) → i < k → Rises k i (getD links i 0)) where
+  module _ (low : T (every within (firstsOf nodes m))) (fit : (i : ℕ) → i < k → LinkRises k i (getD links i 0)) where
     rises : (j number : ℕ) → j < m → firstAt nodes j ≡ number ∷ [] → Rising links k (numbersFrom links (suc k) number)
     rises j number h f =
         list-rises links k fit k number (ltb→lt number k (from-every within (firstsOf nodes m) low (in-flat (firstAt nodes) (at j h) (subst (In number) (sym f) first))))
@@ -249,7 +249,7 @@ module _ (nodes : List ℤ) (m : ℕ) (a : AllFit m nodes) (links : List ℕ) (k
       in-once zero x g h = absurd (omega arith)
       in-once (suc b) x g h = named-times nodes m a links k leaves-fit x (λ y l i. before y l (link-in links y x i) (fit y l) (in-once b y)) ∙ once x h
         where
-          before : (y : ℕ) → y < k → (x ≡ getD links y 0) × (getD links y 0 ≡ 0 → ⊥) → Rises k y (getD links y 0) → (y < b → y < k → timesIn y met ≡ 1) → timesIn y met ≡ 1
+          before : (y : ℕ) → y < k → (x ≡ getD links y 0) × (getD links y 0 ≡ 0 → ⊥) → LinkRises k y (getD links y 0) → (y < b → y < k → timesIn y met ≡ 1) → timesIn y met ≡ 1
           before y l p (inl e) ih = absurd (p .1 e)
           before y l p (inr q) ih = ih (omega (arith, p .0, q .0, g)) l
 
@@ -280,7 +280,7 @@ module _ (nodes : List ℤ) (m : ℕ) (a : AllFit m nodes) (links : List ℕ) (k
     met-once : (x : ℕ) → x < k → timesIn x met ≡ 1
     met-once x h = eqb→eq (timesIn x met) 1 (from-every (λ number. eqb (timesIn number met) 1) (counting k 0) (parts .1 .0) (in-counting k 0 x (omega arith) (omega arith)))
 
-    pub links-fit : (i : ℕ) → i < k → Rises k i (getD links i 0)
+    pub links-fit : (i : ℕ) → i < k → LinkRises k i (getD links i 0)
     links-fit i h = links-rise nodes m a links k fits-all i (times-in i met (omega (arith, met-once i h)))
 
     pub called-once : (x : ℕ) → x < k → timesIn x called ≡ 1
@@ -306,17 +306,17 @@ module _ (nodes : List ℤ) (m : ℕ) (a : AllFit m nodes) (links : List ℕ) (k
     firsts-low = every-of within (firstsOf nodes m) (λ x i. lt→ltb x k (first-low x i))
 
   -- links that rise below k
-  pub link-low : ((i : ℕ) → i < k → Rises k i (getD links i 0)) → (x : ℕ) → In x (linksOf links k) → x < k
+  pub link-low : ((i : ℕ) → i < k → LinkRises k i (getD links i 0)) → (x : ℕ) → In x (linksOf links k) → x < k
   link-low fit x i = by (from-flat (linkAt links) (counting k 0) i)
     where
-      side : (y : ℕ) → (x ≡ getD links y 0) × (getD links y 0 ≡ 0 → ⊥) → Rises k y (getD links y 0) → x < k
+      side : (y : ℕ) → (x ≡ getD links y 0) × (getD links y 0 ≡ 0 → ⊥) → LinkRises k y (getD links y 0) → x < k
       side y p (inl e) = absurd (p .1 e)
       side y p (inr q) = omega (arith, p .0, q .1)
 
       by : InFlat (linkAt links) x (counting k 0) → x < k
       by (flat y p q) = side y (link-in links y x q) (fit y (omega (arith, from-counting k 0 p .1)))
 
-  pub called-low : T (every within (firstsOf nodes m)) → ((i : ℕ) → i < k → Rises k i (getD links i 0)) → (x : ℕ) → In x called → x < k
+  pub called-low : T (every within (firstsOf nodes m)) → ((i : ℕ) → i < k → LinkRises k i (getD links i 0)) → (x : ℕ) → In x called → x < k
   called-low low fit x i = by (in-append (firstsOf nodes m) i)
     where
       by : In x (firstsOf nodes m) ⊎ In x (linksOf links k) → x < k

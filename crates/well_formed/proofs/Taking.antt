@@ -12,7 +12,7 @@ use borrow.Author.Tests.{eqb-true, eqb-false}
 use Rattle.integer.specs.Words.{every, counting}
 use Rattle.integer.proofs.Lists.{same-or-not, In, first, in-cons, in-nil, in-append, in-flat, every-of, from-every, in-counting}
 use Rattle.records_fit.proofs.Limits.{clash}
-use Rattle.well_formed.specs.Marks.{Grown, Twice, Took, Named, Rises, LinksRise, LinksMarked}
+use Rattle.well_formed.specs.Marks.{Grown, Twice, Took, Named, LinkRises, LinksRise, LinksMarked}
 use Rattle.well_formed.specs.Tests.{notZero, linkAt, linksOf}
 use Rattle.well_formed.proofs.Growth.{grown-none, grown-firsts, again-firsts, firsts-more, Tallied, tallied-none, tallied-more}
 
@@ -87,7 +87,7 @@ module _ (f : ℕ → List ℕ) (count : ℕ) where
 
 module _ (links : List ℕ) (k : ℕ) where
   abbrev pub Fits : ℕ → Type 0
-  Fits x = Rises k x (getD links x 0)
+  Fits x = LinkRises k x (getD links x 0)
 
   -- how many of the first i links rise, and how many end a list
   pub record Counted (fit ends i : ℕ) : Type 0 where
@@ -100,11 +100,11 @@ module _ (links : List ℕ) (k : ℕ) where
   counted-start = record { few = omega arith; passed = tallied-none Fits; count = refl }
 
   pub counted-more : {fit ends i link : ℕ} (r e : ℕ) → Counted fit ends i → i < k → link ≡ getD links i 0
-      → (r ≤ 1) × (r ≡ 1 → Rises k i link) × (Rises k i link → r ≡ 1) → e + length (notZero link) ≡ 1 → Counted (fit + r) (ends + e) (i + 1)
+      → (r ≤ 1) × (r ≡ 1 → LinkRises k i link) × (LinkRises k i link → r ≡ 1) → e + length (notZero link) ≡ 1 → Counted (fit + r) (ends + e) (i + 1)
   counted-more {fit} {ends} {i} {link} r e w h q p z =
       let one = subst (λ (x : ℕ). e + length (notZero x) ≡ 1) q z in record {
         few = omega arith;
-        passed = tallied-more Fits (w .passed) (p .0) (λ f. subst (Rises k i) q (p .1 f)) (λ f. p .2 (subst (Rises k i) (sym q) f));
+        passed = tallied-more Fits (w .passed) (p .0) (λ f. subst (LinkRises k i) q (p .1 f)) (λ f. p .2 (subst (LinkRises k i) (sym q) f));
         count = omega (arith, w .count, one, ap length (firsts-more (linkAt links) i) ∙ length-append (linksOf links i) (linkAt links i));
       }
 

@@ -37,12 +37,12 @@ pub record Named (count : ℕ) (before after numbers : List ℕ) (all : Bool) : 
   pub old : all ≡ false → T (every (λ number. ltb number count) numbers) → Twice before numbers
 
 -- the link of trace i, of k: 0, or the number of a later trace
-abbrev pub Rises : ℕ → ℕ → ℕ → Type 0
-Rises k i link = (link ≡ 0) ⊎ ((i < link) × (link < k))
+abbrev pub LinkRises : ℕ → ℕ → ℕ → Type 0
+LinkRises k i link = (link ≡ 0) ⊎ ((i < link) × (link < k))
 
 -- the links of k traces: all are so, and twice as many end a list as m + 1
 pub record LinksRise (links : List ℕ) (k m : ℕ) : Type 0 where
-  pub fit : (i : ℕ) → i < k → Rises k i (getD links i 0)
+  pub fit : (i : ℕ) → i < k → LinkRises k i (getD links i 0)
   pub ends : 2 * (k - length (linksOf links k)) ≡ m + 1
 
 -- a place for each link of k traces holds 1, and any other what it did
@@ -60,7 +60,7 @@ pub record LinksName (links : List ℕ) (k m : ℕ) (before : List ℕ) : Type 0
 -- ---- what a visit to a node shows
 
 -- node j's head fits, its children's segments hold and keep its ends, and its children and its first trace number are marked
-pub record Visited (n m k : ℕ) (nodes : List ℤ) (j : ℕ) (marks marked named after : List ℕ) : Type 0 where
+pub record NodeVisited (n m k : ℕ) (nodes : List ℤ) (j : ℕ) (marks marked named after : List ℕ) : Type 0 where
   pub head : headFits n m j (recordOf nodes j) ≡ true
   pub under : ChildrenUnder n nodes j
   pub children : Grown marks marked (childrenAt nodes j)

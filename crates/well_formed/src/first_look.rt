@@ -5,9 +5,10 @@ ghost use mathlib.Core.Path.{_≡_};
 ghost use mathlib.Core.Bool.{true};
 ghost use Prim.Native.Nat.{_*_, _≤_, _<_};
 ghost use lib.ListN.{length};
+ghost use Rattle.dstree.specs.Measures.{mostSamples, mostTraces};
 ghost use Rattle.tables.specs.Layout.{recordPlaces};
 ghost use Rattle.well_formed.specs.Tests.{treeFits, TreeLent};
-ghost use Rattle.well_formed.specs.Marks.{Visited, VisitedFirst, RecordsPassed};
+ghost use Rattle.well_formed.specs.Marks.{NodeVisited, VisitedFirst, RecordsPassed};
 
 // Node j, of m: its head, and its first trace number if it is a leaf, else the numbers and the records of its children.
 fn node_passes(
@@ -19,10 +20,10 @@ fn node_passes(
     marks: &mut [u8; 8192],
     named: &mut [u8; 4096],
 ) -> bool
-    requires { ⌜ (m * recordPlaces ≤ length (now nodes)) × (m ≤ 8191) × (j < m) × (n ≤ 256) × (k ≤ 4096)
+    requires { ⌜ (m * recordPlaces ≤ length (now nodes)) × (m ≤ 8191) × (j < m) × (n ≤ mostSamples) × (k ≤ mostTraces)
         × (length (now marks) ≡ 8192) × (length (now named) ≡ 4096) ⌝ }
     ensures { λ r. ⌜ (r ≡ true →
-        Visited n m k (now (nodes .entry)) j (now (marks .entry)) (now (marks .exit)) (now (named .entry)) (now (named .exit))) ⌝ }
+        NodeVisited n m k (now (nodes .entry)) j (now (marks .entry)) (now (marks .exit)) (now (named .entry)) (now (named .exit))) ⌝ }
 {
     if !records_fit::nodes::head_fits(nodes, j, m, n) {
         return false;
@@ -45,7 +46,7 @@ fn nodes_pass(
     marks: &mut [u8; 8192],
     named: &mut [u8; 4096],
 ) -> bool
-    requires { ⌜ (m * recordPlaces ≤ length (now nodes)) × (m ≤ 8191) × (n ≤ 256) × (k ≤ 4096)
+    requires { ⌜ (m * recordPlaces ≤ length (now nodes)) × (m ≤ 8191) × (n ≤ mostSamples) × (k ≤ mostTraces)
         × (length (now marks) ≡ 8192) × (length (now named) ≡ 4096) ⌝ }
     ensures { λ r. ⌜ (r ≡ true →
         VisitedFirst n m k (now (nodes .entry)) m (now (marks .entry)) (now (marks .exit)) (now (named .entry)) (now (named .exit))) ⌝ }
@@ -62,7 +63,7 @@ fn nodes_pass(
 
 // Every record. Node 0 is no child, and each other one is, so that all were read.
 fn records_pass(nodes: &[i64], m: usize, n: usize, k: usize, named: &mut [u8; 4096]) -> bool
-    requires { ⌜ (m * recordPlaces ≤ length (now nodes)) × (m ≤ 8191) × (n ≤ 256) × (k ≤ 4096) × (length (now named) ≡ 4096) ⌝ }
+    requires { ⌜ (m * recordPlaces ≤ length (now nodes)) × (m ≤ 8191) × (n ≤ mostSamples) × (k ≤ mostTraces) × (length (now named) ≡ 4096) ⌝ }
     ensures { λ r. ⌜ (r ≡ true → RecordsPassed n m k (now (nodes .entry)) (now (named .entry)) (now (named .exit))) ⌝ }
 {
     if m == 0 {

@@ -9,13 +9,14 @@ ghost use mathlib.Core.Path.{_≡_};
 ghost use mathlib.Core.Bool.{true, false};
 ghost use Prim.Native.Nat.{ℕ, _+_, _≤_, _<_};
 ghost use lib.ListN.{length, getD};
+ghost use Rattle.dstree.specs.Measures.{mostTraces};
 ghost use Rattle.records_fit.specs.Fits.{AllFit, HeadFits};
-ghost use Rattle.well_formed.specs.Marks.{Named, Rises, LinksRise, LinksMarked, LinksName};
+ghost use Rattle.well_formed.specs.Marks.{Named, LinkRises, LinksRise, LinksMarked, LinksName};
 ghost use Rattle.well_formed.specs.Tests.{childrenOnce, firstAt, firstsOf, notZero, leavesHold};
 
 // Marks the first trace number of node j, if it is a leaf. It has to be the number of one of k traces.
 pub fn mark_first(nodes: &[i64], j: usize, k: usize, marks: &mut [u8; 4096]) -> bool
-    requires { ⌜ HeadFits j (now nodes) × (k ≤ 4096) × (length (now marks) ≡ 4096) ⌝ }
+    requires { ⌜ HeadFits j (now nodes) × (k ≤ mostTraces) × (length (now marks) ≡ 4096) ⌝ }
     ensures { λ r. ⌜ Named k (now (marks .entry)) (now (marks .exit)) (firstAt (now (nodes .entry)) j) r ⌝ }
 {
     let kind = node_small(nodes, j, KIND);
@@ -31,7 +32,7 @@ pub fn mark_first(nodes: &[i64], j: usize, k: usize, marks: &mut [u8; 4096]) -> 
 
 // Marks the first trace number of every leaf.
 fn mark_firsts(nodes: &[i64], m: usize, k: usize, marks: &mut [u8; 4096]) -> bool
-    requires { ⌜ AllFit m (now nodes) × (k ≤ 4096) × (length (now marks) ≡ 4096) ⌝ }
+    requires { ⌜ AllFit m (now nodes) × (k ≤ mostTraces) × (length (now marks) ≡ 4096) ⌝ }
     ensures { λ r. ⌜ Named k (now (marks .entry)) (now (marks .exit)) (firstsOf (now (nodes .entry)) m) r ⌝ }
 {
     let mut j: usize = 0;
@@ -48,7 +49,7 @@ fn mark_firsts(nodes: &[i64], m: usize, k: usize, marks: &mut [u8; 4096]) -> boo
 
 // 1 if the link of trace i, of k, is 0 or the number of a later trace, else 0.
 fn rises(link: u16, i: u16, k: u16) -> u16
-    ensures { λ r. ⌜ (r ≤ 1) × (r ≡ 1 → Rises k i link) × (Rises k i link → r ≡ 1) ⌝ }
+    ensures { λ r. ⌜ (r ≤ 1) × (r ≡ 1 → LinkRises k i link) × (LinkRises k i link → r ≡ 1) ⌝ }
 {
     if link == 0 {
         return 1;
@@ -68,7 +69,7 @@ fn ended(link: u16) -> u16
 
 // Each of k links is 0 behind the last of a leaf, else the number of a later trace, and as many end a list as there are leaves, of m nodes.
 fn links_rise(links: &[u16], k: usize, m: usize) -> bool
-    requires { ⌜ (k ≤ length (now links)) × (k ≤ 4096) × (m ≤ 8191) ⌝ }
+    requires { ⌜ (k ≤ length (now links)) × (k ≤ mostTraces) × (m ≤ 8191) ⌝ }
     ensures { λ r. ⌜ (r ≡ true → LinksRise (now (links .entry)) k m) × (r ≡ false → LinksRise (now (links .entry)) k m → ⊥) ⌝ }
 {
     let mut fit: u16 = 0;
@@ -100,7 +101,7 @@ fn mark_links(links: &[u16], k: usize, marks: &mut [u8; 4096])
 
 // The links of k traces rise, and with what is marked before they name every trace. Trace 0 is behind no other, so that it has to be marked before.
 pub fn links_name(links: &[u16], k: usize, m: usize, marks: &mut [u8; 4096]) -> bool
-    requires { ⌜ (k ≤ length (now links)) × (k ≤ 4096) × (length (now marks) ≡ 4096) × (m ≤ 8191) ⌝ }
+    requires { ⌜ (k ≤ length (now links)) × (k ≤ mostTraces) × (length (now marks) ≡ 4096) × (m ≤ 8191) ⌝ }
     ensures { λ r. ⌜ (r ≡ true → LinksName (now (links .entry)) k m (now (marks .entry)))
         × (r ≡ false → LinksName (now (links .entry)) k m (now (marks .entry)) → ⊥) ⌝ }
 {
@@ -116,7 +117,7 @@ pub fn links_name(links: &[u16], k: usize, m: usize, marks: &mut [u8; 4096]) -> 
 
 // Of m nodes that are each a child once but for node 0, the leaves are (m + 1) / 2.
 pub fn leaves_hold(nodes: &[i64], m: usize, links: &[u16], k: usize) -> bool
-    requires { ⌜ AllFit m (now nodes) × (childrenOnce m (now nodes) ≡ true) × (k ≤ length (now links)) × (k ≤ 4096) ⌝ }
+    requires { ⌜ AllFit m (now nodes) × (childrenOnce m (now nodes) ≡ true) × (k ≤ length (now links)) × (k ≤ mostTraces) ⌝ }
     ensures { λ r. ⌜ r ≡ leavesHold m (now (nodes .entry)) k (now (links .entry)) ⌝ }
 {
     if m == 0 {

@@ -16,6 +16,7 @@ use tables::places::TRACE_COUNT;
 ghost use mathlib.Core.Path.{_≡_};
 ghost use mathlib.Core.List.{[]};
 ghost use Prim.Native.Nat.{_≤_};
+ghost use Rattle.dstree.specs.Measures.{mostTraces};
 ghost use Rattle.tables.specs.Tables.{tables};
 ghost use Rattle.tables.specs.View.{wellFormed};
 ghost use Rattle.tables.specs.Answers.{Lends};
@@ -23,7 +24,7 @@ ghost use Rattle.well_formed.specs.Tests.{countsFit, treeFits, TreeLent}
 
 // The counts, before any record is read: of k traces there are 2k − 1 nodes at most, and a table holds as many records.
 fn counts_fit(m: usize, k: usize, capacity: usize) -> bool
-    requires { ⌜ capacity ≤ 4096 ⌝ }
+    requires { ⌜ capacity ≤ mostTraces ⌝ }
     ensures { λ r. ⌜ r ≡ countsFit m k capacity ⌝ }
 {
     if capacity < k {

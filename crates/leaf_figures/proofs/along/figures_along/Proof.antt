@@ -12,7 +12,7 @@ use Rattle.integer.proofs.Lists.{In}
 use Rattle.dstree.specs.Figures.{run}
 use Rattle.tables.specs.View.{traceIn}
 use Rattle.leaf_figures.specs.Sides.{noFigures, withFigures, Small, segmentBy}
-use Rattle.leaf_figures.specs.Rows.{Kept}
+use Rattle.leaf_figures.specs.Rows.{FiguresAt}
 use Rattle.leaf_figures.specs.declared.sides.Figures.{Figures}
 use Rattle.leaf_figures.proofs.Placed.{end-at, no-end}
 use Rattle.leaf_figures.proofs.Listing.{in-listed}
@@ -55,9 +55,9 @@ figures-at-requires c κs =
     let some : 0 < a .last = omega (arith, p .1 .from-1, p .1 .rises) in (
       record { narrow = p .0 .narrow; room = p .0 .inside (t c) (among c); inside = p .1 },
       (λ h. p .2 .placed (column .result) (t c) h (omega (arith, column .ensures .1 h, some)) (among c)),
-      (λ h. subst (λ (first : ℕ). Kept (traceIn (a .samples .now) (a .n) (t c)) first (a .last) (a .sums .now) (a .scatters .now) (column .result * 65 + getD (a .place .now) (t c) 0))
+      (λ h. subst (λ (first : ℕ). FiguresAt (traceIn (a .samples .now) (a .n) (t c)) first (a .last) (a .sums .now) (a .scatters .now) (column .result * 65 + getD (a .place .now) (t c) 0))
           (column .ensures .0 h)
-          (subst (λ (last : ℕ). Kept (traceIn (a .samples .now) (a .n) (t c)) (getD (a .runs .now) (column .result) 0) last (a .sums .now) (a .scatters .now)
+          (subst (λ (last : ℕ). FiguresAt (traceIn (a .samples .now) (a .n) (t c)) (getD (a .runs .now) (column .result) 0) last (a .sums .now) (a .scatters .now)
           (column .result * 65 + getD (a .place .now) (t c) 0))
           (column .ensures .1 h) (p .2 .kept (column .result) (t c) h (omega (arith, column .ensures .1 h, some)) (among c)))),
     )

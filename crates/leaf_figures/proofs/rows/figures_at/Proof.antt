@@ -13,7 +13,7 @@ use Rattle.dstree.specs.Figures.{run, sumOn, scatterOn}
 use Rattle.tables.specs.View.{traceIn}
 use Rattle.tables.specs.Runs.{RunOf}
 use Rattle.tables.proofs.Parts.{run-of}
-use Rattle.leaf_figures.specs.Rows.{Kept}
+use Rattle.leaf_figures.specs.Rows.{FiguresAt}
 use Rattle.leaf_figures.proofs.rows.figures_at.Statement.{statement}
 use Rattle.leaf_figures.proofs.rows.figures_at.Tie as tie
 
@@ -22,12 +22,12 @@ inside : (c : tie.Then1) → let a = c .before .before .before .args in a .t < l
 inside c = c .before .before .before .pre .1 (c .if1 .taken)
 
 kept : (c : tie.After-wide) → let a = c .before .before .before .before .before .args in
-    Kept (traceIn (a .samples .now) (a .n) (a .t)) (a .first) (a .last) (a .sums .now) (a .scatters .now) (a .column * 65 + c .wide .result)
+    FiguresAt (traceIn (a .samples .now) (a .n) (a .t)) (a .first) (a .last) (a .sums .now) (a .scatters .now) (a .column * 65 + c .wide .result)
 kept c =
     let t = c .before .before in
     let s = t .before .before .before in
     let a = s .args in
-    subst (λ (p : ℕ). Kept (traceIn (a .samples .now) (a .n) (a .t)) (a .first) (a .last) (a .sums .now) (a .scatters .now) (a .column * 65 + p))
+    subst (λ (p : ℕ). FiguresAt (traceIn (a .samples .now) (a .n) (a .t)) (a .first) (a .last) (a .sums .now) (a .scatters .now) (a .column * 65 + p))
     (sym (c .wide .ensures)) (s .pre .2 (t .if1 .taken))
 
 add-at : tie.Need-add-at

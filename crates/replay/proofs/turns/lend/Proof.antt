@@ -12,7 +12,7 @@ use Rattle.dstree.specs.Book.{Lent}
 use Rattle.tables.specs.Tables.{Tables, tables, lentOf}
 use Rattle.tables.specs.Beginning.{firstPlaces, Within}
 use Rattle.replay.specs.declared.Cursor.{Cursor}
-use Rattle.replay.specs.Script.{lentBy, lengthsBy, stateAt, Inside, Taken, taken, sizeOf, nextOf, aheadOf, kinds, kindAt, playable}
+use Rattle.replay.specs.Script.{lentBy, lengthsBy, stateAt, CursorInside, Taken, taken, sizeOf, nextOf, aheadOf, kinds, kindAt, playable}
 use Rattle.replay.specs.Script.{called, calledBy}
 use Rattle.replay.proofs.Asking.{Moved, moved-is}
 use Rattle.replay.proofs.Lending.{back-is-left, lengths-kept}
@@ -36,8 +36,8 @@ module _ (s : tie.Start) where
       (now (s .args .lists)) at)) (now (s .args .row))) (now (s .args .row)) at to
   go = moved-is _ (now (s .args .row)) at to (s .pre .1)
 
-  ends : Inside to (now (s .args .pool)) (now (s .args .trails)) (now (s .args .sheets)) (now (s .args .lists))
-  ends = subst (λ (z : Cursor). Inside z (now (s .args .pool)) (now (s .args .trails)) (now (s .args .sheets)) (now (s .args .lists)))
+  ends : CursorInside to (now (s .args .pool)) (now (s .args .trails)) (now (s .args .sheets)) (now (s .args .lists))
+  ends = subst (λ (z : Cursor). CursorInside z (now (s .args .pool)) (now (s .args .trails)) (now (s .args .sheets)) (now (s .args .lists)))
       (sym (go .to-is))
       (inside-then t (now (s .args .pool)) (now (s .args .trails)) (now (s .args .sheets)) (now (s .args .lists)) at (s .pre .0)
       (now (s .args .row)) (go .kind) (go .is))

@@ -9,7 +9,7 @@ use denote.Ref.{now}
 use Rattle.tables.specs.Tables.{Tables, tables, lentOf}
 use Rattle.replay.specs.declared.Cursor.{Cursor}
 use Rattle.replay.specs.declared.Turn.{Turn}
-use Rattle.replay.specs.Script.{lentBy, State, stateAt, Inside, cursor, aheadOf, playable, movedBy}
+use Rattle.replay.specs.Script.{lentBy, State, stateAt, CursorInside, cursor, aheadOf, playable, movedBy}
 use Rattle.replay.proofs.Asking.{moved-is, asks-not, planned-some, planned-none}
 use Rattle.replay.proofs.Moves.{none-is, ahead-is, inside-then}
 use Rattle.replay.proofs.turns.turn.Statement.{statement}
@@ -49,7 +49,7 @@ returns c =
       none-is _ (a .at) e (lentBy (now (a .row))) (memory k) (now (a .pool)) (now (a .trails)) (now (a .sheets)) (now (a .lists)) _
           (asks-not (lentOf
           (memory k)) (now (a .row)) (here k) (a .at) nothing),
-      subst (λ (r : Turn). Inside (r .at) (now (a .pool)) (now (a .trails)) (now (a .sheets)) (now (a .lists))) (sym e)
+      subst (λ (r : Turn). CursorInside (r .at) (now (a .pool)) (now (a .trails)) (now (a .sheets)) (now (a .lists))) (sym e)
           (c .before .before .before .before .before .before .before .before .before .before .before .pre),
     )
 
@@ -73,7 +73,7 @@ returns-2 c =
     (c .before .before .before .before .before .before .before .before .before .before .before .before .before .before .before
     .before .before .before .before .before .before .before .before .before .if1 .left))) in (
       c .before .before .before .before .before .before .before .before .before .before .before .before .before .before .lend .ensures,
-      subst (λ (z : Cursor). Inside z (now (a .pool)) (now (a .trails)) (now (a .sheets)) (now (a .lists))) (sym (go .to-is))
+      subst (λ (z : Cursor). CursorInside z (now (a .pool)) (now (a .trails)) (now (a .sheets)) (now (a .lists))) (sym (go .to-is))
           (inside-then (memory k) (now (a .pool)) (now (a .trails)) (now (a .sheets)) (now (a .lists)) (a .at)
           (c .before .before .before .before .before .before .before .before .before .before .before .before .before .before .before
           .before .before .before .before .before .before .before .before .before .before .before .before .before .before .before

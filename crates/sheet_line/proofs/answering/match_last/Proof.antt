@@ -8,7 +8,7 @@ use lib.Seq.{length-take-le}
 use denote.Ref.{now}
 use borrow.Author.Needs.{needs}
 use Rattle.dstree.specs.Measures.{recordsNeeded}
-use Rattle.sheet_line.specs.Stored.{Stored}
+use Rattle.sheet_line.specs.Stored.{EarlierStored}
 use Rattle.sheet_line.proofs.Judged.{n-small}
 use Rattle.sheet_line.proofs.answering.match_last.Statement.{statement}
 use Rattle.sheet_line.proofs.answering.match_last.Tie as tie
@@ -34,7 +34,7 @@ unfolding recordsNeeded
 match-query-requires c κs =
     let a = c .before in
     let g = start a .args in
-    (subst (λ (k : ℕ). Stored (now (g .control)) (now (g .samples)) (now (g .nodes)) (now (g .links)) (now (g .work)) (now (g .sheet)) k (g .last)) (length-is a) (start a .pre), omega arith)
+    (subst (λ (k : ℕ). EarlierStored (now (g .control)) (now (g .samples)) (now (g .nodes)) (now (g .links)) (now (g .work)) (now (g .sheet)) k (g .last)) (length-is a) (start a .pre), omega arith)
 
 pub match-last-spec : {M : Type 1} → statement M
 match-last-spec =

@@ -6,13 +6,13 @@ use native.Mathlib.Omega.{arith}
 use denote.Ref.{now}
 use borrow.Author.Tests.{not-true, not-false}
 use Rattle.records_fit.proofs.Limits.{clash}
-use Rattle.well_formed.specs.Marks.{Rises, LinksRise}
+use Rattle.well_formed.specs.Marks.{LinkRises, LinksRise}
 use Rattle.well_formed.proofs.Holding.{all-named, never-named, first-named}
 use Rattle.well_formed.proofs.leaves.links_name.Statement.{statement}
 use Rattle.well_formed.proofs.leaves.links_name.Tie as tie
 
 -- a link that rises has a place
-low : {k i link : ℕ} → k ≤ 4096 → Rises k i link → link < 4096
+low : {k i link : ℕ} → k ≤ 4096 → LinkRises k i link → link < 4096
 low h (inl e) = omega (arith, e)
 low h (inr p) = omega (arith, h, p .1)
 

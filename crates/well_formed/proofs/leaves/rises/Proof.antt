@@ -3,12 +3,12 @@ use mathlib.Core.Path.{_≡_, refl}
 use mathlib.Core.Logic.{inl, inr}
 use Prim.Native.Nat.{ℕ, _<_}
 use native.Mathlib.Omega.{arith}
-use Rattle.well_formed.specs.Marks.{Rises}
+use Rattle.well_formed.specs.Marks.{LinkRises}
 use Rattle.well_formed.proofs.leaves.rises.Statement.{statement}
 use Rattle.well_formed.proofs.leaves.rises.Tie as tie
 
 -- what a link that does not rise is not
-none : {k i link : ℕ} → (link ≡ 0 → ⊥) → (i < link → link < k → ⊥) → Rises k i link → ⊥
+none : {k i link : ℕ} → (link ≡ 0 → ⊥) → (i < link → link < k → ⊥) → LinkRises k i link → ⊥
 none f g (inl e) = f e
 none f g (inr p) = g (p .0) (p .1)
 

@@ -236,8 +236,9 @@ uint64_t silkendoz_export_recording(
  * stored traces and read the fewest leaves, whatever made the tables; and it still gives 0 after any calls that follow. It gives 0 for every
  * library that calls made, an empty one too. A range that is wider than it need be is loose (13) as well as one that is too narrow. What it
  * does not see: a sample that changed, where the figures that a node records stayed as they were, or changed with it; thresholds of tests,
- * by which adding goes; places that hold nothing of the library. It looks at every stored sample several times, so it takes as long as many
- * matches (docs/GUIDE.md). Nothing is written but `out`. Of `work` only the length is looked at. Refuses 2, 3, 13. */
+ * by which adding goes; places that hold nothing of the library. It reads every stored sample, at most 16 times, so it takes as long as one
+ * scan of all traces or as some of them (docs/GUIDE.md). Nothing is written but `out`. Of `work` only the length is looked at. Refuses 2,
+ * 3, 13. */
 uint64_t silkendoz_check_tables(
     const uint16_t *control, size_t control_len,
     const int16_t *samples, size_t samples_len,

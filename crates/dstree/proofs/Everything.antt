@@ -30,6 +30,7 @@ use Rattle.dstree.specs.Program.{refusalLine, matchLine, lineOf, judgedL
 use Rattle.dstree.specs.Claims.{numbersAmong}
 use Rattle.dstree.specs.KNearest.{nears, nearestList, listPlaces, kth, readInto, stopsAtKth, listed, kNearestBySteps}
 use Rattle.dstree.specs.KNearest.{leavesRk, kNearestOf, listOfMatch, inRank, distancesAmong}
+use Rattle.dstree.specs.Batch.{isBatch, wanted, batchOf, bestAmong, readOnce, readFor, batchRead, answerBy, batchBySteps}
 use Rattle.dstree.specs.Recording.{header, fieldBytes, recordingOf, rateIn, sizeIn, begins, isRecording, recordedTraces}
 use Rattle.dstree.specs.Recording.{judgeRecording, fileTraces, isBadFile}
 use Rattle.dstree.specs.Checking.{belowFrom, sameℤ, sameFigures, areExact, isExactAt, isExact}
@@ -76,6 +77,10 @@ unfolding atPlace nears nearestList listPlaces kth readInto stopsAtKth listed kN
     distancesAmong
 nearestOpen = tt
 
+unfoldable batchesOpen : Unit {0}
+unfolding isBatch wanted batchOf bestAmong readOnce readFor batchRead answerBy batchBySteps
+batchesOpen = tt
+
 unfoldable rulesOpen : Unit {0}
 unfolding rising everyNode childrenOf childrenAbove childOnce endsFit endsKept leafFits inOneLeaf withinℤ segmentFits segmentsFit
 rulesOpen = tt
@@ -117,6 +122,6 @@ unfolding refusalLine matchLine lineOf judgedLine programLine digitsFrom decimal
 linesOpen = tt
 
 unfoldable pub everything : Unit {0}
-unfolding wordsOpen figuresOpen figuresOpen2 nodesOpen nodesOpen2 addingOpen addingOpen2 matchingOpen matchingOpen2 nearestOpen rulesOpen rulesOpen2
-    sheetsOpen sheetsOpen2 sheetTestsOpen recordingsOpen checkingOpen booksOpen booksOpen2 linesOpen
+unfolding wordsOpen figuresOpen figuresOpen2 nodesOpen nodesOpen2 addingOpen addingOpen2 matchingOpen matchingOpen2 nearestOpen batchesOpen rulesOpen
+    rulesOpen2 sheetsOpen sheetsOpen2 sheetTestsOpen recordingsOpen checkingOpen booksOpen booksOpen2 linesOpen
 everything = tt

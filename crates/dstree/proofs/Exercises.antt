@@ -23,7 +23,7 @@ use Rattle.dstree.specs.Matching.{ownBound, parentFrom, bound, LeafBound
 use Rattle.dstree.specs.Claims.{numbersAmong}
 use Rattle.dstree.specs.WellFormed.{wellFormed}
 use Rattle.dstree.specs.Refusals.{Refusal, measure, shortTable, spoiled, wrongTrace, full, empty, shortTrail, sheetLength, tornBlock}
-use Rattle.dstree.specs.Refusals.{badSheet, badK, badRecording, looseRecord, numberOf, placeOf, _refuses_, firstOf}
+use Rattle.dstree.specs.Refusals.{badSheet, badK, badRecording, looseRecord, badBatch, numberOf, placeOf, _refuses_, firstOf}
 use Rattle.dstree.specs.Sheet.{bytesOf, numberIn, part, narrow, kindOf, weighted, checkOf, block, headOf, coded, blocksNeeded}
 use Rattle.dstree.specs.Sheet.{blocksOf, sheetOf, decoded, isWrongLength, isTorn, refused, holds, judgeSheet}
 use Rattle.dstree.specs.Program as program
@@ -463,12 +463,12 @@ well-formed-examples = record {
 abbrev refusals : List Refusal
 refusals =
     measure ∷ shortTable ∷ spoiled ∷ wrongTrace ∷ full ∷ empty ∷ shortTrail ∷ sheetLength ∷ tornBlock 7 ∷ badSheet ∷ badK ∷ badRecording
-    ∷ looseRecord ∷ []
+    ∷ looseRecord ∷ badBatch ∷ []
 
 pub record RefusalExamples : Type 0 where
   -- "A refusal gives its number and a place: the first block at fault for 9, else 0"
-  pub numbers : map numberOf refusals ≡ counting 13 1
-  pub places : map placeOf refusals ≡ 0 ∷ 0 ∷ 0 ∷ 0 ∷ 0 ∷ 0 ∷ 0 ∷ 0 ∷ 7 ∷ 0 ∷ 0 ∷ 0 ∷ 0 ∷ []
+  pub numbers : map numberOf refusals ≡ counting 14 1
+  pub places : map placeOf refusals ≡ 0 ∷ 0 ∷ 0 ∷ 0 ∷ 0 ∷ 0 ∷ 0 ∷ 0 ∷ 7 ∷ 0 ∷ 0 ∷ 0 ∷ 0 ∷ 0 ∷ []
   -- the first condition that holds counts; "No condition, no refusal"
   pub first : firstOf (false refuses measure ∷ true refuses full ∷ true refuses empty ∷ []) ≡ some full
   pub no-condition : firstOf (false refuses measure ∷ false refuses full ∷ []) ≡ none

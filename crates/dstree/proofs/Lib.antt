@@ -50,6 +50,7 @@ pub mod RoundTrips
 pub mod Laws
 pub mod KLaws
 pub mod KExamples
+pub mod BatchExamples
 pub mod RecordingExamples
 pub mod CheckingExamples
 pub mod TracesBelow

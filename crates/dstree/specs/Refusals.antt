@@ -16,6 +16,8 @@ pub data Refusal : Type 0 where
   badRecording : Refusal
   -- document 02, §6: "13 loose record, when well-formed tables hold a figure that isn't exactly the recomputed one"
   looseRecord : Refusal
+  -- document 02, §7: "14 bad batch"
+  badBatch : Refusal
 
 -- the table's numbers
 unfoldable pub numberOf : Refusal → ℕ
@@ -32,6 +34,7 @@ numberOf badSheet = 10
 numberOf badK = 11
 numberOf badRecording = 12
 numberOf looseRecord = 13
+numberOf badBatch = 14
 
 -- "a place: the first block at fault for 9, else 0"
 unfoldable pub placeOf : Refusal → ℕ
@@ -48,6 +51,7 @@ placeOf badSheet = 0
 placeOf badK = 0
 placeOf badRecording = 0
 placeOf looseRecord = 0
+placeOf badBatch = 0
 
 -- a condition of the table with its refusal
 pub record Condition : Type 0 where

@@ -95,6 +95,7 @@ caseOf word.badSheet = r.BadSheet
 caseOf word.badK = r.BadK
 caseOf word.badRecording = r.BadRecording
 caseOf word.looseRecord = r.LooseRecord
+caseOf word.badBatch = r.BadBatch
 
 case-word : (why : word.Refusal) → wordOf (caseOf why) ≡ why
 unfolding wordOf
@@ -111,6 +112,7 @@ case-word word.badSheet = refl
 case-word word.badK = refl
 case-word word.badRecording = refl
 case-word word.looseRecord = refl
+case-word word.badBatch = refl
 
 -- a result, and what is left beside the tables, with which code says an outcome
 record Said {R Beside : Type 0} (outcomeBy : R → Beside → Outcome) (o : Outcome) : Type 0 where

@@ -4,7 +4,7 @@ use mathlib.Core.Path.{_≡_, refl}
 use mathlib.Core.Option.{none, some}
 use mathlib.Core.List.{List, [], _∷_, map}
 use lib.ListN.{length, replicate, set}
-use lib.IntN.{ℤ, pos}
+use lib.IntN.{pos}
 use Rattle.dstree.specs.Measures.{Trace, measures}
 use Rattle.dstree.specs.Node.{leaf, node, Tree}
 use Rattle.dstree.specs.Adding.{treeOf}
@@ -27,7 +27,8 @@ record Both (stored : List Trace) (tree : Tree) (queries : List Trace) (read : L
 
 -- ---- document 01's A, B and C: leaf 1 is {A}, leaf 2 is {B, C}
 
--- (4,4,4,4) reads leaf 2; (2,2,2,2), with both bounds 16, reads leaf 1 and passes leaf 2 over. "The trail lists the leaves read by rising number"
+-- (4,4,4,4) reads leaf 2; (2,2,2,2), with both bounds 16, reads leaf 1 and passes leaf 2 over. "The trail lists the leaves read by rising
+-- number"
 passed-over : Both ABC tree (level 4 ∷ level 2 ∷ []) (2 ∷ 1 ∷ []) (gives (at 1 0 ∷ at 0 16 ∷ []) (1 ∷ 2 ∷ []))
 unfolding everything
 passed-over = record { reads = refl; steps = refl; closed = refl }
@@ -76,8 +77,8 @@ by-number = record { reads = refl; steps = refl; closed = refl }
 abbrev loose : Tree
 loose = set treeOfTwo 2 (node (seg 1 (+ 9) (+ 9) 0 0 ∷ []) (leaf (1 ∷ [])))
 
--- "where other well-formed tables break [a claim], that answer is the program's": alone, 4 is answered by trace 0, for leaf 2 is not read; behind 9, for
--- which leaf 2 is read, it is answered by trace 1
+-- "where other well-formed tables break [a claim], that answer is the program's": alone, 4 is answered by trace 0, for leaf 2 is not
+-- read; behind 9, for which leaf 2 is read, it is answered by trace 1
 record Loose : Type 0 where
   alone : matchBySteps two loose (+ 4 ∷ []) ≡ some (found 0 16 1 1 (1 ∷ []))
   behind : batchBySteps two loose (queriesIn 1 2 (+ 9 ∷ + 4 ∷ [])) ≡ gives (at 1 25 ∷ at 1 0 ∷ []) (2 ∷ [])

@@ -146,18 +146,18 @@ module _ (n : ℕ) (stored : List Trace) (tree : Tree) (c : Containing n stored 
   abbrev R : List LeafBound
   R = leavesR tree query d
 
-  nearest : Low d stored query 0
+  pub nearest : Low d stored query 0
   unfolding leastDistance
   nearest = lowest d stored query 0 (least-in (map (distance query) stored) (rw (length-map stored (distance query)) one))
 
   -- a stored trace is in a leaf, and the leaf's bound is at most its distance
-  record LeafOf (t : ℕ) : Type 0 where
-    at : ℕ
-    is-leaf : In at (leaves tree)
-    holds : In t (numbersIn (nodeAt tree at .kind))
-    low : bound tree query at ≤ distance query (getD stored t [])
+  pub record LeafOf (t : ℕ) : Type 0 where
+    pub at : ℕ
+    pub is-leaf : In at (leaves tree)
+    pub holds : In t (numbersIn (nodeAt tree at .kind))
+    pub low : bound tree query at ≤ distance query (getD stored t [])
 
-  leaf-of : (t : ℕ) → t < length stored → LeafOf t
+  pub leaf-of : (t : ℕ) → t < length stored → LeafOf t
   unfolding isLeaf numbersIn isIn
   leaf-of t h = by (c .shape .kept t h)
     where
@@ -173,11 +173,11 @@ module _ (n : ℕ) (stored : List Trace) (tree : Tree) (c : Containing n stored 
         low = bound-at-most n stored tree c query all-n lq (k .at) t (of-leaf (k .holds));
       }
 
-  in-distances : (t k : ℕ) → In t (numbersIn (nodeAt tree k .kind)) → In (nearAt stored query t) (distancesIn stored tree query k)
+  pub in-distances : (t k : ℕ) → In t (numbersIn (nodeAt tree k .kind)) → In (nearAt stored query t) (distancesIn stored tree query k)
   unfolding distancesIn
   in-distances t k i = in-map (nearAt stored query) i
 
-  from-distances : (k : ℕ) {b : Near} → In b (distancesIn stored tree query k) → IsNear stored query b
+  pub from-distances : (k : ℕ) {b : Near} → In b (distancesIn stored tree query k) → IsNear stored query b
   unfolding distancesIn
   from-distances k {b} i = by (from-map (nearAt stored query) (numbersIn (nodeAt tree k .kind)) i)
     where

@@ -33,7 +33,7 @@ module _ (k : ℕ) (stored : List Trace) (tree : Tree) (query : Trace) where
     pub list : s .list ≡ foldl (listWith k) [] (distancesAmong stored tree query (s .trail))
     pub traces : s .traces ≡ length (distancesAmong stored tree query (s .trail))
 
-  one-more : (trail : List ℕ) (number : ℕ)
+  pub one-more : (trail : List ℕ) (number : ℕ)
       → distancesAmong stored tree query
       (trail ++ (number ∷ [])) ≡ distancesAmong stored tree query trail ++ distancesIn stored tree query number
   unfolding distancesAmong flatten
@@ -113,7 +113,7 @@ with-one (some b) a = by (isNearer a b)
     by true = refl
     by false = refl
 
-fold-one : (o : Option Near) (l : List Near) → foldl (listWith 1) (listOf o) l ≡ listOf (foldl bestWith o l)
+pub fold-one : (o : Option Near) (l : List Near) → foldl (listWith 1) (listOf o) l ≡ listOf (foldl bestWith o l)
 fold-one o [] = refl
 fold-one o (a ∷ l) = ap (λ (m : List Near). foldl (listWith 1) m l) (with-one o a) ∙ fold-one (bestWith o a) l
 

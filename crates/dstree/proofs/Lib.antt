@@ -1,5 +1,6 @@
 -- Laws of the definitions. The tree that adding makes: Invariant, Joins, Splits and Grown; a query: Bounds, Reading, Search and Closed;
--- all together: Laws. The k nearest: Ranks, KSteps and KClosed; all together: KLaws.
+-- all together: Laws. The k nearest: Ranks, KSteps and KClosed; all together: KLaws. Batches: BatchSteps and BatchClosed; all together:
+-- BatchLaws.
 -- Sheets: SheetWritten, SheetRead, ReadBack and WrittenAgain; all together: RoundTrips.
 -- Recorder's files: Recordings. Both sides seen: Looking. The check of tables: TracesBelow, BelowOnce and Recomputed; all together: Checking.
 pub mod Everything
@@ -35,6 +36,8 @@ pub mod OffTrail
 pub mod Ranks
 pub mod KSteps
 pub mod KClosed
+pub mod BatchSteps
+pub mod BatchClosed
 pub mod SheetPieces
 pub mod SheetFormat
 pub mod SheetFields
@@ -49,6 +52,7 @@ pub mod SheetTorn
 pub mod RoundTrips
 pub mod Laws
 pub mod KLaws
+pub mod BatchLaws
 pub mod KExamples
 pub mod BatchExamples
 pub mod RecordingExamples

@@ -22,23 +22,23 @@ use Rattle.dstree.proofs.Reading.{InOrder, order-none, order-more}
 -- ---- the nearer of two
 
 -- a comes before b or is b: it is nearer, or as near with no greater number
-abbrev Comes : Near → Near → Type 0
+abbrev pub Comes : Near → Near → Type 0
 Comes a b = (a .distance < b .distance) ⊎ ((a .distance ≡ b .distance) × (a .trace ≤ b .trace))
 
-comes-trans : (a b c : Near) → Comes a b → Comes b c → Comes a c
+pub comes-trans : (a b c : Near) → Comes a b → Comes b c → Comes a c
 comes-trans a b c (inl h) (inl k) = inl (omega arith)
 comes-trans a b c (inl h) (inr (e, k)) = inl (omega arith)
 comes-trans a b c (inr (e, h)) (inl k) = inl (omega arith)
 comes-trans a b c (inr (e, h)) (inr (f, k)) = inr (e ∙ f, omega arith)
 
-comes-refl : (a : Near) → Comes a a
+pub comes-refl : (a : Near) → Comes a a
 comes-refl a = inr (refl, omega arith)
 
 comes-near : (a b : Near) → Comes a b → a .distance ≤ b .distance
 comes-near a b (inl h) = omega arith
 comes-near a b (inr (e, h)) = omega arith
 
-nearer-first : (a b : Near) → Comes (nearer a b) a
+pub nearer-first : (a b : Near) → Comes (nearer a b) a
 unfolding nearer isNearer
 nearer-first a b = by (ltb (b .distance) (a .distance)) (eqb (b .distance) (a .distance)) (ltb (b .trace) (a .trace)) refl refl refl
   where
@@ -48,7 +48,7 @@ nearer-first a b = by (ltb (b .distance) (a .distance)) (eqb (b .distance) (a .d
     by false true false p q r = comes-refl a
     by false false z p q r = comes-refl a
 
-nearer-second : (a b : Near) → Comes (nearer a b) b
+pub nearer-second : (a b : Near) → Comes (nearer a b) b
 unfolding nearer isNearer
 nearer-second a b = by (ltb (b .distance) (a .distance)) (eqb (b .distance) (a .distance)) (ltb (b .trace) (a .trace)) refl refl refl
   where
@@ -58,7 +58,7 @@ nearer-second a b = by (ltb (b .distance) (a .distance)) (eqb (b .distance) (a .
     by false true false p q r = inr (sym (eqb-true (b .distance) (a .distance) q), ltb-false (b .trace) (a .trace) r)
     by false false z p q r = inl (strict (ltb-false (b .distance) (a .distance) p) (λ e. eqb-false (b .distance) (a .distance) q (sym e)))
 
-nearer-either : (a b : Near) → (nearer a b ≡ a) ⊎ (nearer a b ≡ b)
+pub nearer-either : (a b : Near) → (nearer a b ≡ a) ⊎ (nearer a b ≡ b)
 unfolding nearer isNearer
 nearer-either a b = by (ltb (b .distance) (a .distance) || eqb (b .distance) (a .distance) && ltb (b .trace) (a .trace))
   where
@@ -103,18 +103,18 @@ fold-hit : (d : ℕ) {l : List Near} (o : Option Near) → Some (λ b. b .distan
 fold-hit d o (some-here {a = b} {rest = l} h) = fold-keep d l (bestWith o b) (with-hit d o b h)
 fold-hit d o (some-later {a = b} h) = fold-hit d (bestWith o b) h
 
-fold-least : (d : ℕ) {l : List Near} (o : Option Near) → AtLeast d o → All (λ b. d ≤ b .distance) l → AtLeast d (foldl bestWith o l)
+pub fold-least : (d : ℕ) {l : List Near} (o : Option Near) → AtLeast d o → All (λ b. d ≤ b .distance) l → AtLeast d (foldl bestWith o l)
 fold-least d o h all-none = h
 fold-least d o h (all-more {a = b} k ks) = fold-least d (bestWith o b) (with-least d o b h k) ks
 
 -- ---- stopping
 
-not-above : (d bound : ℕ) (o : Option Near) → bound ≤ d → AtLeast d o → isAbove bound o ≡ false
+pub not-above : (d bound : ℕ) (o : Option Near) → bound ≤ d → AtLeast d o → isAbove bound o ≡ false
 unfolding isAbove
 not-above d bound none h k = refl
 not-above d bound (some a) h k = le-ltb (a .distance) bound (omega arith)
 
-is-above : (d bound : ℕ) (o : Option Near) → d < bound → AtMost d o → isAbove bound o ≡ true
+pub is-above : (d bound : ℕ) (o : Option Near) → d < bound → AtMost d o → isAbove bound o ≡ true
 unfolding isAbove
 is-above d bound none h k = absurd k
 is-above d bound (some a) h k = lt-ltb (a .distance) bound (omega arith)
@@ -135,7 +135,7 @@ module _ (stored : List Trace) (tree : Tree) (query : Trace) (d : ℕ) where
   abbrev pub inR : List LeafBound → List LeafBound
   inR = those (λ a. leb (a .bound) d)
 
-  none-in-R : {all : List LeafBound} (k : ℕ) → d < k → All (λ b. k ≤ b .bound) all → inR all ≡ []
+  pub none-in-R : {all : List LeafBound} (k : ℕ) → d < k → All (λ b. k ≤ b .bound) all → inR all ≡ []
   unfolding those
   none-in-R k h all-none = refl
   none-in-R k h (all-more {a = b} g gs) = rw (lt-leb (b .bound) d (omega arith)) (none-in-R k h gs)
@@ -254,7 +254,7 @@ lowest d (x ∷ l) query number i = by (eqb (distance query x) d) refl (in-cons 
 pub data IsNear (stored : List Trace) (query : Trace) (b : Near) : Type 0 where
   is-near : (t : ℕ) → t < length stored → b ≡ nearAt stored query t → IsNear stored query b
 
-fold-some : (a : Near) (l : List Near) → foldl bestWith (some a) l ≡ some (foldl nearer a l)
+pub fold-some : (a : Near) (l : List Near) → foldl bestWith (some a) l ≡ some (foldl nearer a l)
 unfolding bestWith
 fold-some a [] = refl
 fold-some a (b ∷ l) = fold-some (nearer a b) l

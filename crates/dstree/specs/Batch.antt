@@ -4,7 +4,7 @@ use mathlib.Core.Path.{_≡_}
 use mathlib.Core.Bool.{Bool, false, not, _&&_}
 use mathlib.Core.Option.{Option, none, some}
 use mathlib.Core.List.{List, [], _∷_, _++_, map, foldl, flatten}
-use lib.ListN.{length, getD}
+use lib.ListN.{length}
 use lib.Dec.{T, eqb, ltb}
 use Rattle.integer.specs.Words.{if_then_else_, those, isIn, timesIn}
 use Rattle.integer.specs.Lists.{In, Up}
@@ -31,8 +31,8 @@ isBatch count places = within 1 count mostQueries && eqb places count
 abbrev pub queriesIn : ℕ → ℕ → Trace → List Trace
 queriesIn n count run = pieces n count run
 
--- 14, "after 3"; ".. and a run not n times their number long is 4"; then 6 and 7 as a match. Of a library for traces of n samples with so many traces
--- and leaves
+-- 14, "after 3"; ".. and a run not n times their number long is 4"; then 6 and 7 as a match. Of a library for traces of n samples with so
+-- many traces and leaves
 abbrev pub batchConditions : ℕ → ℕ → ℕ → ℕ → ℕ → Trace → List ℕ → List Condition
 batchConditions n traces leaves count places run trail =
     not (isBatch count places) refuses badBatch
@@ -65,8 +65,8 @@ answerIn m = record { trace = m .trace; distance = m .distance }
 unfoldable pub wanted : List Trace → Tree → List Trace → List ℕ
 wanted stored tree queries = flatten (map (λ query. matchOf stored tree query .trail) queries)
 
--- "the leaves read are exactly those that at least one query alone would read. One answer record for each query .., with trace and distance as if
--- matched alone"
+-- "the leaves read are exactly those that at least one query alone would read. One answer record for each query .., with trace and
+-- distance as if matched alone"
 unfoldable pub batchOf : List Trace → Tree → List Trace → Batch
 batchOf stored tree queries = batchWith tree (map (λ query. answerIn (matchOf stored tree query)) queries) (wanted stored tree queries)
 
@@ -127,7 +127,8 @@ StepsOfFormed = (limit : ℕ) (m : Measures) (stored : List Trace) (tree : Tree)
 -- "Samples in leaves off the trail don't bear on a search": on any tree
 abbrev pub BatchOffTrail : Type 0
 BatchOffTrail = (stored other : List Trace) (tree : Tree) (queries : List Trace)
-    → SameIn tree (batchRead stored tree queries) stored other → batchBySteps other tree queries ≡ batchBySteps stored tree queries
+    → SameIn tree (batchBySteps stored tree queries .trail) stored other → batchBySteps other tree queries
+    ≡ batchBySteps stored tree queries
 
 -- a query of the batch that alone would read a leaf
 pub record WantedBy (stored : List Trace) (tree : Tree) (queries : List Trace) (number : ℕ) : Type 0 where
@@ -143,7 +144,7 @@ pub record BatchClaims (stored : List Trace) (tree : Tree) (queries : List Trace
       → T (isIn number (batchOf stored tree queries .trail))
   pub no-more : (number : ℕ) → T (isIn number (batchOf stored tree queries .trail)) → WantedBy stored tree queries number
 
--- a batch of one reads the match's leaves
+-- a batch of one reads the match's leaves, on any tree
 pub record OneClaims (stored : List Trace) (tree : Tree) (query : Trace) : Type 0 where
   pub same-leaves : (number : ℕ) → isIn number (batchOf stored tree (query ∷ []) .trail) ≡ isIn number (matchOf stored tree query .trail)
   pub as-many : batchOf stored tree (query ∷ []) .leaves ≡ matchOf stored tree query .leaves
@@ -151,7 +152,3 @@ pub record OneClaims (stored : List Trace) (tree : Tree) (query : Trace) : Type 
 abbrev pub BatchOfExact : Type 0
 BatchOfExact = (limit : ℕ) (m : Measures) (stored : List Trace) (tree : Tree) → ExactTree limit m stored tree → 0 < length stored
     → (queries : List Trace) → ((query : Trace) → In query queries → length query ≡ m .n) → BatchClaims stored tree queries
-
-abbrev pub OneOfExact : Type 0
-OneOfExact = (limit : ℕ) (m : Measures) (stored : List Trace) (tree : Tree) → ExactTree limit m stored tree → (query : Trace)
-    → OneClaims stored tree query

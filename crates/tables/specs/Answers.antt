@@ -35,6 +35,7 @@ wordOf r.BadSheet = word.badSheet
 wordOf r.BadK = word.badK
 wordOf r.BadRecording = word.badRecording
 wordOf r.LooseRecord = word.looseRecord
+wordOf r.BadBatch = word.badBatch
 
 -- what a judge found: the first condition that holds, or none
 unfoldable pub foundBy : Verdict → Option word.Refusal

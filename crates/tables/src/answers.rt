@@ -23,6 +23,7 @@ pub fn number(why: Refusal) -> u64
         Refusal::BadK => 11,
         Refusal::BadRecording => 12,
         Refusal::LooseRecord => 13,
+        Refusal::BadBatch => 14,
     }
 }
 
@@ -44,5 +45,6 @@ pub fn place(why: Refusal) -> u64
         Refusal::BadK => 0,
         Refusal::BadRecording => 0,
         Refusal::LooseRecord => 0,
+        Refusal::BadBatch => 0,
     }
 }

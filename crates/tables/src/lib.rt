@@ -24,6 +24,7 @@ pub enum Refusal {
     BadK,
     BadRecording,
     LooseRecord,
+    BadBatch,
 }
 
 // What a judge found.

@@ -4,7 +4,7 @@ use Prim.Native.Nat.{ℕ, _≤_, _<_}
 use mathlib.Core.Path.{_≡_, refl, sym, _∙_, ap, subst}
 use mathlib.Core.Logic.{_⊎_, inl, inr}
 use mathlib.Core.Bool.{Bool, true, false}
-use mathlib.Core.Option.{none}
+use mathlib.Core.Option.{none, some}
 use mathlib.Core.List.{List, [], _∷_, _++_, map, foldl, flatten}
 use native.Mathlib.Omega.{arith}
 use native.Mathlib.Nat.{le-antisymm}
@@ -317,6 +317,19 @@ module _ (n : ℕ) (stored : List Trace) (tree : Tree) (shape : Shape n (length 
 
     all-leaves : Leaves tree read
     all-leaves = batch-leaves stored tree queries
+
+    -- each query has a best
+    pub record HasBest (query : Trace) : Type 0 where
+      pub best : Near
+      pub is : bestAmong stored tree query read ≡ some best
+
+    pub has-best : (query : Trace) → In query queries → HasBest query
+    unfolding bestAmong bestWith
+    has-best query i = by (distancesAmong stored tree query read) refl (nears-full query read all-leaves (some-read i))
+      where
+        by : (l : List Near) → distancesAmong stored tree query read ≡ l → 0 < length l → HasBest query
+        by [] e h = absurd (omega arith)
+        by (a ∷ l) e h = record { best = foldl nearer a l; is = rw e (fold-some a l) }
 
     -- distances in the trail's leaves are those in the leaves read
     among : (query : Trace) (set other : List ℕ) → ((k : ℕ) → In k set → In k other) → (b : Near)

@@ -53,7 +53,7 @@ putIn l i trace distance = set (set l (2 * i) trace) (2 * i + 1) distance
 abbrev movedOn : List ℕ → ℕ → List ℕ
 movedOn l i = set (set l (2 * i + 2) (getD l (2 * i) 0)) (2 * i + 3) (getD l (2 * i + 1) 0)
 
-put-same : (l : List ℕ) (i t d : ℕ) → 2 * i + 2 ≤ length l → recordAt (putIn l i t d) i ≡ near t d
+pub put-same : (l : List ℕ) (i t d : ℕ) → 2 * i + 2 ≤ length l → recordAt (putIn l i t d) i ≡ near t d
 put-same l i t d h =
     let e : getD (putIn l i t d) (2 * i) 0 ≡ t =
     getD-set-other (set l (2 * i) t) (2 * i + 1) (2 * i) d 0 (λ q. omega arith) ∙ getD-set-same l (2 * i) t 0 (omega arith) in
@@ -61,7 +61,7 @@ put-same l i t d h =
     getD-set-same (set l (2 * i) t) (2 * i + 1) d 0 (omega (arith, length-set l (2 * i) t)) in
     rw (e, f)
 
-put-other : (l : List ℕ) (i j t d : ℕ) → (j ≡ i → ⊥) → recordAt (putIn l i t d) j ≡ recordAt l j
+pub put-other : (l : List ℕ) (i j t d : ℕ) → (j ≡ i → ⊥) → recordAt (putIn l i t d) j ≡ recordAt l j
 put-other l i j t d f =
     let e : getD (putIn l i t d) (2 * j) 0 ≡ getD l (2 * j) 0 =
     getD-set-other (set l (2 * i) t) (2 * i + 1) (2 * j) d 0 (λ q. omega arith)

@@ -19,7 +19,7 @@ pub struct Seen {
 }
 
 // A node's number, as the trail has it.
-fn narrow(j: usize) -> u16
+pub fn narrow(j: usize) -> u16
     requires { ⌜ j ≤ smallMost ⌝ }
     ensures { λ r. ⌜ r ≡ j ⌝ }
 {

@@ -14,19 +14,22 @@ use Rattle.integer.specs.Words.{every, isEmpty}
 use Rattle.integer.proofs.Tests.{passed, passes, is-true, eq→eqb}
 use Rattle.integer.proofs.Lists.{all-append, every-all, all-every, strict}
 use Rattle.dstree.specs.Measures.{Trace, Measures, sampleLimit, inRange, areSamples, isTrace, isLibrary, workNeeded}
-use Rattle.dstree.specs.Matching.{matchBySteps, matchOf}
+use Rattle.dstree.specs.Matching.{leaves, Near, matchBySteps, matchOf}
 use Rattle.dstree.specs.KNearest.{isK, kNearestBySteps, kNearestOf}
+use Rattle.dstree.specs.Batch.{isBatch, queriesIn, batchConditions, batchOf, batchBySteps}
 use Rattle.dstree.specs.Refusals.{Condition, _refuses_, firstOf, measure, wrongTrace, full, empty, sheetLength, badK, badRecording}
+use Rattle.dstree.specs.Refusals.{badBatch}
 use Rattle.dstree.specs.Sheet.{areBytes, blockSize, blocksNeeded, sheetOf, Judged, refused, holds, judgeSheet}
 use Rattle.dstree.specs.Recording.{recordingSize, recordingOf, Recording, judgeRecording, fileTraces, isBadFile}
-use Rattle.dstree.specs.Book.{Ask, opening, adding, matching, writing, reading, listing, importing, exporting, checking, Book, book}
+use Rattle.dstree.specs.Book.{Ask, opening, adding, matching, writing, reading, listing, importing, exporting, checking, batching, Book, book}
 use Rattle.dstree.specs.Book.{bookTree, Entry, added, written, imported, exported, over, importConditions, exportConditions}
 use Rattle.dstree.specs.Book.{shortConditions, queryConditions, listConditions, readingConditions, putRead, openingEntry, addingEntry}
 use Rattle.dstree.specs.Book.{matchingEntry, writingEntry, readingEntry, listingEntry, importingEntry, exportingEntry, checkingEntry}
-use Rattle.dstree.specs.Book.{entryOf}
+use Rattle.dstree.specs.Book.{batchingEntry, entryOf}
 use Rattle.dstree.proofs.Conditions.{none-first, none-both}
 use Rattle.dstree.proofs.Laws.{claims}
 use Rattle.dstree.proofs.KLaws.{k-nearest}
+use Rattle.dstree.proofs.BatchLaws.{query-size, batch}
 use Rattle.dstree.proofs.RoundTrips.{is-library}
 use Rattle.dstree.proofs.Recordings.{file-traces}
 use Rattle.tables.specs.Layout.{layout}
@@ -43,7 +46,7 @@ use Rattle.insertion_memory.proofs.AddedBeginnings.{added-begins}
 use Rattle.calls.specs.Outcome.{Effect}
 use Rattle.calls.specs.Library.{loaded, libraryTables, Keeps}
 use Rattle.calls.specs.Effects.{opens, adds, resultOf, trailOf, cleared, matches, writes, loadedBy, reads, lists, imports, exports, checks}
-use Rattle.calls.specs.Effects.{effectOf}
+use Rattle.calls.specs.Effects.{batches, effectOf}
 use Rattle.calls.specs.Follows.{Typed}
 use Rattle.calls.proofs.Finds.{last-never}
 use Rattle.calls.proofs.Library.{library-holds, library-work, loaded-more, loaded-begins, added-begin}
@@ -336,6 +339,39 @@ module _ (memory part : Tables) (begins : Begins part memory) (b : Book) (keeps 
     puts = λ e. rw (left-same part memory begins) keeps;
   }
 
+  -- document 02, §7
+  module _ (count : ℕ) (run : Trace) (trail : List ℕ) (list : List Near) where
+    abbrev batchingRest : List Condition
+    batchingRest = batchConditions (m .n) (length (b .traces)) (length (leaves (bookTree b))) count (length list) run trail
+
+    batching-judged : firstOf (batches part count run trail list .conditions) ≡ firstOf (shortConditions layout (lentOf part) m ++ batchingRest)
+    unfolding batches
+    batching-judged = made-same keeps part begins _ batchingRest
+        (λ h. rw (ap (λ (k : Measures). k .n) (h .measures-are), counted keeps part begins h, h .tree-is))
+
+    batch-steps-give : firstOf (shortConditions layout (lentOf part) m ++ batchingRest) ≡ none
+        → batchBySteps (tracesIn part) (treeIn part) (queriesIn (measuresOf part .n) count run)
+        ≡ batchOf (b .traces) (bookTree b) (queriesIn (m .n) count run)
+    batch-steps-give e =
+        let parts = none-both (shortConditions layout (lentOf part) m) batchingRest e in
+        let one = none-first (not (isBatch count (length list))) badBatch _ (parts .1) in
+        let two = none-first (not (eqb (length run) (m .n * count))) wrongTrace _ (one .1) in
+        let three = none-first (eqb (length (b .traces)) 0) empty _ (two .1) in
+        let h = holds-it batchingRest e in
+        let some-trace : 0 < length (b .traces) = strict (omega arith) (λ q. eqb-false (length (b .traces)) 0 (three .0) (sym q)) in
+        let c = batch sampleLimit m (b .traces) (keeps .library) some-trace (queriesIn (m .n) count run)
+        (query-size (m .n) count run (eqb-true (length run) (m .n * count) (not-false _ (two .0)))) in
+        rw (ap (λ (k : Measures). k .n) (h .measures-are), h .traces-are, h .tree-is) (c .steps-give-it)
+
+    pub batching-agrees : Agrees memory (batches part count run trail list) (batchingEntry layout (lentOf part) b count run trail list)
+    unfolding batches batchingEntry
+    batching-agrees = record {
+      judged = batching-judged;
+      result-is = λ e. rw (batch-steps-give e);
+      beside-is = λ e. rw (batch-steps-give e);
+      puts = searching-puts batchingRest;
+    }
+
   -- ---- any call
 
   pub agrees : (ask : Ask) → Typed ask part → Agrees memory (effectOf ask part) (entryOf layout (lentOf part) b ask)
@@ -349,3 +385,4 @@ module _ (memory part : Tables) (begins : Begins part memory) (b : Book) (keeps 
   agrees (importing bytes) typed = importing-agrees bytes (typed .0)
   agrees (exporting number rate buffer) typed = exporting-agrees number rate buffer
   agrees checking typed = checking-agrees
+  agrees (batching count run trail list) typed = batching-agrees count run trail list

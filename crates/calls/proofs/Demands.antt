@@ -1,7 +1,7 @@
 -- The demands over calls that follow their definitions. A memory keeps the book from the first opening on, and so is one that the check would
 -- accept; of any query, what is claimed holds of every such memory (`Queries`). From a check on that has just accepted, a memory goes on being
 -- one, and the same claims hold of it.
-use Prim.Native.Nat.{_<_}
+use Prim.Native.Nat.{ℕ, _*_, _<_}
 use mathlib.Core.Path.{_≡_, refl, sym, ap, subst, _∙_}
 use mathlib.Core.Option.{none, some}
 use mathlib.Core.List.{List, [], _∷_}
@@ -28,7 +28,7 @@ use Rattle.calls.specs.Trusted.{bookIn, Trusts}
 use Rattle.calls.specs.Effects.{lists, checks, effectOf}
 use Rattle.calls.specs.Follows.{Ran, a-call}
 use Rattle.calls.specs.Demands.{ListedIn, ListsAnywhere, ChecksAnywhere, judgeIn, OfAnyQuery, EmptyIsSix, IsAccepted}
-use Rattle.calls.specs.Demands.{AfterList, AfterCheck, Demands}
+use Rattle.calls.specs.Demands.{OfAnyBatch, AfterList, AfterCheck, Demands}
 use Rattle.calls.proofs.Library.{library-holds}
 use Rattle.calls.proofs.Trusted.{exact-tree, accepted-same, kept-trusts}
 use Rattle.calls.proofs.Agrees.{agrees}
@@ -40,6 +40,7 @@ use Rattle.calls.proofs.OffTrail.{answered, off-trail}
 use Rattle.calls.proofs.Imports.{imports-anywhere, exported-sound}
 use Rattle.calls.proofs.Trusting.{check-stays, part-checked, loose-is, trusted, all-trusting}
 use Rattle.calls.proofs.Queries.{Judges, of-any-query}
+use Rattle.calls.proofs.Batches.{of-any-batch, batches-anywhere}
 
 -- ---- a check
 
@@ -69,6 +70,13 @@ module _ {memory : Tables} {b : Book} (keeps : Keeps memory b) where
       let h = holds-whole (keeps .needed-places) (library-holds (b .measures) (b .traces) (keeps .library)) in
       subst (λ (t : Tree). OfAnyQuery (judge layout b) (b .traces) t query memory) (h .tree-is)
       (of-any-query (kept-trusts keeps) (judge layout b) book-judges query size some-trace)
+
+  pub batch-of-book : (count : ℕ) (run : Trace) → 0 < length (b .traces) → length run ≡ b .measures .n * count
+      → OfAnyBatch (judge layout b) (b .traces) (bookTree b) (b .measures .n) count run memory
+  batch-of-book count run some-trace size =
+      let h = holds-whole (keeps .needed-places) (library-holds (b .measures) (b .traces) (keeps .library)) in
+      subst (λ (t : Tree). OfAnyBatch (judge layout b) (b .traces) t (b .measures .n) count run memory) (h .tree-is)
+      (of-any-batch (kept-trusts keeps) (judge layout b) book-judges some-trace count run size)
 
   -- "an empty one is still 6"
   empty-is-six : EmptyIsSix b memory
@@ -116,6 +124,7 @@ after-list {b} {memory} calls said e k = record {
   never-spoiled = λ r i. never layout spoiled spoiled-is-not b calls r (subst (In r) e i);
   never-loose = λ r i. never layout looseRecord loose-is-not b calls r (subst (In r) e i);
   any-query = of-book k;
+  any-batch = batch-of-book k;
   empty-is-six = empty-is-six k;
   exported-sound = exported-sound k;
   is-accepted = is-accepted (kept-trusts k);
@@ -137,6 +146,7 @@ from-check first calls memory₀ memory said₀ said (a-call f rest) e =
       never-spoiled = λ r i. t .1 r i spoiled spoiled-is-not;
       never-loose = λ r i. t .1 r i looseRecord loose-is-not;
       any-query = λ query some-trace size. of-any-query (t .0) (judgeIn memory) (λ c places typed q. q) query size some-trace;
+      any-batch = λ count run some-trace size. of-any-batch (t .0) (judgeIn memory) (λ c places typed q. q) some-trace count run size;
     }
 
 pub demands : Demands
@@ -146,6 +156,7 @@ demands = record {
   lists-anywhere = lists-anywhere;
   imports-anywhere = imports-anywhere;
   checks-anywhere = checks-anywhere;
+  batches-anywhere = batches-anywhere;
   after-list = from-first;
   after-check = from-check;
   read-and-written = λ lent bytes memory₀ memory₁ said₁ g d lent′ sheet said₂ memory₂ f blocks again a. written-again-from g d f a;

@@ -13,4 +13,5 @@ pub mod OffTrail
 pub mod Imports
 pub mod Trusting
 pub mod Queries
+pub mod Batches
 pub mod Demands

@@ -16,10 +16,10 @@ use Rattle.dstree.specs.Refusals.{Refusal, spoiled, looseRecord, numberOf, Cond
 use Rattle.dstree.specs.Sheet.{Format, narrow, blocksIn, tornConditions, badConditions, conditionsAs, Judged, refused, holds, libraryIn}
 use Rattle.dstree.specs.Sheet.{judgedBy, judgeAs, judgeSheet}
 use Rattle.dstree.specs.Book.{Layout, Lent, Ask, opening, adding, matching, writing, reading, listing, importing, exporting, Call}
-use Rattle.dstree.specs.Book.{checking, refusing}
+use Rattle.dstree.specs.Book.{checking, batching, refusing}
 use Rattle.dstree.specs.Book.{Reply, Book, Entry}
 use Rattle.dstree.specs.Book.{readingConditions, openingEntry, addingEntry, matchingEntry, writingEntry, readingEntry, listingEntry}
-use Rattle.dstree.specs.Book.{importingEntry, exportingEntry, checkingEntry}
+use Rattle.dstree.specs.Book.{importingEntry, exportingEntry, checkingEntry, batchingEntry}
 use Rattle.dstree.specs.Book.{entryOf, entry, judge, turn}
 use Rattle.dstree.specs.Book.{replyUnless, replyOf, repliesOf}
 
@@ -104,7 +104,7 @@ module _ (layout : Layout) where
 
   pub entry-other : (lent : Lent) (b : Book) (ask : Ask) → T (every other (entryOf layout lent b ask .conditions))
   unfolding entryOf openingEntry addingEntry matchingEntry writingEntry readingEntry listingEntry importingEntry exportingEntry checkingEntry
-      every ofArguments numberOf
+      batchingEntry every ofArguments numberOf
   entry-other lent b (opening m) = tt
   entry-other lent b (adding x) = tt
   entry-other lent b (matching query trail) = tt
@@ -114,6 +114,7 @@ module _ (layout : Layout) where
   entry-other lent b (importing bytes) = tt
   entry-other lent b (exporting number rate buffer) = tt
   entry-other lent b checking = tt
+  entry-other lent b (batching count run trail list) = tt
 
   reply-other : (w : Refusal) → (T (ofArguments w) → ⊥) → (o : Option Refusal) → T (ifAny ofArguments o)
       → (beside : List (List ℕ)) (e : Entry) → replyUnless o beside e .answer ≡ refusing w → ⊥

@@ -1,6 +1,6 @@
 -- Samples in leaves off the trail do not bear on a search, of whatever tables it takes: no condition and no node is read from a sample, and
--- the traces in the leaves that the search reads are the same. The argument is one for every search; a match and a listing each add that
--- their steps read nothing else.
+-- the traces in the leaves that the search reads are the same. The argument is one for every search; a match, a listing and a batch each add
+-- that their steps read nothing else.
 use Prim.Native.Nat.{ℕ, _≤_, _<_}
 use mathlib.Core.Path.{_≡_, refl, sym, ap, subst, _∙_}
 use mathlib.Core.Bool.{Bool, true, false}
@@ -15,13 +15,15 @@ use Rattle.integer.specs.Words.{isIn}
 use Rattle.integer.proofs.Lists.{in-is, map-agree}
 use Rattle.dstree.specs.Measures.{Trace, Measures}
 use Rattle.dstree.specs.Matching.{Search, Near, answerOf, searched, matchBySteps}
+use Rattle.dstree.specs.Batch.{queriesIn, batchBySteps}
 use Rattle.dstree.specs.KNearest.{listed, kNearestBySteps, SameIn}
 use Rattle.dstree.specs.Refusals.{Refusal, firstOf}
 use Rattle.dstree.specs.Book.{Lent, Ask, opening, adding, matching, writing, reading, listing, importing, exporting, checking, besideOf}
-use Rattle.dstree.specs.Book.{Result, answering, Reply, reply}
+use Rattle.dstree.specs.Book.{batching, Result, answering, Reply, reply}
 use Rattle.dstree.specs.Claims.{numbersAmong}
 use Rattle.dstree.proofs.OffTrail as trees
 use Rattle.dstree.proofs.KSteps.{step-claims}
+use Rattle.dstree.proofs.BatchSteps.{batch-off-trail}
 use Rattle.tables.specs.Tables.{Tables, tables, measuresOf, traceCount}
 use Rattle.tables.specs.View.{traceIn, treeIn, tracesIn, kindsNamed, wellFormed}
 use Rattle.dstree.proofs.Conditions.{none-both}
@@ -34,7 +36,7 @@ use Rattle.insertion_memory.proofs.FromTables.{long-of}
 use Rattle.insertion_memory.proofs.Beginnings.{Agree, begins-agree, measures-same, tree-same}
 use Rattle.calls.specs.Outcome.{Effect, unlessRefused}
 use Rattle.calls.specs.Effects.{opens, adds, resultOf, matches, writes, reads, lists, imports, exports, checks}
-use Rattle.calls.specs.Effects.{effectOf, outcomeOn}
+use Rattle.calls.specs.Effects.{batches, effectOf, outcomeOn}
 use Rattle.calls.specs.Demands.{DifferOutside, trailFound, SamplesOffTrail}
 use Rattle.tables.proofs.Judged.{Accepted, accepted}
 use Rattle.calls.proofs.Finds.{last-never}
@@ -56,6 +58,11 @@ module _ (t : Tables) (samples : List ℤ) (as-many : length samples ≡ length 
       → firstOf (lists with-others k query trail list .conditions) ≡ firstOf (lists t k query trail list .conditions)
   unfolding lists madeConditions wellFormed kindsNamed treeIn
   list-conditions-same k query trail list = rw as-many
+
+  batch-conditions-same : (count : ℕ) (run : Trace) (trail : List ℕ) (list : List Near)
+      → firstOf (batches with-others count run trail list .conditions) ≡ firstOf (batches t count run trail list .conditions)
+  unfolding batches madeConditions wellFormed kindsNamed treeIn
+  batch-conditions-same count run trail list = rw as-many
 
 -- ---- the traces that a search reads
 
@@ -179,6 +186,20 @@ module _ (lent : Lent) {these other : Tables} {trail : List ℕ} (differ : Diffe
       ∙ same-work (listing k query place list) t u fine (list-conditions-same t (u .samples) (as-many lent ok differ) k query place list)
       (rw both) (rw both)
 
+  batch-same : (count : ℕ) (run : Trace) (place : List ℕ) (list : List Near) → Same (batching count run place list)
+  unfolding effectOf batches treeIn trailFound
+  batch-same count run place list fine found =
+      let ok = accepted t (none-both (madeConditions t) _ fine .0) in
+      let u = also lent ok differ in
+      let queries = queriesIn (measuresOf t .n) count run in
+      let s = batchBySteps (tracesIn t) (treeIn t) queries in
+      let trails : s .trail ≡ trail = cc in
+      let both : batchBySteps (tracesIn u) (treeIn u) queries ≡ s = batch-off-trail (tracesIn t) (tracesIn u) (treeIn t) queries
+      (subst (λ (l : List ℕ). SameIn (treeIn t) l (tracesIn t) (tracesIn u)) (sym trails) (all-same lent ok differ)) in
+      ap (replyTo (batching count run place list)) (also-is lent ok differ)
+      ∙ same-work (batching count run place list) t u fine
+      (batch-conditions-same t (u .samples) (as-many lent ok differ) count run place list) (rw both) (rw both)
+
   -- no other call answers with a trail
   any-same : (ask : Ask) → Same ask
   unfolding effectOf opens adds writes reads imports exports checks trailFound
@@ -191,6 +212,7 @@ module _ (lent : Lent) {these other : Tables} {trail : List ℕ} (differ : Diffe
   any-same (importing bytes) fine found = let z : _≡_ {A = ℕ} 0 1 = cc in absurd (omega arith)
   any-same (exporting number rate buffer) fine found = let z : _≡_ {A = ℕ} 0 1 = cc in absurd (omega arith)
   any-same checking fine found = let z : _≡_ {A = ℕ} 0 1 = cc in absurd (omega arith)
+  any-same (batching count run place list) fine found = batch-same count run place list fine found
 
 -- ---- the law
 

@@ -16,7 +16,7 @@ use Rattle.dstree.specs.Refusals.{Refusal, _refuses_, firstOf, measure, wrongTr
 use Rattle.dstree.specs.Recording.{judgeRecording, fileTraces, isBadFile}
 use Rattle.dstree.specs.Sheet.{areBytes, Judged, refused, holds, judgeSheet}
 use Rattle.dstree.specs.Book.{Ask, opening, adding, matching, writing, reading, listing, importing, exporting, checking, Call, besideOf}
-use Rattle.dstree.specs.Book.{Reply, reply, shortConditions, readingConditions}
+use Rattle.dstree.specs.Book.{batching, Reply, reply, shortConditions, readingConditions}
 use Rattle.dstree.proofs.Conditions.{none-first, none-both}
 use Rattle.dstree.proofs.RoundTrips.{is-library}
 use Rattle.dstree.proofs.Recordings.{file-traces}
@@ -36,7 +36,7 @@ use Rattle.insertion_memory.proofs.Keeps.{TakesAll, keeps-all}
 use Rattle.calls.specs.Outcome.{Effect, unlessRefused}
 use Rattle.calls.specs.Library.{loaded, beyond}
 use Rattle.calls.specs.Effects.{opens, adds, cleared, matches, writes, loadedBy, reads, lists, imports, exports, checks}
-use Rattle.calls.specs.Effects.{effectOf}
+use Rattle.calls.specs.Effects.{batches, effectOf}
 use Rattle.calls.specs.Follows.{Typed, Follows}
 use Rattle.calls.specs.Demands.{OneCall}
 use Rattle.tables.proofs.Judged.{accepted}
@@ -140,7 +140,7 @@ module _ (t : Tables) where
       }
 
   pub after-untouched : (ask : Ask) → Typed ask t → firstOf (effectOf ask t .conditions) ≡ none → Untouched t (effectOf ask t .after)
-  unfolding effectOf opens adds matches writes reads lists imports exports checks Typed
+  unfolding effectOf opens adds matches writes reads lists imports exports checks batches Typed
   after-untouched (opening m) typed e = opening-untouched m e
   after-untouched (adding x) typed e = adding-untouched x e
   after-untouched (matching query trail) typed e = searching-untouched (none-both (madeConditions t) _ e .0)
@@ -150,6 +150,7 @@ module _ (t : Tables) where
   after-untouched (importing bytes) typed e = importing-untouched bytes (typed .0) (typed .1) e
   after-untouched (exporting number rate buffer) typed e = read-untouched (none-both (madeConditions t) _ e .0)
   after-untouched checking typed e = read-untouched (none-both (madeConditions t) _ e .0)
+  after-untouched (batching count run trail list) typed e = searching-untouched (none-both (madeConditions t) _ e .0)
 
 -- ---- the same of a memory whose first places are lent
 

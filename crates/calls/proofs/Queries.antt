@@ -20,7 +20,7 @@ use Rattle.dstree.proofs.Closed.{match-exact}
 use Rattle.dstree.proofs.Ranks.{list-claims}
 use Rattle.dstree.proofs.KLaws.{k-nearest-exact, one-exact}
 use Rattle.dstree.proofs.Search.{Low, lowest}
-use Rattle.tables.specs.Tables.{Tables, lentOf}
+use Rattle.tables.specs.Tables.{Tables, lentOf, measuresOf}
 use Rattle.tables.specs.View.{treeIn, tracesIn}
 use Rattle.tables.specs.Beginning.{firstPlaces, Within}
 use Rattle.tables.specs.Answers.{madeConditions}
@@ -77,7 +77,7 @@ same-lengths : {set : List ℕ} {these other : Tables} → DifferOutside set the
 same-lengths differ = rw (differ .control-same, differ .nodes-same, differ .links-same, differ .work-same, differ .as-long)
 
 -- a memory has the places that a call is lent of another with other samples, as many
-places-here : {c : Call} {memory other other′ : Tables} {said : Reply} {trail : List ℕ} → DifferOutside trail memory other
+pub places-here : {c : Call} {memory other other′ : Tables} {said : Reply} {trail : List ℕ} → DifferOutside trail memory other
     → Follows c other said other′ → lentOf (firstPlaces (c .lent) memory) ≡ c .lent
 places-here {c} {memory} {other} differ g =
     let within = subst (λ (l : Lent). Within l (lentOf other)) (g .has-places)
@@ -85,7 +85,7 @@ places-here {c} {memory} {other} differ g =
     first-lent (c .lent) memory (subst (Within (c .lent)) (same-lengths differ) within)
 
 -- the call there, as it is made here
-call-here : (c : Call) (memory : Tables) → lentOf (firstPlaces (c .lent) memory) ≡ c .lent → Typed (c .ask) (firstPlaces (c .lent) memory)
+pub call-here : (c : Call) (memory : Tables) → lentOf (firstPlaces (c .lent) memory) ≡ c .lent → Typed (c .ask) (firstPlaces (c .lent) memory)
     → let o = outcomeIn c memory in Follows c memory (reply (o .answer) (o .beside)) (o .after)
 call-here c memory places typed = record { has-places = places; typed = typed; follows = refl }
 
@@ -94,18 +94,20 @@ abbrev pub Judges : (Call → Option Refusal) → Tables → Type 0
 Judges judges memory = (c : Call) → lentOf (firstPlaces (c .lent) memory) ≡ c .lent → Typed (c .ask) (firstPlaces (c .lent) memory)
     → judges c ≡ none → judgeIn memory c ≡ none
 
+-- the tables that a call is lent which is not refused are the memory's
+pub on-part : {memory : Tables} {b : Book} → Trusts memory b → (lent : Lent) (rest : List Condition) → let part = firstPlaces lent memory in
+    firstOf (madeConditions part ++ rest) ≡ none
+    → (measuresOf part ≡ b .measures) × ((tracesIn part ≡ b .traces) × (treeIn part ≡ treeIn memory))
+on-part {memory} k lent rest e =
+    let begins = first-begins lent memory in
+    let room = fine-room k begins (none-both (madeConditions (firstPlaces lent memory)) rest e .0) in
+    let t = part-trusts k begins room in
+    (t .measures-are, (t .traces-are, part-tree k begins room))
+
 module _ {memory : Tables} {b : Book} (k : Trusts memory b) (judges : Call → Option Refusal) (fine : Judges judges memory)
     (query : Trace) (size : length query ≡ b .measures .n) where
   abbrev tree : Tree
   tree = treeIn memory
-
-  -- the tables that a call is lent which is not refused are the memory's
-  on-part : (lent : Lent) (rest : List Condition) → let part = firstPlaces lent memory in
-      firstOf (madeConditions part ++ rest) ≡ none → (tracesIn part ≡ b .traces) × (treeIn part ≡ tree)
-  on-part lent rest e =
-      let begins = first-begins lent memory in
-      let room = fine-room k begins (none-both (madeConditions (firstPlaces lent memory)) rest e .0) in
-      (part-trusts k begins room .traces-are, part-tree k begins room)
 
   -- a match
   module _ (some-trace : 0 < length (b .traces)) where
@@ -116,9 +118,9 @@ module _ {memory : Tables} {b : Book} (k : Trusts memory b) (judges : Call → O
     unfolding effectOf matches resultOf trailOf Typed
     gives lent trail said memory′ f not-refused =
         let here : judgeIn memory (call lent (matching query trail)) ≡ none = fine _ (f .has-places) tt not-refused in
-        let same = on-part lent _ here in
+        let same = on-part k lent _ here in
         let steps : matchBySteps (tracesIn (firstPlaces lent memory)) (treeIn (firstPlaces lent memory)) query
-        ≡ some (matchOf (b .traces) tree query) = rw (same .0, same .1) (c .steps-give-it) in
+        ≡ some (matchOf (b .traces) tree query) = rw (same .1 .0, same .1 .1) (c .steps-give-it) in
         one-call _ memory memory′ said f .works here .0 ∙ (rw steps)
 
     gives-there : (other : Tables) → DifferOutside (matchOf (b .traces) tree query .trail) memory other
@@ -140,9 +142,9 @@ module _ {memory : Tables} {b : Book} (k : Trusts memory b) (judges : Call → O
     unfolding effectOf lists Typed
     list-gives lent trail list said memory′ f not-refused =
         let here : judgeIn memory (call lent (listing j query trail list)) ≡ none = fine _ (f .has-places) tt not-refused in
-        let same = on-part lent _ here in
+        let same = on-part k lent _ here in
         let steps : kNearestBySteps j (tracesIn (firstPlaces lent memory)) (treeIn (firstPlaces lent memory)) query
-        ≡ kNearestOf j (b .traces) tree query = rw (same .0, same .1) (lists-claimed .steps-give-it) in
+        ≡ kNearestOf j (b .traces) tree query = rw (same .1 .0, same .1 .1) (lists-claimed .steps-give-it) in
         one-call _ memory memory′ said f .works here .0 ∙ (rw steps)
 
     list-gives-there : (other : Tables) → DifferOutside (kNearestOf j (b .traces) tree query .trail) memory other

@@ -8,9 +8,10 @@ use mathlib.Core.List.{List, [], _∷_}
 use native.Mathlib.Omega.{arith}
 use Rattle.dstree.specs.Measures.{measures}
 use Rattle.dstree.specs.Matching.{Match, matchBySteps}
+use Rattle.dstree.specs.KNearest.{listPlaces}
 use Rattle.dstree.specs.Refusals.{Refusal, firstOf}
 use Rattle.dstree.specs.Book.{Lent, Ask, opening, adding, matching, writing, reading, listing, importing, exporting, checking, Call}
-use Rattle.dstree.specs.Book.{call, besideOf, done, answering}
+use Rattle.dstree.specs.Book.{batching, call, besideOf, done, answering}
 use Rattle.dstree.specs.Book.{Book, book, Entry, openingEntry, readingEntry, entryOf, judge, putUnless, turn, after, replyUnless, start}
 use Rattle.dstree.specs.Book.{Reply, reply, replyOf, repliesOf}
 use Rattle.tables.specs.Layout.{layout}
@@ -21,7 +22,7 @@ use Rattle.tables.proofs.Beginning.{left-same, first-begins}
 use Rattle.calls.specs.Outcome.{Effect, Outcome, unlessRefused, outcomeOf}
 use Rattle.calls.specs.Library.{Keeps}
 use Rattle.calls.specs.Effects.{adds, resultOf, isNone, matches, writes, lists, imports, exports, checks, effectOf}
-use Rattle.calls.specs.Effects.{outcomeOn}
+use Rattle.calls.specs.Effects.{batches, outcomeOn}
 use Rattle.calls.specs.Follows.{Typed, Follows, Ran, no-call, a-call}
 use Rattle.calls.proofs.Finds.{found, last-never}
 use Rattle.calls.proofs.Agrees.{Agrees, opening-agrees, reading-agrees, agrees}
@@ -93,7 +94,8 @@ module _ (memory part : Tables) (lent : Lent) where
 
   started-by : (ask : Ask) → Typed ask part → outcomeOn ask part .answer ≡ answering done
       → Keeps (left (outcomeOn ask part .after) memory) (start layout (call lent ask))
-  unfolding outcomeOn effectOf besideOf entryOf start openingEntry readingEntry adds matches writes lists imports exports checks Typed
+  unfolding outcomeOn effectOf besideOf entryOf start openingEntry readingEntry adds matches writes lists imports exports checks
+      batches Typed
   started-by (opening m) typed d = start-by memory part noBook [] (opening-agrees memory part noBook m) d
   started-by (adding x) typed d = absurd (not-done _ part [] (adds part x) (λ e r. let z : _≡_ {A = ℕ} 0 1 = cc in omega arith) d)
   started-by (matching query trail) typed d = absurd (not-done _ part (trail ∷ []) (matches part query trail)
@@ -109,6 +111,8 @@ module _ (memory part : Tables) (lent : Lent) where
   started-by (exporting number rate buffer) typed d = absurd (not-done _ part (buffer ∷ []) (exports part number rate buffer)
       (λ e r. let z : _≡_ {A = ℕ} 0 1 = cc in omega arith) d)
   started-by checking typed d = absurd (not-done _ part [] (checks part) (λ e r. let z : _≡_ {A = ℕ} 0 1 = cc in omega arith) d)
+  started-by (batching count run trail list) typed d = absurd (not-done _ part (trail ∷ listPlaces list ∷ []) (batches part count run trail list)
+      (λ e r. let z : _≡_ {A = ℕ} 0 1 = cc in omega arith) d)
 
 pub started : {c : Call} {memory memory′ : Tables} {said : Reply} → Follows c memory said memory′ → said .answer ≡ answering done
     → Keeps memory′ (start layout c)

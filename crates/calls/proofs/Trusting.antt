@@ -26,7 +26,7 @@ use Rattle.dstree.specs.Sheet.{areBytes}
 use Rattle.dstree.specs.Book.{Lent, Ask, opening, adding, matching, writing, reading, listing, importing, exporting, checking, Call, call}
 use Rattle.dstree.specs.Book.{besideOf, accepted, refusing, answering, Reply, Book, book, Entry, importConditions, shortConditions}
 use Rattle.dstree.specs.Book.{addingEntry, matchingEntry, writingEntry, listingEntry, importingEntry, exportingEntry, checkingEntry}
-use Rattle.dstree.specs.Book.{entryOf, judge, putUnless, turn, after}
+use Rattle.dstree.specs.Book.{batching, batchingEntry, entryOf, judge, putUnless, turn, after}
 use Rattle.dstree.proofs.Conditions.{none-first, none-both, first-some, first-none}
 use Rattle.dstree.proofs.Limits.{trace-length}
 use Rattle.dstree.proofs.Recordings.{file-traces}
@@ -46,7 +46,7 @@ use Rattle.insertion_memory.proofs.Keeps.{keeps-well-formed}
 use Rattle.calls.specs.Outcome.{Effect, unlessRefused}
 use Rattle.calls.specs.Trusted.{bookIn, Trusts}
 use Rattle.calls.specs.Effects.{opens, adds, resultOf, cleared, matches, writes, reads, lists, imports, exports, checks}
-use Rattle.calls.specs.Effects.{effectOf}
+use Rattle.calls.specs.Effects.{batches, effectOf}
 use Rattle.calls.specs.Follows.{Typed, Follows, Ran, no-call, a-call}
 use Rattle.calls.proofs.Trusted.{long-in, count-in, each-is, whole-trusts, part-trusts, fine-room}
 use Rattle.calls.proofs.Trusted.{trusted-same, accepted-same, checked-trusts, kept-trusts}
@@ -226,7 +226,7 @@ module _ (memory part : Tables) (begins : Begins part memory) (b : Book) (k : Tr
 
   leads : (ask : Ask) → Typed ask part → Leads memory b (effectOf ask part) (entryOf layout (lentOf part) b ask)
   unfolding effectOf entryOf Typed matches lists writes exports checks matchingEntry listingEntry writingEntry exportingEntry checkingEntry
-      every ofArguments numberOf
+      batches batchingEntry every ofArguments numberOf
   leads (opening x) typed = of-agrees (opening-agrees memory part b x) (entry-other layout (lentOf part) b (opening x))
   leads (adding x) typed = adding-leads x typed
   leads (matching query trail) typed = searching _ _ _ refl refl refl tt
@@ -238,6 +238,7 @@ module _ (memory part : Tables) (begins : Begins part memory) (b : Book) (k : Tr
   leads checking typed = staying _ _ refl refl
       (subst (λ (o : Option Refusal). T (ifAny ofArguments o)) (sym (accepted-same k begins))
       (first-other (shortConditions layout (lentOf part) m) tt))
+  leads (batching count run trail list) typed = searching _ _ _ refl refl refl tt
 
 -- ---- the step
 
@@ -297,7 +298,7 @@ match-accepts-none none e = let z : _≡_ {A = ℕ} 0 1 = cc in omega arith
 match-accepts-none (some m) e = let z : _≡_ {A = ℕ} 0 1 = cc in omega arith
 
 only-check : (ask : Ask) (t : Tables) → effectOf ask t .result ≡ accepted → ask ≡ checking
-unfolding effectOf opens adds matches writes reads lists imports exports checks
+unfolding effectOf opens adds matches writes reads lists imports exports checks batches
 only-check (opening m) t e = let z : _≡_ {A = ℕ} 0 1 = cc in absurd (omega arith)
 only-check (adding x) t e = let z : _≡_ {A = ℕ} 0 1 = cc in absurd (omega arith)
 only-check (matching query trail) t e = absurd (match-accepts-none (matchBySteps (tracesIn t) (treeIn t) query) e)
@@ -307,6 +308,7 @@ only-check (listing k query trail list) t e = let z : _≡_ {A = ℕ} 0 1 = cc i
 only-check (importing bytes) t e = let z : _≡_ {A = ℕ} 0 1 = cc in absurd (omega arith)
 only-check (exporting number rate buffer) t e = let z : _≡_ {A = ℕ} 0 1 = cc in absurd (omega arith)
 only-check checking t e = refl
+only-check (batching count run trail list) t e = let z : _≡_ {A = ℕ} 0 1 = cc in absurd (omega arith)
 
 module _ {lent : Lent} {memory memory′ : Tables} {said : Reply} (f : Follows (call lent checking) memory said memory′) where
   abbrev lentPart : Tables

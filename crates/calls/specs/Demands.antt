@@ -1,7 +1,7 @@
 -- The three demands, of calls that follow their definitions: demand 1 of every call on every memory; demand 2 and document 01's "Demand 3,
 -- over a list of calls", a field for each sentence, of what a list of calls leaves; and document 02's claims of the calls that it adds.
 -- `proofs/Demands` proves them.
-use Prim.Native.Nat.{ℕ, _≤_, _<_}
+use Prim.Native.Nat.{ℕ, _*_, _≤_, _<_}
 use mathlib.Core.Path.{_≡_}
 use mathlib.Core.Bool.{true, not}
 use mathlib.Core.Option.{Option, none, some}
@@ -9,17 +9,18 @@ use mathlib.Core.List.{List, [], _∷_, map}
 use lib.ListN.{length, getD, take}
 use lib.Dec.{T}
 use Rattle.integer.specs.Words.{every, isIn, counting}
-use Rattle.integer.specs.Lists.{In}
+use Rattle.integer.specs.Lists.{In, Up}
 use Rattle.segment.specs.Figures.{distance}
 use Rattle.dstree.specs.Measures.{Trace, Measures, sampleLimit}
 use Rattle.dstree.specs.Node.{Tree}
-use Rattle.dstree.specs.Matching.{bound, leaves, leastDistance, Match, matchOf}
+use Rattle.dstree.specs.Matching.{bound, leaves, leastDistance, Near, Match, matchOf}
 use Rattle.dstree.specs.KNearest.{isK, ranking, listPlaces, KNearest, kNearestBySteps, kNearestOf, distancesAmong, ListClaims}
 use Rattle.dstree.specs.KNearest.{KNearestClaims, OneIsMatch}
+use Rattle.dstree.specs.Batch.{queriesIn, Batch, answerIn, batchOf, batchBySteps, StepsClaims, BatchClaims, OneClaims}
 use Rattle.dstree.specs.Refusals.{Refusal, spoiled, empty, looseRecord, firstOf}
 use Rattle.dstree.specs.Recording.{Recording, recording, judgeRecording}
-use Rattle.dstree.specs.Book.{Lent, adding, matching, writing, reading, listing, importing, exporting, checking, Call, call, besideOf}
-use Rattle.dstree.specs.Book.{Result, done, added, matched, written, neighbours, imported, exported, accepted, refusing}
+use Rattle.dstree.specs.Book.{Lent, adding, matching, writing, reading, listing, importing, exporting, checking, batching, Call, call, besideOf}
+use Rattle.dstree.specs.Book.{Result, done, added, matched, written, neighbours, imported, exported, accepted, batched, refusing}
 use Rattle.dstree.specs.Book.{answering, Reply, reply, over, Book, bookTree, shortConditions, judge, after, repliesOf, start}
 use Rattle.dstree.specs.Claims.{Below, numbersAmong, LeavesOutOnlyAbove, RangesOf, ExactTree}
 use Rattle.tables.specs.Layout.{layout}
@@ -66,10 +67,11 @@ pub record DifferOutside (set : List ℕ) (these other : Tables) : Type 0 where
   pub samples-same : (trace : ℕ) → T (isIn trace (numbersAmong (treeIn these) set))
       → traceIn (other .samples) (measuresOf these .n) trace ≡ traceIn (these .samples) (measuresOf these .n) trace
 
--- the leaves that a search has read, by its answer: a match's, or that of the k nearest. No other call answers with a trail
+-- the leaves that a search has read, by its answer: a match's, that of the k nearest, or a batch's. No other call answers with a trail
 unfoldable pub trailFound : Result → Option (List ℕ)
 trailFound (matched m) = some (m .trail)
 trailFound (neighbours m) = some (m .trail)
+trailFound (batched m) = some (m .trail)
 trailFound done = none
 trailFound (added number) = none
 trailFound (written blocks sheet) = none
@@ -144,6 +146,26 @@ abbrev pub ChecksAnywhere : Type 0
 ChecksAnywhere = (lent : Lent) (memory memory′ : Tables) (said : Reply) → Follows (call lent checking) memory said memory′
     → CheckedIn lent memory said memory′
 
+-- ---- document 02, §7, on any tables
+
+-- a batch that answered m, on the tables t that it was lent, whoever made them: "where other well-formed tables break [a claim], that answer
+-- is the program's"
+pub record BatchedIn (count : ℕ) (run : Trace) (t : Tables) (m : Batch) : Type 0 where
+  -- the program's steps: query after query, each in its match's order until the next bound is above its best; a leaf is read for all at once
+  pub by-steps : m ≡ batchBySteps (tracesIn t) (treeIn t) (queriesIn (measuresOf t .n) count run)
+  -- what holds of them: "no leaf is read twice"; "The trail lists the leaves read by rising number"; "one count of leaves"; and each answer is
+  -- the nearest of the traces in the leaves read
+  pub steps-are : StepsClaims (tracesIn t) (treeIn t) (queriesIn (measuresOf t .n) count run)
+  -- "One answer record for each query"
+  pub one-each : length (m .answers) ≡ count
+
+-- "A call that takes a query leaves the needed search work zero", and all else as it was
+abbrev pub BatchesAnywhere : Type 0
+BatchesAnywhere = (lent : Lent) (count : ℕ) (run : Trace) (trail : List ℕ) (list : List Near) (memory memory′ : Tables) (said : Reply)
+    → Follows (call lent (batching count run trail list)) memory said memory′
+    → (m : Batch) → said .answer ≡ answering (batched m)
+    → BatchedIn count run (firstPlaces lent memory) m × (memory′ ≡ left (cleared (firstPlaces lent memory)) memory)
+
 -- ---- any query, of stored traces and their tree in some memory. What a call is refused for is judged by a book (`judge`), which takes nothing
 -- from the tables, or, where these may be anyone's, by what they hold
 
@@ -209,6 +231,38 @@ pub record OfAnyQuery (judges : Call → Option Refusal) (stored : List Trace) (
   pub each-k : (k : ℕ) → OfEachK judges k stored tree query memory
   pub one-is-match : OneIsMatch stored tree query
 
+-- ---- document 02, §7: any batch, of stored traces and their tree in some memory
+
+-- a batch on some memory, whatever it is lent there, that the table doesn't refuse, gives these records in the caller's list, this count of
+-- leaves and this trail
+abbrev pub BatchGives : (Call → Option Refusal) → ℕ → Trace → Tables → Batch → Type 0
+BatchGives judges count run memory m = (lent : Lent) (trail : List ℕ) (list : List Near) (said : Reply) (memory′ : Tables)
+    → Follows (call lent (batching count run trail list)) memory said memory′
+    → judges (call lent (batching count run trail list)) ≡ none
+    → said ≡ reply (answering (batched m)) (over (m .trail) trail ∷ listPlaces (m .answers) ∷ [])
+
+-- of any run of so many queries of n samples. (A call refuses a number outside 1 to 16; the claims hold of it too)
+pub record OfAnyBatch (judges : Call → Option Refusal) (stored : List Trace) (tree : Tree) (n count : ℕ) (run : Trace) (memory : Tables)
+    : Type 0 where
+  -- "One answer record for each query is filled in the caller's list .., and the batch gives one count of leaves"
+  pub batch-gives : BatchGives judges count run memory (batchOf stored tree (queriesIn n count run))
+  -- ".. with trace and distance as if matched alone"
+  pub as-alone : batchOf stored tree (queriesIn n count run) .answers
+      ≡ map (λ query. answerIn (matchOf stored tree query)) (queriesIn n count run)
+  pub one-each : length (batchOf stored tree (queriesIn n count run) .answers) ≡ count
+  -- "the leaves read are exactly those that at least one query alone would read"
+  pub leaves-are : BatchClaims stored tree (queriesIn n count run)
+  -- "no leaf is read twice"
+  pub steps-are : StepsClaims stored tree (queriesIn n count run)
+  -- "The trail lists the leaves read by rising number", and "one count of leaves" is how many they are
+  pub rising : Up 0 (batchOf stored tree (queriesIn n count run) .trail)
+  pub counted : batchOf stored tree (queriesIn n count run) .leaves ≡ length (batchOf stored tree (queriesIn n count run) .trail)
+  -- a batch of one reads the match's leaves
+  pub one-alone : count ≡ 1 → (queriesIn n count run ≡ run ∷ []) × OneClaims stored tree run
+  -- the same batch on tables that differ from these only in samples of traces outside these leaves gives these records and that trail
+  pub others-do-not-bear : (other : Tables) → DifferOutside (batchOf stored tree (queriesIn n count run) .trail) memory other
+      → BatchGives judges count run other (batchOf stored tree (queriesIn n count run))
+
 -- ---- demands 2 and 3
 
 -- demand 2: "Such a library, written to a sheet and read back, is the same library": in whatever memory that is long enough, at every
@@ -257,6 +311,11 @@ pub record AfterList (b : Book) (calls : List Call) (said : List Reply) (memory 
   -- "After the list, if the book has a trace, take any query of n samples"
   pub any-query : (query : Trace) → 0 < length (after layout b calls .traces) → length query ≡ after layout b calls .measures .n
       → OfAnyQuery (judge layout (after layout b calls)) (after layout b calls .traces) (bookTree (after layout b calls)) query memory
+  -- document 02, §7: "A service round brings up to 16 queries"
+  pub any-batch : (count : ℕ) (run : Trace) → 0 < length (after layout b calls .traces)
+      → length run ≡ after layout b calls .measures .n * count
+      → OfAnyBatch (judge layout (after layout b calls)) (after layout b calls .traces) (bookTree (after layout b calls))
+      (after layout b calls .measures .n) count run memory
   pub empty-is-six : EmptyIsSix (after layout b calls) memory
   pub exported-sound : ExportedSound (after layout b calls) memory
   -- document 02, §6: "It accepts every library made by calls"
@@ -276,6 +335,10 @@ pub record AfterCheck (b : Book) (calls : List Call) (said : List Reply) (memory
   -- "If it accepts, a match must be the nearest stored trace and read the fewest leaves": of any query of n samples, if a trace is stored
   pub any-query : (query : Trace) → 0 < length (after layout b calls .traces) → length query ≡ after layout b calls .measures .n
       → OfAnyQuery (judgeIn memory) (after layout b calls .traces) (treeIn memory) query memory
+  -- document 02, §7, "for libraries it would accept"
+  pub any-batch : (count : ℕ) (run : Trace) → 0 < length (after layout b calls .traces)
+      → length run ≡ after layout b calls .measures .n * count
+      → OfAnyBatch (judgeIn memory) (after layout b calls .traces) (treeIn memory) (after layout b calls .measures .n) count run memory
 
 -- ---- all of it
 
@@ -285,6 +348,7 @@ pub record Demands : Type 0 where
   pub lists-anywhere : ListsAnywhere
   pub imports-anywhere : ImportsAnywhere
   pub checks-anywhere : ChecksAnywhere
+  pub batches-anywhere : BatchesAnywhere
   -- "An opening or a sheet reading has just succeeded when it starts": the first call is one that answers `done`
   pub after-list : (first : Call) (calls : List Call) (memory₀ memory : Tables) (said₀ : Reply) (said : List Reply)
       → Ran memory₀ (first ∷ calls) (said₀ ∷ said) memory → said₀ .answer ≡ answering done

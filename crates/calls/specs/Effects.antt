@@ -7,14 +7,15 @@ use mathlib.Core.List.{List, [], _∷_, _++_, foldl}
 use lib.ListN.{length, getD}
 use lib.Dec.{eqb, ltb}
 use Rattle.dstree.specs.Measures.{Trace, Measures, workNeeded}
-use Rattle.dstree.specs.Matching.{leaves, Match, matchBySteps}
+use Rattle.dstree.specs.Matching.{leaves, Near, Match, matchBySteps}
 use Rattle.dstree.specs.KNearest.{isK, listPlaces, kNearestBySteps}
+use Rattle.dstree.specs.Batch.{queriesIn, batchConditions, batchBySteps}
 use Rattle.dstree.specs.Refusals.{Condition, _refuses_, wrongTrace, full, empty, shortTrail, sheetLength, badK, looseRecord}
 use Rattle.dstree.specs.Checking.{isExact}
 use Rattle.dstree.specs.Sheet.{blockSize, blocksNeeded, sheetOf, Judged, refused, holds, judgeSheet}
 use Rattle.dstree.specs.Recording.{recordingSize, recordingOf, judgeRecording, fileTraces}
-use Rattle.dstree.specs.Book.{Ask, opening, adding, matching, writing, reading, listing, importing, exporting, checking, besideOf}
-use Rattle.dstree.specs.Book.{Result, done, added, matched, written, neighbours, imported, exported, accepted, over}
+use Rattle.dstree.specs.Book.{Ask, opening, adding, matching, writing, reading, listing, importing, exporting, checking, batching, besideOf}
+use Rattle.dstree.specs.Book.{Result, done, added, matched, written, neighbours, imported, exported, accepted, batched, over}
 use Rattle.dstree.specs.Book.{readingConditions, importConditions, exportConditions}
 use Rattle.tables.specs.Layout.{layout}
 use Rattle.tables.specs.Tables.{Tables, tables, lentOf, measuresOf, traceCount, filled}
@@ -163,6 +164,25 @@ checks t = record {
   beside = [];
 }
 
+-- ---- a batch (document 02, §7): "14 bad batch .., after 3", then 4, 6, 7
+
+-- what it refuses of its own, with a list of so many records
+abbrev pub batchConditionsIn : Tables → ℕ → ℕ → Trace → List ℕ → List Condition
+batchConditionsIn t count places run trail =
+    batchConditions (measuresOf t .n) (traceCount t) (length (leaves (treeIn t))) count places run trail
+
+-- "where other well-formed tables break [a claim], that answer is the program's": its steps, on what is recorded. What a check accepts has
+-- the answers of the matches
+unfoldable pub batches : Tables → ℕ → Trace → List ℕ → List Near → Effect
+batches t count run trail list =
+    let found = batchBySteps (tracesIn t) (treeIn t) (queriesIn (measuresOf t .n) count run) in
+    record {
+      conditions = madeConditions t ++ batchConditionsIn t count (length list) run trail;
+      result = batched found;
+      after = cleared t;
+      beside = over (found .trail) trail ∷ listPlaces (found .answers) ∷ [];
+    }
+
 -- ---- any call
 
 unfoldable pub effectOf : Ask → Tables → Effect
@@ -175,6 +195,7 @@ effectOf (listing k query trail list) t = lists t k query trail list
 effectOf (importing bytes) t = imports t bytes
 effectOf (exporting number rate buffer) t = exports t number rate buffer
 effectOf checking t = checks t
+effectOf (batching count run trail list) t = batches t count run trail list
 
 -- what a call answers and leaves that asks this of these tables
 unfoldable pub outcomeOn : Ask → Tables → Outcome

@@ -6,7 +6,7 @@ use lib.Dec.{T}
 use Rattle.dstree.specs.Measures.{areSamples}
 use Rattle.dstree.specs.Sheet.{areBytes}
 use Rattle.dstree.specs.Book.{Ask, opening, adding, matching, writing, reading, listing, importing, exporting, checking, Call}
-use Rattle.dstree.specs.Book.{Reply}
+use Rattle.dstree.specs.Book.{batching, Reply}
 use Rattle.tables.specs.Tables.{Tables, lentOf}
 use Rattle.tables.specs.Beginning.{firstPlaces, left}
 use Rattle.calls.specs.Outcome.{Outcome, outcome}
@@ -25,6 +25,7 @@ Typed (listing k query trail list) t = Unit
 Typed (importing bytes) t = T (areBytes bytes) × T (areSamples (t .samples))
 Typed (exporting number rate buffer) t = Unit
 Typed checking t = T (areSamples (t .samples))
+Typed (batching count run trail list) t = Unit
 
 -- what a call answers, and what it leaves in the memory and in what it is lent beside the tables. Places behind those that it is lent stay
 abbrev pub outcomeIn : Call → Tables → Outcome

@@ -3,7 +3,7 @@ use Prim.Native.Nat.{ℕ}
 use mathlib.Core.List.{List, [], _∷_}
 use lib.ListN.{length}
 use Rattle.dstree.specs.Refusals.{numberOf, placeOf}
-use Rattle.dstree.specs.Book.{Result, done, added, matched, written, neighbours, imported, exported, accepted, Answer}
+use Rattle.dstree.specs.Book.{Result, done, added, matched, written, neighbours, imported, exported, accepted, batched, Answer}
 use Rattle.dstree.specs.Book.{refusing, answering}
 
 -- "A refusal gives its number": 0 is no refusal
@@ -13,7 +13,7 @@ codeOf (refusing why) = numberOf why
 
 -- "Opening and sheet reading answer only that they succeeded, adding the new trace's number, writing the number of blocks"; "The answer is trace number,
 -- distance, leaves read and traces read"; of the k nearest, leaves read, traces read, and how many are listed; of an import how many traces, of an export
--- how many bytes; of a check nothing, as of an opening
+-- how many bytes; of a check nothing, as of an opening; of a batch leaves read
 unfoldable pub resultValues : Result → List ℕ
 resultValues done = []
 resultValues (added number) = number ∷ []
@@ -23,6 +23,7 @@ resultValues (neighbours m) = m .leaves ∷ m .traces ∷ length (m .list) ∷ [
 resultValues (imported count) = count ∷ []
 resultValues (exported size bytes) = size ∷ []
 resultValues accepted = []
+resultValues (batched m) = m .leaves ∷ []
 
 -- a refusal gives "a place"
 unfoldable pub valuesOf : Answer → List ℕ

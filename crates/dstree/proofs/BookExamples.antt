@@ -6,9 +6,11 @@ use mathlib.Core.List.{List, [], _∷_, _++_, map}
 use lib.ListN.{length, set, take, replicate}
 use Rattle.dstree.specs.Measures.{Trace, measures}
 use Rattle.dstree.specs.Refusals.{measure, shortTable, wrongTrace, full, empty, shortTrail, sheetLength, tornBlock, badSheet, badK, badRecording}
+use Rattle.dstree.specs.Refusals.{badBatch}
 use Rattle.dstree.specs.Sheet.{sheetOf}
 use Rattle.dstree.specs.Recording.{recordingOf}
 use Rattle.dstree.specs.Book.{Layout, Lent, Call, call, opening, adding, matching, writing, reading, listing, importing, exporting, Ask, checking}
+use Rattle.dstree.specs.Book.{batching, batched}
 use Rattle.dstree.specs.Book.{Book, book, judge, turn, after, start}
 use Rattle.dstree.specs.Book.{Answer, refusing, answering, done, added, matched, written, neighbours, imported, exported, accepted}
 use Rattle.dstree.specs.Book.{Reply, reply, replyOf, repliesOf}
@@ -212,6 +214,19 @@ pub record BookExamples : Type 0 where
       (replyWith ABC checking ∷ replyWith [] checking ∷ replyOf layout (book (measures 4 3 2) ABC) (call (lent 5 12 435 3 4) checking) ∷ [])
       ≡ answering accepted ∷ answering accepted ∷ refusing shortTable ∷ []
   pub checks-put : turn layout (book (measures 4 3 2) ABC) (call exact checking) ≡ book (measures 4 3 2) ABC
+  -- document 02, §7: 14 "after 3", so before 4, of a longer list too; then 4, 6, 7
+  pub batches-refused : map (λ (r : Reply). r .answer)
+      (replyWith ABC (batching 1 (level 4) (blank 2) (at 7 7 ∷ at 7 7 ∷ []))
+      ∷ replyWith ABC (batching 0 short (blank 2) [])
+      ∷ replyWith [] (batching 1 short (blank 0) (at 7 7 ∷ []))
+      ∷ replyWith [] (batching 1 (level 4) (blank 0) (at 7 7 ∷ []))
+      ∷ replyWith ABC (batching 1 (level 4) (blank 1) (at 7 7 ∷ []))
+      ∷ [])
+      ≡ refusing badBatch ∷ refusing badBatch ∷ refusing wrongTrace ∷ refusing empty ∷ refusing shortTrail ∷ []
+  -- "One answer record for each query is filled in the caller's list"; "The trail lists the leaves read by rising number", its other places stay
+  pub batches : replyWith ABC (batching 2 (level 4 ++ level 2) (7 ∷ 8 ∷ 9 ∷ []) (at 5 6 ∷ at 7 8 ∷ []))
+      ≡ reply (answering (batched (record { answers = at 1 0 ∷ at 0 16 ∷ []; leaves = 2; trail = 1 ∷ 2 ∷ [] })))
+      ((1 ∷ 2 ∷ 9 ∷ []) ∷ (1 ∷ 0 ∷ 0 ∷ 16 ∷ []) ∷ [])
 
 pub book-examples : BookExamples
 unfolding everything
@@ -232,5 +247,7 @@ book-examples = record {
   exports = refl;
   checks = refl;
   checks-put = refl;
+  batches-refused = refl;
+  batches = refl;
   lists = refl;
 }

@@ -10,8 +10,9 @@ use Rattle.integer.specs.Words.{isEmpty}
 use Rattle.dstree.specs.Measures.{Trace, Measures, measures, inRange, samplesNeeded, recordsNeeded, linksNeeded, workNeeded}
 use Rattle.dstree.specs.Node.{Tree}
 use Rattle.dstree.specs.Adding.{treeOf}
-use Rattle.dstree.specs.Matching.{leaves, Match, matchOf}
+use Rattle.dstree.specs.Matching.{leaves, Near, Match, matchOf}
 use Rattle.dstree.specs.KNearest.{isK, listPlaces, KNearest, kNearestOf}
+use Rattle.dstree.specs.Batch.{queriesIn, batchConditions, Batch, batchOf}
 use Rattle.dstree.specs.Refusals.{Refusal, measure, shortTable, wrongTrace, full, empty, shortTrail, sheetLength, badK, badRecording}
 use Rattle.dstree.specs.Refusals.{Condition, _refuses_, firstOf}
 use Rattle.dstree.specs.Recording.{rateLimit, recordingSize, recordingOf, Recording, judgeRecording, isBadFile, fileTraces}
@@ -35,7 +36,8 @@ pub record Lent : Type 0 where
 -- what a call asks for: "calls of opening, adding, match, sheet writing and sheet reading .. with any arguments". "Trails and sheets are not part of" the
 -- tables: a match comes with its query and the contents of its trail, a writing and a reading with the bytes of their sheet; the search of document 02, §1,
 -- with k, its query, and the contents of its trail and its list; an import of §2 with the bytes of its file, an export with a trace's number, a rate, and
--- the contents of its buffer; the check of §6 with nothing but the tables
+-- the contents of its buffer; the check of §6 with nothing but the tables; a batch of §7 with the number of its queries, their run of samples, and the
+-- contents of its trail and of its list of answer records
 pub data Ask : Type 0 where
   opening : Measures → Ask
   adding : Trace → Ask
@@ -46,6 +48,7 @@ pub data Ask : Type 0 where
   importing : List ℕ → Ask
   exporting : ℕ → ℕ → List ℕ → Ask
   checking : Ask
+  batching : ℕ → Trace → List ℕ → List Near → Ask
 
 -- a call: "arguments .., lengths of tables included"
 pub record Call : Type 0 where
@@ -66,12 +69,13 @@ besideOf (listing k query trail list) = trail ∷ list ∷ []
 besideOf (importing bytes) = []
 besideOf (exporting number rate buffer) = buffer ∷ []
 besideOf checking = []
+besideOf (batching count run trail list) = trail ∷ listPlaces list ∷ []
 
 -- ---- answers
 
 -- what a call answers that is not refused: "Opening and sheet reading answer only that they succeeded, adding the new trace's number, writing the number
 -- of blocks"; a match with its trail, a writing with its sheet, a listing with list and trail; an import "how many" traces it added, an export "its bytes'
--- number", with these bytes; a check that "it accepts"
+-- number", with these bytes; a check that "it accepts"; a batch with its answer records, "one count of leaves" and its trail
 pub data Result : Type 0 where
   done : Result
   added : ℕ → Result
@@ -81,6 +85,7 @@ pub data Result : Type 0 where
   imported : ℕ → Result
   exported : ℕ → List ℕ → Result
   accepted : Result
+  batched : Batch → Result
 
 -- "does its work or gives the one refusal that document 01 fixes"
 pub data Answer : Type 0 where
@@ -255,6 +260,20 @@ module _ (layout : Layout) (lent : Lent) (b : Book) where
   unfoldable pub checkingEntry : Entry
   checkingEntry = record { conditions = shortConditions layout lent (b .measures); puts = b; result = accepted; beside = [] }
 
+  -- document 02, §7: "One answer record for each query is filled in the caller's list", which has a place for each and no more
+  unfoldable pub batchingEntry : ℕ → Trace → List ℕ → List Near → Entry
+  batchingEntry count run trail list =
+      let n = b .measures .n in
+      let found = batchOf (b .traces) (bookTree b) (queriesIn n count run) in
+      record {
+        conditions =
+            shortConditions layout lent (b .measures)
+            ++ batchConditions n (length (b .traces)) (length (leaves (bookTree b))) count (length list) run trail;
+        puts = b;
+        result = batched found;
+        beside = over (found .trail) trail ∷ listPlaces (found .answers) ∷ [];
+      }
+
   unfoldable pub entryOf : Ask → Entry
   entryOf (opening m) = openingEntry m
   entryOf (adding x) = addingEntry x
@@ -265,6 +284,7 @@ module _ (layout : Layout) (lent : Lent) (b : Book) where
   entryOf (importing bytes) = importingEntry bytes
   entryOf (exporting number rate buffer) = exportingEntry number rate buffer
   entryOf checking = checkingEntry
+  entryOf (batching count run trail list) = batchingEntry count run trail list
 
 -- ---- every call
 

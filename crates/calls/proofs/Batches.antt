@@ -81,10 +81,9 @@ module _ {memory : Tables} {b : Book} (k : Trusts memory b) (judges : Call → O
 
   alone : count ≡ 1 → (queries ≡ run ∷ []) × OneClaims (b .traces) tree run
   unfolding pieces
-  alone e = (
-    rw e (ap (λ (q : Trace). q ∷ []) (take-all (b .measures .n) run (omega (arith, size, e)))),
-    one-claims (b .traces) tree run,
-  )
+  alone e =
+      let long : length run ≡ b .measures .n * 1 = subst (λ (c : ℕ). length run ≡ b .measures .n * c) e size in
+      (rw e (ap (λ (q : Trace). q ∷ []) (take-all (b .measures .n) run (omega (arith, long)))), one-claims (b .traces) tree run)
 
   pub of-any-batch : OfAnyBatch judges (b .traces) tree (b .measures .n) count run memory
   unfolding batchOf

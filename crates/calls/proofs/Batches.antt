@@ -4,9 +4,9 @@ use Prim.Native.Nat.{ℕ, _*_, _<_}
 use mathlib.Core.Path.{_≡_, refl, sym, ap, subst, _∙_}
 use mathlib.Core.Bool.{not}
 use mathlib.Core.Option.{Option, none}
-use mathlib.Core.List.{List, [], _∷_, map}
+use mathlib.Core.List.{List, [], _∷_}
 use native.Mathlib.Omega.{arith}
-use lib.ListN.{length, take, length-map}
+use lib.ListN.{length, length-map}
 use lib.Seq.{take-all}
 use lib.Dec.{T, eqb}
 use borrow.Author.Tests.{eqb-false}
@@ -20,7 +20,7 @@ use Rattle.dstree.specs.Batch.{BatchClaims, OneClaims}
 use Rattle.dstree.specs.Sheet.{pieces}
 use Rattle.dstree.specs.WellFormed as abstract
 use Rattle.dstree.specs.Refusals.{Refusal, firstOf, wrongTrace, empty, badBatch}
-use Rattle.dstree.specs.Book.{Lent, batching, Call, call, besideOf, batched, Reply, Book}
+use Rattle.dstree.specs.Book.{batching, Call, call, besideOf, batched, Reply, Book}
 use Rattle.dstree.proofs.Conditions.{none-first, none-both}
 use Rattle.dstree.proofs.SheetPieces.{pieces-length}
 use Rattle.dstree.proofs.BatchSteps.{steps-of-formed}

@@ -1,0 +1,29 @@
+-- The queries of a batch, as parts of their run: each is one that the tables may be searched for.
+use Prim.Native.Nat.{ℕ, suc, _+_, _*_, _≤_, _<_}
+use mathlib.Core.Path.{_≡_}
+use native.Mathlib.Nat.{mul-le-mul-right}
+use native.Mathlib.Omega.{arith}
+use lib.ListN.{length}
+use Rattle.dstree.specs.Measures.{Trace}
+use Rattle.dstree.specs.Matching.{leaves}
+use Rattle.tables.specs.Tables.{Tables, measuresOf}
+use Rattle.tables.specs.View.{treeIn}
+use Rattle.tables.proofs.Parts.{trace-length}
+use Rattle.search.specs.Searched.{Ready}
+use Rattle.batch_search.specs.Batched.{Searchable, queryAt}
+
+pub query-room : (i many n : ℕ) (run : Trace) → i < many → length run ≡ n * many → i * n + n ≤ length run
+query-room i many n run h e = let room : suc i * n ≤ many * n = mul-le-mul-right n h in omega (arith, room, e)
+
+pub ready-for : (t : Tables) (run : Trace) (many : ℕ) → Searchable t run many → (i : ℕ) → i < many
+    → Ready t (queryAt t run i) (length (leaves (treeIn t)))
+ready-for t run many s i h = record {
+  formed = s .formed;
+  control-long = s .control-long;
+  samples-long = s .samples-long;
+  nodes-long = s .nodes-long;
+  links-long = s .links-long;
+  some-trace = s .some-trace;
+  same-length = trace-length run (measuresOf t .n) i (query-room i many (measuresOf t .n) run h (s .run-long));
+  trail-long = omega arith;
+}

@@ -1,0 +1,116 @@
+-- `batch_search::leaves::read_once` meets its contract: a leaf with a mark is passed over, another is read for all queries (`Kept`).
+use mathlib.Core.Path.{_≡_, refl, sym, ap, _∙_, subst}
+use mathlib.Core.List.{List, map}
+use Prim.Native.Nat.{ℕ, _<_, _≤_}
+use native.Mathlib.Omega.{arith}
+use borrow.Author.Needs.{needs}
+use lib.ListN.{length, length-set}
+use denote.Ref.{now}
+use Rattle.dstree.specs.Matching.{leaves}
+use Rattle.tables.specs.Layout.{firstPlace}
+use Rattle.tables.specs.Tables.{Tables, measuresOf, traceCount, nodeCount, recordOf}
+use Rattle.tables.specs.View.{smallAt, treeIn, traceIn}
+use Rattle.tables.specs.Walk.{numbersOf}
+use Rattle.reading.specs.Nearest.{nearOf}
+use Rattle.reading.proofs.Meaning.{LeafAt}
+use Rattle.leaf_order.specs.Waits.{Walkable}
+use Rattle.leaf_order.proofs.Records.{number-fits}
+use Rattle.search.specs.Searched.{made, Ready}
+use Rattle.search.proofs.Facts.{walkable, leaf-at}
+use Rattle.search.proofs.Turns.{stored-as}
+use Rattle.batch_search.specs.Batched.{queryAt, AllRead}
+use Rattle.batch_search.proofs.Runs.{ready-for}
+use Rattle.batch_search.proofs.Marks.{marked-yes, marked-no}
+use Rattle.batch_search.proofs.Kept.{once-old, once-new}
+use Rattle.batch_search.proofs.leaves.read_once.Statement.{statement}
+use Rattle.batch_search.proofs.leaves.read_once.Tie as tie
+
+module _ (s : tie.Start) where
+  abbrev given : Tables
+  given = made (now (s .args .control)) (now (s .args .samples)) (now (s .args .nodes)) (now (s .args .links))
+
+  ready : Ready given (queryAt given (now (s .args .queries)) 0) (length (leaves (treeIn given)))
+  ready = ready-for given (now (s .args .queries)) (s .args .many) (s .pre .0 .0) 0 (omega (arith, s .pre .0 .0 .some-query))
+
+  walks : Walkable (given .nodes) (nodeCount given) (queryAt given (now (s .args .queries)) 0)
+  walks = walkable given (queryAt given (now (s .args .queries)) 0) (length (leaves (treeIn given))) ready
+
+  at-leaf : LeafAt given (s .args .j)
+  at-leaf = leaf-at given (queryAt given (now (s .args .queries)) 0) (length (leaves (treeIn given))) ready (s .args .j) (s .pre .1 .0) (s .pre .1 .1)
+
+  mark-room : s .args .j < length (now (s .args .marks))
+  mark-room = omega (arith, s .pre .1 .0, s .pre .0 .1 .marks-long)
+
+abbrev passing : tie.Then1 → tie.Start
+passing c = c .before .before .before .before .before .before
+
+abbrev start : tie.Else1 → tie.Start
+start c = c .before .before .before .before .before .before
+
+slice-read-if1 : tie.Need-slice-read-if1
+slice-read-if1 c = omega (arith, mark-room (c .before .before .before .before .before))
+
+returns : tie.Need-returns
+returns c =
+    let s = passing c in
+    let a = s .args in (
+      λ read k. once-old (given s) (now (a .queries)) (a .many) (a .j) (at-leaf s) k (marked-yes (now (a .marks)) (a .j) (c .if1 .taken)),
+      s .pre .0 .1 .seen-few,
+    )
+
+slice-write-marks : tie.Need-slice-write-marks
+slice-write-marks c = omega (arith, mark-room (start c))
+
+node-small-requires : tie.Need-node-small-requires
+node-small-requires c κs =
+    let s = start (c .before .before .before .before) in
+    let j = s .args .j in
+    (walks s .record-room j (s .pre .1 .0), number-fits (given s .nodes) (nodeCount (given s)) _ (walks s) j (s .pre .1 .0), omega arith)
+
+-- n, the count of traces and the leaf's first trace, as code has them
+module _ (c : tie.After-node-small) where
+  abbrev else : tie.Else1
+  else = c .before .before .before .before .before
+
+  n-is : c .before .before .before .wide .result ≡ measuresOf (given (start else)) .n
+  n-is = c .before .before .before .wide .ensures ∙ c .before .before .before .before .field .ensures
+
+  count-is : c .before .wide2 .result ≡ traceCount (given (start else))
+  count-is = c .before .wide2 .ensures ∙ c .before .before .field2 .ensures
+
+read-for-all-requires : tie.Need-read-for-all-requires
+read-for-all-requires c κs =
+    let d = c .before in
+    let s = start (else d) in
+    let n = d .before .before .before .wide .result in (
+      stored-as (given s) (s .args .j) (at-leaf s) n (d .before .wide2 .result) (d .node-small .result) (n-is d) (count-is d)
+          (d .node-small .ensures),
+      rw (n-is d) (s .pre .0 .0 .run-long),
+      s .pre .0 .0 .few,
+      s .pre .0 .1 .bests-long,
+      s .pre .0 .1 .seen-few,
+    )
+
+returns-2 : tie.Need-returns-2
+returns-2 c =
+    let r = c .before .before in
+    let d = r .before .before in
+    let s = start (else d) in
+    let a = s .args in
+    let t = given s in
+    let bests = r .read-for-all .last .1 .1 .1 .1 .1 .1 .1 .0 in
+    let all : AllRead (a .seen) (a .many)
+    (λ i. map (nearOf (t .samples) (measuresOf t .n) (queryAt t (now (a .queries)) i))
+    (numbersOf (t .links) (traceCount t) (smallAt (recordOf (t .nodes) (a .j)) firstPlace))) (now (a .bests)) bests =
+    rw (← n-is d, ← count-is d, ← d .node-small .ensures) (r .read-for-all .ensures) in (
+      λ read k. once-new t (now (a .queries)) (a .many) (a .j) (at-leaf s) k bests all (marked-no (now (a .marks)) (a .j) (else d .if1 .left))
+          (mark-room s),
+      omega arith,
+    )
+
+pub read-once-spec : {M : Type 1} → statement M
+read-once-spec =
+    tie.close
+    (tie.spec
+    slice-read-if1 returns slice-write-marks (λ c κs. tt) (λ c κs. tt) (λ c κs. tt) (λ c κs. tt) node-small-requires read-for-all-requires
+    (λ c. search needs) (λ c. search needs) returns-2)

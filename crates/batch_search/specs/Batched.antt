@@ -1,0 +1,109 @@
+-- Tables in which a batch may be searched, what is kept while leaves are read for all its queries, and what the search leaves: what is
+-- found is what the definitions' steps give, in one equation.
+use Prim.Native.Nat.{ℕ, zero, suc, _+_, _*_, _≤_, _<_}
+use mathlib.Core.Path.{_≡_}
+use mathlib.Core.Bool.{Bool, true, false, not}
+use mathlib.Core.Option.{Option, none, some}
+use mathlib.Core.List.{List, foldl}
+use lib.ListN.{length, getD, take, drop, set}
+use lib.Dec.{T, eqb}
+use Rattle.integer.specs.Words.{counting, those, isIn}
+use Rattle.dstree.specs.Measures.{Trace, samplesNeeded, recordsNeeded, linksNeeded, workNeeded}
+use Rattle.dstree.specs.Matching.{Near, bestWith, leaves}
+use Rattle.dstree.specs.Batch.{mostQueries, queriesIn, Batch, bestAmong, batchBySteps}
+use Rattle.tables.specs.Layout.{controlFields, recordPlaces}
+use Rattle.tables.specs.Tables.{Tables, measuresOf, traceCount, nodeCount, filled}
+use Rattle.tables.specs.View.{treeIn, traceIn, tracesIn, wellFormed}
+use Rattle.reading.specs.Listed.{recordAt, nearsIn}
+
+-- ---- what is asked of the tables
+
+-- well-formed tables with a trace, and a run of so many queries of their length, 1 to 16
+pub record Searchable (t : Tables) (run : Trace) (many : ℕ) : Type 0 where
+  pub formed : T (wellFormed t)
+  pub control-long : controlFields ≤ length (t .control)
+  pub samples-long : samplesNeeded (measuresOf t) ≤ length (t .samples)
+  pub nodes-long : recordsNeeded (measuresOf t) * recordPlaces ≤ length (t .nodes)
+  pub links-long : linksNeeded (measuresOf t) ≤ length (t .links)
+  pub some-trace : 0 < traceCount t
+  pub run-long : length run ≡ measuresOf t .n * many
+  pub some-query : 1 ≤ many
+  pub few : many ≤ mostQueries
+
+-- query i of a run
+abbrev pub queryAt : Tables → Trace → ℕ → Trace
+queryAt t run i = traceIn run (measuresOf t .n) i
+
+-- the queries of a run
+abbrev pub queriesOf : Tables → Trace → ℕ → List Trace
+queriesOf t run many = queriesIn (measuresOf t .n) many run
+
+-- ---- what is kept
+
+-- a query's nearest trace so far: its record, once a leaf was read; before that there is none, whatever the record holds
+abbrev pub bestBy : ℕ → Near → Option Near
+bestBy zero a = none
+bestBy (suc more) a = some a
+
+-- room for a record of each query, two places each, and for a mark of each node; `seen` is 1 once a leaf was read, before that 0
+pub record Room (t : Tables) (many : ℕ) (bests marks : List ℕ) (seen : ℕ) : Type 0 where
+  pub bests-long : 2 * many ≤ length bests
+  pub marks-long : nodeCount t ≤ length marks
+  pub seen-few : seen ≤ 1
+
+-- a node has a mark
+abbrev pub isMarked : List ℕ → ℕ → Bool
+isMarked marks j = not (eqb (getD marks j 0) 0)
+
+-- with these leaves read: each query's best of the traces in them, and a mark for each of them
+pub record Keeps (t : Tables) (run : Trace) (many : ℕ) (read bests marks : List ℕ) (seen : ℕ) : Type 0 where
+  pub best-is : (i : ℕ) → i < many → bestBy seen (recordAt bests i) ≡ bestAmong (tracesIn t) (treeIn t) (queryAt t run i) read
+  pub mark-is : (j : ℕ) → j < nodeCount t → isMarked marks j ≡ isIn j read
+
+-- a function that makes these leaves of those read before, whatever they were
+abbrev pub Turns : Tables → Trace → ℕ → (List ℕ → List ℕ) → List ℕ → List ℕ → ℕ → List ℕ → List ℕ → ℕ → Type 0
+Turns t run many reads bests marks seen bests′ marks′ seen′ =
+    (read : List ℕ) → Keeps t run many read bests marks seen → Keeps t run many (reads read) bests′ marks′ seen′
+
+-- ---- a leaf
+
+-- record i holds the best of what it held and some more traces; the other records stay
+pub record OneRead (seen i : ℕ) (more : List Near) (bests bests′ : List ℕ) : Type 0 where
+  pub best : some (recordAt bests′ i) ≡ foldl bestWith (bestBy seen (recordAt bests i)) more
+  pub others : (j : ℕ) → (j ≡ i → ⊥) → recordAt bests′ j ≡ recordAt bests j
+
+-- .. of each query, the traces with their distances to it
+abbrev pub AllRead : ℕ → ℕ → (ℕ → List Near) → List ℕ → List ℕ → Type 0
+AllRead seen many more bests bests′ =
+    (i : ℕ) → i < many → some (recordAt bests′ i) ≡ foldl bestWith (bestBy seen (recordAt bests i)) (more i)
+
+-- ---- the trail
+
+-- the marked ones of so many nodes, rising
+abbrev pub markedOf : List ℕ → ℕ → List ℕ
+markedOf marks count = those (isMarked marks) (counting count 0)
+
+-- a node's number, written at a place if it has a mark; the place behind what is written
+abbrev pub Noted : Bool → ℕ → ℕ → ℕ → List ℕ → List ℕ → Type 0
+Noted true j out out′ trail trail′ = (out′ ≡ out + 1) × (trail′ ≡ set trail out j)
+Noted false j out out′ trail trail′ = (out′ ≡ out) × (trail′ ≡ trail)
+
+-- these numbers, written to the trail's beginning; its other places stay
+pub record Written (numbers : List ℕ) (out : ℕ) (trail trail′ : List ℕ) : Type 0 where
+  pub are : take out trail′ ≡ numbers
+  pub as-many : out ≡ length numbers
+  pub rest : drop out trail′ ≡ drop out trail
+
+-- ---- what is left
+
+-- what a batch has found, as code keeps it
+abbrev pub batch : List Near → ℕ → List ℕ → Batch
+batch answers leaves trail = record { answers = answers; leaves = leaves; trail = trail }
+
+-- the first records, the leaves read and the trail's beginning are what the steps give; the trail's other places stay, and the needed
+-- places of search work are zero
+pub record BatchSearched (t : Tables) (run : Trace) (many : ℕ) (work work′ trail trail′ bests : List ℕ) (out : ℕ) : Type 0 where
+  pub found : batch (nearsIn many bests) out (take out trail′) ≡ batchBySteps (tracesIn t) (treeIn t) (queriesOf t run many)
+  pub within : out ≤ length trail
+  pub trail-rest : drop out trail′ ≡ drop out trail
+  pub work-zero : work′ ≡ filled (workNeeded (measuresOf t)) 0 work

@@ -1,0 +1,92 @@
+// The leaves that one query of a batch asks for.
+use leaf_order::leaves::Next;
+use tables::control::field;
+use tables::numbers::wide;
+use tables::places::N;
+ghost use mathlib.Core.Path.{_≡_};
+ghost use Prim.Native.Nat.{_<_, _≤_, _*_, _+_};
+ghost use lib.ListN.{length};
+ghost use Rattle.dstree.specs.Batch.{readFor};
+ghost use Rattle.tables.specs.Tables.{nodeCount};
+ghost use Rattle.tables.specs.View.{treeIn, tracesIn};
+ghost use Rattle.prefixes.specs.Prefixes.{Prefixes};
+ghost use Rattle.reading.specs.Listed.{recordAt};
+ghost use Rattle.search.specs.Searched.{made};
+ghost use Rattle.batch_search.specs.Batched.{Searchable, queryAt, Room, Turns};
+
+// The distance of query i's nearest trace so far.
+fn distance_at(bests: &[u64], i: usize) -> u64
+    requires { ⌜ (i < 16) × (2 * i + 2 ≤ length (now bests)) ⌝ }
+    ensures { λ r. ⌜ r ≡ recordAt (now (bests .entry)) i .distance ⌝ }
+{
+    bests[2 * i + 1]
+}
+
+// Query i asks for leaves in its own order, by bound and then by number, until the next bound is above its nearest so far. What is read
+// for one is read for all.
+//
+// Two wrong programs that the contract rules out: one that stops at a leaf that was read before, and one that stops at a bound equal to
+// the distance.
+pub fn visit(
+    control: &[u16],
+    samples: &[i16],
+    nodes: &[i64],
+    links: &[u16],
+    queries: &[i16],
+    many: usize,
+    i: usize,
+    sums: &[i64; 257],
+    squares: &[u64; 257],
+    work: &mut [u64],
+    bests: &mut [u64],
+    marks: &mut [u8],
+    seen: usize,
+) -> usize
+    requires { ⌜ Searchable (made (now control) (now samples) (now nodes) (now links)) (now queries) many
+        × Room (made (now control) (now samples) (now nodes) (now links)) many (now bests) (now marks) seen ⌝ }
+    requires query { ⌜ (i < many)
+        × Prefixes (queryAt (made (now control) (now samples) (now nodes) (now links)) (now queries) i) (now sums) (now squares)
+        × (length (now work) ≡ nodeCount (made (now control) (now samples) (now nodes) (now links))) ⌝ }
+    ensures { λ r. ⌜ Turns (made (now (control .entry)) (now (samples .entry)) (now (nodes .entry)) (now (links .entry)))
+        (now (queries .entry)) many
+        (λ read. readFor (tracesIn (made (now (control .entry)) (now (samples .entry)) (now (nodes .entry)) (now (links .entry))))
+        (treeIn (made (now (control .entry)) (now (samples .entry)) (now (nodes .entry)) (now (links .entry)))) read
+        (queryAt (made (now (control .entry)) (now (samples .entry)) (now (nodes .entry)) (now (links .entry))) (now (queries .entry)) i))
+        (now (bests .entry)) (now (marks .entry)) seen (now (bests .exit)) (now (marks .exit)) r ⌝ }
+    ensures few { λ r. ⌜ r ≤ 1 ⌝ }
+{
+    let n = wide(field(control, N));
+    let query = tables::runs::trace_at(queries, n, i);
+    leaf_order::leaves::begin(nodes, query, sums, squares, work);
+    let mut waiting: usize = 1;
+    let mut some: usize = seen;
+    loop {
+        let limit = distance_at(bests, i);
+        let next = leaf_order::leaves::next_leaf(
+            nodes,
+            query,
+            sums,
+            squares,
+            work,
+            waiting,
+            some == 1,
+            limit,
+        );
+        let Next::Leaf(bound, j, left) = next else {
+            return some;
+        };
+        waiting = left;
+        some = crate::leaves::read_once(
+            control,
+            samples,
+            nodes,
+            links,
+            queries,
+            many,
+            j,
+            bests,
+            marks,
+            some,
+        );
+    }
+}

@@ -4,12 +4,13 @@ use mathlib.Core.Path.{_≡_}
 use native.Mathlib.Nat.{mul-le-mul-right}
 use native.Mathlib.Omega.{arith}
 use lib.ListN.{length}
-use Rattle.dstree.specs.Measures.{Trace}
+use Rattle.dstree.specs.Measures.{Trace, workNeeded}
 use Rattle.dstree.specs.Matching.{leaves}
-use Rattle.tables.specs.Tables.{Tables, measuresOf}
+use Rattle.tables.specs.Tables.{Tables, measuresOf, nodeCount}
 use Rattle.tables.specs.View.{treeIn}
 use Rattle.tables.proofs.Parts.{trace-length}
 use Rattle.search.specs.Searched.{Ready}
+use Rattle.search.proofs.Facts.{capacity-fits, nodes-needed}
 use Rattle.batch_search.specs.Batched.{Searchable, queryAt}
 
 pub query-room : (i many n : ℕ) (run : Trace) → i < many → length run ≡ n * many → i * n + n ≤ length run
@@ -27,3 +28,14 @@ ready-for t run many s i h = record {
   same-length = trace-length run (measuresOf t .n) i (query-room i many (measuresOf t .n) run h (s .run-long));
   trail-long = omega arith;
 }
+
+-- a number of a node has room for its mark
+pub nodes-few : (t : Tables) (run : Trace) (many : ℕ) → Searchable t run many → nodeCount t ≤ 8191
+unfolding workNeeded
+nodes-few t run many s =
+    let r = ready-for t run many s 0 (omega (arith, s .some-query)) in
+    omega (
+      arith,
+      nodes-needed t (queryAt t run 0) (length (leaves (treeIn t))) r,
+      capacity-fits t (queryAt t run 0) (length (leaves (treeIn t))) r,
+    )

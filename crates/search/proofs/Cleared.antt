@@ -14,15 +14,16 @@ pub as-many : (m : Measures) → recordsNeeded m ≡ workNeeded m
 unfolding recordsNeeded workNeeded
 as-many m = refl
 
+-- the loop was lent the first places, one for each node
+pub zeroed : (t : Tables) (query : Trace) (size : ℕ) → Ready t query size → (work work₁ work′ : List ℕ)
+    → drop (nodeCount t) work₁ ≡ drop (nodeCount t) work → work′ ≡ filled (workNeeded (measuresOf t)) 0 work₁
+    → work′ ≡ filled (workNeeded (measuresOf t)) 0 work
+zeroed t query size ready work work₁ work′ behind z =
+    let n = workNeeded (measuresOf t) in
+    z ∙ ap (λ (l : List ℕ). replicate n 0 ++ l) (drop-more n (nodeCount t) work₁ work (nodes-needed t query size ready) behind)
+
 module _ (k : ℕ) (t : Tables) (query : Trace) (size : ℕ) (ready : Ready t query size) (work work₁ work′ trail trail′ list list′ : List ℕ)
     (many out traces : ℕ) (v : Visited k t query trail trail′ list list′ many out traces) where
-  -- the loop was lent the first places, one for each node
   pub cleared : drop (nodeCount t) work₁ ≡ drop (nodeCount t) work → work′ ≡ filled (workNeeded (measuresOf t)) 0 work₁
       → ListSearched k t query work work′ trail trail′ list list′ many out traces
-  cleared behind z =
-      let n = workNeeded (measuresOf t) in
-      record {
-        visited = v;
-        work-zero =
-            z ∙ ap (λ (l : List ℕ). replicate n 0 ++ l) (drop-more n (nodeCount t) work₁ work (nodes-needed t query size ready) behind);
-      }
+  cleared behind z = record { visited = v; work-zero = zeroed t query size ready work work₁ work′ behind z }

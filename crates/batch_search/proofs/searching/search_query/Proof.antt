@@ -56,7 +56,7 @@ visit-requires c κs =
       s .pre .0,
       (
         s .pre .1 .0,
-        subst (λ (x : Trace). Prefixes x _ _) (query-is q) (p .prefix-sums .ensures),
+        subst (λ (x : Trace). Prefixes x (p .prefix-sums .last .1 .0) (p .prefix-sums .last .1 .1 .0)) (query-is q) (p .prefix-sums .ensures),
         s .pre .1 .1,
       ),
     )

@@ -1,11 +1,10 @@
 -- What is kept of the leaves read, when one more is read for all queries, or passed over.
-use Prim.Native.Nat.{ℕ, _≤_, _<_}
-use mathlib.Core.Path.{_≡_, refl, sym, _∙_, ap, subst}
+use Prim.Native.Nat.{ℕ, _<_}
+use mathlib.Core.Path.{_≡_, sym, _∙_, ap, subst}
 use mathlib.Core.Logic.{_⊎_, inl, inr}
 use mathlib.Core.Bool.{Bool, true, false}
 use mathlib.Core.Option.{Option, some}
 use mathlib.Core.List.{List, [], _∷_, _++_, map, foldl}
-use native.Mathlib.Omega.{arith}
 use lib.ListN.{length, set}
 use lib.Seq.{getD-set-same, getD-set-other}
 use Rattle.integer.specs.Words.{if_then_else_, isIn}
@@ -17,7 +16,7 @@ use Rattle.dstree.specs.Batch.{bestAmong, readOnce}
 use Rattle.dstree.proofs.BatchSteps.{same-in, best-more}
 use Rattle.tables.specs.Layout.{firstPlace}
 use Rattle.tables.specs.Tables.{Tables, measuresOf, traceCount, nodeCount, recordOf}
-use Rattle.tables.specs.View.{smallAt, treeIn, traceIn, tracesIn}
+use Rattle.tables.specs.View.{smallAt, treeIn, tracesIn}
 use Rattle.tables.specs.Walk.{numbersOf}
 use Rattle.reading.specs.Nearest.{nearOf}
 use Rattle.reading.specs.Listed.{recordAt}

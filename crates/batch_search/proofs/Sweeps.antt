@@ -1,12 +1,12 @@
 -- Query after query: what the first ones read, and what is found in the end.
-use Prim.Native.Nat.{ℕ, zero, suc, _+_, _*_, _≤_, _<_}
+use Prim.Native.Nat.{ℕ, zero, suc, _+_, _≤_, _<_}
 use mathlib.Core.Path.{_≡_, refl, sym, _∙_, ap, subst}
-use mathlib.Core.Option.{none, some, Option·some-injective}
+use mathlib.Core.Option.{some, Option·some-injective}
 use mathlib.Core.List.{List, [], _∷_, map, foldl, flatten}
 use native.Mathlib.Numerals.{add-one}
 use native.Mathlib.Nat.{le-antisymm}
 use native.Mathlib.Omega.{arith}
-use lib.ListN.{length, getD, take, drop, length-map, List·getD-map}
+use lib.ListN.{length, getD, take, length-map, List·getD-map}
 use Rattle.integer.specs.Words.{counting, those, isIn}
 use Rattle.integer.proofs.Lists.{In, in-getD, fold-append, those-agree, those-lengths, from-counting}
 use Rattle.integer.proofs.Rows.{table-is}
@@ -15,13 +15,12 @@ use Rattle.dstree.specs.Formed.{Shape}
 use Rattle.dstree.specs.Matching.{Near, leaves}
 use Rattle.dstree.specs.KNearest.{distancesAmong}
 use Rattle.dstree.specs.Sheet.{pieces}
-use Rattle.dstree.specs.Batch.{Batch, bestAmong, readFor, batchRead, answerBy, batchBySteps}
+use Rattle.dstree.specs.Batch.{bestAmong, readFor, batchRead, answerBy, batchBySteps}
 use Rattle.dstree.proofs.SheetPieces.{pieces-length, pieces-at, pieces-more}
 use Rattle.dstree.proofs.BatchSteps.{HasBest, has-best, batch-leaves, trail-counted}
-use Rattle.tables.specs.Tables.{Tables, measuresOf, traceCount, nodeCount, filled}
+use Rattle.tables.specs.Tables.{Tables, measuresOf, nodeCount, filled}
 use Rattle.tables.specs.View.{treeIn, traceIn, tracesIn}
 use Rattle.tables.proofs.Views.{tree-size, traces-size, tree-formed}
-use Rattle.reading.specs.Nearest.{near}
 use Rattle.reading.specs.Listed.{recordAt, nearsIn}
 use Rattle.batch_search.specs.Batched.{Searchable, queryAt, queriesOf, bestBy, isMarked, Room, Keeps, Turns, markedOf, Written, batch}
 use Rattle.batch_search.specs.Batched.{BatchSearched}

@@ -1,7 +1,7 @@
 -- `batch_search::leaves::read_for_all` meets its contract: the first records are read, the others are as they were (`Bests`).
 use mathlib.Core.Path.{_≡_, refl, ap, subst, _∙_}
 use mathlib.Core.List.{List, map}
-use Prim.Native.Nat.{ℕ, _+_, _*_, _-_, _≤_, _<_}
+use Prim.Native.Nat.{ℕ, _+_, _*_, _-_, _≤_}
 use native.Mathlib.Omega.{arith}
 use lib.IntN.{ℤ}
 use lib.ListN.{length}
@@ -44,7 +44,8 @@ module _ (c : tie.In-loop Inv-loop μ-loop) where
   start = given (c .before)
 
   room : c .before .loop .i * start .args .n + start .args .n ≤ length (now (start .args .queries))
-  room = query-room (c .before .loop .i) (start .args .many) (start .args .n) (now (start .args .queries)) (c .loop-test .taken) (start .pre .1)
+  room = query-room (c .before .loop .i) (start .args .many) (start .args .n) (now (start .args .queries)) (c .loop-test .taken)
+      (start .pre .1)
 
 trace-at-requires : tie.Need-trace-at-requires Inv-loop μ-loop
 trace-at-requires c κs = room c

@@ -1,15 +1,15 @@
 -- `batch_search::leaves::read_once` meets its contract: a leaf with a mark is passed over, another is read for all queries (`Kept`).
-use mathlib.Core.Path.{_≡_, refl, sym, ap, _∙_, subst}
-use mathlib.Core.List.{List, map}
-use Prim.Native.Nat.{ℕ, _<_, _≤_}
+use mathlib.Core.Path.{_≡_, _∙_}
+use mathlib.Core.List.{map}
+use Prim.Native.Nat.{_<_}
 use native.Mathlib.Omega.{arith}
 use borrow.Author.Needs.{needs}
-use lib.ListN.{length, length-set}
+use lib.ListN.{length}
 use denote.Ref.{now}
 use Rattle.dstree.specs.Matching.{leaves}
 use Rattle.tables.specs.Layout.{firstPlace}
 use Rattle.tables.specs.Tables.{Tables, measuresOf, traceCount, nodeCount, recordOf}
-use Rattle.tables.specs.View.{smallAt, treeIn, traceIn}
+use Rattle.tables.specs.View.{smallAt, treeIn}
 use Rattle.tables.specs.Walk.{numbersOf}
 use Rattle.reading.specs.Nearest.{nearOf}
 use Rattle.reading.proofs.Meaning.{LeafAt}
@@ -36,7 +36,8 @@ module _ (s : tie.Start) where
   walks = walkable given (queryAt given (now (s .args .queries)) 0) (length (leaves (treeIn given))) ready
 
   at-leaf : LeafAt given (s .args .j)
-  at-leaf = leaf-at given (queryAt given (now (s .args .queries)) 0) (length (leaves (treeIn given))) ready (s .args .j) (s .pre .1 .0) (s .pre .1 .1)
+  at-leaf = leaf-at given (queryAt given (now (s .args .queries)) 0) (length (leaves (treeIn given))) ready (s .args .j) (s .pre .1 .0)
+      (s .pre .1 .1)
 
   mark-room : s .args .j < length (now (s .args .marks))
   mark-room = omega (arith, s .pre .1 .0, s .pre .0 .1 .marks-long)
@@ -103,7 +104,8 @@ returns-2 c =
     (λ i. map (nearOf (t .samples) (measuresOf t .n) (queryAt t (now (a .queries)) i))
     (numbersOf (t .links) (traceCount t) (smallAt (recordOf (t .nodes) (a .j)) firstPlace))) (now (a .bests)) bests =
     rw (← n-is d, ← count-is d, ← d .node-small .ensures) (r .read-for-all .ensures) in (
-      λ read k. once-new t (now (a .queries)) (a .many) (a .j) (at-leaf s) k bests all (marked-no (now (a .marks)) (a .j) (else d .if1 .left))
+      λ read k. once-new t (now (a .queries)) (a .many) (a .j) (at-leaf s) k bests all
+          (marked-no (now (a .marks)) (a .j) (else d .if1 .left))
           (mark-room s),
       omega arith,
     )

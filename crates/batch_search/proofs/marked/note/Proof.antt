@@ -36,4 +36,5 @@ returns-2 c =
 
 pub note-spec : {M : Type 1} → statement M
 note-spec =
-    tie.close (tie.spec (λ c. search needs) (λ c κs. search needs) mul-trail slice-write-trail add-result (λ c. search needs) returns returns-2)
+    tie.close (tie.spec (λ c. search needs) (λ c κs. search needs) mul-trail slice-write-trail add-result
+    (λ c. search needs) returns returns-2)

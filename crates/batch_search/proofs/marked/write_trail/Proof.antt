@@ -1,7 +1,7 @@
--- `batch_search::marked::write_trail` meets its contract: what is written and the marked nodes still to come are all marked nodes (`Marks`).
-use mathlib.Core.Path.{refl, _∙_}
-use mathlib.Core.List.{List}
-use Prim.Native.Nat.{ℕ, _-_, _≤_}
+-- `batch_search::marked::write_trail` meets its contract: what is written and the marked nodes still to come are all marked nodes
+-- (`Marks`).
+use mathlib.Core.Path.{refl}
+use Prim.Native.Nat.{_-_}
 use native.Mathlib.Omega.{arith}
 use denote.Ref.{now}
 use Rattle.batch_search.specs.Batched.{isMarked}
@@ -29,7 +29,8 @@ note-requires c κs =
       omega (arith, t .loop-test .taken, s .pre .1),
       omega (arith, t .loop-test .taken, s .pre .0),
       λ e. (
-        note-room (now (s .args .marks)) (s .args .count) (now (s .args .trail)) (L .trail) (L .out) (L .j) (L .inv) (t .loop-test .taken) (s .pre .2) e,
+        note-room (now (s .args .marks)) (s .args .count) (now (s .args .trail)) (L .trail) (L .out) (L .j) (L .inv) (t .loop-test .taken)
+            (s .pre .2) e,
         omega (arith, L .inv .few, t .loop-test .taken, s .pre .0),
       ),
     )

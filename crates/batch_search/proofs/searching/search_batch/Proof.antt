@@ -1,11 +1,11 @@
 -- `batch_search::searching::search_batch` meets its contract: nothing is marked at first, and what is kept in the end is what the steps
 -- give (`Sweeps`).
-use mathlib.Core.Path.{_≡_, ap, _∙_, subst, sym}
+use mathlib.Core.Path.{_≡_, _∙_, subst, sym}
 use mathlib.Core.List.{List}
-use Prim.Native.Nat.{ℕ, _≤_, _<_}
+use Prim.Native.Nat.{ℕ, _≤_}
 use native.Mathlib.Omega.{arith}
 use borrow.Author.Needs.{needs}
-use lib.ListN.{length, getD, replicate, length-replicate, getD-replicate}
+use lib.ListN.{length, replicate, length-replicate, getD-replicate}
 use denote.Ref.{now}
 use Rattle.dstree.specs.Matching.{leaves}
 use Rattle.dstree.specs.Batch.{batchRead}
@@ -90,7 +90,8 @@ returns c =
     let w = r .before .before .before in
     let m = searched w in
     let a = s m .args in
-    let written : Written (markedOf (marks m) (nodeCount (given (s m)))) (r .write-trail .result) (now (a .trail)) (r .write-trail .last .1 .1 .0) =
+    let written : Written (markedOf (marks m) (nodeCount (given (s m)))) (r .write-trail .result) (now (a .trail))
+    (r .write-trail .last .1 .1 .0) =
     subst (λ (k : ℕ). Written (markedOf (marks m) k) (r .write-trail .result) (now (a .trail)) (r .write-trail .last .1 .1 .0))
     (count-is w) (r .write-trail .ensures) in
     batch-found (given (s m)) (now (a .queries)) (a .many) (s m .pre .0) (bests m) (marks m) (m .search-marks .result) (keeps m)

@@ -1,6 +1,6 @@
 -- `batch_search::searching::search_queries` meets its contract: the first queries have read what the steps say (`Sweeps`).
 use mathlib.Core.Path.{_≡_, sym, _∙_}
-use Prim.Native.Nat.{ℕ, _-_}
+use Prim.Native.Nat.{_-_}
 use native.Mathlib.Omega.{arith}
 use lib.ListN.{length}
 use denote.Ref.{now}

@@ -1,5 +1,5 @@
 -- `batch_search::searching::search_query` meets its contract: that of `visit`, with the query's own sums.
-use mathlib.Core.Path.{_≡_, refl, sym, ap, _∙_, subst}
+use mathlib.Core.Path.{_≡_, refl, ap, _∙_, subst}
 use Prim.Native.Nat.{ℕ}
 use native.Mathlib.Omega.{arith}
 use borrow.Author.Needs.{needs}
@@ -56,7 +56,8 @@ visit-requires c κs =
       s .pre .0,
       (
         s .pre .1 .0,
-        subst (λ (x : Trace). Prefixes x (p .prefix-sums .last .1 .0) (p .prefix-sums .last .1 .1 .0)) (query-is q) (p .prefix-sums .ensures),
+        subst (λ (x : Trace). Prefixes x (p .prefix-sums .last .1 .0) (p .prefix-sums .last .1 .1 .0)) (query-is q)
+            (p .prefix-sums .ensures),
         s .pre .1 .1,
       ),
     )

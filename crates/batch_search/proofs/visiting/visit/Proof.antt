@@ -2,7 +2,7 @@
 use mathlib.Core.Path.{_≡_, refl, sym, _∙_, ap, subst}
 use mathlib.Core.Bool.{Bool}
 use mathlib.Core.List.{List}
-use Prim.Native.Nat.{ℕ, _+_, _*_, _≤_, _<_}
+use Prim.Native.Nat.{ℕ, _<_}
 use native.Mathlib.Omega.{arith}
 use borrow.Author.Needs.{needs}
 use lib.ListN.{length}
@@ -156,7 +156,8 @@ module _ (a : tie.After-next-leaf Inv-loop μ-loop) where
       let d = a .before .before .distance-at .result in
       subst (λ (x : ℕ). Handed (shape from) (query from) limited x (L .waiting) (L .work) left-work (a .next-leaf .result))
       (a .before .before .distance-at .ensures)
-      (subst (λ (x : Trace). Handed (shape from) x limited d (L .waiting) (L .work) left-work (a .next-leaf .result)) (query-is (asked turn))
+      (subst (λ (x : Trace). Handed (shape from) x limited d (L .waiting) (L .work) left-work (a .next-leaf .result))
+      (query-is (asked turn))
       (subst
       (λ (m : ℕ). Handed (shapeIn (given from .nodes) m) (now (asked turn .trace-at .result)) limited d (L .waiting) (L .work) left-work
       (a .next-leaf .result)) (L .inv .1) (a .next-leaf .ensures)))

@@ -1,0 +1,66 @@
+-- `batching::match_all` meets its contract: what the judge found says which way it ends, and tables that refuse nothing may be searched.
+use mathlib.Core.Path.{_≡_, refl, sym, ap, _∙_}
+use mathlib.Core.Option.{none}
+use denote.Ref.{now}
+use borrow.Author.Needs.{needs}
+use Rattle.dstree.specs.Refusals.{firstOf}
+use Rattle.tables.specs.Tables.{Tables, tables}
+use Rattle.tables.specs.Answers.{foundBy}
+use Rattle.batching.specs.Core.{conditionsOf, countBy}
+use Rattle.batching.proofs.Taken.{Taken, taken}
+use Rattle.batching.proofs.Answers.{batch-refused, batch-answer}
+use Rattle.batching.proofs.match_all.Statement.{statement}
+use Rattle.batching.proofs.match_all.Tie as tie
+
+-- the tables that the call came with
+abbrev lentTables : tie.Start → Tables
+lentTables s = tables (now (s .args .control)) (now (s .args .samples)) (now (s .args .nodes)) (now (s .args .links)) (now (s .args .work))
+
+abbrev start : tie.After-judge → tie.Start
+start j = j .before .before .before .before .before .before .before
+
+-- nothing was refused
+module _ (e : tie.After-enum-told) where
+  abbrev s : tie.Start
+  s = start (e .before .before)
+
+  nothing : firstOf (conditionsOf (lentTables s) (s .args .many) (s .args .places) (now (s .args .queries)) (now (s .args .trail))) ≡ none
+  unfolding foundBy
+  nothing = sym (e .before .before .judge .ensures) ∙ ap foundBy (e .enum-told .given .1)
+
+  may : Taken (lentTables s) (now (s .args .queries)) (s .args .many) (now (s .args .trail))
+  may = taken (lentTables s) (s .args .many) (s .args .places) (now (s .args .queries)) (now (s .args .trail)) nothing
+
+search-batch-requires : tie.Need-search-batch-requires
+search-batch-requires c κs = let m = may (c .before .before) in (m .searchable, m .work-room, m .trail-room)
+
+returns : tie.Need-returns
+unfolding countBy
+returns c =
+    let j = c .before .before .before in
+    let a = start j .args in (
+      batch-refused (now (a .control)) (now (a .samples)) (now (a .nodes)) (now (a .links)) (now (a .work)) (a .many) (a .places)
+          (now (a .queries)) (now (a .trail)) _ _ _ (sym (j .judge .ensures) ∙ ap foundBy (c .before .verdict .given .1)),
+      refl,
+    )
+
+returns-2 : tie.Need-returns-2
+unfolding countBy
+returns-2 c =
+    let q = c .before .before .before .before .before in
+    let e = q .before .before .before in
+    let a = s e .args in
+    let r = q .search-batch .result in
+    let left = q .search-batch .last .1 .1 .1 .1 .1 .1 in (
+      batch-answer (now (a .control)) (now (a .samples)) (now (a .nodes)) (now (a .links)) (now (a .work)) (a .many) (a .places)
+          (now (a .queries)) (now (a .trail)) (left .0) (left .1 .0) (r .bests) (r .leaves)
+          (q .search-batch .kept .1 .1 .1 .1 .1 .1 .1 .0) (q .search-batch .ensures) (nothing e),
+      refl,
+    )
+
+pub match-all-spec : {M : Type 1} → statement M
+match-all-spec =
+    tie.close
+    (tie.spec
+    (λ c κs. search needs) (λ c. search needs) (λ c. search needs) search-batch-requires
+    (λ c. search needs) (λ c. search needs) returns (λ c. search needs) (λ c. search needs) returns-2)

@@ -1,0 +1,2 @@
+-- What a batch refuses, answers and leaves.
+pub mod Core

@@ -1,0 +1,91 @@
+// What a batch refuses: what every call on made tables does, then another number of queries than 1 to 16 or a list of another length
+// (14), then a run of another length (4), no trace stored (6), and a trail with fewer places than leaves (7).
+
+use tables::Refusal;
+use tables::Verdict;
+use tables::control::field;
+use tables::numbers::wide;
+use tables::places::N;
+use tables::places::NODE_COUNT;
+use tables::places::TRACE_COUNT;
+use well_formed::judging::judge_tables;
+ghost use mathlib.Core.Path.{_≡_};
+ghost use mathlib.Core.List.{List};
+ghost use Prim.Native.Nat.{ℕ, _*_, _≤_};
+ghost use lib.IntN.{ℤ};
+ghost use lib.ListN.{length};
+ghost use Rattle.dstree.specs.Batch.{isBatch};
+ghost use Rattle.dstree.specs.Refusals.{firstOf};
+ghost use Rattle.tables.specs.Layout.{nPlace, nodeCountPlace, recordPlaces};
+ghost use Rattle.tables.specs.Tables as t;
+ghost use Rattle.tables.specs.Tables.{tables};
+ghost use Rattle.tables.specs.Answers.{foundBy};
+ghost use Rattle.batching.specs.Core.{ownConditions, conditionsOf};
+
+// 1 to 16 queries, and a list of as many records. A longer list is no batch's either.
+fn is_batch(many: usize, places: usize) -> bool
+    ensures { λ r. ⌜ r ≡ isBatch many places ⌝ }
+{
+    if many < 1 {
+        return false;
+    }
+    if 16 < many {
+        return false;
+    }
+    places == many
+}
+
+// What is refused behind the tables.
+fn judge_own(
+    control: &[u16],
+    nodes: &[i64],
+    queries: &[i16],
+    many: usize,
+    places: usize,
+    trail: &[u16],
+) -> Verdict
+    requires { ⌜ (t.field (now control) nodeCountPlace * recordPlaces ≤ length (now nodes))
+        × (t.field (now control) nodeCountPlace ≤ 8192) × (t.field (now control) nPlace ≤ 256) ⌝ }
+    ensures { λ r. ⌜ ((samples : List ℤ) (links work : List ℕ) → foundBy r ≡ firstOf (ownConditions
+        (tables (now (control .entry)) samples (now (nodes .entry)) links work) many places
+        (now (queries .entry)) (now (trail .entry)))) ⌝ }
+{
+    if !is_batch(many, places) {
+        return Verdict::Refused(Refusal::BadBatch);
+    }
+    let n = wide(field(control, N));
+    if queries.len() != n * many {
+        return Verdict::Refused(Refusal::WrongTrace);
+    }
+    let stored = field(control, TRACE_COUNT);
+    if stored == 0 {
+        return Verdict::Refused(Refusal::Empty);
+    }
+    let m = wide(field(control, NODE_COUNT));
+    if trail.len() < query_judging::leaves::leaf_count(nodes, m) {
+        return Verdict::Refused(Refusal::ShortTrail);
+    }
+    Verdict::Fine
+}
+
+pub fn judge(
+    control: &[u16],
+    samples: &[i16],
+    nodes: &[i64],
+    links: &[u16],
+    work: &[u64],
+    queries: &[i16],
+    many: usize,
+    places: usize,
+    trail: &[u16],
+) -> Verdict
+    ensures { λ r. ⌜ foundBy r ≡ firstOf (conditionsOf
+        (tables (now (control .entry)) (now (samples .entry)) (now (nodes .entry)) (now (links .entry)) (now (work .entry)))
+        many places (now (queries .entry)) (now (trail .entry))) ⌝ }
+{
+    let made = judge_tables(control, samples, nodes, links, work);
+    match made {
+        Verdict::Refused(why) => Verdict::Refused(why),
+        Verdict::Fine => judge_own(control, nodes, queries, many, places, trail),
+    }
+}

@@ -1,0 +1,113 @@
+// A batch of queries on lent tables: a nearest trace for each of them, and no leaf read twice. The records are given back in an array by
+// value; the caller's list is known by its length alone.
+
+pub mod judging; // what a batch refuses
+
+use tables::Refusal;
+use tables::Verdict;
+ghost use mathlib.Core.Path.{_≡_};
+ghost use Rattle.tables.specs.Tables.{tables};
+ghost use Rattle.batching.specs.Core.{left, coreOf, saidBy, countBy, recordOf};
+
+// One answer. In C: struct { uint64_t trace; uint64_t distance; }, 16 bytes, aligned to 8.
+#[repr(C)]
+pub struct Answer {
+    pub trace: u64,
+    pub distance: u64,
+}
+
+// How many leaves were read, or a refusal.
+pub enum Outcome {
+    Done(u64),
+    Refused(Refusal),
+}
+
+// What a batch found: a record for each query, two places each, trace number and distance. A refused one has the count 0.
+pub struct Found {
+    pub outcome: Outcome,
+    pub count: usize,
+    pub bests: [u64; 32],
+}
+
+// Matches the queries of a run together, for a list of so many records. Every refusal is decided before anything is written. The trail
+// begins with the leaves read, by rising number, and search work is left zero.
+//
+// Two wrong programs that the contract rules out: one that takes a longer list, and one that counts a leaf for each query that needs it.
+pub fn match_all(
+    control: &[u16],
+    samples: &[i16],
+    nodes: &[i64],
+    links: &[u16],
+    work: &mut [u64],
+    trail: &mut [u16],
+    queries: &[i16],
+    many: usize,
+    places: usize,
+) -> Found
+    ensures { λ r. ⌜ (left (saidBy (r .outcome) (r .count) (r .bests) (now (trail .exit))) (now (work .exit)) (now (trail .exit))
+        ≡ coreOf (tables (now (control .entry)) (now (samples .entry)) (now (nodes .entry)) (now (links .entry)) (now (work .entry)))
+        many places (now (queries .entry)) (now (trail .entry)))
+        × (r .count ≡ countBy (r .outcome) many) ⌝ }
+{
+    let verdict = judging::judge(
+        control,
+        samples,
+        nodes,
+        links,
+        work,
+        queries,
+        many,
+        places,
+        trail,
+    );
+    match verdict {
+        Verdict::Refused(why) => Found {
+            outcome: Outcome::Refused(why),
+            count: 0,
+            bests: [0; 32],
+        },
+        Verdict::Fine => {
+            let found = batch_search::searching::search_batch(
+                control,
+                samples,
+                nodes,
+                links,
+                queries,
+                many,
+                work,
+                trail,
+            );
+            let bests = found.bests;
+            Found {
+                outcome: Outcome::Done(found.leaves as u64),
+                count: many,
+                bests,
+            }
+        }
+    }
+}
+
+// The record of query i.
+pub fn record_at(found: Found, i: usize) -> Answer
+    ensures { λ r. ⌜ r ≡ recordOf found i ⌝ }
+{
+    if i < 16 {
+        Answer {
+            trace: found.bests[2 * i],
+            distance: found.bests[2 * i + 1],
+        }
+    } else {
+        Answer {
+            trace: 0,
+            distance: 0,
+        }
+    }
+}
+
+// How a batch ended.
+pub fn outcome_of(found: Found) -> Outcome
+    ensures { λ r. ⌜ r ≡ found .outcome ⌝ }
+{
+    let outcome = found.outcome;
+    outcome
+}

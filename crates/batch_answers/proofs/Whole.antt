@@ -1,10 +1,10 @@
 -- What storing leaves, and that a batch in an array, stored in the caller's list, is the batch as its caller sees it.
 use mathlib.Core.Path.{_≡_, refl, sym, ap, _∙_}
-use Prim.Native.Nat.{ℕ, _≤_}
+use Prim.Native.Nat.{ℕ}
 use native.Mathlib.Omega.{arith}
 use mathlib.Core.Bool.{Bool, true, false}
 use mathlib.Core.List.{List, [], _∷_, map}
-use lib.ListN.{length, take}
+use lib.ListN.{length}
 use lib.Dec.{eqb}
 use borrow.Author.Tests.{eq-eqb, ne-eqb}
 use Rattle.integer.specs.Words.{counting}
@@ -12,7 +12,7 @@ use Rattle.dstree.specs.Measures.{Trace}
 use Rattle.dstree.specs.Matching.{Near}
 use Rattle.tables.specs.Tables.{Tables}
 use Rattle.reading.specs.Listed.{recordAt, nearsIn}
-use Rattle.batching.specs.Core.{Said, refusing, answering, Left, left, coreOf, saidBy, countBy, recordOf}
+use Rattle.batching.specs.Core.{Left, left, coreOf, saidBy, countBy, recordOf}
 use Rattle.batching.specs.declared.Answer.{Answer}
 use Rattle.batching.specs.declared.Found.{Found}
 use Rattle.batching.specs.declared.Outcome.{Outcome}

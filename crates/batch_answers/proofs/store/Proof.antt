@@ -263,14 +263,14 @@ module _ {M : Type 1} (𝓤 : URA M) (H : Heap 𝓤) (A : Atoms 𝓤) (W : Given
           again ! Nearer At i (next less) (add-one-dec (length ys) (i .0) (ltb→lt (i .0) (length ys) less))))))))
           (λ beyond. jumps ! $ exec ! C Λ En text.t-6 (atRet En Post) $
           -- the slice's borrow is closed at the list with all the records in it
-          closes-slice ! tt T.the-row ys (written (recordOf found) (i .0) ys) (length-written (recordOf found) ys (i .0) (i .1)) b o $
+          closes-slice ! tt T.the-row ys (written (recordOf found) (i .0) ys) (length-over (recordOf found) ys (i .0) (i .1)) b o $
           assigns ! (of-opd ! (true-lit !)) (from ! (stop !)) (init ! 21 refl (tt, tt)) $
           returns ! (look ! 21 refl) $ forget ! 7 refl $ forget ! 9 refl $ forget ! 15 refl $ forget ! 17 refl $ forget ! 19 refl $
           forget ! 21 refl $
           move ! (21 ∷ 22 ∷ []) $ free1 ! $ move ! (19 ∷ 20 ∷ []) $ free1 ! $ move ! (17 ∷ 18 ∷ []) $ free1 ! $ move ! (15 ∷ 16 ∷ []) $
           free1 ! $ move ! (13 ∷ 14 ∷ []) $ free1 ! $ move ! (11 ∷ 12 ∷ []) $ free1 ! $ move ! (9 ∷ 10 ∷ []) $ free1 ! $
           move ! (7 ∷ 8 ∷ []) $ free1 ! $ move ! (5 ∷ 6 ∷ []) $ free1 ! $ move ! (3 ∷ 4 ∷ []) $ free1 ! $ free0 ! $
-          by ! (exits true (written (recordOf found) (i .0) ys) (length-written (recordOf found) ys (i .0) (i .1))
+          by ! (exits true (written (recordOf found) (i .0) ys) (length-over (recordOf found) ys (i .0) (i .1))
           (all-over same i (nltb→le (i .0) (length ys) beyond))))
         where
           fits : (j : Upto) → j .0 < 2 ^ 64
@@ -280,7 +280,7 @@ module _ {M : Type 1} (𝓤 : URA M) (H : Heap 𝓤) (A : Atoms 𝓤) (W : Given
           next less = (i .0 + 1, add-one-le (ltb→lt (i .0) (length ys) less))
 
           inside : T (ltb (i .0) (length ys)) → i .0 < length (written (recordOf found) (i .0) ys)
-          inside less = subst (λ (n : ℕ). i .0 < n) (sym (length-written (recordOf found) ys (i .0) (i .1)))
+          inside less = subst (λ (n : ℕ). i .0 < n) (sym (length-over (recordOf found) ys (i .0) (i .1)))
               (ltb→lt (i .0) (length ys) less)
 
           scaled : T (ltb (i .0) (length ys)) → i .0 * 16 < 2 ^ 64

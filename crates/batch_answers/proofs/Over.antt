@@ -44,4 +44,4 @@ module _ {A : Type 0} (f : ℕ → A) where
     pub over-all : (k : ℕ) → length list ≤ k → written f k list ≡ map f (counting k 0)
     unfolding written
     over-all k h =
-        ap (λ (l : List A). listed f k ++ l) (drop-of-length-le k list h) ∙ append-nil (listed f k) ∙ listed-is k
+        ap (λ (l : List A). listed f k ++ l) (drop-of-length-le list h) ∙ append-nil (listed f k) ∙ listed-is k

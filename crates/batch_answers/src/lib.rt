@@ -5,8 +5,14 @@ use batching::Answer;
 use batching::Found;
 use batching::Outcome;
 ghost use mathlib.Core.Path.{_≡_};
+ghost use mathlib.Core.List.{[], _∷_};
+ghost use Rattle.dstree.specs.KNearest.{listPlaces};
+ghost use Rattle.dstree.specs.Book as book;
 ghost use Rattle.tables.specs.Tables.{tables};
-ghost use Rattle.batch_answers.specs.Answers.{stored, storeOf, answered, sayOf, answerOf};
+ghost use Rattle.calls.specs.Outcome.{outcome};
+ghost use Rattle.calls.specs.Effects.{outcomeOn};
+ghost use Rattle.batching.specs.Answered.{answerBy};
+ghost use Rattle.batch_answers.specs.Answers.{stored, storeOf, nearsOf};
 
 // Stores the records of a batch, if the list has a place for each query and no more. Says whether it did.
 //
@@ -42,9 +48,11 @@ pub fn match_batch(
     many: usize,
     answers: &mut [Answer],
 ) -> Outcome
-    ensures { λ r. ⌜ answered (sayOf r (now (answers .exit)) (now (trail .exit))) (now (work .exit)) (now (trail .exit)) (now (answers .exit))
-        ≡ answerOf (tables (now (control .entry)) (now (samples .entry)) (now (nodes .entry)) (now (links .entry)) (now (work .entry)))
-        many (now (queries .entry)) (now (trail .entry)) (now (answers .entry)) ⌝ }
+    ensures { λ r. ⌜ outcome (answerBy r (nearsOf (now (answers .exit))) (now (trail .exit)))
+        (tables (now (control .entry)) (now (samples .entry)) (now (nodes .entry)) (now (links .entry)) (now (work .exit)))
+        (now (trail .exit) ∷ listPlaces (nearsOf (now (answers .exit))) ∷ [])
+        ≡ outcomeOn (book.batching many (now (queries .entry)) (now (trail .entry)) (nearsOf (now (answers .entry))))
+        (tables (now (control .entry)) (now (samples .entry)) (now (nodes .entry)) (now (links .entry)) (now (work .entry))) ⌝ }
 {
     let places = answers.len();
     let found = batching::match_all(

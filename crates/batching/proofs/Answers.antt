@@ -1,36 +1,54 @@
--- What a batch's search leaves is what its definition has: the answer, search work zeroed, the beginning of the trail.
+-- What a batch's search leaves is what its definition has: the answer with its records, search work zeroed, the beginning of the trail.
 use Prim.Native.Nat.{ℕ}
-use mathlib.Core.Path.{_≡_, ap, _∙_}
+use mathlib.Core.Path.{_≡_, refl, ap, _∙_}
 use mathlib.Core.Option.{none}
-use mathlib.Core.List.{List}
+use mathlib.Core.List.{List, [], _∷_, _++_}
 use native.Mathlib.Omega.{arith}
 use lib.IntN.{ℤ}
 use lib.ListN.{length, take}
-use Rattle.dstree.specs.Measures.{Trace, workNeeded}
+use borrow.Author.Tests.{eq-eqb, ne-eqb}
+use Rattle.integer.specs.Words.{counting}
+use Rattle.dstree.specs.Measures.{Trace}
+use Rattle.dstree.specs.Matching.{Near}
+use Rattle.dstree.specs.KNearest.{listPlaces}
 use Rattle.dstree.specs.Refusals.{firstOf}
 use Rattle.dstree.specs.Batch.{Batch, batchBySteps}
-use Rattle.dstree.specs.Book.{over}
-use Rattle.tables.specs.Tables.{Tables, tables, measuresOf, filled}
+use Rattle.dstree.specs.Book.{batching, batched, besideOf, answering, over}
+use Rattle.tables.specs.Tables.{Tables, tables}
 use Rattle.tables.specs.View.{treeIn, tracesIn}
-use Rattle.tables.specs.Answers.{foundBy}
+use Rattle.tables.specs.Answers.{foundBy, madeConditions}
 use Rattle.tables.specs.declared.Refusal.{Refusal}
 use Rattle.tables.specs.declared.Verdict.the-variants as v
 use Rattle.reading.specs.Listed.{nearsIn}
 use Rattle.search.specs.Searched.{made}
+use Rattle.calls.specs.Outcome.{outcome, unlessRefused}
+use Rattle.calls.specs.Effects.{batchConditionsIn, batches, cleared, effectOf, outcomeOn}
 use Rattle.calls.proofs.Ends.{over-first}
 use Rattle.batch_search.specs.Batched.{queriesOf, batch, BatchSearched}
-use Rattle.batching.specs.Core.{conditionsOf, answering, left, leftBy, coreOf, saidBy}
+use Rattle.batching.specs.Answered.{answerBy, listBy}
 use Rattle.batching.specs.declared.Outcome.the-variants as o
 
-module _ (control : List ℕ) (samples nodes : List ℤ) (links work : List ℕ) (many places : ℕ) (run : Trace) (trail : List ℕ) where
+-- nothing is stored in any list
+pub list-left : (bests : List ℕ) (list : List Near) → listBy 0 bests list ≡ list
+unfolding listBy nearsIn counting
+list-left bests [] = refl
+list-left bests (a ∷ list) = rw (ne-eqb (length (a ∷ list)) 0 (λ e. omega (arith, e)))
+
+-- as many as there are
+pub list-filled : (count : ℕ) (bests : List ℕ) (list : List Near) → length list ≡ count → listBy count bests list ≡ nearsIn count bests
+unfolding listBy
+list-filled count bests list e = rw (eq-eqb (length list) count e)
+
+module _ (control : List ℕ) (samples nodes : List ℤ) (links work : List ℕ) (many : ℕ) (run : Trace) (trail : List ℕ) (list : List Near) where
   abbrev lent : Tables
   lent = tables control samples nodes links work
 
-  pub batch-refused : (why : Refusal) (count : ℕ) (bests : List ℕ)
-      → firstOf (conditionsOf lent many places run trail) ≡ foundBy (v.Refused why)
-      → left (saidBy (o.Refused why) count bests trail) work trail ≡ coreOf lent many places run trail
-  unfolding saidBy coreOf leftBy foundBy
-  batch-refused why count bests q = rw q
+  pub batch-refused : (why : Refusal) (bests : List ℕ)
+      → firstOf (madeConditions lent ++ batchConditionsIn lent many (length list) run trail) ≡ foundBy (v.Refused why)
+      → outcome (answerBy (o.Refused why) (listBy 0 bests list) trail) lent (trail ∷ listPlaces (listBy 0 bests list) ∷ [])
+      ≡ outcomeOn (batching many run trail list) lent
+  unfolding answerBy outcomeOn effectOf besideOf batches unlessRefused foundBy
+  batch-refused why bests q = rw (q, list-left bests list)
 
   module _ (work′ trail′ bests : List ℕ) (out : ℕ) (trail-size : length trail′ ≡ length trail)
       (s : BatchSearched (made control samples nodes links) run many work work′ trail trail′ bests out) where
@@ -44,12 +62,13 @@ module _ (control : List ℕ) (samples nodes : List ℤ) (links work : List ℕ)
     trail-is : trail′ ≡ over (found .trail) trail
     trail-is = over-first out trail trail′ (omega (arith, s .within, trail-size)) (s .trail-rest)
 
-    pub batch-answer : firstOf (conditionsOf lent many places run trail) ≡ none
-        → left (saidBy (o.Done out) many bests trail′) work′ trail′ ≡ coreOf lent many places run trail
-    unfolding saidBy coreOf leftBy
-    batch-answer q =
-        let zeroed = filled (workNeeded (measuresOf lent)) 0 work in
-        rw q
-        (ap (λ (w : List ℕ). left (answering found) w trail′) (s .work-zero)
-        ∙ ap (left (answering found) zeroed) trail-is
-        ∙ ap (λ (b : Batch). left (answering b) zeroed (over (b .trail) trail)) by-steps)
+    pub batch-answer : firstOf (madeConditions lent ++ batchConditionsIn lent many (length list) run trail) ≡ none → length list ≡ many
+        → outcome (answerBy (o.Done out) (listBy many bests list) trail′) (tables control samples nodes links work′)
+        (trail′ ∷ listPlaces (listBy many bests list) ∷ []) ≡ outcomeOn (batching many run trail list) lent
+    unfolding answerBy outcomeOn effectOf besideOf batches unlessRefused
+    batch-answer q size =
+        rw (q, list-filled many bests list size)
+        (ap (λ (w : List ℕ). outcome (answering (batched found)) (tables control samples nodes links w)
+        (trail′ ∷ listPlaces (nearsIn many bests) ∷ [])) (s .work-zero)
+        ∙ ap (λ (l : List ℕ). outcome (answering (batched found)) (cleared lent) (l ∷ listPlaces (nearsIn many bests) ∷ [])) trail-is
+        ∙ ap (λ (b : Batch). outcome (answering (batched b)) (cleared lent) (over (b .trail) trail ∷ listPlaces (b .answers) ∷ [])) by-steps)

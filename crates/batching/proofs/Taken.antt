@@ -1,30 +1,29 @@
--- Tables and a batch of which nothing is refused may be searched.
+-- Tables and a batch of which nothing is refused may be searched, and the list has as many records as there are queries.
 use Prim.Native.Nat.{ℕ, _*_, _≤_, _<_}
-use mathlib.Core.Path.{_≡_, refl, ap, subst}
-use mathlib.Core.Bool.{Bool, true, false, not}
-use mathlib.Core.Option.{Option, none, some}
-use mathlib.Core.List.{List, [], _∷_}
+use mathlib.Core.Path.{_≡_}
+use mathlib.Core.Bool.{true, not}
+use mathlib.Core.Option.{none}
+use mathlib.Core.List.{List, [], _∷_, _++_}
 use native.Mathlib.Omega.{arith}
 use borrow.Author.Tests.{not-false, eqb-true, eqb-false, ltb-false}
 use lib.ListN.{length}
-use lib.Dec.{T, eqb, ltb, leb, leb→le, eqb→eq}
+use lib.Dec.{eqb, ltb, leb, leb→le, eqb→eq}
 use Rattle.integer.proofs.Tests.{passed, is-true}
 use Rattle.dstree.specs.Measures.{Trace, workNeeded, within}
 use Rattle.dstree.specs.Matching.{leaves}
-use Rattle.dstree.specs.Refusals.{Refusal, firstOf, wrongTrace, empty, shortTrail, badBatch}
-use Rattle.dstree.specs.Batch.{mostQueries, isBatch, queriesIn, batchBySteps}
+use Rattle.dstree.specs.Refusals.{firstOf, wrongTrace, empty, shortTrail, badBatch}
+use Rattle.dstree.specs.Batch.{mostQueries, isBatch}
 use Rattle.dstree.proofs.Conditions.{none-first, none-both}
 use Rattle.tables.specs.Layout.{nPlace, recordPlaces}
 use Rattle.tables.specs.Tables.{Tables, field, measuresOf, traceCount, nodeCount}
-use Rattle.tables.specs.View.{treeIn, tracesIn, kindsNamed, wellFormed}
+use Rattle.tables.specs.View.{treeIn, kindsNamed, wellFormed}
 use Rattle.tables.specs.Answers.{madeConditions}
 use Rattle.tables.proofs.Judged.{accepted}
 use Rattle.tables.proofs.Views.{measures-fit}
 use Rattle.query_judging.proofs.Taken.{records-fit}
 use Rattle.search.specs.Searched.{made}
 use Rattle.batch_search.specs.Batched.{Searchable}
-use Rattle.batching.specs.Core.{ownConditions, conditionsOf, Said, refusing, answering, Left, left, leftBy, coreOf, saidBy}
-use Rattle.batching.specs.declared.Outcome.the-variants as o
+use Rattle.calls.specs.Effects.{batchConditionsIn}
 
 pub batch-range : (many places : ℕ) → isBatch many places ≡ true → (1 ≤ many) × (many ≤ mostQueries)
 unfolding isBatch
@@ -33,7 +32,7 @@ batch-range many places e =
     let q = passed (leb 1 many) (leb many mostQueries ∷ []) (p .0) in
     (leb→le 1 many (q .0), leb→le many mostQueries (q .1))
 
-pub batch-list : (many places : ℕ) → isBatch many places ≡ true → places ≡ many
+batch-list : (many places : ℕ) → isBatch many places ≡ true → places ≡ many
 unfolding isBatch
 batch-list many places e = eqb→eq places many (passed (within 1 many mostQueries) (eqb places many ∷ []) (is-true e) .1)
 
@@ -52,53 +51,32 @@ pub record Taken (t : Tables) (run : Trace) (many : ℕ) (trail : List ℕ) : Ty
   pub trail-room : length (leaves (treeIn (made (t .control) (t .samples) (t .nodes) (t .links)))) ≤ length trail
   pub searchable : Searchable (made (t .control) (t .samples) (t .nodes) (t .links)) run many
 
-pub taken : (t : Tables) (many places : ℕ) (run : Trace) (trail : List ℕ) → firstOf (conditionsOf t many places run trail) ≡ none
-    → Taken t run many trail
-unfolding conditionsOf wellFormed kindsNamed treeIn
+pub taken : (t : Tables) (many places : ℕ) (run : Trace) (trail : List ℕ)
+    → firstOf (madeConditions t ++ batchConditionsIn t many places run trail) ≡ none → Taken t run many trail × (places ≡ many)
+unfolding wellFormed kindsNamed treeIn
 taken t many places run trail e =
-    let parts = none-both (madeConditions t) (ownConditions t many places run trail) e in
+    let parts = none-both (madeConditions t) (batchConditionsIn t many places run trail) e in
     let ok = accepted t (parts .0) in
     let zero = none-first (not (isBatch many places)) badBatch _ (parts .1) in
     let one = none-first (not (eqb (length run) (measuresOf t .n * many))) wrongTrace _ (zero .1) in
     let two = none-first (eqb (traceCount t) 0) empty _ (one .1) in
     let three = none-first (ltb (length trail) (length (leaves (treeIn t)))) shortTrail _ (two .1) in
-    let range = batch-range many places (not-false (isBatch many places) (zero .0)) in
-    record {
-      work-room = ok .room .work-room;
-      trail-room = ltb-false (length trail) (length (leaves (treeIn t))) (three .0);
-      searchable = record {
-        formed = ok .formed;
-        control-long = ok .room .control-room;
-        samples-long = ok .room .samples-room;
-        nodes-long = ok .room .nodes-room;
-        links-long = ok .room .links-room;
-        some-trace = some-of (traceCount t) (λ q. eqb-false (traceCount t) 0 (two .0) q);
-        run-long = eqb-true (length run) (measuresOf t .n * many) (not-false _ (one .0));
-        some-query = range .0;
-        few = range .1;
-      };
-    }
-
--- an answered batch has a list of as many records as it has queries
-answers : Said → Bool
-answers (refusing why) = false
-answers (answering found) = true
-
-pub done-length : (t : Tables) (many places : ℕ) (run : Trace) (trail : List ℕ) (leaves count : ℕ) (bests work′ trail′ : List ℕ)
-    → left (saidBy (o.Done leaves) count bests trail′) work′ trail′ ≡ coreOf t many places run trail → places ≡ many
-unfolding saidBy coreOf leftBy conditionsOf answers
-done-length t many places run trail leaves count bests work′ trail′ e = by (firstOf (conditionsOf t many places run trail)) refl e
-  where
-    fine : firstOf (conditionsOf t many places run trail) ≡ none → places ≡ many
-    fine q =
-        batch-list many places
-        (not-false (isBatch many places)
-        (none-first (not (isBatch many places)) badBatch _ (none-both (madeConditions t) (ownConditions t many places run trail) q .1) .0))
-
-    by : (f : Option Refusal) → firstOf (conditionsOf t many places run trail) ≡ f
-        → left (saidBy (o.Done leaves) count bests trail′) work′ trail′ ≡ leftBy f t
-        (batchBySteps (tracesIn t) (treeIn t) (queriesIn (measuresOf t .n) many run)) trail → places ≡ many
-    by none q e = fine q
-    by (some why) q e =
-        let w : true ≡ false = ap (λ (x : Left). answers (x .said)) e in
-        absurd (subst T w tt)
+    let is-batch = not-false (isBatch many places) (zero .0) in
+    let range = batch-range many places is-batch in (
+      record {
+        work-room = ok .room .work-room;
+        trail-room = ltb-false (length trail) (length (leaves (treeIn t))) (three .0);
+        searchable = record {
+          formed = ok .formed;
+          control-long = ok .room .control-room;
+          samples-long = ok .room .samples-room;
+          nodes-long = ok .room .nodes-room;
+          links-long = ok .room .links-room;
+          some-trace = some-of (traceCount t) (λ q. eqb-false (traceCount t) 0 (two .0) q);
+          run-long = eqb-true (length run) (measuresOf t .n * many) (not-false _ (one .0));
+          some-query = range .0;
+          few = range .1;
+        };
+      },
+      batch-list many places is-batch,
+    )

@@ -1,2 +1,2 @@
--- What a batch refuses, answers and leaves.
-pub mod Core
+-- What a batch answers, and what it leaves in the caller's list.
+pub mod Answered

@@ -10,7 +10,7 @@ use tables::places::NODE_COUNT;
 use tables::places::TRACE_COUNT;
 use well_formed::judging::judge_tables;
 ghost use mathlib.Core.Path.{_≡_};
-ghost use mathlib.Core.List.{List};
+ghost use mathlib.Core.List.{List, _++_};
 ghost use Prim.Native.Nat.{ℕ, _*_, _≤_};
 ghost use lib.IntN.{ℤ};
 ghost use lib.ListN.{length};
@@ -19,8 +19,8 @@ ghost use Rattle.dstree.specs.Refusals.{firstOf};
 ghost use Rattle.tables.specs.Layout.{nPlace, nodeCountPlace, recordPlaces};
 ghost use Rattle.tables.specs.Tables as t;
 ghost use Rattle.tables.specs.Tables.{tables};
-ghost use Rattle.tables.specs.Answers.{foundBy};
-ghost use Rattle.batching.specs.Core.{ownConditions, conditionsOf};
+ghost use Rattle.tables.specs.Answers.{foundBy, madeConditions};
+ghost use Rattle.calls.specs.Effects.{batchConditionsIn};
 
 // 1 to 16 queries, and a list of as many records. A longer list is no batch's either.
 fn is_batch(many: usize, places: usize) -> bool
@@ -46,7 +46,7 @@ fn judge_own(
 ) -> Verdict
     requires { ⌜ (t.field (now control) nodeCountPlace * recordPlaces ≤ length (now nodes))
         × (t.field (now control) nodeCountPlace ≤ 8192) × (t.field (now control) nPlace ≤ 256) ⌝ }
-    ensures { λ r. ⌜ ((samples : List ℤ) (links work : List ℕ) → foundBy r ≡ firstOf (ownConditions
+    ensures { λ r. ⌜ ((samples : List ℤ) (links work : List ℕ) → foundBy r ≡ firstOf (batchConditionsIn
         (tables (now (control .entry)) samples (now (nodes .entry)) links work) many places
         (now (queries .entry)) (now (trail .entry)))) ⌝ }
 {
@@ -79,7 +79,9 @@ pub fn judge(
     places: usize,
     trail: &[u16],
 ) -> Verdict
-    ensures { λ r. ⌜ foundBy r ≡ firstOf (conditionsOf
+    ensures { λ r. ⌜ foundBy r ≡ firstOf (madeConditions
+        (tables (now (control .entry)) (now (samples .entry)) (now (nodes .entry)) (now (links .entry)) (now (work .entry)))
+        ++ batchConditionsIn
         (tables (now (control .entry)) (now (samples .entry)) (now (nodes .entry)) (now (links .entry)) (now (work .entry)))
         many places (now (queries .entry)) (now (trail .entry))) ⌝ }
 {

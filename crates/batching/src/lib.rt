@@ -6,8 +6,15 @@ pub mod judging; // what a batch refuses
 use tables::Refusal;
 use tables::Verdict;
 ghost use mathlib.Core.Path.{_≡_};
+ghost use mathlib.Core.List.{List, [], _∷_};
+ghost use lib.ListN.{length};
+ghost use Rattle.dstree.specs.Matching.{Near};
+ghost use Rattle.dstree.specs.KNearest.{listPlaces};
+ghost use Rattle.dstree.specs.Book.{batching};
 ghost use Rattle.tables.specs.Tables.{tables};
-ghost use Rattle.batching.specs.Core.{left, coreOf, saidBy, countBy, recordOf};
+ghost use Rattle.calls.specs.Outcome as calls;
+ghost use Rattle.calls.specs.Effects.{outcomeOn};
+ghost use Rattle.batching.specs.Answered.{answerBy, recordOf, listAfter};
 
 // One answer. In C: struct { uint64_t trace; uint64_t distance; }, 16 bytes, aligned to 8.
 #[repr(C)]
@@ -29,8 +36,8 @@ pub struct Found {
     pub bests: [u64; 32],
 }
 
-// Matches the queries of a run together, for a list of so many records. Every refusal is decided before anything is written. The trail
-// begins with the leaves read, by rising number, and search work is left zero.
+// Matches the queries of a run together, for a list of so many records, whichever: what is to be stored there is given back. Every refusal
+// is decided before anything is written. The trail begins with the leaves read, by rising number, and search work is left zero.
 //
 // Two wrong programs that the contract rules out: one that takes a longer list, and one that counts a leaf for each query that needs it.
 pub fn match_all(
@@ -44,10 +51,12 @@ pub fn match_all(
     many: usize,
     places: usize,
 ) -> Found
-    ensures { λ r. ⌜ (left (saidBy (r .outcome) (r .count) (r .bests) (now (trail .exit))) (now (work .exit)) (now (trail .exit))
-        ≡ coreOf (tables (now (control .entry)) (now (samples .entry)) (now (nodes .entry)) (now (links .entry)) (now (work .entry)))
-        many places (now (queries .entry)) (now (trail .entry)))
-        × (r .count ≡ countBy (r .outcome) many) ⌝ }
+    ensures { λ r. ⌜ ((list : List Near) → length list ≡ places
+        → calls.outcome (answerBy (r .outcome) (listAfter r list) (now (trail .exit)))
+        (tables (now (control .entry)) (now (samples .entry)) (now (nodes .entry)) (now (links .entry)) (now (work .exit)))
+        (now (trail .exit) ∷ listPlaces (listAfter r list) ∷ [])
+        ≡ outcomeOn (batching many (now (queries .entry)) (now (trail .entry)) list)
+        (tables (now (control .entry)) (now (samples .entry)) (now (nodes .entry)) (now (links .entry)) (now (work .entry)))) ⌝ }
 {
     let verdict = judging::judge(
         control,

@@ -48,9 +48,14 @@ use denote.Exit.{yes}
 use Rattle.batching.specs.declared.Answer.{Answer}
 use Rattle.batching.specs.declared.Outcome.{Outcome}
 use Rattle.batching.specs.declared.Found.{Found}
+use Rattle.dstree.specs.Matching.{Near}
+use Rattle.dstree.specs.KNearest.{listPlaces}
+use Rattle.dstree.specs.Book as book
 use Rattle.tables.specs.Tables as lent
-use Rattle.batching.specs.Core.{left, coreOf, saidBy, countBy}
-use Rattle.batch_answers.specs.Answers.{stored, storeOf, answered, sayOf, answerOf}
+use Rattle.calls.specs.Outcome.{outcome}
+use Rattle.calls.specs.Effects.{outcomeOn}
+use Rattle.batching.specs.Answered.{answerBy, listAfter}
+use Rattle.batch_answers.specs.Answers.{stored, storeOf, nearsOf}
 use Rattle.batch_answers.proofs.Whole as laws
 use Rattle.batching.proofs.Answer as T
 use Rattle.batching.proofs.Outcome as O
@@ -195,9 +200,10 @@ module _ {M : Type 1} (𝓤 : URA M) (H : Heap 𝓤) (A : Atoms 𝓤) (W : Given
 
   -- what is ensured, by the callees and by the whole
   abbrev Searched : Found → List ℕ → List ℕ → Type 0
-  Searched found work′ trail′ = (left (saidBy (found .outcome) (found .count) (found .bests) trail′) work′ trail′ ≡ coreOf
-      (lent.tables (control .now) (samples .now) (nodes .now) (links .now) (work .now)) many (length (list .now)) (queries .now)
-      (trail .now)) × (found .count ≡ countBy (found .outcome) many)
+  Searched found work′ trail′ = (l : List Near) → length l ≡ length (list .now) → outcome
+      (answerBy (found .outcome) (listAfter found l) trail′) (lent.tables (control .now) (samples .now) (nodes .now) (links .now) work′)
+      (trail′ ∷ listPlaces (listAfter found l) ∷ []) ≡ outcomeOn (book.batching many (queries .now) (trail .now) l)
+      (lent.tables (control .now) (samples .now) (nodes .now) (links .now) (work .now))
 
   abbrev Stored : Found → Bool → List Answer → Type 0
   Stored found done list′ = stored done list′ ≡ storeOf found (list .now)
@@ -206,8 +212,10 @@ module _ {M : Type 1} (𝓤 : URA M) (H : Heap 𝓤) (A : Atoms 𝓤) (W : Given
   Tells found r = r ≡ found .outcome
 
   abbrev Ensured : Outcome → List ℕ → List ℕ → List Answer → Type 0
-  Ensured r work′ trail′ list′ = answered (sayOf r list′ trail′) work′ trail′ list′ ≡ answerOf
-      (lent.tables (control .now) (samples .now) (nodes .now) (links .now) (work .now)) many (queries .now) (trail .now) (list .now)
+  Ensured r work′ trail′ list′ = outcome (answerBy r (nearsOf list′) trail′)
+      (lent.tables (control .now) (samples .now) (nodes .now) (links .now) work′) (trail′ ∷ listPlaces (nearsOf list′) ∷ []) ≡ outcomeOn
+      (book.batching many (queries .now) (trail .now) (nearsOf (list .now)))
+      (lent.tables (control .now) (samples .now) (nodes .now) (links .now) (work .now))
 
   told-said : (found : Found) (r : Outcome) → ent 𝓤 (ensured 𝓤 H A told′.ended (told′.clauses 𝓤 H A mem run) tt (found, tt) tt r)
       (fact 𝓤 (Tells found r))
@@ -427,8 +435,8 @@ module _ {M : Type 1} (𝓤 : URA M) (H : Heap 𝓤) (A : Atoms 𝓤) (W : Given
         free1 ! $ move ! (17 ∷ 18 ∷ []) $ free1 ! $ free0 ! $
         keep ! (9 ∷ 8 ∷ 7 ∷ 6 ∷ 5 ∷ 4 ∷ 3 ∷ 1 ∷ 16 ∷ 15 ∷ 14 ∷ 13 ∷ 12 ∷ 11 ∷ 10 ∷ 2 ∷ 0 ∷ []) $
         by ! (exits r w₃ (ts .1 .1 .1 .1 .0) (ts .1 .1 .1 .1 .1 .0) (zs .1 .0)
-        (laws.whole (lent.tables (control .now) (samples .now) (nodes .now) (links .now) (work .now)) many (queries .now) (trail .now)
-        (ts .1 .1 .1 .1 .0) (ts .1 .1 .1 .1 .1 .0) (list .now)
+        (laws.whole (lent.tables (control .now) (samples .now) (nodes .now) (links .now) (work .now)) _ many (queries .now) (trail .now)
+        (ts .1 .1 .1 .1 .1 .0) (list .now)
         (zs .1 .0) found stored′ r e₁ e₂ e₃) long-work long-trail long-list)))))))))))))))))))))))))))))))))))))
 
 module _ {M : Type 1} (𝓤 : URA M) (H : Heap 𝓤) (A : Atoms 𝓤) (W : Given 𝓤 H A) (mem : Memory → SProp 𝓤) (run : Routine → Fun 𝓤)

@@ -61,7 +61,7 @@ use denote.Exit.{yes}
 use Rattle.batching.specs.declared.Answer.{Answer}
 use Rattle.batching.specs.declared.Found.{Found}
 use Rattle.batch_answers.specs.Over.{written}
-use Rattle.batching.specs.Core.{recordOf}
+use Rattle.batching.specs.Answered.{recordOf}
 use Rattle.batch_answers.specs.Answers.{stored, storeOf}
 use Rattle.batch_answers.proofs.Over.{over-none, length-over, over-more}
 use Rattle.batch_answers.proofs.Whole.{left-alone, all-stored}

@@ -1,12 +1,14 @@
 -- `batching::match_all` meets its contract: what the judge found says which way it ends, and tables that refuse nothing may be searched.
-use mathlib.Core.Path.{_≡_, refl, sym, ap, _∙_}
+use Prim.Native.Nat.{ℕ}
+use mathlib.Core.Path.{_≡_, sym, ap, _∙_}
+use mathlib.Core.List.{List, _++_}
 use mathlib.Core.Option.{none}
 use denote.Ref.{now}
 use borrow.Author.Needs.{needs}
-use Rattle.dstree.specs.Refusals.{firstOf}
+use Rattle.dstree.specs.Refusals.{Condition, firstOf}
 use Rattle.tables.specs.Tables.{Tables, tables}
-use Rattle.tables.specs.Answers.{foundBy}
-use Rattle.batching.specs.Core.{conditionsOf, countBy}
+use Rattle.tables.specs.Answers.{foundBy, madeConditions}
+use Rattle.calls.specs.Effects.{batchConditionsIn}
 use Rattle.batching.proofs.Taken.{Taken, taken}
 use Rattle.batching.proofs.Answers.{batch-refused, batch-answer}
 use Rattle.batching.proofs.match_all.Statement.{statement}
@@ -16,6 +18,11 @@ use Rattle.batching.proofs.match_all.Tie as tie
 abbrev lentTables : tie.Start → Tables
 lentTables s = tables (now (s .args .control)) (now (s .args .samples)) (now (s .args .nodes)) (now (s .args .links)) (now (s .args .work))
 
+-- what it refuses, with a list of so many records
+abbrev conditions : tie.Start → ℕ → List Condition
+conditions s places = madeConditions (lentTables s)
+    ++ batchConditionsIn (lentTables s) (s .args .many) places (now (s .args .queries)) (now (s .args .trail))
+
 abbrev start : tie.After-judge → tie.Start
 start j = j .before .before .before .before .before .before .before
 
@@ -24,39 +31,35 @@ module _ (e : tie.After-enum-told) where
   abbrev s : tie.Start
   s = start (e .before .before)
 
-  nothing : firstOf (conditionsOf (lentTables s) (s .args .many) (s .args .places) (now (s .args .queries)) (now (s .args .trail))) ≡ none
+  nothing : firstOf (conditions s (s .args .places)) ≡ none
   unfolding foundBy
   nothing = sym (e .before .before .judge .ensures) ∙ ap foundBy (e .enum-told .given .1)
 
-  may : Taken (lentTables s) (now (s .args .queries)) (s .args .many) (now (s .args .trail))
+  may : Taken (lentTables s) (now (s .args .queries)) (s .args .many) (now (s .args .trail)) × (s .args .places ≡ s .args .many)
   may = taken (lentTables s) (s .args .many) (s .args .places) (now (s .args .queries)) (now (s .args .trail)) nothing
 
 search-batch-requires : tie.Need-search-batch-requires
-search-batch-requires c κs = let m = may (c .before .before) in (m .searchable, m .work-room, m .trail-room)
+search-batch-requires c κs = let m = may (c .before .before) .0 in (m .searchable, m .work-room, m .trail-room)
 
 returns : tie.Need-returns
-unfolding countBy
-returns c =
+returns c = λ list size.
     let j = c .before .before .before in
-    let a = start j .args in (
-      batch-refused (now (a .control)) (now (a .samples)) (now (a .nodes)) (now (a .links)) (now (a .work)) (a .many) (a .places)
-          (now (a .queries)) (now (a .trail)) _ _ _ (sym (j .judge .ensures) ∙ ap foundBy (c .before .verdict .given .1)),
-      refl,
-    )
+    let a = start j .args in
+    batch-refused (now (a .control)) (now (a .samples)) (now (a .nodes)) (now (a .links)) (now (a .work)) (a .many)
+    (now (a .queries)) (now (a .trail)) list _ _
+    (ap (λ (p : ℕ). firstOf (conditions (start j) p)) size ∙ (sym (j .judge .ensures) ∙ ap foundBy (c .before .verdict .given .1)))
 
 returns-2 : tie.Need-returns-2
-unfolding countBy
-returns-2 c =
+returns-2 c = λ list size.
     let q = c .before .before .before .before .before in
     let e = q .before .before .before in
     let a = s e .args in
     let r = q .search-batch .result in
-    let left = q .search-batch .last .1 .1 .1 .1 .1 .1 in (
-      batch-answer (now (a .control)) (now (a .samples)) (now (a .nodes)) (now (a .links)) (now (a .work)) (a .many) (a .places)
-          (now (a .queries)) (now (a .trail)) (left .0) (left .1 .0) (r .bests) (r .leaves)
-          (q .search-batch .kept .1 .1 .1 .1 .1 .1 .1 .0) (q .search-batch .ensures) (nothing e),
-      refl,
-    )
+    let left = q .search-batch .last .1 .1 .1 .1 .1 .1 in
+    batch-answer (now (a .control)) (now (a .samples)) (now (a .nodes)) (now (a .links)) (now (a .work)) (a .many)
+    (now (a .queries)) (now (a .trail)) list (left .0) (left .1 .0) (r .bests) (r .leaves)
+    (q .search-batch .kept .1 .1 .1 .1 .1 .1 .1 .0) (q .search-batch .ensures)
+    (ap (λ (p : ℕ). firstOf (conditions (s e) p)) size ∙ nothing e) (size ∙ may e .1)
 
 pub match-all-spec : {M : Type 1} → statement M
 match-all-spec =

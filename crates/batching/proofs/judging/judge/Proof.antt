@@ -9,7 +9,7 @@ use Rattle.dstree.proofs.Conditions.{first-none}
 use Rattle.tables.specs.Tables.{Tables, tables}
 use Rattle.tables.specs.Answers.{foundBy, madeConditions}
 use Rattle.well_formed.proofs.Refused.{refused-first}
-use Rattle.batching.specs.Core.{ownConditions, conditionsOf}
+use Rattle.calls.specs.Effects.{batchConditionsIn}
 use Rattle.batching.proofs.Taken.{own-fits}
 use Rattle.batching.proofs.judging.judge.Statement.{statement}
 use Rattle.batching.proofs.judging.judge.Tie as tie
@@ -25,7 +25,7 @@ module _ (j : tie.After-judge-tables) where
 
   -- the conditions behind those of the tables
   abbrev own : List Condition
-  own = ownConditions lent (start .args .many) (start .args .places) (now (start .args .queries)) (now (start .args .trail))
+  own = batchConditionsIn lent (start .args .many) (start .args .places) (now (start .args .queries)) (now (start .args .trail))
 
 -- the tables are taken, so that the rest decides
 module _ (e : tie.After-enum-told) where
@@ -40,13 +40,11 @@ judge-own-requires : tie.Need-judge-own-requires
 judge-own-requires c κs = own-fits (lent (j c)) (nothing c)
 
 returns : tie.Need-returns
-unfolding conditionsOf
 returns c =
     let i = c .before .before .before in
     refused-first (madeConditions (lent i)) (own i) _ (sym (i .judge-tables .ensures) ∙ ap foundBy (c .before .made .given .1))
 
 returns-2 : tie.Need-returns-2
-unfolding conditionsOf
 returns-2 c =
     let e = c .before in
     let t = lent (j e) in

@@ -9,7 +9,7 @@ use Rattle.calls.specs.Outcome.{Outcome, outcome}
 use Rattle.calls.specs.Effects.{outcomeOn}
 use Rattle.calls.specs.Follows.{Follows}
 use Rattle.demands.specs.Did.{Made, Did, by-open, by-add, by-nearest, by-write, by-read, by-list, by-import}
-use Rattle.demands.specs.Did.{by-export, by-check}
+use Rattle.demands.specs.Did.{by-export, by-check, by-batch}
 
 by-claim : {ask : Ask} {before after memory memory′ : Tables} {answer : Answer} {beside : List (List ℕ)} {c : Call} {said : Reply}
     → Made ask before answer after beside c memory said memory′ → outcome answer after beside ≡ outcomeOn ask before
@@ -31,3 +31,4 @@ follows c memory memory′ said (by-list d) = by-claim (d .made) (d .claim)
 follows c memory memory′ said (by-import d) = by-claim (d .made) (d .claim)
 follows c memory memory′ said (by-export d) = by-claim (d .made) (d .claim)
 follows c memory memory′ said (by-check d) = by-claim (d .made) (d .claim)
+follows c memory memory′ said (by-batch d) = by-claim (d .made) (d .claim)

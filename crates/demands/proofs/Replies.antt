@@ -1,10 +1,10 @@
 -- Every call that its types allow has a reply and a memory after it: slices that hold what the memory has, and what the definition leaves,
 -- are one.
 use Prim.Native.Nat.{ℕ, zero, suc, _*_}
-use mathlib.Core.Path.{_≡_, refl, sym, ap, _∙_}
+use mathlib.Core.Path.{_≡_, refl, sym, ap, subst, _∙_}
 use mathlib.Core.Bool.{false}
 use mathlib.Core.Option.{Option, none, some}
-use mathlib.Core.List.{List, [], _∷_, foldl}
+use mathlib.Core.List.{List, [], _∷_, map, foldl}
 use native.Mathlib.Omega.{arith}
 use lib.ListN.{length, getD, take, drop}
 use lib.Seq.{take-at}
@@ -13,11 +13,12 @@ use contract.Lifetimes.{Lfts}
 use Rattle.dstree.specs.Measures.{Trace, Measures}
 use Rattle.dstree.specs.Matching.{Search, Near, answerOf, searched, Match, matchBySteps}
 use Rattle.dstree.specs.KNearest.{KNearest, listPlaces, kNearestBySteps}
+use Rattle.dstree.specs.Batch.{queriesIn, Batch, batchBySteps}
 use Rattle.dstree.specs.Refusals as word
 use Rattle.dstree.specs.Refusals.{firstOf}
 use Rattle.dstree.specs.Sheet.{blockSize, blocksNeeded, sheetOf}
 use Rattle.dstree.specs.Book.{Ask, opening, adding, matching, writing, reading, listing, importing, exporting, checking, Call}
-use Rattle.dstree.specs.Book.{besideOf, Answer, answering, imported, reply, over}
+use Rattle.dstree.specs.Book.{batching, besideOf, Answer, answering, imported, reply, over}
 use Rattle.dstree.specs.Recording.{recordingSize, recordingOf, judgeRecording, fileTraces}
 use Rattle.dstree.proofs.RoundTrips.{sheet-length}
 use Rattle.dstree.proofs.Recordings.{recording-length}
@@ -33,7 +34,7 @@ use Rattle.insertion_memory.specs.Memory.{addedTo}
 use Rattle.insertion_memory.proofs.Made.{count-is}
 use Rattle.calls.specs.Outcome.{Outcome, outcome, unlessRefused}
 use Rattle.calls.specs.Effects.{opens, adds, resultOf, trailOf, isNone, cleared, matches, writes, reads, lists, imports, exports, checks}
-use Rattle.calls.specs.Effects.{effectOf, outcomeOn}
+use Rattle.calls.specs.Effects.{batches, effectOf, outcomeOn}
 use Rattle.calls.specs.Follows.{Typed}
 use Rattle.calls.proofs.Finds.{found, last-never}
 use Rattle.opening.specs.declared.Opened.{Opened}
@@ -66,7 +67,12 @@ use Rattle.checking.specs.declared.Checked.{Checked}
 use Rattle.checking.specs.declared.Checked.the-variants as k
 use Rattle.checking.specs.Answered as checking-answer
 use Rattle.demands.specs.Did.{WithTables, Made, by-open, by-add, by-nearest, by-write, by-read, by-list, by-import, by-export}
-use Rattle.demands.specs.Did.{by-check}
+use Rattle.batching.specs.declared.Answer as batch-record
+use Rattle.batching.specs.declared.Outcome.{Outcome as BatchOutcome}
+use Rattle.batching.specs.declared.Outcome.the-variants as b
+use Rattle.batching.specs.Answered as batching-answer
+use Rattle.batch_answers.specs.Answers.{nearsOf}
+use Rattle.demands.specs.Did.{by-check, by-batch}
 use Rattle.demands.specs.Theorem.{Replied}
 
 -- ---- slices
@@ -261,6 +267,29 @@ unfolding unlessRefused checks checking-answer.answerBy
 checking-said t (some why) = record { result = k.Refused (caseOf why); beside = []; is = rw (case-word why) }
 checking-said t none = record { result = k.Accepted; beside = []; is = refl }
 
+batching-said : (t : Tables) (many : ℕ) (run : Trace) (trail : List ℕ) (list : List Near) (o : Option word.Refusal)
+    → let e = unlessRefused o t (trail ∷ listPlaces list ∷ []) (batches t many run trail list) in
+    Said (λ (r : BatchOutcome) (s : List ℕ × List Near). outcome (batching-answer.answerBy r (s .1) (s .0))
+    (tables (t .control) (t .samples) (t .nodes) (t .links) (e .after .work)) (s .0 ∷ listPlaces (s .1) ∷ [])) e
+unfolding unlessRefused batches batching-answer.answerBy batchBySteps
+batching-said t many run trail list (some why) = record { result = b.Refused (caseOf why); beside = (trail, list); is = rw (case-word why) }
+batching-said t many run trail list none = record {
+  result = b.Done (m .leaves);
+  beside = (over (m .trail) trail, m .answers);
+  is = rw (take-at (m .trail) (drop (length (m .trail)) trail) (m .leaves) refl);
+}
+  where
+    m : Batch
+    m = batchBySteps (tracesIn t) (treeIn t) (queriesIn (measuresOf t .n) many run)
+
+-- records with these traces and distances
+abbrev recordsOf : List Near → List batch-record.Answer
+recordsOf = map (λ (a : Near). record { trace = a .trace; distance = a .distance })
+
+nears-back : (l : List Near) → nearsOf (recordsOf l) ≡ l
+nears-back [] = refl
+nears-back (a ∷ l) = rw (nears-back l)
+
 -- ---- any call
 
 -- lifetimes, whichever
@@ -414,6 +443,25 @@ module _ (c : Call) (memory : Tables) (places : lentOf (firstPlaces (c .lent) me
           result = s .result;
           claim = s .is;
           made = in-place _ t [] asked typed;
+        });
+      }
+  by-ask (batching many run trail list) asked typed =
+      let s = batching-said t many run trail list (firstOf (batches t many run trail list .conditions)) in
+      let after = outcomeOn (batching many run trail list) t .after in
+      let kept = tables (t .control) (t .samples) (t .nodes) (t .links) (after .work) in
+      let left-trail = s .beside .0 in
+      let left-list = nearsOf (recordsOf (s .beside .1)) in
+      record {
+        said = reply (batching-answer.answerBy (s .result) left-list left-trail) (left-trail ∷ listPlaces left-list ∷ []);
+        memory′ = left kept memory;
+        did = by-batch (record {
+          κs = lifetimes 8;
+          args = slices t (slice trail, (slice run, (many, (slice (recordsOf list), tt))));
+          exits = slices after (slice left-trail, (slice run, (many, (slice (recordsOf (s .beside .1)), tt))));
+          result = s .result;
+          claim = rw (nears-back (s .beside .1), nears-back list) (s .is);
+          made = in-place _ kept (left-trail ∷ listPlaces left-list ∷ []) (asked ∙ ap (batching many run trail) (sym (nears-back list)))
+              (subst (λ (l : List Near). Typed (batching many run trail l) t) (sym (nears-back list)) typed);
         });
       }
 

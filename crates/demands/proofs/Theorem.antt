@@ -8,6 +8,8 @@ use Rattle.sheet_reading.proofs.read_sheet.Met as read-met
 use Rattle.importing.proofs.import_recording.Met as import-met
 use Rattle.exporting.proofs.export_recording.Met as export-met
 use Rattle.checking.proofs.check_tables.Met as check-met
+use Rattle.batch_answers.proofs.match_batch.Met as batch-met
+use mathlib.Core.Path.{refl}
 use Rattle.calls.proofs.Demands.{demands}
 use Rattle.demands.specs.Theorem.{Theorem}
 use Rattle.demands.proofs.Follows.{follows}
@@ -24,6 +26,8 @@ theorem = record {
   import-meets = import-met.met;
   export-meets = export-met.met;
   check-meets = check-met.met;
+  batch-meets = batch-met.met;
+  batch-clause = λ 𝓤 H A mem run κs args r exits. refl;
   follows = follows;
   replies = replies;
   demands = demands;

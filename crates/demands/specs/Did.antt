@@ -4,14 +4,18 @@ use mathlib.Core.Path.{_≡_}
 use mathlib.Core.List.{List, [], _∷_}
 use lib.IntN.{ℤ}
 use denote.Ref.{RefT, now}
+use denote.Triple.Entry.{Args}
 use denote.Triple.Clauses.{AtExit}
 use borrow.Fn.Kinds.{Dens, endedOf}
 use contract.Lifetimes.{Lfts}
 use Rattle.dstree.specs.Measures.{measures}
+use Rattle.dstree.specs.KNearest.{listPlaces}
 use Rattle.dstree.specs.Book.{Ask, opening, adding, matching, writing, reading, listing, importing, exporting, checking, Call, Answer}
-use Rattle.dstree.specs.Book.{Reply, reply}
+use Rattle.dstree.specs.Book.{batching, Reply, reply}
 use Rattle.tables.specs.Tables.{Tables, tables, lentOf}
 use Rattle.tables.specs.Beginning.{firstPlaces, left}
+use Rattle.calls.specs.Outcome.{outcome}
+use Rattle.calls.specs.Effects.{outcomeOn}
 use Rattle.calls.specs.Follows.{Typed}
 use Rattle.opening.specs.declared.Opened.{Opened}
 use Rattle.opening.specs.Opened as opening-answer
@@ -49,6 +53,10 @@ use Rattle.checking.specs.declared.Checked.{Checked}
 use Rattle.checking.specs.Answered as checking-answer
 use Rattle.checking.proofs.check_tables.Kinds as check-kinds
 use Rattle.checking.proofs.check_tables.Reads as check-reads
+use Rattle.batching.specs.declared.Outcome.{Outcome}
+use Rattle.batching.specs.Answered as batching-answer
+use Rattle.batch_answers.specs.Answers.{nearsOf}
+use Rattle.batch_answers.proofs.match_batch as batch
 
 -- ---- slices
 
@@ -190,6 +198,29 @@ pub record Checks (c : Call) (memory : Tables) (said : Reply) (memory′ : Table
   pub claim : check-reads.Learnt κs args result exits
   pub made : Made checking (tablesOf args) (checking-answer.answerBy result) (tablesOf args) [] c memory said memory′
 
+-- what a batch's contract says. It is lent a list of structs, so that it is proved by a walk of its code, and no `Learnt` is generated: the
+-- claim is written here, and it is the clause of the contract (`Theorem`: `batch-clause`)
+abbrev pub BatchLearnt : (κs : Lfts 8) → Args batch.signature κs → Outcome → AtExit batch.ended κs → Type 0
+BatchLearnt κs args r exits =
+    let trail = now (own exits .0) in
+    let list = nearsOf (now (own exits .1 .1 .1 .0)) in
+    outcome (batching-answer.answerBy r list trail) (tables (control args) (samples args) (nodes args) (links args) (work exits))
+    (trail ∷ listPlaces list ∷ [])
+    ≡ outcomeOn (batching (own args .1 .1 .0) (now (own args .1 .0)) (now (own args .0)) (nearsOf (now (own args .1 .1 .1 .0)))) (tablesOf args)
+
+-- a batch is lent all but search work, trail and its list of records to read
+pub record Batches (c : Call) (memory : Tables) (said : Reply) (memory′ : Tables) : Type 0 where
+  pub κs : Lfts 8
+  pub args : Args batch.signature κs
+  pub exits : AtExit batch.ended κs
+  pub result : Outcome
+  pub claim : BatchLearnt κs args result exits
+  pub made : let trail = now (own exits .0) in
+      let list = nearsOf (now (own exits .1 .1 .1 .0)) in
+      Made (batching (own args .1 .1 .0) (now (own args .1 .0)) (now (own args .0)) (nearsOf (now (own args .1 .1 .1 .0)))) (tablesOf args)
+      (batching-answer.answerBy result list trail) (tables (control args) (samples args) (nodes args) (links args) (work exits))
+      (trail ∷ listPlaces list ∷ []) c memory said memory′
+
 -- a call on a memory, what it answered, and the memory after it
 pub data Did (c : Call) (memory : Tables) (said : Reply) (memory′ : Tables) : Type 0 where
   by-open : Opens c memory said memory′ → Did c memory said memory′
@@ -201,3 +232,4 @@ pub data Did (c : Call) (memory : Tables) (said : Reply) (memory′ : Tables) : 
   by-import : Imports c memory said memory′ → Did c memory said memory′
   by-export : Exports c memory said memory′ → Did c memory said memory′
   by-check : Checks c memory said memory′ → Did c memory said memory′
+  by-batch : Batches c memory said memory′ → Did c memory said memory′

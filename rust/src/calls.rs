@@ -46,6 +46,16 @@ pub struct Listed {
     pub listed: u64,
 }
 
+/// The answer to one query of a batch. It lies in memory as C has it (`struct silkendoz_answer`).
+#[repr(C)]
+#[derive(Clone, Copy, Debug, Default, PartialEq, Eq)]
+pub struct Answer {
+    /// The nearest trace's number.
+    pub trace: u64,
+    /// The sum of squared differences.
+    pub distance: u64,
+}
+
 // A slice goes as a pointer and then its length, as include/silkendoz.h says.
 extern "C" {
     fn silkendoz_open(
@@ -208,6 +218,28 @@ extern "C" {
         out: *mut u64,
         out_len: usize,
     ) -> u64;
+
+    fn silkendoz_match_batch(
+        control: *const u16,
+        control_len: usize,
+        samples: *const i16,
+        samples_len: usize,
+        nodes: *const i64,
+        nodes_len: usize,
+        links: *const u16,
+        links_len: usize,
+        work: *mut u64,
+        work_len: usize,
+        trail: *mut u16,
+        trail_len: usize,
+        queries: *const i16,
+        queries_len: usize,
+        many: usize,
+        answers: *mut Answer,
+        answers_len: usize,
+        out: *mut u64,
+        out_len: usize,
+    ) -> u64;
 }
 
 /// Code 0 is the answer's values; any other is the number of a refusal, whose place is the first value.
@@ -218,11 +250,12 @@ fn answer<const K: usize>(code: u64, out: [u64; K]) -> Result<[u64; K], Refusal>
     }
 }
 
-/// A call of the static library: its slices, each as a pointer (`as_ptr` or `as_mut_ptr`) and a length, its numbers, and the slice for the answer's values.
+/// A call of the static library: its slices, each as a pointer (`as_ptr` or `as_mut_ptr`) and a length, its numbers, a list behind these if it is lent
+/// one there, and the slice for the answer's values.
 macro_rules! call {
-    ($name:ident, [$($slice:expr => $pointer:ident),*], [$($number:expr),*], $out:expr) => {
+    ($name:ident, [$($slice:expr => $pointer:ident),*], [$($number:expr),*], $($list:expr,)? $out:expr) => {
         // Safety: pointers and lengths are those of slices that are borrowed for the call, and the contract has no requires.
-        unsafe { $name($($slice.$pointer(), $slice.len(),)* $($number,)* $out.as_mut_ptr(), $out.len()) }
+        unsafe { $name($($slice.$pointer(), $slice.len(),)* $($number,)* $($list.as_mut_ptr(), $list.len(),)? $out.as_mut_ptr(), $out.len()) }
     };
 }
 
@@ -373,4 +406,30 @@ pub fn check_tables(control: &[u16], samples: &[i16], nodes: &[i64], links: &[u1
         out
     );
     answer(code, out).map(|_| ())
+}
+
+/// Matches up to 16 queries together, so that no leaf is read twice: one answer record for each, as if matched alone. The queries come as one run of
+/// samples; the list has to have a place for each of them and no more. The trail begins with the leaves read, by rising number; how many these are is the
+/// answer. The needed search work is left zero.
+#[allow(clippy::too_many_arguments)]
+pub fn match_batch(
+    control: &[u16],
+    samples: &[i16],
+    nodes: &[i64],
+    links: &[u16],
+    work: &mut [u64],
+    trail: &mut [u16],
+    queries: &[i16],
+    many: usize,
+    answers: &mut [Answer],
+) -> Result<u64, Refusal> {
+    let mut out = [0; 1];
+    let code = call!(
+        silkendoz_match_batch,
+        [control => as_ptr, samples => as_ptr, nodes => as_ptr, links => as_ptr, work => as_mut_ptr, trail => as_mut_ptr, queries => as_ptr],
+        [many],
+        answers,
+        out
+    );
+    answer(code, out).map(|[leaves]| leaves)
 }

@@ -1,6 +1,6 @@
 //! The calls on a memory, each lent the first so many places of its tables, as tests and the script driver make them.
 
-use crate::calls::{self, Found, Lent, Listed};
+use crate::calls::{self, Answer, Found, Lent, Listed};
 use crate::model::tables::{Lengths, Tables};
 use crate::model::{Measures, Refused};
 use crate::Refusal;
@@ -59,4 +59,9 @@ pub fn export_recording(t: &Tables, l: Lengths, buffer: &mut [u8], number: u64, 
 
 pub fn check_tables(t: &Tables, l: Lengths) -> Result<(), Refused> {
     told(calls::check_tables(&t.control[..l.control], &t.samples[..l.samples], &t.nodes[..l.nodes], &t.links[..l.links], &t.work[..l.work]))
+}
+
+pub fn match_batch(t: &mut Tables, l: Lengths, trail: &mut [u16], queries: &[i16], many: usize, answers: &mut [Answer]) -> Result<u64, Refused> {
+    let t = lent(t, l);
+    told(calls::match_batch(t.control, t.samples, t.nodes, t.links, t.work, trail, queries, many, answers))
 }

@@ -47,7 +47,7 @@ pub mod scan;
 #[doc(hidden)]
 pub mod script;
 
-pub use library::{KNearest, Nearest, Neighbour, Tables, TraceLibrary};
+pub use library::{Batch, KNearest, Nearest, Neighbour, Tables, TraceLibrary};
 pub use refusal::{Lengths, Refusal};
 pub use shape::Leaf;
 

@@ -96,6 +96,18 @@ pub struct KNearest {
     pub trail: Vec<u16>,
 }
 
+/// What several queries found that were matched together.
+#[derive(Clone, Debug, PartialEq, Eq)]
+#[non_exhaustive]
+pub struct Batch {
+    /// The nearest trace of each query, in the queries' order.
+    pub answers: Vec<Neighbour>,
+    /// How many leaves were read, each of them once.
+    pub leaves: usize,
+    /// The leaves read, by rising number.
+    pub trail: Vec<u16>,
+}
+
 /// A trace of a list, with its distance to the query.
 #[derive(Clone, Copy, Debug, PartialEq, Eq)]
 #[non_exhaustive]
@@ -205,6 +217,39 @@ impl TraceLibrary {
         let listed = list.chunks_exact(2).take(found.listed as usize);
         let list = listed.map(|record| Neighbour { trace: record[0] as usize, distance: record[1] }).collect();
         Ok(KNearest { list, leaves: found.leaves as usize, traces: found.traces as usize, trail })
+    }
+
+    /// Finds the nearest trace of each of 1 to 16 queries of n samples, as [`TraceLibrary::nearest`] does, and reads no leaf twice: the leaves read are
+    /// those that at least one of the queries alone would read.
+    ///
+    /// ```
+    /// use silkendoz::{Refusal, TraceLibrary};
+    ///
+    /// let mut library = TraceLibrary::open(1, 8, 1)?;
+    /// for trace in [0, 4, 9] {
+    ///     library.add(&[trace])?;
+    /// }
+    /// let found = library.match_batch(&[&[9], &[1], &[8]])?;
+    /// let answers: Vec<(usize, u64)> = found.answers.iter().map(|near| (near.trace, near.distance)).collect();
+    /// assert_eq!(answers, [(2, 0), (0, 1), (2, 1)]);
+    /// assert_eq!(found.leaves, 2);
+    /// assert_eq!(library.match_batch(&[]), Err(Refusal::BadBatch));
+    /// assert_eq!(library.match_batch(&[&[9], &[1, 8]]).unwrap_err().to_string(), "wrong trace: 2 samples, and n is 1");
+    /// # Ok::<(), Refusal>(())
+    /// ```
+    pub fn match_batch(&self, queries: &[&[i16]]) -> Result<Batch, Refusal> {
+        let (mut work, mut trail) = self.room();
+        let n = self.n();
+        // the call sees one run: queries of other lengths might make one of the right length, and a run of no samples never is
+        let unlike = queries.iter().find(|query| query.len() != n);
+        let run = if unlike.is_some() { Vec::new() } else { queries.concat() };
+        let mut answers = vec![calls::Answer::default(); queries.len()];
+        let (control, samples) = (&self.control, &self.samples);
+        let leaves = calls::match_batch(control, samples, &self.nodes, &self.links, &mut work, &mut trail, &run, queries.len(), &mut answers)
+            .map_err(|why| why.with_lengths(unlike.map_or(n, |query| query.len()), n))?;
+        trail.truncate(leaves as usize);
+        let answers = answers.iter().map(|near| Neighbour { trace: near.trace as usize, distance: near.distance }).collect();
+        Ok(Batch { answers, leaves: leaves as usize, trail })
     }
 
     /// The library as a sheet: blocks of 512 bytes, to be stored or sent.

@@ -41,6 +41,8 @@ pub enum Refusal {
     BadRecording,
     /// 13: well-formed tables hold a figure that isn't exactly the recomputed one.
     LooseRecord,
+    /// 14: 0 or more than 16 queries, or an answer list of another length than the batch.
+    BadBatch,
 }
 
 /// How many samples a trace or query has that is refused for its length, and how many it has to have.
@@ -78,6 +80,7 @@ impl Refusal {
             11 => Refusal::BadK,
             12 => Refusal::BadRecording,
             13 => Refusal::LooseRecord,
+            14 => Refusal::BadBatch,
             _ => return None,
         })
     }
@@ -98,6 +101,7 @@ impl Refusal {
             Refusal::BadK => 11,
             Refusal::BadRecording => 12,
             Refusal::LooseRecord => 13,
+            Refusal::BadBatch => 14,
         }
     }
 
@@ -125,6 +129,7 @@ impl Refusal {
             Refusal::BadK => "bad k",
             Refusal::BadRecording => "bad recording",
             Refusal::LooseRecord => "loose record",
+            Refusal::BadBatch => "bad batch",
         }
     }
 }
@@ -146,6 +151,7 @@ impl fmt::Display for Refusal {
             Refusal::BadK => "k outside 1 to 16",
             Refusal::BadRecording => "no recording of whole traces, or a rate or trace number out of range",
             Refusal::LooseRecord => "a recorded figure is not that of the traces below",
+            Refusal::BadBatch => "no query or more than 16, or a list of another length",
         };
         write!(f, "{}: {why}", self.word())
     }
@@ -159,13 +165,13 @@ mod tests {
 
     #[test]
     fn numbers_go_both_ways() {
-        for number in 1..=13 {
+        for number in 1..=14 {
             let place = if number == 9 { 7 } else { 0 };
             let why = Refusal::from_number(number, place).unwrap();
             assert_eq!((why.number(), why.place()), (number, place));
             assert!(why.to_string().starts_with(why.word()));
         }
         assert_eq!(Refusal::from_number(0, 0), None);
-        assert_eq!(Refusal::from_number(14, 0), None);
+        assert_eq!(Refusal::from_number(15, 0), None);
     }
 }

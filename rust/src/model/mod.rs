@@ -295,6 +295,14 @@ pub struct KNearest {
     pub trail: Vec<usize>,
 }
 
+/// What a batch answers, with its trail.
+#[derive(Clone, Debug, PartialEq, Eq)]
+pub struct Batch {
+    /// Traces and distances, one of each query.
+    pub answers: Vec<(usize, i128)>,
+    pub trail: Vec<usize>,
+}
+
 impl Library {
     /// "An empty library has no node".
     pub fn open(measures: Measures) -> Library {
@@ -526,6 +534,36 @@ impl Library {
         let list = read.iter().take(k).map(|&(distance, trace)| (trace, distance)).collect();
         KNearest { list, leaves: trail.len(), traces: read.len(), trail }
     }
+
+    /// Document 02, §7: "the leaves read are exactly those that at least one query alone would read"; the answers "with trace and distance as if matched
+    /// alone"; "The trail lists the leaves read by rising number". There is one where a trace is stored.
+    pub fn batch(&self, queries: &[&[i16]]) -> Option<Batch> {
+        let alone: Option<Vec<Match>> = queries.iter().map(|query| self.nearest(query)).collect();
+        let alone = alone?;
+        let trail: BTreeSet<usize> = alone.iter().flat_map(|found| found.trail.iter().copied()).collect();
+        Some(Batch { answers: alone.iter().map(|found| (found.trace, found.distance)).collect(), trail: trail.into_iter().collect() })
+    }
+
+    /// The program's own steps, on any well-formed tables: query after query, each in the match's order until the next bound is above its best distance. A
+    /// leaf that is read is read for all queries at once, and never again.
+    pub fn batch_by_steps(&self, queries: &[&[i16]]) -> Option<Batch> {
+        let mut trail: BTreeSet<usize> = BTreeSet::new();
+        let best = |trail: &BTreeSet<usize>, query: &[i16]| {
+            let numbers = trail.iter().flat_map(|&leaf| self.numbers(leaf));
+            numbers.map(|&t| (distance(&self.traces[t], query), t)).min().map(|(distance, trace)| (trace, distance))
+        };
+        for query in queries {
+            let bounds = self.bounds(query);
+            for leaf in self.reading_order(&bounds) {
+                if best(&trail, query).is_some_and(|(_, distance)| bounds[leaf] > distance) {
+                    break;
+                }
+                trail.insert(leaf);
+            }
+        }
+        let answers: Option<Vec<(usize, i128)>> = queries.iter().map(|query| best(&trail, query)).collect();
+        Some(Batch { answers: answers?, trail: trail.into_iter().collect() })
+    }
 }
 
 /// "g is the distance from t to [least sum, greatest sum]; h is the largest of 0, floor root of least scatter − ceiling root of U, and floor root of U −
@@ -599,6 +637,18 @@ mod tests {
         assert_eq!([within(0), within(3), within(4)], [Within::Beyond(1), Within::Beyond(1), Within::Beyond(2)]);
         assert_eq!([within(7), within(8), within(9)], [Within::Beyond(2), Within::Exact(8), Within::Exact(8)]);
         assert_eq!(distance_within(&[5], &[5], 0), Within::Exact(0));
+    }
+
+    #[test]
+    fn batches_of_the_examples() {
+        let library = example();
+        let both = |queries: &[&[i16]]| {
+            assert_eq!(library.batch(queries), library.batch_by_steps(queries));
+            library.batch(queries)
+        };
+        assert_eq!(both(&[&[4, 4, 4, 4], &[2, 2, 2, 2]]), Some(Batch { answers: vec![(1, 0), (0, 16)], trail: vec![1, 2] }));
+        assert_eq!(both(&[&[1, 1, 1, 1]]), Some(Batch { answers: vec![(0, 4)], trail: vec![1] }));
+        assert_eq!(Library::open(library.measures).batch(&[&[1, 1, 1, 1]]), None);
     }
 
     #[test]

@@ -243,6 +243,14 @@ impl Tables {
         Ok(library)
     }
 
+    /// A batch: "14 bad batch, for 0 or more than 16 queries, or an answer list of another length than the batch, after 3"; "a run not n times their number
+    /// long is 4"; then as a match.
+    pub fn judge_batch(&self, run: usize, many: usize, trail: usize, list: usize) -> Result<Library, Refused> {
+        let library = self.judge_made()?;
+        library.judge_queries(run, many, trail, list)?;
+        Ok(library)
+    }
+
     /// Writing: then 8.
     pub fn judge_writing(&self, sheet: usize) -> Result<Library, Refused> {
         let library = self.judge_made()?;
@@ -298,6 +306,17 @@ impl Library {
             return Err((7, 0));
         }
         Ok(())
+    }
+
+    /// 14; then 4 for the run; then 6, then 7.
+    pub fn judge_queries(&self, run: usize, many: usize, trail: usize, list: usize) -> Result<(), Refused> {
+        match () {
+            _ if !(1..=16).contains(&many) || list != many => Err((14, 0)),
+            _ if run as u64 != self.measures.n * many as u64 => Err((4, 0)),
+            _ if self.traces.is_empty() => Err((6, 0)),
+            _ if trail < self.leaves().len() => Err((7, 0)),
+            _ => Ok(()),
+        }
     }
 
     /// "12 bad recording, for a file of any other form or length, ..; 5 if not all traces fit"

@@ -28,9 +28,9 @@
  * has to be aligned and not null. There is nothing else: any contents, any lengths and any numbers are answered.
  *
  * SEVERAL AT ONCE. A slice that a call takes as const may be lent to other calls at the same time. So several threads or cores may match
- * over the same tables at once (silkendoz_nearest, silkendoz_k_nearest), each with work, trail, list and out of its own: a copy of
- * `struct silkendoz_tables` with another `work` is all it takes (tests/threads.c). Opening, adding and reading a sheet write the tables:
- * let nobody else touch them until the call is back.
+ * over the same tables at once (silkendoz_nearest, silkendoz_k_nearest, silkendoz_match_batch), each with work, trail, list and out of its
+ * own: a copy of `struct silkendoz_tables` with another `work` is all it takes (tests/threads.c). Opening, adding and reading a sheet write
+ * the tables: let nobody else touch them until the call is back.
  *
  * COMMON SLIPS, none of which a call can notice:
  *
@@ -57,14 +57,15 @@
  *   silkendoz_import_recording  0   the number of traces added
  *   silkendoz_export_recording  0   the number of bytes
  *   silkendoz_check_tables      0   none
+ *   silkendoz_match_batch       0   leaves read
  *   any call              refused   the place
  *
  * If `out` has fewer places, the first values are written and the others are left out. SILKENDOZ_OUT places are enough for every call.
  *
  * REFUSALS. A refused call leaves every table, the trail, the list, the sheet, the buffer and all of `out` behind its first place as they
  * were. The place is 0, but for a torn block, where it is the first block at fault. The numbers are tested in this order: 1; a control
- * record too short (2); its measures (3); other tables (2); the rest of 3; 11 or 12, directly behind 3; then 4 to 8; 13. Reading a sheet: 8;
- * 9 over all blocks; 10; 2.
+ * record too short (2); its measures (3); other tables (2); the rest of 3; 11, 12 or 14, directly behind 3; then 4 to 8; 13. Reading a sheet:
+ * 8; 9 over all blocks; 10; 2.
  */
 #ifndef SILKENDOZ_H
 #define SILKENDOZ_H
@@ -95,6 +96,9 @@ extern "C" {
 /* As many traces as one search lists at most. */
 #define SILKENDOZ_MAX_K 16
 
+/* As many queries as are matched together at most. */
+#define SILKENDOZ_MAX_BATCH 16
+
 /* Places that the tables need; none for a capacity of 0. An argument may be taken more than once. */
 #define SILKENDOZ_CONTROL 5
 #define SILKENDOZ_SAMPLES(n, c) ((size_t)(n) * (size_t)(c))
@@ -123,7 +127,8 @@ enum silkendoz_refusal {
     SILKENDOZ_BAD_SHEET = 10,     /* letters, measures, count above capacity, number of blocks, or a nonzero byte that must be 0 */
     SILKENDOZ_BAD_K = 11,         /* the k nearest, k not in 1 to 16 */
     SILKENDOZ_BAD_RECORDING = 12, /* import: another form or length, no whole traces; export: rate or trace number out of range */
-    SILKENDOZ_LOOSE_RECORD = 13   /* check: well-formed tables hold a figure that is not exactly the recomputed one */
+    SILKENDOZ_LOOSE_RECORD = 13,  /* check: well-formed tables hold a figure that is not exactly the recomputed one */
+    SILKENDOZ_BAD_BATCH = 14      /* a batch: 0 or more than 16 queries, or an answer list of another length than the batch */
 };
 
 /* Opens an empty library with these measures: the needed parts of the tables are set to zero, then the control record is written. What the tables held
@@ -247,6 +252,29 @@ uint64_t silkendoz_check_tables(
     const uint64_t *work, size_t work_len,
     uint64_t *out, size_t out_len);
 
+/* The answer to one query of a batch: the nearest trace's number and its distance. */
+struct silkendoz_answer {
+    uint64_t trace;
+    uint64_t distance;
+};
+
+/* Matches 1 to 16 queries together. `queries` is their samples, one query behind another, many * n in all; `answers` has a record for each
+ * query and no more: answers_len, which counts records, has to be `many`. answers[i] is what silkendoz_nearest answers of query i alone. No
+ * leaf is read twice: the leaves read are those that at least one of the queries alone would read. The trail begins with their numbers,
+ * rising, and out[0] is how many they are; its places behind them stay. The needed part of `work` is left zero. (On well-formed tables that
+ * silkendoz_check_tables would refuse, each answer is the nearest of the traces in the leaves read.) Refuses 2, 3, 14, 4, 6, 7. */
+uint64_t silkendoz_match_batch(
+    const uint16_t *control, size_t control_len,
+    const int16_t *samples, size_t samples_len,
+    const int64_t *nodes, size_t nodes_len,
+    const uint16_t *links, size_t links_len,
+    uint64_t *work, size_t work_len,
+    uint16_t *trail, size_t trail_len,
+    const int16_t *queries, size_t queries_len,
+    size_t many,
+    struct silkendoz_answer *answers, size_t answers_len,
+    uint64_t *out, size_t out_len);
+
 /* ---- the same calls, with the tables in a struct ---- */
 
 /* A library's tables, each with its length in elements. All of them have to be set, whichever the call. */
@@ -360,6 +388,18 @@ static inline uint64_t silkendoz_check_tables_in(
         t->links, t->links_len, t->work, t->work_len, out, out_len);
 }
 
+static inline uint64_t silkendoz_match_batch_in(
+    const struct silkendoz_tables *t,
+    uint16_t *trail, size_t trail_len,
+    const int16_t *queries, size_t queries_len,
+    size_t many,
+    struct silkendoz_answer *answers, size_t answers_len,
+    uint64_t *out, size_t out_len)
+{
+    return silkendoz_match_batch(t->control, t->control_len, t->samples, t->samples_len, t->nodes, t->nodes_len,
+        t->links, t->links_len, t->work, t->work_len, trail, trail_len, queries, queries_len, many, answers, answers_len, out, out_len);
+}
+
 /* The word for a number that a call gives back: the documents', "done" for 0, "unknown" for a number that no call gives. */
 static inline const char *silkendoz_word(uint64_t number)
 {
@@ -378,6 +418,7 @@ static inline const char *silkendoz_word(uint64_t number)
     case SILKENDOZ_BAD_K: return "bad k";
     case SILKENDOZ_BAD_RECORDING: return "bad recording";
     case SILKENDOZ_LOOSE_RECORD: return "loose record";
+    case SILKENDOZ_BAD_BATCH: return "bad batch";
     default: return "unknown";
     }
 }

@@ -1,5 +1,5 @@
-/* The calls from C, over the struct of tables: document 01's examples, lists of the k nearest, recordings, the check, refusals in their
- * order, and memory that has to stay. Prints one line, and fails at the first difference. */
+/* The calls from C, over the struct of tables: document 01's examples, lists of the k nearest, recordings, the check, batches, refusals
+ * in their order, and memory that has to stay. Prints one line, and fails at the first difference. */
 
 #include "silkendoz.h"
 
@@ -98,6 +98,13 @@ static uint64_t check_in(struct tables *t, uint64_t *out, size_t out_len)
     return silkendoz_check_tables_in(&l, out, out_len);
 }
 
+static uint64_t batch_in(struct tables *t, const int16_t *queries, size_t size, size_t many, uint16_t *trail, size_t trail_len,
+    struct silkendoz_answer *answers, size_t answers_len, uint64_t *out, size_t out_len)
+{
+    struct silkendoz_tables l = lent(t);
+    return silkendoz_match_batch_in(&l, trail, trail_len, queries, size, many, answers, answers_len, out, out_len);
+}
+
 /* n 256, capacity 4,096, leaf size 64 open; 257, 4,097, 65 and 0 do not: measures come before lengths. */
 static void opening(void)
 {
@@ -145,13 +152,14 @@ static void largest(void)
     free(t.work);
 }
 
-enum { CALLS = 9, TABLES = 5 };
+enum { CALLS = 10, TABLES = 5 };
 
 /* What each call over the struct answers, an export before an import. */
 static void answers(const struct silkendoz_tables *t, const int16_t *trace, uint8_t *sheet, size_t size, uint64_t numbers[CALLS])
 {
     uint16_t trail[TRAIL];
     struct silkendoz_neighbour list[2];
+    struct silkendoz_answer answer;
     uint8_t recording[SILKENDOZ_RECORDING_BYTES(N)];
     uint64_t out[SILKENDOZ_OUT];
     numbers[0] = silkendoz_open_in(t, N, C, 2, out, SILKENDOZ_OUT);
@@ -163,6 +171,7 @@ static void answers(const struct silkendoz_tables *t, const int16_t *trace, uint
     numbers[6] = silkendoz_export_recording_in(t, recording, sizeof recording, 0, 8000, out, SILKENDOZ_OUT);
     numbers[7] = silkendoz_import_recording_in(t, recording, sizeof recording, out, SILKENDOZ_OUT);
     numbers[8] = silkendoz_check_tables_in(t, out, SILKENDOZ_OUT);
+    numbers[9] = silkendoz_match_batch_in(t, trail, TRAIL, trace, N, 1, &answer, 1, out, SILKENDOZ_OUT);
 }
 
 /* Each call over the struct passes on each length: just enough is done, one place less is a short table, whichever table it is. */
@@ -201,11 +210,11 @@ static void lengths(void)
 static void words(void)
 {
     static const char *const table[] = {"done", "measure", "short table", "spoiled", "wrong trace", "full", "empty", "short trail",
-        "sheet length", "torn block", "bad sheet", "bad k", "bad recording", "loose record"};
+        "sheet length", "torn block", "bad sheet", "bad k", "bad recording", "loose record", "bad batch"};
     uint64_t number;
     for (number = 0; number < PLACES(table); number++)
         EXPECT(strcmp(silkendoz_word(number), table[number]) == 0);
-    EXPECT(strcmp(silkendoz_word(SILKENDOZ_LOOSE_RECORD + 1), "unknown") == 0);
+    EXPECT(strcmp(silkendoz_word(SILKENDOZ_BAD_BATCH + 1), "unknown") == 0);
     EXPECT(strcmp(silkendoz_word(UINT64_MAX), "unknown") == 0);
 }
 
@@ -606,6 +615,68 @@ static void checks(void)
     EXPECT(check_in(&t, out, SILKENDOZ_OUT) == SILKENDOZ_SPOILED);
 }
 
+/* 16 queries at once, in every order of document 01's A, B, C: each answer is the match's, and the leaves are those of all matches, by rising
+ * number. What is refused leaves everything as it was. */
+static void batches(void)
+{
+    static struct tables t, before;
+    const int16_t traces[3][N] = {{0, 0, 0, 0}, {4, 4, 4, 4}, {0, 8, 0, 8}};
+    /* nearest: 1 at 0 in leaf 2; 0 at 4 in leaf 1; 0 at 16, for which both leaves are read */
+    const int16_t asked[3][N] = {{4, 4, 4, 4}, {1, 1, 1, 1}, {2, 2, 2, 2}};
+    const struct silkendoz_answer alone[3] = {{1, 0}, {0, 4}, {0, 16}};
+    int16_t run[17 * N];
+    uint16_t trail[TRAIL], marks[TRAIL];
+    struct silkendoz_answer answers[18], kept[18];
+    uint64_t out[SILKENDOZ_OUT] = {9, 9, 9, 9};
+    size_t many, i;
+
+    memset(&t, 0x5a, sizeof t);
+    EXPECT(batch_in(&t, run, 0, 0, trail, TRAIL, answers, 0, out, SILKENDOZ_OUT) == SILKENDOZ_SPOILED);
+    EXPECT(open_in(&t, N, C, 2, out) == SILKENDOZ_DONE);
+    EXPECT(batch_in(&t, asked[0], N, 1, trail, TRAIL, answers, 1, out, SILKENDOZ_OUT) == SILKENDOZ_EMPTY);
+    for (i = 0; i < 3; i++)
+        EXPECT(add_to(&t, traces[i], N, out, 0) == SILKENDOZ_DONE);
+    memset(kept, 0x77, sizeof kept);
+    memset(marks, 0x77, sizeof marks);
+
+    for (many = 1; many <= 16; many++) {
+        for (i = 0; i < many; i++)
+            memcpy(run + N * i, asked[i % 3], sizeof asked[0]);
+        memcpy(answers, kept, sizeof kept);
+        memcpy(trail, marks, sizeof marks);
+        memset(t.work, 0xff, sizeof t.work);
+        before = t;
+        memset(out, 9, sizeof out);
+        EXPECT(batch_in(&t, run, N * many, many, trail, TRAIL, answers, many, out, SILKENDOZ_OUT) == SILKENDOZ_DONE);
+        for (i = 0; i < many; i++)
+            EXPECT(answers[i].trace == alone[i % 3].trace && answers[i].distance == alone[i % 3].distance);
+        EXPECT(memcmp(answers + many, kept + many, (18 - many) * sizeof *kept) == 0);
+        EXPECT(out[0] == (many == 1 ? 1 : 2) && out[1] != 0);
+        EXPECT(trail[0] == (many == 1 ? 2 : 1) && (many == 1 || trail[1] == 2));
+        EXPECT(memcmp(trail + out[0], marks + out[0], (TRAIL - out[0]) * sizeof *marks) == 0);
+        memset(before.work, 0, SILKENDOZ_WORK(C) * sizeof *before.work);
+        EXPECT(memcmp(&t, &before, sizeof t) == 0);
+    }
+
+    /* a number, a list and a run that do not go together, in this order; then a short trail */
+    memset(t.work, 0xff, sizeof t.work);
+    before = t;
+    memcpy(answers, kept, sizeof kept);
+    memcpy(trail, marks, sizeof marks);
+    memset(run, 0, sizeof run);
+    EXPECT(batch_in(&t, run, N, 0, trail, 0, answers, 0, out, SILKENDOZ_OUT) == SILKENDOZ_BAD_BATCH && out[0] == 0);
+    EXPECT(batch_in(&t, run, 17 * N, 17, trail, TRAIL, answers, 17, out, SILKENDOZ_OUT) == SILKENDOZ_BAD_BATCH);
+    EXPECT(batch_in(&t, run, N, SIZE_MAX, trail, TRAIL, answers, 1, out, SILKENDOZ_OUT) == SILKENDOZ_BAD_BATCH);
+    EXPECT(batch_in(&t, run, 1, 2, trail, 0, answers, 1, out, SILKENDOZ_OUT) == SILKENDOZ_BAD_BATCH);
+    EXPECT(batch_in(&t, run, 2 * N, 2, trail, TRAIL, answers, 3, out, SILKENDOZ_OUT) == SILKENDOZ_BAD_BATCH);
+    EXPECT(batch_in(&t, run, N, 2, trail, 0, answers, 2, out, SILKENDOZ_OUT) == SILKENDOZ_WRONG_TRACE);
+    EXPECT(batch_in(&t, run, 3 * N, 2, trail, TRAIL, answers, 2, out, SILKENDOZ_OUT) == SILKENDOZ_WRONG_TRACE);
+    EXPECT(batch_in(&t, run, 2 * N, 2, trail, 1, answers, 2, out, SILKENDOZ_OUT) == SILKENDOZ_SHORT_TRAIL);
+    EXPECT(memcmp(&t, &before, sizeof t) == 0);
+    EXPECT(memcmp(answers, kept, sizeof kept) == 0);
+    EXPECT(memcmp(trail, marks, sizeof marks) == 0);
+}
+
 int main(void)
 {
     opening();
@@ -621,6 +692,7 @@ int main(void)
     imports();
     exports();
     checks();
+    batches();
     printf("C: %d tests passed\n", tests);
     return 0;
 }

@@ -23,6 +23,8 @@ static const struct silkendoz_tables tables = {control, SILKENDOZ_CONTROL, sampl
 
 static uint16_t trail[SILKENDOZ_TRAIL(C)];
 static struct silkendoz_neighbour list[K];
+static int16_t queries[SILKENDOZ_MAX_BATCH * N];
+static struct silkendoz_answer answers[SILKENDOZ_MAX_BATCH];
 static uint8_t sheet[SILKENDOZ_SHEET(C, N)];
 static uint8_t recording[SILKENDOZ_RECORDING_BYTES(N)];
 static uint64_t out[SILKENDOZ_OUT];
@@ -70,6 +72,12 @@ static void exporting(void)
 }
 static void importing(void) { number = silkendoz_import_recording_in(&tables, recording, sizeof recording, out, SILKENDOZ_OUT); }
 static void checking(void) { number = silkendoz_check_tables_in(&tables, out, SILKENDOZ_OUT); }
+static void batching(void)
+{
+    number = silkendoz_match_batch_in(
+        &tables, trail, SILKENDOZ_TRAIL(C), queries, SILKENDOZ_MAX_BATCH * N, SILKENDOZ_MAX_BATCH, answers, SILKENDOZ_MAX_BATCH, out,
+        SILKENDOZ_OUT);
+}
 static void nothing(void) { number = SILKENDOZ_DONE; }
 
 struct call {
@@ -121,7 +129,7 @@ int main(void)
     struct call none = {"nothing", nothing, 0, 0};
     struct call calls[] = {{"open", opening, 16, 0}, {"add", adding, 96, 0}, {"nearest", matching, 16, 0}, {"k_nearest", listing, 16, 0},
         {"write_sheet", writing, 16, 0}, {"read_sheet", reading, 96, 0}, {"export_recording", exporting, 16, 0},
-        {"import_recording", importing, 96, 0}, {"check_tables", checking, 64, 0}};
+        {"import_recording", importing, 96, 0}, {"check_tables", checking, 64, 0}, {"match_batch", batching, 32, 0}};
     size_t before, i;
     int at;
     void *stack;
@@ -146,6 +154,9 @@ int main(void)
         measure(&calls[6], stack, before);
         measure(&calls[7], stack, before);
         measure(&calls[8], stack, before);
+        for (at = 0; at < SILKENDOZ_MAX_BATCH; at++)
+            memcpy(queries + N * at, samples + N * at, N * sizeof *queries);
+        measure(&calls[9], stack, before);
     }
     free(stack);
     for (i = 0; i < sizeof calls / sizeof *calls; i++) {

@@ -4,7 +4,7 @@ use mathlib.Core.Path.{_≡_, refl, sym, ap, ap₂, _∙_}
 use mathlib.Core.List.{List, [], _∷_}
 use lib.ListN.{length, set, take}
 use Rattle.dstree.specs.Refusals.{Refusal, numberOf, placeOf}
-use Rattle.dstree.specs.Matching.{Match}
+use Rattle.dstree.specs.Matching.{Near, Match}
 use Rattle.dstree.specs.KNearest.{KNearest}
 use Rattle.dstree.specs.Sheet.{blockSize}
 use Rattle.dstree.specs.Book as book
@@ -41,6 +41,9 @@ use Rattle.exporting.specs.declared.Exported.the-variants as x
 use Rattle.checking.specs.Answered as checking
 use Rattle.checking.specs.declared.Checked.{Checked}
 use Rattle.checking.specs.declared.Checked.the-variants as k
+use Rattle.batching.specs.Answered as batching
+use Rattle.batching.specs.declared.Outcome as n
+use Rattle.batching.specs.declared.Outcome.the-variants as b
 use Rattle.calls.specs.Outcome.{Outcome, outcome}
 use Rattle.calls.specs.Numbers.{codeOf, resultValues, valuesOf, laid}
 use Rattle.library_c.specs.Exported.{Returned, returned, returnedOf, Exported, exported, exportedOf}
@@ -207,3 +210,15 @@ pub checked-refused : (answer : Checked) (why : r.Refusal) (out : List ℕ) → 
     → returnedOf (refusing (wordOf why)) out ≡ returnedOf (checking.answerBy answer) out
 unfolding checking.answerBy
 checked-refused answer why out is = ap (λ (x : Checked). returnedOf (checking.answerBy x) out) (sym is)
+
+pub batched-leaves : (answer : n.Outcome) (records : List Near) (trail : List ℕ) (leaves : ℕ) (out out′ : List ℕ) → out′ ≡ set out 0 leaves
+    → answer ≡ b.Done leaves → returned 0 out′ ≡ returnedOf (batching.answerBy answer records trail) out
+unfolding batching.answerBy resultValues
+batched-leaves answer records trail leaves out out′ g is =
+    one-returned (book.batched (record { answers = records; leaves = leaves; trail = take leaves trail })) leaves out out′ refl g
+    ∙ ap (λ (x : n.Outcome). returnedOf (batching.answerBy x records trail) out) (sym is)
+
+pub batched-refused : (answer : n.Outcome) (records : List Near) (trail : List ℕ) (why : r.Refusal) (out : List ℕ) → answer ≡ b.Refused why
+    → returnedOf (refusing (wordOf why)) out ≡ returnedOf (batching.answerBy answer records trail) out
+unfolding batching.answerBy
+batched-refused answer records trail why out is = ap (λ (x : n.Outcome). returnedOf (batching.answerBy x records trail) out) (sym is)

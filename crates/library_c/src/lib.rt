@@ -1,17 +1,20 @@
 // The calls for C and for Rust: numbers and slices only, a slice as a pointer and then its length. Each is the call of the same name, and its contract
 // is that call's own definition. The code is 0, or the number of the refusal; the answer's values go into the lent slice `out`, in order: adding the
 // trace's number, a match the trace's number, the distance, leaves read and traces read, a listing leaves read, traces read and how many it
-// lists, a writing the number of blocks, an import the number of traces, an export the number of bytes, a refusal its place; an opening, a
-// reading and a check have none. A shorter `out` takes the first of them, and places behind them stay.
+// lists, a writing the number of blocks, an import the number of traces, an export the number of bytes, a batch leaves read, a refusal its
+// place; an opening, a reading and a check have none. A shorter `out` takes the first of them, and places behind them stay.
 
 pub mod telling; // an answer as numbers
 
+use batching::Answer;
 ghost use mathlib.Core.Path.{_≡_};
 ghost use mathlib.Core.List.{[], _∷_};
 ghost use Rattle.dstree.specs.Measures.{measures};
+ghost use Rattle.dstree.specs.KNearest.{listPlaces};
 ghost use Rattle.dstree.specs.Book as book;
 ghost use Rattle.tables.specs.Tables.{tables};
 ghost use Rattle.calls.specs.Effects.{outcomeOn};
+ghost use Rattle.batch_answers.specs.Answers.{nearsOf};
 ghost use Rattle.library_c.specs.Exported.{exported, exportedOf};
 
 // Two wrong programs that the contract rules out: one that gives the place as its code, and one that writes the place of a refusal into a place of `out`
@@ -223,4 +226,42 @@ pub extern "C" fn silkendoz_check_tables(
 {
     let answer = checking::check_tables(control, samples, nodes, links, work);
     telling::tell_checked(answer, out)
+}
+
+// The list is lent as records, a struct of two numbers each, and has one for each query.
+//
+// Two wrong programs that the contract rules out: one that tells how many queries there were, and one that tells how many leaves the queries
+// would read one by one.
+#[no_mangle]
+pub extern "C" fn silkendoz_match_batch(
+    control: &[u16],
+    samples: &[i16],
+    nodes: &[i64],
+    links: &[u16],
+    work: &mut [u64],
+    trail: &mut [u16],
+    queries: &[i16],
+    many: usize,
+    answers: &mut [Answer],
+    out: &mut [u64],
+) -> u64
+    ensures { λ r. ⌜ exported r (now (out .exit))
+        (tables (now (control .entry)) (now (samples .entry)) (now (nodes .entry)) (now (links .entry)) (now (work .exit)))
+        (now (trail .exit) ∷ listPlaces (nearsOf (now (answers .exit))) ∷ [])
+        ≡ exportedOf (outcomeOn (book.batching many (now (queries .entry)) (now (trail .entry)) (nearsOf (now (answers .entry))))
+        (tables (now (control .entry)) (now (samples .entry)) (now (nodes .entry)) (now (links .entry)) (now (work .entry))))
+        (now (out .entry)) ⌝ }
+{
+    let answer = batch_answers::match_batch(
+        control,
+        samples,
+        nodes,
+        links,
+        work,
+        trail,
+        queries,
+        many,
+        answers,
+    );
+    telling::tell_batched(answer, out)
 }

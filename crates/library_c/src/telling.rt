@@ -1,6 +1,7 @@
 // An answer as numbers: its code is given back, its values go into a lent slice.
 
 use adding::Added;
+use batching::Outcome;
 use checking::Checked;
 use exporting::Exported;
 use importing::Imported;
@@ -14,6 +15,7 @@ ghost use mathlib.Core.Path.{_≡_};
 ghost use mathlib.Core.List.{List};
 ghost use Prim.Native.Nat.{ℕ};
 ghost use lib.ListN.{set};
+ghost use Rattle.dstree.specs.Matching.{Near};
 ghost use Rattle.dstree.specs.Book.{refusing};
 ghost use Rattle.tables.specs.Answers.{wordOf};
 ghost use Rattle.opening.specs.Opened as opened;
@@ -25,6 +27,7 @@ ghost use Rattle.sheet_reading.specs.Answered as reading;
 ghost use Rattle.importing.specs.Answered as importing;
 ghost use Rattle.exporting.specs.Answered as exporting;
 ghost use Rattle.checking.specs.Answered as checking;
+ghost use Rattle.batching.specs.Answered as batching;
 ghost use Rattle.library_c.specs.Exported.{returned, returnedOf};
 
 // A number at its place, if there is such a place.
@@ -151,5 +154,19 @@ pub fn tell_checked(answer: Checked, out: &mut [u64]) -> u64
     match answer {
         Checked::Accepted => 0,
         Checked::Refused(why) => tell_refusal(why, out),
+    }
+}
+
+// Records and trail are told by the slices that the batch leaves them in.
+pub fn tell_batched(answer: Outcome, out: &mut [u64]) -> u64
+    ensures { λ r. ⌜ ((records : List Near) (trail : List ℕ)
+        → returned r (now (out .exit)) ≡ returnedOf (batching.answerBy answer records trail) (now (out .entry))) ⌝ }
+{
+    match answer {
+        Outcome::Done(leaves) => {
+            put(out, 0, leaves);
+            0
+        }
+        Outcome::Refused(why) => tell_refusal(why, out),
     }
 }

@@ -1,0 +1,27 @@
+-- `telling::tell_batched` meets its contract, arm by arm.
+use borrow.Author.Needs.{needs}
+use mathlib.Core.Path.{_∙_}
+use denote.Ref.{now}
+use Rattle.library_c.proofs.Answers.{batched-leaves, batched-refused}
+use Rattle.library_c.proofs.telling.tell_batched.Statement.{statement}
+use Rattle.library_c.proofs.telling.tell_batched.Tie as tie
+
+returns : tie.Need-returns
+returns c = λ records trail.
+    let p = c .before .before in
+    let s = p .before .before .before .before .before .before in
+    batched-leaves (s .args .answer) records trail _ (now (s .args .out)) _ (p .put .ensures) (p .before .before .before .answer .given .1)
+
+returns-2 : tie.Need-returns-2
+returns-2 c = λ records trail.
+    let r = c .before .before in
+    let s = r .before .before .before .before .before .before in
+    r .tell-refusal .ensures
+    ∙ batched-refused (s .args .answer) records trail _ (now (s .args .out)) (r .before .before .before .answer2 .given .1)
+
+pub tell-batched-spec : {M : Type 1} → statement M
+tell-batched-spec =
+    tie.close
+    (tie.spec
+    (λ c. search needs) (λ c κs. search needs) (λ c. search needs) (λ c κs. search needs) (λ c. search needs) returns
+    (λ c. search needs) returns-2)

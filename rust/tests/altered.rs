@@ -2,7 +2,7 @@
 
 mod common;
 
-use common::{check_add, check_checked, check_export, check_import, check_k_nearest, check_nearest, measures};
+use common::{check_add, check_batch, check_checked, check_export, check_import, check_k_nearest, check_nearest, measures};
 use silkendoz::model::recording;
 use silkendoz::model::tables::{Tables, RECORD_PLACES};
 use silkendoz::model::{runs, segments_of, width, Figure, Kind, Library, Node, Segment, Test, Trace};
@@ -161,6 +161,9 @@ fn follow(random: &mut Random, library: &Library, shape: Shape, queries: usize, 
         let k = 1 + random.below(16);
         let mut list = vec![1; 2 * k];
         check_k_nearest(&mut t, l, &mut trail, &mut list, &q, k as u64).expect("nothing is refused");
+        t.work.iter_mut().for_each(|x| *x = random.word());
+        let run: Vec<i16> = (0..k).flat_map(|_| query(random, shape, n, &library.traces)).collect();
+        check_batch(&mut t, l, &mut trail, &run, k, k).expect("nothing is refused");
         t.work.iter_mut().for_each(|x| *x = random.word());
     }
     // recordings: a trace as it stands, and imports into these tables

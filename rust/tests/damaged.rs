@@ -2,7 +2,7 @@
 
 mod common;
 
-use common::{check_add, check_checked, check_export, check_import, check_k_nearest, check_nearest, measures};
+use common::{check_add, check_batch, check_checked, check_export, check_import, check_k_nearest, check_nearest, measures};
 use silkendoz::model::recording;
 use silkendoz::model::tables::{Tables, RECORD_PLACES};
 use silkendoz::model::{Library, Trace};
@@ -51,8 +51,9 @@ fn spoiled(damaged: &Tables, query: &[i16]) -> bool {
     let imported = check_import(&mut t, l, &recording::write(8000, &query.repeat(2))).map(|_| ());
     let exported = check_export(damaged, l, &mut [7; 99], 0, 8000).map(|_| ());
     let checked = check_checked(damaged, l).map(|_| ());
-    let verdicts = [added, found, listed, imported, exported, checked].map(|answer| answer == Err((3, 0)));
-    assert!(verdicts == [verdicts[0]; 6], "{verdicts:?}");
+    let batched = check_batch(&mut damaged.clone(), l, &mut trail, &query.repeat(2), 2, 2).map(|_| ());
+    let verdicts = [added, found, listed, imported, exported, checked, batched].map(|answer| answer == Err((3, 0)));
+    assert!(verdicts == [verdicts[0]; 7], "{verdicts:?}");
     verdicts[0]
 }
 
@@ -170,6 +171,7 @@ fn short_tables_and_the_order() {
                 assert_eq!(check_add(&mut t.clone(), short, &wrong).unwrap_err(), expected);
                 assert_eq!(check_nearest(&mut t, short, &mut [], &wrong).unwrap_err(), expected);
                 assert_eq!(check_k_nearest(&mut t, short, &mut [], &mut [], &wrong, 0).unwrap_err(), expected);
+                assert_eq!(check_batch(&mut t, short, &mut [], &wrong, 0, 1).unwrap_err(), expected);
                 assert_eq!(check_import(&mut t, short, &[]).unwrap_err(), expected);
                 assert_eq!(check_export(&t, short, &mut [], 9999, 1 << 31).unwrap_err(), expected);
             }
@@ -192,6 +194,17 @@ fn short_tables_and_the_order() {
         assert_eq!(order(16, &case.query, 16, 31), Err(expected));
         assert_eq!(order(1, &case.query, 16, 1), Err(expected));
         assert_eq!(order(16, &case.query, 16, 32), if case.tables.control[3] == 0 { Err((6, 0)) } else { Ok(()) });
+        // a bad batch comes before a wrong trace, and that before empty and a short trail
+        let order = |many: usize, run: &[i16], trail: usize, list: usize| {
+            check_batch(&mut case.tables.clone(), l, &mut vec![7; trail], run, many, list).map(|_| ())
+        };
+        for (many, list) in [(0, 0), (17, 17), (1, 0), (1, 2), (16, 17), (65_537, 1), (usize::MAX, 0)] {
+            assert_eq!(order(many, &wrong, 0, list), Err((14, 0)));
+        }
+        assert_eq!(order(1, &wrong, 0, 1), Err((4, 0)));
+        assert_eq!(order(2, &case.query, 0, 2), Err((4, 0)));
+        assert_eq!(order(1, &case.query, 0, 1), Err(expected));
+        assert_eq!(order(16, &case.query.repeat(16), 16, 16), if case.tables.control[3] == 0 { Err((6, 0)) } else { Ok(()) });
     }
 }
 

@@ -2,7 +2,7 @@
 
 mod common;
 
-use common::{check_add, check_k_nearest, check_list, check_nearest, check_open, check_scan, junk, longer, measures};
+use common::{check_add, check_batch, check_k_nearest, check_list, check_nearest, check_open, check_scan, junk, longer, measures};
 use silkendoz::model::tables::{needs, Tables};
 use silkendoz::model::{KNearest, Library, Measures, Trace};
 use silkendoz::random::{query, traces, Random, Shape, SHAPES};
@@ -36,6 +36,10 @@ fn run_on(random: &mut Random, shape: Shape, stored: &[Trace], m: Measures, quer
         let q = query(random, shape, n, stored);
         ask(random, &mut t, l, &library, &q);
     }
+    for _ in 0..queries.div_ceil(4) {
+        let together: Vec<Trace> = (0..1 + random.below(16)).map(|_| query(random, shape, n, stored)).collect();
+        ask_together(&mut t, l, &library, &together);
+    }
     if stored.len() as u64 == m.capacity {
         assert_eq!(check_add(&mut t, l, &stored[0]).unwrap_err(), (5, 0));
     }
@@ -54,6 +58,18 @@ fn ask(random: &mut Random, t: &mut Tables, l: silkendoz::model::tables::Lengths
     let fewer = 1 + random.below(k);
     let shorter = check_k_nearest(t, l, &mut trail, &mut list, q, fewer as u64).expect("a trace is stored");
     assert!(longer.list.starts_with(&shorter.list) && longer.trail.starts_with(&shorter.trail));
+}
+
+/// A batch of these queries, whose answers are the matches' and whose leaves are theirs together; and of one of them alone, which reads that match's.
+fn ask_together(t: &mut Tables, l: silkendoz::model::tables::Lengths, library: &Library, queries: &[Trace]) {
+    let mut trail = vec![0xbeef; library.leaves().len() + 1];
+    let many = queries.len();
+    check_batch(t, l, &mut trail, &queries.concat(), many, many).expect("a trace is stored");
+    let alone = library.nearest(&queries[0]).expect("a trace is stored");
+    let one = check_batch(t, l, &mut trail, &queries[0], 1, 1).expect("a trace is stored");
+    let mut leaves = alone.trail.clone();
+    leaves.sort();
+    assert_eq!((one.answers, one.trail), (vec![(alone.trace, alone.distance)], leaves));
 }
 
 #[test]

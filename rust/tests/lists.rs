@@ -3,7 +3,7 @@
 
 mod common;
 
-use common::{check_add, check_checked, check_export, check_import, check_k_nearest, check_list, check_nearest, check_open};
+use common::{check_add, check_batch, check_checked, check_export, check_import, check_k_nearest, check_list, check_nearest, check_open};
 use common::{junk, longer, measures};
 use silkendoz::model::recording;
 use silkendoz::model::tables::{judge_opening, needs, Lengths, Tables};
@@ -37,6 +37,10 @@ impl Book {
         self.short(l)?.judge_query(size, trail)
     }
 
+    fn judge_batch(&self, l: Lengths, run: usize, many: usize, trail: usize, list: usize) -> Result<(), Refused> {
+        self.short(l)?.judge_queries(run, many, trail, list)
+    }
+
     fn judge_k_nearest(&self, l: Lengths, size: usize, k: u64, trail: usize, list: usize) -> Result<(), Refused> {
         self.short(l)?.judge_k(size, k, trail, list)
     }
@@ -68,6 +72,7 @@ const K_NEAREST_CALLS: usize = 4;
 const SHEET_CALLS: usize = 4;
 const RECORDING_CALLS: usize = 4;
 const CHECK_CALLS: usize = 2;
+const BATCH_CALLS: usize = 4;
 
 /// A writing, whose sheet is as the book's; or a reading of a sheet, sound or damaged.
 fn sheet_step(random: &mut Random, shape: Shape, t: &mut Tables, book: &mut Book, l: Lengths) {
@@ -171,10 +176,23 @@ fn recording_step(random: &mut Random, shape: Shape, t: &mut Tables, book: &mut 
     }
 }
 
+/// A batch, of a number of queries in range or not, in a run that is as long or not, with a list that is as long or not.
+fn batch_step(random: &mut Random, shape: Shape, t: &mut Tables, book: &mut Book, l: Lengths) {
+    let many = if random.once_in(8) { *random.pick(&[0, 17, 65_536 + 1, usize::MAX]) } else { 1 + random.below(16) };
+    let (mut run, mut trail) = some_query(random, shape, book.library());
+    for _ in 1..many.min(17) {
+        run.extend(query(random, shape, book.library().measures.n as usize, &book.library().traces));
+    }
+    let list = if random.once_in(6) { random.below(19) } else { many.min(17) };
+    let judged = book.judge_batch(l, run.len(), many, trail.len(), list);
+    let answer = check_batch(t, l, &mut trail, &run, many, list);
+    assert_eq!(answer.map(|_| ()), judged);
+}
+
 fn step(random: &mut Random, shape: Shape, t: &mut Tables, book: &mut Book) {
     let l = lengths(random, t);
     let n = book.library().measures.n as usize;
-    match random.below(12 + K_NEAREST_CALLS + SHEET_CALLS + RECORDING_CALLS + CHECK_CALLS) {
+    match random.below(12 + K_NEAREST_CALLS + SHEET_CALLS + RECORDING_CALLS + CHECK_CALLS + BATCH_CALLS) {
         0 => {
             let m = some_measures(random);
             let judged = judge_opening(l, m);
@@ -197,7 +215,8 @@ fn step(random: &mut Random, shape: Shape, t: &mut Tables, book: &mut Book) {
         16..=19 => sheet_step(random, shape, t, book, l),
         20..=23 => recording_step(random, shape, t, book, l),
         // a check accepts every library that calls made: 13 never arises
-        24.. => assert_eq!(check_checked(t, l).map(|_| ()), book.short(l).map(|_| ())),
+        24..=25 => assert_eq!(check_checked(t, l).map(|_| ()), book.short(l).map(|_| ())),
+        26.. => batch_step(random, shape, t, book, l),
         _ => {
             let (q, mut trail) = some_query(random, shape, book.library());
             let judged = book.judge_match(l, q.len(), trail.len());

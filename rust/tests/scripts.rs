@@ -53,6 +53,7 @@ fn the_stage() {
     play("stage-04.txt", 40);
     play("stage-05.txt", 40);
     play("stage-06.txt", 40);
+    play("stage-07.txt", 40);
 }
 
 /// The tree, bounds, walks and distances with a limit between the calls.
@@ -165,6 +166,31 @@ fn checks() {
     ]);
 }
 
+/// A number of queries, places of the list, and the run.
+#[test]
+fn batches() {
+    says(&[
+        ("batch 1 1 0", "refused 3 0"),
+        ("open 1 8 1", "done"),
+        ("batch 1 2 0", "refused 14 0"),
+        ("batch 1 1 0", "refused 6 0"),
+        ("add 0", "added 0"),
+        ("add 4", "added 1"),
+        ("batch 0 0", "refused 14 0"),
+        ("batch 0 0 1", "refused 14 0"),
+        ("batch 17 17 1", "refused 14 0"),
+        ("batch 1 2 0", "refused 14 0"),
+        ("batch 2 1 0 4", "refused 14 0"),
+        ("batch 2 2 0", "refused 4 0"),
+        ("batch 2 2 0 4 4", "refused 4 0"),
+        ("batch 2 2 4 0", "batch 2 trail 1 2 answers 1:0 0:0"),
+        ("batch 2 2 0 1", "batch 1 trail 1 answers 0:0 0:1"),
+        ("batch 1 1 2", "batch 2 trail 1 2 answers 0:4"),
+        ("batch 1 1 0 | trail=1", "refused 7 0"),
+        ("batch 1 1 0 | short=work", "refused 2 0"),
+    ]);
+}
+
 #[test]
 fn lines_that_are_no_calls() {
     let mut session = Session::new();
@@ -185,6 +211,8 @@ fn lines_that_are_no_calls() {
         "read 0",
         "write 1",
         "check 1",
+        "batch 1",
+        "batch 1 1 0 | list=1",
         "check | trail=1",
         "tree 1",
         "below 1",

@@ -1,7 +1,7 @@
 //! Tables of times, all in one run: the calls beside the scan on the same data, medians of many rounds, n = 256 and capacity 4,096. The
 //! first is of all calls, the second of lists of five; below them, what it takes to add traces that are all the same, and to import a
 //! recording beside reading the sheet of the same traces. `bench worst` is about many traces in one leaf, `bench check` about the check of
-//! tables.
+//! tables, `bench batch` about sixteen queries at once beside sixteen matches.
 //!
 //! Machines differ, and so do runs; within a line the columns belong together, and the ratios are what counts. Every answer is compared
 //! with the scan's.
@@ -301,6 +301,46 @@ fn check() {
     }
 }
 
+/// How many queries come together, and how often such a batch is timed.
+const TOGETHER: usize = 16;
+const BATCHES: usize = 51;
+
+/// Batches of these queries beside their matches one by one: a batch and its matches are timed one after the other, and answer the same.
+fn batched(library: &TraceLibrary, batches: &[Vec<Trace>]) -> String {
+    let mut rounds: Vec<[f64; 5]> = Vec::new();
+    for queries in batches {
+        let queries: Vec<&[i16]> = queries.iter().map(Vec::as_slice).collect();
+        let (match_time, alone) = time(|| queries.iter().map(|q| library.nearest(black_box(q)).expect("traces are stored")).collect::<Vec<_>>());
+        let (batch_time, found) = time(|| library.match_batch(black_box(&queries)).expect("traces are stored"));
+        let answers: Vec<(usize, u64)> = found.answers.iter().map(|near| (near.trace, near.distance)).collect();
+        assert_eq!(answers, alone.iter().map(|found| (found.trace, found.distance)).collect::<Vec<_>>());
+        let read: usize = alone.iter().map(|found| found.leaves).sum();
+        rounds.push([match_time, batch_time, match_time / batch_time, read as f64, found.leaves as f64]);
+    }
+    let of = |figure: usize| median(rounds.iter().map(|r| r[figure]).collect());
+    format!("{:>9.0}{:>9.0}{:>7.2}{:>8.0}{:>8.0}", of(0), of(1), of(2), of(3), of(4))
+}
+
+/// `bench batch`: sixteen queries near sixteen different traces, and sixteen near one trace, as sweeps of one machine are.
+fn batch() {
+    println!("n = {N}, {CAPACITY} traces, {TOGETHER} queries; microseconds, medians of {BATCHES}; x: matches / batch; leaves that the matches read, and the batch");
+    let heads = |kind: &str| format!("{kind:>9}{:>9}{:>7}{:>8}{:>8}", "batch", "x", "leaves", "leaves");
+    println!("{:<14}{:>5} |{} |{}", "data", "leaf", heads("different"), heads("one"));
+    for data in [Data::Walks, Data::Sines, Data::Noise] {
+        for leaf_size in [64, 16, 4] {
+            let Full { library, samples, .. } = filled(data, leaf_size);
+            let random = &mut Random::seeded(2027);
+            let stored: Vec<Trace> = samples.chunks(N).map(<[i16]>::to_vec).collect();
+            let mut around = |centre: &Trace| near(random, centre, 20);
+            let different: Vec<Vec<Trace>> =
+                (0..BATCHES).map(|i| (0..TOGETHER).map(|j| around(&stored[(257 * i + 1021 * j) % CAPACITY])).collect()).collect();
+            let one: Vec<Vec<Trace>> = (0..BATCHES).map(|i| (0..TOGETHER).map(|_| around(&stored[(257 * i) % CAPACITY])).collect()).collect();
+            batched(&library, &different[..3]);
+            println!("{:<14}{leaf_size:>5} |{} |{}", data.name(), batched(&library, &different), batched(&library, &one));
+        }
+    }
+}
+
 /// Microseconds for adding all of these to an empty library.
 fn building(stored: &[Trace], leaf_size: usize) -> f64 {
     let mut library = TraceLibrary::open(N, CAPACITY, leaf_size).expect("measures are in range");
@@ -363,6 +403,7 @@ fn main() {
     match std::env::args().nth(1).as_deref() {
         Some("worst") => return worst(),
         Some("check") => return check(),
+        Some("batch") => return batch(),
         _ => {}
     }
     println!("n = {N}, capacity {CAPACITY}, full; times in microseconds, medians ({QUERIES} queries, the last {ADDED} traces added)");

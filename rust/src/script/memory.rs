@@ -1,6 +1,7 @@
 //! What calls are lent, and what they may do to it: every place that a call may not write is held to what it was before.
 
 use super::{malformed, Line, Unanswered};
+use crate::calls::Answer;
 use crate::model::tables::{needs, Lengths, Tables, CONTROL_FIELDS};
 use crate::model::{Library, Measures, Refused};
 
@@ -24,6 +25,12 @@ macro_rules! marks {
 }
 
 marks!(u8, u16, i16, u64, i64);
+
+impl Mark for Answer {
+    fn mark(place: usize) -> Answer {
+        Answer { trace: u64::mark(2 * place), distance: u64::mark(2 * place + 1) }
+    }
+}
 
 /// Marks up to a length.
 fn extend<T: Mark>(table: &mut Vec<T>, length: usize) {

@@ -30,7 +30,7 @@ use memory::{Area, Effect, Memory};
 use std::fmt::Display;
 
 /// How many of document 02's requests have landed.
-pub const STAGE: usize = 6;
+pub const STAGE: usize = 7;
 
 /// Two libraries, of which nothing was opened at first: the factory's is the first, the bench's the second.
 pub struct Session {
@@ -59,7 +59,7 @@ struct Played {
     play: fn(&mut Session, Line<'_>) -> Reply,
 }
 
-const LINES: [Played; 15] = [
+const LINES: [Played; 16] = [
     Played { name: "open", keys: &["short"], play: open },
     Played { name: "add", keys: &["short"], play: add },
     Played { name: "match", keys: &["short", "trail"], play: nearest },
@@ -69,6 +69,7 @@ const LINES: [Played; 15] = [
     Played { name: "import", keys: &["short"], play: import },
     Played { name: "export", keys: &["short", "buffer"], play: export },
     Played { name: "check", keys: &["short"], play: check },
+    Played { name: "batch", keys: &["short", "trail"], play: batch },
     Played { name: "tree", keys: &[], play: looking::tree },
     Played { name: "below", keys: &[], play: looking::below },
     Played { name: "walks", keys: &[], play: looking::walks },
@@ -196,4 +197,16 @@ fn check(session: &mut Session, line: Line<'_>) -> Reply {
     line.end()?;
     session.library(&line).call(&line, Effect::Looks, |t, l| lending::check_tables(t, l))?;
     Ok("trusted".into())
+}
+
+fn batch(session: &mut Session, mut line: Line<'_>) -> Reply {
+    let (many, places, queries): (usize, usize, Vec<i16>) = (line.next()?, line.next()?, line.rest()?);
+    let library = session.library(&line);
+    let mut trail = Area::of("trail", line.places("trail", library.leaves())?);
+    let mut records = Area::of("list", places);
+    let answer = library.call(&line, Effect::Searches, |t, l| lending::match_batch(t, l, trail.lent(), &queries, many, records.lent()));
+    let leaves = records.kept_if_refused(trail.kept_if_refused(answer))?;
+    let read = list("trail", trail.filled(leaves));
+    let answers = records.filled(many as u64).iter().map(|record| format!("{}:{}", record.trace, record.distance));
+    Ok(format!("batch {leaves} {read} {}", list("answers", answers)))
 }

@@ -1,9 +1,10 @@
 //! What several tests use: the calls on a set of tables, held to the model.
 #![allow(dead_code)]
 
-pub use silkendoz::lending::{add, check_tables, export_recording, import_recording, k_nearest, nearest, open, read_sheet, write_sheet};
+use silkendoz::calls::Answer;
+pub use silkendoz::lending::{add, check_tables, export_recording, import_recording, k_nearest, match_batch, nearest, open, read_sheet, write_sheet};
 use silkendoz::model::tables::{judge_opening, Lengths, Tables};
-use silkendoz::model::{KNearest, Kind, Library, Match, Measures, Refused};
+use silkendoz::model::{Batch, KNearest, Kind, Library, Match, Measures, Refused};
 use silkendoz::program::repository;
 use silkendoz::script::bytes;
 
@@ -282,4 +283,35 @@ pub fn check_checked(t: &Tables, l: Lengths) -> Result<Library, Refused> {
     let judged = t.first(l).judge_check();
     assert_eq!(check_tables(t, l), judged.as_ref().map(|_| ()).map_err(|&refused| refused));
     judged
+}
+
+// ---- batches
+
+/// The answer, trail and list, and every place of the tables: by the program's steps, which on tables that the check accepts are the matches, one by one.
+/// The queries are the run's, n samples each; `lent` is how many records the list has.
+pub fn check_batch(t: &mut Tables, l: Lengths, trail: &mut [u16], run: &[i16], many: usize, lent: usize) -> Result<Batch, Refused> {
+    let mut answers: Vec<Answer> = (0..lent as u64).map(|i| Answer { trace: 0xbeef + i, distance: 0xfeed - i }).collect();
+    let (before, before_trail, before_answers) = (t.clone(), trail.to_vec(), answers.clone());
+    let answer = match_batch(t, l, trail, run, many, &mut answers);
+    match before.first(l).judge_batch(run.len(), many, trail.len(), lent) {
+        Err(refused) => {
+            assert_eq!(answer, Err(refused));
+            assert_eq!(*t, before, "a refused batch leaves everything");
+            assert_eq!((&*trail, &answers), (&before_trail[..], &before_answers));
+            Err(refused)
+        }
+        Ok(library) => {
+            let queries: Vec<&[i16]> = run.chunks(library.measures.n as usize).collect();
+            let expected = library.batch_by_steps(&queries).expect("a trace is stored");
+            if library.is_exact() {
+                assert_eq!(library.batch(&queries).as_ref(), Some(&expected), "the matches, one by one");
+            }
+            assert_eq!(answer, Ok(expected.trail.len() as u64));
+            searched(&before, t, library.measures);
+            begins_with(trail, &before_trail, &expected.trail);
+            let records: Vec<(usize, i128)> = answers.iter().map(|near| (near.trace as usize, near.distance.into())).collect();
+            assert_eq!(records, expected.answers);
+            Ok(expected)
+        }
+    }
 }

@@ -624,7 +624,7 @@ static void batches(void)
     /* nearest: 1 at 0 in leaf 2; 0 at 4 in leaf 1; 0 at 16, for which both leaves are read */
     const int16_t asked[3][N] = {{4, 4, 4, 4}, {1, 1, 1, 1}, {2, 2, 2, 2}};
     const struct silkendoz_answer alone[3] = {{1, 0}, {0, 4}, {0, 16}};
-    int16_t run[17 * N];
+    int16_t run[17 * N] = {0};
     uint16_t trail[TRAIL], marks[TRAIL];
     struct silkendoz_answer answers[18], kept[18];
     uint64_t out[SILKENDOZ_OUT] = {9, 9, 9, 9};

@@ -250,10 +250,13 @@ fn answer<const K: usize>(code: u64, out: [u64; K]) -> Result<[u64; K], Refusal>
     }
 }
 
-/// A call of the static library: its slices, each as a pointer (`as_ptr` or `as_mut_ptr`) and a length, its numbers, a list behind these if it is lent
-/// one there, and the slice for the answer's values.
+/// A call of the static library: its slices, each as a pointer (`as_ptr` or `as_mut_ptr`) and a length, its numbers, and the slice for the answer's
+/// values; a batch has its list between these two.
 macro_rules! call {
-    ($name:ident, [$($slice:expr => $pointer:ident),*], [$($number:expr),*], $($list:expr,)? $out:expr) => {
+    ($name:ident, [$($slice:expr => $pointer:ident),*], [$($number:expr),*], $out:expr) => {
+        call!($name, [$($slice => $pointer),*], [$($number),*], [], $out)
+    };
+    ($name:ident, [$($slice:expr => $pointer:ident),*], [$($number:expr),*], [$($list:expr)?], $out:expr) => {
         // Safety: pointers and lengths are those of slices that are borrowed for the call, and the contract has no requires.
         unsafe { $name($($slice.$pointer(), $slice.len(),)* $($number,)* $($list.as_mut_ptr(), $list.len(),)? $out.as_mut_ptr(), $out.len()) }
     };
@@ -428,7 +431,7 @@ pub fn match_batch(
         silkendoz_match_batch,
         [control => as_ptr, samples => as_ptr, nodes => as_ptr, links => as_ptr, work => as_mut_ptr, trail => as_mut_ptr, queries => as_ptr],
         [many],
-        answers,
+        [answers],
         out
     );
     answer(code, out).map(|[leaves]| leaves)

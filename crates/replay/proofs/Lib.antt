@@ -1,4 +1,5 @@
 pub mod ReadBack
+pub mod Records
 pub mod OfKind
 pub mod Asking
 pub mod Lending

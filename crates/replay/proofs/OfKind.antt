@@ -1,5 +1,5 @@
 -- The kinds of rows: what holds of each, and how a call of one follows its definition.
-use Prim.Native.Nat.{ℕ, zero, suc, _≤_, _<_}
+use Prim.Native.Nat.{ℕ, zero, suc, _/_, _≤_, _<_}
 use mathlib.Core.Path.{_≡_, refl, sym, ap, subst, _∙_}
 use mathlib.Core.Bool.{Bool, true, false}
 use mathlib.Core.Option.{Option, none, some, Option·none-ne-some, Option·some-injective}
@@ -20,8 +20,9 @@ use Rattle.replay.specs.declared.Cursor.{Cursor}
 use Rattle.replay.specs.declared.Wanted.{Wanted}
 use Rattle.replay.specs.Numbers.{replyRow}
 use Rattle.replay.specs.Script.{ownNumber, cursor, Taken, taken, sizeOf, Kind, openings, addings, matchings, writings, readings}
-use Rattle.replay.specs.Script.{listings, importings, exportings, checkings, kinds, kindAt}
+use Rattle.replay.specs.Script.{listings, importings, exportings, checkings, batchings, kinds, kindAt}
 use Rattle.replay.specs.Script.{takesOf, wantedBy, takenBy, leftBy, Called, called, calledBy, Plays}
+use Rattle.replay.proofs.Records.{places-back}
 
 -- ---- what nothing is taken of is empty
 
@@ -123,11 +124,19 @@ of-checkings = record {
   typed = λ row x t s b u. u;
 }
 
+of-batchings : KindLaws batchings
+unfolding takenBy Typed
+of-batchings = record {
+  takes-all = λ row x e. taken-same refl refl (sym (no-sheet x e refl))
+      (places-back (ownNumber row 2 / 2) (x .list) (ap (λ (c : Cursor). c .lists) e));
+  typed = λ row x t s b u. tt;
+}
+
 of-kinds : All KindLaws kinds
 of-kinds =
     all-more of-openings
     (all-more of-addings (all-more of-matchings (all-more of-writings (all-more of-readings (all-more of-listings
-    (all-more of-importings (all-more of-exportings (all-more of-checkings all-none))))))))
+    (all-more of-importings (all-more of-exportings (all-more of-checkings (all-more of-batchings all-none)))))))))
 
 of-some : {P : Kind → Type 0} (among : List Kind) → All P among → (number : ℕ) (k : Kind) → kindAt among number ≡ some k → P k
 unfolding kindAt
@@ -158,25 +167,27 @@ no-change (suc (suc (suc (suc (suc zero))))) k f g h i e b = true-false (sym b �
 no-change (suc (suc (suc (suc (suc (suc zero)))))) k f g h i e b = i refl
 no-change (suc (suc (suc (suc (suc (suc (suc zero))))))) k f g h i e b = true-false (sym b ∙ kind-is exportings k e)
 no-change (suc (suc (suc (suc (suc (suc (suc (suc zero)))))))) k f g h i e b = true-false (sym b ∙ kind-is checkings k e)
-no-change (suc (suc (suc (suc (suc (suc (suc (suc (suc n))))))))) k f g h i e b = absurd (Option·none-ne-some k e)
+no-change (suc (suc (suc (suc (suc (suc (suc (suc (suc zero))))))))) k f g h i e b = true-false (sym b ∙ kind-is batchings k e)
+no-change (suc (suc (suc (suc (suc (suc (suc (suc (suc (suc n)))))))))) k f g h i e b = absurd (Option·none-ne-some k e)
 
 pub changes-if : (number : ℕ) (k : Kind) → (number ≡ 2 → ⊥) → (number ≡ 3 → ⊥) → (number ≡ 5 → ⊥) → (number ≡ 7 → ⊥) → (number ≡ 8 → ⊥)
-    → kindAt kinds number ≡ some k → k .changes ≡ true
+    → (number ≡ 9 → ⊥) → kindAt kinds number ≡ some k → k .changes ≡ true
 unfolding kindAt
-changes-if zero k f g h i j e = kind-is openings k e
-changes-if (suc zero) k f g h i j e = kind-is addings k e
-changes-if (suc (suc zero)) k f g h i j e = absurd (f refl)
-changes-if (suc (suc (suc zero))) k f g h i j e = absurd (g refl)
-changes-if (suc (suc (suc (suc zero)))) k f g h i j e = kind-is readings k e
-changes-if (suc (suc (suc (suc (suc zero))))) k f g h i j e = absurd (h refl)
-changes-if (suc (suc (suc (suc (suc (suc zero)))))) k f g h i j e = kind-is importings k e
-changes-if (suc (suc (suc (suc (suc (suc (suc zero))))))) k f g h i j e = absurd (i refl)
-changes-if (suc (suc (suc (suc (suc (suc (suc (suc zero)))))))) k f g h i j e = absurd (j refl)
-changes-if (suc (suc (suc (suc (suc (suc (suc (suc (suc n))))))))) k f g h i j e = absurd (Option·none-ne-some k e)
+changes-if zero k f g h i j l e = kind-is openings k e
+changes-if (suc zero) k f g h i j l e = kind-is addings k e
+changes-if (suc (suc zero)) k f g h i j l e = absurd (f refl)
+changes-if (suc (suc (suc zero))) k f g h i j l e = absurd (g refl)
+changes-if (suc (suc (suc (suc zero)))) k f g h i j l e = kind-is readings k e
+changes-if (suc (suc (suc (suc (suc zero))))) k f g h i j l e = absurd (h refl)
+changes-if (suc (suc (suc (suc (suc (suc zero)))))) k f g h i j l e = kind-is importings k e
+changes-if (suc (suc (suc (suc (suc (suc (suc zero))))))) k f g h i j l e = absurd (i refl)
+changes-if (suc (suc (suc (suc (suc (suc (suc (suc zero)))))))) k f g h i j l e = absurd (j refl)
+changes-if (suc (suc (suc (suc (suc (suc (suc (suc (suc zero))))))))) k f g h i j l e = absurd (l refl)
+changes-if (suc (suc (suc (suc (suc (suc (suc (suc (suc (suc n)))))))))) k f g h i j l e = absurd (Option·none-ne-some k e)
 
 no-ask : (number : ℕ) (k : Kind) → (number ≡ 2 → ⊥) → (number ≡ 3 → ⊥) → (number ≡ 5 → ⊥) → (number ≡ 7 → ⊥) → (number ≡ 8 → ⊥)
-    → kindAt kinds number ≡ some k → k .changes ≡ false → ⊥
-no-ask number k f g h i j e b = true-false (sym (changes-if number k f g h i j e) ∙ b)
+    → (number ≡ 9 → ⊥) → kindAt kinds number ≡ some k → k .changes ≡ false → ⊥
+no-ask number k f g h i j l e b = true-false (sym (changes-if number k f g h i j l e) ∙ b)
 
 -- the kind with a number
 pub changes-not : (number : ℕ) (k₀ k : Kind) → kindAt kinds number ≡ some k₀ → kindAt kinds number ≡ some k → k .changes ≡ k₀ .changes
@@ -194,8 +205,8 @@ module _ (number : ℕ) (row : List ℕ) (x : Taken) (t : Tables) (c : Called) w
   no-other-change f g h i k e b s = absurd (no-change number k f g h i e b)
 
   pub no-other-ask : (number ≡ 2 → ⊥) → (number ≡ 3 → ⊥) → (number ≡ 5 → ⊥) → (number ≡ 7 → ⊥) → (number ≡ 8 → ⊥)
-      → Plays false number row x t c
-  no-other-ask f g h i j k e b s = absurd (no-ask number k f g h i j e b)
+      → (number ≡ 9 → ⊥) → Plays false number row x t c
+  no-other-ask f g h i j l k e b s = absurd (no-ask number k f g h i j l e b)
 
 -- ---- the number of a kind
 
@@ -236,6 +247,10 @@ module _ {number : ℕ} where
   unfolding kindAt
   is-checkings e = ap (kindAt kinds) e
 
+  pub is-batchings : number ≡ 9 → kindAt kinds number ≡ some batchings
+  unfolding kindAt
+  is-batchings e = ap (kindAt kinds) e
+
 pub wanted-is : (r : Wanted) (row : List ℕ) (number : ℕ) (k : Kind) (size : Cursor) → r ≡ record { known = true; size = size }
     → kindAt kinds number ≡ some k → size ≡ k .takes row
     → wantedBy r ≡ takesOf (kindAt kinds number) row
@@ -263,7 +278,7 @@ pub wanted-bytes : (r : Wanted) (row : List ℕ) (number first : ℕ) → r ≡ 
 wanted-bytes r row number first e o f g h i l =
     ap (λ (r : Wanted). wantedBy r) e ∙ (ap (λ (x : ℕ). some (cursor 0 0 x 0)) o ∙ bytes-alone row number f g h i l)
 
-pub wanted-not : (row : List ℕ) (number : ℕ) → 9 ≤ number → none ≡ takesOf (kindAt kinds number) row
+pub wanted-not : (row : List ℕ) (number : ℕ) → 10 ≤ number → none ≡ takesOf (kindAt kinds number) row
 unfolding takesOf kindAt
 wanted-not row zero l = absurd (omega arith)
 wanted-not row (suc zero) l = absurd (omega arith)
@@ -274,7 +289,8 @@ wanted-not row (suc (suc (suc (suc (suc zero))))) l = absurd (omega arith)
 wanted-not row (suc (suc (suc (suc (suc (suc zero)))))) l = absurd (omega arith)
 wanted-not row (suc (suc (suc (suc (suc (suc (suc zero))))))) l = absurd (omega arith)
 wanted-not row (suc (suc (suc (suc (suc (suc (suc (suc zero)))))))) l = absurd (omega arith)
-wanted-not row (suc (suc (suc (suc (suc (suc (suc (suc (suc n))))))))) l = refl
+wanted-not row (suc (suc (suc (suc (suc (suc (suc (suc (suc zero))))))))) l = absurd (omega arith)
+wanted-not row (suc (suc (suc (suc (suc (suc (suc (suc (suc (suc n)))))))))) l = refl
 
 -- ---- a call follows its definition
 
@@ -349,3 +365,12 @@ module _ (row : List ℕ) (x : Taken) (t t′ : Tables) (told : List ℕ) where
   unfolding leftBy
   checks-it a b e = called-is (checkings .ask row x) t t′ told x a b (taken-same (no-samples x e refl) (no-trail x e refl) (no-sheet x e
       refl) (no-list x e refl))
+
+  pub batches-it : (trail list : List ℕ) → told ≡ replyRow (outcomeOn (batchings .ask row x) t .answer) → t′
+      ≡ outcomeOn (batchings .ask row x) t .after
+      → trail ∷ list ∷ [] ≡ outcomeOn (batchings .ask row x) t .beside → sizeOf x ≡ batchings .takes row
+      → called told t′ (taken (x .samples) trail (x .sheet) list) ≡ calledBy (batchings .ask row x) t
+  unfolding leftBy
+  batches-it trail list a b c e =
+      called-is (batchings .ask row x) t t′ told (taken (x .samples) trail (x .sheet) list) a b (taken-same refl
+      (ap (λ (beside : List (List ℕ)). getD beside 0 []) c) (no-sheet x e refl) (ap (λ (beside : List (List ℕ)). getD beside 1 []) c))

@@ -1,6 +1,6 @@
 -- Every list of calls that code can be asked to make has a script: the calls' rows, samples, trails, sheets and lists, each one behind
 -- another.
-use Prim.Native.Nat.{ℕ, _<_, _^_}
+use Prim.Native.Nat.{ℕ, _*_, _<_, _^_}
 use native.Mathlib.Nat.{lt-of-le-of-lt}
 use native.Mathlib.Omega.{arith}
 use mathlib.Core.Path.{_≡_, refl, sym, ap, _∙_}
@@ -17,18 +17,21 @@ use Rattle.integer.proofs.Tests.{passes, test-true}
 use Rattle.integer.specs.Lists.{All, all-none, all-more}
 use Rattle.integer.proofs.Lists.{all-append, every-all, all-every}
 use Rattle.dstree.specs.Sheet.{areBytes}
+use Rattle.dstree.specs.KNearest.{listPlaces}
+use Rattle.reading.specs.Listed.{nearsIn}
 use Rattle.dstree.specs.Book.{Lent, Ask, opening, adding, matching, writing, reading, listing, importing, exporting, checking, Call}
-use Rattle.dstree.specs.Book.{call}
+use Rattle.dstree.specs.Book.{batching, call}
 use Rattle.tables.specs.Tables.{Tables, lentOf}
 use Rattle.tables.specs.Beginning.{Within}
 use Rattle.replay.specs.Script.{State, lentBy, Taken, sizeOf, nextOf, aheadOf, Kind, openings, addings, matchings, writings}
-use Rattle.replay.specs.Script.{readings, listings, importings, exportings, checkings, kinds, kindAt}
+use Rattle.replay.specs.Script.{cursor, readings, listings, importings, exportings, checkings, batchings, kinds, kindAt}
 use Rattle.replay.specs.Script.{fitsIn, enough, ifEnough, playable, askedBy, asks, takenBy, stateAfter, made, Played, begun}
 use Rattle.replay.specs.Script.{playedOne, playedRow}
 use Rattle.replay.specs.declared.Cursor.{Cursor}
 use Rattle.replay.specs.Scripts.{Word, Mark, Sized, Possible, MachineLengths, Script}
 use Rattle.replay.proofs.ReadBack.{scriptOf, rows-of-script}
 use Rattle.replay.proofs.Asking.{isSample, isByte}
+use Rattle.replay.proofs.Records.{places-length, nears-back, half}
 
 -- ---- a call's row
 
@@ -187,6 +190,23 @@ rowFor checking = record {
   marks-fit = λ s. all-none;
   bytes-fit = λ s. all-none;
   list-fits = λ s. all-none;
+}
+rowFor (batching many x trail list) = record {
+  number = 9;
+  own = length x ∷ length trail ∷ length (listPlaces list) ∷ many ∷ [];
+  kind = batchings;
+  is-kind = refl;
+  takes-that = λ lent. ap (λ (n : ℕ). cursor (length x) (length trail) 0 n)
+      (ap (λ (n : ℕ). 2 * n) (half list) ∙ sym (places-length list));
+  asks-that = λ lent. ap (batching many x trail)
+      (ap (λ (n : ℕ). nearsIn n (listPlaces list)) (half list) ∙ nears-back (length list) list refl);
+  short = lit< tt;
+  numbers-fit = λ s. all-more (s .2) (all-more (s .4) (all-more (s .6) (all-more (s .0) all-none)));
+  number-fits = lit< tt;
+  samples-fit = λ s. every-all isSample x (s .1);
+  marks-fit = λ s. s .3;
+  bytes-fit = λ s. all-none;
+  list-fits = λ s. s .5;
 }
 
 rowBy : Lent → Ask → List ℕ

@@ -1,6 +1,6 @@
 -- A script: calls one behind another, each a row of numbers, with the samples, trails, sheets and lists that they are lent. What a script
 -- asks for never depends on what was answered.
-use Prim.Native.Nat.{ℕ, zero, suc, _+_, _≤_}
+use Prim.Native.Nat.{ℕ, zero, suc, _+_, _*_, _/_, _≤_}
 use mathlib.Core.Path.{_≡_}
 use mathlib.Core.Bool.{Bool, true, false, _&&_}
 use mathlib.Core.Option.{Option, none, some}
@@ -10,9 +10,11 @@ use lib.ListN.{length, getD, take, drop}
 use lib.Dec.{leb}
 use Rattle.integer.specs.Words.{if_then_else_}
 use Rattle.dstree.specs.Measures.{measures}
+use Rattle.dstree.specs.KNearest.{listPlaces}
 use Rattle.dstree.specs.Book.{Lent, Ask, opening, adding, matching, writing, reading, listing, importing, exporting, checking, Call, call}
-use Rattle.dstree.specs.Book.{Answer, Reply, reply}
+use Rattle.dstree.specs.Book.{batching, Answer, Reply, reply}
 use Rattle.tables.specs.Tables.{Tables, lentOf}
+use Rattle.reading.specs.Listed.{nearsIn}
 use Rattle.calls.specs.Effects.{outcomeOn}
 use Rattle.calls.specs.Follows.{outcomeIn}
 use Rattle.replay.specs.Numbers.{replyRow, withRow}
@@ -193,9 +195,19 @@ exportings = record {
 abbrev pub checkings : Kind
 checkings = record { changes = false; takes = λ row. cursor 0 0 0 0; ask = λ row x. checking }
 
+-- a batch of so many queries, in a run of the next so many samples, with a trail of the next so many places and a list of records of the next so
+-- many, two places each: of an odd number the last is not taken
+abbrev pub batchings : Kind
+batchings = record {
+  changes = false;
+  takes = λ row. cursor (ownNumber row 0) (ownNumber row 1) 0 (2 * (ownNumber row 2 / 2));
+  ask = λ row x. batching (ownNumber row 3) (x .samples) (x .trail) (nearsIn (ownNumber row 2 / 2) (x .list));
+}
+
 -- a row's first number is its kind's place here
 abbrev pub kinds : List Kind
-kinds = openings ∷ addings ∷ matchings ∷ writings ∷ readings ∷ listings ∷ importings ∷ exportings ∷ checkings ∷ []
+kinds = openings ∷ addings ∷ matchings ∷ writings ∷ readings ∷ listings ∷ importings ∷ exportings ∷ checkings ∷ batchings
+    ∷ []
 
 unfoldable pub kindAt : List Kind → ℕ → Option Kind
 kindAt [] n = none
@@ -273,6 +285,7 @@ takenBy (listing k query trail list) = taken query trail [] list
 takenBy (importing bytes) = taken [] [] bytes []
 takenBy (exporting number rate buffer) = taken [] [] buffer []
 takenBy checking = taken [] [] [] []
+takenBy (batching many run trail list) = taken run trail [] (listPlaces list)
 
 -- .. and how it leaves that, by what it leaves beside the tables
 unfoldable pub leftBy : Ask → List (List ℕ) → Taken
@@ -285,6 +298,7 @@ leftBy (listing k query trail list) beside = taken query (getD beside 0 []) [] (
 leftBy (importing bytes) beside = taken [] [] bytes []
 leftBy (exporting number rate buffer) beside = taken [] [] (getD beside 0 []) []
 leftBy checking beside = taken [] [] [] []
+leftBy (batching many run trail list) beside = taken run (getD beside 0 []) [] (getD beside 1 [])
 
 -- the places that a call took are used, as it left them
 abbrev pub used : Supply → List ℕ → List ℕ → Supply

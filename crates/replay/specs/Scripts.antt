@@ -7,8 +7,10 @@ use lib.ListN.{length}
 use lib.Dec.{T}
 use Rattle.integer.specs.Lists.{All}
 use Rattle.dstree.specs.Measures.{areSamples}
+use Rattle.dstree.specs.KNearest.{listPlaces}
 use Rattle.dstree.specs.Sheet.{areBytes}
 use Rattle.dstree.specs.Book.{Lent, Ask, opening, adding, matching, writing, reading, listing, importing, exporting, checking, Call}
+use Rattle.dstree.specs.Book.{batching}
 use Rattle.tables.specs.Tables.{Tables}
 use Rattle.tables.specs.Beginning.{Within}
 use Rattle.replay.specs.Script.{played}
@@ -20,8 +22,8 @@ Word x = x < 2 ^ 64
 abbrev pub Mark : ℕ → Type 0
 Mark x = x < 2 ^ 16
 
--- what the types of arguments say: measures, lengths, k, places of a list, a trace's number and a rate have 64 bits, samples and places of
--- a trail 16, bytes 8
+-- what the types of arguments say: measures, lengths, k, a number of queries, places of a list, a trace's number and a rate have 64 bits,
+-- samples and places of a trail 16, bytes 8
 unfoldable pub Sized : Ask → Type 0
 Sized (opening m) = Word (m .n) × Word (m .capacity) × Word (m .leafSize)
 Sized (adding x) = T (areSamples x) × Word (length x)
@@ -33,6 +35,9 @@ Sized (listing k x trail list) =
 Sized (importing bytes) = T (areBytes bytes) × Word (length bytes)
 Sized (exporting number rate buffer) = Word number × Word rate × T (areBytes buffer) × Word (length buffer)
 Sized checking = Unit
+Sized (batching many x trail list) =
+    Word many × T (areSamples x) × Word (length x) × All Mark trail × Word (length trail) × All Word (listPlaces list)
+    × Word (length (listPlaces list))
 
 -- .. and no table is lent longer than it is
 pub record Possible (lengths : Lent) (c : Call) : Type 0 where

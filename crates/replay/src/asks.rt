@@ -1,8 +1,9 @@
-// Rows whose calls change no table but search work: matches (2), writings (3), listings (5), exports (7), checks (8). A kind is a reply and a
+// Rows whose calls change no table but search work: matches (2), writings (3), listings (5), exports (7), checks (8), batches (9). A kind is a reply and a
 // branch.
 
 use crate::replies::of_refusal;
 use crate::rows::number;
+use batching::Outcome;
 use checking::Checked;
 use exporting::Exported;
 use listing::Listed;
@@ -17,6 +18,8 @@ ghost use Rattle.sheet_writing.specs.Answered as written;
 ghost use Rattle.listing.specs.Answered as listed;
 ghost use Rattle.exporting.specs.Answered as exported;
 ghost use Rattle.checking.specs.Answered as checked;
+ghost use Rattle.batching.specs.Answered as batched;
+ghost use Rattle.dstree.specs.Matching.{Near};
 ghost use Rattle.tables.specs.Tables.{tables};
 ghost use Rattle.replay.specs.Numbers.{replyRow};
 ghost use Rattle.replay.specs.Script.{taken, called, Plays};
@@ -67,6 +70,16 @@ fn of_checked(answer: Checked) -> [u64; 5]
     match answer {
         Checked::Accepted => [0; 5],
         Checked::Refused(why) => of_refusal(why),
+    }
+}
+
+// Records and trail are told by the slices that the batch leaves them in.
+fn of_batched(answer: Outcome) -> [u64; 5]
+    ensures { λ r. ⌜ ((records : List Near) (trail : List ℕ) → r ≡ replyRow (batched.answerBy answer records trail)) ⌝ }
+{
+    match answer {
+        Outcome::Done(leaves) => [0, leaves, 0, 0, 0],
+        Outcome::Refused(why) => of_refusal(why),
     }
 }
 
@@ -127,6 +140,22 @@ pub fn play(
     }
     if kind == 8 {
         return of_checked(checking::check_tables(control, samples, nodes, links, work));
+    }
+    if kind == 9 {
+        let places = number(row, 8);
+        let many = number(row, 9);
+        return of_batched(crate::batches::play_batch(
+            control,
+            samples,
+            nodes,
+            links,
+            work,
+            trail,
+            list,
+            query,
+            many,
+            places,
+        ));
     }
     [0; 5]
 }

@@ -4,6 +4,7 @@ pub mod rows; // the numbers of a row
 pub mod plans; // how much a row takes, and whether it can be played
 pub mod replies; // the numbers of a reply
 pub mod changes; // kinds whose calls change tables
+pub mod batches; // a batch, with its list as numbers
 pub mod asks; // the other kinds
 pub mod turns; // a row, played
 
@@ -55,7 +56,7 @@ pub struct Turn {
 }
 
 // Every call of a script, in its order, on tables that hold anything. `script` has a row of numbers a call, each behind its length: which
-// call it is (0 opening, 1 adding, 2 match, 3 writing, 4 reading, 5 listing, 6 import, 7 export, 8 check), the lengths of the five tables
+// call it is (0 opening, 1 adding, 2 match, 3 writing, 4 reading, 5 listing, 6 import, 7 export, 8 check, 9 batch), the lengths of the five tables
 // that it is lent, and its own: an opening's measures; an adding's number of samples; a match's, then the places of its trail; the bytes of a
 // writing's or a reading's sheet, or of an import's recording; a listing's as a match's, then the places of its list and k; the bytes of an
 // export's buffer, then a trace's number and a rate; a check has none. `pool` has the samples of traces and queries, one behind another, `trails` the trails

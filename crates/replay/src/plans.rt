@@ -10,7 +10,7 @@ use crate::rows::places;
 ghost use mathlib.Core.Path.{_≡_};
 ghost use mathlib.Core.Bool.{true, false};
 ghost use mathlib.Core.Option.{some};
-ghost use Prim.Native.Nat.{_-_, _≤_};
+ghost use Prim.Native.Nat.{_-_, _*_, _/_, _≤_};
 ghost use Rattle.replay.specs.Script.{numberAt, lengthsBy, cursor, Kind, kinds, kindAt};
 ghost use Rattle.replay.specs.Script.{fitsIn, enough, takesOf, playable, movedBy, wantedBy, plannedBy};
 
@@ -26,6 +26,13 @@ fn size(samples: usize, trails: usize, sheets: usize, lists: usize) -> Wanted
             lists: lists,
         },
     }
+}
+
+// Places of whole records, two each.
+fn even(places: usize) -> usize
+    ensures { λ r. ⌜ r ≡ 2 * (places / 2) ⌝ }
+{
+    2 * (places / 2)
 }
 
 // By a row's kind and its first three own numbers. Sheets and recordings take bytes alone, a check nothing. (Behind the last kind there is none.)
@@ -52,6 +59,9 @@ fn wanted(row: &[u64]) -> Wanted
     }
     if kind == 8 {
         return size(0, 0, 0, 0);
+    }
+    if kind == 9 {
+        return size(first, second, 0, even(places(number(row, 8))));
     }
     Wanted {
         known: false,
@@ -81,6 +91,9 @@ pub fn changes(kind: u64) -> bool
         return false;
     }
     if kind == 8 {
+        return false;
+    }
+    if kind == 9 {
         return false;
     }
     true

@@ -1,15 +1,18 @@
 -- `replay::asks::play` meets its contract, kind by kind.
-use Prim.Native.Nat.{ℕ}
-use mathlib.Core.Path.{refl, ap, ap₂, _∙_}
+use Prim.Native.Nat.{ℕ, _*_, _/_}
+use mathlib.Core.Path.{_≡_, refl, sym, ap, ap₂, subst, _∙_}
+use lib.ListN.{length}
 use denote.Ref.{now}
-use Rattle.dstree.specs.Book.{listing, exporting}
+use Rattle.dstree.specs.Book.{listing, exporting, batching}
+use Rattle.reading.specs.Listed.{nearsIn}
 use Rattle.tables.specs.Tables.{Tables, tables}
 use Rattle.calls.specs.Outcome.{Outcome}
 use Rattle.calls.specs.Effects.{outcomeOn}
 use Rattle.replay.specs.Numbers.{replyRow}
-use Rattle.replay.specs.Script.{taken, matchings, writings, listings, exportings, checkings}
+use Rattle.replay.specs.declared.Cursor.{Cursor}
+use Rattle.replay.specs.Script.{taken, matchings, writings, listings, exportings, checkings, batchings}
 use Rattle.replay.proofs.OfKind.{own-kind, no-other-ask, is-matchings, is-writings, is-listings, is-exportings, matches-it}
-use Rattle.replay.proofs.OfKind.{is-checkings, writes-it, lists-it, exports-it, checks-it}
+use Rattle.replay.proofs.OfKind.{is-checkings, is-batchings, writes-it, lists-it, exports-it, checks-it, batches-it}
 use Rattle.replay.proofs.asks.play.Statement.{statement}
 use Rattle.replay.proofs.asks.play.Tie as tie
 
@@ -86,9 +89,27 @@ returns-5 c =
     (checks-it row x t _ _ (c .of-checked .ensures ∙ ap (λ (o : Outcome). replyRow (o .answer)) does) (ap (λ (o : Outcome). o .after) does))
 
 returns-6 : tie.Need-returns-6
-returns-6 c = no-other-ask (c .before .before .before .before .before .before .before .before .before .before .before .before .args .kind)
-    _ _ _ _ (c .before .before .before .before .if1 .left) (c .before .before .before .if2 .left) (c .before .before .if3 .left)
-    (c .before .if4 .left) (c .if5 .left)
+returns-6 c =
+    let q = c .before .before .before .before .before .before .before in
+    let many = q .before .before .before .before in
+    let places = many .before in
+    let a = places .before .before .before .before .before .before .before .before .before .before .before .before .before .before .args in
+    let row = now (a .row) in
+    let x = taken (now (a .query)) (now (a .trail)) (now (a .sheet)) (now (a .list)) in
+    let t : Tables = tables (now (a .control)) (now (a .samples)) (now (a .nodes)) (now (a .links)) (now (a .work)) in
+    let left = q .play-batch .last .1 .1 .1 .1 .1 in
+    own-kind (a .kind) row x t _ batchings (is-batchings (places .before .if6 .taken)) (λ e.
+    let whole = subst (λ (p : ℕ). length (now (a .list)) ≡ 2 * (p / 2)) (sym (places .number4 .ensures)) (ap (λ (s : Cursor). s .lists) e) in
+    let does = q .play-batch .ensures whole
+    ∙ ap₂ (λ (m : ℕ) (p : ℕ). outcomeOn (batching m (now (a .query)) (now (a .trail)) (nearsIn (p / 2) (now (a .list)))) t)
+    (many .number5 .ensures) (places .number4 .ensures) in
+    batches-it row x t _ _ (left .0) (left .1 .0) (c .of-batched .ensures _ _ ∙ ap (λ (o : Outcome). replyRow (o .answer)) does)
+    (ap (λ (o : Outcome). o .after) does) (ap (λ (o : Outcome). o .beside) does) e)
+
+returns-7 : tie.Need-returns-7
+returns-7 c = no-other-ask (c .before .before .before .before .before .before .before .before .before .before .before .before .before .args .kind)
+    _ _ _ _ (c .before .before .before .before .before .if1 .left) (c .before .before .before .before .if2 .left) (c .before .before .before .if3 .left)
+    (c .before .before .if4 .left) (c .before .if5 .left) (c .if6 .left)
 
 pub play-spec : {M : Type 1} → statement M
 play-spec =
@@ -104,4 +125,9 @@ play-spec =
     (λ c. c .before .before .before .before .before .before .before .k-nearest .kept .1 .1 .1 .1 .1 .1 .0)
     returns-3 (λ c κs. tt) (λ c κs. tt) (λ c κs. tt) (λ c κs. tt) (λ c. refl)
     (λ c. c .before .before .before .export-recording .kept .1 .1 .1 .1 .1 .0) returns-4
-    (λ c κs. tt) (λ c κs. tt) (λ c. refl) returns-5 returns-6)
+    (λ c κs. tt) (λ c κs. tt) (λ c. refl) returns-5
+    (λ c κs. tt) (λ c κs. tt) (λ c κs. tt) (λ c κs. tt)
+    (λ c. c .before .before .before .before .before .before .before .play-batch .kept .1 .1 .1 .1 .0)
+    (λ c. c .before .before .before .before .before .before .before .play-batch .kept .1 .1 .1 .1 .1 .0)
+    (λ c. c .before .before .before .before .before .before .before .play-batch .kept .1 .1 .1 .1 .1 .1 .0)
+    returns-6 returns-7)

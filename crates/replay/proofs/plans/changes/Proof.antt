@@ -1,6 +1,7 @@
 -- `replay::plans::changes` meets its contract, kind by kind.
-use Rattle.replay.specs.Script.{matchings, writings, listings, exportings, checkings}
-use Rattle.replay.proofs.OfKind.{is-matchings, is-writings, is-listings, is-exportings, is-checkings, changes-if, changes-not}
+use Rattle.replay.specs.Script.{matchings, writings, listings, exportings, checkings, batchings}
+use Rattle.replay.proofs.OfKind.{is-matchings, is-writings, is-listings, is-exportings, is-checkings, is-batchings}
+use Rattle.replay.proofs.OfKind.{changes-if, changes-not}
 use Rattle.replay.proofs.plans.changes.Statement.{statement}
 use Rattle.replay.proofs.plans.changes.Tie as tie
 
@@ -13,5 +14,7 @@ changes-spec =
     (λ c. λ k e. changes-not (c .before .before .before .args .kind) listings k (is-listings (c .if3 .taken)) e)
     (λ c. λ k e. changes-not (c .before .before .before .before .args .kind) exportings k (is-exportings (c .if4 .taken)) e)
     (λ c. λ k e. changes-not (c .before .before .before .before .before .args .kind) checkings k (is-checkings (c .if5 .taken)) e)
-    (λ c. λ k e. changes-if (c .before .before .before .before .before .args .kind) k (c .before .before .before .before .if1 .left)
-    (c .before .before .before .if2 .left) (c .before .before .if3 .left) (c .before .if4 .left) (c .if5 .left) e))
+    (λ c. λ k e. changes-not (c .before .before .before .before .before .before .args .kind) batchings k (is-batchings (c .if6 .taken)) e)
+    (λ c. λ k e. changes-if (c .before .before .before .before .before .before .args .kind) k
+    (c .before .before .before .before .before .if1 .left) (c .before .before .before .before .if2 .left)
+    (c .before .before .before .if3 .left) (c .before .before .if4 .left) (c .before .if5 .left) (c .if6 .left) e))

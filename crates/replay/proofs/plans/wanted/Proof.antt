@@ -1,11 +1,11 @@
 -- `replay::plans::wanted` meets its contract, kind by kind.
-use Prim.Native.Nat.{ℕ}
+use Prim.Native.Nat.{ℕ, _*_, _/_}
 use mathlib.Core.Path.{refl, sym, ap, ap₂, _∙_}
 use native.Mathlib.Omega.{arith}
 use denote.Ref.{now}
-use Rattle.replay.specs.Script.{ownNumber, cursor, openings, addings, matchings, listings, checkings}
+use Rattle.replay.specs.Script.{ownNumber, cursor, openings, addings, matchings, listings, checkings, batchings}
 use Rattle.replay.proofs.OfKind.{is-openings, is-addings, is-matchings, is-listings, is-checkings, wanted-is, wanted-bytes}
-use Rattle.replay.proofs.OfKind.{wanted-not}
+use Rattle.replay.proofs.OfKind.{is-batchings, wanted-not}
 use Rattle.replay.proofs.plans.wanted.Statement.{statement}
 use Rattle.replay.proofs.plans.wanted.Tie as tie
 
@@ -64,18 +64,29 @@ returns-6 c = wanted-is _ (now (c .before .before .before .before .before .befor
     ∙ c .before .if6 .taken)) refl
 
 returns-7 : tie.Need-returns-7
-returns-7 c = wanted-not
-    (now (c .before .before .before .before .before .before .before .before .before .before .before .before .args .row)) _
-    (omega (
-      arith,
-      c .before .before .before .before .before .before .before .before .before .before .number .ensures,
-      c .before .if5 .left,
-      c .if6 .left,
-    ))
+returns-7 c =
+    let second-read = c .before .before .before .before .before .before .before .before .before .before .before in
+    let first-read = second-read .before .before in
+    let row = now (first-read .before .before .before .before .args .row) in
+    let first = first-read .places .ensures ∙ first-read .before .number2 .ensures in
+    let second = second-read .places2 .ensures ∙ second-read .before .number3 .ensures in
+    let third = c .before .even .ensures
+    ∙ ap (λ (n : ℕ). 2 * (n / 2)) (c .before .before .places4 .ensures ∙ c .before .before .before .number5 .ensures) in
+    wanted-is _ row _ batchings _ (c .size7 .ensures) (is-batchings (sym (first-read .before .before .number .ensures)
+    ∙ c .before .before .before .before .if7 .taken))
+    (ap₂ (λ (x : ℕ) (y : ℕ). cursor x y 0 (c .before .even .result)) first second
+    ∙ ap (λ (z : ℕ). cursor (ownNumber row 0) (ownNumber row 1) 0 z) third)
+
+returns-8 : tie.Need-returns-8
+returns-8 c =
+    let asked = c .before .before .before .before .before .before .before .before .before .before .before in
+    wanted-not (now (asked .before .before .args .row)) _
+    (omega (arith, asked .number .ensures, c .before .before .if5 .left, c .before .if6 .left, c .if7 .left))
 
 pub wanted-spec : {M : Type 1} → statement M
 wanted-spec =
     tie.close
     (tie.spec
     (λ c κs. tt) (λ c κs. tt) (λ c κs. tt) (λ c κs. tt) (λ c κs. tt) (λ c κs. tt) returns (λ c κs. tt) returns-2 (λ c κs. tt) returns-3
-    (λ c κs. tt) (λ c κs. tt) (λ c κs. tt) returns-4 (λ c κs. tt) returns-5 (λ c κs. tt) returns-6 returns-7)
+    (λ c κs. tt) (λ c κs. tt) (λ c κs. tt) returns-4 (λ c κs. tt) returns-5 (λ c κs. tt) returns-6
+    (λ c κs. tt) (λ c κs. tt) (λ c κs. tt) (λ c κs. tt) returns-7 returns-8)

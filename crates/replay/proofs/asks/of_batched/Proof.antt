@@ -1,0 +1,16 @@
+-- `replay::asks::of_batched` meets its contract, arm by arm.
+use borrow.Author.Needs.{needs}
+use Rattle.batching.specs.Answered.{answerBy}
+use Rattle.calls.specs.Numbers.{codeOf, resultValues, valuesOf, laid}
+use Rattle.replay.specs.Numbers.{replyRow}
+use Rattle.replay.proofs.asks.of_batched.Statement.{statement}
+use Rattle.replay.proofs.asks.of_batched.Tie as tie
+
+pub of-batched-spec : {M : Type 1} → statement M
+unfolding replyRow codeOf valuesOf resultValues laid answerBy
+of-batched-spec =
+    tie.close
+    (tie.spec
+    (λ c. search needs) (λ c. search needs) (λ c κs. search needs)
+    (λ c. λ records trail. rw (c .before .answer .given .1))
+    (λ c. λ records trail. rw (c .before .before .answer2 .given .1) (c .of-refusal .ensures)))

@@ -3,8 +3,8 @@
  * The functions of target/staticlib/liblibrary_c.a, which `rt staticlib library_c` writes. They are proved: for every input that the rules
  * below allow, a call stays inside the memory it is lent, never overflows and ends, and it answers and leaves exactly what documents 01 and
  * 02 say. None of them keeps anything between calls, allocates, or calls anything but memcpy and memset. On x86-64 adding, reading a sheet
- * and importing a recording take less than 96 KiB of stack, checking tables less than 64 KiB, every other call less than 16 KiB (measured,
- * not proved).
+ * and importing a recording take less than 96 KiB of stack, checking tables less than 64 KiB, a batch less than 32 KiB, every other call
+ * less than 16 KiB (measured, not proved).
  *
  * A TRACE is n signed 16-bit samples. A library keeps up to c traces, numbered from 0 as they are added.
  *

@@ -29,8 +29,8 @@
  *
  * SEVERAL AT ONCE. A slice that a call takes as const may be lent to other calls at the same time. So several threads or cores may match
  * over the same tables at once (silkendoz_nearest, silkendoz_k_nearest, silkendoz_match_batch), each with work, trail, list and out of its
- * own: a copy of `struct silkendoz_tables` with another `work` is all it takes (tests/threads.c). Opening, adding and reading a sheet write
- * the tables: let nobody else touch them until the call is back.
+ * own: a copy of `struct silkendoz_tables` with another `work` is all it takes (tests/threads.c). Opening, adding, reading a sheet and
+ * importing a recording write the tables: let nobody else touch them until the call is back.
  *
  * COMMON SLIPS, none of which a call can notice:
  *
@@ -62,8 +62,8 @@
  *
  * If `out` has fewer places, the first values are written and the others are left out. SILKENDOZ_OUT places are enough for every call.
  *
- * REFUSALS. A refused call leaves every table, the trail, the list, the sheet, the buffer and all of `out` behind its first place as they
- * were. The place is 0, but for a torn block, where it is the first block at fault. The numbers are tested in this order: 1; a control
+ * REFUSALS. A refused call leaves every table, the trail, the list, the answers, the sheet, the buffer and all of `out` behind its first
+ * place as they were. The place is 0, but for a torn block, where it is the first block at fault. The numbers are tested in this order: 1; a control
  * record too short (2); its measures (3); other tables (2); the rest of 3; 11, 12 or 14, directly behind 3; then 4 to 8; 13. Reading a sheet:
  * 8; 9 over all blocks; 10; 2.
  */
@@ -154,6 +154,7 @@ uint64_t silkendoz_add(
 
 /* Finds the stored trace that is nearest to a query of n samples: the least sum of squared differences, the lowest number among equals. The trail begins
  * with the numbers of the leaves read, in order; its places behind them stay. The needed part of `work` is left zero, whatever it held.
+ * Of well-formed tables with loose records, which silkendoz_check_tables refuses, it is the nearest of the traces in the leaves read.
  * Refuses 2, 3, 4, 6, 7. */
 uint64_t silkendoz_nearest(
     const uint16_t *control, size_t control_len,
@@ -168,7 +169,8 @@ uint64_t silkendoz_nearest(
 /* Lists the k stored traces, k from 1 to 16, that are nearest to a query of n samples: by distance, then by number. The list takes two
  * places for each, the trace's number and its distance (struct silkendoz_neighbour, below); list_len counts places, and 2 * k are needed
  * however few traces are stored. A library of fewer than k traces lists all it has, and out[2] says how many these are. Places behind
- * them stay. Trail and `work` are left as by silkendoz_nearest, whose answer is the first of the list. Refuses 2, 3, 11, 4, 6, 7. */
+ * them stay. Trail and `work` are left as by a search that reads until no bound is within the k-th distance. Of tables that calls made, or
+ * that silkendoz_check_tables accepted, these are the k nearest, and the first is silkendoz_nearest's answer. Refuses 2, 3, 11, 4, 6, 7. */
 uint64_t silkendoz_k_nearest(
     const uint16_t *control, size_t control_len,
     const int16_t *samples, size_t samples_len,
@@ -237,8 +239,9 @@ uint64_t silkendoz_export_recording(
     uint64_t *out, size_t out_len);
 
 /* Whether tables that nobody vouches for may be trusted: recomputes every node's least and greatest sums and scatters from the samples of
- * the traces below it, by the leaves' lists, and compares them. If it gives 0, silkendoz_nearest and silkendoz_k_nearest answer the nearest
- * stored traces and read the fewest leaves, whatever made the tables; and it still gives 0 after any calls that follow. It gives 0 for every
+ * the traces below it, by the leaves' lists, and compares them. If it gives 0, silkendoz_nearest, silkendoz_k_nearest and
+ * silkendoz_match_batch answer the nearest stored traces and read the fewest leaves, whatever made the tables; and it still gives 0 after
+ * any calls that follow. It gives 0 for every
  * library that calls made, an empty one too. A range that is wider than it need be is loose (13) as well as one that is too narrow. What it
  * does not see: a sample that changed, where the figures that a node records stayed as they were, or changed with it; thresholds of tests,
  * by which adding goes; places that hold nothing of the library. It reads every stored sample, at most 16 times, so it takes as long as one

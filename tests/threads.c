@@ -1,4 +1,5 @@
-/* Several matches at once over the same tables: each thread has work, trail, list and out of its own, and the tables are only read.
+/* Several searches at once over the same tables, matches, lists and batches: each thread has work, trail, list, answers and out of its own,
+ * and the tables are only read.
  * Prints one line, and fails at the first difference. */
 
 #include "silkendoz.h"
@@ -8,7 +9,7 @@
 #include <stdlib.h>
 #include <string.h>
 
-enum { N = 32, C = 400, LEAF_SIZE = 4, THREADS = 8, QUERIES = 300, K = 5 };
+enum { N = 32, C = 400, LEAF_SIZE = 4, THREADS = 8, QUERIES = 300, K = 5, MANY = 2 };
 
 static uint16_t control[SILKENDOZ_CONTROL];
 static int16_t samples[SILKENDOZ_SAMPLES(N, C)];
@@ -20,7 +21,8 @@ struct own {
     uint64_t work[SILKENDOZ_WORK(C)];
     uint16_t trail[SILKENDOZ_TRAIL(C)];
     struct silkendoz_neighbour list[K];
-    uint64_t match[SILKENDOZ_OUT], listing[SILKENDOZ_OUT];
+    struct silkendoz_answer answers[MANY];
+    uint64_t match[SILKENDOZ_OUT], listing[SILKENDOZ_OUT], batch[SILKENDOZ_OUT];
 };
 
 static int16_t queries[QUERIES][N];
@@ -40,13 +42,22 @@ static struct silkendoz_tables with(uint64_t *work)
     return t;
 }
 
-/* A match, and a list that writes its trail over the match's. Gives back whether both were done. */
+/* A match, a list that writes its trail over the match's, and a batch of the query and its mirror image, over the list's. Gives back whether
+ * all were done. */
 static int search(struct own *own, const int16_t *query)
 {
     struct silkendoz_tables t = with(own->work);
+    int16_t both[MANY * N];
+    size_t i;
+    for (i = 0; i < N; i++) {
+        both[i] = query[i];
+        both[N + i] = query[N - 1 - i];
+    }
     memset(own, 0, sizeof *own);
     return silkendoz_nearest_in(&t, own->trail, SILKENDOZ_TRAIL(C), query, N, own->match, SILKENDOZ_OUT) == SILKENDOZ_DONE
         && silkendoz_k_nearest_in(&t, own->trail, SILKENDOZ_TRAIL(C), own->list, K, query, N, K, own->listing, SILKENDOZ_OUT)
+            == SILKENDOZ_DONE
+        && silkendoz_match_batch_in(&t, own->trail, SILKENDOZ_TRAIL(C), both, MANY * N, MANY, own->answers, MANY, own->batch, SILKENDOZ_OUT)
             == SILKENDOZ_DONE;
 }
 
@@ -109,6 +120,6 @@ int main(void)
             stop("another answer than alone");
     if (memcmp(kept, samples, sizeof samples) != 0)
         stop("the tables changed");
-    printf("C: %d searches by each of %d threads at once, as alone\n", 2 * QUERIES, THREADS);
+    printf("C: %d searches by each of %d threads at once, as alone\n", 3 * QUERIES, THREADS);
     return 0;
 }

@@ -35,9 +35,9 @@ use Rattle.dstree.specs.Measures.{Trace, Measures, measures, sampleLimit
 use Rattle.dstree.specs.Node.{bySum, byScatter, leaf, inner, node, Tree}
 use Rattle.dstree.specs.Adding.{treeOf}
 use Rattle.dstree.specs.Matching.{bound, Match, matchBySteps, matchOf}
-use Rattle.dstree.specs.WellFormed.{wellFormed}
+use Rattle.dstree.specs.WellFormed.{wellFormedTree}
 use Rattle.dstree.specs.Sheet.{sheetOf, Judged, holds, judgeSheet}
-use Rattle.dstree.specs.Examples.{found}
+use Rattle.dstree.specs.Examples.{matchWith}
 use Rattle.dstree.proofs.Notation.{+, −, seg, test}
 use Rattle.dstree.proofs.Everything.{everything}
 
@@ -53,7 +53,7 @@ pub record Case : Type 0 where
   pub match : Match
 
 -- what the definitions say of a library and a query
-pub record Outcome : Type 0 where
+pub record CaseOutcome : Type 0 where
   pub tree : Tree
   pub bounds : List ℕ
   pub match : Match
@@ -63,19 +63,19 @@ pub record Outcome : Type 0 where
   pub sheet : Judged
 
 -- computed: the tree from the traces alone, all else on the tree that is given
-abbrev pub computed : Case → Outcome
+abbrev pub computed : Case → CaseOutcome
 computed c = record {
   tree = treeOf (c .measures) (c .traces);
   bounds = map (bound (c .tree) (c .query)) (counting (length (c .tree)) 0);
   match = matchOf (c .traces) (c .tree) (c .query);
   steps = matchBySteps (c .traces) (c .tree) (c .query);
-  sound = wellFormed sampleLimit (c .measures) (length (c .traces)) (c .tree);
+  sound = wellFormedTree sampleLimit (c .measures) (length (c .traces)) (c .tree);
   library = isLibrary sampleLimit (c .measures) (c .traces);
   sheet = judgeSheet (sheetOf (c .measures) (c .traces));
 }
 
 -- expected: the given tree, bounds and match, the match by its steps too; well-formed tables of a library, whose sheet reads back
-abbrev pub expected : Case → Outcome
+abbrev pub expected : Case → CaseOutcome
 expected c = record {
   tree = c .tree;
   bounds = c .bounds;
@@ -101,23 +101,23 @@ cases-agree = refl
 
 -- ---- without a query: a library, and the tree that the other implementation makes of it
 
-pub record Grown : Type 0 where
+pub record GrownCase : Type 0 where
   pub measures : Measures
   pub traces : List Trace
   pub tree : Tree
 
-abbrev pub grownCases : List Grown
+abbrev pub grownCases : List GrownCase
 grownCases =
 """
 
 TAIL = """\
     ∷ []
 
-pub grown-agree : map (λ (c : Grown). treeOf (c .measures) (c .traces)) grownCases ≡ map (λ (c : Grown). c .tree) grownCases
+pub grown-agree : map (λ (c : GrownCase). treeOf (c .measures) (c .traces)) grownCases ≡ map (λ (c : GrownCase). c .tree) grownCases
 unfolding everything
 grown-agree = refl
 
-pub grown-formed : map (λ (c : Grown). wellFormed sampleLimit (c .measures) (length (c .traces)) (c .tree)) grownCases ≡ map (λ (c : Grown). true) grownCases
+pub grown-formed : map (λ (c : GrownCase). wellFormedTree sampleLimit (c .measures) (length (c .traces)) (c .tree)) grownCases ≡ map (λ (c : GrownCase). true) grownCases
 unfolding everything
 grown-formed = refl
 """
@@ -224,7 +224,7 @@ def case(name, lines):
     yield f"      ∷ [];"
     if query is not None:
         yield f"  bounds = {listed(bounds)};"
-        yield f"  match = found {' '.join(match[:4])} ({listed(numbers(match[4]))});"
+        yield f"  match = matchWith {' '.join(match[:4])} ({listed(numbers(match[4]))});"
     yield "}"
 
 

@@ -5,6 +5,6 @@ use Rattle.adding.specs.declared.Added.{Added}
 use Rattle.adding.specs.declared.Added.the-variants as a
 
 -- "Adding .. answers the trace's number"
-unfoldable pub answerOf : Added → Answer
-answerOf (a.At number) = answering (added number)
-answerOf (a.Refused why) = refusing (wordOf why)
+unfoldable pub answerBy : Added → Answer
+answerBy (a.At number) = answering (added number)
+answerBy (a.Refused why) = refusing (wordOf why)

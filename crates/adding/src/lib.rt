@@ -15,7 +15,7 @@ ghost use Rattle.dstree.specs.Book.{adding};
 ghost use Rattle.tables.specs.Tables.{tables};
 ghost use Rattle.calls.specs.Outcome.{outcome};
 ghost use Rattle.calls.specs.Effects.{outcomeOn};
-ghost use Rattle.adding.specs.Answered.{answerOf};
+ghost use Rattle.adding.specs.Answered.{answerBy};
 
 // The number of the trace, from 0, or a refusal.
 pub enum Added {
@@ -35,7 +35,7 @@ pub fn add(
     work: &[u64],
     trace: &[i16],
 ) -> Added
-    ensures { λ r. ⌜ outcome (answerOf r)
+    ensures { λ r. ⌜ outcome (answerBy r)
         (tables (now (control .exit)) (now (samples .exit)) (now (nodes .exit)) (now (links .exit)) (now (work .entry)))
         []
         ≡ outcomeOn (adding (now (trace .entry)))

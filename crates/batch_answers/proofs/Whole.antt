@@ -16,22 +16,22 @@ use Rattle.tables.specs.Tables.{Tables}
 use Rattle.reading.specs.Listed.{recordAt, nearsIn}
 use Rattle.calls.specs.Outcome.{outcome}
 use Rattle.calls.specs.Effects.{outcomeOn}
-use Rattle.batching.specs.Answered.{answerBy, recordOf, listBy, listAfter}
-use Rattle.batching.specs.declared.Answer.{Answer}
-use Rattle.batching.specs.declared.Found.{Found}
-use Rattle.batching.specs.declared.Outcome.{Outcome}
-use Rattle.batch_answers.specs.Over.{written}
-use Rattle.batch_answers.specs.Answers.{Stored, stored, storeIf, storeOf, asNear, nearsOf}
+use Rattle.batching.specs.Answered.{answerBy, answerAt, listBy, listAfter}
+use Rattle.batching.specs.declared.AnswerRecord.{AnswerRecord}
+use Rattle.batching.specs.declared.BatchFound.{BatchFound}
+use Rattle.batching.specs.declared.Batched.{Batched}
+use Rattle.batch_answers.specs.Over.{withFirstValues}
+use Rattle.batch_answers.specs.AnswerRecords.{StoreOutcome, storeOutcome, storeIf, storeOf, asNear, nearsOf}
 use Rattle.batch_answers.proofs.Over.{over-all}
 
 -- ---- what the test of `store` leads to
 
-module _ (found : Found) (list : List Answer) where
-  pub left-alone : (length list ≡ found .count → ⊥) → stored false list ≡ storeOf found list
+module _ (found : BatchFound) (list : List AnswerRecord) where
+  pub left-alone : (length list ≡ found .count → ⊥) → storeOutcome false list ≡ storeOf found list
   unfolding storeOf
   left-alone other = rw (ne-eqb (length list) (found .count) other)
 
-  pub all-stored : length list ≡ found .count → stored true (written (recordOf found) (length list) list) ≡ storeOf found list
+  pub all-stored : length list ≡ found .count → storeOutcome true (withFirstValues (answerAt found) (length list) list) ≡ storeOf found list
   unfolding storeOf
   all-stored same = rw (eq-eqb (length list) (found .count) same, same)
 
@@ -41,7 +41,7 @@ map-map : {A B C : Type 0} (f : B → C) (g : A → B) (h : A → C) → ((a : A
 map-map f g h e [] = refl
 map-map f g h e (a ∷ l) = rw (e a, map-map f g h e l)
 
-list-stored : (found : Found) (list : List Answer) → nearsOf (storeOf found list .list) ≡ listAfter found (nearsOf list)
+list-stored : (found : BatchFound) (list : List AnswerRecord) → nearsOf (storeOf found list .list) ≡ listAfter found (nearsOf list)
 unfolding storeOf listBy nearsIn
 list-stored found list = rw (length-map list asNear) (by (eqb (length list) (found .count)) refl)
   where
@@ -49,19 +49,20 @@ list-stored found list = rw (length-map list asNear) (by (eqb (length list) (fou
         → nearsOf (storeIf b found list .list) ≡ (if b then map (recordAt (found .bests)) (counting (found .count) 0) else nearsOf list)
     by false e = refl
     by true e =
-        ap nearsOf (over-all (recordOf found) list (found .count) (omega (arith, eqb-true (length list) (found .count) e)))
-        ∙ map-map asNear (recordOf found) (recordAt (found .bests)) (λ i. refl) (counting (found .count) 0)
+        ap nearsOf (over-all (answerAt found) list (found .count) (omega (arith, eqb-true (length list) (found .count) e)))
+        ∙ map-map asNear (answerAt found) (recordAt (found .bests)) (λ i. refl) (counting (found .count) 0)
 
 -- ---- the whole call
 
-module _ (before after : Tables) (many : ℕ) (run : Trace) (trail trail′ : List ℕ) (list list′ : List Answer) (found : Found) (done : Bool)
-    (r : Outcome) where
+module _ (before after : Tables) (many : ℕ) (run : Trace) (trail trail′ : List ℕ) (list list′ : List AnswerRecord) (found : BatchFound)
+    (done : Bool)
+    (r : Batched) where
   pub whole : ((l : List Near) → length l ≡ length list
       → outcome (answerBy (found .outcome) (listAfter found l) trail′) after (trail′ ∷ listPlaces (listAfter found l) ∷ [])
       ≡ outcomeOn (book.batching many run trail l) before)
-      → stored done list′ ≡ storeOf found list → r ≡ found .outcome
+      → storeOutcome done list′ ≡ storeOf found list → r ≡ found .outcome
       → outcome (answerBy r (nearsOf list′) trail′) after (trail′ ∷ listPlaces (nearsOf list′) ∷ [])
       ≡ outcomeOn (book.batching many run trail (nearsOf list)) before
   whole c s e =
-      let l : nearsOf list′ ≡ listAfter found (nearsOf list) = ap (λ (x : Stored). nearsOf (x .list)) s ∙ list-stored found list in
+      let l : nearsOf list′ ≡ listAfter found (nearsOf list) = ap (λ (x : StoreOutcome). nearsOf (x .list)) s ∙ list-stored found list in
       rw (e, l) (c (nearsOf list) (length-map list asNear))

@@ -1,3 +1,3 @@
 -- What storing a batch's records leaves, and the whole call.
 pub mod Over
-pub mod Answers
+pub mod AnswerRecords

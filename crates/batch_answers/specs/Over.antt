@@ -5,10 +5,10 @@ use lib.ListN.{drop}
 
 module _ {A : Type 0} (f : ℕ → A) where
   -- f 0, f 1, .., k of them
-  unfoldable pub listed : ℕ → List A
-  listed zero = []
-  listed (suc k) = listed k ++ f k ∷ []
+  unfoldable pub firstValues : ℕ → List A
+  firstValues zero = []
+  firstValues (suc k) = firstValues k ++ f k ∷ []
 
   -- the first k places hold these, the others stay
-  unfoldable pub written : ℕ → List A → List A
-  written k list = listed k ++ drop k list
+  unfoldable pub withFirstValues : ℕ → List A → List A
+  withFirstValues k list = firstValues k ++ drop k list

@@ -1,9 +1,9 @@
 // One answer record for each query of a batch, stored in the caller's list, a lent slice of structs. The borrow checker covers no function
 // that is lent one: each here is proved by a walk of its MIR, and so there are few, and they do little.
 
-use batching::Answer;
-use batching::Found;
-use batching::Outcome;
+use batching::AnswerRecord;
+use batching::BatchFound;
+use batching::Batched;
 ghost use mathlib.Core.Path.{_≡_};
 ghost use mathlib.Core.List.{[], _∷_};
 ghost use Rattle.dstree.specs.KNearest.{listPlaces};
@@ -12,21 +12,21 @@ ghost use Rattle.tables.specs.Tables.{tables};
 ghost use Rattle.calls.specs.Outcome.{outcome};
 ghost use Rattle.calls.specs.Effects.{outcomeOn};
 ghost use Rattle.batching.specs.Answered.{answerBy};
-ghost use Rattle.batch_answers.specs.Answers.{stored, storeOf, nearsOf};
+ghost use Rattle.batch_answers.specs.AnswerRecords.{storeOutcome, storeOf, nearsOf};
 
 // Stores the records of a batch, if the list has a place for each query and no more. Says whether it did.
 //
 // Two wrong programs that the contract rules out: one that stores each record a place later, and one that stores records into a list of
 // another length.
-pub fn store(found: Found, answers: &mut [Answer]) -> bool
-    ensures { λ r. ⌜ stored r (now (answers .exit)) ≡ storeOf found (now (answers .entry)) ⌝ }
+pub fn store(found: BatchFound, answers: &mut [AnswerRecord]) -> bool
+    ensures { λ r. ⌜ storeOutcome r (now (answers .exit)) ≡ storeOf found (now (answers .entry)) ⌝ }
 {
     if answers.len() != found.count {
         return false;
     }
     let mut i: usize = 0;
     while i < answers.len() {
-        answers[i] = batching::record_at(found, i);
+        answers[i] = batching::answer_at(found, i);
         i += 1;
     }
     true
@@ -46,8 +46,8 @@ pub fn match_batch(
     trail: &mut [u16],
     queries: &[i16],
     many: usize,
-    answers: &mut [Answer],
-) -> Outcome
+    answers: &mut [AnswerRecord],
+) -> Batched
     ensures { λ r. ⌜ outcome (answerBy r (nearsOf (now (answers .exit))) (now (trail .exit)))
         (tables (now (control .entry)) (now (samples .entry)) (now (nodes .entry)) (now (links .entry)) (now (work .exit)))
         (now (trail .exit) ∷ listPlaces (nearsOf (now (answers .exit))) ∷ [])

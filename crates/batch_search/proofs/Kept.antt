@@ -20,8 +20,8 @@ use Rattle.tables.specs.View.{smallAt, treeIn, tracesIn}
 use Rattle.tables.specs.Walk.{numbersOf}
 use Rattle.reading.specs.Nearest.{nearOf}
 use Rattle.reading.specs.Listed.{recordAt}
-use Rattle.reading.proofs.Meaning.{LeafAt, distances-are}
-use Rattle.batch_search.specs.Batched.{queryAt, bestBy, isMarked, Keeps, AllRead}
+use Rattle.reading.proofs.Meaning.{LeafInTables, distances-are}
+use Rattle.batch_search.specs.Batched.{queryAt, bestBy, isMarked, BestsAndMarks, AllRead}
 
 -- a leaf that was read is passed over, another is read
 once-is : (read : List ℕ) (j : ℕ) (b : Bool) → isIn j read ≡ b → readOnce read j ≡ (if b then read else read ++ (j ∷ []))
@@ -36,11 +36,11 @@ in-other read j k f = same-in k (read ++ (j ∷ [])) read (λ i. by (in-snoc rea
     by (inl i) = i
     by (inr e) = absurd (f e)
 
-module _ (t : Tables) (run : Trace) (many j : ℕ) (at : LeafAt t j) {read bests marks : List ℕ} {seen : ℕ}
-    (k : Keeps t run many read bests marks seen) where
-  pub once-old : isMarked marks j ≡ true → Keeps t run many (readOnce read j) bests marks seen
+module _ (t : Tables) (run : Trace) (many j : ℕ) (at : LeafInTables t j) {read bests marks : List ℕ} {seen : ℕ}
+    (k : BestsAndMarks t run many read bests marks seen) where
+  pub once-old : isMarked marks j ≡ true → BestsAndMarks t run many (readOnce read j) bests marks seen
   once-old e =
-      subst (λ (l : List ℕ). Keeps t run many l bests marks seen)
+      subst (λ (l : List ℕ). BestsAndMarks t run many l bests marks seen)
       (sym (once-is read j true (sym (k .mark-is j (at .inside)) ∙ e))) k
 
   marks-more : j < length marks → (i : ℕ) → i < nodeCount t → isMarked (set marks j 1) i ≡ isIn i (read ++ (j ∷ []))
@@ -70,8 +70,8 @@ module _ (t : Tables) (run : Trace) (many j : ℕ) (at : LeafAt t j) {read bests
         ∙ ap (λ (o : Option Near). foldl bestWith o D) (k .best-is i h)
         ∙ sym (best-more (tracesIn t) (treeIn t) query read j)
 
-    pub once-new : isMarked marks j ≡ false → j < length marks → Keeps t run many (readOnce read j) bests′ (set marks j 1) 1
+    pub once-new : isMarked marks j ≡ false → j < length marks → BestsAndMarks t run many (readOnce read j) bests′ (set marks j 1) 1
     once-new e room =
-        subst (λ (l : List ℕ). Keeps t run many l bests′ (set marks j 1) 1)
+        subst (λ (l : List ℕ). BestsAndMarks t run many l bests′ (set marks j 1) 1)
         (sym (once-is read j false (sym (k .mark-is j (at .inside)) ∙ e)))
         (record { best-is = best-after; mark-is = marks-more room })

@@ -11,7 +11,7 @@ use borrow.Author.Tests.{eqb-true}
 use lib.Seq.{drop-set-lt, take-suc-set}
 use Rattle.integer.specs.Words.{if_then_else_, counting, those}
 use Rattle.integer.proofs.Lists.{drop-more}
-use Rattle.batch_search.specs.Batched.{isMarked, markedOf, Noted, Written}
+use Rattle.batch_search.specs.Batched.{isMarked, markedOf, Noted, TrailBegins}
 
 -- a mark is any number but 0
 pub marked-yes : (marks : List ℕ) (j : ℕ) → (getD marks j 0 ≡ 0 → ⊥) → isMarked marks j ≡ true
@@ -49,7 +49,7 @@ module _ (marks : List ℕ) (count : ℕ) where
       record { inside = omega arith; few = omega arith; all = e; as-many = omega (arith, ap length e); size = refl; rest = refl }
 
   module _ (trail₀ trail : List ℕ) (out j : ℕ) (m : Marking trail₀ trail out j) where
-    pub marking-end : count ≤ j → Written (markedOf marks count) out trail₀ trail
+    pub marking-end : count ≤ j → TrailBegins (markedOf marks count) out trail₀ trail
     unfolding counting those
     marking-end h =
         let e : count - j ≡ 0 = omega arith in

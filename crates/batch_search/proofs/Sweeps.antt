@@ -15,14 +15,14 @@ use Rattle.dstree.specs.Formed.{Shape}
 use Rattle.dstree.specs.Matching.{Near, leaves}
 use Rattle.dstree.specs.KNearest.{distancesAmong}
 use Rattle.dstree.specs.Sheet.{pieces}
-use Rattle.dstree.specs.Batch.{bestAmong, readFor, batchRead, answerBy, batchBySteps}
+use Rattle.dstree.specs.Batch.{bestAmong, readFor, batchRead, nearOrZero, batchBySteps}
 use Rattle.dstree.proofs.SheetPieces.{pieces-length, pieces-at, pieces-more}
 use Rattle.dstree.proofs.BatchSteps.{HasBest, has-best, batch-leaves, trail-counted}
 use Rattle.tables.specs.Tables.{Tables, measuresOf, nodeCount, filled}
 use Rattle.tables.specs.View.{treeIn, traceIn, tracesIn}
 use Rattle.tables.proofs.Views.{tree-size, traces-size, tree-formed}
 use Rattle.reading.specs.Listed.{recordAt, nearsIn}
-use Rattle.batch_search.specs.Batched.{Searchable, queryAt, queriesOf, bestBy, isMarked, Room, Keeps, Turns, markedOf, Written, batch}
+use Rattle.batch_search.specs.Batched.{Searchable, queryAt, queriesOf, bestBy, isMarked, BatchRoom, BestsAndMarks, Turns, markedOf, TrailBegins, batch}
 use Rattle.batch_search.specs.Batched.{BatchSearched}
 use Rattle.batch_search.proofs.Marks.{marked-no}
 
@@ -45,18 +45,18 @@ module _ (t : Tables) (run : Trace) (many : ℕ) where
 
   pub record Sweeping (bests₀ marks₀ bests marks : List ℕ) (i seen : ℕ) : Type 0 where
     pub inside : i ≤ many
-    pub room : Room t many bests marks seen
+    pub room : BatchRoom t many bests marks seen
     pub bests-size : length bests ≡ length bests₀
     pub marks-size : length marks ≡ length marks₀
-    pub keeps : Keeps t run many [] bests₀ marks₀ 0 → Keeps t run many (readBy i) bests marks seen
+    pub keeps : BestsAndMarks t run many [] bests₀ marks₀ 0 → BestsAndMarks t run many (readBy i) bests marks seen
 
-  pub sweeping-start : (bests marks : List ℕ) → Room t many bests marks 0 → Sweeping bests marks bests marks 0 0
+  pub sweeping-start : (bests marks : List ℕ) → BatchRoom t many bests marks 0 → Sweeping bests marks bests marks 0 0
   sweeping-start bests marks room = record {
     inside = omega arith;
     room = room;
     bests-size = refl;
     marks-size = refl;
-    keeps = λ k. subst (λ (l : List ℕ). Keeps t run many l bests marks 0) (sym read-none) k;
+    keeps = λ k. subst (λ (l : List ℕ). BestsAndMarks t run many l bests marks 0) (sym read-none) k;
   }
 
   module _ {bests₀ marks₀ bests marks : List ℕ} {i seen : ℕ} (s : Sweeping bests₀ marks₀ bests marks i seen) where
@@ -73,23 +73,23 @@ module _ (t : Tables) (run : Trace) (many : ℕ) where
       bests-size = size-b ∙ s .bests-size;
       marks-size = size-m ∙ s .marks-size;
       keeps = λ k.
-          subst (λ (l : List ℕ). Keeps t run many l bests′ marks′ seen′) (sym (ap readBy (add-one i) ∙ read-more i))
+          subst (λ (l : List ℕ). BestsAndMarks t run many l bests′ marks′ seen′) (sym (ap readBy (add-one i) ∙ read-more i))
           (turn (readBy i) (s .keeps k));
     }
 
-    pub sweeping-end : many ≤ i → Keeps t run many [] bests₀ marks₀ 0 → Keeps t run many (readBy many) bests marks seen
+    pub sweeping-end : many ≤ i → BestsAndMarks t run many [] bests₀ marks₀ 0 → BestsAndMarks t run many (readBy many) bests marks seen
     sweeping-end h k =
-        subst (λ (l : List ℕ). Keeps t run many l bests marks seen) (ap readBy (le-antisymm (s .inside) h)) (s .keeps k)
+        subst (λ (l : List ℕ). BestsAndMarks t run many l bests marks seen) (ap readBy (le-antisymm (s .inside) h)) (s .keeps k)
 
   -- ---- before the first query
 
-  pub keeps-none : (bests marks : List ℕ) → ((j : ℕ) → j < nodeCount t → getD marks j 0 ≡ 0) → Keeps t run many [] bests marks 0
+  pub keeps-none : (bests marks : List ℕ) → ((j : ℕ) → j < nodeCount t → getD marks j 0 ≡ 0) → BestsAndMarks t run many [] bests marks 0
   unfolding bestAmong distancesAmong flatten isIn
   keeps-none bests marks h = record { best-is = λ i g. refl; mark-is = λ j g. marked-no marks j (h j g) }
 
   -- ---- in the end
 
-  module _ (s : Searchable t run many) (bests marks : List ℕ) (seen : ℕ) (k : Keeps t run many (readBy many) bests marks seen) where
+  module _ (s : Searchable t run many) (bests marks : List ℕ) (seen : ℕ) (k : BestsAndMarks t run many (readBy many) bests marks seen) where
     abbrev read : List ℕ
     read = readBy many
 
@@ -118,21 +118,21 @@ module _ (t : Tables) (run : Trace) (many : ℕ) where
         (in-getD (queriesOf t run many) j [] (omega (arith, pieces-length (measuresOf t .n) many run)))
 
     answer : Trace → Near
-    answer query = answerBy (bestAmong (tracesIn t) (treeIn t) query read)
+    answer query = nearOrZero (bestAmong (tracesIn t) (treeIn t) query read)
 
     -- a record that is known to hold a best holds it
-    held : (seen : ℕ) (a b : Near) → bestBy seen a ≡ some b → a ≡ b
-    held zero a b e = let z : _≡_ {A = ℕ} 0 1 = cc in absurd (omega arith)
-    held (suc more) a b e = Option·some-injective a b e
+    is-best : (seen : ℕ) (a b : Near) → bestBy seen a ≡ some b → a ≡ b
+    is-best zero a b e = let z : _≡_ {A = ℕ} 0 1 = cc in absurd (omega arith)
+    is-best (suc more) a b e = Option·some-injective a b e
 
     record-is : (j : ℕ) → j < many → recordAt bests j ≡ answer (queryAt t run j)
-    unfolding answerBy answer
+    unfolding nearOrZero answer
     record-is j h =
         let b : HasBest (measuresOf t .n) (tracesIn t) (treeIn t) shape (omega (arith, traces-size t, s .some-trace)) (queriesOf t run many)
         (queryAt t run j) =
         has-best (measuresOf t .n) (tracesIn t) (treeIn t) shape (omega (arith, traces-size t, s .some-trace)) (queriesOf t run many)
         (queryAt t run j) (in-queries j h) in
-        held seen (recordAt bests j) (b .best) (k .best-is j h ∙ b .is) ∙ ap answerBy (sym (b .is))
+        is-best seen (recordAt bests j) (b .best) (k .best-is j h ∙ b .is) ∙ ap nearOrZero (sym (b .is))
 
     answers-are : nearsIn many bests ≡ map answer (queriesOf t run many)
     unfolding nearsIn
@@ -144,7 +144,7 @@ module _ (t : Tables) (run : Trace) (many : ℕ) where
         let g : j < many = omega (arith, h, long) in
         record-is j g ∙ ap answer (sym (query-at j g)) ∙ sym (List·getD-map answer (queriesOf t run many) j []))
 
-    pub batch-found : (work work′ trail trail′ : List ℕ) (out : ℕ) → Written (markedOf marks (nodeCount t)) out trail trail′
+    pub batch-found : (work work′ trail trail′ : List ℕ) (out : ℕ) → TrailBegins (markedOf marks (nodeCount t)) out trail trail′
         → length (leaves (treeIn t)) ≤ length trail → work′ ≡ filled (workNeeded (measuresOf t)) 0 work
         → BatchSearched t run many work work′ trail trail′ bests out
     unfolding batchBySteps answer

@@ -19,7 +19,7 @@ use Rattle.leaf_order.specs.Waits.{shapeIn, Waits, remaining, Begun}
 use Rattle.leaf_order.specs.Handed.{isPast, Past, HandedLeaf}
 use Rattle.search.proofs.Facts.{shape-alike}
 use Rattle.search.proofs.Turns.{read-next, read-end}
-use Rattle.batch_search.specs.Batched.{queryAt, bestBy, Room, Keeps, Turns}
+use Rattle.batch_search.specs.Batched.{queryAt, bestBy, BatchRoom, BestsAndMarks, Turns}
 
 -- the limit: the best's distance, once there is one
 past-is : (seen : ℕ) (a : Near) → seen ≤ 1 → (bound : ℕ) → isPast (eqb seen 1) (a .distance) bound ≡ isAbove bound (bestBy seen a)
@@ -39,21 +39,21 @@ module _ (t : Tables) (run : Trace) (many i : ℕ) where
   -- some leaves are read, and those to come are to be read on
   pub record Halfway (read₀ : List ℕ) (coming : List LeafBound) (bests marks : List ℕ) (seen : ℕ) : Type 0 where
     pub read : List ℕ
-    pub keeps : Keeps t run many read bests marks seen
+    pub keeps : BestsAndMarks t run many read bests marks seen
     pub goes-on : readOn stops readOnce read coming ≡ readFor (tracesIn t) (treeIn t) read₀ query
 
   -- the keys that wait stand for the leaves to come, whatever was read before
-  pub record State (tree : Tree) (bests₀ marks₀ : List ℕ) (seen₀ : ℕ) (work bests marks : List ℕ) (waiting seen : ℕ) : Type 0 where
+  pub record BatchState (tree : Tree) (bests₀ marks₀ : List ℕ) (seen₀ : ℕ) (work bests marks : List ℕ) (waiting seen : ℕ) : Type 0 where
     pub waits : Waits tree query waiting work
-    pub room : Room t many bests marks seen
+    pub room : BatchRoom t many bests marks seen
     pub bests-size : length bests ≡ length bests₀
     pub marks-size : length marks ≡ length marks₀
-    pub halfway : (read₀ : List ℕ) → Keeps t run many read₀ bests₀ marks₀ seen₀
+    pub halfway : (read₀ : List ℕ) → BestsAndMarks t run many read₀ bests₀ marks₀ seen₀
         → Halfway read₀ (remaining tree query waiting work) bests marks seen
 
   -- all leaves are to come
   pub state-start : (m : ℕ) → m ≡ nodeCount t → (work bests marks : List ℕ) (seen : ℕ) → Begun (shapeIn (t .nodes) m) query work
-      → Room t many bests marks seen → State (shapeIn (t .nodes) m) bests marks seen work bests marks 1 seen
+      → BatchRoom t many bests marks seen → BatchState (shapeIn (t .nodes) m) bests marks seen work bests marks 1 seen
   unfolding readFor
   state-start m e work bests marks seen b room =
       let order : remaining (shapeIn (t .nodes) m) query 1 work ≡ readingOrder (treeIn t) query =
@@ -67,14 +67,15 @@ module _ (t : Tables) (run : Trace) (many i : ℕ) where
       }
 
   module _ (inside : i < many) {tree : Tree} {bests₀ marks₀ : List ℕ} {seen₀ : ℕ} {work bests marks : List ℕ} {waiting seen : ℕ}
-      (s : State tree bests₀ marks₀ seen₀ work bests marks waiting seen) where
+      (s : BatchState tree bests₀ marks₀ seen₀ work bests marks waiting seen) where
     abbrev limited : Bool
     limited = eqb seen 1
 
     abbrev limit : ℕ
     limit = recordAt bests i .distance
 
-    stops-as : {read : List ℕ} → Keeps t run many read bests marks seen → (bound : ℕ) → isPast limited limit bound ≡ stops read bound
+    stops-as : {read : List ℕ} → BestsAndMarks t run many read bests marks seen → (bound : ℕ)
+        → isPast limited limit bound ≡ stops read bound
     stops-as k bound = past-is seen (recordAt bests i) (s .room .seen-few) bound ∙ ap (isAbove bound) (k .best-is i inside)
 
     -- no leaf to come is within the query's best
@@ -84,7 +85,7 @@ module _ (t : Tables) (run : Trace) (many i : ℕ) where
         let h = s .halfway read₀ k in
         let e : h .read ≡ readFor (tracesIn t) (treeIn t) read₀ query =
         sym (read-end stops readOnce (h .read) (all-mono (λ a p. sym (stops-as (h .keeps) (a .bound)) ∙ p) past)) ∙ h .goes-on in
-        subst (λ (l : List ℕ). Keeps t run many l bests marks seen) e (h .keeps)
+        subst (λ (l : List ℕ). BestsAndMarks t run many l bests marks seen) e (h .keeps)
 
     module _ {work′ : List ℕ} {bound j left : ℕ} (x : HandedLeaf tree query limited limit waiting work work′ bound j left) where
       pub leaf-less : length (remaining tree query left work′) < length (remaining tree query waiting work)
@@ -94,7 +95,7 @@ module _ (t : Tables) (run : Trace) (many i : ℕ) where
       pub state-leaf : (bests′ marks′ : List ℕ) (seen′ : ℕ)
           → Turns t run many (λ read. readOnce read j) bests marks seen bests′ marks′ seen′ → seen′ ≤ 1
           → length bests′ ≡ length bests → length marks′ ≡ length marks
-          → State tree bests₀ marks₀ seen₀ work′ bests′ marks′ left seen′
+          → BatchState tree bests₀ marks₀ seen₀ work′ bests′ marks′ left seen′
       state-leaf bests′ marks′ seen′ turn few size-b size-m = record {
         waits = x .waits;
         room = record {

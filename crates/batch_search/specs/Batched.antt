@@ -46,7 +46,7 @@ bestBy zero a = none
 bestBy (suc more) a = some a
 
 -- room for a record of each query, two places each, and for a mark of each node; `seen` is 1 once a leaf was read, before that 0
-pub record Room (t : Tables) (many : ℕ) (bests marks : List ℕ) (seen : ℕ) : Type 0 where
+pub record BatchRoom (t : Tables) (many : ℕ) (bests marks : List ℕ) (seen : ℕ) : Type 0 where
   pub bests-long : 2 * many ≤ length bests
   pub marks-long : nodeCount t ≤ length marks
   pub seen-few : seen ≤ 1
@@ -56,14 +56,14 @@ abbrev pub isMarked : List ℕ → ℕ → Bool
 isMarked marks j = not (eqb (getD marks j 0) 0)
 
 -- with these leaves read: each query's best of the traces in them, and a mark for each of them
-pub record Keeps (t : Tables) (run : Trace) (many : ℕ) (read bests marks : List ℕ) (seen : ℕ) : Type 0 where
+pub record BestsAndMarks (t : Tables) (run : Trace) (many : ℕ) (read bests marks : List ℕ) (seen : ℕ) : Type 0 where
   pub best-is : (i : ℕ) → i < many → bestBy seen (recordAt bests i) ≡ bestAmong (tracesIn t) (treeIn t) (queryAt t run i) read
   pub mark-is : (j : ℕ) → j < nodeCount t → isMarked marks j ≡ isIn j read
 
 -- a function that makes these leaves of those read before, whatever they were
 abbrev pub Turns : Tables → Trace → ℕ → (List ℕ → List ℕ) → List ℕ → List ℕ → ℕ → List ℕ → List ℕ → ℕ → Type 0
 Turns t run many reads bests marks seen bests′ marks′ seen′ =
-    (read : List ℕ) → Keeps t run many read bests marks seen → Keeps t run many (reads read) bests′ marks′ seen′
+    (read : List ℕ) → BestsAndMarks t run many read bests marks seen → BestsAndMarks t run many (reads read) bests′ marks′ seen′
 
 -- ---- a leaf
 
@@ -89,7 +89,7 @@ Noted true j out out′ trail trail′ = (out′ ≡ out + 1) × (trail′ ≡ s
 Noted false j out out′ trail trail′ = (out′ ≡ out) × (trail′ ≡ trail)
 
 -- these numbers, written to the trail's beginning; its other places stay
-pub record Written (numbers : List ℕ) (out : ℕ) (trail trail′ : List ℕ) : Type 0 where
+pub record TrailBegins (numbers : List ℕ) (out : ℕ) (trail trail′ : List ℕ) : Type 0 where
   pub are : take out trail′ ≡ numbers
   pub as-many : out ≡ length numbers
   pub rest : drop out trail′ ≡ drop out trail

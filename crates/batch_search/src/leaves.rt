@@ -14,8 +14,8 @@ ghost use Rattle.tables.specs.Tables.{nodeCount, recordOf};
 ghost use Rattle.tables.specs.View.{smallAt, traceIn};
 ghost use Rattle.tables.specs.Walk.{numbersOf, Stored};
 ghost use Rattle.reading.specs.Nearest.{nearOf};
-ghost use Rattle.search.specs.Searched.{made};
-ghost use Rattle.batch_search.specs.Batched.{Searchable, Room, Turns, OneRead, AllRead};
+ghost use Rattle.search.specs.Searched.{withoutWork};
+ghost use Rattle.batch_search.specs.Batched.{Searchable, BatchRoom, Turns, OneRead, AllRead};
 
 // The leaf whose list starts at `head`, for one query, whose record is record i. Nothing was read before where `seen` is 0.
 fn read_for(
@@ -86,11 +86,11 @@ pub fn read_once(
     marks: &mut [u8],
     seen: usize,
 ) -> usize
-    requires { ⌜ Searchable (made (now control) (now samples) (now nodes) (now links)) (now queries) many
-        × Room (made (now control) (now samples) (now nodes) (now links)) many (now bests) (now marks) seen ⌝ }
-    requires leaf { ⌜ (j < nodeCount (made (now control) (now samples) (now nodes) (now links)))
+    requires { ⌜ Searchable (withoutWork (now control) (now samples) (now nodes) (now links)) (now queries) many
+        × BatchRoom (withoutWork (now control) (now samples) (now nodes) (now links)) many (now bests) (now marks) seen ⌝ }
+    requires leaf { ⌜ (j < nodeCount (withoutWork (now control) (now samples) (now nodes) (now links)))
         × (smallAt (recordOf (now nodes) j) kindPlace ≡ 0) ⌝ }
-    ensures { λ r. ⌜ Turns (made (now (control .entry)) (now (samples .entry)) (now (nodes .entry)) (now (links .entry)))
+    ensures { λ r. ⌜ Turns (withoutWork (now (control .entry)) (now (samples .entry)) (now (nodes .entry)) (now (links .entry)))
         (now (queries .entry)) many (λ read. readOnce read j) (now (bests .entry)) (now (marks .entry)) seen
         (now (bests .exit)) (now (marks .exit)) r ⌝ }
     ensures few { λ r. ⌜ r ≤ 1 ⌝ }

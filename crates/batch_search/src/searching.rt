@@ -13,8 +13,8 @@ ghost use Rattle.dstree.specs.Matching.{leaves};
 ghost use Rattle.dstree.specs.Batch.{readFor, batchRead};
 ghost use Rattle.tables.specs.Tables.{measuresOf, nodeCount, filled};
 ghost use Rattle.tables.specs.View.{treeIn, tracesIn};
-ghost use Rattle.search.specs.Searched.{made};
-ghost use Rattle.batch_search.specs.Batched.{Searchable, queryAt, queriesOf, Room, Keeps, Turns, BatchSearched};
+ghost use Rattle.search.specs.Searched.{withoutWork};
+ghost use Rattle.batch_search.specs.Batched.{Searchable, queryAt, queriesOf, BatchRoom, BestsAndMarks, Turns, BatchSearched};
 
 // Query i: its sums, then its leaves.
 fn search_query(
@@ -30,14 +30,15 @@ fn search_query(
     marks: &mut [u8],
     seen: usize,
 ) -> usize
-    requires { ⌜ Searchable (made (now control) (now samples) (now nodes) (now links)) (now queries) many
-        × Room (made (now control) (now samples) (now nodes) (now links)) many (now bests) (now marks) seen ⌝ }
-    requires query { ⌜ (i < many) × (length (now work) ≡ nodeCount (made (now control) (now samples) (now nodes) (now links))) ⌝ }
-    ensures { λ r. ⌜ Turns (made (now (control .entry)) (now (samples .entry)) (now (nodes .entry)) (now (links .entry)))
+    requires { ⌜ Searchable (withoutWork (now control) (now samples) (now nodes) (now links)) (now queries) many
+        × BatchRoom (withoutWork (now control) (now samples) (now nodes) (now links)) many (now bests) (now marks) seen ⌝ }
+    requires query { ⌜ (i < many) × (length (now work) ≡ nodeCount (withoutWork (now control) (now samples) (now nodes) (now links))) ⌝ }
+    ensures { λ r. ⌜ Turns (withoutWork (now (control .entry)) (now (samples .entry)) (now (nodes .entry)) (now (links .entry)))
         (now (queries .entry)) many
-        (λ read. readFor (tracesIn (made (now (control .entry)) (now (samples .entry)) (now (nodes .entry)) (now (links .entry))))
-        (treeIn (made (now (control .entry)) (now (samples .entry)) (now (nodes .entry)) (now (links .entry)))) read
-        (queryAt (made (now (control .entry)) (now (samples .entry)) (now (nodes .entry)) (now (links .entry))) (now (queries .entry)) i))
+        (λ read. readFor (tracesIn (withoutWork (now (control .entry)) (now (samples .entry)) (now (nodes .entry)) (now (links .entry))))
+        (treeIn (withoutWork (now (control .entry)) (now (samples .entry)) (now (nodes .entry)) (now (links .entry)))) read
+        (queryAt (withoutWork (now (control .entry)) (now (samples .entry)) (now (nodes .entry)) (now (links .entry)))
+        (now (queries .entry)) i))
         (now (bests .entry)) (now (marks .entry)) seen (now (bests .exit)) (now (marks .exit)) r ⌝ }
     ensures few { λ r. ⌜ r ≤ 1 ⌝ }
 {
@@ -78,16 +79,16 @@ fn search_queries(
     bests: &mut [u64],
     marks: &mut [u8],
 ) -> usize
-    requires { ⌜ Searchable (made (now control) (now samples) (now nodes) (now links)) (now queries) many
-        × Room (made (now control) (now samples) (now nodes) (now links)) many (now bests) (now marks) 0
-        × (length (now work) ≡ nodeCount (made (now control) (now samples) (now nodes) (now links))) ⌝ }
-    ensures { λ r. ⌜ (Keeps (made (now (control .entry)) (now (samples .entry)) (now (nodes .entry)) (now (links .entry)))
+    requires { ⌜ Searchable (withoutWork (now control) (now samples) (now nodes) (now links)) (now queries) many
+        × BatchRoom (withoutWork (now control) (now samples) (now nodes) (now links)) many (now bests) (now marks) 0
+        × (length (now work) ≡ nodeCount (withoutWork (now control) (now samples) (now nodes) (now links))) ⌝ }
+    ensures { λ r. ⌜ (BestsAndMarks (withoutWork (now (control .entry)) (now (samples .entry)) (now (nodes .entry)) (now (links .entry)))
         (now (queries .entry)) many [] (now (bests .entry)) (now (marks .entry)) 0
-        → Keeps (made (now (control .entry)) (now (samples .entry)) (now (nodes .entry)) (now (links .entry)))
+        → BestsAndMarks (withoutWork (now (control .entry)) (now (samples .entry)) (now (nodes .entry)) (now (links .entry)))
         (now (queries .entry)) many
-        (batchRead (tracesIn (made (now (control .entry)) (now (samples .entry)) (now (nodes .entry)) (now (links .entry))))
-        (treeIn (made (now (control .entry)) (now (samples .entry)) (now (nodes .entry)) (now (links .entry))))
-        (queriesOf (made (now (control .entry)) (now (samples .entry)) (now (nodes .entry)) (now (links .entry))) (now (queries .entry)) many))
+        (batchRead (tracesIn (withoutWork (now (control .entry)) (now (samples .entry)) (now (nodes .entry)) (now (links .entry))))
+        (treeIn (withoutWork (now (control .entry)) (now (samples .entry)) (now (nodes .entry)) (now (links .entry))))
+        (queriesOf (withoutWork (now (control .entry)) (now (samples .entry)) (now (nodes .entry)) (now (links .entry))) (now (queries .entry)) many))
         (now (bests .exit)) (now (marks .exit)) r) ⌝ }
 {
     let mut seen: usize = 0;
@@ -123,19 +124,19 @@ fn search_marks(
     bests: &mut [u64],
     marks: &mut [u8],
 ) -> usize
-    requires { ⌜ Searchable (made (now control) (now samples) (now nodes) (now links)) (now queries) many
-        × Room (made (now control) (now samples) (now nodes) (now links)) many (now bests) (now marks) 0
-        × (workNeeded (measuresOf (made (now control) (now samples) (now nodes) (now links))) ≤ length (now work)) ⌝ }
-    ensures { λ r. ⌜ (Keeps (made (now (control .entry)) (now (samples .entry)) (now (nodes .entry)) (now (links .entry)))
+    requires { ⌜ Searchable (withoutWork (now control) (now samples) (now nodes) (now links)) (now queries) many
+        × BatchRoom (withoutWork (now control) (now samples) (now nodes) (now links)) many (now bests) (now marks) 0
+        × (workNeeded (measuresOf (withoutWork (now control) (now samples) (now nodes) (now links))) ≤ length (now work)) ⌝ }
+    ensures { λ r. ⌜ (BestsAndMarks (withoutWork (now (control .entry)) (now (samples .entry)) (now (nodes .entry)) (now (links .entry)))
         (now (queries .entry)) many [] (now (bests .entry)) (now (marks .entry)) 0
-        → Keeps (made (now (control .entry)) (now (samples .entry)) (now (nodes .entry)) (now (links .entry)))
+        → BestsAndMarks (withoutWork (now (control .entry)) (now (samples .entry)) (now (nodes .entry)) (now (links .entry)))
         (now (queries .entry)) many
-        (batchRead (tracesIn (made (now (control .entry)) (now (samples .entry)) (now (nodes .entry)) (now (links .entry))))
-        (treeIn (made (now (control .entry)) (now (samples .entry)) (now (nodes .entry)) (now (links .entry))))
-        (queriesOf (made (now (control .entry)) (now (samples .entry)) (now (nodes .entry)) (now (links .entry))) (now (queries .entry)) many))
+        (batchRead (tracesIn (withoutWork (now (control .entry)) (now (samples .entry)) (now (nodes .entry)) (now (links .entry))))
+        (treeIn (withoutWork (now (control .entry)) (now (samples .entry)) (now (nodes .entry)) (now (links .entry))))
+        (queriesOf (withoutWork (now (control .entry)) (now (samples .entry)) (now (nodes .entry)) (now (links .entry))) (now (queries .entry)) many))
         (now (bests .exit)) (now (marks .exit)) r) ⌝ }
     ensures zero { λ _. ⌜ now (work .exit) ≡ filled
-        (workNeeded (measuresOf (made (now (control .entry)) (now (samples .entry)) (now (nodes .entry)) (now (links .entry))))) 0
+        (workNeeded (measuresOf (withoutWork (now (control .entry)) (now (samples .entry)) (now (nodes .entry)) (now (links .entry))))) 0
         (now (work .entry)) ⌝ }
 {
     let count = wide(field(control, NODE_COUNT));
@@ -158,7 +159,7 @@ fn search_marks(
 
 // How many leaves were read, which the trail begins with by rising number, and a record for each query, two places each: trace number
 // and distance of its nearest trace.
-pub struct Found {
+pub struct BatchRead {
     pub leaves: usize,
     pub bests: [u64; 32],
 }
@@ -173,11 +174,11 @@ pub fn search_batch(
     many: usize,
     work: &mut [u64],
     trail: &mut [u16],
-) -> Found
-    requires { ⌜ Searchable (made (now control) (now samples) (now nodes) (now links)) (now queries) many
-        × (workNeeded (measuresOf (made (now control) (now samples) (now nodes) (now links))) ≤ length (now work))
-        × (length (leaves (treeIn (made (now control) (now samples) (now nodes) (now links)))) ≤ length (now trail)) ⌝ }
-    ensures { λ r. ⌜ BatchSearched (made (now (control .entry)) (now (samples .entry)) (now (nodes .entry)) (now (links .entry)))
+) -> BatchRead
+    requires { ⌜ Searchable (withoutWork (now control) (now samples) (now nodes) (now links)) (now queries) many
+        × (workNeeded (measuresOf (withoutWork (now control) (now samples) (now nodes) (now links))) ≤ length (now work))
+        × (length (leaves (treeIn (withoutWork (now control) (now samples) (now nodes) (now links)))) ≤ length (now trail)) ⌝ }
+    ensures { λ r. ⌜ BatchSearched (withoutWork (now (control .entry)) (now (samples .entry)) (now (nodes .entry)) (now (links .entry)))
         (now (queries .entry)) many (now (work .entry)) (now (work .exit)) (now (trail .entry)) (now (trail .exit)) (r .bests)
         (r .leaves) ⌝ }
 {
@@ -196,5 +197,5 @@ pub fn search_batch(
     );
     let count = wide(field(control, NODE_COUNT));
     let leaves = crate::marked::write_trail(&marks, count, trail);
-    Found { leaves, bests }
+    BatchRead { leaves, bests }
 }

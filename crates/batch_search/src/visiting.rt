@@ -11,8 +11,8 @@ ghost use Rattle.tables.specs.Tables.{nodeCount};
 ghost use Rattle.tables.specs.View.{treeIn, tracesIn};
 ghost use Rattle.prefixes.specs.Prefixes.{Prefixes};
 ghost use Rattle.reading.specs.Listed.{recordAt};
-ghost use Rattle.search.specs.Searched.{made};
-ghost use Rattle.batch_search.specs.Batched.{Searchable, queryAt, Room, Turns};
+ghost use Rattle.search.specs.Searched.{withoutWork};
+ghost use Rattle.batch_search.specs.Batched.{Searchable, queryAt, BatchRoom, Turns};
 
 // The distance of query i's nearest trace so far.
 fn distance_at(bests: &[u64], i: usize) -> u64
@@ -42,16 +42,17 @@ pub fn visit(
     marks: &mut [u8],
     seen: usize,
 ) -> usize
-    requires { ⌜ Searchable (made (now control) (now samples) (now nodes) (now links)) (now queries) many
-        × Room (made (now control) (now samples) (now nodes) (now links)) many (now bests) (now marks) seen ⌝ }
+    requires { ⌜ Searchable (withoutWork (now control) (now samples) (now nodes) (now links)) (now queries) many
+        × BatchRoom (withoutWork (now control) (now samples) (now nodes) (now links)) many (now bests) (now marks) seen ⌝ }
     requires query { ⌜ (i < many)
-        × Prefixes (queryAt (made (now control) (now samples) (now nodes) (now links)) (now queries) i) (now sums) (now squares)
-        × (length (now work) ≡ nodeCount (made (now control) (now samples) (now nodes) (now links))) ⌝ }
-    ensures { λ r. ⌜ Turns (made (now (control .entry)) (now (samples .entry)) (now (nodes .entry)) (now (links .entry)))
+        × Prefixes (queryAt (withoutWork (now control) (now samples) (now nodes) (now links)) (now queries) i) (now sums) (now squares)
+        × (length (now work) ≡ nodeCount (withoutWork (now control) (now samples) (now nodes) (now links))) ⌝ }
+    ensures { λ r. ⌜ Turns (withoutWork (now (control .entry)) (now (samples .entry)) (now (nodes .entry)) (now (links .entry)))
         (now (queries .entry)) many
-        (λ read. readFor (tracesIn (made (now (control .entry)) (now (samples .entry)) (now (nodes .entry)) (now (links .entry))))
-        (treeIn (made (now (control .entry)) (now (samples .entry)) (now (nodes .entry)) (now (links .entry)))) read
-        (queryAt (made (now (control .entry)) (now (samples .entry)) (now (nodes .entry)) (now (links .entry))) (now (queries .entry)) i))
+        (λ read. readFor (tracesIn (withoutWork (now (control .entry)) (now (samples .entry)) (now (nodes .entry)) (now (links .entry))))
+        (treeIn (withoutWork (now (control .entry)) (now (samples .entry)) (now (nodes .entry)) (now (links .entry)))) read
+        (queryAt (withoutWork (now (control .entry)) (now (samples .entry)) (now (nodes .entry)) (now (links .entry)))
+        (now (queries .entry)) i))
         (now (bests .entry)) (now (marks .entry)) seen (now (bests .exit)) (now (marks .exit)) r ⌝ }
     ensures few { λ r. ⌜ r ≤ 1 ⌝ }
 {

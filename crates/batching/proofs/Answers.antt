@@ -20,13 +20,13 @@ use Rattle.tables.specs.Answers.{foundBy, madeConditions}
 use Rattle.tables.specs.declared.Refusal.{Refusal}
 use Rattle.tables.specs.declared.Verdict.the-variants as v
 use Rattle.reading.specs.Listed.{nearsIn}
-use Rattle.search.specs.Searched.{made}
+use Rattle.search.specs.Searched.{withoutWork}
 use Rattle.calls.specs.Outcome.{outcome, unlessRefused}
 use Rattle.calls.specs.Effects.{batchConditionsIn, batches, cleared, effectOf, outcomeOn}
 use Rattle.calls.proofs.Ends.{over-first}
 use Rattle.batch_search.specs.Batched.{queriesOf, batch, BatchSearched}
 use Rattle.batching.specs.Answered.{answerBy, listBy}
-use Rattle.batching.specs.declared.Outcome.the-variants as o
+use Rattle.batching.specs.declared.Batched.the-variants as o
 
 -- nothing is stored in any list
 pub list-left : (bests : List ℕ) (list : List Near) → listBy 0 bests list ≡ list
@@ -51,7 +51,7 @@ module _ (control : List ℕ) (samples nodes : List ℤ) (links work : List ℕ)
   batch-refused why bests q = rw (q, list-left bests list)
 
   module _ (work′ trail′ bests : List ℕ) (out : ℕ) (trail-size : length trail′ ≡ length trail)
-      (s : BatchSearched (made control samples nodes links) run many work work′ trail trail′ bests out) where
+      (s : BatchSearched (withoutWork control samples nodes links) run many work work′ trail trail′ bests out) where
     abbrev found : Batch
     found = batch (nearsIn many bests) out (take out trail′)
 

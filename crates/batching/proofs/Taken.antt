@@ -21,7 +21,7 @@ use Rattle.tables.specs.Answers.{madeConditions}
 use Rattle.tables.proofs.Judged.{accepted}
 use Rattle.tables.proofs.Views.{measures-fit}
 use Rattle.query_judging.proofs.Taken.{records-fit}
-use Rattle.search.specs.Searched.{made}
+use Rattle.search.specs.Searched.{withoutWork}
 use Rattle.batch_search.specs.Batched.{Searchable}
 use Rattle.calls.specs.Effects.{batchConditionsIn}
 
@@ -46,13 +46,13 @@ own-fits t fine =
 some-of : (k : ℕ) → (k ≡ 0 → ⊥) → 0 < k
 some-of k f = omega (arith, f)
 
-pub record Taken (t : Tables) (run : Trace) (many : ℕ) (trail : List ℕ) : Type 0 where
+pub record BatchAccepted (t : Tables) (run : Trace) (many : ℕ) (trail : List ℕ) : Type 0 where
   pub work-room : workNeeded (measuresOf t) ≤ length (t .work)
-  pub trail-room : length (leaves (treeIn (made (t .control) (t .samples) (t .nodes) (t .links)))) ≤ length trail
-  pub searchable : Searchable (made (t .control) (t .samples) (t .nodes) (t .links)) run many
+  pub trail-room : length (leaves (treeIn (withoutWork (t .control) (t .samples) (t .nodes) (t .links)))) ≤ length trail
+  pub searchable : Searchable (withoutWork (t .control) (t .samples) (t .nodes) (t .links)) run many
 
 pub taken : (t : Tables) (many places : ℕ) (run : Trace) (trail : List ℕ)
-    → firstOf (madeConditions t ++ batchConditionsIn t many places run trail) ≡ none → Taken t run many trail × (places ≡ many)
+    → firstOf (madeConditions t ++ batchConditionsIn t many places run trail) ≡ none → BatchAccepted t run many trail × (places ≡ many)
 unfolding wellFormed kindsNamed treeIn
 taken t many places run trail e =
     let parts = none-both (madeConditions t) (batchConditionsIn t many places run trail) e in

@@ -10,23 +10,23 @@ use Rattle.dstree.specs.Book as book
 use Rattle.dstree.specs.Book.{answering, refusing, batched}
 use Rattle.tables.specs.Answers.{wordOf}
 use Rattle.reading.specs.Listed.{nearsIn}
-use Rattle.batching.specs.declared.Answer.{Answer}
-use Rattle.batching.specs.declared.Found.{Found}
-use Rattle.batching.specs.declared.Outcome.{Outcome}
-use Rattle.batching.specs.declared.Outcome.the-variants as o
+use Rattle.batching.specs.declared.AnswerRecord.{AnswerRecord}
+use Rattle.batching.specs.declared.BatchFound.{BatchFound}
+use Rattle.batching.specs.declared.Batched.{Batched}
+use Rattle.batching.specs.declared.Batched.the-variants as o
 
 -- the count of leaves, with the records in the list and the trail's beginning; or a refusal
-unfoldable pub answerBy : Outcome → List Near → List ℕ → book.Answer
+unfoldable pub answerBy : Batched → List Near → List ℕ → book.Answer
 answerBy (o.Done leaves) records trail = answering (batched (record { answers = records; leaves = leaves; trail = take leaves trail }))
 answerBy (o.Refused why) records trail = refusing (wordOf why)
 
 -- the record of query i
-abbrev pub recordOf : Found → ℕ → Answer
-recordOf found i = record { trace = getD (found .bests) (2 * i) 0; distance = getD (found .bests) (2 * i + 1) 0 }
+abbrev pub answerAt : BatchFound → ℕ → AnswerRecord
+answerAt found i = record { trace = getD (found .bests) (2 * i) 0; distance = getD (found .bests) (2 * i + 1) 0 }
 
 -- "One answer record for each query is filled in the caller's list": what is left of a list in which so many are stored, if it has as many
 unfoldable pub listBy : ℕ → List ℕ → List Near → List Near
 listBy count bests list = if eqb (length list) count then nearsIn count bests else list
 
-abbrev pub listAfter : Found → List Near → List Near
+abbrev pub listAfter : BatchFound → List Near → List Near
 listAfter found list = listBy (found .count) (found .bests) list

@@ -14,24 +14,24 @@ ghost use Rattle.dstree.specs.Book.{batching};
 ghost use Rattle.tables.specs.Tables.{tables};
 ghost use Rattle.calls.specs.Outcome as calls;
 ghost use Rattle.calls.specs.Effects.{outcomeOn};
-ghost use Rattle.batching.specs.Answered.{answerBy, recordOf, listAfter};
+ghost use Rattle.batching.specs.Answered.{answerBy, answerAt, listAfter};
 
 // One answer. In C: struct { uint64_t trace; uint64_t distance; }, 16 bytes, aligned to 8.
 #[repr(C)]
-pub struct Answer {
+pub struct AnswerRecord {
     pub trace: u64,
     pub distance: u64,
 }
 
 // How many leaves were read, or a refusal.
-pub enum Outcome {
+pub enum Batched {
     Done(u64),
     Refused(Refusal),
 }
 
 // What a batch found: a record for each query, two places each, trace number and distance. A refused one has the count 0.
-pub struct Found {
-    pub outcome: Outcome,
+pub struct BatchFound {
+    pub outcome: Batched,
     pub count: usize,
     pub bests: [u64; 32],
 }
@@ -50,7 +50,7 @@ pub fn match_all(
     queries: &[i16],
     many: usize,
     places: usize,
-) -> Found
+) -> BatchFound
     ensures { λ r. ⌜ ((list : List Near) → length list ≡ places
         → calls.outcome (answerBy (r .outcome) (listAfter r list) (now (trail .exit)))
         (tables (now (control .entry)) (now (samples .entry)) (now (nodes .entry)) (now (links .entry)) (now (work .exit)))
@@ -70,8 +70,8 @@ pub fn match_all(
         trail,
     );
     match verdict {
-        Verdict::Refused(why) => Found {
-            outcome: Outcome::Refused(why),
+        Verdict::Refused(why) => BatchFound {
+            outcome: Batched::Refused(why),
             count: 0,
             bests: [0; 32],
         },
@@ -87,8 +87,8 @@ pub fn match_all(
                 trail,
             );
             let bests = found.bests;
-            Found {
-                outcome: Outcome::Done(found.leaves as u64),
+            BatchFound {
+                outcome: Batched::Done(found.leaves as u64),
                 count: many,
                 bests,
             }
@@ -97,16 +97,16 @@ pub fn match_all(
 }
 
 // The record of query i.
-pub fn record_at(found: Found, i: usize) -> Answer
-    ensures { λ r. ⌜ r ≡ recordOf found i ⌝ }
+pub fn answer_at(found: BatchFound, i: usize) -> AnswerRecord
+    ensures { λ r. ⌜ r ≡ answerAt found i ⌝ }
 {
     if i < 16 {
-        Answer {
+        AnswerRecord {
             trace: found.bests[2 * i],
             distance: found.bests[2 * i + 1],
         }
     } else {
-        Answer {
+        AnswerRecord {
             trace: 0,
             distance: 0,
         }
@@ -114,7 +114,7 @@ pub fn record_at(found: Found, i: usize) -> Answer
 }
 
 // How a batch ended.
-pub fn outcome_of(found: Found) -> Outcome
+pub fn outcome_of(found: BatchFound) -> Batched
     ensures { λ r. ⌜ r ≡ found .outcome ⌝ }
 {
     let outcome = found.outcome;

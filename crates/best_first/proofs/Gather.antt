@@ -10,7 +10,7 @@ use Rattle.integer.specs.Words.{if_then_else_, those, counting, timesIn}
 use Rattle.integer.proofs.Lists.{in-counting, from-counting, counting-up}
 use Rattle.integer.proofs.Times.{times-none, up-once, counting-length}
 use Rattle.heap.specs.Keys.{insertKey, pour, sortedOf}
-use Rattle.heap.proofs.Sorting.{Above, Sorted, le-or-lt, insert-nil, insert-here, insert-past, pour-nil, pour-cons, pour-pour, pour-append, pour-cancel, sorted-same}
+use Rattle.heap.proofs.Sorting.{Above, SortedKeys, le-or-lt, insert-nil, insert-here, insert-past, pour-nil, pour-cons, pour-pour, pour-append, pour-cancel, sorted-same}
 use Rattle.heap.proofs.Bags.{same-bag}
 use Rattle.dstree.specs.Node.{Test, Kind, leaf, inner, Tree, nodeAt}
 use Rattle.dstree.specs.Matching.{isLeaf, leaves}
@@ -72,7 +72,7 @@ unfolding counting
 above-counting zero a m h = tt
 above-counting (suc n) a m h = (h, above-counting n (suc a) m (omega arith))
 
-sorted-counting : (n a : ℕ) → Sorted (counting n a)
+sorted-counting : (n a : ℕ) → SortedKeys (counting n a)
 unfolding counting
 sorted-counting zero a = tt
 sorted-counting (suc n) a = (above-counting n (suc a) a (omega arith), sorted-counting n (suc a))

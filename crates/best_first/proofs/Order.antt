@@ -1,5 +1,5 @@
 -- The keys that wait, and the leaves still to come: those below the nodes whose keys wait. The least key that waits is at most the key of every leaf
--- to come, so that a leaf with the least key is the next. A turn takes one node away from `load`, the nodes still to be taken: it is a loop's measure,
+-- to come, so that a leaf with the least key is the next. A turn takes one node away from `nodesWaiting`, the nodes still to be taken: it is a loop's measure,
 -- and the room that the keys need.
 use Prim.Native.Nat.{ℕ, suc, _+_, _≤_, _<_, max}
 use mathlib.Core.Path.{_≡_, refl, sym, _∙_, ap}
@@ -8,42 +8,43 @@ use mathlib.Core.List.{List, [], _∷_, map}
 use native.Mathlib.Omega.{arith}
 use lib.ListN.{length}
 use Rattle.heap.specs.Keys.{insertKey, pour, sortedOf}
-use Rattle.heap.proofs.Sorting.{Above, Sorted, le-or-lt, insert-nil, insert-here, insert-past, insert-first, pour-nil, pour-cons, pour-pour, pour-append, above-less, above-pour, sorted-insert}
+use Rattle.heap.proofs.Sorting.{Above, SortedKeys, le-or-lt, insert-nil, insert-here, insert-past, insert-first, pour-nil, pour-cons, pour-pour, pour-append, above-less, above-pour, sorted-insert}
 use Rattle.dstree.specs.Measures.{Trace}
 use Rattle.dstree.specs.Node.{Test, leaf, inner, Tree, nodeAt}
 use Rattle.dstree.specs.Matching.{ownBound, bound, leaves}
 use Rattle.dstree.proofs.Bounds.{root-bound}
-use Rattle.best_first.specs.NodeKeys.{keyOf, boundIn, numberIn, nodeKey, childKey, firstKey, inStead}
+use Rattle.best_first.specs.NodeKeys.{keyOf, keyBound, keyNumber, nodeKey, childKey, firstKey, inStead}
 use Rattle.best_first.specs.Branching.{Branching}
-use Rattle.best_first.specs.Waiting.{Subtree, tip, fork, weight, subtree, keysBelow, nodesBelow, toCome, load, Keyed}
+use Rattle.best_first.specs.Waiting.{Subtree, tip, fork, weight, subtree, keysBelow, nodesBelow, toCome, nodesWaiting, Keyed}
 use Rattle.best_first.proofs.Branching.{left-above, right-above, left-bound, right-bound}
 use Rattle.best_first.proofs.Subtree.{below}
 use Rattle.best_first.proofs.Gather.{nodes-leaf, nodes-inner, all-nodes, keys-leaf, keys-inner, all-leaves}
 
 -- the keys that wait: of nodes, and in order
 pub record Front (tree : Tree) (query : Trace) (xs : List ℕ) : Type 0 where
-  pub sorted : Sorted xs
+  pub sorted : SortedKeys xs
   pub keyed : Keyed tree query xs
 
 -- ---- one more key waits
 
-come-inserted : (tree : Tree) (query : Trace) (a : ℕ) (xs : List ℕ) → toCome tree query (insertKey a xs) ≡ pour (keysBelow tree (nodeKey tree query) (numberIn a)) (toCome tree query xs)
+come-inserted : (tree : Tree) (query : Trace) (a : ℕ) (xs : List ℕ) → toCome tree query (insertKey a xs) ≡ pour (keysBelow tree (nodeKey tree query) (keyNumber a)) (toCome tree query xs)
 come-inserted tree query a [] = rw (insert-nil a)
 come-inserted tree query a (x ∷ xs) =
     let ih = come-inserted tree query a xs in
     let B = keysBelow tree (nodeKey tree query) in
     ⊎-elim
     (λ (p : a ≤ x). rw (insert-here a x xs p))
-    (λ (p : x < a). rw (insert-past a x xs p) (ap (pour (B (numberIn x))) ih ∙ pour-pour (B (numberIn x)) (B (numberIn a)) (toCome tree query xs)))
+    (λ (p : x < a). rw (insert-past a x xs p) (ap (pour (B (keyNumber x))) ih ∙ pour-pour (B (keyNumber x)) (B (keyNumber a)) (toCome tree query xs)))
     (le-or-lt a x)
 
-load-inserted : (tree : Tree) (a : ℕ) (xs : List ℕ) → load tree (insertKey a xs) ≡ nodesBelow tree (numberIn a) + load tree xs
+load-inserted : (tree : Tree) (a : ℕ) (xs : List ℕ)
+    → nodesWaiting tree (insertKey a xs) ≡ nodesBelow tree (keyNumber a) + nodesWaiting tree xs
 load-inserted tree a [] = rw (insert-nil a)
 load-inserted tree a (x ∷ xs) =
     let ih = load-inserted tree a xs in
     ⊎-elim (λ (p : a ≤ x). rw (insert-here a x xs p)) (λ (p : x < a). rw (insert-past a x xs p) (omega (arith, ih))) (le-or-lt a x)
 
-keyed-inserted : (tree : Tree) (query : Trace) (a : ℕ) (xs : List ℕ) → numberIn a < length tree → a ≡ nodeKey tree query (numberIn a) → Keyed tree query xs → Keyed tree query (insertKey a xs)
+keyed-inserted : (tree : Tree) (query : Trace) (a : ℕ) (xs : List ℕ) → keyNumber a < length tree → a ≡ nodeKey tree query (keyNumber a) → Keyed tree query xs → Keyed tree query (insertKey a xs)
 keyed-inserted tree query a [] h e k = rw (insert-nil a) (h, e, tt)
 keyed-inserted tree query a (x ∷ xs) h e k =
     let ih = keyed-inserted tree query a xs h e (k .2) in
@@ -56,23 +57,23 @@ unfolding weight
 heavy (tip i) = omega arith
 heavy (fork a b) = omega arith
 
-pub length-load : (tree : Tree) (xs : List ℕ) → length xs ≤ load tree xs
+pub length-load : (tree : Tree) (xs : List ℕ) → length xs ≤ nodesWaiting tree xs
 length-load tree [] = omega arith
-length-load tree (x ∷ xs) = omega (arith, heavy (subtree tree (numberIn x)), length-load tree xs)
+length-load tree (x ∷ xs) = omega (arith, heavy (subtree tree (keyNumber x)), length-load tree xs)
 
 module _ (tree : Tree) (b : Branching tree) (query : Trace) where
   -- a key holds its bound and its number
-  pub key-number : (i : ℕ) → i < length tree → numberIn (nodeKey tree query i) ≡ i
+  pub key-number : (i : ℕ) → i < length tree → keyNumber (nodeKey tree query i) ≡ i
   key-number i h = omega (arith, b .few)
 
-  pub key-bound : (i : ℕ) → i < length tree → boundIn (nodeKey tree query i) ≡ bound tree query i
+  pub key-bound : (i : ℕ) → i < length tree → keyBound (nodeKey tree query i) ≡ bound tree query i
   key-bound i h = omega (arith, b .few)
 
   -- no leaf to come is before the least key
   come-above : (m : ℕ) (xs : List ℕ) → Above m xs → Keyed tree query xs → Above m (toCome tree query xs)
   come-above m [] a k = tt
   come-above m (x ∷ xs) a k =
-      let i = numberIn x in
+      let i = keyNumber x in
       let key = nodeKey tree query in
       let e : x ≡ key i = k .1 in
       above-pour m (keysBelow tree key i) (toCome tree query xs) (above-less m (key i) (keysBelow tree key i) (omega (arith, e, a .0)) (below tree b query i)) (come-above m xs (a .1) (k .2))
@@ -80,47 +81,47 @@ module _ (tree : Tree) (b : Branching tree) (query : Trace) where
   -- ---- a turn: x is the least key
 
   module _ (x : ℕ) (xs : List ℕ) (f : Front tree query (x ∷ xs)) where
-    pub number-inside : numberIn x < length tree
+    pub number-inside : keyNumber x < length tree
     number-inside = f .keyed .0
 
-    pub bound-is : boundIn x ≡ bound tree query (numberIn x)
-    bound-is = ap boundIn (f .keyed .1) ∙ key-bound (numberIn x) (f .keyed .0)
+    pub bound-is : keyBound x ≡ bound tree query (keyNumber x)
+    bound-is = ap keyBound (f .keyed .1) ∙ key-bound (keyNumber x) (f .keyed .0)
 
     pub come-first : Above x (toCome tree query (x ∷ xs))
     come-first = come-above x (x ∷ xs) (omega arith, f .sorted .0) (f .keyed)
 
     -- its node is a leaf
-    module _ {ns : List ℕ} (e : nodeAt tree (numberIn x) .kind ≡ leaf ns) where
+    module _ {ns : List ℕ} (e : nodeAt tree (keyNumber x) .kind ≡ leaf ns) where
       pub come-leaf : toCome tree query (x ∷ xs) ≡ x ∷ toCome tree query xs
       come-leaf =
-          rw (keys-leaf tree b (nodeKey tree query) (numberIn x) e, ← f .keyed .1)
+          rw (keys-leaf tree b (nodeKey tree query) (keyNumber x) e, ← f .keyed .1)
           (pour-cons x [] (toCome tree query xs) ∙ ap (insertKey x) (pour-nil (toCome tree query xs)) ∙ insert-first x (toCome tree query xs) (come-above x xs (f .sorted .0) (f .keyed .2)))
 
-      pub load-leaf : load tree (x ∷ xs) ≡ suc (load tree xs)
-      load-leaf = omega (arith, nodes-leaf tree b (numberIn x) e)
+      pub load-leaf : nodesWaiting tree (x ∷ xs) ≡ suc (nodesWaiting tree xs)
+      load-leaf = omega (arith, nodes-leaf tree b (keyNumber x) e)
 
       pub front-leaf : Front tree query xs
       front-leaf = record { sorted = f .sorted .1; keyed = f .keyed .2 }
 
     -- its node has two children, whose keys wait then
-    module _ {test : Test} {l r : ℕ} (e : nodeAt tree (numberIn x) .kind ≡ inner test l r) where
+    module _ {test : Test} {l r : ℕ} (e : nodeAt tree (keyNumber x) .kind ≡ inner test l r) where
       -- a child's bound is the greater of its own and its parent's, which the key holds
-      pub left-key : childKey tree query (boundIn x) l ≡ nodeKey tree query l
-      left-key = ap (λ (k : ℕ). keyOf k l) (ap (max (ownBound query (nodeAt tree l))) bound-is ∙ sym (left-bound tree b (numberIn x) e query))
+      pub left-key : childKey tree query (keyBound x) l ≡ nodeKey tree query l
+      left-key = ap (λ (k : ℕ). keyOf k l) (ap (max (ownBound query (nodeAt tree l))) bound-is ∙ sym (left-bound tree b (keyNumber x) e query))
 
-      pub right-key : childKey tree query (boundIn x) r ≡ nodeKey tree query r
-      right-key = ap (λ (k : ℕ). keyOf k r) (ap (max (ownBound query (nodeAt tree r))) bound-is ∙ sym (right-bound tree b (numberIn x) e query))
+      pub right-key : childKey tree query (keyBound x) r ≡ nodeKey tree query r
+      right-key = ap (λ (k : ℕ). keyOf k r) (ap (max (ownBound query (nodeAt tree r))) bound-is ∙ sym (right-bound tree b (keyNumber x) e query))
 
       pub left-inside : l < length tree
-      left-inside = left-above tree b (numberIn x) e .1
+      left-inside = left-above tree b (keyNumber x) e .1
 
       pub right-inside : r < length tree
-      right-inside = right-above tree b (numberIn x) e .1
+      right-inside = right-above tree b (keyNumber x) e .1
 
-      number-left : numberIn (nodeKey tree query l) ≡ l
+      number-left : keyNumber (nodeKey tree query l) ≡ l
       number-left = key-number l left-inside
 
-      number-right : numberIn (nodeKey tree query r) ≡ r
+      number-right : keyNumber (nodeKey tree query r) ≡ r
       number-right = key-number r right-inside
 
       stead-is : inStead tree query x l r xs ≡ insertKey (nodeKey tree query l) (insertKey (nodeKey tree query r) xs)
@@ -132,18 +133,18 @@ module _ (tree : Tree) (b : Branching tree) (query : Trace) where
           let L = keysBelow tree key l in
           let R = keysBelow tree key r in
           let C = toCome tree query xs in
-          rw (stead-is, keys-inner tree b key (numberIn x) e)
+          rw (stead-is, keys-inner tree b key (keyNumber x) e)
           (pour-append L R C ∙ sym (come-inserted tree query (key l) (insertKey (key r) xs)
           ∙ ap (λ (i : ℕ). pour (keysBelow tree key i) (toCome tree query (insertKey (key r) xs))) number-left
           ∙ ap (pour L) (come-inserted tree query (key r) xs ∙ ap (λ (i : ℕ). pour (keysBelow tree key i) C) number-right)))
 
-      pub load-inner : load tree (x ∷ xs) ≡ suc (load tree (inStead tree query x l r xs))
+      pub load-inner : nodesWaiting tree (x ∷ xs) ≡ suc (nodesWaiting tree (inStead tree query x l r xs))
       load-inner =
           let key = nodeKey tree query in
           omega (
             arith,
-            ap (load tree) stead-is,
-            nodes-inner tree b (numberIn x) e,
+            ap (nodesWaiting tree) stead-is,
+            nodes-inner tree b (keyNumber x) e,
             load-inserted tree (key l) (insertKey (key r) xs),
             load-inserted tree (key r) xs,
             ap (nodesBelow tree) number-left,
@@ -165,13 +166,13 @@ module _ (tree : Tree) (b : Branching tree) (query : Trace) where
   first-is : firstKey tree query ≡ nodeKey tree query 0
   first-is = let e = root-bound tree (b .child) (b .one-parent) query (b .some-node) in omega (arith, e)
 
-  number-first : numberIn (firstKey tree query) ≡ 0
+  number-first : keyNumber (firstKey tree query) ≡ 0
   number-first = omega arith
 
   pub come-start : toCome tree query (firstKey tree query ∷ []) ≡ sortedOf (map (nodeKey tree query) (leaves tree))
   come-start = ap (λ (i : ℕ). pour (keysBelow tree (nodeKey tree query) i) []) number-first ∙ all-leaves tree b (nodeKey tree query)
 
-  pub load-start : load tree (firstKey tree query ∷ []) ≡ length tree
+  pub load-start : nodesWaiting tree (firstKey tree query ∷ []) ≡ length tree
   load-start = omega (arith, ap (nodesBelow tree) number-first, all-nodes tree b)
 
   pub front-start : Front tree query (firstKey tree query ∷ [])

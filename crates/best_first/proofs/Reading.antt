@@ -9,14 +9,14 @@ use lib.ListN.{length}
 use borrow.Author.Tests.{lt-ltb, le-ltb, eq-eqb, ne-eqb}
 use Rattle.integer.specs.Words.{if_then_else_}
 use Rattle.integer.proofs.Lists.{All, all-none, all-more, all-in, all-map}
-use Rattle.integer.specs.Sorting.{insertedBy, sortedBy}
+use Rattle.integer.specs.Sorting.{sortedWith, sortedBy}
 use Rattle.heap.specs.Keys.{insertKey, sortedOf}
-use Rattle.heap.proofs.Sorting.{Sorted, sorted-pour, le-or-lt, insert-nil, insert-here, insert-past, insert-first, pour-nil, pour-cons}
+use Rattle.heap.proofs.Sorting.{SortedKeys, sorted-pour, le-or-lt, insert-nil, insert-here, insert-past, insert-first, pour-nil, pour-cons}
 use Rattle.dstree.specs.Measures.{Trace}
 use Rattle.dstree.specs.Node.{Tree}
 use Rattle.dstree.specs.Matching.{LeafBound, leaves, before, readingOrder}
 use Rattle.dstree.proofs.Reading.{with-bound, from-leaves}
-use Rattle.best_first.specs.NodeKeys.{keyOf, boundIn, numberIn, leafIn, nodeKey}
+use Rattle.best_first.specs.NodeKeys.{keyOf, keyBound, keyNumber, keyLeaf, nodeKey}
 
 abbrev keyIn : LeafBound → ℕ
 keyIn a = keyOf (a .bound) (a .number)
@@ -49,12 +49,12 @@ before-false a b h x y =
     (λ (q : b .bound < a .bound). rw (le-ltb (a .bound) (b .bound) p, ne-eqb (a .bound) (b .bound) (λ e. omega arith)))
     (le-or-lt (a .bound) (b .bound))
 
-small-placed : (a : LeafBound) {l : List LeafBound} → Small a → All Small l → All Small (insertedBy before a l)
-unfolding insertedBy
+small-placed : (a : LeafBound) {l : List LeafBound} → Small a → All Small l → All Small (sortedWith before a l)
+unfolding sortedWith
 small-placed a h all-none = all-more h all-none
 small-placed a h (all-more {a = b} {rest} g gs) = by (before a b) (small-placed a h gs)
   where
-    by : (t : Bool) → All Small (insertedBy before a rest) → All Small (if t then a ∷ b ∷ rest else b ∷ insertedBy before a rest)
+    by : (t : Bool) → All Small (sortedWith before a rest) → All Small (if t then a ∷ b ∷ rest else b ∷ sortedWith before a rest)
     by true ih = all-more h (all-more g gs)
     by false ih = all-more g ih
 
@@ -63,8 +63,8 @@ unfolding sortedBy
 small-sorted all-none = all-none
 small-sorted (all-more {a} h hs) = small-placed a h (small-sorted hs)
 
-inserted-keys : (a : LeafBound) {l : List LeafBound} → Small a → All Small l → Sorted (map keyIn l) → map keyIn (insertedBy before a l) ≡ insertKey (keyIn a) (map keyIn l)
-unfolding insertedBy
+inserted-keys : (a : LeafBound) {l : List LeafBound} → Small a → All Small l → SortedKeys (map keyIn l) → map keyIn (sortedWith before a l) ≡ insertKey (keyIn a) (map keyIn l)
+unfolding sortedWith
 inserted-keys a h all-none o = sym (insert-nil (keyIn a))
 inserted-keys a h (all-more {a = b} {rest = l} g gs) o =
     let ih = inserted-keys a h gs (o .1) in
@@ -107,12 +107,12 @@ module _ (tree : Tree) (query : Trace) (few : length tree ≤ 8192) where
   reading-keys = sorted-keys small-leaves ∙ ap sortedOf (keys-of (leaves tree))
 
   -- .. and the leaves of those keys are it
-  pub leaves-in-order : map leafIn (sortedOf (map (nodeKey tree query) (leaves tree))) ≡ readingOrder tree query
-  leaves-in-order = ap (map leafIn) (sym reading-keys) ∙ back small-reading
+  pub leaves-in-order : map keyLeaf (sortedOf (map (nodeKey tree query) (leaves tree))) ≡ readingOrder tree query
+  leaves-in-order = ap (map keyLeaf) (sym reading-keys) ∙ back small-reading
     where
-      back : {l : List LeafBound} → All Small l → map leafIn (map keyIn l) ≡ l
+      back : {l : List LeafBound} → All Small l → map keyLeaf (map keyIn l) ≡ l
       back all-none = refl
       back (all-more {a} {rest = l} h hs) =
-          let p : numberIn (keyIn a) ≡ a .number = omega arith in
-          let q : boundIn (keyIn a) ≡ a .bound = omega arith in
+          let p : keyNumber (keyIn a) ≡ a .number = omega arith in
+          let q : keyBound (keyIn a) ≡ a .bound = omega arith in
           rw (p, q, back hs)

@@ -7,7 +7,7 @@ use lib.ListN.{length, List·getD-eq-default}
 use Rattle.heap.proofs.Sorting.{Above, above-less}
 use Rattle.dstree.specs.Measures.{Trace}
 use Rattle.dstree.specs.Node.{Test, Kind, leaf, inner, Tree, nodeAt}
-use Rattle.dstree.proofs.Formed.{nothing}
+use Rattle.dstree.proofs.Formed.{emptyLeaf}
 use Rattle.best_first.specs.NodeKeys.{nodeKey}
 use Rattle.best_first.specs.Branching.{Branching}
 use Rattle.best_first.specs.Waiting.{tip, fork, leafKeys, subtreeBy, subtreeFrom, subtree}
@@ -37,7 +37,7 @@ module _ (tree : Tree) (b : Branching tree) where
   past : (g i : ℕ) → length tree ≤ i → tip i ≡ subtreeFrom tree g i
   unfolding subtreeFrom
   past zero i h = refl
-  past (suc g) i h = rw (List·getD-eq-default tree nothing h)
+  past (suc g) i h = rw (List·getD-eq-default tree emptyLeaf h)
 
   enough : (f g i : ℕ) → length tree ≤ i + f → length tree ≤ i + g → subtreeFrom tree f i ≡ subtreeFrom tree g i
   unfolding subtreeFrom

@@ -15,19 +15,19 @@ keyBase = 8192
 abbrev pub keyOf : ℕ → ℕ → ℕ
 keyOf bound number = bound * keyBase + number
 
-abbrev pub boundIn : ℕ → ℕ
-boundIn key = key / keyBase
+abbrev pub keyBound : ℕ → ℕ
+keyBound key = key / keyBase
 
-abbrev pub numberIn : ℕ → ℕ
-numberIn key = key % keyBase
+abbrev pub keyNumber : ℕ → ℕ
+keyNumber key = key % keyBase
 
 -- every bound that a key of 64 bits holds is below this
 abbrev pub boundsBelow : ℕ
 boundsBelow = 2 ^ 64 / keyBase
 
 -- the leaf that a key is of
-abbrev pub leafIn : ℕ → LeafBound
-leafIn key = record { number = numberIn key; bound = boundIn key }
+abbrev pub keyLeaf : ℕ → LeafBound
+keyLeaf key = record { number = keyNumber key; bound = keyBound key }
 
 module _ (tree : Tree) (query : Trace) where
   abbrev pub nodeKey : ℕ → ℕ
@@ -43,4 +43,4 @@ module _ (tree : Tree) (query : Trace) where
 
   -- the keys that wait once an inner node's key is taken: its children's in its stead
   abbrev pub inStead : ℕ → ℕ → ℕ → List ℕ → List ℕ
-  inStead key left right waiting = insertKey (childKey (boundIn key) left) (insertKey (childKey (boundIn key) right) waiting)
+  inStead key left right waiting = insertKey (childKey (keyBound key) left) (insertKey (childKey (keyBound key) right) waiting)

@@ -6,7 +6,7 @@ use lib.ListN.{length}
 use Rattle.heap.specs.Keys.{pour}
 use Rattle.dstree.specs.Measures.{Trace}
 use Rattle.dstree.specs.Node.{Kind, leaf, inner, Tree, nodeAt}
-use Rattle.best_first.specs.NodeKeys.{numberIn, nodeKey}
+use Rattle.best_first.specs.NodeKeys.{keyNumber, nodeKey}
 
 -- ---- what is below a node, as a tree of its own
 
@@ -48,14 +48,14 @@ nodesBelow tree i = weight (subtree tree i)
 -- the keys of the leaves still to come, in order
 abbrev pub toCome : Tree → Trace → List ℕ → List ℕ
 toCome tree query [] = []
-toCome tree query (x ∷ xs) = pour (keysBelow tree (nodeKey tree query) (numberIn x)) (toCome tree query xs)
+toCome tree query (x ∷ xs) = pour (keysBelow tree (nodeKey tree query) (keyNumber x)) (toCome tree query xs)
 
 -- how many nodes are still to be taken
-abbrev pub load : Tree → List ℕ → ℕ
-load tree [] = 0
-load tree (x ∷ xs) = nodesBelow tree (numberIn x) + load tree xs
+abbrev pub nodesWaiting : Tree → List ℕ → ℕ
+nodesWaiting tree [] = 0
+nodesWaiting tree (x ∷ xs) = nodesBelow tree (keyNumber x) + nodesWaiting tree xs
 
 -- each is the key of a node
 abbrev pub Keyed : Tree → Trace → List ℕ → Type 0
 Keyed tree query [] = Unit {0}
-Keyed tree query (x ∷ xs) = (numberIn x < length tree) × (x ≡ nodeKey tree query (numberIn x)) × Keyed tree query xs
+Keyed tree query (x ∷ xs) = (keyNumber x < length tree) × (x ≡ nodeKey tree query (keyNumber x)) × Keyed tree query xs

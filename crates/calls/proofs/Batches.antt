@@ -15,7 +15,7 @@ use Rattle.dstree.specs.Measures.{Trace, Measures, sampleLimit}
 use Rattle.dstree.specs.Node.{Tree}
 use Rattle.dstree.specs.Matching.{matchOf}
 use Rattle.dstree.specs.KNearest.{listPlaces}
-use Rattle.dstree.specs.Batch.{isBatch, queriesIn, Batch, answerIn, batchOf, answerBy, bestAmong, batchRead, batchBySteps, StepsClaims}
+use Rattle.dstree.specs.Batch.{isBatch, queriesIn, Batch, answerIn, batchOf, nearOrZero, bestAmong, batchRead, batchBySteps, StepsClaims}
 use Rattle.dstree.specs.Batch.{BatchClaims, OneClaims}
 use Rattle.dstree.specs.Sheet.{pieces}
 use Rattle.dstree.specs.WellFormed as abstract
@@ -112,7 +112,7 @@ batches-anywhere lent count run trail list memory memory′ said f m answers =
     let one = none-first (not (isBatch count (length list))) badBatch _ (parts .1) in
     let two = none-first (not (eqb (length run) (measuresOf t .n * count))) wrongTrace _ (one .1) in
     let three = none-first (eqb (traceCount t) 0) empty _ (two .1) in
-    let formed = subst (λ (n : ℕ). T (abstract.wellFormed sampleLimit (measuresOf t) n (treeIn t))) (sym (traces-size t))
+    let formed = subst (λ (n : ℕ). T (abstract.wellFormedTree sampleLimit (measuresOf t) n (treeIn t))) (sym (traces-size t))
     (tree-passes t (accepted t (parts .0) .formed)) in
     let some-trace : 0 < length (tracesIn t) =
     strict (omega arith) (λ q. eqb-false (traceCount t) 0 (three .0) (omega (arith, q, traces-size t))) in
@@ -123,7 +123,7 @@ batches-anywhere lent count run trail list memory memory′ said f m answers =
           (record {
             by-steps = refl;
             steps-are = steps-of-formed sampleLimit (measuresOf t) (tracesIn t) (treeIn t) formed some-trace queries;
-            one-each = length-map queries (λ query. answerBy (bestAmong (tracesIn t) (treeIn t) query read))
+            one-each = length-map queries (λ query. nearOrZero (bestAmong (tracesIn t) (treeIn t) query read))
                 ∙ pieces-length (measuresOf t .n) count run;
           }),
       one-call _ memory memory′ said f .works (known .0) .1,

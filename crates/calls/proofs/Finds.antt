@@ -15,7 +15,7 @@ use Rattle.integer.proofs.Lists.{in-nil}
 use Rattle.dstree.specs.Measures.{Trace}
 use Rattle.dstree.specs.Node.{Kind, leaf, inner, Tree, nodeAt}
 use Rattle.dstree.specs.Matching.{LeafBound, isLeaf, numbersIn, readingOrder, readOn, Near, nearAt, nearer, bestWith, Search}
-use Rattle.dstree.specs.Matching.{distancesIn, readLeaf, isAbove, searchOn, searched, Match, answerOf, matchBySteps}
+use Rattle.dstree.specs.Matching.{distancesIn, readLeaf, isAbove, searchOn, searched, Match, matchFrom, matchBySteps}
 use Rattle.dstree.specs.Refusals.{Refusal, Condition, _refuses_, firstOf, wrongTrace, empty}
 use Rattle.dstree.proofs.Conditions.{none-first, first-some, first-none, none-both}
 use Rattle.dstree.proofs.Formed.{Kept, number-node}
@@ -83,8 +83,8 @@ unfolding isLeaf numbersIn isIn
 has-leaf t (leaf numbers) h = tt
 has-leaf t (inner test left right) h = absurd h
 
-answered-some : (s : Search) (o : Option Near) → Some o → Some (answerOf s o)
-unfolding answerOf
+answered-some : (s : Search) (o : Option Near) → Some o → Some (matchFrom s o)
+unfolding matchFrom
 answered-some s (some b) h = tt
 answered-some s none h = absurd h
 
@@ -125,7 +125,7 @@ module _ (t : Tables) (w : T (wellFormed t)) (some-trace : 0 < traceCount t) (qu
   finds =
       let s = searched (tracesIn t) (treeIn t) query in
       let some-best = first-read (tracesIn t) (treeIn t) query (readingOrder (treeIn t) query) all-full a-leaf in
-      not-none (answerOf s (s .best)) (answered-some s (s .best) some-best)
+      not-none (matchFrom s (s .best)) (answered-some s (s .best) some-best)
 
 -- ---- the conditions of a match
 

@@ -19,7 +19,7 @@ use Rattle.tables.specs.Layout.{layout, nPlace, capacityPlace, leafSizePlace, c
 use Rattle.tables.specs.Tables.{Tables, lentOf, field, measuresOf, traceCount}
 use Rattle.tables.specs.View.{wellFormed}
 use Rattle.tables.specs.Judge.{lentConditionsOf, Room}
-use Rattle.tables.specs.Beginning.{Begins, Within}
+use Rattle.tables.specs.Beginning.{Begins, LentWithin}
 use Rattle.tables.specs.Answers.{madeConditions}
 use Rattle.tables.proofs.Judged.{room-of}
 use Rattle.tables.proofs.Beginning.{begins-between}
@@ -40,17 +40,17 @@ short-room lengths m rest e =
 -- ---- the conditions before a call's own, by what lengths and measures decide
 
 -- the two lists refuse the same first
-abbrev pub Same : List Condition → List Condition → Tables → Measures → Type 0
-Same rest others t m = firstOf (madeConditions t ++ rest) ≡ firstOf (shortConditions layout (lentOf t) m ++ others)
+abbrev pub SameRefusal : List Condition → List Condition → Tables → Measures → Type 0
+SameRefusal rest others t m = firstOf (madeConditions t ++ rest) ≡ firstOf (shortConditions layout (lentOf t) m ++ others)
 
 module _ (rest others : List Condition) (t : Tables) (m : Measures) where
-  by-short : controlShort layout (lentOf t) ≡ true → Same rest others t m
+  by-short : controlShort layout (lentOf t) ≡ true → SameRefusal rest others t m
   unfolding madeConditions lentConditionsOf firstOf
   by-short e = rw e
 
   -- with a long enough control record that has these measures
   by-long : controlShort layout (lentOf t) ≡ false → measuresOf t ≡ m → inRange m ≡ true → (c : Bool) → tablesShort layout (lentOf t) m ≡ c
-      → (c ≡ false → (wellFormed t ≡ true) × (firstOf rest ≡ firstOf others)) → Same rest others t m
+      → (c ≡ false → (wellFormed t ≡ true) × (firstOf rest ≡ firstOf others)) → SameRefusal rest others t m
   unfolding madeConditions lentConditionsOf firstOf
   by-long long measured range true e f = rw (long, measured, range, e)
   by-long long measured range false e f = rw (long, measured, range, e, f refl .0) (f refl .1)
@@ -69,11 +69,11 @@ module _ (memory part : Tables) (begins : Begins part memory) (m : Measures) (is
   -- so what is refused before a call's own conditions is what lengths refuse, where long tables are well formed and those then refuse the
   -- same
   pub judged-same : (rest others : List Condition) → inRange m ≡ true
-      → (Room (lentOf part) m → T (wellFormed part) × (firstOf rest ≡ firstOf others)) → Same rest others part m
+      → (Room (lentOf part) m → T (wellFormed part) × (firstOf rest ≡ firstOf others)) → SameRefusal rest others part m
   unfolding controlShort
   judged-same rest others range same = by (controlShort layout (lentOf part)) refl
     where
-      by : (c : Bool) → controlShort layout (lentOf part) ≡ c → Same rest others part m
+      by : (c : Bool) → controlShort layout (lentOf part) ≡ c → SameRefusal rest others part m
       by true e = by-short rest others part m e
       by false e =
           by-long rest others part m e (measures-lent (ltb-false (length (part .control)) controlFields e)) range
@@ -98,13 +98,14 @@ module _ {memory : Tables} {b : Book} (keeps : Keeps memory b) (part : Tables) (
   -- long enough, they begin with the library's tables, and hold what these hold
   pub library-begins : Room (lentOf part) m → Begins own part
   library-begins r = begins-between own part memory (keeps .needed-places) begins
-      (subst (λ (l : Lent). Within l (lentOf part)) (sym own-lent) (room-within r))
+      (subst (λ (l : Lent). LentWithin l (lentOf part)) (sym own-lent) (room-within r))
 
   pub part-holds : Room (lentOf part) m → Holds part m (b .traces)
   part-holds r = holds-whole (library-begins r) own-holds
 
   -- so what is refused before a call's own conditions is what the book refuses, where those then refuse the same
-  pub made-same : (rest others : List Condition) → (Holds part m (b .traces) → firstOf rest ≡ firstOf others) → Same rest others part m
+  pub made-same : (rest others : List Condition) → (Holds part m (b .traces) → firstOf rest ≡ firstOf others)
+      → SameRefusal rest others part m
   made-same rest others same =
       judged-same memory part begins m (holds-whole (keeps .needed-places) own-holds .measures-are) rest others
       (test-true (inRange m) (library-range m (b .traces) (keeps .library)))

@@ -16,11 +16,11 @@ use Rattle.dstree.specs.Book.{Lent}
 use Rattle.tables.specs.Layout.{controlFields, recordPlaces}
 use Rattle.tables.specs.Tables.{Tables, lentOf, measuresOf, filled}
 use Rattle.tables.specs.Judge.{lent, Room}
-use Rattle.tables.specs.Beginning.{Begins, Within}
+use Rattle.tables.specs.Beginning.{Begins, LentWithin}
 use Rattle.tables.specs.Answers.{opened}
 use Rattle.tables.proofs.Beginning.{tables-same, opened-lent}
 use Rattle.insertion_memory.specs.Memory.{addedTo}
-use Rattle.insertion_memory.proofs.Meaning.{Added, meaning}
+use Rattle.insertion_memory.proofs.Meaning.{AfterAdding, meaning}
 use Rattle.tables.specs.Holds.{Holds}
 use Rattle.insertion_memory.proofs.Made.{takes-more, made-holds, shorter}
 use Rattle.insertion_memory.proofs.AddedBeginnings.{added-begins}
@@ -48,7 +48,7 @@ blank-room : (m : Measures) → Room (lentOf (blank m)) m
 blank-room m = subst (λ (l : Lent). Room l m) (sym (blank-lent m)) (need-room m)
 
 -- long enough for the measures is as long as the need
-pub room-within : {lengths : Lent} {m : Measures} → Room lengths m → Within (need m) lengths
+pub room-within : {lengths : Lent} {m : Measures} → Room lengths m → LentWithin (need m) lengths
 room-within r = record {
   control-within = r .control-room;
   samples-within = r .samples-room;
@@ -106,7 +106,7 @@ module _ (t : Tables) (m : Measures) (room : Room (lentOf t) m) where
   loaded-holds traces library = made-holds t m (library-range m traces library) room traces library
 
   -- one more adding, as its meaning has it
-  adding-to : (before : List Trace) (x : Trace) → T (isLibrary sampleLimit m (before ++ (x ∷ []))) → Added (loaded t m before) x
+  adding-to : (before : List Trace) (x : Trace) → T (isLibrary sampleLimit m (before ++ (x ∷ []))) → AfterAdding (loaded t m before) x
   adding-to before x library =
       let h = loaded-holds before (shorter m before (x ∷ []) library) in
       let takes = takes-more m (loaded t m before) before x h library in

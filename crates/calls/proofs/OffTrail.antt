@@ -14,7 +14,7 @@ use borrow.Author.Tests.{ltb-true, ltb-false}
 use Rattle.integer.specs.Words.{isIn}
 use Rattle.integer.proofs.Lists.{in-is, map-agree}
 use Rattle.dstree.specs.Measures.{Trace, Measures}
-use Rattle.dstree.specs.Matching.{Search, Near, answerOf, searched, matchBySteps}
+use Rattle.dstree.specs.Matching.{Search, Near, matchFrom, searched, matchBySteps}
 use Rattle.dstree.specs.Batch.{queriesIn, batchBySteps}
 use Rattle.dstree.specs.KNearest.{listed, kNearestBySteps, SameIn}
 use Rattle.dstree.specs.Refusals.{Refusal, firstOf}
@@ -145,8 +145,8 @@ answered (some why) t beside e r q = let z : _≡_ {A = ℕ} 0 1 = cc in absurd 
 answered none t beside e r q = (refl, cc)
 
 -- the trail of a match is its search's
-match-trail : (s : Search) (o : Option Near) (trail : List ℕ) → trailFound (resultOf (answerOf s o)) ≡ some trail → s .trail ≡ trail
-unfolding answerOf resultOf trailFound
+match-trail : (s : Search) (o : Option Near) (trail : List ℕ) → trailFound (resultOf (matchFrom s o)) ≡ some trail → s .trail ≡ trail
+unfolding matchFrom resultOf trailFound
 match-trail s none trail e = let z : _≡_ {A = ℕ} 0 1 = cc in absurd (omega arith)
 match-trail s (some best) trail e = cc
 
@@ -168,7 +168,7 @@ module _ (lent : Lent) {these other : Tables} {trail : List ℕ} (differ : Diffe
       let both : searched (tracesIn u) (treeIn t) query ≡ s = trees.off-trail (tracesIn t) (tracesIn u) (treeIn t) query
       (subst (λ (l : List ℕ). SameIn (treeIn t) l (tracesIn t) (tracesIn u)) (sym trails) (all-same lent ok differ)) in
       let same : matchBySteps (tracesIn u) (treeIn u) query ≡ matchBySteps (tracesIn t) (treeIn t) query =
-      ap (λ (x : Search). answerOf x (x .best)) both in
+      ap (λ (x : Search). matchFrom x (x .best)) both in
       ap (replyTo (matching query place)) (also-is lent ok differ)
       ∙ same-work (matching query place) t u fine (match-conditions-same t (u .samples) (as-many lent ok differ) query place)
       (rw same) (rw same)

@@ -19,10 +19,10 @@ use Rattle.dstree.proofs.Conditions.{none-both}
 use Rattle.dstree.proofs.Closed.{match-exact}
 use Rattle.dstree.proofs.Ranks.{list-claims}
 use Rattle.dstree.proofs.KLaws.{k-nearest-exact, one-exact}
-use Rattle.dstree.proofs.Search.{Low, lowest}
+use Rattle.dstree.proofs.Search.{LowestAt, lowest}
 use Rattle.tables.specs.Tables.{Tables, lentOf, measuresOf}
 use Rattle.tables.specs.View.{treeIn, tracesIn}
-use Rattle.tables.specs.Beginning.{firstPlaces, Within}
+use Rattle.tables.specs.Beginning.{firstPlaces, LentWithin}
 use Rattle.tables.specs.Answers.{madeConditions}
 use Rattle.tables.proofs.Beginning.{begins-within, first-begins, first-lent}
 use Rattle.calls.specs.Trusted.{Trusts}
@@ -50,7 +50,7 @@ module _ (stored : List Trace) (tree : Tree) (query : Trace) (some-trace : 0 < l
   unfolding leastDistance
   least-is t h = least-low (in-map (distance query) (in-getD stored t [] h))
 
-  low : Low d stored query 0
+  low : LowestAt d stored query 0
   unfolding leastDistance
   low = lowest d stored query 0 (least-in (map (distance query) stored) (omega (arith, some-trace, length-map stored (distance query))))
 
@@ -80,9 +80,9 @@ same-lengths differ = rw (differ .control-same, differ .nodes-same, differ .link
 pub places-here : {c : Call} {memory other other′ : Tables} {said : Reply} {trail : List ℕ} → DifferOutside trail memory other
     → Follows c other said other′ → lentOf (firstPlaces (c .lent) memory) ≡ c .lent
 places-here {c} {memory} {other} differ g =
-    let within = subst (λ (l : Lent). Within l (lentOf other)) (g .has-places)
+    let within = subst (λ (l : Lent). LentWithin l (lentOf other)) (g .has-places)
     (begins-within (firstPlaces (c .lent) other) other (first-begins (c .lent) other)) in
-    first-lent (c .lent) memory (subst (Within (c .lent)) (same-lengths differ) within)
+    first-lent (c .lent) memory (subst (LentWithin (c .lent)) (same-lengths differ) within)
 
 -- the call there, as it is made here
 pub call-here : (c : Call) (memory : Tables) → lentOf (firstPlaces (c .lent) memory) ≡ c .lent → Typed (c .ask) (firstPlaces (c .lent) memory)

@@ -25,7 +25,7 @@ use Rattle.tables.specs.Layout.{layout}
 use Rattle.tables.specs.Tables.{Tables, lentOf, measuresOf, traceCount}
 use Rattle.tables.specs.View.{treeIn, tracesIn}
 use Rattle.tables.specs.Judge.{Room}
-use Rattle.tables.specs.Beginning.{Begins, Within}
+use Rattle.tables.specs.Beginning.{Begins, LentWithin}
 use Rattle.tables.specs.Answers.{madeConditions}
 use Rattle.tables.specs.Holds.{Long}
 use Rattle.tables.proofs.Views.{traces-size, tree-passes, tree-formed}
@@ -39,7 +39,7 @@ use Rattle.calls.specs.Library.{libraryTables, Keeps}
 use Rattle.calls.specs.Trusted.{bookIn, Trusts}
 use Rattle.calls.specs.Effects.{checks}
 use Rattle.calls.proofs.Library.{library-range, library-holds, library-lent, need-room}
-use Rattle.calls.proofs.Kept.{Same, measures-lent, judged-same}
+use Rattle.calls.proofs.Kept.{SameRefusal, measures-lent, judged-same}
 
 -- ---- what such tables hold
 
@@ -56,10 +56,10 @@ module _ {memory : Tables} {b : Book} (k : Trusts memory b) where
       (leb (length (b .traces)) (b .measures .capacity) ∷ every (isTrace sampleLimit (b .measures .n)) (b .traces) ∷ []) (k .library) .1 .1
 
   -- the rules hold of the book's measures and traces with the tables' tree
-  pub tree-is-formed : T (abstract.wellFormed sampleLimit (b .measures) (length (b .traces)) (treeIn memory))
+  pub tree-is-formed : T (abstract.wellFormedTree sampleLimit (b .measures) (length (b .traces)) (treeIn memory))
   tree-is-formed =
-      subst (λ (m : Measures). T (abstract.wellFormed sampleLimit m (length (b .traces)) (treeIn memory))) (k .measures-are)
-      (subst (λ (n : ℕ). T (abstract.wellFormed sampleLimit (measuresOf memory) n (treeIn memory))) count-in (tree-passes memory (k .formed)))
+      subst (λ (m : Measures). T (abstract.wellFormedTree sampleLimit m (length (b .traces)) (treeIn memory))) (k .measures-are)
+      (subst (λ (n : ℕ). T (abstract.wellFormedTree sampleLimit (measuresOf memory) n (treeIn memory))) count-in (tree-passes memory (k .formed)))
 
   pub book-exact : T (isExact (b .traces) (treeIn memory))
   book-exact = subst (λ (l : List Trace). T (isExact l (treeIn memory))) (k .traces-are) (k .exact)
@@ -85,7 +85,7 @@ agree-trusts a room k =
       exact = rw (traces, tree-same a (k .formed) (long-in k)) (k .exact);
     }
 
-room-more : {short long : Lent} {m : Measures} → Within short long → Room short m → Room long m
+room-more : {short long : Lent} {m : Measures} → LentWithin short long → Room short m → Room long m
 room-more h r = record {
   control-room = omega (arith, h .control-within, r .control-room);
   samples-room = omega (arith, h .samples-within, r .samples-room);
@@ -119,7 +119,8 @@ module _ {memory : Tables} {b : Book} (k : Trusts memory b) {part : Tables} (beg
       subst (Room (lentOf part)) (measures-lent memory part begins (b .measures) (k .measures-are) (r .control-room)) r
 
   -- what is refused before a call's own conditions is what lengths refuse, where those then refuse the same
-  pub trusted-same : (rest others : List Condition) → (Trusts part b → firstOf rest ≡ firstOf others) → Same rest others part (b .measures)
+  pub trusted-same : (rest others : List Condition) → (Trusts part b → firstOf rest ≡ firstOf others)
+      → SameRefusal rest others part (b .measures)
   trusted-same rest others same =
       judged-same memory part begins (b .measures) (k .measures-are) rest others
       (test-true (inRange (b .measures)) (library-range (b .measures) (b .traces) (k .library)))

@@ -69,7 +69,7 @@ add-trusts {t} {b} k x is-trace less =
     let size : length x ≡ measuresOf t .n = trace-length sampleLimit (measuresOf t .n) x is in
     let room : traceCount t < measuresOf t .capacity =
     omega (arith, less, count-in k, ap (λ (m : Measures). m .capacity) (k .measures-are)) in
-    let passes-it = subst (λ (n : ℕ). T (abstract.wellFormed sampleLimit (measuresOf t) n (treeIn t))) (sym (traces-size t))
+    let passes-it = subst (λ (n : ℕ). T (abstract.wellFormedTree sampleLimit (measuresOf t) n (treeIn t))) (sym (traces-size t))
     (tree-passes t (k .formed)) in
     let a = meaning t x (k .formed) (long-in k) size room in
     record {
@@ -382,7 +382,7 @@ loose-is {lent} {memory} f a =
     let q = refused-with (firstOf (checks t .conditions)) t [] (checks t) looseRecord (sym (ap (λ (r : Reply). r .answer) (reply-is f)) ∙ a) in
     let p = last-holds t (not (isExact (tracesIn t) (treeIn t))) q in
     let w = judged.accepted t (p .0) .formed in
-    let passes = subst (λ (n : ℕ). T (abstract.wellFormed sampleLimit (measuresOf t) n (treeIn t))) (sym (traces-size t)) (tree-passes t w) in (
+    let passes = subst (λ (n : ℕ). T (abstract.wellFormedTree sampleLimit (measuresOf t) n (treeIn t))) (sym (traces-size t)) (tree-passes t w) in (
       w,
       λ r. let e = test-true (isExact (tracesIn t) (treeIn t)) (exactness sampleLimit (measuresOf t) (tracesIn t) (treeIn t) passes .ranges-exact r) in
           let z : _≡_ {A = ℕ} 0 1 = cc (p .1, e) in omega arith,

@@ -16,7 +16,7 @@ use Rattle.tables.specs.Tables.{recordOf}
 use Rattle.tables.specs.View.{smallAt, numbersFrom, kindIn}
 use Rattle.tables.specs.Walk.{numbersOf}
 use Rattle.tables.proofs.Views.{tree-size, tree-kind, tree-leaf, tree-inside}
-use Rattle.checking.specs.Laid.{counted, treeBy, Walks}
+use Rattle.checking.specs.Laid.{countedTables, treeBy, Walks}
 
 -- an inner node with these children
 pub record Branches (kind : Kind) (l r : ℕ) : Type 0 where
@@ -36,7 +36,7 @@ module _ {nodes : List ℤ} {links : List ℕ} {k m : ℕ} (w : Walks nodes link
   tree = treeBy nodes links k m
 
   pub size-is : length tree ≡ m
-  size-is = tree-size (counted nodes links k m)
+  size-is = tree-size (countedTables nodes links k m)
 
   module _ (j : ℕ) (h : j < m) where
     abbrev r : List ℤ
@@ -46,13 +46,13 @@ module _ {nodes : List ℤ} {links : List ℕ} {k m : ℕ} (w : Walks nodes link
     in-table = (omega (arith, w .nodes-room), omega (arith, w .nodes-few))
 
     pub in-tree : j < length (treeBy nodes links k m)
-    in-tree = tree-inside (counted nodes links k m) j h
+    in-tree = tree-inside (countedTables nodes links k m) j h
 
     -- ---- a leaf
 
     module _ (e : smallAt (recordOf nodes j) kindPlace ≡ 0) where
       pub leaf-is : nodeAt (treeBy nodes links k m) j .kind ≡ leaf (numbersOf links k (smallAt (recordOf nodes j) firstPlace))
-      leaf-is = tree-leaf (counted nodes links k m) j h e
+      leaf-is = tree-leaf (countedTables nodes links k m) j h e
 
       pub first-stored : smallAt (recordOf nodes j) firstPlace < k
       unfolding numbersFrom numbersIn
@@ -71,7 +71,7 @@ module _ {nodes : List ℤ} {links : List ℕ} {k m : ℕ} (w : Walks nodes link
           (smallAt (recordOf nodes j) rightPlace)
       inner-is =
           let b = branches links k r (smallAt r kindPlace) e (w .named j h) in
-          record { test = b .test; is = tree-kind (counted nodes links k m) j h ∙ b .is }
+          record { test = b .test; is = tree-kind (countedTables nodes links k m) j h ∙ b .is }
 
       pub left-above : (j < smallAt (recordOf nodes j) firstPlace) × (smallAt (recordOf nodes j) firstPlace < m)
       left-above =

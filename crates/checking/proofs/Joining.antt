@@ -16,7 +16,7 @@ use Rattle.dstree.specs.Figures.{Run, sumOn, scatterOn}
 use Rattle.dstree.specs.Node.{Segment}
 use Rattle.dstree.specs.Adding.{segmentOf}
 use Rattle.leaf_figures.specs.Sides.{segmentBy}
-use Rattle.leaf_figures.specs.declared.sides.Figures.{Figures}
+use Rattle.leaf_figures.specs.declared.sides.SideRange.{SideRange}
 use Rattle.checking.specs.Compared.{joinedFigures}
 
 -- ---- a choice in which order does not matter
@@ -77,7 +77,7 @@ mapped-both f choice other assoc x y h g =
 
 -- ---- figures
 
-pub joined-is : (on : Run) (x y : List Trace) (a b : Figures) → 0 < length x → 0 < length y → segmentBy (on .last) a ≡ segmentOf x on
+pub joined-is : (on : Run) (x y : List Trace) (a b : SideRange) → 0 < length x → 0 < length y → segmentBy (on .last) a ≡ segmentOf x on
     → segmentBy (on .last) b ≡ segmentOf y on → segmentBy (on .last) (joinedFigures a b) ≡ segmentOf (x ++ y) on
 unfolding joinedFigures segmentOf
 joined-is on x y a b h g p q =

@@ -19,8 +19,8 @@ use Rattle.dstree.proofs.Formed.{child-node}
 use Rattle.dstree.proofs.Change.{has-inner, has-left, has-right}
 use Rattle.dstree.proofs.TracesBelow.{some-below, below-of-inner}
 use Rattle.dstree.proofs.BelowOnce.{few-below}
-use Rattle.checking.specs.Laid.{Sized, PutFrom, StandsAt, LaidTo, LaidOut}
-use Rattle.checking.proofs.Standing.{root-stands, stands-inside, left-stands, right-stands, put-stands, still-stands, standing-is}
+use Rattle.checking.specs.Laid.{SizesLaid, PutFrom, StartsAt, LaidTo, LaidOut}
+use Rattle.checking.proofs.Starting.{root-starts, starts-inside, left-starts, right-starts, put-there, still-there, from-start-is}
 
 module _ {n count : ℕ} {tree : Tree} (s : Shape n count tree) where
   -- ---- no node yet
@@ -34,9 +34,9 @@ module _ {n count : ℕ} {tree : Tree} (s : Shape n count tree) where
     filled = λ j h. absurd (omega arith);
   }
     where
-      root : (j : ℕ) → j < length tree → ((p : ℕ) → T (hasChild j (nodeAt tree p .kind)) → p < 0) → StandsAt tree j
+      root : (j : ℕ) → j < length tree → ((p : ℕ) → T (hasChild j (nodeAt tree p .kind)) → p < 0) → StartsAt tree j
           (getD (set starts 0 0) j 0)
-      root zero h none = rw (getD-set-same starts 0 0 0 (omega arith)) (root-stands tree)
+      root zero h none = rw (getD-set-same starts 0 0 0 (omega arith)) (root-starts tree)
       root (suc j) h none = let p : Parent tree (suc j) = s .parented (suc j) (omega arith) h in absurd
           (omega (arith, none (p .parent) (p .has)))
 
@@ -44,7 +44,7 @@ module _ {n count : ℕ} {tree : Tree} (s : Shape n count tree) where
 
   module _ {j : ℕ} (inside : j < length tree) {starts order : List ℕ} (old : LaidTo tree j starts order) where
     -- it has its place
-    pub here : StandsAt tree j (getD starts j 0)
+    pub here : StartsAt tree j (getD starts j 0)
     here = old .started j inside (λ p h. s .child p j h .0)
 
     -- a leaf
@@ -71,8 +71,8 @@ module _ {n count : ℕ} {tree : Tree} (s : Shape n count tree) where
             → getD after (getD starts i 0 + x) 0 ≡ getD (tracesBelow tree 0) (getD starts i 0 + x) 0
         by i h g is x k (yes q) =
             subst (λ (a : ℕ). getD after (getD starts a 0 + x) 0 ≡ getD (tracesBelow tree 0) (getD starts a 0 + x) 0) (sym q)
-            (put-stands here put x (subst (λ (a : ℕ). x < length (tracesBelow tree a)) q k))
-        by i h g is x k (no f) = still-stands here put (getD starts i 0 + x) (old .filled i (strict (omega arith) f) g is x k)
+            (put-there here put x (subst (λ (a : ℕ). x < length (tracesBelow tree a)) q k))
+        by i h g is x k (no f) = still-there here put (getD starts i 0 + x) (old .filled i (strict (omega arith) f) g is x k)
 
     -- an inner node
     module _ {test : Test} {l r : ℕ} (e : nodeAt tree j .kind ≡ inner test l r) where
@@ -127,9 +127,9 @@ module _ {n count : ℕ} {tree : Tree} (s : Shape n count tree) where
             not-leaf i is q = subst (λ (a : Kind). T (isLeaf a)) (ap (λ (k : ℕ). nodeAt tree k .kind) q ∙ e) is
 
             begun : (i : ℕ) → i < length tree → ((p : ℕ) → T (hasChild i (nodeAt tree p .kind)) → p < j + 1) → Dec (i ≡ l) → Dec (i ≡ r)
-                → StandsAt tree i (getD after i 0)
-            begun i h parents (yes q) d = rw (q, at-l) (left-stands here l r both)
-            begun i h parents (no f) (yes q) = rw (q, at-r) (right-stands here l r both)
+                → StartsAt tree i (getD after i 0)
+            begun i h parents (yes q) d = rw (q, at-l) (left-starts here l r both)
+            begun i h parents (no f) (yes q) = rw (q, at-r) (right-starts here l r both)
             begun i h parents (no f) (no g) =
                 rw (at-other i f g) (old .started i h (λ p k. strict (omega (arith, parents p k)) (λ z. neither p k z)))
               where
@@ -162,8 +162,8 @@ module _ {n count : ℕ} {tree : Tree} (s : Shape n count tree) where
   -- ---- every node
 
   module _ {starts order : List ℕ} (laid : LaidTo tree (length tree) starts order) where
-    stands : (j : ℕ) → j < length tree → StandsAt tree j (getD starts j 0)
-    stands j h = laid .started j h (λ p g. child-node tree p j g)
+    starts-at : (j : ℕ) → j < length tree → StartsAt tree j (getD starts j 0)
+    starts-at j h = laid .started j h (λ p g. child-node tree p j g)
 
     covered : (fuel j : ℕ) → length tree ≤ j + fuel → j < length tree → (x : ℕ) → x < length (tracesBelow tree j)
         → getD order (getD starts j 0 + x) 0 ≡ getD (tracesBelow tree 0) (getD starts j 0 + x) 0
@@ -200,15 +200,15 @@ module _ {n count : ℕ} {tree : Tree} (s : Shape n count tree) where
                 subst (λ (a : ℕ). getD order a 0 ≡ getD (tracesBelow tree 0) a 0) same
                 (ih r (omega (arith, cr .0)) (cr .1) (x - length (tracesBelow tree l)) (omega (arith, size)))
 
-    pub laid-out : {sizes : List ℕ} → Sized tree sizes 0 → count ≤ 4096 → LaidOut tree sizes starts order
+    pub laid-out : {sizes : List ℕ} → SizesLaid tree sizes 0 → count ≤ 4096 → LaidOut tree sizes starts order
     laid-out {sizes} sized few = record {
       sizes-places = sized .places;
       starts-places = laid .starts-places;
       order-places = laid .order-places;
       inside = λ j h. rw (sized .sized j (omega arith) h) (room j h);
       below = λ j h. rw (sized .sized j (omega arith) h)
-          (standing-is (stands j h) order (omega (arith, room j h, laid .order-places)) (covered (length tree) j (omega arith) h));
+          (from-start-is (starts-at j h) order (omega (arith, room j h, laid .order-places)) (covered (length tree) j (omega arith) h));
     }
       where
         room : (j : ℕ) → j < length tree → getD starts j 0 + length (tracesBelow tree j) ≤ 4096
-        room j h = omega (arith, stands-inside (stands j h) (some-below s j h), few-below s 0)
+        room j h = omega (arith, starts-inside (starts-at j h) (some-below s j h), few-below s 0)

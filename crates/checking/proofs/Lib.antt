@@ -2,7 +2,7 @@ pub mod Steps
 pub mod Put
 pub mod ByKind
 pub mod Sizing
-pub mod Standing
+pub mod Starting
 pub mod Laying
 pub mod Joining
 pub mod Segments

@@ -8,13 +8,13 @@ use lib.Seq.{getD-set-same, getD-set-other}
 use Rattle.integer.proofs.Lists.{same-or-not, strict}
 use Rattle.dstree.specs.Node.{Tree}
 use Rattle.dstree.specs.Checking.{tracesBelow}
-use Rattle.checking.specs.Laid.{Sized}
+use Rattle.checking.specs.Laid.{SizesLaid}
 
-pub sized-none : (tree : Tree) (sizes : List ℕ) (from : ℕ) → length sizes ≡ 8192 → length tree ≤ from → Sized tree sizes from
+pub sized-none : (tree : Tree) (sizes : List ℕ) (from : ℕ) → length sizes ≡ 8192 → length tree ≤ from → SizesLaid tree sizes from
 sized-none tree sizes from places h = record { places = places; sized = λ j g k. absurd (omega arith) }
 
-pub sized-more : (tree : Tree) (sizes : List ℕ) (j : ℕ) → j < length sizes → Sized tree sizes (j + 1)
-    → Sized tree (set sizes j (length (tracesBelow tree j))) j
+pub sized-more : (tree : Tree) (sizes : List ℕ) (j : ℕ) → j < length sizes → SizesLaid tree sizes (j + 1)
+    → SizesLaid tree (set sizes j (length (tracesBelow tree j))) j
 sized-more tree sizes j room old = record {
   places = length-set sizes j (length (tracesBelow tree j)) ∙ old .places;
   sized = λ i h g. by i h g (same-or-not i j);

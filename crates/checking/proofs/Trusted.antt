@@ -25,7 +25,7 @@ use Rattle.tables.proofs.Views.{tree-size, tree-segments, tree-inside, trace-at
 use Rattle.tables.proofs.Linked.{tables-rise}
 use Rattle.well_formed.proofs.Once.{every-same}
 use Rattle.leaf_figures.specs.Rows.{tracesAt}
-use Rattle.checking.specs.Laid.{treeBy, Walks, LaidOut, numbersAt, Ready}
+use Rattle.checking.specs.Laid.{treeBy, Walks, LaidOut, numbersLaidAt, ReadyToCompare}
 use Rattle.checking.specs.Compared.{exactIn}
 use Rattle.checking.proofs.ByKind.{left-above, right-above, inner-below}
 
@@ -68,14 +68,14 @@ module _ (t : Tables) (w : T (wellFormed t)) (long : Long t) where
 
   module _ {sizes starts order : List ℕ} (laid : LaidOut (treeBy (t .nodes) (t .links) (traceCount t)
       (nodeCount t)) sizes starts order) where
-    below : (j : ℕ) → j < m → numbersAt sizes starts order j ≡ tracesBelow (treeIn t) j
-    below j h = subst (λ (tree : Tree). numbersAt sizes starts order j ≡ tracesBelow tree j) same-tree
+    below : (j : ℕ) → j < m → numbersLaidAt sizes starts order j ≡ tracesBelow (treeIn t) j
+    below j h = subst (λ (tree : Tree). numbersLaidAt sizes starts order j ≡ tracesBelow tree j) same-tree
         (laid .below j (subst (λ (tree : Tree). j < length tree) (sym same-tree) (tree-inside t j h)))
 
-    stored : (j x : ℕ) → j < m → In x (numbersAt sizes starts order j) → x < k
+    stored : (j x : ℕ) → j < m → In x (numbersLaidAt sizes starts order j) → x < k
     stored j x h i = below-stored shape (listed-below shape {k = j} (subst (In x) (below j h) i))
 
-    pub ready : Ready (t .samples) (t .nodes) (measuresOf t .n) (nodeCount t) sizes starts order
+    pub ready : ReadyToCompare (t .samples) (t .nodes) (measuresOf t .n) (nodeCount t) sizes starts order
     unfolding samplesNeeded
     ready = record {
       narrow = measures-fit t w .n-high;
@@ -99,8 +99,8 @@ module _ (t : Tables) (w : T (wellFormed t)) (long : Long t) where
             let most : k * n ≤ measuresOf t .capacity * n = mul-le-mul-right n count-most in
             omega (arith, less, most, long .samples-long)
 
-        both : (j : ℕ) → j < m → 1 ≤ smallAt (recordOf (t .nodes) j) kindPlace → numbersAt sizes starts order j
-            ≡ numbersAt sizes starts order (smallAt (recordOf (t .nodes) j) firstPlace) ++ numbersAt sizes starts order
+        both : (j : ℕ) → j < m → 1 ≤ smallAt (recordOf (t .nodes) j) kindPlace → numbersLaidAt sizes starts order j
+            ≡ numbersLaidAt sizes starts order (smallAt (recordOf (t .nodes) j) firstPlace) ++ numbersLaidAt sizes starts order
             (smallAt (recordOf (t .nodes) j) rightPlace)
         both j h e =
             let l = smallAt (recordOf (t .nodes) j) firstPlace in
@@ -114,8 +114,8 @@ module _ (t : Tables) (w : T (wellFormed t)) (long : Long t) where
     exact-same : (j : ℕ) → j < m → exactIn (t .samples) (t .nodes) n sizes starts order j ≡ isExactAt (tracesIn t) (treeIn t) j
     unfolding isExactAt
     exact-same j h =
-        let traces : tracesAt (t .samples) n (numbersAt sizes starts order j) ≡ tracesOf (tracesIn t) (tracesBelow (treeIn t) j) =
-        map-agree (traceIn (t .samples) n) (λ (x : ℕ). getD (tracesIn t) x []) (numbersAt sizes starts order j)
+        let traces : tracesAt (t .samples) n (numbersLaidAt sizes starts order j) ≡ tracesOf (tracesIn t) (tracesBelow (treeIn t) j) =
+        map-agree (traceIn (t .samples) n) (λ (x : ℕ). getD (tracesIn t) x []) (numbersLaidAt sizes starts order j)
         (λ x i. sym (trace-at t x (stored j x h i)))
         ∙ ap (tracesOf (tracesIn t)) (below j h) in
         ap₂ (λ (a : List Trace) (b : List Segment). areExact a 1 b) traces (sym (tree-segments t j h))

@@ -11,11 +11,11 @@ use Rattle.dstree.specs.Checking.{areExact}
 use Rattle.tables.specs.Tables.{recordOf}
 use Rattle.tables.specs.View.{segmentIn, segmentsIn}
 use Rattle.leaf_figures.specs.Rows.{tracesAt}
-use Rattle.leaf_figures.specs.declared.sides.Figures.{Figures}
-use Rattle.checking.specs.Laid.{numbersAt, Ready}
+use Rattle.leaf_figures.specs.declared.sides.SideRange.{SideRange}
+use Rattle.checking.specs.Laid.{numbersLaidAt, ReadyToCompare}
 
 -- the figures of two lists of traces together
-unfoldable pub joinedFigures : Figures → Figures → Figures
+unfoldable pub joinedFigures : SideRange → SideRange → SideRange
 joinedFigures a b = record {
   any = true;
   «least_sum» = lesser (a .«least_sum») (b .«least_sum»);
@@ -31,7 +31,7 @@ firstOn r (suc i) = suc (segmentIn r i .end)
 
 -- the traces below node j
 abbrev pub tracesUnder : List ℤ → ℕ → List ℕ → List ℕ → List ℕ → ℕ → List Trace
-tracesUnder samples n sizes starts order j = tracesAt samples n (numbersAt sizes starts order j)
+tracesUnder samples n sizes starts order j = tracesAt samples n (numbersLaidAt sizes starts order j)
 
 -- node j's record has exactly their figures
 abbrev pub exactIn : List ℤ → List ℤ → ℕ → List ℕ → List ℕ → List ℕ → ℕ → Bool
@@ -40,12 +40,12 @@ exactIn samples nodes n sizes starts order j = areExact (tracesUnder samples n s
 -- node j is one of the nodes
 pub record ReadyAt (samples nodes : List ℤ) (n : ℕ) (sizes starts order : List ℕ) (j : ℕ) : Type 0 where
   pub m : ℕ
-  pub ready : Ready samples nodes n m sizes starts order
+  pub ready : ReadyToCompare samples nodes n m sizes starts order
   pub inside : j < m
 
 -- .. and all above it have exactly the figures of the traces below them
 pub record AboveExact (samples nodes : List ℤ) (n : ℕ) (sizes starts order : List ℕ) (j : ℕ) : Type 0 where
   pub m : ℕ
-  pub ready : Ready samples nodes n m sizes starts order
+  pub ready : ReadyToCompare samples nodes n m sizes starts order
   pub inside : j < m
   pub above : (c : ℕ) → j < c → c < m → T (exactIn samples nodes n sizes starts order c)

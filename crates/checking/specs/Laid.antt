@@ -18,11 +18,11 @@ use Rattle.tables.specs.View.{smallAt, segmentsIn, treeIn}
 use Rattle.tables.specs.Walk.{Rising}
 
 -- tables of which only nodes, links and both counts are told
-abbrev pub counted : List ℤ → List ℕ → ℕ → ℕ → Tables
-counted nodes links k m = tables (0 ∷ 0 ∷ 0 ∷ k ∷ m ∷ []) [] nodes links []
+abbrev pub countedTables : List ℤ → List ℕ → ℕ → ℕ → Tables
+countedTables nodes links k m = tables (0 ∷ 0 ∷ 0 ∷ k ∷ m ∷ []) [] nodes links []
 
 abbrev pub treeBy : List ℤ → List ℕ → ℕ → ℕ → Tree
-treeBy nodes links k m = treeIn (counted nodes links k m)
+treeBy nodes links k m = treeIn (countedTables nodes links k m)
 
 -- m nodes over k traces that may be walked: they are well formed, and in the tables
 pub record Walks (nodes : List ℤ) (links : List ℕ) (k m : ℕ) : Type 0 where
@@ -36,7 +36,7 @@ pub record Walks (nodes : List ℤ) (links : List ℕ) (k m : ℕ) : Type 0 wher
   pub rising : Rising links k
 
 -- how many traces are below each node, from node `from` on
-pub record Sized (tree : Tree) (sizes : List ℕ) (from : ℕ) : Type 0 where
+pub record SizesLaid (tree : Tree) (sizes : List ℕ) (from : ℕ) : Type 0 where
   pub places : length sizes ≡ 8192
   pub sized : (j : ℕ) → from ≤ j → j < length tree → getD sizes j 0 ≡ length (tracesBelow tree j)
 
@@ -47,7 +47,7 @@ pub record PutFrom (before after : List ℕ) (at : ℕ) (numbers : List ℕ) : T
   pub old : (y : ℕ) → (y < at) ⊎ (at + length numbers ≤ y) → getD after y 0 ≡ getD before y 0
 
 -- from a place on, the list of all traces begins with those below node j
-pub record StandsAt (tree : Tree) (j start : ℕ) : Type 0 where
+pub record StartsAt (tree : Tree) (j start : ℕ) : Type 0 where
   pub rest : List ℕ
   pub is : drop start (tracesBelow tree 0) ≡ tracesBelow tree j ++ rest
 
@@ -55,15 +55,15 @@ pub record StandsAt (tree : Tree) (j start : ℕ) : Type 0 where
 pub record LaidTo (tree : Tree) (to : ℕ) (starts order : List ℕ) : Type 0 where
   pub starts-places : length starts ≡ 8192
   pub order-places : length order ≡ 4096
-  pub started : (j : ℕ) → j < length tree → ((p : ℕ) → T (hasChild j (nodeAt tree p .kind)) → p < to) → StandsAt tree j (getD starts j 0)
+  pub started : (j : ℕ) → j < length tree → ((p : ℕ) → T (hasChild j (nodeAt tree p .kind)) → p < to) → StartsAt tree j (getD starts j 0)
   pub placed : (p : ℕ) → p < to → (test : Test) (l r : ℕ) → nodeAt tree p .kind ≡ inner test l r
       → (getD starts l 0 ≡ getD starts p 0) × (getD starts r 0 ≡ getD starts p 0 + length (tracesBelow tree l))
   pub filled : (j : ℕ) → j < to → j < length tree → T (isLeaf (nodeAt tree j .kind)) → (x : ℕ) → x < length (tracesBelow tree j)
       → getD order (getD starts j 0 + x) 0 ≡ getD (tracesBelow tree 0) (getD starts j 0 + x) 0
 
 -- the numbers of node j
-abbrev pub numbersAt : List ℕ → List ℕ → List ℕ → ℕ → List ℕ
-numbersAt sizes starts order j = take (getD sizes j 0) (drop (getD starts j 0) order)
+abbrev pub numbersLaidAt : List ℕ → List ℕ → List ℕ → ℕ → List ℕ
+numbersLaidAt sizes starts order j = take (getD sizes j 0) (drop (getD starts j 0) order)
 
 -- every node's numbers are in their places, and are those of the traces below it
 pub record LaidOut (tree : Tree) (sizes starts order : List ℕ) : Type 0 where
@@ -71,10 +71,10 @@ pub record LaidOut (tree : Tree) (sizes starts order : List ℕ) : Type 0 where
   pub starts-places : length starts ≡ 8192
   pub order-places : length order ≡ 4096
   pub inside : (j : ℕ) → j < length tree → getD starts j 0 + getD sizes j 0 ≤ 4096
-  pub below : (j : ℕ) → j < length tree → numbersAt sizes starts order j ≡ tracesBelow tree j
+  pub below : (j : ℕ) → j < length tree → numbersLaidAt sizes starts order j ≡ tracesBelow tree j
 
 -- what is told of m nodes and their numbers where figures are compared: an inner node's numbers are those of its children
-pub record Ready (samples nodes : List ℤ) (n m : ℕ) (sizes starts order : List ℕ) : Type 0 where
+pub record ReadyToCompare (samples nodes : List ℤ) (n m : ℕ) (sizes starts order : List ℕ) : Type 0 where
   pub narrow : n ≤ 256
   pub nodes-few : m ≤ 8191
   pub nodes-room : m * recordPlaces ≤ length nodes
@@ -82,13 +82,13 @@ pub record Ready (samples nodes : List ℤ) (n m : ℕ) (sizes starts order : Li
   pub starts-places : length starts ≡ 8192
   pub order-places : length order ≡ 4096
   pub inside : (j : ℕ) → j < m → getD starts j 0 + getD sizes j 0 ≤ 4096
-  pub stored : (j t : ℕ) → j < m → In t (numbersAt sizes starts order j) → t * n + n ≤ length samples
-  pub some : (j : ℕ) → j < m → 0 < length (numbersAt sizes starts order j)
+  pub stored : (j t : ℕ) → j < m → In t (numbersLaidAt sizes starts order j) → t * n + n ≤ length samples
+  pub some : (j : ℕ) → j < m → 0 < length (numbersLaidAt sizes starts order j)
   pub fits : (j : ℕ) → j < m → Fits n (ends (segmentsIn (recordOf nodes j)))
   pub left-in : (j : ℕ) → j < m → 1 ≤ smallAt (recordOf nodes j) kindPlace
       → (j < smallAt (recordOf nodes j) firstPlace) × (smallAt (recordOf nodes j) firstPlace < m)
   pub right-in : (j : ℕ) → j < m → 1 ≤ smallAt (recordOf nodes j) kindPlace
       → (j < smallAt (recordOf nodes j) rightPlace) × (smallAt (recordOf nodes j) rightPlace < m)
-  pub of-both : (j : ℕ) → j < m → 1 ≤ smallAt (recordOf nodes j) kindPlace → numbersAt sizes starts order j
-      ≡ numbersAt sizes starts order (smallAt (recordOf nodes j) firstPlace) ++ numbersAt sizes starts order
+  pub of-both : (j : ℕ) → j < m → 1 ≤ smallAt (recordOf nodes j) kindPlace → numbersLaidAt sizes starts order j
+      ≡ numbersLaidAt sizes starts order (smallAt (recordOf nodes j) firstPlace) ++ numbersLaidAt sizes starts order
       (smallAt (recordOf nodes j) rightPlace)

@@ -1,6 +1,6 @@
 // The figures of the traces below a node on a run of samples: from the samples, or from the record of a child that was found exact.
 
-use leaf_figures::sides::Figures;
+use leaf_figures::sides::SideRange;
 use leaf_figures::sides::widened;
 use segment::terms::larger;
 use tables::numbers::greater;
@@ -39,12 +39,12 @@ ghost use Rattle.leaf_figures.specs.Sides.{segmentBy};
 ghost use Rattle.checking.specs.Compared.{joinedFigures, firstOn, tracesUnder, exactIn, ReadyAt, AboveExact};
 
 // Of the traces whose numbers are listed.
-fn listed_figures(samples: &[i16], n: usize, list: &[u16], first: usize, last: usize) -> Figures
+fn listed_figures(samples: &[i16], n: usize, list: &[u16], first: usize, last: usize) -> SideRange
     requires { ⌜ (n ≤ 256) × Inside n first last × (length (now list) ≤ 4096)
         × ((t : ℕ) → In t (now list) → t * n + n ≤ length (now samples)) ⌝ }
     ensures { λ r. ⌜ segmentBy last r ≡ segmentOf (tracesAt (now (samples .entry)) n (now (list .entry))) (run first last) ⌝ }
 {
-    let mut f = Figures {
+    let mut f = SideRange {
         any: false,
         least_sum: 0,
         greatest_sum: 0,
@@ -72,7 +72,7 @@ fn figures_below(
     j: usize,
     first: usize,
     last: usize,
-) -> Figures
+) -> SideRange
     requires { ⌜ ReadyAt (now samples) (now nodes) n (now sizes) (now starts) (now order) j × Inside n first last ⌝ }
     ensures { λ r. ⌜ segmentBy last r
         ≡ segmentOf (tracesUnder (now (samples .entry)) n (now (sizes .entry)) (now (starts .entry)) (now (order .entry)) j)
@@ -84,10 +84,10 @@ fn figures_below(
 }
 
 // Two lists of traces together.
-fn joined(a: Figures, b: Figures) -> Figures
+fn joined(a: SideRange, b: SideRange) -> SideRange
     ensures { λ r. ⌜ r ≡ joinedFigures a b ⌝ }
 {
-    Figures {
+    SideRange {
         any: true,
         least_sum: lesser(a.least_sum, b.least_sum),
         greatest_sum: greater(a.greatest_sum, b.greatest_sum),
@@ -97,12 +97,12 @@ fn joined(a: Figures, b: Figures) -> Figures
 }
 
 // What a record has for segment i.
-pub fn recorded(record: &[i64], i: usize) -> Figures
+pub fn recorded(record: &[i64], i: usize) -> SideRange
     requires { ⌜ (length (now «record») ≡ recordPlaces) × (i < 16) ⌝ }
     ensures { λ r. ⌜ segmentBy (segmentIn (now («record» .entry)) i .end) r ≡ segmentIn (now («record» .entry)) i ⌝ }
 {
     let at = HEAD + i * SEGMENT;
-    Figures {
+    SideRange {
         any: true,
         least_sum: value_at(record, at + LEAST_SUM),
         greatest_sum: value_at(record, at + GREATEST_SUM),
@@ -143,7 +143,7 @@ fn child_figures(
     c: usize,
     first: usize,
     last: usize,
-) -> Figures
+) -> SideRange
     requires { ⌜ ReadyAt (now samples) (now nodes) n (now sizes) (now starts) (now order) c × Inside n first last
         × T (exactIn (now samples) (now nodes) n (now sizes) (now starts) (now order) c) ⌝ }
     ensures { λ r. ⌜ segmentBy last r
@@ -169,7 +169,7 @@ pub fn node_figures(
     j: usize,
     first: usize,
     last: usize,
-) -> Figures
+) -> SideRange
     requires { ⌜ AboveExact (now samples) (now nodes) n (now sizes) (now starts) (now order) j × Inside n first last ⌝ }
     ensures { λ r. ⌜ segmentBy last r
         ≡ segmentOf (tracesUnder (now (samples .entry)) n (now (sizes .entry)) (now (starts .entry)) (now (order .entry)) j)

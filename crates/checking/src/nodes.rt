@@ -2,7 +2,7 @@
 
 use crate::figures::node_figures;
 use crate::figures::recorded;
-use leaf_figures::sides::Figures;
+use leaf_figures::sides::SideRange;
 use tables::places::HEAD;
 use tables::places::SEGMENT;
 use tables::places::SEGMENTS;
@@ -13,11 +13,11 @@ ghost use Prim.Native.Nat.{ℕ};
 ghost use Rattle.integer.specs.Words.{every, counting};
 ghost use Rattle.dstree.specs.Checking.{sameFigures};
 ghost use Rattle.leaf_figures.specs.Sides.{segmentBy};
-ghost use Rattle.checking.specs.Laid.{Ready};
+ghost use Rattle.checking.specs.Laid.{ReadyToCompare};
 ghost use Rattle.checking.specs.Compared.{exactIn, AboveExact};
 
 // All four are the same. One that is only within the other's does not do.
-fn same_figures(a: Figures, b: Figures) -> bool
+fn same_figures(a: SideRange, b: SideRange) -> bool
     ensures { λ r. ⌜ ((e d : ℕ) → r ≡ sameFigures (segmentBy e a) (segmentBy d b)) ⌝ }
 {
     if a.least_sum != b.least_sum {
@@ -73,7 +73,7 @@ pub fn all_exact(
     starts: &[u16; 8192],
     order: &[u16],
 ) -> bool
-    requires { ⌜ Ready (now samples) (now nodes) n m (now sizes) (now starts) (now order) ⌝ }
+    requires { ⌜ ReadyToCompare (now samples) (now nodes) n m (now sizes) (now starts) (now order) ⌝ }
     ensures { λ r. ⌜ r ≡ every
         (exactIn (now (samples .entry)) (now (nodes .entry)) n (now (sizes .entry)) (now (starts .entry)) (now (order .entry)))
         (counting m 0) ⌝ }

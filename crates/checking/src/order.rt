@@ -10,7 +10,7 @@ ghost use mathlib.Core.Path.{_≡_};
 ghost use Prim.Native.Nat.{_+_, _≤_, _<_};
 ghost use lib.ListN.{length};
 ghost use Rattle.tables.specs.Walk.{Rising, numbersOf};
-ghost use Rattle.checking.specs.Laid.{treeBy, Walks, Sized, PutFrom, LaidTo, LaidOut};
+ghost use Rattle.checking.specs.Laid.{treeBy, Walks, SizesLaid, PutFrom, LaidTo, LaidOut};
 
 // Writes the numbers of the list that starts at `head`, from a place on.
 fn put_list(links: &[u16], k: usize, head: usize, order: &mut [u16; 4096], at: usize)
@@ -39,7 +39,7 @@ fn lay_node(
     starts: &mut [u16; 8192],
     order: &mut [u16; 4096],
 )
-    requires { ⌜ Walks (now nodes) (now links) k m × (j < m) × Sized (treeBy (now nodes) (now links) k m) (now sizes) 0
+    requires { ⌜ Walks (now nodes) (now links) k m × (j < m) × SizesLaid (treeBy (now nodes) (now links) k m) (now sizes) 0
         × LaidTo (treeBy (now nodes) (now links) k m) j (now starts) (now order) ⌝ }
     ensures { λ _. ⌜ LaidTo (treeBy (now (nodes .entry)) (now (links .entry)) k m) (j + 1) (now (starts .exit)) (now (order .exit)) ⌝ }
 {
@@ -66,7 +66,7 @@ pub fn lay_out(
     starts: &mut [u16; 8192],
     order: &mut [u16; 4096],
 )
-    requires { ⌜ Walks (now nodes) (now links) k m × Sized (treeBy (now nodes) (now links) k m) (now sizes) 0
+    requires { ⌜ Walks (now nodes) (now links) k m × SizesLaid (treeBy (now nodes) (now links) k m) (now sizes) 0
         × (length (now starts) ≡ 8192) × (length (now order) ≡ 4096) ⌝ }
     ensures { λ _. ⌜ LaidOut (treeBy (now (nodes .entry)) (now (links .entry)) k m) (now (sizes .entry)) (now (starts .exit))
         (now (order .exit)) ⌝ }

@@ -11,7 +11,7 @@ ghost use Prim.Native.Nat.{_+_, _≤_, _<_};
 ghost use lib.ListN.{length};
 ghost use Rattle.dstree.specs.Checking.{tracesBelow};
 ghost use Rattle.tables.specs.Walk.{Rising, numbersOf};
-ghost use Rattle.checking.specs.Laid.{treeBy, Walks, Sized};
+ghost use Rattle.checking.specs.Laid.{treeBy, Walks, SizesLaid};
 
 // How many numbers the list has that starts at `head`.
 fn list_size(links: &[u16], k: usize, head: usize) -> usize
@@ -36,7 +36,7 @@ fn node_size(
     j: usize,
     sizes: &[u16; 8192],
 ) -> usize
-    requires { ⌜ Walks (now nodes) (now links) k m × (j < m) × Sized (treeBy (now nodes) (now links) k m) (now sizes) (j + 1) ⌝ }
+    requires { ⌜ Walks (now nodes) (now links) k m × (j < m) × SizesLaid (treeBy (now nodes) (now links) k m) (now sizes) (j + 1) ⌝ }
     ensures { λ r. ⌜ r ≡ length (tracesBelow (treeBy (now (nodes .entry)) (now (links .entry)) k m) j) ⌝ }
 {
     let kind = node_small(nodes, j, KIND);
@@ -51,7 +51,7 @@ fn node_size(
 // Of every node, the last one first.
 pub fn fill_sizes(nodes: &[i64], links: &[u16], k: usize, m: usize, sizes: &mut [u16; 8192])
     requires { ⌜ Walks (now nodes) (now links) k m × (length (now sizes) ≡ 8192) ⌝ }
-    ensures { λ _. ⌜ Sized (treeBy (now (nodes .entry)) (now (links .entry)) k m) (now (sizes .exit)) 0 ⌝ }
+    ensures { λ _. ⌜ SizesLaid (treeBy (now (nodes .entry)) (now (links .entry)) k m) (now (sizes .exit)) 0 ⌝ }
 {
     let mut j = m;
     while 0 < j {

@@ -8,11 +8,11 @@ use Rattle.tables.specs.Beginning.{left}
 use Rattle.calls.specs.Outcome.{Outcome, outcome}
 use Rattle.calls.specs.Effects.{outcomeOn}
 use Rattle.calls.specs.Follows.{Follows}
-use Rattle.demands.specs.Did.{Made, Did, by-open, by-add, by-nearest, by-write, by-read, by-list, by-import}
+use Rattle.demands.specs.Did.{CallMade, Did, by-open, by-add, by-nearest, by-write, by-read, by-list, by-import}
 use Rattle.demands.specs.Did.{by-export, by-check, by-batch}
 
 by-claim : {ask : Ask} {before after memory memory′ : Tables} {answer : Answer} {beside : List (List ℕ)} {c : Call} {said : Reply}
-    → Made ask before answer after beside c memory said memory′ → outcome answer after beside ≡ outcomeOn ask before
+    → CallMade ask before answer after beside c memory said memory′ → outcome answer after beside ≡ outcomeOn ask before
     → Follows c memory said memory′
 by-claim {memory = memory} {c = c} d claim = record {
   has-places = subst (λ (t : Tables). lentOf t ≡ c .lent) (d .first-places) (d .so-many);

@@ -11,7 +11,7 @@ use lib.Seq.{take-at}
 use denote.Ref.{RefT}
 use contract.Lifetimes.{Lfts}
 use Rattle.dstree.specs.Measures.{Trace, Measures}
-use Rattle.dstree.specs.Matching.{Search, Near, answerOf, searched, Match, matchBySteps}
+use Rattle.dstree.specs.Matching.{Search, Near, matchFrom, searched, Match, matchBySteps}
 use Rattle.dstree.specs.KNearest.{KNearest, listPlaces, kNearestBySteps}
 use Rattle.dstree.specs.Batch.{queriesIn, Batch, batchBySteps}
 use Rattle.dstree.specs.Refusals as word
@@ -66,12 +66,12 @@ use Rattle.exporting.proofs.Exportable.{Exportable, exportable}
 use Rattle.checking.specs.declared.Checked.{Checked}
 use Rattle.checking.specs.declared.Checked.the-variants as k
 use Rattle.checking.specs.Answered as checking-answer
-use Rattle.demands.specs.Did.{WithTables, Made, by-open, by-add, by-nearest, by-write, by-read, by-list, by-import, by-export}
-use Rattle.batching.specs.declared.Answer as batch-record
-use Rattle.batching.specs.declared.Outcome.{Outcome as BatchOutcome}
-use Rattle.batching.specs.declared.Outcome.the-variants as b
+use Rattle.demands.specs.Did.{WithTables, CallMade, by-open, by-add, by-nearest, by-write, by-read, by-list, by-import, by-export}
+use Rattle.batching.specs.declared.AnswerRecord as batch-record
+use Rattle.batching.specs.declared.Batched.{Batched as BatchOutcome}
+use Rattle.batching.specs.declared.Batched.the-variants as b
 use Rattle.batching.specs.Answered as batching-answer
-use Rattle.batch_answers.specs.Answers.{nearsOf}
+use Rattle.batch_answers.specs.AnswerRecords.{nearsOf}
 use Rattle.demands.specs.Did.{by-check, by-batch}
 use Rattle.demands.specs.Theorem.{Replied}
 
@@ -127,28 +127,28 @@ record Said {R Beside : Type 0} (outcomeBy : R → Beside → Outcome) (o : Outc
   pub is : outcomeBy result beside ≡ o
 
 opening-said : (t : Tables) (m : Measures) (o : Option word.Refusal) → let e = unlessRefused o t [] (opens t m) in
-    Said (λ (r : Opened) (l : List ℕ). outcome (opening-answer.answerOf r) (e .after) []) e
-unfolding unlessRefused opens opening-answer.answerOf
+    Said (λ (r : Opened) (l : List ℕ). outcome (opening-answer.answerBy r) (e .after) []) e
+unfolding unlessRefused opens opening-answer.answerBy
 opening-said t m (some why) = record { result = o.Refused (caseOf why); beside = []; is = rw (case-word why) }
 opening-said t m none = record { result = o.Done; beside = []; is = refl }
 
 reading-said : (t : Tables) (bytes : List ℕ) (o : Option word.Refusal) → let e = unlessRefused o t [] (reads t bytes) in
-    Said (λ (r : Read) (l : List ℕ). outcome (reading-answer.answerOf r) (e .after) []) e
-unfolding unlessRefused reads reading-answer.answerOf
+    Said (λ (r : Read) (l : List ℕ). outcome (reading-answer.answerBy r) (e .after) []) e
+unfolding unlessRefused reads reading-answer.answerBy
 reading-said t bytes (some why) = record { result = d.Refused (caseOf why); beside = []; is = rw (case-word why) }
 reading-said t bytes none = record { result = d.Done; beside = []; is = refl }
 
 adding-said : (t : Tables) (x : Trace) (o : Option word.Refusal) → let e = unlessRefused o t [] (adds t x) in
-    Said (λ (r : Added) (l : List ℕ). outcome (adding-answer.answerOf r)
+    Said (λ (r : Added) (l : List ℕ). outcome (adding-answer.answerBy r)
     (tables (e .after .control) (e .after .samples) (e .after .nodes) (e .after .links) (t .work)) []) e
-unfolding unlessRefused adds addedTo adding-answer.answerOf
+unfolding unlessRefused adds addedTo adding-answer.answerBy
 adding-said t x (some why) = record { result = a.Refused (caseOf why); beside = []; is = rw (case-word why) }
 adding-said t x none = record { result = a.At (traceCount t); beside = []; is = refl }
 
 -- the trail that code answers is as long as it counts
-trail-read : (s : Search) (o : Option Near) (m : Match) (trail : List ℕ) → answerOf s o ≡ some m
+trail-read : (s : Search) (o : Option Near) (m : Match) (trail : List ℕ) → matchFrom s o ≡ some m
     → take (m .leaves) (over (m .trail) trail) ≡ m .trail
-unfolding answerOf
+unfolding matchFrom
 trail-read s none m trail e = let z : _≡_ {A = ℕ} 0 1 = cc in absurd (omega arith)
 trail-read s (some best) m trail e =
     let counted : length (m .trail) ≡ m .leaves = cc in
@@ -166,7 +166,7 @@ matching-said t query trail none q = by (matchBySteps (tracesIn t) (treeIn t) qu
     s : Search
     s = searched (tracesIn t) (treeIn t) query
 
-    by : (x : Option Match) → answerOf s (s .best) ≡ x → isNone x ≡ false
+    by : (x : Option Match) → matchFrom s (s .best) ≡ x → isNone x ≡ false
         → Said (λ (r : Found) (l : List ℕ). outcome (matching-answer.answerBy r l) (cleared t) (l ∷ []))
         (outcome (answering (resultOf x)) (cleared t) (over (trailOf x) trail ∷ []))
     by none e n = let z : _≡_ {A = ℕ} 0 1 = cc in absurd (omega arith)
@@ -221,9 +221,9 @@ work-stays t [] = refl
 work-stays t (x ∷ more) = work-stays (addedTo t x) more
 
 importing-said : (t : Tables) (bytes : List ℕ) (o : Option word.Refusal) → let e = unlessRefused o t [] (imports t bytes) in
-    Said (λ (r : Imported) (l : List ℕ). outcome (importing-answer.answerOf r)
+    Said (λ (r : Imported) (l : List ℕ). outcome (importing-answer.answerBy r)
     (tables (e .after .control) (e .after .samples) (e .after .nodes) (e .after .links) (t .work)) []) e
-unfolding unlessRefused imports importing-answer.answerOf
+unfolding unlessRefused imports importing-answer.answerBy
 importing-said t bytes (some why) = record { result = i.Refused (caseOf why); beside = []; is = rw (case-word why) }
 importing-said t bytes none =
     let traces = fileTraces (judgeRecording (measuresOf t .n) bytes) in
@@ -283,7 +283,7 @@ batching-said t many run trail list none = record {
     m = batchBySteps (tracesIn t) (treeIn t) (queriesIn (measuresOf t .n) many run)
 
 -- records with these traces and distances
-abbrev recordsOf : List Near → List batch-record.Answer
+abbrev recordsOf : List Near → List batch-record.AnswerRecord
 recordsOf = map (λ (a : Near). record { trace = a .trace; distance = a .distance })
 
 nears-back : (l : List Near) → nearsOf (recordsOf l) ≡ l
@@ -302,7 +302,7 @@ module _ (c : Call) (memory : Tables) (places : lentOf (firstPlaces (c .lent) me
   t = firstPlaces (c .lent) memory
 
   in-place : {ask : Ask} (answer : Answer) (after : Tables) (beside : List (List ℕ)) → c .ask ≡ ask → Typed ask t
-      → Made ask t answer after beside c memory (reply answer beside) (left after memory)
+      → CallMade ask t answer after beside c memory (reply answer beside) (left after memory)
   in-place answer after beside asked typed = record { asks = asked; typed = typed; first-places = refl; so-many = places; says = refl; leaves = refl }
 
   by-ask : (ask : Ask) → c .ask ≡ ask → Typed ask t → Replied c memory
@@ -311,7 +311,7 @@ module _ (c : Call) (memory : Tables) (places : lentOf (firstPlaces (c .lent) me
       let s = opening-said t m (firstOf (opens t m .conditions)) in
       let after = outcomeOn (opening m) t .after in
       record {
-        said = reply (opening-answer.answerOf (s .result)) [];
+        said = reply (opening-answer.answerBy (s .result)) [];
         memory′ = left after memory;
         did = by-open (record {
           κs = lifetimes 5;
@@ -327,7 +327,7 @@ module _ (c : Call) (memory : Tables) (places : lentOf (firstPlaces (c .lent) me
       let after = outcomeOn (adding x) t .after in
       let kept = tables (after .control) (after .samples) (after .nodes) (after .links) (t .work) in
       record {
-        said = reply (adding-answer.answerOf (s .result)) [];
+        said = reply (adding-answer.answerBy (s .result)) [];
         memory′ = left kept memory;
         did = by-add (record {
           κs = lifetimes 6;
@@ -372,7 +372,7 @@ module _ (c : Call) (memory : Tables) (places : lentOf (firstPlaces (c .lent) me
       let s = reading-said t bytes (firstOf (reads t bytes .conditions)) in
       let after = outcomeOn (reading bytes) t .after in
       record {
-        said = reply (reading-answer.answerOf (s .result)) [];
+        said = reply (reading-answer.answerBy (s .result)) [];
         memory′ = left after memory;
         did = by-read (record {
           κs = lifetimes 6;
@@ -406,7 +406,7 @@ module _ (c : Call) (memory : Tables) (places : lentOf (firstPlaces (c .lent) me
       let after = outcomeOn (importing bytes) t .after in
       let kept = tables (after .control) (after .samples) (after .nodes) (after .links) (t .work) in
       record {
-        said = reply (importing-answer.answerOf (s .result)) [];
+        said = reply (importing-answer.answerBy (s .result)) [];
         memory′ = left kept memory;
         did = by-import (record {
           κs = lifetimes 6;

@@ -53,9 +53,9 @@ use Rattle.checking.specs.declared.Checked.{Checked}
 use Rattle.checking.specs.Answered as checking-answer
 use Rattle.checking.proofs.check_tables.Kinds as check-kinds
 use Rattle.checking.proofs.check_tables.Reads as check-reads
-use Rattle.batching.specs.declared.Outcome.{Outcome}
+use Rattle.batching.specs.declared.Batched.{Batched}
 use Rattle.batching.specs.Answered as batching-answer
-use Rattle.batch_answers.specs.Answers.{nearsOf}
+use Rattle.batch_answers.specs.AnswerRecords.{nearsOf}
 use Rattle.batch_answers.proofs.match_batch as batch
 
 -- ---- slices
@@ -90,7 +90,7 @@ module _ {Own : Type 0} (s : WithTables Own) where
 
 -- a call c on a memory is this ask of tables that held `before` and then `after`: "Each call gets the tables as the last one left them",
 -- the first so many places of each
-pub record Made (ask : Ask) (before : Tables) (answer : Answer) (after : Tables) (beside : List (List ℕ))
+pub record CallMade (ask : Ask) (before : Tables) (answer : Answer) (after : Tables) (beside : List (List ℕ))
     (c : Call) (memory : Tables) (said : Reply) (memory′ : Tables) : Type 0 where
   pub asks : c .ask ≡ ask
   -- what the types of lent slices say of it
@@ -108,8 +108,8 @@ pub record Opens (c : Call) (memory : Tables) (said : Reply) (memory′ : Tables
   pub exits : AtExit (endedOf 5 open-kinds.ps open-kinds.r) κs
   pub result : Opened
   pub claim : open-reads.Learnt κs args result exits
-  pub made : Made (opening (measures (own args .0) (own args .1 .0) (own args .1 .1 .0))) (tablesOf args)
-      (opening-answer.answerOf result) (tablesOf exits) [] c memory said memory′
+  pub made : CallMade (opening (measures (own args .0) (own args .1 .0) (own args .1 .1 .0))) (tablesOf args)
+      (opening-answer.answerBy result) (tablesOf exits) [] c memory said memory′
 
 -- adding is lent the search work to read, and leaves it
 pub record Adds (c : Call) (memory : Tables) (said : Reply) (memory′ : Tables) : Type 0 where
@@ -118,8 +118,8 @@ pub record Adds (c : Call) (memory : Tables) (said : Reply) (memory′ : Tables)
   pub exits : AtExit (endedOf 6 add-kinds.ps add-kinds.r) κs
   pub result : Added
   pub claim : add-reads.Learnt κs args result exits
-  pub made : Made (adding (now (own args .0))) (tablesOf args)
-      (adding-answer.answerOf result) (tables (control exits) (samples exits) (nodes exits) (links exits)
+  pub made : CallMade (adding (now (own args .0))) (tablesOf args)
+      (adding-answer.answerBy result) (tables (control exits) (samples exits) (nodes exits) (links exits)
       (work args)) [] c memory said memory′
 
 -- a match is lent all but search work and trail to read
@@ -130,7 +130,7 @@ pub record Matches (c : Call) (memory : Tables) (said : Reply) (memory′ : Tabl
   pub result : Found
   pub claim : nearest-reads.Learnt κs args result exits
   pub made : let trail = now (own exits .0) in
-      Made (matching (now (own args .1 .0)) (now (own args .0))) (tablesOf args)
+      CallMade (matching (now (own args .1 .0)) (now (own args .0))) (tablesOf args)
       (matching-answer.answerBy result trail) (tables (control args) (samples args) (nodes args) (links args) (work exits))
       (trail ∷ []) c memory said memory′
 
@@ -142,7 +142,7 @@ pub record Writes (c : Call) (memory : Tables) (said : Reply) (memory′ : Table
   pub result : Written
   pub claim : write-reads.Learnt κs args result exits
   pub made : let sheet = now (own exits .0) in
-      Made (writing (now (own args .0))) (tablesOf args) (writing-answer.answerBy result sheet) (tablesOf args)
+      CallMade (writing (now (own args .0))) (tablesOf args) (writing-answer.answerBy result sheet) (tablesOf args)
       (sheet ∷ []) c memory said memory′
 
 -- a reading is lent its sheet to read
@@ -152,7 +152,8 @@ pub record Reads (c : Call) (memory : Tables) (said : Reply) (memory′ : Tables
   pub exits : AtExit (endedOf 6 read-kinds.ps read-kinds.r) κs
   pub result : Read
   pub claim : read-reads.Learnt κs args result exits
-  pub made : Made (reading (now (own args .0))) (tablesOf args) (reading-answer.answerOf result) (tablesOf exits) [] c memory said memory′
+  pub made : CallMade (reading (now (own args .0))) (tablesOf args) (reading-answer.answerBy result)
+      (tablesOf exits) [] c memory said memory′
 
 -- a listing is lent all but search work, trail and list to read
 pub record Lists (c : Call) (memory : Tables) (said : Reply) (memory′ : Tables) : Type 0 where
@@ -163,7 +164,7 @@ pub record Lists (c : Call) (memory : Tables) (said : Reply) (memory′ : Tables
   pub claim : list-reads.Learnt κs args result exits
   pub made : let trail = now (own exits .0) in
       let list = now (own exits .1 .0) in
-      Made (listing (own args .1 .1 .1 .0) (now (own args .1 .1 .0)) (now (own args .0)) (now (own args .1 .0))) (tablesOf args)
+      CallMade (listing (own args .1 .1 .1 .0) (now (own args .1 .1 .0)) (now (own args .0)) (now (own args .1 .0))) (tablesOf args)
       (listing-answer.answerBy result trail list) (tables (control args) (samples args) (nodes args) (links args) (work exits))
       (trail ∷ list ∷ []) c memory said memory′
 
@@ -174,8 +175,8 @@ pub record Imports (c : Call) (memory : Tables) (said : Reply) (memory′ : Tabl
   pub exits : AtExit (endedOf 6 import-kinds.ps import-kinds.r) κs
   pub result : Imported
   pub claim : import-reads.Learnt κs args result exits
-  pub made : Made (importing (now (own args .0))) (tablesOf args)
-      (importing-answer.answerOf result) (tables (control exits) (samples exits) (nodes exits) (links exits)
+  pub made : CallMade (importing (now (own args .0))) (tablesOf args)
+      (importing-answer.answerBy result) (tables (control exits) (samples exits) (nodes exits) (links exits)
       (work args)) [] c memory said memory′
 
 -- an export is lent all tables to read, and leaves them
@@ -186,7 +187,7 @@ pub record Exports (c : Call) (memory : Tables) (said : Reply) (memory′ : Tabl
   pub result : Exported
   pub claim : export-reads.Learnt κs args result exits
   pub made : let buffer = now (own exits .0) in
-      Made (exporting (own args .1 .0) (own args .1 .1 .0) (now (own args .0))) (tablesOf args)
+      CallMade (exporting (own args .1 .0) (own args .1 .1 .0) (now (own args .0))) (tablesOf args)
       (exporting-answer.answerBy result buffer) (tablesOf args) (buffer ∷ []) c memory said memory′
 
 -- a check is lent all tables to read, and leaves them
@@ -196,11 +197,11 @@ pub record Checks (c : Call) (memory : Tables) (said : Reply) (memory′ : Table
   pub exits : AtExit (endedOf 5 check-kinds.ps check-kinds.r) κs
   pub result : Checked
   pub claim : check-reads.Learnt κs args result exits
-  pub made : Made checking (tablesOf args) (checking-answer.answerBy result) (tablesOf args) [] c memory said memory′
+  pub made : CallMade checking (tablesOf args) (checking-answer.answerBy result) (tablesOf args) [] c memory said memory′
 
 -- what a batch's contract says. It is lent a list of structs, so that it is proved by a walk of its code, and no `Learnt` is generated: the
 -- claim is written here, and it is the clause of the contract (`Theorem`: `batch-clause`)
-abbrev pub BatchLearnt : (κs : Lfts 8) → Args batch.signature κs → Outcome → AtExit batch.ended κs → Type 0
+abbrev pub BatchLearnt : (κs : Lfts 8) → Args batch.signature κs → Batched → AtExit batch.ended κs → Type 0
 BatchLearnt κs args r exits =
     let trail = now (own exits .0) in
     let list = nearsOf (now (own exits .1 .1 .1 .0)) in
@@ -213,11 +214,12 @@ pub record Batches (c : Call) (memory : Tables) (said : Reply) (memory′ : Tabl
   pub κs : Lfts 8
   pub args : Args batch.signature κs
   pub exits : AtExit batch.ended κs
-  pub result : Outcome
+  pub result : Batched
   pub claim : BatchLearnt κs args result exits
   pub made : let trail = now (own exits .0) in
       let list = nearsOf (now (own exits .1 .1 .1 .0)) in
-      Made (batching (own args .1 .1 .0) (now (own args .1 .0)) (now (own args .0)) (nearsOf (now (own args .1 .1 .1 .0)))) (tablesOf args)
+      CallMade (batching (own args .1 .1 .0) (now (own args .1 .0)) (now (own args .0)) (nearsOf (now (own args .1 .1 .1 .0))))
+      (tablesOf args)
       (batching-answer.answerBy result list trail) (tables (control args) (samples args) (nodes args) (links args) (work exits))
       (trail ∷ listPlaces list ∷ []) c memory said memory′
 

@@ -23,7 +23,7 @@ use Rattle.sheet_reading.proofs.read_sheet.Statement as read-statement
 use Rattle.importing.proofs.import_recording.Statement as import-statement
 use Rattle.exporting.proofs.export_recording.Statement as export-statement
 use Rattle.checking.proofs.check_tables.Statement as check-statement
-use Rattle.batching.specs.declared.Outcome.{Outcome}
+use Rattle.batching.specs.declared.Batched.{Batched}
 use Rattle.batch_answers.proofs.match_batch as batch
 use Rattle.batch_answers.proofs.match_batch.Statement as batch-statement
 use Rattle.calls.specs.Follows.{Typed, Follows}
@@ -49,7 +49,7 @@ pub record Theorem : Type 2 where
   pub batch-meets : {M : Type 1} → batch-statement.statement M
   -- what is claimed of a batch is what its contract ensures, in every model
   pub batch-clause : {M : Type 1} (𝓤 : URA M) (H : Heap 𝓤) (A : Atoms 𝓤) (mem : Memory → SProp 𝓤) (run : Routine → Fun 𝓤) (κs : Lfts 8)
-      (args : Args batch.signature κs) (r : Outcome) (exits : AtExit batch.ended κs)
+      (args : Args batch.signature κs) (r : Batched) (exits : AtExit batch.ended κs)
       → batch.clauses 𝓤 H A mem run κs args .ensures tt r exits ≡ fact 𝓤 (BatchLearnt κs args r exits)
   -- demand 1: the reply and the memory after are those that the definition makes of the call and the memory before
   pub follows : (c : Call) (memory memory′ : Tables) (said : Reply) → Did c memory said memory′ → Follows c memory said memory′

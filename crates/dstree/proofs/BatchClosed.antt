@@ -22,7 +22,7 @@ use Rattle.dstree.specs.Node.{Tree}
 use Rattle.dstree.specs.Matching.{bound, LeafBound, leaves, readOn, Near, nearAt, distancesIn, isAbove, leastDistance}
 use Rattle.dstree.specs.Matching.{leavesR, matchOf}
 use Rattle.dstree.specs.KNearest.{distancesAmong}
-use Rattle.dstree.specs.Batch.{answerIn, wanted, batchOf, bestAmong, readOnce, readFor, batchRead, answerBy, batchBySteps}
+use Rattle.dstree.specs.Batch.{answerIn, wanted, batchOf, bestAmong, readOnce, readFor, batchRead, nearOrZero, batchBySteps}
 use Rattle.dstree.specs.Batch.{WantedBy, BatchClaims, BatchOfExact, OneClaims}
 use Rattle.dstree.proofs.Formed.{formed}
 use Rattle.dstree.proofs.Containing.{Containing, of-exact}
@@ -179,13 +179,13 @@ module _ (n : ℕ) (stored : List Trace) (tree : Tree) (c : Containing n stored 
     unfolding wanted
     in-wanted i j = in-flat (λ (query : Trace). matchOf stored tree query .trail) i j
 
-    answers-are : map (λ query. answerBy (bestAmong stored tree query (batchRead stored tree queries))) queries
+    answers-are : map (λ query. nearOrZero (bestAmong stored tree query (batchRead stored tree queries))) queries
         ≡ map (λ query. answerIn (matchOf stored tree query)) queries
-    unfolding answerBy
+    unfolding nearOrZero
     answers-are =
-        map-agree (λ query. answerBy (bestAmong stored tree query (batchRead stored tree queries)))
+        map-agree (λ query. nearOrZero (bestAmong stored tree query (batchRead stored tree queries)))
         (λ query. answerIn (matchOf stored tree query)) queries
-        (λ query i. ap answerBy (best-found query (of-n query i) (batchRead stored tree queries)
+        (λ query i. ap nearOrZero (best-found query (of-n query i) (batchRead stored tree queries)
         (λ k j. rw read-is (all-has [] (in-wanted i j)))))
 
     steps-give-it : batchBySteps stored tree queries ≡ batchOf stored tree queries

@@ -10,7 +10,7 @@ use Rattle.dstree.specs.Node.{leaf, node, Tree}
 use Rattle.dstree.specs.Adding.{treeOf}
 use Rattle.dstree.specs.Matching.{Near, matchBySteps}
 use Rattle.dstree.specs.Refusals.{firstOf, wrongTrace, empty, shortTrail, badBatch}
-use Rattle.dstree.specs.Examples.{level, ABC, tree, found}
+use Rattle.dstree.specs.Examples.{level, ABC, tree, matchWith}
 use Rattle.dstree.specs.Batch.{queriesIn, batchConditions, Batch, batchOf, batchRead, batchBySteps}
 use Rattle.dstree.proofs.Notation.{+, −, seg}
 use Rattle.dstree.proofs.KExamples.{at}
@@ -80,7 +80,7 @@ loose = set treeOfTwo 2 (node (seg 1 (+ 9) (+ 9) 0 0 ∷ []) (leaf (1 ∷ [])))
 -- "where other well-formed tables break [a claim], that answer is the program's": alone, 4 is answered by trace 0, for leaf 2 is not
 -- read; behind 9, for which leaf 2 is read, it is answered by trace 1
 record Loose : Type 0 where
-  alone : matchBySteps two loose (+ 4 ∷ []) ≡ some (found 0 16 1 1 (1 ∷ []))
+  alone : matchBySteps two loose (+ 4 ∷ []) ≡ some (matchWith 0 16 1 1 (1 ∷ []))
   behind : batchBySteps two loose (queriesIn 1 2 (+ 9 ∷ + 4 ∷ [])) ≡ gives (at 1 25 ∷ at 1 0 ∷ []) (2 ∷ [])
 
 loose-tables : Loose

@@ -26,7 +26,7 @@ use Rattle.dstree.specs.Matching.{LeafBound, isLeaf, numbersIn, leaves, 
 use Rattle.dstree.specs.Matching.{bestWith}
 use Rattle.dstree.specs.Matching.{distancesIn, isAbove}
 use Rattle.dstree.specs.KNearest.{distancesAmong}
-use Rattle.dstree.specs.Batch.{batchWith, bestAmong, readOnce, readFor, batchRead, answerBy, batchBySteps, NearestOf, StepsClaims}
+use Rattle.dstree.specs.Batch.{batchWith, bestAmong, readOnce, readFor, batchRead, nearOrZero, batchBySteps, NearestOf, StepsClaims}
 use Rattle.dstree.specs.Batch.{StepsOfFormed, BatchOffTrail}
 use Rattle.dstree.proofs.Formed.{number-node, formed}
 use Rattle.dstree.proofs.Reading.{from-leaves, in-leaves, reading-of, reading-length}
@@ -240,8 +240,8 @@ comes-no a b c = test-false (isNearer b a) (λ t. by c (nearer-yes b a (test-tru
     by (inr (e, h)) (inl g) = omega arith
     by (inr (e, h)) (inr (f, g)) = omega arith
 
-best-of : (l : List Near) → 0 < length l → NearestOf l (answerBy (foldl bestWith none l))
-unfolding bestWith answerBy
+best-of : (l : List Near) → 0 < length l → NearestOf l (nearOrZero (foldl bestWith none l))
+unfolding bestWith nearOrZero
 best-of [] h = absurd (omega arith)
 best-of (a ∷ l) h = rw (fold-some a l) (record {
   among = fold-in nearer nearer-either a l;
@@ -341,11 +341,11 @@ module _ (n : ℕ) (stored : List Trace) (tree : Tree) (shape : Shape n (length 
         by (flat k j g) = in-flat (distancesIn stored tree query) (h k j) g
 
     pub answered : (query : Trace) → In query queries
-        → NearestOf (distancesAmong stored tree query (trail tree read)) (answerBy (bestAmong stored tree query read))
+        → NearestOf (distancesAmong stored tree query (trail tree read)) (nearOrZero (bestAmong stored tree query read))
     unfolding bestAmong
     answered query i =
         nearest-in (distancesAmong stored tree query read) (distancesAmong stored tree query (trail tree read))
-        (answerBy (foldl bestWith none (distancesAmong stored tree query read)))
+        (nearOrZero (foldl bestWith none (distancesAmong stored tree query read)))
         (among query read (trail tree read) (λ k j. in-trail tree read (all-leaves .of-tree k j) j))
         (among query (trail tree read) read (λ k j. from-trail tree read j))
         (best-of (distancesAmong stored tree query read) (nears-full query read all-leaves (some-read i)))
@@ -413,8 +413,8 @@ batch-off-trail stored other tree queries e =
     λ query k i. alike-in stored other tree query (trail tree read) e k
     (in-trail tree read (batch-leaves stored tree queries .of-tree k i) i) in
     let same : batchRead other tree queries ≡ read = queries-alike stored other tree (λ k. In k read) alike [] queries (λ k i. i) in
-    let best : map (λ query. answerBy (bestAmong other tree query read)) queries ≡ map
-    (λ query. answerBy (bestAmong stored tree query read)) queries =
-    map-agree (λ query. answerBy (bestAmong other tree query read)) (λ query. answerBy (bestAmong stored tree query read)) queries
-    (λ query i. ap answerBy (best-alike stored other tree (λ k. In k read) alike query read (λ k j. j))) in
+    let best : map (λ query. nearOrZero (bestAmong other tree query read)) queries ≡ map
+    (λ query. nearOrZero (bestAmong stored tree query read)) queries =
+    map-agree (λ query. nearOrZero (bestAmong other tree query read)) (λ query. nearOrZero (bestAmong stored tree query read)) queries
+    (λ query i. ap nearOrZero (best-alike stored other tree (λ k. In k read) alike query read (λ k j. j))) in
     rw same (ap (λ (l : List Near). batchWith tree l read) best)

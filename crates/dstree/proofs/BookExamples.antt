@@ -14,7 +14,7 @@ use Rattle.dstree.specs.Book.{batching, batched}
 use Rattle.dstree.specs.Book.{Book, book, judge, turn, after, start}
 use Rattle.dstree.specs.Book.{Answer, refusing, answering, done, added, matched, written, neighbours, imported, exported, accepted}
 use Rattle.dstree.specs.Book.{Reply, reply, replyOf, repliesOf}
-use Rattle.dstree.specs.Examples.{level, C, ABC, found}
+use Rattle.dstree.specs.Examples.{level, C, ABC, matchWith}
 use Rattle.dstree.proofs.Notation.{+}
 use Rattle.dstree.proofs.KExamples.{at, finds}
 use Rattle.dstree.proofs.Everything.{everything}
@@ -59,16 +59,16 @@ abbrev opened : Book
 opened = start layout (call exact (opening (measures 4 3 2)))
 
 -- a call with its answer
-pub record Turn : Type 0 where
+pub record CallAnswered : Type 0 where
   pub made : Call
   pub answer : Answer
 
 infix 60 _gives_
-abbrev _gives_ : Call → Answer → Turn
+abbrev _gives_ : Call → Answer → CallAnswered
 made gives answer = record { made = made; answer = answer }
 
 -- a list of calls on the tables of an opening with n = 4, capacity 3, leaf size 2
-abbrev pub turns : List Turn
+abbrev pub turns : List CallAnswered
 turns =
     -- 6, also with a trail of no place; 4 before it
     (call exact (matching (level 1) (blank 0)) gives refusing empty)
@@ -95,8 +95,8 @@ turns =
     -- 7: there are two leaves, though one alone is read; 2 before it
     ∷ (call exact (matching (level 1) (blank 1)) gives refusing shortTrail)
     ∷ (call (lent 5 12 435 3 4) (matching (level 1) (blank 1)) gives refusing shortTable)
-    ∷ (call exact (matching (level 1) (blank 2)) gives answering (matched (found 0 4 1 1 (1 ∷ []))))
-    ∷ (call ample (matching (level 2) (blank 9)) gives answering (matched (found 0 16 2 3 (1 ∷ 2 ∷ []))))
+    ∷ (call exact (matching (level 1) (blank 2)) gives answering (matched (matchWith 0 4 1 1 (1 ∷ []))))
+    ∷ (call ample (matching (level 2) (blank 9)) gives answering (matched (matchWith 0 16 2 3 (1 ∷ 2 ∷ []))))
     -- 8: one byte below the need; 2 before it
     ∷ (call exact (writing (blank 1023)) gives refusing sheetLength)
     ∷ (call (lent 5 12 435 3 4) (writing (blank 1023)) gives refusing shortTable)
@@ -115,10 +115,10 @@ turns =
     ∷ (call exact (reading sheet8) gives refusing shortTable)
     ∷ (call (lent 4 12 435 3 5) (reading sheet3) gives refusing shortTable)
     -- "A refused call changes nothing"
-    ∷ (call exact (matching (level 4) (blank 2)) gives answering (matched (found 1 0 1 2 (2 ∷ []))))
+    ∷ (call exact (matching (level 4) (blank 2)) gives answering (matched (matchWith 1 0 1 2 (2 ∷ []))))
     -- a reading puts another library, an opening again another
     ∷ (call exact (reading (sheetOf (measures 4 3 1) (level 7 ∷ []))) gives answering done)
-    ∷ (call exact (matching (level 9) (blank 1)) gives answering (matched (found 0 16 1 1 (0 ∷ []))))
+    ∷ (call exact (matching (level 9) (blank 1)) gives answering (matched (matchWith 0 16 1 1 (0 ∷ []))))
     ∷ (call exact (adding C) gives answering (added 1))
     ∷ (call exact (opening (measures 2 2 2)) gives answering done)
     ∷ (call exact (matching (+ 1 ∷ + 2 ∷ []) (blank 1)) gives refusing empty)
@@ -126,7 +126,7 @@ turns =
     ∷ []
 
 abbrev calls : List Call
-calls = map (λ (t : Turn). t .made) turns
+calls = map (λ (t : CallAnswered). t .made) turns
 
 -- what a call answers on a library that holds nothing
 abbrev first : Call → Answer
@@ -161,7 +161,7 @@ pub record BookExamples : Type 0 where
   -- "judged by arguments and book"
   pub judged : map (λ ask. judge layout opened (call exact ask)) (adding C ∷ matching C (blank 3) ∷ []) ≡ none ∷ some empty ∷ []
   -- "Refusals follow the table"; "Opening and sheet reading answer only that they succeeded, adding the new trace's number, writing the number of blocks"
-  pub answered : map (λ (r : Reply). r .answer) (repliesOf layout opened calls) ≡ map (λ (t : Turn). t .answer) turns
+  pub answered : map (λ (r : Reply). r .answer) (repliesOf layout opened calls) ≡ map (λ (t : CallAnswered). t .answer) turns
   -- "the trail begins with R"; "places after them keep their contents"; a refused match leaves its trail
   pub trails : map (λ trail. replyOf layout (book (measures 4 3 2) ABC) (call exact (matching (level 1) trail)) .beside) ((7 ∷ 8 ∷ 9 ∷ []) ∷ (7 ∷ []) ∷ [])
       ≡ ((1 ∷ 8 ∷ 9 ∷ []) ∷ []) ∷ ((7 ∷ []) ∷ []) ∷ []

@@ -14,9 +14,9 @@ use Rattle.dstree.specs.Measures.{Trace, Measures, measures, sampleLimit
 use Rattle.dstree.specs.Node.{bySum, byScatter, leaf, inner, node, Tree}
 use Rattle.dstree.specs.Adding.{treeOf}
 use Rattle.dstree.specs.Matching.{bound, Match, matchBySteps, matchOf}
-use Rattle.dstree.specs.WellFormed.{wellFormed}
+use Rattle.dstree.specs.WellFormed.{wellFormedTree}
 use Rattle.dstree.specs.Sheet.{sheetOf, Judged, holds, judgeSheet}
-use Rattle.dstree.specs.Examples.{found}
+use Rattle.dstree.specs.Examples.{matchWith}
 use Rattle.dstree.proofs.Notation.{+, −, seg, test}
 use Rattle.dstree.proofs.Everything.{everything}
 
@@ -32,7 +32,7 @@ pub record Case : Type 0 where
   pub match : Match
 
 -- what the definitions say of a library and a query
-pub record Outcome : Type 0 where
+pub record CaseOutcome : Type 0 where
   pub tree : Tree
   pub bounds : List ℕ
   pub match : Match
@@ -42,19 +42,19 @@ pub record Outcome : Type 0 where
   pub sheet : Judged
 
 -- computed: the tree from the traces alone, all else on the tree that is given
-abbrev pub computed : Case → Outcome
+abbrev pub computed : Case → CaseOutcome
 computed c = record {
   tree = treeOf (c .measures) (c .traces);
   bounds = map (bound (c .tree) (c .query)) (counting (length (c .tree)) 0);
   match = matchOf (c .traces) (c .tree) (c .query);
   steps = matchBySteps (c .traces) (c .tree) (c .query);
-  sound = wellFormed sampleLimit (c .measures) (length (c .traces)) (c .tree);
+  sound = wellFormedTree sampleLimit (c .measures) (length (c .traces)) (c .tree);
   library = isLibrary sampleLimit (c .measures) (c .traces);
   sheet = judgeSheet (sheetOf (c .measures) (c .traces));
 }
 
 -- expected: the given tree, bounds and match, the match by its steps too; well-formed tables of a library, whose sheet reads back
-abbrev pub expected : Case → Outcome
+abbrev pub expected : Case → CaseOutcome
 expected c = record {
   tree = c .tree;
   bounds = c .bounds;
@@ -80,7 +80,7 @@ cases =
           node (seg 3 (− 6334) (− 6334) 1953187754 1953187754 ∷ []) (leaf (0 ∷ 1 ∷ 2 ∷ 3 ∷ 4 ∷ 5 ∷ 6 ∷ 7 ∷ []))
           ∷ [];
       bounds = 0 ∷ [];
-      match = found 0 0 1 8 (0 ∷ []);
+      match = matchWith 0 0 1 8 (0 ∷ []);
     }
     -- tiny-1: n = 1; twice the last trace's figure is just T, so it goes left
     ∷ record {
@@ -93,7 +93,7 @@ cases =
           ∷ node (seg 1 (+ 2) (+ 2) 0 0 ∷ []) (leaf (0 ∷ 2 ∷ []))
           ∷ [];
       bounds = 0 ∷ 0 ∷ 1 ∷ [];
-      match = found 3 0 1 2 (1 ∷ []);
+      match = matchWith 3 0 1 2 (1 ∷ []);
     }
     -- n2-3: cuts into single samples; a tie in gain between left half and right half, by sum: the left half is earlier
     ∷ record {
@@ -113,7 +113,7 @@ cases =
           ∷ node (seg 1 (+ 32) (+ 32) 0 0 ∷ seg 2 (− 3) (− 3) 0 0 ∷ []) (leaf (6 ∷ []))
           ∷ [];
       bounds = 5 ∷ 225 ∷ 625 ∷ 2669 ∷ 225 ∷ 226 ∷ 2025 ∷ 865 ∷ 1154 ∷ [];
-      match = found 5 226 1 1 (5 ∷ []);
+      match = matchWith 5 226 1 1 (5 ∷ []);
     }
     -- near-square-7: up to four segments, and a test by scatter
     ∷ record {
@@ -141,7 +141,7 @@ cases =
           ∷ 10 ∷ []))
           ∷ [];
       bounds = 1 ∷ 1 ∷ 17 ∷ 1 ∷ 9 ∷ 2 ∷ 54 ∷ 61 ∷ 20 ∷ 31 ∷ 6 ∷ [];
-      match = found 5 6 1 2 (10 ∷ []);
+      match = matchWith 5 6 1 2 (10 ∷ []);
     }
     -- permuted-then-parted-4: a leaf that nothing parts is parted when trace 4 joins; its larger child stays over size until trace 5 joins
     ∷ record {
@@ -157,7 +157,7 @@ cases =
           ∷ node (seg 1 (− 259) (− 259) 0 0 ∷ seg 2 (+ 62) (+ 62) 0 0 ∷ []) (leaf (0 ∷ 1 ∷ 2 ∷ 3 ∷ []))
           ∷ [];
       bounds = 0 ∷ 3364 ∷ 0 ∷ 55696 ∷ 0 ∷ [];
-      match = found 0 0 1 4 (4 ∷ []);
+      match = matchWith 0 0 1 4 (4 ∷ []);
     }
     -- lowest-number-first: a leaf that five traces leave whole; at the sixth both new leaves 3 and 4 are over size, and 3, 4, 5 split in this order
     ∷ record {
@@ -185,7 +185,7 @@ cases =
           ∷ seg 5 (+ 0) (+ 0) 0 0 ∷ []) (leaf (1 ∷ []))
           ∷ [];
       bounds = 0 ∷ 2 ∷ 2 ∷ 2 ∷ 2 ∷ 2 ∷ 2 ∷ 2 ∷ 2 ∷ 4 ∷ 2 ∷ [];
-      match = found 1 2 5 5 (1 ∷ 6 ∷ 7 ∷ 8 ∷ 10 ∷ []);
+      match = matchWith 1 2 5 5 (1 ∷ 6 ∷ 7 ∷ 8 ∷ 10 ∷ []);
     }
     -- tiny-5: a tie in gain at node 1 between the left half by scatter and the right half by sum: the earlier one wins
     ∷ record {
@@ -201,7 +201,7 @@ cases =
           ∷ node (seg 2 (− 1) (+ 1) 9 9 ∷ seg 5 (− 1) (− 1) 8 26 ∷ []) (leaf (0 ∷ 3 ∷ []))
           ∷ [];
       bounds = 0 ∷ 0 ∷ 5 ∷ 2 ∷ 13 ∷ [];
-      match = found 2 2 1 2 (3 ∷ []);
+      match = matchWith 2 2 1 2 (3 ∷ []);
     }
     -- uncut-spread: the leaf's own spread is that of its uncut segments, so the left half gains 4 and wins over the whole segment's 2
     ∷ record {
@@ -214,7 +214,7 @@ cases =
           ∷ node (seg 1 (− 1) (− 1) 0 0 ∷ seg 2 (− 3) (− 3) 0 0 ∷ []) (leaf (1 ∷ []))
           ∷ [];
       bounds = 1 ∷ 2 ∷ 1 ∷ [];
-      match = found 1 1 1 1 (2 ∷ []);
+      match = matchWith 1 1 1 1 (2 ∷ []);
     }
     -- greatest-below-zero: gains of -6, -2, -2, -2: the greatest wins, the earliest of three, below zero as well
     ∷ record {
@@ -227,7 +227,7 @@ cases =
           ∷ node (seg 2 (+ 0) (+ 0) 16 16 ∷ seg 4 (+ 1) (+ 1) 1 1 ∷ []) (leaf (2 ∷ []))
           ∷ [];
       bounds = 3 ∷ 3 ∷ 5 ∷ [];
-      match = found 1 7 2 3 (1 ∷ 2 ∷ []);
+      match = matchWith 1 7 2 3 (1 ∷ 2 ∷ []);
     }
     -- extremes-6: samples at both limits, parted by sum and then by a half; all three leaves are read
     ∷ record {
@@ -253,7 +253,7 @@ cases =
           ∷ 5 ∷ []))
           ∷ [];
       bounds = 0 ∷ 0 ∷ 360422936 ∷ 715806038 ∷ 1703835792 ∷ [];
-      match = found 2 8589672450 3 9 (1 ∷ 3 ∷ 4 ∷ []);
+      match = matchWith 2 8589672450 3 9 (1 ∷ 3 ∷ 4 ∷ []);
     }
     -- tie-distance-1: all distances and all bounds are equal: an equal bound is still read, so that trace 0 in the last leaf is named
     ∷ record {
@@ -274,7 +274,7 @@ cases =
           ∷ node (seg 1 (+ 34) (+ 34) 0 0 ∷ seg 2 (− 31) (− 31) 0 0 ∷ []) (leaf (0 ∷ 10 ∷ 11 ∷ 14 ∷ 15 ∷ 17 ∷ 21 ∷ []))
           ∷ [];
       bounds = 0 ∷ 0 ∷ 25 ∷ 0 ∷ 25 ∷ 25 ∷ 25 ∷ [];
-      match = found 0 25 4 24 (2 ∷ 4 ∷ 5 ∷ 6 ∷ []);
+      match = matchWith 0 25 4 24 (2 ∷ 4 ∷ 5 ∷ 6 ∷ []);
     }
     -- near-square-6: node 3, which is cut, and node 6 below it have own bound 0, node 1 above them 1: the path's greatest counts
     ∷ record {
@@ -297,7 +297,7 @@ cases =
           ∷ node (seg 1 (− 1) (+ 0) 0 0 ∷ seg 2 (− 2) (+ 1) 0 0 ∷ seg 3 (+ 8) (+ 9) 0 0 ∷ []) (leaf (5 ∷ 9 ∷ []))
           ∷ [];
       bounds = 1 ∷ 1 ∷ 4 ∷ 1 ∷ 5 ∷ 2 ∷ 1 ∷ 4 ∷ 9 ∷ 2 ∷ 26 ∷ [];
-      match = found 7 2 1 1 (9 ∷ []);
+      match = matchWith 7 2 1 1 (9 ∷ []);
     }
     ∷ []
 
@@ -307,12 +307,12 @@ cases-agree = refl
 
 -- ---- without a query: a library, and the tree that the other implementation makes of it
 
-pub record Grown : Type 0 where
+pub record GrownCase : Type 0 where
   pub measures : Measures
   pub traces : List Trace
   pub tree : Tree
 
-abbrev pub grownCases : List Grown
+abbrev pub grownCases : List GrownCase
 grownCases =
     -- floor-roots-4a: scatters 4, 9 and 0: the middle of the roots parts 0 from 4 and 9, and the candidate wins that was not the winner by scatters
     record {
@@ -364,10 +364,10 @@ grownCases =
     }
     ∷ []
 
-pub grown-agree : map (λ (c : Grown). treeOf (c .measures) (c .traces)) grownCases ≡ map (λ (c : Grown). c .tree) grownCases
+pub grown-agree : map (λ (c : GrownCase). treeOf (c .measures) (c .traces)) grownCases ≡ map (λ (c : GrownCase). c .tree) grownCases
 unfolding everything
 grown-agree = refl
 
-pub grown-formed : map (λ (c : Grown). wellFormed sampleLimit (c .measures) (length (c .traces)) (c .tree)) grownCases ≡ map (λ (c : Grown). true) grownCases
+pub grown-formed : map (λ (c : GrownCase). wellFormedTree sampleLimit (c .measures) (length (c .traces)) (c .tree)) grownCases ≡ map (λ (c : GrownCase). true) grownCases
 unfolding everything
 grown-formed = refl

@@ -15,7 +15,7 @@ use Rattle.dstree.specs.Node.{Test, Kind, leaf, inner, Node, node, Tree,
 use Rattle.dstree.specs.Adding.{nextNode, wayFrom, way, widen, widenAll, joinKind, join}
 use Rattle.dstree.specs.Matching.{hasChild}
 use Rattle.dstree.specs.WellFormed.{childrenOf}
-use Rattle.dstree.proofs.Formed.{nothing, is-node, child-in, in-child}
+use Rattle.dstree.proofs.Formed.{emptyLeaf, is-node, child-in, in-child}
 use Rattle.dstree.proofs.Ranges.{Covered, covered-none, widen-kept, widen-new}
 
 -- a leaf that holds a trace is a node of the tree
@@ -137,22 +137,22 @@ unfolding widenAll widen
 widen-kind x [] tree k = refl
 widen-kind x (at ∷ rest) tree k =
     widen-kind x rest (changeAt tree at (widen x)) k
-    ∙ set-cases nothing (λ (n : Node). n .kind ≡ nodeAt tree k .kind) tree at (widen x (nodeAt tree at)) k
-    (λ e h. ap (λ (j : ℕ). nodeAt tree j .kind) (sym e)) (λ f h. refl) (λ h. ap (λ (n : Node). n .kind) (sym (List·getD-eq-default tree nothing h)))
+    ∙ set-cases emptyLeaf (λ (n : Node). n .kind ≡ nodeAt tree k .kind) tree at (widen x (nodeAt tree at)) k
+    (λ e h. ap (λ (j : ℕ). nodeAt tree j .kind) (sym e)) (λ f h. refl) (λ h. ap (λ (n : Node). n .kind) (sym (List·getD-eq-default tree emptyLeaf h)))
 
 pub widen-keeps : (x y : Trace) (met : List ℕ) (tree : Tree) (k : ℕ) → Covered y 1 (nodeAt tree k .segments) → Covered y 1 (nodeAt (widenAll x met tree) k .segments)
 unfolding widenAll
 widen-keeps x y [] tree k w = w
 widen-keeps x y (at ∷ rest) tree k w =
     widen-keeps x y rest (changeAt tree at (widen x)) k
-    (set-cases nothing (λ (n : Node). Covered y 1 (n .segments)) tree at (widen x (nodeAt tree at)) k
+    (set-cases emptyLeaf (λ (n : Node). Covered y 1 (n .segments)) tree at (widen x (nodeAt tree at)) k
     (λ e h. widen-kept x y (nodeAt tree at) (subst (λ (j : ℕ). Covered y 1 (nodeAt tree j .segments)) e w)) (λ f h. w) (λ h. covered-none))
 
 pub widen-gets : (x : Trace) {met : List ℕ} (tree : Tree) {k : ℕ} → In k met → Covered x 1 (nodeAt (widenAll x met tree) k .segments)
 unfolding widenAll
 widen-gets x tree {k} (first {rest}) =
     widen-keeps x x rest (changeAt tree k (widen x)) k
-    (set-cases nothing (λ (n : Node). Covered x 1 (n .segments)) tree k (widen x (nodeAt tree k)) k (λ e h. widen-new x (nodeAt tree k)) (λ f h. absurd (f refl)) (λ h. covered-none))
+    (set-cases emptyLeaf (λ (n : Node). Covered x 1 (n .segments)) tree k (widen x (nodeAt tree k)) k (λ e h. widen-new x (nodeAt tree k)) (λ f h. absurd (f refl)) (λ h. covered-none))
 widen-gets x tree (later {b = at} i) = widen-gets x (changeAt tree at (widen x)) i
 
 -- ---- joining
@@ -166,21 +166,21 @@ module _ (number at : ℕ) (tree : Tree) where
   pub join-segments : (k : ℕ) → nodeAt (join number at tree) k .segments ≡ nodeAt tree k .segments
   unfolding join
   join-segments k =
-      set-cases nothing (λ (n : Node). n .segments ≡ nodeAt tree k .segments) tree at
+      set-cases emptyLeaf (λ (n : Node). n .segments ≡ nodeAt tree k .segments) tree at
       (node (nodeAt tree at .segments) (joinKind number (nodeAt tree at .kind))) k
-      (λ e h. ap (λ (j : ℕ). nodeAt tree j .segments) (sym e)) (λ f h. refl) (λ h. ap (λ (n : Node). n .segments) (sym (List·getD-eq-default tree nothing h)))
+      (λ e h. ap (λ (j : ℕ). nodeAt tree j .segments) (sym e)) (λ f h. refl) (λ h. ap (λ (n : Node). n .segments) (sym (List·getD-eq-default tree emptyLeaf h)))
 
   -- the leaf has one more number, and no other node is changed
   pub join-kinds : (ns : List ℕ) → nodeAt tree at .kind ≡ leaf ns → (P : Kind → Type 0) (k : ℕ)
       → (k ≡ at → P (leaf (ns ++ (number ∷ [])))) → ((k ≡ at → ⊥) → P (nodeAt tree k .kind)) → at < length tree → P (nodeAt (join number at tree) k .kind)
   unfolding join joinKind
   join-kinds ns is-leaf P k here other inside =
-      set-cases nothing (λ (n : Node). P (n .kind)) tree at (node (nodeAt tree at .segments) (joinKind number (nodeAt tree at .kind))) k
-      (λ e h. rw is-leaf (here e)) (λ f h. other f) (λ h. subst (λ (n : Node). P (n .kind)) (List·getD-eq-default tree nothing h) (other (λ e. omega arith)))
+      set-cases emptyLeaf (λ (n : Node). P (n .kind)) tree at (node (nodeAt tree at .segments) (joinKind number (nodeAt tree at .kind))) k
+      (λ e h. rw is-leaf (here e)) (λ f h. other f) (λ h. subst (λ (n : Node). P (n .kind)) (List·getD-eq-default tree emptyLeaf h) (other (λ e. omega arith)))
 
   -- an inner node is not changed, whatever the tree
   pub join-inner : (k : ℕ) (test : Test) (l r : ℕ) → nodeAt tree k .kind ≡ inner test l r → nodeAt (join number at tree) k .kind ≡ inner test l r
   unfolding join joinKind
   join-inner k test l r e =
-      set-cases nothing (λ (n : Node). n .kind ≡ inner test l r) tree at (node (nodeAt tree at .segments) (joinKind number (nodeAt tree at .kind))) k
-      (λ p h. rw (← p, e)) (λ f h. e) (λ h. subst (λ (n : Node). n .kind ≡ inner test l r) (List·getD-eq-default tree nothing h) e)
+      set-cases emptyLeaf (λ (n : Node). n .kind ≡ inner test l r) tree at (node (nodeAt tree at .segments) (joinKind number (nodeAt tree at .kind))) k
+      (λ p h. rw (← p, e)) (λ f h. e) (λ h. subst (λ (n : Node). n .kind ≡ inner test l r) (List·getD-eq-default tree emptyLeaf h) e)

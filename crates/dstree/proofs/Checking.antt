@@ -16,7 +16,7 @@ use Rattle.dstree.specs.Adding.{tracesOf, segmentsOf, insertion}
 use Rattle.dstree.specs.Formed.{Shape}
 use Rattle.dstree.specs.Claims.{Below, AllExact, exact-none, RangesOf}
 use Rattle.dstree.specs.Checking.{tracesBelow, isExactAt, isExact, ExactnessOfFormed, AcceptedExact, MadeAccepted, AddingAccepted}
-use Rattle.dstree.proofs.Formed.{nothing, formed, well-formed}
+use Rattle.dstree.proofs.Formed.{emptyLeaf, formed, well-formed}
 use Rattle.dstree.proofs.Invariant.{RangedInv, ranges-of, ranged-by}
 use Rattle.dstree.proofs.Keeps.{insertion-ranged}
 use Rattle.dstree.proofs.TracesBelow.{listed-below, below-listed, some-below}
@@ -48,7 +48,7 @@ module _ {n count : ℕ} {tree : Tree} (s : Shape n count tree) (stored : List T
   exact-ranges t k = by (decLe (length tree) k)
     where
       by : Dec (length tree ≤ k) → AllExact stored (λ t. Below tree t k) 1 (nodeAt tree k .segments)
-      by (yes h) = rw (List·getD-eq-default tree nothing h) exact-none
+      by (yes h) = rw (List·getD-eq-default tree emptyLeaf h) exact-none
       by (no f) =
           let h : k < length tree = lt-of-not-le f in
           exact-at k h (from-every (isExactAt stored tree) (counting (length tree) 0) t

@@ -20,13 +20,13 @@ use Rattle.dstree.specs.Measures.{Trace}
 use Rattle.dstree.specs.Node.{Kind, leaf, inner, Tree, nodeAt}
 use Rattle.dstree.specs.Adding.{tracesOf}
 use Rattle.dstree.specs.Matching.{bound, LeafBound, isLeaf, numbersIn, leaves, readingOrder, Near, nearAt, Search, distancesIn, searchOn}
-use Rattle.dstree.specs.Matching.{searched, answerOf, matchBySteps, leastDistance, lowestAt, leavesR, matchOf}
+use Rattle.dstree.specs.Matching.{searched, matchFrom, matchBySteps, leastDistance, lowestAt, leavesR, matchOf}
 use Rattle.dstree.specs.Claims.{of-leaf, numbersAmong, LeavesOutOnlyAbove, ClaimsOf, ClaimsOfExact}
 use Rattle.dstree.proofs.Formed.{Kept, number-node, formed}
 use Rattle.dstree.proofs.Containing.{Containing, of-exact}
 use Rattle.dstree.proofs.Bounds.{bound-at-most}
 use Rattle.dstree.proofs.Reading.{from-leaves, in-leaves, reading-of, in-reading, reading-in-order, reading-apart}
-use Rattle.dstree.proofs.Search.{Far, Hit, Alike, readAll, reads-R, nearsOf, read-trail, read-traces, read-best, Low, lowest, IsNear, is-near, winner}
+use Rattle.dstree.proofs.Search.{Far, Hit, SameDistances, readAll, reads-R, nearsRead, read-trail, read-traces, read-best, LowestAt, lowest, IsNear, is-near, winner}
 
 -- ---- R
 
@@ -130,9 +130,9 @@ module _ (stored : List Trace) (tree : Tree) (query : Trace) where
 
 -- ---- the search
 
-answer-is : (s : Search) (w : Near) (trail : List ℕ) (traces : ℕ) → s .best ≡ some w → s .trail ≡ trail → s .traces ≡ traces → answerOf s
+answer-is : (s : Search) (w : Near) (trail : List ℕ) (traces : ℕ) → s .best ≡ some w → s .trail ≡ trail → s .traces ≡ traces → matchFrom s
     (s .best) ≡ some (record { trace = w .trace; distance = w .distance; leaves = length trail; traces = traces; trail = trail })
-unfolding answerOf
+unfolding matchFrom
 answer-is s w trail traces b t n = rw (b, t, n)
 
 module _ (n : ℕ) (stored : List Trace) (tree : Tree) (c : Containing n stored tree)
@@ -146,7 +146,7 @@ module _ (n : ℕ) (stored : List Trace) (tree : Tree) (c : Containing n stored 
   abbrev R : List LeafBound
   R = leavesR tree query d
 
-  pub nearest : Low d stored query 0
+  pub nearest : LowestAt d stored query 0
   unfolding leastDistance
   nearest = lowest d stored query 0 (least-in (map (distance query) stored) (rw (length-map stored (distance query)) one))
 
@@ -203,13 +203,13 @@ module _ (n : ℕ) (stored : List Trace) (tree : Tree) (c : Containing n stored 
   start = record { best = none; traces = 0; trail = [] }
 
   -- the distances in R: each of a stored trace, and all those that are d
-  nears-of : (b : Near) → In b (nearsOf stored tree query d R) → IsNear stored query b
+  nears-of : (b : Near) → In b (nearsRead stored tree query d R) → IsNear stored query b
   nears-of b i = by (from-flat (λ (a : LeafBound). distancesIn stored tree query (a .number)) R i)
     where
       by : InFlat (λ (a : LeafBound). distancesIn stored tree query (a .number)) b R → IsNear stored query b
       by (flat a j k) = from-distances (a .number) k
 
-  nears-have : (t : ℕ) → t < length stored → distance query (getD stored t []) ≡ d → In (nearAt stored query t) (nearsOf stored tree query d R)
+  nears-have : (t : ℕ) → t < length stored → distance query (getD stored t []) ≡ d → In (nearAt stored query t) (nearsRead stored tree query d R)
   unfolding leavesR
   nears-have t h e =
       in-flat (λ (a : LeafBound). distancesIn stored tree query (a .number))
@@ -219,22 +219,23 @@ module _ (n : ℕ) (stored : List Trace) (tree : Tree) (c : Containing n stored 
       o = leaf-of t h
 
   -- the search on traces that give the leaves of R the same distances
-  state : (other : List Trace) → All (Alike stored tree query d other) order → searchOn other tree query start order ≡ readAll stored tree query d start R
+  state : (other : List Trace) → All (SameDistances stored tree query d other) order → searchOn other tree query start order ≡ readAll stored tree query d start R
   unfolding leavesR
   state other alike = reads-R stored tree query d other start (reading-in-order tree query) far alike tt (inr hit)
 
-  alike-gives : (other : List Trace) → All (Alike stored tree query d other) order → matchBySteps other tree query ≡ some (matchOf stored tree query)
+  alike-gives : (other : List Trace) → All (SameDistances stored tree query d other) order → matchBySteps other tree query ≡ some (matchOf stored tree query)
   unfolding matchBySteps searched matchOf
   alike-gives other alike =
       rw (state other alike) (answer-is (readAll stored tree query d start R) (record { trace = lowestAt 0 d stored query; distance = d }) (map (λ (a : LeafBound). a .number) R)
       (total (map (λ number. length (numbersIn (nodeAt tree number .kind))) (map (λ (a : LeafBound). a .number) R)))
-      (read-best stored tree query d start R ∙ winner stored query d nearest (least-at-most stored tree query) (nearsOf stored tree query d R) nears-of nears-have)
+      (read-best stored tree query d start R ∙ winner stored query d nearest (least-at-most stored tree query) (nearsRead stored tree query d R) nears-of nears-have)
       (read-trail stored tree query d start R)
       (read-traces stored tree query d start R ∙ omega arith))
 
   -- other traces that agree with these in R
   agree-alike : (other : List Trace)
-      → tracesOf other (numbersAmong tree (trail stored tree query)) ≡ tracesOf stored (numbersAmong tree (trail stored tree query)) → (a : LeafBound) → In a order → Alike stored tree query d other a
+      → tracesOf other (numbersAmong tree (trail stored tree query)) ≡ tracesOf stored (numbersAmong tree (trail stored tree query))
+      → (a : LeafBound) → In a order → SameDistances stored tree query d other a
   unfolding numbersAmong distancesIn
   agree-alike other e a i h =
       map-agree (nearAt other query) (nearAt stored query) (numbersIn (nodeAt tree (a .number) .kind))

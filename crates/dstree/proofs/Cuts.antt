@@ -14,7 +14,7 @@ use Rattle.dstree.specs.Measures.{Trace}
 use Rattle.dstree.specs.Figures.{Run, run}
 use Rattle.dstree.specs.Node.{Segment, Node, Tree, nodeAt, changeAt, ends, changeAll}
 use Rattle.dstree.specs.Adding.{widenSegment, widen, widenAll, segmentOf, segmentsFrom, newLeaf, Candidate, byEither, cutAt, leftHalfEnd, halves, candidatesFrom, candidates}
-use Rattle.dstree.proofs.Formed.{nothing}
+use Rattle.dstree.proofs.Formed.{emptyLeaf}
 use Rattle.dstree.specs.Formed.{Parted, p-last, p-more, Rises, rises-none, rises-more, Fits, RunIn}
 
 parted-low : {n from : ℕ} {l : List ℕ} → Parted n from l → from ≤ n
@@ -145,9 +145,9 @@ unfolding widenAll widen
 widen-ends x [] tree k = refl
 widen-ends x (at ∷ rest) tree k =
     widen-ends x rest (changeAt tree at (widen x)) k
-    ∙ set-cases nothing (λ (n : Node). ends (n .segments) ≡ ends (nodeAt tree k .segments)) tree at (widen x (nodeAt tree at)) k
+    ∙ set-cases emptyLeaf (λ (n : Node). ends (n .segments) ≡ ends (nodeAt tree k .segments)) tree at (widen x (nodeAt tree at)) k
     (λ e h. changed-ends x 1 (nodeAt tree at .segments) ∙ ap (λ (j : ℕ). ends (nodeAt tree j .segments)) (sym e)) (λ f h. refl)
-    (λ h. ap (λ (n : Node). ends (n .segments)) (sym (List·getD-eq-default tree nothing h)))
+    (λ h. ap (λ (n : Node). ends (n .segments)) (sym (List·getD-eq-default tree emptyLeaf h)))
 
 from-ends : (from : ℕ) (es : List ℕ) (traces : List Trace) → ends (segmentsFrom from es traces) ≡ es
 unfolding segmentsFrom segmentOf

@@ -1,7 +1,7 @@
 -- Every definition opened at once, for proofs by computation alone: `unfolding everything`.
 use mathlib.Core.List.{flatten}
 use Rattle.integer.specs.Words.{roundedUp, total, counting, those, every, chosen, isEmpty, isIn, timesIn, same}
-use Rattle.integer.specs.Sorting.{insertedBy, sortedBy, atPlace}
+use Rattle.integer.specs.Sorting.{sortedWith, sortedBy, atPlace}
 use Rattle.segment.specs.Figures.{sum, sumOfSquares, scatter, distance}
 use Rattle.segment.specs.Roots.{fallingFrom, floorRoot, ceilingRoot}
 use Rattle.segment.specs.Terms.{sumGap, scatterGap, boundTerm, spreadTerm}
@@ -15,13 +15,13 @@ use Rattle.dstree.specs.Adding.{byEither, cutAt, leftHalfEnd, halves, ca
 use Rattle.dstree.specs.Adding.{splitBy, parts, showSides, fewestFirst, gain, bestOf, best, splitInto, splitKind, splitNew, insertion, grown}
 use Rattle.dstree.specs.Matching.{boundOn, ownBound, hasChild, parentFrom, boundFrom, isLeaf, numbersIn, leaves, before}
 use Rattle.dstree.specs.Matching.{readingOrder, readOn, isNearer, nearer, bestWith, distancesIn, readLeaf, isAbove}
-use Rattle.dstree.specs.Matching.{searched, answerOf, matchBySteps, leastDistance, lowestAt, leavesR, matchOf}
+use Rattle.dstree.specs.Matching.{searched, matchFrom, matchBySteps, leastDistance, lowestAt, leavesR, matchOf}
 use Rattle.dstree.specs.WellFormed.{rising, everyNode, childrenOf, childrenAbove, childOnce, endsFit, endsKept, leafFits, inOneLeaf}
-use Rattle.dstree.specs.WellFormed.{withinℤ, segmentFits, segmentsFit, thresholdFits, testFits, nodeFits, wellFormed}
+use Rattle.dstree.specs.WellFormed.{withinℤ, segmentFits, segmentsFit, thresholdFits, testFits, nodeFits, wellFormedTree}
 use Rattle.dstree.specs.Refusals.{numberOf, placeOf, firstOf}
 use Rattle.dstree.specs.Sheet.{areBytes, bytesOf, numberIn, pieces, filledTo, kindOf, weighted, checkOf, sealed, block, blocksFrom}
 use Rattle.dstree.specs.Sheet.{letters, headOf, coded, sampleBlocksNeeded, blocksNeeded, carriedOf, blocksOf, sheetAs}
-use Rattle.dstree.specs.Sheet.{blocksIn, measuresIn, countIn, decoded, sampleBytesIn, tracesIn, isWrongLength, isTorn}
+use Rattle.dstree.specs.Sheet.{blocksIn, measuresIn, countIn, decoded, sampleBytesIn, tracesInBlocks, isWrongLength, isTorn}
 use Rattle.dstree.specs.Sheet.{tornConditions, areZero, zerosIn, badConditions, conditionsAs, libraryIn, judgedBy, judgeAs}
 use Rattle.dstree.specs.Book.{besideOf, controlShort, tablesShort, readingConditions, putRead, openingEntry, addingEntry}
 use Rattle.dstree.specs.Book.{matchingEntry, writingEntry, readingEntry, listingEntry, importingEntry, exportingEntry, checkingEntry}
@@ -31,7 +31,7 @@ use Rattle.dstree.specs.Program.{refusalLine, matchLine, lineOf, judgedL
 use Rattle.dstree.specs.Claims.{numbersAmong}
 use Rattle.dstree.specs.KNearest.{nears, nearestList, listPlaces, kth, readInto, stopsAtKth, listed, kNearestBySteps}
 use Rattle.dstree.specs.KNearest.{leavesRk, kNearestOf, listOfMatch, inRank, distancesAmong}
-use Rattle.dstree.specs.Batch.{isBatch, wanted, batchOf, bestAmong, readOnce, readFor, batchRead, answerBy, batchBySteps}
+use Rattle.dstree.specs.Batch.{isBatch, wanted, batchOf, bestAmong, readOnce, readFor, batchRead, nearOrZero, batchBySteps}
 use Rattle.dstree.specs.Recording.{header, fieldBytes, recordingOf, rateIn, sizeIn, begins, isRecording, recordedTraces}
 use Rattle.dstree.specs.Recording.{judgeRecording, fileTraces, isBadFile}
 use Rattle.dstree.specs.Checking.{belowFrom, sameℤ, sameFigures, areExact, isExactAt, isExact}
@@ -66,11 +66,11 @@ unfolding candidatesFrom spreadOn spread thresholdOf testOf splitBy parts showSi
 addingOpen2 = tt
 
 unfoldable matchingOpen : Unit {0}
-unfolding boundOn ownBound hasChild parentFrom boundFrom isLeaf numbersIn leaves before insertedBy sortedBy readingOrder readOn isNearer nearer bestWith
+unfolding boundOn ownBound hasChild parentFrom boundFrom isLeaf numbersIn leaves before sortedWith sortedBy readingOrder readOn isNearer nearer bestWith
 matchingOpen = tt
 
 unfoldable matchingOpen2 : Unit {0}
-unfolding distancesIn readLeaf isAbove searched answerOf matchBySteps leastDistance lowestAt leavesR matchOf
+unfolding distancesIn readLeaf isAbove searched matchFrom matchBySteps leastDistance lowestAt leavesR matchOf
 matchingOpen2 = tt
 
 unfoldable nearestOpen : Unit {0}
@@ -79,7 +79,7 @@ unfolding atPlace nears nearestList listPlaces kth readInto stopsAtKth listed kN
 nearestOpen = tt
 
 unfoldable batchesOpen : Unit {0}
-unfolding isBatch wanted batchOf bestAmong readOnce readFor batchRead answerBy batchBySteps
+unfolding isBatch wanted batchOf bestAmong readOnce readFor batchRead nearOrZero batchBySteps
 batchesOpen = tt
 
 unfoldable rulesOpen : Unit {0}
@@ -87,7 +87,7 @@ unfolding rising everyNode childrenOf childrenAbove childOnce endsFit endsKept l
 rulesOpen = tt
 
 unfoldable rulesOpen2 : Unit {0}
-unfolding thresholdFits testFits nodeFits wellFormed numberOf placeOf firstOf
+unfolding thresholdFits testFits nodeFits wellFormedTree numberOf placeOf firstOf
 rulesOpen2 = tt
 
 unfoldable sheetsOpen : Unit {0}
@@ -95,7 +95,7 @@ unfolding areBytes bytesOf numberIn pieces filledTo kindOf weighted checkOf seal
 sheetsOpen = tt
 
 unfoldable sheetsOpen2 : Unit {0}
-unfolding sampleBlocksNeeded blocksNeeded carriedOf blocksOf sheetAs blocksIn measuresIn countIn decoded sampleBytesIn tracesIn
+unfolding sampleBlocksNeeded blocksNeeded carriedOf blocksOf sheetAs blocksIn measuresIn countIn decoded sampleBytesIn tracesInBlocks
 sheetsOpen2 = tt
 
 unfoldable sheetTestsOpen : Unit {0}

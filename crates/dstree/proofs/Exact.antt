@@ -14,7 +14,7 @@ use Rattle.dstree.specs.Node.{Segment, Node, Tree, nodeAt, changeAt, cha
 use Rattle.dstree.specs.Adding.{widenSegment, widen, widenAll, segmentOf, segmentsFrom, tracesOf, newLeaf}
 use Rattle.dstree.specs.Claims.{Extreme, AllExact, exact-none, exact-more}
 use Rattle.dstree.proofs.Ranges.{CoveredOn, Covered, covered-none, covered-more}
-use Rattle.dstree.proofs.Formed.{nothing}
+use Rattle.dstree.proofs.Formed.{emptyLeaf}
 
 -- a is the figure v of a trace of P
 pub record Of {A : Type 0} (P : ℕ → Type 0) (v : ℕ → A) (a : A) : Type 0 where
@@ -77,7 +77,7 @@ module _ (stored : List Trace) (x : Trace) (number : ℕ) (at-number : getD stor
   widen-reached P [] tree on all k = all k
   widen-reached P (at ∷ rest) tree on all k =
       widen-reached P rest (changeAt tree at (widen x)) (λ k i. on k (later i))
-      (λ k. set-cases nothing (λ (a : Node). AllReached stored (P k) 1 (a .segments)) tree at (widen x (nodeAt tree at)) k
+      (λ k. set-cases emptyLeaf (λ (a : Node). AllReached stored (P k) 1 (a .segments)) tree at (widen x (nodeAt tree at)) k
       (λ e h. changed-reached (P k) (rw e (on at first)) (subst (λ (j : ℕ). AllReached stored (P k) 1 (nodeAt tree j .segments)) e (all k))) (λ f h. all k) (λ h. reached-none)) k
 
 -- ---- a new leaf

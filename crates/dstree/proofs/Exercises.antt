@@ -21,13 +21,13 @@ use Rattle.dstree.specs.Adding.{way, widen, join, byEither, cutAt, leftH
 use Rattle.dstree.specs.Adding.{Candidate, tracesOf, goesBy, showSides, fewestFirst}
 use Rattle.dstree.specs.Matching.{ownBound, parentFrom, bound, LeafBound, leaves, before, readingOrder, Near, bestWith, isAbove, matchBySteps, leastDistance, lowestAt}
 use Rattle.dstree.specs.Claims.{numbersAmong}
-use Rattle.dstree.specs.WellFormed.{wellFormed}
+use Rattle.dstree.specs.WellFormed.{wellFormedTree}
 use Rattle.dstree.specs.Refusals.{Refusal, measure, shortTable, spoiled, wrongTrace, full, empty, shortTrail, sheetLength, tornBlock}
 use Rattle.dstree.specs.Refusals.{badSheet, badK, badRecording, looseRecord, badBatch, numberOf, placeOf, _refuses_, firstOf}
 use Rattle.dstree.specs.Sheet.{bytesOf, numberIn, part, narrow, kindOf, weighted, checkOf, block, headOf, coded, blocksNeeded}
 use Rattle.dstree.specs.Sheet.{blocksOf, sheetOf, decoded, isWrongLength, isTorn, refused, holds, judgeSheet}
 use Rattle.dstree.specs.Program as program
-use Rattle.dstree.specs.Examples.{level, ABC, tree, gains, found, twins}
+use Rattle.dstree.specs.Examples.{level, ABC, tree, gains, matchWith, twins}
 use Rattle.dstree.proofs.Notation.{+, −, seg, test}
 use Rattle.dstree.proofs.Everything.{everything}
 
@@ -274,9 +274,9 @@ pub record MatchingExamples : Type 0 where
   -- "Samples in leaves off the trail don't bear on a search": B and C replaced
   pub off-the-trail : matchBySteps (level 0 ∷ level 1 ∷ level 1 ∷ []) tree (level 1) ≡ matchBySteps ABC tree (level 1)
   -- "With well-formed tables that somebody altered, calls follow the steps above on what is recorded": leaf 1 seems far, so leaf 2 is read alone
-  pub as-recorded : matchBySteps ABC altered (level 1) ≡ some (found 1 36 1 2 (2 ∷ []))
+  pub as-recorded : matchBySteps ABC altered (level 1) ≡ some (matchWith 1 36 1 2 (2 ∷ []))
   -- .. and when both seem far, the first one is read: no best distance is found yet
-  pub first-is-read : matchBySteps ABC both-altered (level 1) ≡ some (found 0 4 1 1 (1 ∷ []))
+  pub first-is-read : matchBySteps ABC both-altered (level 1) ≡ some (matchWith 0 4 1 1 (1 ∷ []))
 
 pub matching-examples : MatchingExamples
 unfolding everything
@@ -326,7 +326,7 @@ pub record TrapExamples : Type 0 where
   pub eight-and-nine : scatterGap 9 8 8 ≡ 0
   -- "Stopping at an equal bound: a lower number is lost": (2) is at distance 4 from both, and both leaves are at bound 4
   pub equal-bounds : map (bound (treeOf (measures 1 2 1) four-and-zero) (+ 2 ∷ [])) (1 ∷ 2 ∷ []) ≡ 4 ∷ 4 ∷ []
-  pub lower-number : matchBySteps four-and-zero (treeOf (measures 1 2 1) four-and-zero) (+ 2 ∷ []) ≡ some (found 0 4 2 2 (1 ∷ 2 ∷ []))
+  pub lower-number : matchBySteps four-and-zero (treeOf (measures 1 2 1) four-and-zero) (+ 2 ∷ []) ≡ some (matchWith 0 4 2 2 (1 ∷ 2 ∷ []))
   -- "Taking a cut child's bound as never below its parent's: separate ranges and rounding break that, so the path's greatest counts"
   pub own-bounds : map (ownBound zeros) cut ≡ 200 ∷ 0 ∷ 200 ∷ []
   pub bounds : map (bound cut zeros) (0 ∷ 1 ∷ 2 ∷ []) ≡ 200 ∷ 200 ∷ 200 ∷ []
@@ -349,7 +349,7 @@ trap-examples = record {
 -- ---- "Well-formed tables"
 
 abbrev fits : Tree → Bool
-fits = wellFormed sampleLimit (measures 4 8 2) 3
+fits = wellFormedTree sampleLimit (measures 4 8 2) 3
 
 -- the tree of A, B, C with another kind, or other segments, at a node
 abbrev kindAt : ℕ → Kind → Tree
@@ -387,15 +387,15 @@ pub record WellFormedExamples : Type 0 where
   pub other-children : fits (withChildren 2 1) ≡ true
   pub other-ranges : map (λ s. fits (segmentsAt 1 s)) ((seg 2 (+ 9) (+ 9) 0 1 ∷ seg 4 (− 65536) (+ 65536) 7 7 ∷ []) ∷ (seg 4 (− 131072) (− 131072) 0 17179869184 ∷ []) ∷ []) ≡ true ∷ true ∷ []
   pub other-leaves : map fits (withLeaves (1 ∷ []) (0 ∷ 2 ∷ []) ∷ withLeaves (0 ∷ 1 ∷ []) (2 ∷ []) ∷ []) ≡ true ∷ true ∷ []
-  pub over-size : wellFormed sampleLimit (measures 4 8 1) 3 tree ≡ true
-  pub nothing-stored : wellFormed sampleLimit (measures 4 8 2) 0 [] ≡ true
+  pub over-size : wellFormedTree sampleLimit (measures 4 8 1) 3 tree ≡ true
+  pub nothing-stored : wellFormedTree sampleLimit (measures 4 8 2) 0 [] ≡ true
   -- "measures in range"
-  pub measures-out : map (λ m. wellFormed sampleLimit m 3 tree) (measures 4 8 0 ∷ measures 4 8 65 ∷ measures 4 4097 2 ∷ []) ≡ replicate 3 false
+  pub measures-out : map (λ m. wellFormedTree sampleLimit m 3 tree) (measures 4 8 0 ∷ measures 4 8 65 ∷ measures 4 4097 2 ∷ []) ≡ replicate 3 false
   -- "trace count at most capacity"
-  pub count-at-most : map (λ c. wellFormed sampleLimit (measures 4 c 2) 3 tree) (3 ∷ 2 ∷ []) ≡ true ∷ false ∷ []
+  pub count-at-most : map (λ c. wellFormedTree sampleLimit (measures 4 c 2) 3 tree) (3 ∷ 2 ∷ []) ≡ true ∷ false ∷ []
   -- "no node exactly when no trace"
-  pub no-node : map (λ count. wellFormed sampleLimit (measures 4 8 2) count []) (0 ∷ 3 ∷ []) ≡ true ∷ false ∷ []
-  pub no-trace : wellFormed sampleLimit (measures 4 8 2) 0 tree ≡ false
+  pub no-node : map (λ count. wellFormedTree sampleLimit (measures 4 8 2) count []) (0 ∷ 3 ∷ []) ≡ true ∷ false ∷ []
+  pub no-trace : wellFormedTree sampleLimit (measures 4 8 2) 0 tree ≡ false
   -- "inner children numbered above their parent": nodes 1 and 2 below each other, so that each is a child once; node 1 below itself; a child that is no node
   pub below-each-other : fits (plain (leaf (0 ∷ [])) ∷ plain (inner (test 1 4 bySum (+ 0)) 2 3) ∷ plain (inner (test 1 4 bySum (+ 0)) 1 4) ∷ plain (leaf (1 ∷ [])) ∷ plain (leaf (2 ∷ [])) ∷ []) ≡ false
   pub below-itself : fits (plain (leaf (0 ∷ [])) ∷ plain (inner (test 1 4 bySum (+ 0)) 1 2) ∷ plain (leaf (1 ∷ 2 ∷ [])) ∷ []) ≡ false
@@ -404,8 +404,8 @@ pub record WellFormedExamples : Type 0 where
   pub twice-a-child : fits (withChildren 1 1) ≡ false
   pub no-parent : fits (plain (leaf (0 ∷ [])) ∷ plain (leaf (1 ∷ 2 ∷ [])) ∷ []) ≡ false
   -- "at most 16 ends"
-  pub sixteen-ends : wellFormed sampleLimit (measures 16 8 2) 1 (singles 16) ≡ true
-  pub seventeen-ends : wellFormed sampleLimit (measures 17 8 2) 1 (singles 17) ≡ false
+  pub sixteen-ends : wellFormedTree sampleLimit (measures 16 8 2) 1 (singles 16) ≡ true
+  pub seventeen-ends : wellFormedTree sampleLimit (measures 17 8 2) 1 (singles 17) ≡ false
   -- "rising, last n": twice the same, falling, from 0, last 3, last 5, none; in a tree of one leaf
   pub ends-refused : map (λ ends. fits (endingAt ends)) ((2 ∷ 2 ∷ 4 ∷ []) ∷ (3 ∷ 2 ∷ 4 ∷ []) ∷ (0 ∷ 4 ∷ []) ∷ (3 ∷ []) ∷ (5 ∷ []) ∷ [] ∷ []) ≡ replicate 6 false
   pub ends-taken : map (λ ends. fits (endingAt ends)) ((4 ∷ []) ∷ (1 ∷ 4 ∷ []) ∷ []) ≡ replicate 2 true

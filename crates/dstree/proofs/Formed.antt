@@ -23,7 +23,7 @@ use Rattle.dstree.specs.Figures.{run, width}
 use Rattle.dstree.specs.Node.{Segment, Figure, bySum, byScatter, Test, Kind, leaf, inner, Node, node, Tree, nodeAt, ends}
 use Rattle.dstree.specs.Matching.{hasChild, numbersIn}
 use Rattle.dstree.specs.WellFormed.{rising, everyNode, childrenOf, childrenAbove, childOnce, endsFit, endsKept, leafFits, inOneLeaf}
-use Rattle.dstree.specs.WellFormed.{withinℤ, segmentFits, segmentsFit, thresholdFits, testFits, nodeFits, wellFormed}
+use Rattle.dstree.specs.WellFormed.{withinℤ, segmentFits, segmentsFit, thresholdFits, testFits, nodeFits, wellFormedTree}
 pub use Rattle.dstree.specs.Formed.{Parent, Kept, Limited, AllLimited, l-none, l-more, Between, TestIn, Limits, Formed}
 use Rattle.dstree.specs.Formed.{Parted, p-last, p-more, Fits, Shape}
 
@@ -42,14 +42,14 @@ every-node passes number (a ∷ rest) h =
     yes-and (passes number a) (everyNode passes (suc number) rest) (h 0 number (omega arith) (omega arith)) (every-node passes (suc number) rest (λ k j e g. h (suc k) j (omega arith) (omega arith)))
 
 -- what stands past the last node: a leaf with nothing in it. What that does not have, only a node of the tree has
-abbrev pub nothing : Node
-nothing = node [] (leaf [])
+abbrev pub emptyLeaf : Node
+emptyLeaf = node [] (leaf [])
 
 pub is-node : (P : Node → Type 0) (tree : Tree) (k : ℕ) → (P (node [] (leaf [])) → ⊥) → P (nodeAt tree k) → k < length tree
 is-node P tree k never p = by (decLe (length tree) k)
   where
     by : Dec (length tree ≤ k) → k < length tree
-    by (yes h) = absurd (never (subst P (List·getD-eq-default tree nothing h) p))
+    by (yes h) = absurd (never (subst P (List·getD-eq-default tree emptyLeaf h) p))
     by (no f) = lt-of-not-le f
 
 -- ---- children
@@ -298,19 +298,19 @@ of-same-empty a b f g = by (eqb a 0) (eqb b 0) refl refl
     by false true p q = eqb-false a 0 p (g (eqb-true b 0 q))
     by false false p q = tt
 
-abbrev pub childrenAt : Node → List ℕ
-childrenAt a = childrenOf (a .kind)
+abbrev pub nodeChildren : Node → List ℕ
+nodeChildren a = childrenOf (a .kind)
 
-abbrev pub numbersAt : Node → List ℕ
-numbersAt a = numbersIn (a .kind)
+abbrev pub nodeNumbers : Node → List ℕ
+nodeNumbers a = numbersIn (a .kind)
 
 -- ---- each child and each number once
 
 module _ {n count : ℕ} {tree : Tree} (s : Shape n count tree) where
-  pub child-times : (k : ℕ) → 0 < k → k < length tree → timesIn k (flatten (map childrenAt tree)) ≡ 1
-  child-times k low high = times-once childrenAt nothing k tree (place (s .parented k low high))
+  pub child-times : (k : ℕ) → 0 < k → k < length tree → timesIn k (flatten (map nodeChildren tree)) ≡ 1
+  child-times k low high = times-once nodeChildren emptyLeaf k tree (place (s .parented k low high))
     where
-      place : Parent tree k → OnceAt childrenAt nothing tree k
+      place : Parent tree k → OnceAt nodeChildren emptyLeaf tree k
       place p = record {
         place = p .parent;
         inside = child-node tree (p .parent) k (p .has);
@@ -318,10 +318,10 @@ module _ {n count : ℕ} {tree : Tree} (s : Shape n count tree) where
         only = λ j h i. s .one-parent j (p .parent) k (in-child k (nodeAt tree j .kind) i) (p .has);
       }
 
-  pub number-times : (t : ℕ) → t < count → timesIn t (flatten (map numbersAt tree)) ≡ 1
-  number-times t h = times-once numbersAt nothing t tree (place (s .kept t h))
+  pub number-times : (t : ℕ) → t < count → timesIn t (flatten (map nodeNumbers tree)) ≡ 1
+  number-times t h = times-once nodeNumbers emptyLeaf t tree (place (s .kept t h))
     where
-      place : Kept tree t → OnceAt numbersAt nothing tree t
+      place : Kept tree t → OnceAt nodeNumbers emptyLeaf tree t
       place p = record {
         place = p .at;
         inside = number-node tree t (p .at) (p .holds);
@@ -329,19 +329,19 @@ module _ {n count : ℕ} {tree : Tree} (s : Shape n count tree) where
         only = λ j h i. s .one-leaf t j (p .at) (in-is i) (p .holds);
       }
 
-  pub numbers-below : (t : ℕ) → In t (flatten (map numbersAt tree)) → t < count
-  numbers-below t i = by (from-flat numbersAt tree i)
+  pub numbers-below : (t : ℕ) → In t (flatten (map nodeNumbers tree)) → t < count
+  numbers-below t i = by (from-flat nodeNumbers tree i)
     where
-      by : InFlat numbersAt t tree → t < count
-      by (flat a i j) = let p = place-of nothing i in s .numbers t (p .place) (in-is (subst (λ (b : Node). In t (numbersAt b)) (sym (p .is-it)) j))
+      by : InFlat nodeNumbers t tree → t < count
+      by (flat a i j) = let p = place-of emptyLeaf i in s .numbers t (p .place) (in-is (subst (λ (b : Node). In t (nodeNumbers b)) (sym (p .is-it)) j))
 
-  pub children-above : (c : ℕ) → In c (flatten (map childrenAt tree)) → (0 < c) × (c < length tree)
-  children-above c i = by (from-flat childrenAt tree i)
+  pub children-above : (c : ℕ) → In c (flatten (map nodeChildren tree)) → (0 < c) × (c < length tree)
+  children-above c i = by (from-flat nodeChildren tree i)
     where
-      by : InFlat childrenAt c tree → (0 < c) × (c < length tree)
+      by : InFlat nodeChildren c tree → (0 < c) × (c < length tree)
       by (flat a i j) =
-          let p = place-of nothing i in
-          let h = s .child (p .place) c (in-child c (nodeAt tree (p .place) .kind) (subst (λ (b : Node). In c (childrenAt b)) (sym (p .is-it)) j)) in
+          let p = place-of emptyLeaf i in
+          let h = s .child (p .place) c (in-child c (nodeAt tree (p .place) .kind) (subst (λ (b : Node). In c (nodeChildren b)) (sym (p .is-it)) j)) in
           (omega (arith, h .0), h .1)
 
 -- ---- both directions
@@ -356,18 +356,18 @@ module _ (limit : ℕ) (m : Measures) (count : ℕ) (tree : Tree) where
 
   -- the tests that `childOnce` and `inOneLeaf` make of a number
   abbrev childTest : ℕ → Bool
-  childTest k = eqb (timesIn k (flatten (map childrenAt tree))) 1
+  childTest k = eqb (timesIn k (flatten (map nodeChildren tree))) 1
 
   abbrev leafTest : ℕ → Bool
-  leafTest t = eqb (timesIn t (flatten (map numbersAt tree))) 1
+  leafTest t = eqb (timesIn t (flatten (map nodeNumbers tree))) 1
 
   abbrev countTest : ℕ → Bool
   countTest t = ltb t count
 
   -- what the test shows
-  module _ (t : T (wellFormed limit m count tree)) where
+  module _ (t : T (wellFormedTree limit m count tree)) where
     rules : Each (inRange m) ruleTests
-    unfolding wellFormed
+    unfolding wellFormedTree
     rules = passed (inRange m) ruleTests t
 
     at-node : (k : ℕ) → k < length tree → Each (childrenAbove tree k (nodeAt tree k)) (nodeTests (nodeAt tree k))
@@ -381,27 +381,28 @@ module _ (limit : ℕ) (m : Measures) (count : ℕ) (tree : Tree) where
         (from-every (λ child. ltb p child && ltb child (length tree)) (childrenOf (nodeAt tree p .kind)) (at-node p (child-node tree p c h) .0) (child-in c (nodeAt tree p .kind) h)) in
         (ltb→lt p c (u .0), ltb→lt c (length tree) (u .1))
 
-    child-once : (k : ℕ) → 0 < k → k < length tree → OnceAt childrenAt nothing tree k
+    child-once : (k : ℕ) → 0 < k → k < length tree → OnceAt nodeChildren emptyLeaf tree k
     unfolding childOnce
-    child-once k low high = once-at childrenAt nothing k tree
+    child-once k low high = once-at nodeChildren emptyLeaf k tree
         (eqb→eq _ 1 (from-every childTest (counting (length tree - 1) 1) (rules .1 .1 .1 .1 .0) (in-counting (length tree - 1) 1 k low (omega arith))))
 
-    numbers-tests : T (every leafTest (counting count 0)) × T (every countTest (flatten (map numbersAt tree)))
+    numbers-tests : T (every leafTest (counting count 0)) × T (every countTest (flatten (map nodeNumbers tree)))
     unfolding inOneLeaf
-    numbers-tests = and-yes (every leafTest (counting count 0)) (every countTest (flatten (map numbersAt tree))) (rules .1 .1 .1 .1 .1)
+    numbers-tests = and-yes (every leafTest (counting count 0)) (every countTest (flatten (map nodeNumbers tree))) (rules .1 .1 .1 .1 .1)
 
     number-below : (t k : ℕ) → T (isIn t (numbersIn (nodeAt tree k .kind))) → t < count
     number-below t k i = ltb→lt t count
-        (from-every countTest (flatten (map numbersAt tree)) (numbers-tests .1) (in-flat numbersAt (in-getD tree k nothing (number-node tree t k i)) (is-in t (numbersIn (nodeAt tree k .kind)) i)))
+        (from-every countTest (flatten (map nodeNumbers tree)) (numbers-tests .1)
+        (in-flat nodeNumbers (in-getD tree k emptyLeaf (number-node tree t k i)) (is-in t (numbersIn (nodeAt tree k .kind)) i)))
 
-    number-once : (t : ℕ) → t < count → OnceAt numbersAt nothing tree t
-    number-once t h = once-at numbersAt nothing t tree (eqb→eq _ 1 (from-every leafTest (counting count 0) (numbers-tests .0) (in-counting count 0 t (omega arith) (omega arith))))
+    number-once : (t : ℕ) → t < count → OnceAt nodeNumbers emptyLeaf tree t
+    number-once t h = once-at nodeNumbers emptyLeaf t tree (eqb→eq _ 1 (from-every leafTest (counting count 0) (numbers-tests .0) (in-counting count 0 t (omega arith) (omega arith))))
 
-    parent-of : (k : ℕ) → OnceAt childrenAt nothing tree k → Parent tree k
-    parent-of k o = record { parent = o .place; has = in-child k (nodeAt tree (o .place) .kind) (times-in k (childrenAt (nodeAt tree (o .place))) (omega (arith, o .once))) }
+    parent-of : (k : ℕ) → OnceAt nodeChildren emptyLeaf tree k → Parent tree k
+    parent-of k o = record { parent = o .place; has = in-child k (nodeAt tree (o .place) .kind) (times-in k (nodeChildren (nodeAt tree (o .place))) (omega (arith, o .once))) }
 
-    leaf-holding : (t : ℕ) → OnceAt numbersAt nothing tree t → Kept tree t
-    leaf-holding t o = record { at = o .place; holds = in-is (times-in t (numbersAt (nodeAt tree (o .place))) (omega (arith, o .once))) }
+    leaf-holding : (t : ℕ) → OnceAt nodeNumbers emptyLeaf tree t → Kept tree t
+    leaf-holding t o = record { at = o .place; holds = in-is (times-in t (nodeNumbers (nodeAt tree (o .place))) (omega (arith, o .once))) }
 
     parent-only : (p q c : ℕ) → T (hasChild c (nodeAt tree p .kind)) → T (hasChild c (nodeAt tree q .kind)) → p ≡ q
     parent-only p q c h k =
@@ -420,7 +421,7 @@ module _ (limit : ℕ) (m : Measures) (count : ℕ) (tree : Tree) where
         let h : T (hasChild left (nodeAt tree p .kind)) = in-child left (nodeAt tree p .kind) i in
         let o = child-once left (omega (arith, child-above p left h .0)) (child-above p left h .1) in
         let q : p ≡ o .place = o .only p (child-node tree p left h) i in
-        once-differ left right (subst (λ (a : Kind). timesIn left (childrenOf a) ≡ 1) e (subst (λ (j : ℕ). timesIn left (childrenAt (nodeAt tree j)) ≡ 1) (sym q) (o .once)))
+        once-differ left right (subst (λ (a : Kind). timesIn left (childrenOf a) ≡ 1) e (subst (λ (j : ℕ). timesIn left (nodeChildren (nodeAt tree j)) ≡ 1) (sym q) (o .once)))
 
     ends-of-child : (p c : ℕ) → T (hasChild c (nodeAt tree p .kind)) → (e : ℕ) → In e (ends (nodeAt tree p .segments)) → In e (ends (nodeAt tree c .segments))
     unfolding endsKept
@@ -433,7 +434,7 @@ module _ (limit : ℕ) (m : Measures) (count : ℕ) (tree : Tree) where
     leaf-rises k ns e = by (decLe (length tree) k)
       where
         by : Dec (length tree ≤ k) → Up 0 ns
-        by (yes h) = let q : [] ≡ ns = cc (ap (λ (a : Node). a .kind) (List·getD-eq-default tree nothing h)) in subst (λ (l : List ℕ). Up 0 l) q u-none
+        by (yes h) = let q : [] ≡ ns = cc (ap (λ (a : Node). a .kind) (List·getD-eq-default tree emptyLeaf h)) in subst (λ (l : List ℕ). Up 0 l) q u-none
         by (no f) = leaf-of ns (at-node k (lt-of-not-le f) .1 .1 .1 .0) e .0
 
     shape : Shape (m .n) count tree
@@ -504,12 +505,12 @@ module _ (limit : ℕ) (m : Measures) (count : ℕ) (tree : Tree) where
 
     of-one-leaf : T (inOneLeaf count tree)
     unfolding inOneLeaf
-    of-one-leaf = yes-and (every leafTest (counting count 0)) (every countTest (flatten (map numbersAt tree)))
+    of-one-leaf = yes-and (every leafTest (counting count 0)) (every countTest (flatten (map nodeNumbers tree)))
         (every-of leafTest (counting count 0) (λ t i. eq→eqb (number-times s t (omega (arith, from-counting count 0 i .1)))))
-        (every-of countTest (flatten (map numbersAt tree)) (λ t i. lt→ltb t count (numbers-below s t i)))
+        (every-of countTest (flatten (map nodeNumbers tree)) (λ t i. lt→ltb t count (numbers-below s t i)))
 
-    of-rules : T (wellFormed limit m count tree)
-    unfolding wellFormed
+    of-rules : T (wellFormedTree limit m count tree)
+    unfolding wellFormedTree
     of-rules = passes (inRange m) ruleTests (
       f .measured,
       (
@@ -524,5 +525,5 @@ module _ (limit : ℕ) (m : Measures) (count : ℕ) (tree : Tree) where
         at-0 : (k j : ℕ) → j ≡ 0 + k → k ≡ j
         at-0 k j e = omega arith
 
-pub well-formed : {limit : ℕ} {m : Measures} {count : ℕ} {tree : Tree} → Formed limit m count tree → T (wellFormed limit m count tree)
+pub well-formed : {limit : ℕ} {m : Measures} {count : ℕ} {tree : Tree} → Formed limit m count tree → T (wellFormedTree limit m count tree)
 well-formed {limit} {m} {count} {tree} f = of-rules limit m count tree f

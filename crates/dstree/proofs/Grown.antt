@@ -21,7 +21,7 @@ use Rattle.dstree.specs.Adding.{way, widenAll, join, newLeaf, tracesOf, 
 use Rattle.dstree.specs.Adding.{splitInto, splitKind, split, splitNew, insertion, grown, treeOf}
 use Rattle.dstree.specs.Matching.{numbersIn}
 use Rattle.dstree.specs.Formed.{Shape}
-use Rattle.dstree.proofs.Formed.{nothing, inner-node}
+use Rattle.dstree.proofs.Formed.{emptyLeaf, inner-node}
 use Rattle.dstree.proofs.Nodes.{nodes-most}
 use Rattle.dstree.proofs.Change.{widen-kind, join-inner, LeafAt, way-leaf}
 use Rattle.dstree.proofs.Invariant.{Inv}
@@ -32,17 +32,17 @@ use Rattle.dstree.proofs.Keeps.{none-inv, insertion-inv}
 -- ---- no leaf over size that could be parted
 
 -- the leaf of this number is not over size, or no candidate parts it
-abbrev pub Whole : ℕ → List Trace → Tree → ℕ → Type 0
-Whole leafSize stored tree k = (numbers : List ℕ) → nodeAt tree k .kind ≡ leaf numbers → leafSize < length numbers → T
+abbrev pub LeafWhole : ℕ → List Trace → Tree → ℕ → Type 0
+LeafWhole leafSize stored tree k = (numbers : List ℕ) → nodeAt tree k .kind ≡ leaf numbers → leafSize < length numbers → T
     (every (λ c. not (parts (splitBy stored numbers c))) (candidates (ends (nodeAt tree k .segments))))
 
-past-whole : (leafSize : ℕ) (stored : List Trace) (tree : Tree) (k : ℕ) → length tree ≤ k → Whole leafSize stored tree k
+past-whole : (leafSize : ℕ) (stored : List Trace) (tree : Tree) (k : ℕ) → length tree ≤ k → LeafWhole leafSize stored tree k
 past-whole leafSize stored tree k h numbers e g =
-    let q : leaf [] ≡ leaf numbers = sym (ap (λ (a : Node). a .kind) (List·getD-eq-default tree nothing h)) ∙ e in
+    let q : leaf [] ≡ leaf numbers = sym (ap (λ (a : Node). a .kind) (List·getD-eq-default tree emptyLeaf h)) ∙ e in
     let r : [] ≡ numbers = cc in
     absurd (omega (arith, ap length r))
 
-same-whole : (leafSize : ℕ) (stored : List Trace) (tree other : Tree) (k : ℕ) → nodeAt other k ≡ nodeAt tree k → Whole leafSize stored tree k → Whole leafSize stored other k
+same-whole : (leafSize : ℕ) (stored : List Trace) (tree other : Tree) (k : ℕ) → nodeAt other k ≡ nodeAt tree k → LeafWhole leafSize stored tree k → LeafWhole leafSize stored other k
 same-whole leafSize stored tree other k e w = rw e w
 
 -- traces that a leaf does not hold do not bear on its candidates
@@ -69,7 +69,7 @@ module _ (leafSize : ℕ) (stored : List Trace) (tree : Tree) (at : ℕ) where
   into-other none k h f = refl
   into-other (some s) k h f =
       let turned : Node = node (nodeAt tree at .segments) (inner (s .test) (length tree) (suc (length tree))) in
-      List·getD-append (set tree at turned) _ nothing k (rw (length-set tree at turned) h) ∙ getD-set-other tree at k turned nothing f
+      List·getD-append (set tree at turned) _ emptyLeaf k (rw (length-set tree at turned) h) ∙ getD-set-other tree at k turned emptyLeaf f
 
   kind-other : (a : Kind) (k : ℕ) → k < length tree → (k ≡ at → ⊥) → nodeAt (splitKind leafSize stored tree at a) k ≡ nodeAt tree k
   unfolding splitKind
@@ -84,7 +84,7 @@ module _ (leafSize : ℕ) (stored : List Trace) (tree : Tree) (at : ℕ) where
   split-other : (k : ℕ) → k < length tree → (k ≡ at → ⊥) → nodeAt (split leafSize stored tree at) k ≡ nodeAt tree k
   split-other = kind-other (nodeAt tree at .kind)
 
-  kind-whole : at < length tree → (a : Kind) → nodeAt tree at .kind ≡ a → Whole leafSize stored (splitKind leafSize stored tree at a) at
+  kind-whole : at < length tree → (a : Kind) → nodeAt tree at .kind ≡ a → LeafWhole leafSize stored (splitKind leafSize stored tree at a) at
   unfolding splitKind splitInto
   kind-whole h (inner test l r) e = λ numbers q g. let z : _≡_ {A = ℕ} 0 1 = cc in absurd (omega arith)
   kind-whole h (leaf ns) e = by (ltb leafSize (length ns)) refl
@@ -92,22 +92,22 @@ module _ (leafSize : ℕ) (stored : List Trace) (tree : Tree) (at : ℕ) where
       es : List ℕ
       es = ends (nodeAt tree at .segments)
 
-      found : (o : Option Split) → best stored es ns ≡ o → Whole leafSize stored (splitInto stored tree at o) at
+      found : (o : Option Split) → best stored es ns ≡ o → LeafWhole leafSize stored (splitInto stored tree at o) at
       found none p numbers q g = let r : ns ≡ numbers = cc in subst (λ (l : List ℕ). T (every (λ c. not (parts (splitBy stored l c))) (candidates es))) r (best-none stored es ns p)
       found (some s) p numbers q g =
           let turned : Node = node (nodeAt tree at .segments) (inner (s .test) (length tree) (suc (length tree))) in
-          let is : nodeAt (splitInto stored tree at (some s)) at ≡ turned = List·getD-append (set tree at turned) _ nothing at
-          (rw (length-set tree at turned) h) ∙ getD-set-same tree at turned nothing h in
+          let is : nodeAt (splitInto stored tree at (some s)) at ≡ turned = List·getD-append (set tree at turned) _ emptyLeaf at
+          (rw (length-set tree at turned) h) ∙ getD-set-same tree at turned emptyLeaf h in
           let k : inner (s .test) (length tree) (suc (length tree)) ≡ leaf numbers = sym (ap (λ (a : Node). a .kind) is) ∙ q in
           let z : _≡_ {A = ℕ} 0 1 = cc in
           absurd (omega arith)
 
-      by : (b : Bool) → ltb leafSize (length ns) ≡ b → Whole leafSize stored (if b then splitInto stored tree at (best stored es ns) else tree) at
+      by : (b : Bool) → ltb leafSize (length ns) ≡ b → LeafWhole leafSize stored (if b then splitInto stored tree at (best stored es ns) else tree) at
       by true p = found (best stored es ns) refl
       by false p = λ numbers q g. let r : ns ≡ numbers = cc in absurd (omega (arith, ltb-false leafSize (length ns) p, ap length r))
 
   -- the leaf itself is parted, or whole
-  split-whole : at < length tree → Whole leafSize stored (split leafSize stored tree at) at
+  split-whole : at < length tree → LeafWhole leafSize stored (split leafSize stored tree at) at
   split-whole h = kind-whole h (nodeAt tree at .kind) refl
 
   -- an inner node is not changed
@@ -128,17 +128,17 @@ split-shapes n leafSize stored = split-keeps n leafSize stored (λ (tree : Tree)
 
 -- whole before the position, and steps enough for all nodes: whole everywhere behind the pass
 new-whole : (n fuel leafSize : ℕ) (stored : List Trace) (tree : Tree) (at : ℕ) → Shape n (length stored) tree
-    → 2 * length stored ≤ at + fuel → ((k : ℕ) → k < at → Whole leafSize stored tree k) → (k : ℕ) → Whole leafSize stored (splitNew fuel leafSize stored tree at) k
+    → 2 * length stored ≤ at + fuel → ((k : ℕ) → k < at → LeafWhole leafSize stored tree k) → (k : ℕ) → LeafWhole leafSize stored (splitNew fuel leafSize stored tree at) k
 unfolding splitNew
 new-whole n zero leafSize stored tree at shape enough whole k = by (decLe (suc k) at)
   where
-    by : Dec (suc k ≤ at) → Whole leafSize stored tree k
+    by : Dec (suc k ≤ at) → LeafWhole leafSize stored tree k
     by (yes h) = whole k h
     by (no f) = past-whole leafSize stored tree k (omega (arith, lt-of-not-le f, nodes-most shape))
 new-whole n (suc fuel) leafSize stored tree at shape enough whole k =
     by (ltb at (length tree)) refl (λ w. new-whole n fuel leafSize stored (split leafSize stored tree at) (suc at) (split-shapes n leafSize stored tree at shape) (omega arith) w k)
   where
-    before : at < length tree → (j : ℕ) → j < suc at → Dec (j ≡ at) → Whole leafSize stored (split leafSize stored tree at) j
+    before : at < length tree → (j : ℕ) → j < suc at → Dec (j ≡ at) → LeafWhole leafSize stored (split leafSize stored tree at) j
     before h j g (yes e) = rw e (split-whole leafSize stored tree at h)
     before h j g (no f) =
         let l : j < at = below f in
@@ -151,13 +151,13 @@ new-whole n (suc fuel) leafSize stored tree at shape enough whole k =
             less (yes l) = absurd (f (omega arith))
             less (no l) = lt-of-not-le l
 
-    here : length tree ≤ at → Dec (suc k ≤ at) → Whole leafSize stored tree k
+    here : length tree ≤ at → Dec (suc k ≤ at) → LeafWhole leafSize stored tree k
     here h (yes l) = whole k l
     here h (no f) = past-whole leafSize stored tree k (omega (arith, lt-of-not-le f))
 
     by : (b : Bool) → ltb at (length tree) ≡ b
-        → (((j : ℕ) → j < suc at → Whole leafSize stored (split leafSize stored tree at) j) → Whole leafSize stored (splitNew fuel leafSize stored (split leafSize stored tree at) (suc at)) k)
-        → Whole leafSize stored (if b then splitNew fuel leafSize stored (split leafSize stored tree at) (suc at) else tree) k
+        → (((j : ℕ) → j < suc at → LeafWhole leafSize stored (split leafSize stored tree at) j) → LeafWhole leafSize stored (splitNew fuel leafSize stored (split leafSize stored tree at) (suc at)) k)
+        → LeafWhole leafSize stored (if b then splitNew fuel leafSize stored (split leafSize stored tree at) (suc at) else tree) k
     by true p onward = onward (λ j g. before (ltb-true at (length tree) p) j g (same-or-not j at))
     by false p onward = here (ltb-false at (length tree) p) (decLe (suc k) at)
 
@@ -210,7 +210,7 @@ module _ (m : Measures) (stored : List Trace) (root : Node) (rest : Tree) (x : T
       split-shapes (m .n) (m .leafSize) all with-x at (subst (λ (k : ℕ). Shape (m .n) k with-x) e (join-shape s x met at (ending .numbers) (ending .inside) (ending .is)))
 
   -- the trace joined another leaf: this one's traces are as before
-  other-whole : (k : ℕ) → (k ≡ at → ⊥) → Whole (m .leafSize) stored (root ∷ rest) k → Whole (m .leafSize) all with-x k
+  other-whole : (k : ℕ) → (k ≡ at → ⊥) → LeafWhole (m .leafSize) stored (root ∷ rest) k → LeafWhole (m .leafSize) all with-x k
   unfolding numbersIn
   other-whole k f w =
       rw (joined-ends s x met at (ending .numbers) (ending .inside) (ending .is) k)
@@ -220,17 +220,17 @@ module _ (m : Measures) (stored : List Trace) (root : Node) (rest : Tree) (x : T
       (λ f numbers e g. more-whole stored all numbers (candidates (ends (nodeAt (root ∷ rest) k .segments)))
       (λ t i. List·getD-append stored (x ∷ []) [] t (s .numbers t k (rw e (in-is i)))) (w numbers e g)))
 
-  added-whole : ((k : ℕ) → Whole (m .leafSize) stored (root ∷ rest) k) → (k : ℕ) → Whole (m .leafSize) all (insertion m stored (root ∷ rest) x) k
+  added-whole : ((k : ℕ) → LeafWhole (m .leafSize) stored (root ∷ rest) k) → (k : ℕ) → LeafWhole (m .leafSize) all (insertion m stored (root ∷ rest) x) k
   unfolding insertion
   added-whole whole =
       new-whole (m .n) (2 * length all) (m .leafSize) all (split (m .leafSize) all with-x at) (length with-x) after-split (omega arith) (λ k h. by k h (same-or-not k at))
     where
-      by : (k : ℕ) → k < length with-x → Dec (k ≡ at) → Whole (m .leafSize) all (split (m .leafSize) all with-x at) k
+      by : (k : ℕ) → k < length with-x → Dec (k ≡ at) → LeafWhole (m .leafSize) all (split (m .leafSize) all with-x at) k
       by k h (yes e) = rw e (split-whole (m .leafSize) all with-x at (omega arith))
       by k h (no f) = same-whole (m .leafSize) all with-x (split (m .leafSize) all with-x at) k (split-other (m .leafSize) all with-x at k h f) (other-whole k f (whole k))
 
-insertion-whole : (m : Measures) (stored : List Trace) (tree : Tree) (x : Trace) → 1 ≤ m .leafSize → Shape (m .n) (length stored) tree → ((k : ℕ) → Whole (m .leafSize) stored tree k)
-    → (k : ℕ) → Whole (m .leafSize) (stored ++ (x ∷ [])) (insertion m stored tree x) k
+insertion-whole : (m : Measures) (stored : List Trace) (tree : Tree) (x : Trace) → 1 ≤ m .leafSize → Shape (m .n) (length stored) tree → ((k : ℕ) → LeafWhole (m .leafSize) stored tree k)
+    → (k : ℕ) → LeafWhole (m .leafSize) (stored ++ (x ∷ [])) (insertion m stored tree x) k
 unfolding insertion newLeaf
 insertion-whole m stored [] x size s whole zero numbers e g = let q : 0 ∷ [] ≡ numbers = cc in absurd (omega (arith, ap length q))
 insertion-whole m stored [] x size s whole (suc k) numbers e g = let q : [] ≡ numbers = cc in absurd (omega (arith, ap length q))
@@ -240,26 +240,26 @@ insertion-whole m stored (root ∷ rest) x size s whole k numbers e g = added-wh
 
 -- what adding keeps holds of every tree that it makes
 module _ (limit : ℕ) (m : Measures) (size : 1 ≤ m .leafSize) where
-  pub record Made (stored : List Trace) (tree : Tree) : Type 0 where
+  pub record MadeTree (stored : List Trace) (tree : Tree) : Type 0 where
     pub inv : Inv limit m stored tree
-    pub whole : (k : ℕ) → Whole (m .leafSize) stored tree k
+    pub whole : (k : ℕ) → LeafWhole (m .leafSize) stored tree k
 
-  grown-made : (stored : List Trace) (tree : Tree) (more : List Trace) → Made stored tree → length (stored ++ more) ≤ m .capacity
-      → T (every (isTrace limit (m .n)) (stored ++ more)) → Made (stored ++ more) (grown m stored tree more)
+  grown-made : (stored : List Trace) (tree : Tree) (more : List Trace) → MadeTree stored tree → length (stored ++ more) ≤ m .capacity
+      → T (every (isTrace limit (m .n)) (stored ++ more)) → MadeTree (stored ++ more) (grown m stored tree more)
   unfolding grown
   grown-made stored tree [] v room all = rw (append-nil stored) v
   grown-made stored tree (x ∷ more) v room all =
       let e : stored ++ (x ∷ []) ++ more ≡ stored ++ (x ∷ more) = append-assoc stored (x ∷ []) more in
       let each : (y : Trace) → In y (stored ++ (x ∷ more)) → T (isTrace limit (m .n) y) = λ y i. from-every (isTrace limit (m .n)) (stored ++ (x ∷ more)) all i in
-      let next : Made (stored ++ (x ∷ [])) (insertion m stored tree x) = record {
+      let next : MadeTree (stored ++ (x ∷ [])) (insertion m stored tree x) = record {
         inv = insertion-inv limit m stored tree x (v .inv) (omega (arith, length-append stored (x ∷ more)))
             (every-of (isTrace limit (m .n)) stored (λ y i. each y (in-append-left (x ∷ more) i))) (each x (in-append-right stored first));
         whole = insertion-whole m stored tree x size (v .inv .formed .shape) (v .whole);
       } in
       rw (← e) (grown-made (stored ++ (x ∷ [])) (insertion m stored tree x) more next (rw e room) (rw e all))
 
-  none-made : T (inRange m) → Made [] []
+  none-made : T (inRange m) → MadeTree [] []
   none-made measured = record { inv = none-inv limit m measured; whole = λ k. past-whole (m .leafSize) [] [] k (omega arith) }
 
-  pub tree-made : (traces : List Trace) → T (inRange m) → length traces ≤ m .capacity → T (every (isTrace limit (m .n)) traces) → Made traces (treeOf m traces)
+  pub tree-made : (traces : List Trace) → T (inRange m) → length traces ≤ m .capacity → T (every (isTrace limit (m .n)) traces) → MadeTree traces (treeOf m traces)
   tree-made traces measured = grown-made [] [] traces (none-made measured)

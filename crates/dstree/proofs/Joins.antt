@@ -57,58 +57,58 @@ module _ {n count : ℕ} {tree : Tree} (s : Shape n count tree) (x : Trace) (met
   abbrev widened : Tree
   widened = widenAll x met tree
 
-  abbrev pub joined : Tree
-  joined = join count at widened
+  abbrev pub joinedTree : Tree
+  joinedTree = join count at widened
 
-  pub joined-length : length joined ≡ length tree
+  pub joined-length : length joinedTree ≡ length tree
   joined-length = join-length count at widened ∙ widen-length x met tree
 
   -- a node's kind: the leaf has one number more
-  pub joined-kinds : (P : Kind → Type 0) (k : ℕ) → (k ≡ at → P (leaf (ns ++ (count ∷ [])))) → ((k ≡ at → ⊥) → P (nodeAt tree k .kind)) → P (nodeAt joined k .kind)
+  pub joined-kinds : (P : Kind → Type 0) (k : ℕ) → (k ≡ at → P (leaf (ns ++ (count ∷ [])))) → ((k ≡ at → ⊥) → P (nodeAt tree k .kind)) → P (nodeAt joinedTree k .kind)
   joined-kinds P k here other =
       join-kinds count at widened ns (widen-kind x met tree at ∙ is) P k here (λ f. subst P (sym (widen-kind x met tree k)) (other f)) (rw (widen-length x met tree) inside)
 
-  pub joined-ends : (k : ℕ) → ends (nodeAt joined k .segments) ≡ ends (nodeAt tree k .segments)
+  pub joined-ends : (k : ℕ) → ends (nodeAt joinedTree k .segments) ≡ ends (nodeAt tree k .segments)
   joined-ends k = ap ends (join-segments count at widened k) ∙ widen-ends x met tree k
 
   not-here : (c k : ℕ) → T (hasChild c (nodeAt tree k .kind)) → k ≡ at → ⊥
   unfolding hasChild
   not-here c k h e = subst (λ (a : Kind). T (hasChild c a)) (ap (λ (j : ℕ). nodeAt tree j .kind) e ∙ is) h
 
-  child-back : (c k : ℕ) → T (hasChild c (nodeAt joined k .kind)) → T (hasChild c (nodeAt tree k .kind))
+  child-back : (c k : ℕ) → T (hasChild c (nodeAt joinedTree k .kind)) → T (hasChild c (nodeAt tree k .kind))
   unfolding hasChild
   child-back c k = joined-kinds (λ a. T (hasChild c a) → T (hasChild c (nodeAt tree k .kind))) k (λ e h. absurd h) (λ f h. h)
 
-  child-on : (c k : ℕ) → T (hasChild c (nodeAt tree k .kind)) → T (hasChild c (nodeAt joined k .kind))
+  child-on : (c k : ℕ) → T (hasChild c (nodeAt tree k .kind)) → T (hasChild c (nodeAt joinedTree k .kind))
   child-on c k h = joined-kinds (λ a. T (hasChild c a)) k (λ e. absurd (not-here c k h e)) (λ f. h)
 
-  pub inner-back : (k : ℕ) (test : Test) (l r : ℕ) → nodeAt joined k .kind ≡ inner test l r → nodeAt tree k .kind ≡ inner test l r
+  pub inner-back : (k : ℕ) (test : Test) (l r : ℕ) → nodeAt joinedTree k .kind ≡ inner test l r → nodeAt tree k .kind ≡ inner test l r
   inner-back k test l r = joined-kinds (λ a. a ≡ inner test l r → nodeAt tree k .kind ≡ inner test l r) k (λ e q. let z : _≡_ {A = ℕ} 0 1 = cc in absurd (omega arith)) (λ f q. q)
 
   -- a leaf's numbers: as before, or with the new one
   joined-leaf : (P : List ℕ → Type 0) (k : ℕ) → ((ls : List ℕ) → nodeAt tree k .kind ≡ leaf ls → P ls) → ((ls : List ℕ) → nodeAt tree k .kind ≡ leaf ls → P (ls ++ (count ∷ [])))
-      → (ls : List ℕ) → nodeAt joined k .kind ≡ leaf ls → P ls
+      → (ls : List ℕ) → nodeAt joinedTree k .kind ≡ leaf ls → P ls
   joined-leaf P k old new =
       joined-kinds (λ a. (ls : List ℕ) → a ≡ leaf ls → P ls) k
       (λ e ls q. let r : ns ++ (count ∷ []) ≡ ls = cc in subst P r (new ns (ap (λ (j : ℕ). nodeAt tree j .kind) e ∙ is))) (λ f. old)
 
-  numbers-back : (t k : ℕ) → T (isIn t (numbersIn (nodeAt joined k .kind))) → T (isIn t (numbersIn (nodeAt tree k .kind))) ⊎ ((t ≡ count) × (k ≡ at))
+  numbers-back : (t k : ℕ) → T (isIn t (numbersIn (nodeAt joinedTree k .kind))) → T (isIn t (numbersIn (nodeAt tree k .kind))) ⊎ ((t ≡ count) × (k ≡ at))
   unfolding numbersIn
   numbers-back t k =
       joined-kinds (λ a. T (isIn t (numbersIn a)) → T (isIn t (numbersIn (nodeAt tree k .kind))) ⊎ ((t ≡ count) × (k ≡ at))) k
-      (λ e i. told e (in-snoc (ns) (is-in t (ns ++ (count ∷ [])) i))) (λ f i. inl i)
+      (λ e i. in-joined e (in-snoc (ns) (is-in t (ns ++ (count ∷ [])) i))) (λ f i. inl i)
     where
-      told : k ≡ at → In t (ns) ⊎ (t ≡ count) → T (isIn t (numbersIn (nodeAt tree k .kind))) ⊎ ((t ≡ count) × (k ≡ at))
-      told e (inl i) = inl (rw (e, is) (in-is i))
-      told e (inr p) = inr (p, e)
+      in-joined : k ≡ at → In t (ns) ⊎ (t ≡ count) → T (isIn t (numbersIn (nodeAt tree k .kind))) ⊎ ((t ≡ count) × (k ≡ at))
+      in-joined e (inl i) = inl (rw (e, is) (in-is i))
+      in-joined e (inr p) = inr (p, e)
 
-  numbers-on : (t k : ℕ) → T (isIn t (numbersIn (nodeAt tree k .kind))) → T (isIn t (numbersIn (nodeAt joined k .kind)))
+  numbers-on : (t k : ℕ) → T (isIn t (numbersIn (nodeAt tree k .kind))) → T (isIn t (numbersIn (nodeAt joinedTree k .kind)))
   unfolding numbersIn
   numbers-on t k i =
       joined-kinds (λ a. T (isIn t (numbersIn a))) k
       (λ e. in-is (in-append-left (count ∷ []) (is-in t (ns) (subst (λ (a : Kind). T (isIn t (numbersIn a))) (ap (λ (j : ℕ). nodeAt tree j .kind) e ∙ is) i)))) (λ f. i)
 
-  holds-new : T (isIn (count) (numbersIn (nodeAt joined at .kind)))
+  holds-new : T (isIn (count) (numbersIn (nodeAt joinedTree at .kind)))
   unfolding numbersIn
   holds-new = joined-kinds (λ a. T (isIn (count) (numbersIn a))) at (λ e. in-is (in-append-right (ns) first)) (λ f. absurd (f refl))
 
@@ -139,7 +139,7 @@ module _ {n count : ℕ} {tree : Tree} (s : Shape n count tree) (x : Trace) (met
       one t j k (inr (e, p)) (inl i) = absurd (omega (arith, s .numbers t k i))
       one t j k (inr (e, p)) (inr (f, q)) = p ∙ sym q
 
-      keep : (t : ℕ) → Dec (suc t ≤ count) → t < suc count → Kept joined t
+      keep : (t : ℕ) → Dec (suc t ≤ count) → t < suc count → Kept joinedTree t
       keep t (yes g) h = let o : Kept tree t = s .kept t g in record { at = o .at; holds = numbers-on t (o .at) (o .holds) }
       keep t (no f) h = let e : t ≡ count = omega (arith, lt-of-not-le f) in record { at = at; holds = rw e holds-new }
 

@@ -30,7 +30,7 @@ use Rattle.integer.proofs.Sorting.{Sorted, sorted-sorted, first-same, Lower, pl
 use Rattle.dstree.specs.Measures.{Trace}
 use Rattle.dstree.specs.Node.{Kind, leaf, inner, Tree, nodeAt}
 use Rattle.dstree.specs.Matching.{bound, LeafBound, isLeaf, numbersIn, leaves, readingOrder, readOn, Near, Search, distancesIn}
-use Rattle.dstree.specs.Matching.{nearAt, isNearer, isAbove, searched, answerOf, matchBySteps, leavesR, matchOf}
+use Rattle.dstree.specs.Matching.{nearAt, isNearer, isAbove, searched, matchFrom, matchBySteps, leavesR, matchOf}
 use Rattle.dstree.specs.Adding.{tracesOf}
 use Rattle.dstree.specs.Claims.{of-leaf, numbersAmong}
 use Rattle.dstree.specs.KNearest.{ranking, nears, nearestList, kth, Listing, readInto, stopsAtKth, listOn, listed}
@@ -43,7 +43,7 @@ use Rattle.dstree.proofs.Reading.{InOrder, order-none, order-more, with
 use Rattle.dstree.proofs.Reading.{reading-apart, reading-length}
 use Rattle.dstree.proofs.Closed.{claims-of}
 use Rattle.dstree.proofs.Ranks.{nearer-no, linear, in-nears, from-nears, nears-length, all-ranked}
-use Rattle.dstree.proofs.KSteps.{kept-nearest, Told, told-more, told-start, step-claims, listOf, one-searched}
+use Rattle.dstree.proofs.KSteps.{kept-nearest, ByTrail, by-trail-more, by-trail-start, step-claims, listOf, one-searched}
 
 -- ---- at most a limit
 
@@ -290,7 +290,7 @@ module _ (n : ℕ) (stored : List Trace) (tree : Tree) (c : Containing n stored 
       done : List LeafBound
       split : order ≡ done ++ rest
       trail-is : s .trail ≡ map (λ (a : LeafBound). a .number) done
-      told : Told k stored tree query s
+      by-trail : ByTrail k stored tree query s
 
     halfway-more : (s : Listing) (a : LeafBound) (rest : List LeafBound) → Halfway s (a ∷ rest)
         → Halfway (readInto k stored tree query s (a .number)) rest
@@ -300,7 +300,7 @@ module _ (n : ℕ) (stored : List Trace) (tree : Tree) (c : Containing n stored 
       split = h .split ∙ sym (append-assoc (h .done) (a ∷ []) rest);
       trail-is =
           ap (λ (l : List ℕ). l ++ (a .number ∷ [])) (h .trail-is) ∙ sym (map-append (λ (b : LeafBound). b .number) (h .done) (a ∷ []));
-      told = told-more k stored tree query s (a .number) (h .told);
+      by-trail = by-trail-more k stored tree query s (a .number) (h .by-trail);
     }
 
     module _ (s : Listing) (rest : List LeafBound) (h : Halfway s rest) where
@@ -312,7 +312,7 @@ module _ (n : ℕ) (stored : List Trace) (tree : Tree) (c : Containing n stored 
           (subst (Apart (λ (a : LeafBound). a .number)) (h .split) (reading-apart tree query))))
 
       list-is : s .list ≡ take k (ranking (among (s .trail)))
-      list-is = h .told .list ∙ kept-nearest k (among (s .trail))
+      list-is = h .by-trail .list ∙ kept-nearest k (among (s .trail))
 
       -- a bound at most the limit does not stop it
       goes-on : (a : ℕ) → isAbove a last ≡ false → isAbove a (kth k (s .list)) ≡ false
@@ -356,24 +356,24 @@ module _ (n : ℕ) (stored : List Trace) (tree : Tree) (c : Containing n stored 
     start : Listing
     start = record { list = []; traces = 0; trail = [] }
 
-    halfway-all : (s : Listing) (l : List LeafBound) → Told k stored tree query s
-        → Told k stored tree query (readAll s l) × (readAll s l .trail ≡ s .trail ++ map (λ (a : LeafBound). a .number) l)
+    halfway-all : (s : Listing) (l : List LeafBound) → ByTrail k stored tree query s
+        → ByTrail k stored tree query (readAll s l) × (readAll s l .trail ≡ s .trail ++ map (λ (a : LeafBound). a .number) l)
     unfolding readInto
     halfway-all s [] t = (t, sym (append-nil (s .trail)))
     halfway-all s (a ∷ l) t =
-        let r = halfway-all (readInto k stored tree query s (a .number)) l (told-more k stored tree query s (a .number) t) in
+        let r = halfway-all (readInto k stored tree query s (a .number)) l (by-trail-more k stored tree query s (a .number) t) in
         (r .0, r .1 ∙ append-assoc (s .trail) (a .number ∷ []) (map (λ (b : LeafBound). b .number) l))
 
     searched-is : listed k stored tree query ≡ readAll start R
     unfolding listed start
     searched-is =
         reads start (reading-in-order tree query)
-        (record { done = []; split = refl; trail-is = refl; told = told-start k stored tree query })
+        (record { done = []; split = refl; trail-is = refl; by-trail = by-trail-start k stored tree query })
         ∙ ap (readAll start) (sym (within-is tree query last))
 
-    searched-told : Told k stored tree query (readAll start R) × (readAll start R .trail ≡ trail)
+    searched-by-trail : ByTrail k stored tree query (readAll start R) × (readAll start R .trail ≡ trail)
     unfolding start
-    searched-told = halfway-all start R (told-start k stored tree query)
+    searched-by-trail = halfway-all start R (by-trail-start k stored tree query)
 
     R-apart : Apart (λ (a : LeafBound). a .number) R
     R-apart = rw (within-is tree query last) (those-apart (λ (a : LeafBound). a .number) (within last) (reading-apart tree query))
@@ -396,16 +396,16 @@ module _ (n : ℕ) (stored : List Trace) (tree : Tree) (c : Containing n stored 
     list-found : readAll start R .list ≡ nearestList k stored query
     unfolding nearestList
     list-found =
-        searched-told .0 .list ∙ kept-nearest k (among (readAll start R .trail))
-        ∙ ap (λ (l : List ℕ). take k (ranking (among l))) (searched-told .1)
+        searched-by-trail .0 .list ∙ kept-nearest k (among (readAll start R .trail))
+        ∙ ap (λ (l : List ℕ). take k (ranking (among l))) (searched-by-trail .1)
         ∙ sym (has-first trail (map-apart (λ (a : LeafBound). a .number) R-apart) in-R)
 
     traces-found : readAll start R .traces ≡ total (map (λ number. length (numbersIn (nodeAt tree number .kind))) trail)
-    traces-found = searched-told .0 .traces ∙ ap (λ (l : List ℕ). length (among l)) (searched-told .1) ∙ among-length trail
+    traces-found = searched-by-trail .0 .traces ∙ ap (λ (l : List ℕ). length (among l)) (searched-by-trail .1) ∙ among-length trail
 
     steps-give-it : kNearestBySteps k stored tree query ≡ kNearestOf k stored tree query
     unfolding kNearestBySteps kNearestOf
-    steps-give-it = rw (searched-is, list-found, traces-found, searched-told .1)
+    steps-give-it = rw (searched-is, list-found, traces-found, searched-by-trail .1)
 
     others : (other : List Trace)
         → tracesOf other (numbersAmong tree (kNearestOf k stored tree query .trail)) ≡ tracesOf stored
@@ -566,14 +566,14 @@ module _ (n : ℕ) (stored : List Trace) (tree : Tree) (c : Containing n stored 
 
   -- the match is the one nearest
   pub one-is-match : 0 < length stored → OneIsMatch stored tree query
-  unfolding kNearestBySteps matchBySteps answerOf listOfMatch
+  unfolding kNearestBySteps matchBySteps matchFrom listOfMatch
   one-is-match one =
       sym (steps-give-it 1)
       ∙ rw (one-searched stored tree query)
       (by (searched stored tree query) (searched stored tree query .best) refl
       (claims-of n stored tree c all-n query lq one .steps-give-it))
     where
-      by : (s : Search) (o : Option Near) → s .best ≡ o → answerOf s (s .best) ≡ some (matchOf stored tree query)
+      by : (s : Search) (o : Option Near) → s .best ≡ o → matchFrom s (s .best) ≡ some (matchOf stored tree query)
           → record { list = listOf (s .best); leaves = length (s .trail); traces = s .traces; trail = s .trail } ≡ listOfMatch
           (matchOf stored tree query)
       by s none e q = let r : none ≡ some (matchOf stored tree query) = rw e at q in let z : _≡_ {A = ℕ} 0 1 = cc in absurd (omega arith)

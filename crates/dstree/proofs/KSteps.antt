@@ -7,7 +7,7 @@ use mathlib.Core.Option.{Option, none, some}
 use mathlib.Core.List.{List, [], _∷_, _++_, map, foldl, flatten, append-nil}
 use lib.ListN.{length, take, length-append}
 use Rattle.integer.specs.Words.{if_then_else_}
-use Rattle.integer.specs.Sorting.{insertedBy, atPlace}
+use Rattle.integer.specs.Sorting.{sortedWith, atPlace}
 use Rattle.integer.proofs.Lists.{fold-append, flat-append}
 use Rattle.integer.proofs.Sorting.{keep-sorted}
 use Rattle.dstree.specs.Measures.{Trace}
@@ -28,8 +28,8 @@ kept-nearest k l = keep-sorted linear k l
 -- ---- what has been read
 
 module _ (k : ℕ) (stored : List Trace) (tree : Tree) (query : Trace) where
-  -- what is found is told by the trail
-  pub record Told (s : Listing) : Type 0 where
+  -- what is found is what the trail's leaves give
+  pub record ByTrail (s : Listing) : Type 0 where
     pub list : s .list ≡ foldl (listWith k) [] (distancesAmong stored tree query (s .trail))
     pub traces : s .traces ≡ length (distancesAmong stored tree query (s .trail))
 
@@ -41,9 +41,9 @@ module _ (k : ℕ) (stored : List Trace) (tree : Tree) (query : Trace) where
       flat-append (distancesIn stored tree query) trail (number ∷ [])
       ∙ ap (λ l. flatten (map (distancesIn stored tree query) trail) ++ l) (append-nil (distancesIn stored tree query number))
 
-  pub told-more : (s : Listing) (number : ℕ) → Told s → Told (readInto k stored tree query s number)
+  pub by-trail-more : (s : Listing) (number : ℕ) → ByTrail s → ByTrail (readInto k stored tree query s number)
   unfolding readInto
-  told-more s number o =
+  by-trail-more s number o =
       let D = distancesIn stored tree query number in
       let E = distancesAmong stored tree query (s .trail) in
       record {
@@ -52,18 +52,19 @@ module _ (k : ℕ) (stored : List Trace) (tree : Tree) (query : Trace) where
         traces = ap (λ (n : ℕ). n + length D) (o .traces) ∙ sym (length-append E D) ∙ ap length (sym (one-more (s .trail) number));
       }
 
-  pub told-start : Told (record { list = []; traces = 0; trail = [] })
+  pub by-trail-start : ByTrail (record { list = []; traces = 0; trail = [] })
   unfolding distancesAmong flatten
-  told-start = record { list = refl; traces = refl }
+  by-trail-start = record { list = refl; traces = refl }
 
-  told-on : (s : Listing) (l : List LeafBound) → Told s → Told (listOn k stored tree query s l)
+  by-trail-on : (s : Listing) (l : List LeafBound) → ByTrail s → ByTrail (listOn k stored tree query s l)
   unfolding readOn
-  told-on s [] o = o
-  told-on s (next ∷ rest) o =
-      by (stopsAtKth k s (next .bound)) (told-on (readInto k stored tree query s (next .number)) rest (told-more s (next .number) o))
+  by-trail-on s [] o = o
+  by-trail-on s (next ∷ rest) o =
+      by (stopsAtKth k s (next .bound)) (by-trail-on (readInto k stored tree query s (next .number)) rest
+      (by-trail-more s (next .number) o))
     where
-      by : (c : Bool) → Told (listOn k stored tree query (readInto k stored tree query s (next .number)) rest)
-          → Told (if c then s else listOn k stored tree query (readInto k stored tree query s (next .number)) rest)
+      by : (c : Bool) → ByTrail (listOn k stored tree query (readInto k stored tree query s (next .number)) rest)
+          → ByTrail (if c then s else listOn k stored tree query (readInto k stored tree query s (next .number)) rest)
       by true ih = o
       by false ih = ih
 
@@ -85,8 +86,8 @@ module _ (k : ℕ) (stored : List Trace) (tree : Tree) (query : Trace) where
   pub step-claims : StepClaims k stored tree query
   unfolding listed
   step-claims =
-      let t : Told (listed k stored tree query) =
-      told-on (record { list = []; traces = 0; trail = [] }) (readingOrder tree query) told-start in
+      let t : ByTrail (listed k stored tree query) =
+      by-trail-on (record { list = []; traces = 0; trail = [] }) (readingOrder tree query) by-trail-start in
       record {
         nearest-read = t .list ∙ kept-nearest k (distancesAmong stored tree query (listed k stored tree query .trail));
         off-trail = off-trail;
@@ -105,7 +106,7 @@ abbrev pub asListing : Search → Listing
 asListing s = record { list = listOf (s .best); traces = s .traces; trail = s .trail }
 
 with-one : (o : Option Near) (a : Near) → listWith 1 (listOf o) a ≡ listOf (bestWith o a)
-unfolding bestWith nearer insertedBy
+unfolding bestWith nearer sortedWith
 with-one none a = refl
 with-one (some b) a = by (isNearer a b)
   where

@@ -25,7 +25,7 @@ use Rattle.dstree.proofs.Cuts.{new-ends}
 use Rattle.dstree.proofs.Exact.{AllReached, reached-none, reached-by-more, new-reached}
 use Rattle.dstree.proofs.Invariant.{Ranged, Exact, Inv, RangedInv}
 use Rattle.dstree.proofs.Joins.{join-shape, join-ranged, join-exact}
-use Rattle.dstree.proofs.Splits.{Good, split-shape, split-ranged, split-exact, split-keeps, pass-keeps}
+use Rattle.dstree.proofs.Splits.{GoodSplit, split-shape, split-ranged, split-exact, split-keeps, pass-keeps}
 use Rattle.dstree.proofs.Limits.{leaf-limited, join-limits, split-limits}
 
 -- ---- the first leaf
@@ -208,7 +208,7 @@ module _ (limit : ℕ) (m : Measures) where
 
   module _ (stored : List Trace) (each : Traces stored) where
     split-formed : (tree : Tree) → Formed limit m (length stored) tree → (at : ℕ) (ns : List ℕ) → nodeAt tree at .kind ≡ leaf ns
-        → (s : Split) → Good (m .n) stored (ends (nodeAt tree at .segments)) ns s → Formed limit m (length stored)
+        → (s : Split) → GoodSplit (m .n) stored (ends (nodeAt tree at .segments)) ns s → Formed limit m (length stored)
         (splitInto stored tree at (some s))
     unfolding numbersIn
     split-formed tree f at ns is s good = record {
@@ -219,7 +219,8 @@ module _ (limit : ℕ) (m : Measures) where
     }
 
     split-inv : (tree : Tree) → Inv limit m stored tree → (at : ℕ) (ns : List ℕ) → nodeAt tree at .kind ≡ leaf ns
-        → (s : Split) → Good (m .n) stored (ends (nodeAt tree at .segments)) ns s → Inv limit m stored (splitInto stored tree at (some s))
+        → (s : Split) → GoodSplit (m .n) stored (ends (nodeAt tree at .segments)) ns s
+        → Inv limit m stored (splitInto stored tree at (some s))
     split-inv tree v at ns is s good =
         record {
           formed = split-formed tree (v .formed) at ns is s good;
@@ -228,7 +229,7 @@ module _ (limit : ℕ) (m : Measures) where
         }
 
     split-ranged-inv : (tree : Tree) → RangedInv limit m stored tree → (at : ℕ) (ns : List ℕ) → nodeAt tree at .kind ≡ leaf ns
-        → (s : Split) → Good (m .n) stored (ends (nodeAt tree at .segments)) ns s → RangedInv limit m stored
+        → (s : Split) → GoodSplit (m .n) stored (ends (nodeAt tree at .segments)) ns s → RangedInv limit m stored
         (splitInto stored tree at (some s))
     split-ranged-inv tree v at ns is s good =
         record {
@@ -242,7 +243,7 @@ module _ (limit : ℕ) (m : Measures) where
   -- what joining gives and each split keeps, adding keeps
   added : (P : Tree → Type 0) (stored : List Trace) (root : Node) (rest : Tree) (x : Trace)
       → ((tree : Tree) → P tree → (k : ℕ) → k < length tree → Fits (m .n) (ends (nodeAt tree k .segments)))
-      → ((tree : Tree) → P tree → (at : ℕ) (ns : List ℕ) → nodeAt tree at .kind ≡ leaf ns → (s : Split) → Good (m .n)
+      → ((tree : Tree) → P tree → (at : ℕ) (ns : List ℕ) → nodeAt tree at .kind ≡ leaf ns → (s : Split) → GoodSplit (m .n)
       (stored ++ (x ∷ [])) (ends (nodeAt tree at .segments)) ns s → P (splitInto (stored ++ (x ∷ [])) tree at (some s)))
       → P (join (length stored) (lastOf (way (root ∷ rest) x)) (widenAll x (way (root ∷ rest) x) (root ∷ rest))) → P
       (insertion m stored (root ∷ rest) x)

@@ -19,7 +19,7 @@ use Rattle.dstree.proofs.Nodes.{nodes-most}
 use Rattle.dstree.proofs.Below.{below-inside, below-root}
 use Rattle.dstree.proofs.Invariant.{ranges-of}
 pub use Rattle.dstree.proofs.Limits.{trace-length}
-use Rattle.dstree.proofs.Grown.{insertion-inner, Made, tree-made}
+use Rattle.dstree.proofs.Grown.{insertion-inner, MadeTree, tree-made}
 use Rattle.dstree.proofs.Bounds.{child-bound, root-bound}
 use Rattle.dstree.proofs.Routing.{leads-to}
 use Rattle.dstree.proofs.Closed.{match-exact}
@@ -51,7 +51,7 @@ module _ (limit : ℕ) (m : Measures) (traces : List Trace) (library : T (isLibr
 
   -- ---- the tree
 
-  made : Made limit m leaf-size traces tree
+  made : MadeTree limit m leaf-size traces tree
   made = tree-made limit m leaf-size traces measured room each
 
   -- the rules of "Well-formed tables", as far as they speak of the tree

@@ -11,7 +11,7 @@ use Rattle.integer.specs.Words.{every}
 use Rattle.integer.proofs.Tests.{passed, passes, eq→eqb}
 use Rattle.integer.proofs.Lists.{All, all-none, all-more, all-mono, every-all, all-every}
 use Rattle.dstree.specs.Measures.{Trace, Measures, within, inRange, isTrace, isLibrary}
-use Rattle.dstree.proofs.SheetPieces.{Sized}
+use Rattle.dstree.proofs.SheetPieces.{AllOfSize}
 
 pub record Highest (m : Measures) : Type 0 where
   pub n-high : m .n ≤ 256
@@ -33,25 +33,25 @@ highest m t =
 
 module _ (limit : ℕ) where
   -- samples within the limit
-  abbrev pub Small : List ℤ → Type 0
-  Small = All (λ (z : ℤ). mag z < limit)
+  abbrev pub AllWithinLimit : List ℤ → Type 0
+  AllWithinLimit = All (λ (z : ℤ). mag z < limit)
 
   pub record Library (m : Measures) (traces : List Trace) : Type 0 where
     pub measured : T (inRange m)
     pub room : length traces ≤ m .capacity
-    pub even : Sized (m .n) traces
-    pub small : All Small traces
+    pub even : AllOfSize (m .n) traces
+    pub small : All AllWithinLimit traces
 
   module _ (n : ℕ) where
     pub trace-sized : (x : Trace) → T (isTrace limit n x) → length x ≡ n
     unfolding isTrace
     trace-sized x t = eqb→eq (length x) n (passed (eqb (length x) n) (every (λ sample. ltb (mag sample) limit) x ∷ []) t .0)
 
-    pub trace-small : (x : Trace) → T (isTrace limit n x) → Small x
+    pub trace-small : (x : Trace) → T (isTrace limit n x) → AllWithinLimit x
     unfolding isTrace
     trace-small x t = all-mono (λ z p. ltb→lt (mag z) limit p) (every-all (λ sample. ltb (mag sample) limit) x (passed (eqb (length x) n) (every (λ sample. ltb (mag sample) limit) x ∷ []) t .1))
 
-    pub traces-are : {xs : List Trace} → Sized n xs → All Small xs → T (every (isTrace limit n) xs)
+    pub traces-are : {xs : List Trace} → AllOfSize n xs → All AllWithinLimit xs → T (every (isTrace limit n) xs)
     unfolding isTrace every
     traces-are all-none all-none = tt
     traces-are (all-more {a = x} {rest} e es) (all-more s ss) =

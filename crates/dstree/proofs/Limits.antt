@@ -16,7 +16,7 @@ use Rattle.integer.proofs.Tests.{passed}
 use Rattle.integer.proofs.Order.{≤ℤ-trans, natAbs-add, pos-mono, nat}
 use Rattle.integer.proofs.Lists.{In, in-is, is-in, in-getD, from-every, lesser-left, greater-left, lesser-either, greater-either, set-cases}
 use Rattle.segment.specs.Roots.{floorRoot}
-use Rattle.segment.specs.Limits.{Within, sumLimit, scatterLimit, rootLimit}
+use Rattle.segment.specs.Limits.{SamplesWithin, sumLimit, scatterLimit, rootLimit}
 use Rattle.segment.proofs.Newton.{floor-bound}
 use Rattle.segment.proofs.Limits.{within-take, within-drop, sum-limit, scatter-limit}
 use Rattle.dstree.specs.Measures.{Trace, isTrace}
@@ -26,14 +26,14 @@ use Rattle.dstree.specs.Node.{changeAll}
 use Rattle.dstree.specs.Adding.{widenSegment, widen, widenAll, join, newLeaf, Split, splitInto}
 use Rattle.dstree.specs.Formed.{Rises, rises-none, rises-more, Fits, RunIn, Shape, Limited, AllLimited, l-none, l-more, Between, TestIn, Limits}
 use Rattle.dstree.specs.Claims.{ExactOn, AllExact, exact-none, exact-more}
-use Rattle.dstree.proofs.Formed.{nothing}
+use Rattle.dstree.proofs.Formed.{emptyLeaf}
 use Rattle.dstree.proofs.Cuts.{parted-rises, widen-ends, new-ends}
 use Rattle.dstree.proofs.Ranges.{new-covered}
 use Rattle.dstree.proofs.Exact.{exact, new-reached}
 use Rattle.dstree.proofs.Change.{leaf-in, join-segments}
 use Rattle.dstree.proofs.Bounds.{samples-length}
 use Rattle.dstree.proofs.Joins.{joined-length, inner-back}
-use Rattle.dstree.proofs.Splits.{Good, split-cases}
+use Rattle.dstree.proofs.Splits.{GoodSplit, split-cases}
 
 -- ---- a trace's figures on a run
 
@@ -42,14 +42,14 @@ module _ (limit n : ℕ) (x : Trace) (is-one : T (isTrace limit n x)) where
   unfolding isTrace
   trace-length = eqb→eq (length x) n (passed (eqb (length x) n) (every (λ sample. ltb (mag sample) limit) x ∷ []) is-one .0)
 
-  pub trace-within : Within limit x
+  pub trace-within : SamplesWithin limit x
   unfolding isTrace
   trace-within i h =
       ltb→lt (mag (getD x i (pos 0))) limit
       (from-every (λ sample. ltb (mag sample) limit) x
       (passed (eqb (length x) n) (every (λ sample. ltb (mag sample) limit) x ∷ []) is-one .1) (in-getD x i (pos 0) h))
 
-  within-on : (on : Run) → Within limit (samplesOn on x)
+  within-on : (on : Run) → SamplesWithin limit (samplesOn on x)
   unfolding samplesOn
   within-on on = within-take (width on) (drop (on .first - 1) x) (within-drop (on .first - 1) x trace-within)
 
@@ -90,7 +90,7 @@ module _ (limit n : ℕ) (x : Trace) (is-one : T (isTrace limit n x)) where
   widen-limited [] tree k a r = a
   widen-limited (at ∷ rest) tree k a r =
       widen-limited rest (changeAt tree at (widen x)) k
-      (set-cases nothing (λ (b : Node). AllLimited limit 1 (b .segments)) tree at (widen x (nodeAt tree at)) k
+      (set-cases emptyLeaf (λ (b : Node). AllLimited limit 1 (b .segments)) tree at (widen x (nodeAt tree at)) k
       (λ e h. rw (← e) (changed-limited (omega arith) a r)) (λ f h. a) (λ h. l-none))
       (subst (λ (l : List ℕ). Rises n 1 l) (sym (widen-ends x (at ∷ []) tree k)) r)
 
@@ -152,7 +152,7 @@ module _ (limit n : ℕ) (stored : List Trace) (each : (t : ℕ) → t < length 
   -- ---- a leaf splits
 
   module _ {tree : Tree} (b : Limits limit n tree) (at : ℕ) (ns : List ℕ) (is : nodeAt tree at .kind ≡ leaf ns)
-      (low : (t : ℕ) → In t ns → t < length stored) (s : Split) (good : Good n stored (ends (nodeAt tree at .segments)) ns s) where
+      (low : (t : ℕ) → In t ns → t < length stored) (s : Split) (good : GoodSplit n stored (ends (nodeAt tree at .segments)) ns s) where
     new-test : TestIn limit n (s .test)
     new-test = record {
       from-1 = good .run-in .from-one;

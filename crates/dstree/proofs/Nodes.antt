@@ -13,8 +13,8 @@ use Rattle.integer.proofs.Times.{once-length}
 use Rattle.dstree.specs.Measures.{Measures}
 use Rattle.dstree.specs.Node.{Kind, leaf, inner, Tree, nodeAt}
 use Rattle.dstree.specs.Matching.{isLeaf, numbersIn}
-use Rattle.dstree.specs.WellFormed.{childrenOf, wellFormed}
-use Rattle.dstree.proofs.Formed.{formed, childrenAt, numbersAt, child-times, number-times, numbers-below, children-above}
+use Rattle.dstree.specs.WellFormed.{childrenOf, wellFormedTree}
+use Rattle.dstree.proofs.Formed.{formed, nodeChildren, nodeNumbers, child-times, number-times, numbers-below, children-above}
 use Rattle.dstree.specs.Formed.{Shape}
 
 -- ---- counted over the nodes
@@ -43,21 +43,21 @@ nodes-are (a ∷ rest) = by (isLeaf (a .kind)) (nodes-are rest)
     by false e = omega arith
 
 -- an inner node has two children
-children-are : (tree : Tree) → length (flatten (map childrenAt tree)) ≡ 2 * innerCount tree
+children-are : (tree : Tree) → length (flatten (map nodeChildren tree)) ≡ 2 * innerCount tree
 unfolding innerCount flatten childrenOf isLeaf one
 children-are [] = refl
-children-are (a ∷ rest) = length-append (childrenAt a) (flatten (map childrenAt rest)) ∙ by (a .kind) (children-are rest)
+children-are (a ∷ rest) = length-append (nodeChildren a) (flatten (map nodeChildren rest)) ∙ by (a .kind) (children-are rest)
   where
-    by : (k : Kind) → length (flatten (map childrenAt rest)) ≡ 2 * innerCount rest → length (childrenOf k) + length (flatten (map childrenAt rest)) ≡ 2 * (one (not (isLeaf k)) + innerCount rest)
+    by : (k : Kind) → length (flatten (map nodeChildren rest)) ≡ 2 * innerCount rest → length (childrenOf k) + length (flatten (map nodeChildren rest)) ≡ 2 * (one (not (isLeaf k)) + innerCount rest)
     by (leaf numbers) e = omega arith
     by (inner test l r) e = omega arith
 
 -- a leaf that is not empty holds a number at least
-numbers-are : (tree : Tree) → ((k : ℕ) → k < length tree → (ns : List ℕ) → nodeAt tree k .kind ≡ leaf ns → 0 < length ns) → leafCount tree ≤ length (flatten (map numbersAt tree))
+numbers-are : (tree : Tree) → ((k : ℕ) → k < length tree → (ns : List ℕ) → nodeAt tree k .kind ≡ leaf ns → 0 < length ns) → leafCount tree ≤ length (flatten (map nodeNumbers tree))
 unfolding leafCount flatten isLeaf numbersIn one
 numbers-are [] full = omega arith
 numbers-are (a ∷ rest) full =
-    omega (arith, length-append (numbersAt a) (flatten (map numbersAt rest)), numbers-are rest (λ k h. full (suc k) (omega arith)), by (a .kind) (full 0 (omega arith)))
+    omega (arith, length-append (nodeNumbers a) (flatten (map nodeNumbers rest)), numbers-are rest (λ k h. full (suc k) (omega arith)), by (a .kind) (full 0 (omega arith)))
   where
     by : (k : Kind) → ((ns : List ℕ) → k ≡ leaf ns → 0 < length ns) → one (isLeaf k) ≤ length (numbersIn k)
     by (leaf numbers) some = some numbers refl
@@ -66,11 +66,11 @@ numbers-are (a ∷ rest) full =
 -- ---- of a tree with its shape
 
 module _ {n count : ℕ} {tree : Tree} (s : Shape n count tree) where
-  numbers-count : length (flatten (map numbersAt tree)) ≡ count
-  numbers-count = once-length count 0 (flatten (map numbersAt tree)) (λ t h g. number-times s t (omega arith)) (λ t i. (omega arith, omega (arith, numbers-below s t i)))
+  numbers-count : length (flatten (map nodeNumbers tree)) ≡ count
+  numbers-count = once-length count 0 (flatten (map nodeNumbers tree)) (λ t h g. number-times s t (omega arith)) (λ t i. (omega arith, omega (arith, numbers-below s t i)))
 
-  children-count : length (flatten (map childrenAt tree)) ≡ length tree - 1
-  children-count = once-length (length tree - 1) 1 (flatten (map childrenAt tree)) (λ c h g. child-times s c h (omega arith))
+  children-count : length (flatten (map nodeChildren tree)) ≡ length tree - 1
+  children-count = once-length (length tree - 1) 1 (flatten (map nodeChildren tree)) (λ c h g. child-times s c h (omega arith))
       (λ c i. let h = children-above s c i in (h .0, omega (arith, h .1)))
 
   -- no more leaves than traces
@@ -90,5 +90,6 @@ module _ {n count : ℕ} {tree : Tree} (s : Shape n count tree) where
       by (no f) = omega arith
 
 -- .. of a well-formed one
-pub nodes-at-most : (limit : ℕ) (m : Measures) (count : ℕ) (tree : Tree) → T (wellFormed limit m count tree) → length tree ≤ 2 * count - 1
+pub nodes-at-most : (limit : ℕ) (m : Measures) (count : ℕ) (tree : Tree) → T (wellFormedTree limit m count tree)
+    → length tree ≤ 2 * count - 1
 nodes-at-most limit m count tree t = nodes-most (formed limit m count tree t .shape)

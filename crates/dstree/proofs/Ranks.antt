@@ -17,12 +17,12 @@ use Rattle.integer.proofs.Tests.{is-true}
 use Rattle.integer.proofs.Lists.{In, in-is, in-map, InMap, of, from-map, in-counting, from-counting, counting-up, all-none, all-more}
 use Rattle.integer.proofs.Lists.{Apart, up-apart}
 use Rattle.integer.proofs.Times.{counting-length}
-use Rattle.integer.proofs.Sorting.{place-in, place-past, from-take, from-sorted, in-sorted, sorted-length, Linear, Sorted, sorted-none}
+use Rattle.integer.proofs.Sorting.{place-in, place-past, from-take, from-sorted, in-sorted, sorted-length, LinearOrder, Sorted, sorted-none}
 use Rattle.integer.proofs.Sorting.{sorted-more, sorted-sorted, past-first, take-sorted}
 use Rattle.segment.specs.Figures.{distance}
 use Rattle.dstree.specs.Measures.{Trace}
 use Rattle.dstree.specs.Matching.{Near, nearAt, isNearer}
-use Rattle.dstree.specs.KNearest.{ranking, nears, nearestList, kth, inRank, numbersOf, ListClaims, Kth}
+use Rattle.dstree.specs.KNearest.{ranking, nears, nearestList, kth, inRank, traceNumbers, ListClaims, Kth}
 
 -- ---- the order
 
@@ -79,7 +79,7 @@ not-nearer a (inr (e, h)) = omega arith
 abbrev near : ℕ → ℕ → Near
 near trace distance = record { trace = trace; distance = distance }
 
-pub linear : Linear isNearer
+pub linear : LinearOrder isNearer
 linear = record {
   irreflexive = λ a. by a (isNearer a a) refl;
   transitive = λ a b c p q. is-nearer a c (nearer-trans a b c (nearer-yes a b p) (nearer-yes b c q));
@@ -151,12 +151,12 @@ module _ (k : ℕ) (stored : List Trace) (query : Trace) where
   listed-stored i = from-sorted isNearer (nears stored query) (from-take k (ranking (nears stored query)) i)
 
   nearest : (place : ℕ) (a : Near) (trace : ℕ) → atPlace place (nearestList k stored query) ≡ some a → trace < length stored
-      → T (not (isIn trace (numbersOf (nearestList k stored query)))) → T (isNearer a (nearAt stored query trace))
+      → T (not (isIn trace (traceNumbers (nearestList k stored query)))) → T (isNearer a (nearAt stored query trace))
   unfolding nearestList
   nearest place a trace e h out =
       is-true (past-first linear k (all-ranked stored query) (place-in place (nearestList k stored query) e)
       (in-sorted isNearer (in-nears stored query trace h))
-      (λ i. T-not (isIn trace (numbersOf (nearestList k stored query))) out (in-is (in-map (λ (b : Near). b .trace) i))))
+      (λ i. T-not (isIn trace (traceNumbers (nearestList k stored query))) out (in-is (in-map (λ (b : Near). b .trace) i))))
 
   pub list-claims : ListClaims k stored query
   unfolding nearestList

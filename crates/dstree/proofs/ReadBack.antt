@@ -10,18 +10,18 @@ use Rattle.integer.proofs.Lists.{All, all-none, all-more, all-mono, all-append,
 use Rattle.dstree.specs.Measures.{Trace, Measures}
 use Rattle.dstree.specs.Sheet.{bytesOf, part, pieces, filledTo, Format, blockSize, mostBlocks, carriedSize, sampleSize, sealed, block}
 use Rattle.dstree.specs.Sheet.{blocksFrom, kindOf, letters, headOf, coded, decoded, blocksOf, sheetAs, carriedIn, measuresIn, countIn}
-use Rattle.dstree.specs.Sheet.{sampleBytesIn, tracesIn, thirdsIn, tornConditions, holds, libraryIn, judgeAs}
+use Rattle.dstree.specs.Sheet.{sampleBytesIn, tracesInBlocks, thirdsIn, tornConditions, holds, libraryIn, judgeAs}
 use Rattle.dstree.proofs.Conditions.{NoneOf}
 use Rattle.dstree.proofs.Libraries.{Highest, highest, Library}
-use Rattle.dstree.proofs.SheetPieces.{Sized, Zeros, pieces-length, pieces-at-most, pieces-flatten, pieces-flatten-on, flatten-length}
+use Rattle.dstree.proofs.SheetPieces.{AllOfSize, Zeros, pieces-length, pieces-at-most, pieces-flatten, pieces-flatten-on, flatten-length}
 use Rattle.dstree.proofs.SheetPieces.{flatten-all}
 use Rattle.dstree.proofs.SheetPieces.{filled-length, filled-rest, filled-front, fill-pieces}
 use Rattle.dstree.proofs.SheetFields.{number-bytes, coded-sized, codes-length, decoded-all}
-use Rattle.dstree.proofs.SheetFormat.{Sound, needed-room, needed-most}
+use Rattle.dstree.proofs.SheetFormat.{SoundFormat, needed-room, needed-most}
 use Rattle.dstree.proofs.SheetBlocks.{block-carries, blocks-count, blocks-carry, blocks-untorn, blocks-zero}
 use Rattle.dstree.proofs.SheetWritten.{head-length, sampled, needed, samples-carried, carried-is, carried-fit, carried-count}
 use Rattle.dstree.proofs.SheetWritten.{written-sized}
-use Rattle.dstree.proofs.SheetRead.{Good, good-none, read}
+use Rattle.dstree.proofs.SheetRead.{GoodSheet, good-none, read}
 
 -- ---- block 0
 
@@ -66,7 +66,7 @@ module _ (size : ℕ) (room : size ≤ carriedSize) where
 
 -- ---- all blocks
 
-module _ (f : Format) (half : ℕ) (sound : Sound f half) (limit : ℕ) (within : limit ≤ half) (m : Measures) (traces : List Trace)
+module _ (f : Format) (half : ℕ) (sound : SoundFormat f half) (limit : ℕ) (within : limit ≤ half) (m : Measures) (traces : List Trace)
     (l : Library limit m traces) where
   abbrev k : ℕ
   k = length traces
@@ -114,8 +114,8 @@ module _ (f : Format) (half : ℕ) (sound : Sound f half) (limit : ℕ) (within 
   others-count : length others ≡ s
   others-count = blocks-count f 1 parts ∙ pieces-length size s bytes
 
-  sized : Sized blockSize (first ∷ others)
-  sized = subst (Sized blockSize) blocks-are (written-sized f half sound m traces)
+  sized : AllOfSize blockSize (first ∷ others)
+  sized = subst (AllOfSize blockSize) blocks-are (written-sized f half sound m traces)
 
   untorn : NoneOf (tornConditions f 0 (first ∷ others))
   unfolding blocksOf
@@ -146,7 +146,7 @@ module _ (f : Format) (half : ℕ) (sound : Sound f half) (limit : ℕ) (within 
   count-is : countIn first ≡ k
   count-is = head-count (kindOf f 0) m k (omega (arith, h .capacity-high, l .room))
 
-  good : Good f first others
+  good : GoodSheet f first others
   good = record {
     lettered = head-letters (kindOf f 0) m k;
     measured = rw measures-are (l .measured);
@@ -166,8 +166,8 @@ module _ (f : Format) (half : ℕ) (sound : Sound f half) (limit : ℕ) (within 
       ap (λ (c : ℕ). pieces (f .sampleBytes) c (bytes ++ behind)) (sym (length-map xs (coded f) ∙ count))
       ∙ pieces-flatten-on (f .sampleBytes) behind (coded-sized f xs)
 
-  traces-are : tracesIn f k (m .n) others ≡ traces
-  unfolding tracesIn
+  traces-are : tracesInBlocks f k (m .n) others ≡ traces
+  unfolding tracesInBlocks
   traces-are =
       ap (λ (b : List ℕ). pieces (m .n) k (map (decoded f) (pieces (f .sampleBytes) (k * m .n) b))) samples-are
       ∙ ap (pieces (m .n) k)

@@ -8,7 +8,7 @@ use native.Mathlib.Omega.{arith}
 use lib.ListN.{length, length-map}
 use lib.Dec.{T, ltb, eqb}
 use Rattle.integer.specs.Words.{if_then_else_, counting}
-use Rattle.integer.specs.Sorting.{insertedBy, sortedBy}
+use Rattle.integer.specs.Sorting.{sortedWith, sortedBy}
 use borrow.Author.Tests.{ltb-true, ltb-false, eqb-true}
 use Rattle.integer.proofs.Tests.{is-true}
 use Rattle.integer.proofs.Lists.{In, first, later, in-map, InMap, of, from-map, from-those, in-those, in-counting}
@@ -38,8 +38,8 @@ abbrev pub ApartLeaves : List LeafBound → Type 0
 ApartLeaves = Apart (λ (a : LeafBound). a .number)
 
 inserted-apart : (a : LeafBound) {l : List LeafBound} → ((b : LeafBound) → In b l → b .number ≡ a .number → ⊥) → ApartLeaves l
-    → ApartLeaves (insertedBy before a l)
-unfolding insertedBy
+    → ApartLeaves (sortedWith before a l)
+unfolding sortedWith
 inserted-apart a h apart-none = apart-more h apart-none
 inserted-apart a h (apart-more {a = c} {l} g p) = by (before a c) (inserted-apart a (λ b i. h b (later i)) p)
   where
@@ -47,7 +47,7 @@ inserted-apart a h (apart-more {a = c} {l} g p) = by (before a c) (inserted-apar
     at b (inl e) q = h c first (sym q ∙ ap (λ (x : LeafBound). x .number) e)
     at b (inr j) q = g b j q
 
-    by : (t : Bool) → ApartLeaves (insertedBy before a l) → ApartLeaves (if t then a ∷ c ∷ l else c ∷ insertedBy before a l)
+    by : (t : Bool) → ApartLeaves (sortedWith before a l) → ApartLeaves (if t then a ∷ c ∷ l else c ∷ sortedWith before a l)
     by true ih = apart-more h (apart-more g p)
     by false ih = apart-more (λ b i. at b (from-inserted before a l i)) ih
 
@@ -82,22 +82,22 @@ before-not a b e = by (ltb (a .bound) (b .bound)) (eqb (a .bound) (b .bound)) (l
     by false y z p r = ltb-false (a .bound) (b .bound) p
 
 inserted-all : (k : ℕ) (a : LeafBound) {l : List LeafBound} → k ≤ a .bound → All (λ b. k ≤ b .bound) l
-    → All (λ b. k ≤ b .bound) (insertedBy before a l)
-unfolding insertedBy
+    → All (λ b. k ≤ b .bound) (sortedWith before a l)
+unfolding sortedWith
 inserted-all k a h all-none = all-more h all-none
 inserted-all k a h (all-more {a = b} {rest} g gs) = by (before a b) (inserted-all k a h gs)
   where
-    by : (c : Bool) → All (λ x. k ≤ x .bound) (insertedBy before a rest)
-        → All (λ x. k ≤ x .bound) (if c then a ∷ b ∷ rest else b ∷ insertedBy before a rest)
+    by : (c : Bool) → All (λ x. k ≤ x .bound) (sortedWith before a rest)
+        → All (λ x. k ≤ x .bound) (if c then a ∷ b ∷ rest else b ∷ sortedWith before a rest)
     by true ih = all-more h (all-more g gs)
     by false ih = all-more g ih
 
-inserted-in-order : (a : LeafBound) {l : List LeafBound} → InOrder l → InOrder (insertedBy before a l)
-unfolding insertedBy
+inserted-in-order : (a : LeafBound) {l : List LeafBound} → InOrder l → InOrder (sortedWith before a l)
+unfolding sortedWith
 inserted-in-order a order-none = order-more all-none order-none
 inserted-in-order a (order-more {a = b} {rest} o os) = by (before a b) refl (inserted-in-order a os)
   where
-    by : (c : Bool) → before a b ≡ c → InOrder (insertedBy before a rest) → InOrder (if c then a ∷ b ∷ rest else b ∷ insertedBy before a rest)
+    by : (c : Bool) → before a b ≡ c → InOrder (sortedWith before a rest) → InOrder (if c then a ∷ b ∷ rest else b ∷ sortedWith before a rest)
     by true p ih =
         let h : a .bound ≤ b .bound = before-yes a b p in
         order-more (all-more h (all-mono (λ c g. omega arith) o)) (order-more o os)

@@ -19,8 +19,8 @@ use Rattle.dstree.specs.Sheet.{areBytes, bytesOf, numberIn, part, pieces
 use Rattle.dstree.specs.Recording.{Field, number, word, lettersRIFF, lettersWAVE, lettersFmt, lettersData, header, headerSize}
 use Rattle.dstree.specs.Recording.{rateLimit, sizeLimit, fieldBytes, recordingOf, rateIn, sizeIn, begins, isRecording}
 use Rattle.dstree.specs.Recording.{Recording, recording, recordedTraces, judgeRecording, fileTraces, RecordingClaims}
-use Rattle.dstree.proofs.Libraries.{Small, trace-sized, trace-small, traces-are}
-use Rattle.dstree.proofs.SheetPieces.{Sized, part-length, pieces-length, pieces-sized, pieces-all, pieces-flatten}
+use Rattle.dstree.proofs.Libraries.{AllWithinLimit, trace-sized, trace-small, traces-are}
+use Rattle.dstree.proofs.SheetPieces.{AllOfSize, part-length, pieces-length, pieces-sized, pieces-all, pieces-flatten}
 use Rattle.dstree.proofs.SheetPieces.{flatten-length, flatten-all}
 use Rattle.dstree.proofs.SheetFields.{Bytes, bytes-of, bytes-length, number-bytes, number-below, said, coded-sized, codes-length}
 use Rattle.dstree.proofs.SheetFields.{coded-all, decoded-all, decoded-all-fit}
@@ -145,18 +145,19 @@ module _ (n : ℕ) (bytes : List ℕ) where
         multiple = eqb→eq (sizeIn bytes / 2 % n) 0 (all .1 .1 .1 .1);
       }
 
-  abbrev held : Recording
-  held = recording (rateIn bytes) (recordedTraces n bytes)
+  abbrev recorded : Recording
+  recorded = recording (rateIn bytes) (recordedTraces n bytes)
 
-  judged-sound : SoundFile n bytes → judgeRecording n bytes ≡ some held
+  judged-sound : SoundFile n bytes → judgeRecording n bytes ≡ some recorded
   unfolding judgeRecording
   judged-sound s = rw (test-true (isRecording n bytes) (sound-passes s)) refl
 
-  by-test : (b : Bool) (r : Recording) → isRecording n bytes ≡ b → (if b then some held else none) ≡ some r → SoundFile n bytes × (held ≡ r)
-  by-test true r t e = (passed-sound (is-true t), ap (λ (o : Option Recording). elim o [ none ↦ held | some x ↦ x ]) e)
+  by-test : (b : Bool) (r : Recording) → isRecording n bytes ≡ b → (if b then some recorded else none) ≡ some r
+      → SoundFile n bytes × (recorded ≡ r)
+  by-test true r t e = (passed-sound (is-true t), ap (λ (o : Option Recording). elim o [ none ↦ recorded | some x ↦ x ]) e)
   by-test false r t e = let z : _≡_ {A = ℕ} 0 1 = cc in absurd (omega arith)
 
-  sound-judged : (r : Recording) → judgeRecording n bytes ≡ some r → SoundFile n bytes × (held ≡ r)
+  sound-judged : (r : Recording) → judgeRecording n bytes ≡ some r → SoundFile n bytes × (recorded ≡ r)
   unfolding judgeRecording
   sound-judged r e = by-test (isRecording n bytes) r refl e
 
@@ -168,8 +169,8 @@ half a = omega arith
 even-double : (a : ℕ) → 2 * a % 2 ≡ 0
 even-double a = omega arith
 
-module _ (n rate : ℕ) (traces : List Trace) (some-sample : 0 < n) (low : rate < rateLimit) (sized : Sized n traces)
-    (small : All (Small sampleLimit) traces) (fits : 36 + 2 * length (flatten traces) < sizeLimit) where
+module _ (n rate : ℕ) (traces : List Trace) (some-sample : 0 < n) (low : rate < rateLimit) (sized : AllOfSize n traces)
+    (small : All (AllWithinLimit sampleLimit) traces) (fits : 36 + 2 * length (flatten traces) < sizeLimit) where
   abbrev samples : List ℤ
   samples = flatten traces
 
@@ -241,7 +242,7 @@ module _ (n : ℕ) (bytes : List ℕ) (h : Bytes bytes) (s : SoundFile n bytes) 
   abbrev cells : List (List ℕ)
   cells = pieces 2 samples-in data-in
 
-  cells-sized : Sized 2 cells
+  cells-sized : AllOfSize 2 cells
   cells-sized = pieces-sized 2 samples-in data-in (le-of-eq (sym data-length))
 
   cells-bytes : All Bytes cells

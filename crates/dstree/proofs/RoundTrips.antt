@@ -13,7 +13,7 @@ use Rattle.dstree.specs.Sheet.{areBytes, Format, narrow, blockSize, bloc
 use Rattle.dstree.specs.Sheet.{judgeSheet}
 use Rattle.dstree.proofs.Libraries.{Library, library-of, library-is}
 use Rattle.dstree.proofs.SheetFields.{bytes-of}
-use Rattle.dstree.proofs.SheetFormat.{Sound, narrow-sound}
+use Rattle.dstree.proofs.SheetFormat.{SoundFormat, narrow-sound}
 use Rattle.dstree.proofs.SheetBlocks.{untorn-whole}
 use Rattle.dstree.proofs.SheetTorn.{byte-torn}
 use Rattle.dstree.proofs.SheetWritten.{written-length}
@@ -21,7 +21,7 @@ use Rattle.dstree.proofs.SheetRead.{of-accepted}
 use Rattle.dstree.proofs.ReadBack.{library-back}
 use Rattle.dstree.proofs.WrittenAgain.{accepted-library, accepted-again}
 
-module _ (f : Format) (half : ℕ) (sound : Sound f half) where
+module _ (f : Format) (half : ℕ) (sound : SoundFormat f half) where
   -- a library whose samples the format can say, written and read back, is the same library
   pub read-back-as : (limit : ℕ) → limit ≤ half → (m : Measures) (traces : List Trace) → T (isLibrary limit m traces)
       → judgeAs f (sheetAs f m traces) ≡ holds m traces

@@ -166,8 +166,8 @@ module _ (stored : List Trace) (tree : Tree) (query : Trace) (d : ℕ) where
   readAll = foldl (λ (s : Search) (a : LeafBound). readLeaf stored tree query s (a .number))
 
   -- other traces that give the leaf the same distances, if its bound is at most d
-  abbrev pub Alike : List Trace → LeafBound → Type 0
-  Alike other a = a .bound ≤ d → distancesIn other tree query (a .number) ≡ distancesIn stored tree query (a .number)
+  abbrev pub SameDistances : List Trace → LeafBound → Type 0
+  SameDistances other a = a .bound ≤ d → distancesIn other tree query (a .number) ≡ distancesIn stored tree query (a .number)
 
   read-alike : (other : List Trace) (s : Search) (a : LeafBound)
       → distancesIn other tree query (a .number) ≡ distancesIn stored tree query (a .number) → readLeaf other tree query s (a .number) ≡ readLeaf stored tree query s (a .number)
@@ -176,7 +176,7 @@ module _ (stored : List Trace) (tree : Tree) (query : Trace) (d : ℕ) where
 
   -- leaves in order, no distance below d, and d already found or still to be found in a leaf of R: the leaves read from here on are those of R,
   -- also on other traces that give these leaves the same distances
-  pub reads-R : (other : List Trace) {all : List LeafBound} (s : Search) → InOrder all → All Far all → All (Alike other) all
+  pub reads-R : (other : List Trace) {all : List LeafBound} (s : Search) → InOrder all → All Far all → All (SameDistances other) all
       → AtLeast d (s .best) → AtMost d (s .best) ⊎ Some Hit all → searchOn other tree query s all ≡ readAll s (inR all)
   unfolding readOn those
   reads-R other s order-none fs es least found = refl
@@ -194,8 +194,8 @@ module _ (stored : List Trace) (tree : Tree) (query : Trace) (d : ℕ) where
 
   -- ---- what reading leaves adds up to
 
-  abbrev pub nearsOf : List LeafBound → List Near
-  nearsOf l = flatten (map (λ (a : LeafBound). distancesIn stored tree query (a .number)) l)
+  abbrev pub nearsRead : List LeafBound → List Near
+  nearsRead l = flatten (map (λ (a : LeafBound). distancesIn stored tree query (a .number)) l)
 
   pub read-trail : (s : Search) (l : List LeafBound) → readAll s l .trail ≡ s .trail ++ map (λ (a : LeafBound). a .number) l
   unfolding readLeaf
@@ -211,29 +211,29 @@ module _ (stored : List Trace) (tree : Tree) (query : Trace) (d : ℕ) where
     length-map (numbersIn (nodeAt tree (a .number) .kind)) (nearAt stored query),
   )
 
-  pub read-best : (s : Search) (l : List LeafBound) → readAll s l .best ≡ foldl bestWith (s .best) (nearsOf l)
+  pub read-best : (s : Search) (l : List LeafBound) → readAll s l .best ≡ foldl bestWith (s .best) (nearsRead l)
   unfolding readLeaf flatten
   read-best s [] = refl
   read-best s (a ∷ l) =
       read-best (readLeaf stored tree query s (a .number)) l
-      ∙ sym (fold-append bestWith (s .best) (distancesIn stored tree query (a .number)) (nearsOf l))
+      ∙ sym (fold-append bestWith (s .best) (distancesIn stored tree query (a .number)) (nearsRead l))
 
 -- ---- the nearest, the lowest number among equals
 
 -- "the lowest trace number at distance d", the traces being numbered from `number` on
-pub record Low (d : ℕ) (l : List Trace) (query : Trace) (number : ℕ) : Type 0 where
+pub record LowestAt (d : ℕ) (l : List Trace) (query : Trace) (number : ℕ) : Type 0 where
   pub place : ℕ
   pub inside : place < length l
   pub is : lowestAt number d l query ≡ number + place
   pub at : distance query (getD l place []) ≡ d
   pub low : (i : ℕ) → i < length l → distance query (getD l i []) ≡ d → place ≤ i
 
-pub lowest : (d : ℕ) (l : List Trace) (query : Trace) (number : ℕ) → In d (map (distance query) l) → Low d l query number
+pub lowest : (d : ℕ) (l : List Trace) (query : Trace) (number : ℕ) → In d (map (distance query) l) → LowestAt d l query number
 unfolding lowestAt
 lowest d [] query number i = absurd (in-nil i)
 lowest d (x ∷ l) query number i = by (eqb (distance query x) d) refl (in-cons i) (lowest d l query (suc number))
   where
-    on : eqb (distance query x) d ≡ false → Low d l query (suc number) → Low d (x ∷ l) query number
+    on : eqb (distance query x) d ≡ false → LowestAt d l query (suc number) → LowestAt d (x ∷ l) query number
     on e o = record {
       place = suc (o .place);
       inside = omega (arith, o .inside);
@@ -246,7 +246,8 @@ lowest d (x ∷ l) query number i = by (eqb (distance query x) d) refl (in-cons 
         lows zero h q = absurd (eqb-false (distance query x) d e q)
         lows (suc i) h q = omega (arith, o .low i (omega arith) q)
 
-    by : (b : Bool) → eqb (distance query x) d ≡ b → (d ≡ distance query x) ⊎ In d (map (distance query) l) → (In d (map (distance query) l) → Low d l query (suc number)) → Low d (x ∷ l) query number
+    by : (b : Bool) → eqb (distance query x) d ≡ b → (d ≡ distance query x) ⊎ In d (map (distance query) l)
+        → (In d (map (distance query) l) → LowestAt d l query (suc number)) → LowestAt d (x ∷ l) query number
     by true e j ih = record { place = 0; inside = omega arith; is = rw e (omega arith); at = eqb-true (distance query x) d e; low = λ i h q. omega arith }
     by false e (inl q) ih = absurd (eqb-false (distance query x) d e (sym q))
     by false e (inr j) ih = on e (ih j)
@@ -260,7 +261,7 @@ fold-some a [] = refl
 fold-some a (b ∷ l) = fold-some (nearer a b) l
 
 -- of distances to stored traces, all those of d among them, the best is the lowest number at distance d
-pub winner : (stored : List Trace) (query : Trace) (d : ℕ) → Low d stored query 0 →
+pub winner : (stored : List Trace) (query : Trace) (d : ℕ) → LowestAt d stored query 0 →
     ((t : ℕ) → t < length stored → d ≤ distance query (getD stored t [])) → (l : List Near) →
     ((b : Near) → In b l → IsNear stored query b) →
     ((t : ℕ) → t < length stored → distance query (getD stored t []) ≡ d → In (nearAt stored query t) l) → foldl bestWith none l ≡ some (record { trace = lowestAt 0 d stored query; distance = d })

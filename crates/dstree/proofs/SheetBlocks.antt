@@ -13,7 +13,7 @@ use Rattle.integer.proofs.Tests.{neither}
 use Rattle.integer.proofs.Lists.{All, all-none, all-more, all-take, all-drop}
 use Rattle.dstree.specs.Sheet.{bytesOf, numberIn, part, filledTo, Format, blockSize, checkedSize, checkModulus, carriedSize, kindOf}
 use Rattle.dstree.specs.Sheet.{weighted, checkOf, sealed, block, blocksFrom, carriedIn, thirdsIn, isTorn, tornConditions}
-use Rattle.dstree.proofs.SheetPieces.{Sized, Zeros, filled-length}
+use Rattle.dstree.proofs.SheetPieces.{AllOfSize, Zeros, filled-length}
 use Rattle.dstree.proofs.SheetFields.{Bytes, bytes-length, number-bytes, said}
 use Rattle.dstree.proofs.Conditions.{NoneOf}
 
@@ -46,13 +46,13 @@ module _ (kind number : ℕ) where
 
 -- ---- what the three tests of a block say
 
-pub record Whole (kind number : ℕ) (b : List ℕ) : Type 0 where
+pub record WholeBlock (kind number : ℕ) (b : List ℕ) : Type 0 where
   pub check : numberIn (part checkedSize 2 b) ≡ checkOf b
   pub numbered : numberIn (part 0 2 b) ≡ number
   pub kind-is : getD b 2 0 ≡ kind
 
 module _ (f : Format) (number : ℕ) (b : List ℕ) where
-  pub whole-untorn : Whole (kindOf f number) number b → isTorn f number b ≡ false
+  pub whole-untorn : WholeBlock (kindOf f number) number b → isTorn f number b ≡ false
   unfolding isTorn
   whole-untorn w =
       rw (
@@ -61,7 +61,7 @@ module _ (f : Format) (number : ℕ) (b : List ℕ) where
         eq-eqb (getD b 2 0) (kindOf f number) (w .kind-is),
       ) refl
 
-  pub untorn-whole : isTorn f number b ≡ false → Whole (kindOf f number) number b
+  pub untorn-whole : isTorn f number b ≡ false → WholeBlock (kindOf f number) number b
   unfolding isTorn
   untorn-whole e =
       let x = eqb (numberIn (part checkedSize 2 b)) (checkOf b) in
@@ -110,7 +110,7 @@ module _ (kind number : ℕ) (filled : List ℕ) (e : length filled ≡ carriedS
   unfolding bytesOf
   laid-carries = take-at filled check carriedSize e
 
-  laid-whole : number < 256 ^ 2 → Whole kind number (laid kind number filled)
+  laid-whole : number < 256 ^ 2 → WholeBlock kind number (laid kind number filled)
   laid-whole h = record {
     check =
         ap numberIn (ap (take 2) (drop-at before check checkedSize (front-length kind number filled e))
@@ -132,9 +132,9 @@ module _ (kind number : ℕ) (carried : List ℕ) (h : length carried ≤ carrie
   pub block-carries : carriedIn (block kind number carried) ≡ filledTo carriedSize carried
   block-carries = ap carriedIn (block-laid kind number carried) ∙ laid-carries kind number (filledTo carriedSize carried) full
 
-  pub block-whole : number < 256 ^ 2 → Whole kind number (block kind number carried)
+  pub block-whole : number < 256 ^ 2 → WholeBlock kind number (block kind number carried)
   block-whole k =
-      subst (Whole kind number) (sym (block-laid kind number carried)) (laid-whole kind number (filledTo carriedSize carried) full k)
+      subst (WholeBlock kind number) (sym (block-laid kind number carried)) (laid-whole kind number (filledTo carriedSize carried) full k)
 
   pub block-zero : getD (block kind number carried) 3 0 ≡ 0
   block-zero = ap (λ (b : List ℕ). getD b 3 0) (block-laid kind number carried) ∙ laid-zero kind number (filledTo carriedSize carried) full
@@ -142,7 +142,7 @@ module _ (kind number : ℕ) (carried : List ℕ) (h : length carried ≤ carrie
 -- ---- and back: what a block of bytes carries makes it
 
 module _ (kind number : ℕ) where
-  front-is : (b : List ℕ) → length b ≡ blockSize → Bytes b → Whole kind number b → getD b 3 0 ≡ 0
+  front-is : (b : List ℕ) → length b ≡ blockSize → Bytes b → WholeBlock kind number b → getD b 3 0 ≡ 0
       → front kind number (carriedIn b) ≡ take checkedSize b
   front-is [] l h w z = absurd (omega arith)
   front-is (b0 ∷ []) l h w z = absurd (omega arith)
@@ -153,7 +153,7 @@ module _ (kind number : ℕ) where
       let k : b2 ≡ kind = w .kind-is in
       rw (n, ← k, z) refl
 
-  laid-back : (b : List ℕ) → length b ≡ blockSize → Bytes b → Whole kind number b → getD b 3 0 ≡ 0 → laid kind number (carriedIn b) ≡ b
+  laid-back : (b : List ℕ) → length b ≡ blockSize → Bytes b → WholeBlock kind number b → getD b 3 0 ≡ 0 → laid kind number (carriedIn b) ≡ b
   laid-back b l h w z = rw (front-is b l h w z) (ap (λ (x : List ℕ). take checkedSize b ++ x) tail ∙ take-append-drop checkedSize b)
     where
       two : length (drop checkedSize b) ≡ 2
@@ -172,7 +172,7 @@ module _ (f : Format) where
   blocks-count number [] = refl
   blocks-count number (c ∷ cs) = ap suc (blocks-count (suc number) cs)
 
-  pub blocks-sized : (number : ℕ) {cs : List (List ℕ)} → Carried cs → Sized blockSize (blocksFrom f number cs)
+  pub blocks-sized : (number : ℕ) {cs : List (List ℕ)} → Carried cs → AllOfSize blockSize (blocksFrom f number cs)
   unfolding blocksFrom
   blocks-sized number all-none = all-none
   blocks-sized number (all-more {a = c} h hs) =
@@ -209,7 +209,7 @@ module _ (f : Format) where
   blocks-laid number [] = refl
   blocks-laid number (c ∷ cs) = rw (block-laid (kindOf f number) number c, blocks-laid (suc number) cs) refl
 
-  laid-from-back : (number : ℕ) {bs : List (List ℕ)} → Sized blockSize bs → All Bytes bs → NoneOf (tornConditions f number bs)
+  laid-from-back : (number : ℕ) {bs : List (List ℕ)} → AllOfSize blockSize bs → All Bytes bs → NoneOf (tornConditions f number bs)
       → Zeros (thirdsIn bs) → laidFrom number (map carriedIn bs) ≡ bs
   unfolding tornConditions
   laid-from-back number all-none all-none u z = refl
@@ -218,5 +218,5 @@ module _ (f : Format) where
 
   -- blocks that are not torn and have a 0 in byte 3 are those that what they carry makes
   pub blocks-back : (number : ℕ) {bs : List (List ℕ)} (cs : List (List ℕ)) → map (filledTo carriedSize) cs ≡ map carriedIn bs
-      → Sized blockSize bs → All Bytes bs → NoneOf (tornConditions f number bs) → Zeros (thirdsIn bs) → blocksFrom f number cs ≡ bs
+      → AllOfSize blockSize bs → All Bytes bs → NoneOf (tornConditions f number bs) → Zeros (thirdsIn bs) → blocksFrom f number cs ≡ bs
   blocks-back number cs e l h u z = blocks-laid number cs ∙ ap (laidFrom number) e ∙ laid-from-back number l h u z

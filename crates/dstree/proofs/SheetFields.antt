@@ -15,7 +15,7 @@ use borrow.Author.Tests.{lt-ltb, le-ltb}
 use Rattle.integer.specs.Words.{every}
 use Rattle.integer.proofs.Lists.{All, all-none, all-more, all-mono, every-all}
 use Rattle.dstree.specs.Sheet.{areBytes, bytesOf, numberIn, part, Format, coded, codedAll, decoded}
-use Rattle.dstree.proofs.SheetPieces.{Sized, flatten-length}
+use Rattle.dstree.proofs.SheetPieces.{AllOfSize, flatten-length}
 
 -- every number of a list is below 256
 abbrev pub Bytes : List ℕ → Type 0
@@ -81,7 +81,7 @@ module _ (f : Format) where
   coded-length (pos v) = bytes-length width v
   coded-length (negsuc v) = bytes-length width (above - 1 - v)
 
-  pub coded-sized : (xs : List ℤ) → Sized width (map (coded f) xs)
+  pub coded-sized : (xs : List ℤ) → AllOfSize width (map (coded f) xs)
   coded-sized [] = all-none
   coded-sized (x ∷ xs) = all-more {a = coded f x} (coded-length x) (coded-sized xs)
 
@@ -146,10 +146,10 @@ back-sub m v h = omega arith
 -- half of the numbers that the bytes can say are for samples from 0 on
 module _ (f : Format) (half : ℕ) (halves : 2 * half ≡ 256 ^ f .sampleBytes) where
   -- a sample that the bytes can say
-  abbrev pub Fits : ℤ → Type 0
-  Fits z = mag z < half
+  abbrev pub SampleFits : ℤ → Type 0
+  SampleFits z = mag z < half
 
-  pub decoded-coded : (z : ℤ) → Fits z → decoded f (coded f z) ≡ z
+  pub decoded-coded : (z : ℤ) → SampleFits z → decoded f (coded f z) ≡ z
   unfolding coded
   decoded-coded (pos v) h = decoded-low f (bytesOf (width f) v) v (number-bytes (width f) v (omega arith)) (omega arith)
   decoded-coded (negsuc v) h =
@@ -157,7 +157,7 @@ module _ (f : Format) (half : ℕ) (halves : 2 * half ≡ 256 ^ f .sampleBytes) 
       decoded-high f (bytesOf (width f) w) w (number-bytes (width f) w (omega arith)) (omega arith)
       ∙ ap negsuc (back-sub (above f) v (omega arith))
 
-  pub decoded-all : {xs : List ℤ} → All Fits xs → map (decoded f) (map (coded f) xs) ≡ xs
+  pub decoded-all : {xs : List ℤ} → All SampleFits xs → map (decoded f) (map (coded f) xs) ≡ xs
   decoded-all all-none = refl
   decoded-all (all-more {a = x} {rest} h hs) = rw (decoded-coded x h, decoded-all hs) refl
 
@@ -165,12 +165,12 @@ module _ (f : Format) (half : ℕ) (halves : 2 * half ≡ 256 ^ f .sampleBytes) 
     below : (v : ℕ) → numberIn bs ≡ v → v < above f
     below v e = subst (λ (k : ℕ). v < 256 ^ k) l (subst (λ (x : ℕ). x < 256 ^ length bs) e (number-below h))
 
-    pub decoded-fits : Fits (decoded f bs)
+    pub decoded-fits : SampleFits (decoded f bs)
     decoded-fits = by (numberIn bs) refl (decLe half (numberIn bs))
       where
-        by : (v : ℕ) → numberIn bs ≡ v → Dec (half ≤ v) → Fits (decoded f bs)
-        by v e (yes g) = subst Fits (sym (decoded-high f bs v e (omega arith))) (omega (arith, below v e))
-        by v e (no g) = let k = lt-of-not-le g in subst Fits (sym (decoded-low f bs v e (omega arith))) k
+        by : (v : ℕ) → numberIn bs ≡ v → Dec (half ≤ v) → SampleFits (decoded f bs)
+        by v e (yes g) = subst SampleFits (sym (decoded-high f bs v e (omega arith))) (omega (arith, below v e))
+        by v e (no g) = let k = lt-of-not-le g in subst SampleFits (sym (decoded-low f bs v e (omega arith))) k
 
     pub coded-decoded : coded f (decoded f bs) ≡ bs
     unfolding coded
@@ -182,10 +182,10 @@ module _ (f : Format) (half : ℕ) (halves : 2 * half ≡ 256 ^ f .sampleBytes) 
             ∙ said (width f) v bs l h e
         by v e (no g) = let k = lt-of-not-le g in ap (coded f) (decoded-low f bs v e (omega arith)) ∙ said (width f) v bs l h e
 
-  pub coded-all : {bs : List (List ℕ)} → Sized (f .sampleBytes) bs → All Bytes bs → map (coded f) (map (decoded f) bs) ≡ bs
+  pub coded-all : {bs : List (List ℕ)} → AllOfSize (f .sampleBytes) bs → All Bytes bs → map (coded f) (map (decoded f) bs) ≡ bs
   coded-all all-none all-none = refl
   coded-all (all-more {a = b} e es) (all-more h hs) = rw (coded-decoded b e h, coded-all es hs) refl
 
-  pub decoded-all-fit : {bs : List (List ℕ)} → Sized (f .sampleBytes) bs → All Bytes bs → All Fits (map (decoded f) bs)
+  pub decoded-all-fit : {bs : List (List ℕ)} → AllOfSize (f .sampleBytes) bs → All Bytes bs → All SampleFits (map (decoded f) bs)
   decoded-all-fit all-none all-none = all-none
   decoded-all-fit (all-more {a = b} e es) (all-more h hs) = all-more {a = decoded f b} (decoded-fits b e h) (decoded-all-fit es hs)

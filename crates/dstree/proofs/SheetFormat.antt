@@ -9,7 +9,7 @@ use Rattle.dstree.specs.Measures.{sampleLimit}
 use Rattle.dstree.specs.Sheet.{Format, narrow, carriedSize, mostBlocks, sampleSize, sampleBlocksNeeded}
 
 -- half of the numbers that a sample's bytes can say are for samples from 0 on
-pub record Sound (f : Format) (half : ℕ) : Type 0 where
+pub record SoundFormat (f : Format) (half : ℕ) : Type 0 where
   pub halves : 2 * half ≡ 256 ^ f .sampleBytes
   pub some : 0 < f .samplesPerBlock
   pub room : sampleSize f ≤ carriedSize
@@ -18,7 +18,7 @@ pub record Sound (f : Format) (half : ℕ) : Type 0 where
   -- no library needs more blocks than a sheet may have
   pub most : roundedUp (4096 * 256) (f .samplesPerBlock) < mostBlocks
 
-pub narrow-sound : Sound narrow sampleLimit
+pub narrow-sound : SoundFormat narrow sampleLimit
 unfolding sampleLimit roundedUp
 narrow-sound =
     record { halves = refl; some = omega arith; room = omega arith; head-kind = omega arith; sample-kind = omega arith; most = omega arith }
@@ -34,7 +34,7 @@ module _ (a b : ℕ) (some : 0 < b) where
   unfolding roundedUp
   rounded-tight = omega (arith, div-add-mod (a + (b - 1)) b)
 
-module _ (f : Format) (half : ℕ) (sound : Sound f half) where
+module _ (f : Format) (half : ℕ) (sound : SoundFormat f half) where
   -- they have room for all samples, and no block is without one
   pub needed-room : (count n : ℕ) → count * n ≤ sampleBlocksNeeded f count n * f .samplesPerBlock
   unfolding sampleBlocksNeeded

@@ -17,8 +17,8 @@ more count size = omega arith
 
 module _ {A : Type 0} where
   -- lists of one size
-  abbrev pub Sized : ℕ → List (List A) → Type 0
-  Sized size = All (λ (x : List A). length x ≡ size)
+  abbrev pub AllOfSize : ℕ → List (List A) → Type 0
+  AllOfSize size = All (λ (x : List A). length x ≡ size)
 
   -- ---- pieces
 
@@ -27,7 +27,7 @@ module _ {A : Type 0} where
   pieces-length size zero xs = refl
   pieces-length size (suc count) xs = ap suc (pieces-length size count (drop size xs))
 
-  pub pieces-sized : (size count : ℕ) (xs : List A) → count * size ≤ length xs → Sized size (pieces size count xs)
+  pub pieces-sized : (size count : ℕ) (xs : List A) → count * size ≤ length xs → AllOfSize size (pieces size count xs)
   unfolding pieces
   pieces-sized size zero xs h = all-none
   pieces-sized size (suc count) xs h =
@@ -48,14 +48,14 @@ module _ {A : Type 0} where
   pieces-all size zero h = all-none
   pieces-all size (suc count) h = all-more (all-take size h) (pieces-all size count (all-drop size h))
 
-  pub flatten-length : (size : ℕ) {xs : List (List A)} → Sized size xs → length (flatten xs) ≡ length xs * size
+  pub flatten-length : (size : ℕ) {xs : List (List A)} → AllOfSize size xs → length (flatten xs) ≡ length xs * size
   unfolding flatten
   flatten-length size all-none = omega arith
   flatten-length size (all-more {a = x} {rest} e es) =
       length-append x (flatten rest) ∙ rw (e, flatten-length size es, suc-mul (length rest) size) (omega arith)
 
   -- cutting what was put together, with something behind
-  pub pieces-flatten-on : (size : ℕ) {xs : List (List A)} (behind : List A) → Sized size xs
+  pub pieces-flatten-on : (size : ℕ) {xs : List (List A)} (behind : List A) → AllOfSize size xs
       → pieces size (length xs) (flatten xs ++ behind) ≡ xs
   unfolding flatten pieces
   pieces-flatten-on size behind all-none = refl
@@ -63,7 +63,7 @@ module _ {A : Type 0} where
       let later = flatten rest ++ behind in
       rw (append-assoc x (flatten rest) behind, take-at x later size e, drop-at x later size e, pieces-flatten-on size behind es) refl
 
-  pub pieces-flatten : (size : ℕ) {xs : List (List A)} → Sized size xs → pieces size (length xs) (flatten xs) ≡ xs
+  pub pieces-flatten : (size : ℕ) {xs : List (List A)} → AllOfSize size xs → pieces size (length xs) (flatten xs) ≡ xs
   pieces-flatten size {xs} s =
       subst (λ (l : List A). pieces size (length xs) l ≡ xs) (append-nil (flatten xs)) (pieces-flatten-on size [] s)
 

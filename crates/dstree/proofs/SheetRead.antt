@@ -17,11 +17,11 @@ use Rattle.dstree.specs.Measures.{Trace, Measures, inRange}
 use Rattle.dstree.specs.Refusals.{Refusal, firstOf}
 use Rattle.dstree.specs.Sheet.{areBytes, part, pieces, Format, blockSize, mostBlocks, sampleSize, letters, sampleBlocksNeeded}
 use Rattle.dstree.specs.Sheet.{blocksIn}
-use Rattle.dstree.specs.Sheet.{carriedIn, measuresIn, countIn, sampleBytesIn, tracesIn, isWrongLength, areZero, thirdsIn}
+use Rattle.dstree.specs.Sheet.{carriedIn, measuresIn, countIn, sampleBytesIn, tracesInBlocks, isWrongLength, areZero, thirdsIn}
 use Rattle.dstree.specs.Sheet.{tornConditions}
 use Rattle.dstree.specs.Sheet.{zerosIn, badConditions, conditionsAs, Judged, refused, holds, judgedBy, libraryIn, judgeAs}
 use Rattle.dstree.proofs.Conditions.{NoneOf, none-of, of-none}
-use Rattle.dstree.proofs.SheetPieces.{Sized, Zeros, pieces-sized, pieces-all, pieces-flatten, flatten-length, flatten-all}
+use Rattle.dstree.proofs.SheetPieces.{AllOfSize, Zeros, pieces-sized, pieces-all, pieces-flatten, flatten-length, flatten-all}
 use Rattle.dstree.proofs.SheetFields.{Bytes, bytes-of}
 
 -- ---- zeros
@@ -37,7 +37,7 @@ are-zero h = all-every (λ b. eqb b 0) (all-mono (λ b p. eq→eqb {a = b} {b = 
 -- ---- 10
 
 -- no condition of number 10 holds
-pub record Good (f : Format) (first : List ℕ) (others : List (List ℕ)) : Type 0 where
+pub record GoodSheet (f : Format) (first : List ℕ) (others : List (List ℕ)) : Type 0 where
   pub lettered : part 4 4 first ≡ letters
   pub measured : T (inRange (measuresIn first))
   pub counted : countIn first ≤ measuresIn first .capacity
@@ -79,7 +79,7 @@ module _ (f : Format) (first : List ℕ) (others : List (List ℕ)) where
   unfolding zerosIn
   zeros-apart = refl
 
-  pub good-none : Good f first others → NoneOf (badConditions f (first ∷ others))
+  pub good-none : GoodSheet f first others → NoneOf (badConditions f (first ∷ others))
   unfolding badConditions
   good-none g =
       all-more (ap not (ap (λ (l : List ℕ). same l letters) (g .lettered) ∙ is-same letters))
@@ -91,7 +91,7 @@ module _ (f : Format) (first : List ℕ) (others : List (List ℕ)) where
       zero : Zeros zeros
       zero = subst Zeros (sym zeros-apart) (all-append (all-append (all-append (g .third) (g .head-rest)) (g .spare)) (g .sample-rest))
 
-  pub none-good : NoneOf (badConditions f (first ∷ others)) → Good f first others
+  pub none-good : NoneOf (badConditions f (first ∷ others)) → GoodSheet f first others
   unfolding badConditions
   none-good (all-more l (all-more r (all-more c (all-more b (all-more z all-none))))) =
       let zero : Zeros (headed ++ behind ++ rest) = subst Zeros zeros-apart (zeros-of zeros (is-true (not-false (areZero zeros) z))) in
@@ -130,7 +130,7 @@ in-blocks size e =
       few = ltb-false mostBlocks (size / blockSize) (two .1);
     }
 
-module _ (f : Format) (bs : List (List ℕ)) (s : Sized blockSize bs) where
+module _ (f : Format) (bs : List (List ℕ)) (s : AllOfSize blockSize bs) where
   all-length : length (flatten bs) ≡ length bs * blockSize
   all-length = flatten-length blockSize s
 
@@ -161,7 +161,7 @@ module _ (f : Format) (bs : List (List ℕ)) (s : Sized blockSize bs) where
 -- its blocks
 pub record AcceptedSheet (f : Format) (bytes : List ℕ) (bs : List (List ℕ)) : Type 0 where
   pub whole : flatten bs ≡ bytes
-  pub sized : Sized blockSize bs
+  pub sized : AllOfSize blockSize bs
   pub each-bytes : All Bytes bs
   pub untorn : NoneOf (tornConditions f 0 bs)
   pub good : NoneOf (badConditions f bs)
@@ -189,7 +189,7 @@ judged-none none otherwise m traces e = (refl, e)
 -- what is said of all that blocks hold, is said of what a sheet holds
 module _ (f : Format) (P : Measures → List Trace → Type 0) (bytes : List ℕ) (t : T (areBytes bytes))
     (said : (first : List ℕ) (others : List (List ℕ)) → AcceptedSheet f bytes (first ∷ others)
-    → P (measuresIn first) (tracesIn f (countIn first) (measuresIn first .n) others)) where
+    → P (measuresIn first) (tracesInBlocks f (countIn first) (measuresIn first .n) others)) where
   abbrev Said : Judged → Type 0
   Said (refused r) = ⊥
   Said (holds m traces) = P m traces

@@ -16,7 +16,7 @@ use Rattle.integer.specs.Words.{every, counting}
 use Rattle.integer.proofs.Lists.{strict, in-counting, from-every, all-drop, all-set, all-getD}
 use Rattle.dstree.specs.Sheet.{numberIn, Format, blockSize, checkedSize, checkModulus, kindOf, weighted, checkOf, isTorn}
 use Rattle.dstree.proofs.SheetFields.{Bytes, bytes-number}
-use Rattle.dstree.proofs.SheetBlocks.{Whole, untorn-whole, check-front}
+use Rattle.dstree.proofs.SheetBlocks.{WholeBlock, untorn-whole, check-front}
 
 -- ---- no product is a multiple of 65,521, tried out for every difference
 
@@ -88,8 +88,8 @@ same-bytes a b l ha hb e = sym (bytes-number ha) ∙ rw (l, e) (bytes-number hb)
 
 -- ---- a block, and the same block with one byte changed: not both are whole
 
-module _ (kind number : ℕ) (b : List ℕ) (l : length b ≡ blockSize) (h : Bytes b) (w : Whole kind number b)
-    (i y : ℕ) (hy : y < 256) (f : getD b i 0 ≢ y) (w′ : Whole kind number (set b i y)) where
+module _ (kind number : ℕ) (b : List ℕ) (l : length b ≡ blockSize) (h : Bytes b) (w : WholeBlock kind number b)
+    (i y : ℕ) (hy : y < 256) (f : getD b i 0 ≢ y) (w′ : WholeBlock kind number (set b i y)) where
   in-front : i < checkedSize → ⊥
   unfolding checkOf
   in-front k = by (apart (getD b i 0) y f)
@@ -135,11 +135,11 @@ module _ (kind number : ℕ) (b : List ℕ) (l : length b ≡ blockSize) (h : By
       whole : set b i y ≡ b
       whole = sym (take-append-drop checkedSize (set b i y)) ∙ rw (front, back) (take-append-drop checkedSize b)
 
-pub byte-torn : (f : Format) (number : ℕ) (b : List ℕ) → length b ≡ blockSize → Bytes b → Whole (kindOf f number) number b
+pub byte-torn : (f : Format) (number : ℕ) (b : List ℕ) → length b ≡ blockSize → Bytes b → WholeBlock (kindOf f number) number b
     → (i y : ℕ) → i < blockSize → y < 256 → getD b i 0 ≢ y → isTorn f number (set b i y) ≡ true
 byte-torn f number b l h w i y k hy differs = by (isTorn f number (set b i y)) refl
   where
-    on : Whole (kindOf f number) number (set b i y) → Dec (checkedSize ≤ i) → ⊥
+    on : WholeBlock (kindOf f number) number (set b i y) → Dec (checkedSize ≤ i) → ⊥
     on w′ (yes g) = in-check (kindOf f number) number b l h w i y hy differs w′ g k
     on w′ (no g) = in-front (kindOf f number) number b l h w i y hy differs w′ (lt-of-not-le g)
 

@@ -9,15 +9,15 @@ use Rattle.integer.proofs.Lists.{all-more, all-mono}
 use Rattle.dstree.specs.Measures.{Trace, Measures}
 use Rattle.dstree.specs.Sheet.{bytesOf, pieces, Format, blockSize, sampleSize, letters, headOf}
 use Rattle.dstree.specs.Sheet.{codedAll, sampleBlocksNeeded, carriedOf, blocksOf, sheetAs}
-use Rattle.dstree.proofs.SheetPieces.{Sized, pieces-length, pieces-at-most, flatten-length}
-use Rattle.dstree.proofs.SheetFormat.{Sound}
+use Rattle.dstree.proofs.SheetPieces.{AllOfSize, pieces-length, pieces-at-most, flatten-length}
+use Rattle.dstree.proofs.SheetFormat.{SoundFormat}
 use Rattle.dstree.proofs.SheetBlocks.{Carried, blocks-count, blocks-sized}
 
 pub head-length : (m : Measures) (count : ℕ) → length (headOf m count) ≡ 12
 unfolding headOf letters bytesOf
 head-length m count = refl
 
-module _ (f : Format) (half : ℕ) (sound : Sound f half) where
+module _ (f : Format) (half : ℕ) (sound : SoundFormat f half) where
   -- pieces of samples' bytes
   pub samples-carried : (count : ℕ) (bytes : List ℕ) → Carried (pieces (sampleSize f) count bytes)
   samples-carried count bytes = all-mono (λ c h. le-trans h (sound .room)) (pieces-at-most (sampleSize f) count bytes)
@@ -47,7 +47,7 @@ module _ (f : Format) (half : ℕ) (sound : Sound f half) where
 
     -- ---- blocks
 
-    pub written-sized : Sized blockSize (blocksOf f m traces)
+    pub written-sized : AllOfSize blockSize (blocksOf f m traces)
     unfolding blocksOf
     written-sized = blocks-sized f 0 carried-fit
 

@@ -1,5 +1,5 @@
 -- A leaf that is split keeps the shape and the invariant: its traces go to the left or the right child by the test, and all else is as before.
--- What a split must have for that is `Good`, and the best split of a node has it, as every candidate of the node that parts the leaf has.
+-- What a split must have for that is `GoodSplit`, and the best split of a node has it, as every candidate of the node that parts the leaf has.
 use Prim.Native.Nat.{ℕ, zero, suc, _+_, _≤_, _<_}
 use mathlib.Core.Path.{_≡_, refl, sym, _∙_, ap, subst}
 use mathlib.Core.Logic.{_⊎_, inl, inr}
@@ -27,7 +27,7 @@ use Rattle.dstree.specs.Matching.{hasChild, numbersIn}
 use Rattle.dstree.specs.Claims.{Below, of-leaf, of-child}
 use Rattle.dstree.proofs.Ranges.{Covered, covered-none, new-covered}
 use Rattle.dstree.specs.Formed.{Fits, RunIn, Parent, Kept, Shape}
-use Rattle.dstree.proofs.Formed.{nothing, number-node}
+use Rattle.dstree.proofs.Formed.{emptyLeaf, number-node}
 use Rattle.dstree.proofs.Change.{leaf-in, has-inner, has-left, has-right}
 use Rattle.dstree.proofs.Cuts.{FitsAs, candidates-fit, new-ends}
 use Rattle.dstree.proofs.Exact.{Of, AllReached, reached-none, reached-by-more, of-chosen, new-reached}
@@ -42,7 +42,7 @@ pub record Threshold (stored : List Trace) (P : ℕ → Type 0) (test : Test) : 
   pub is : test .threshold ≡ least +ℤ greatest
 
 -- what a split makes of a leaf with these right ends and numbers
-pub record Good (n : ℕ) (stored : List Trace) (es numbers : List ℕ) (s : Split) : Type 0 where
+pub record GoodSplit (n : ℕ) (stored : List Trace) (es numbers : List ℕ) (s : Split) : Type 0 where
   pub left-in : (t : ℕ) → T (isIn t (s .left)) → T (isIn t numbers)
   pub right-in : (t : ℕ) → T (isIn t (s .right)) → T (isIn t numbers)
   pub left-some : 0 < length (s .left)
@@ -58,7 +58,7 @@ pub record Good (n : ℕ) (stored : List Trace) (es numbers : List ℕ) (s : Spl
   pub threshold-is : Threshold stored (λ (t : ℕ). In t numbers) (s .test)
 
 -- no number is on both sides
-pub sides-apart : {n : ℕ} {stored : List Trace} {es numbers : List ℕ} {s : Split} → Good n stored es numbers s → (t : ℕ) → T (isIn t (s .left)) → T (isIn t (s .right)) → ⊥
+pub sides-apart : {n : ℕ} {stored : List Trace} {es numbers : List ℕ} {s : Split} → GoodSplit n stored es numbers s → (t : ℕ) → T (isIn t (s .left)) → T (isIn t (s .right)) → ⊥
 sides-apart good t h i = let z : true ≡ false = sym (good .goes-left t h) ∙ good .goes-right t i in subst T z tt
 
 -- ---- the nodes after a split
@@ -79,17 +79,17 @@ module _ (stored : List Trace) (tree : Tree) (at : ℕ) (s : Split) where
 
   -- the one that was split, another one, the left, the right, or none
   pub split-cases : (P : Node → Type 0) (k : ℕ) → (k ≡ at → P turned) → ((k ≡ at → ⊥) → k < length tree → P (nodeAt tree k))
-      → (k ≡ length tree → P l) → (k ≡ suc (length tree) → P r) → (suc (suc (length tree)) ≤ k → P nothing) → P (nodeAt (splitInto stored tree at (some s)) k)
+      → (k ≡ length tree → P l) → (k ≡ suc (length tree) → P r) → (suc (suc (length tree)) ≤ k → P emptyLeaf) → P (nodeAt (splitInto stored tree at (some s)) k)
   unfolding splitInto
   split-cases P k here old left right out =
       let size = length-set tree at turned in
-      two-cases nothing P (set tree at turned) l r k (λ h. set-cases nothing P tree at turned k (λ e g. here e) old (λ g. absurd (omega arith)))
+      two-cases emptyLeaf P (set tree at turned) l r k (λ h. set-cases emptyLeaf P tree at turned k (λ e g. here e) old (λ g. absurd (omega arith)))
       (λ e. left (omega arith)) (λ e. right (omega arith)) (λ h. out (omega arith))
 
 -- ---- the shape
 
 module _ {n count : ℕ} {tree : Tree} (shape : Shape n count tree) (stored : List Trace) (at : ℕ) (its-numbers : List ℕ)
-    (is-leaf : nodeAt tree at .kind ≡ leaf its-numbers) (s : Split) (good : Good n stored (ends (nodeAt tree at .segments)) its-numbers s) where
+    (is-leaf : nodeAt tree at .kind ≡ leaf its-numbers) (s : Split) (good : GoodSplit n stored (ends (nodeAt tree at .segments)) its-numbers s) where
   abbrev new : Tree
   new = splitInto stored tree at (some s)
 
@@ -100,7 +100,7 @@ module _ {n count : ℕ} {tree : Tree} (shape : Shape n count tree) (stored : Li
   new-length = split-length stored tree at s
 
   new-cases : (P : Node → Type 0) (k : ℕ) → (k ≡ at → k < length tree → P (turned stored tree at s)) → ((k ≡ at → ⊥) → k < length tree → P (nodeAt tree k))
-      → (k ≡ length tree → P (l stored tree at s)) → (k ≡ suc (length tree) → P (r stored tree at s)) → (suc (suc (length tree)) ≤ k → P nothing) → P (nodeAt new k)
+      → (k ≡ length tree → P (l stored tree at s)) → (k ≡ suc (length tree) → P (r stored tree at s)) → (suc (suc (length tree)) ≤ k → P emptyLeaf) → P (nodeAt new k)
   new-cases P k here = split-cases stored tree at s P k (λ e. here e (omega (arith, here-in)))
 
   at-left : nodeAt new (length tree) ≡ l stored tree at s
@@ -385,7 +385,8 @@ best-all {P} gainOf (all-more {a} p ps) = from a p ps
         by false = p
 
 module _ (n : ℕ) (stored : List Trace) (es numbers : List ℕ) where
-  split-good : (c : Candidate) → FitsAs n es c → T (parts (splitBy stored numbers c)) → Good n stored es numbers (splitBy stored numbers c)
+  split-good : (c : Candidate) → FitsAs n es c → T (parts (splitBy stored numbers c))
+      → GoodSplit n stored es numbers (splitBy stored numbers c)
   unfolding splitBy parts testOf thresholdOf
   split-good c f t = record {
     left-in = λ t i. in-is (from-those left? numbers (is-in t _ i) .0);
@@ -426,14 +427,14 @@ module _ (n : ℕ) (stored : List Trace) (es numbers : List ℕ) where
       to-is (inl i) = inl (in-is i)
       to-is (inr i) = inr (in-is i)
 
-  pub best-good : Fits n es → OfSome (Good n stored es numbers) (best stored es numbers)
+  pub best-good : Fits n es → OfSome (GoodSplit n stored es numbers) (best stored es numbers)
   unfolding best
   best-good f =
       best-all (gain stored es numbers)
-      (all-mono (λ s g. g .0 (g .1)) (all-those {P = λ s. T (parts s) → Good n stored es numbers s} parts (all-map (splitBy stored numbers) split-good (candidates-fit n es f))))
+      (all-mono (λ s g. g .0 (g .1)) (all-those {P = λ s. T (parts s) → GoodSplit n stored es numbers s} parts (all-map (splitBy stored numbers) split-good (candidates-fit n es f))))
 
-  pub best-is-good : Fits n es → {s : Split} → best stored es numbers ≡ some s → Good n stored es numbers s
-  best-is-good f e = subst (OfSome (Good n stored es numbers)) e (best-good f)
+  pub best-is-good : Fits n es → {s : Split} → best stored es numbers ≡ some s → GoodSplit n stored es numbers s
+  best-is-good f e = subst (OfSome (GoodSplit n stored es numbers)) e (best-good f)
 
 -- no split was found: no candidate parts the leaf
 none-passes : {A : Type 0} (passes : A → Bool) (l : List A) → those passes l ≡ [] → {a : A} → In a l → T (not (passes a))
@@ -455,7 +456,7 @@ best-none stored es numbers e = every-of _ (candidates es)
 -- ---- what a split keeps, the pass over the leaves keeps
 
 module _ (n leafSize : ℕ) (stored : List Trace) (P : Tree → Type 0) (fits : (tree : Tree) → P tree → (k : ℕ) → k < length tree → Fits n (ends (nodeAt tree k .segments)))
-    (keeps : (tree : Tree) → P tree → (at : ℕ) (ns : List ℕ) → nodeAt tree at .kind ≡ leaf ns → (s : Split) → Good n stored
+    (keeps : (tree : Tree) → P tree → (at : ℕ) (ns : List ℕ) → nodeAt tree at .kind ≡ leaf ns → (s : Split) → GoodSplit n stored
     (ends (nodeAt tree at .segments)) ns s → P (splitInto stored tree at (some s))) where
   kind-keeps : (tree : Tree) (at : ℕ) → P tree → (k : Kind) → nodeAt tree at .kind ≡ k → P (splitKind leafSize stored tree at k)
   unfolding splitKind splitInto
@@ -465,7 +466,7 @@ module _ (n leafSize : ℕ) (stored : List Trace) (P : Tree → Type 0) (fits : 
       es : List ℕ
       es = ends (nodeAt tree at .segments)
 
-      found : (o : Option Split) → OfSome (Good n stored es numbers) o → P (splitInto stored tree at o)
+      found : (o : Option Split) → OfSome (GoodSplit n stored es numbers) o → P (splitInto stored tree at o)
       found none g = p
       found (some s) g = keeps tree p at numbers e s g
 

@@ -11,16 +11,16 @@ use Rattle.integer.proofs.Lists.{All, all-none, all-more, all-map, all-take, al
 use Rattle.dstree.specs.Measures.{Measures}
 use Rattle.dstree.specs.Sheet.{bytesOf, numberIn, part, pieces, filledTo, Format, blockSize, carriedSize, sampleSize, letters, headOf}
 use Rattle.dstree.specs.Sheet.{codedAll, decoded, sampleBlocksNeeded, carriedOf, blocksOf, sheetAs, carriedIn, measuresIn, countIn}
-use Rattle.dstree.specs.Sheet.{sampleBytesIn, tracesIn}
-use Rattle.dstree.proofs.Libraries.{Small, Library}
-use Rattle.dstree.proofs.SheetPieces.{Sized, Zeros, pieces-length, pieces-sized, pieces-at-most, pieces-all, pieces-flatten}
+use Rattle.dstree.specs.Sheet.{sampleBytesIn, tracesInBlocks}
+use Rattle.dstree.proofs.Libraries.{AllWithinLimit, Library}
+use Rattle.dstree.proofs.SheetPieces.{AllOfSize, Zeros, pieces-length, pieces-sized, pieces-at-most, pieces-all, pieces-flatten}
 use Rattle.dstree.proofs.SheetPieces.{flatten-length, flatten-pieces}
 use Rattle.dstree.proofs.SheetPieces.{flatten-all, part-length, part-join, filled-back, filled-twice, fill-pieces}
 use Rattle.dstree.proofs.SheetFields.{Bytes, said, coded-all, decoded-all-fit}
-use Rattle.dstree.proofs.SheetFormat.{Sound, needed-room}
+use Rattle.dstree.proofs.SheetFormat.{SoundFormat, needed-room}
 use Rattle.dstree.proofs.SheetBlocks.{blocks-back}
 use Rattle.dstree.proofs.SheetWritten.{carried-is}
-use Rattle.dstree.proofs.SheetRead.{Good, none-good, AcceptedSheet}
+use Rattle.dstree.proofs.SheetRead.{GoodSheet, none-good, AcceptedSheet}
 
 -- ---- block 0
 
@@ -50,13 +50,13 @@ module _ (size : ℕ) (room : size ≤ carriedSize) where
   abbrev fronts : List (List ℕ) → List (List ℕ)
   fronts bs = map (λ (b : List ℕ). take size (carriedIn b)) bs
 
-  fronts-sized : {bs : List (List ℕ)} → Sized blockSize bs → Sized size (fronts bs)
+  fronts-sized : {bs : List (List ℕ)} → AllOfSize blockSize bs → AllOfSize size (fronts bs)
   fronts-sized all-none = all-none
   fronts-sized (all-more {a = b} l ls) =
       all-more {a = take size (carriedIn b)}
       (length-take-le size (carriedIn b) (omega (arith, part-length 4 carriedSize b (rw l (omega arith))))) (fronts-sized ls)
 
-  fronts-back : {bs : List (List ℕ)} → Sized blockSize bs → Zeros (flatten (map (λ (b : List ℕ). drop size (carriedIn b)) bs))
+  fronts-back : {bs : List (List ℕ)} → AllOfSize blockSize bs → Zeros (flatten (map (λ (b : List ℕ). drop size (carriedIn b)) bs))
       → map (filledTo carriedSize) (fronts bs) ≡ map carriedIn bs
   unfolding flatten
   fronts-back all-none z = refl
@@ -73,8 +73,8 @@ module _ (size : ℕ) (room : size ≤ carriedSize) where
 
 -- ---- the samples
 
-module _ (f : Format) (half : ℕ) (sound : Sound f half) (first : List ℕ) (others : List (List ℕ)) (ls : Sized blockSize others)
-    (hs : All Bytes others) (g : Good f first others) where
+module _ (f : Format) (half : ℕ) (sound : SoundFormat f half) (first : List ℕ) (others : List (List ℕ)) (ls : AllOfSize blockSize others)
+    (hs : All Bytes others) (g : GoodSheet f first others) where
   abbrev m : Measures
   m = measuresIn first
 
@@ -117,7 +117,7 @@ module _ (f : Format) (half : ℕ) (sound : Sound f half) (first : List ℕ) (ot
   abbrev cells : List (List ℕ)
   cells = pieces width q bytes
 
-  cells-sized : Sized width cells
+  cells-sized : AllOfSize width cells
   cells-sized = pieces-sized width q bytes enough
 
   cells-bytes : All Bytes cells
@@ -129,15 +129,15 @@ module _ (f : Format) (half : ℕ) (sound : Sound f half) (first : List ℕ) (ot
   ys-count : length ys ≡ q
   ys-count = length-map cells (decoded f) ∙ pieces-length width q bytes
 
-  ys-small : Small half ys
+  ys-small : AllWithinLimit half ys
   ys-small = decoded-all-fit f half (sound .halves) cells-sized cells-bytes
 
-  traces-are : tracesIn f k (m .n) others ≡ pieces (m .n) k ys
-  unfolding tracesIn
+  traces-are : tracesInBlocks f k (m .n) others ≡ pieces (m .n) k ys
+  unfolding tracesInBlocks
   traces-are = ap (λ (b : List ℕ). pieces (m .n) k (map (decoded f) (pieces width q b))) bytes-are
 
   -- what was read is a library
-  pub good-library : Library half m (tracesIn f k (m .n) others)
+  pub good-library : Library half m (tracesInBlocks f k (m .n) others)
   good-library = subst (Library half m) (sym traces-are) (record {
     measured = g .measured;
     room = rw (pieces-length (m .n) k ys) (g .counted);
@@ -171,26 +171,26 @@ module _ (f : Format) (half : ℕ) (sound : Sound f half) (first : List ℕ) (ot
   flat = flatten-all (m .n) k ys (le-of-eq ys-count)
 
   -- what its blocks carry is what these do
-  carried-back : carriedOf f m (tracesIn f k (m .n) others) ≡ headOf m k ∷ pieces size s (codedAll f ys)
-  carried-back = carried-is f half sound m (tracesIn f k (m .n) others) ∙ rw (traces-are, pieces-length (m .n) k ys, flat) refl
+  carried-back : carriedOf f m (tracesInBlocks f k (m .n) others) ≡ headOf m k ∷ pieces size s (codedAll f ys)
+  carried-back = carried-is f half sound m (tracesInBlocks f k (m .n) others) ∙ rw (traces-are, pieces-length (m .n) k ys, flat) refl
 
 -- ---- all blocks
 
-module _ (f : Format) (half : ℕ) (sound : Sound f half) (bytes first : List ℕ) (others : List (List ℕ))
+module _ (f : Format) (half : ℕ) (sound : SoundFormat f half) (bytes first : List ℕ) (others : List (List ℕ))
     (a : AcceptedSheet f bytes (first ∷ others)) where
   abbrev said-measures : Measures
   said-measures = measuresIn first
 
   abbrev said-traces : List (List ℤ)
-  said-traces = tracesIn f (countIn first) (measuresIn first .n) others
+  said-traces = tracesInBlocks f (countIn first) (measuresIn first .n) others
 
-  g : Good f first others
+  g : GoodSheet f first others
   g = none-good f first others (a .good)
 
   pub accepted-library : Library half said-measures said-traces
   accepted-library = by (a .sized) (a .each-bytes)
     where
-      by : Sized blockSize (first ∷ others) → All Bytes (first ∷ others) → Library half said-measures said-traces
+      by : AllOfSize blockSize (first ∷ others) → All Bytes (first ∷ others) → Library half said-measures said-traces
       by (all-more l ls) (all-more h hs) = good-library f half sound first others ls hs g
 
   pub accepted-again : sheetAs f said-measures said-traces ≡ bytes
@@ -199,7 +199,7 @@ module _ (f : Format) (half : ℕ) (sound : Sound f half) (bytes first : List �
       let carry = by (a .sized) (a .each-bytes) in
       ap flatten (blocks-back f 0 (carriedOf f said-measures said-traces) carry (a .sized) (a .each-bytes) (a .untorn) (g .third)) ∙ a .whole
     where
-      by : Sized blockSize (first ∷ others) → All Bytes (first ∷ others)
+      by : AllOfSize blockSize (first ∷ others) → All Bytes (first ∷ others)
           → map (filledTo carriedSize) (carriedOf f said-measures said-traces) ≡ map carriedIn (first ∷ others)
       by (all-more l ls) (all-more h hs) =
           ap (map (filledTo carriedSize)) (carried-back f half sound first others ls hs g)

@@ -11,7 +11,7 @@ use Rattle.integer.specs.Lists.{In, Up}
 use Rattle.dstree.specs.Measures.{Trace, Measures, within}
 use Rattle.dstree.specs.Node.{Tree}
 use Rattle.dstree.specs.Matching.{leaves, readingOrder, readOn, Near, isNearer, bestWith, isAbove, Match, matchOf}
-use Rattle.dstree.specs.WellFormed.{wellFormed}
+use Rattle.dstree.specs.WellFormed.{wellFormedTree}
 use Rattle.dstree.specs.Claims.{ExactTree}
 use Rattle.dstree.specs.KNearest.{distancesAmong, SameIn}
 use Rattle.dstree.specs.Refusals.{Condition, _refuses_, wrongTrace, empty, shortTrail, badBatch}
@@ -90,14 +90,14 @@ unfoldable pub batchRead : List Trace → Tree → List Trace → List ℕ
 batchRead stored tree queries = foldl (readFor stored tree) [] queries
 
 -- the answer by what is best. (There is a best wherever a trace is stored: `StepsClaims`, `answered`)
-unfoldable pub answerBy : Option Near → Near
-answerBy none = record { trace = 0; distance = 0 }
-answerBy (some a) = a
+unfoldable pub nearOrZero : Option Near → Near
+nearOrZero none = record { trace = 0; distance = 0 }
+nearOrZero (some a) = a
 
 unfoldable pub batchBySteps : List Trace → Tree → List Trace → Batch
 batchBySteps stored tree queries =
     let read = batchRead stored tree queries in
-    batchWith tree (map (λ query. answerBy (bestAmong stored tree query read)) queries) read
+    batchWith tree (map (λ query. nearOrZero (bestAmong stored tree query read)) queries) read
 
 -- ---- what is claimed
 
@@ -118,10 +118,10 @@ pub record StepsClaims (stored : List Trace) (tree : Tree) (queries : List Trace
   -- each query has an answer, the nearest of the traces in the leaves read
   pub answered : (query : Trace) → In query queries → NearestOf
       (distancesAmong stored tree query (batchBySteps stored tree queries .trail))
-      (answerBy (bestAmong stored tree query (batchRead stored tree queries)))
+      (nearOrZero (bestAmong stored tree query (batchRead stored tree queries)))
 
 abbrev pub StepsOfFormed : Type 0
-StepsOfFormed = (limit : ℕ) (m : Measures) (stored : List Trace) (tree : Tree) → T (wellFormed limit m (length stored) tree)
+StepsOfFormed = (limit : ℕ) (m : Measures) (stored : List Trace) (tree : Tree) → T (wellFormedTree limit m (length stored) tree)
     → 0 < length stored → (queries : List Trace) → StepsClaims stored tree queries
 
 -- "Samples in leaves off the trail don't bear on a search": on any tree

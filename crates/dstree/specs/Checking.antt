@@ -11,7 +11,7 @@ use Rattle.dstree.specs.Measures.{Trace, Measures, isTrace, isLibrary}
 use Rattle.dstree.specs.Figures.{run}
 use Rattle.dstree.specs.Node.{Segment, leaf, inner, Tree, nodeAt}
 use Rattle.dstree.specs.Adding.{tracesOf, segmentOf, insertion, treeOf}
-use Rattle.dstree.specs.WellFormed.{wellFormed}
+use Rattle.dstree.specs.WellFormed.{wellFormedTree}
 use Rattle.dstree.specs.Claims.{RangesOf, ExactTree}
 
 -- "the traces below", by the leaves' lists: a leaf's own, of an inner node those below its children. Tests do not bear on it. Children
@@ -63,13 +63,13 @@ pub record Exactness (stored : List Trace) (tree : Tree) : Type 0 where
 
 -- .. in any well-formed tree, "whatever made the tables"
 abbrev pub ExactnessOfFormed : Type 0
-ExactnessOfFormed = (limit : ℕ) (m : Measures) (stored : List Trace) (tree : Tree) → T (wellFormed limit m (length stored) tree)
+ExactnessOfFormed = (limit : ℕ) (m : Measures) (stored : List Trace) (tree : Tree) → T (wellFormedTree limit m (length stored) tree)
     → Exactness stored tree
 
 -- "If it accepts, a match must be the nearest stored trace and read the fewest leaves, whatever made the tables": an accepted tree is
 -- exact, which is all that is claimed of a match (`Claims`: `ClaimsOfExact`) and of the k nearest needs
 abbrev pub AcceptedExact : Type 0
-AcceptedExact = (limit : ℕ) (m : Measures) (stored : List Trace) (tree : Tree) → T (wellFormed limit m (length stored) tree)
+AcceptedExact = (limit : ℕ) (m : Measures) (stored : List Trace) (tree : Tree) → T (wellFormedTree limit m (length stored) tree)
     → ((t : ℕ) → t < length stored → length (getD stored t []) ≡ m .n) → T (isExact stored tree) → ExactTree limit m stored tree
 
 -- "It accepts every library made by calls"
@@ -79,5 +79,5 @@ MadeAccepted = (limit : ℕ) (m : Measures) (traces : List Trace) → T (isLibra
 -- adding to a tree that is accepted leaves one that is, whatever made it: where a test was altered, the new trace goes by the altered one
 abbrev pub AddingAccepted : Type 0
 AddingAccepted = (limit : ℕ) (m : Measures) (stored : List Trace) (tree : Tree) (x : Trace)
-    → T (wellFormed limit m (length stored) tree) → T (every (isTrace limit (m .n)) stored) → T (isTrace limit (m .n) x)
+    → T (wellFormedTree limit m (length stored) tree) → T (every (isTrace limit (m .n)) stored) → T (isTrace limit (m .n) x)
     → length stored < m .capacity → T (isExact stored tree) → T (isExact (stored ++ (x ∷ [])) (insertion m stored tree x))

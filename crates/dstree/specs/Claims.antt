@@ -18,7 +18,7 @@ use Rattle.dstree.specs.Node.{Segment, byScatter, Test, leaf, inner, Tre
 use Rattle.dstree.specs.Adding.{way, tracesOf, Candidate, candidates, testOf, Split, splitBy, parts, bestOf, insertion}
 use Rattle.dstree.specs.Adding.{goesBy, showSides, fewestFirst}
 use Rattle.dstree.specs.Matching.{hasChild, bound, numbersIn, leaves, searched, matchBySteps, leastDistance, matchOf}
-use Rattle.dstree.specs.WellFormed.{wellFormed}
+use Rattle.dstree.specs.WellFormed.{wellFormedTree}
 
 -- "what is below a node": a leaf has its traces below it, an inner node what is below a child
 pub data Below (tree : Tree) (trace : ℕ) : ℕ → Type 0 where
@@ -29,7 +29,7 @@ pub data Below (tree : Tree) (trace : ℕ) : ℕ → Type 0 where
 
 pub record ShapeOf (limit : ℕ) (m : Measures) (traces : List Trace) (tree : Tree) : Type 0 where
   -- the well-formed rules, so that "3 never arises from these tables"
-  pub well-formed : T (wellFormed limit m (length traces) tree)
+  pub well-formed : T (wellFormedTree limit m (length traces) tree)
   -- "2c − 1 node records" are enough
   pub node-count : length tree ≤ 2 * length traces - 1
   -- "So a leaf is over size only when no candidate parts it"
@@ -160,7 +160,7 @@ pub record ClaimsOf (traces : List Trace) (tree : Tree) (query : Trace) : Type 0
 -- a tree that is well formed, over traces of n samples, whose records have exactly the figures of the traces below: the tree that insertion makes is
 -- one, and so is any other, whoever made it
 pub record ExactTree (limit : ℕ) (m : Measures) (stored : List Trace) (tree : Tree) : Type 0 where
-  pub well-formed : T (wellFormed limit m (length stored) tree)
+  pub well-formed : T (wellFormedTree limit m (length stored) tree)
   pub of-n : (t : ℕ) → t < length stored → length (getD stored t []) ≡ m .n
   pub ranges : RangesOf stored tree
 

@@ -34,8 +34,14 @@ abbrev pub gains : List ℤ
 gains = map (λ c. gain ABC (4 ∷ []) (0 ∷ 1 ∷ 2 ∷ []) (splitBy ABC (0 ∷ 1 ∷ 2 ∷ []) c)) (candidates (4 ∷ []))
 
 -- trace, distance, leaves read, traces read, trail
-abbrev pub found : ℕ → ℕ → ℕ → ℕ → List ℕ → Match
-found trace distance leaves traces trail = record { trace = trace; distance = distance; leaves = leaves; traces = traces; trail = trail }
+abbrev pub matchWith : ℕ → ℕ → ℕ → ℕ → List ℕ → Match
+matchWith trace distance leaves traces trail = record {
+  trace = trace;
+  distance = distance;
+  leaves = leaves;
+  traces = traces;
+  trail = trail;
+}
 
 -- ---- "n = 3, stored (0,0,0), query (1,0,0)"
 
@@ -74,15 +80,15 @@ pub record StarredExamples : Type 0 where
   pub leaf-2 : nodeAt tree 2 .kind ≡ leaf (1 ∷ 2 ∷ [])
   -- "Query (1,1,1,1): bounds 4 and 36; trace 0, distance 4, trail 1"
   pub bounds-of-1 : map (bound tree (level 1)) (1 ∷ 2 ∷ []) ≡ 4 ∷ 36 ∷ []
-  pub match-of-1 : matchOf ABC tree (level 1) ≡ found 0 4 1 1 (1 ∷ [])
-  pub steps-of-1 : matchBySteps ABC tree (level 1) ≡ some (found 0 4 1 1 (1 ∷ []))
+  pub match-of-1 : matchOf ABC tree (level 1) ≡ matchWith 0 4 1 1 (1 ∷ [])
+  pub steps-of-1 : matchBySteps ABC tree (level 1) ≡ some (matchWith 0 4 1 1 (1 ∷ []))
   -- "Query (2,2,2,2): both bounds 16; trace 0, distance 16, trail 1, 2, three traces read"
   pub bounds-of-2 : map (bound tree (level 2)) (1 ∷ 2 ∷ []) ≡ 16 ∷ 16 ∷ []
-  pub match-of-2 : matchOf ABC tree (level 2) ≡ found 0 16 2 3 (1 ∷ 2 ∷ [])
-  pub steps-of-2 : matchBySteps ABC tree (level 2) ≡ some (found 0 16 2 3 (1 ∷ 2 ∷ []))
+  pub match-of-2 : matchOf ABC tree (level 2) ≡ matchWith 0 16 2 3 (1 ∷ 2 ∷ [])
+  pub steps-of-2 : matchBySteps ABC tree (level 2) ≡ some (matchWith 0 16 2 3 (1 ∷ 2 ∷ []))
   -- "Query (4,4,4,4): trace 1, distance 0, trail 2"
-  pub match-of-4 : matchOf ABC tree (level 4) ≡ found 1 0 1 2 (2 ∷ [])
-  pub steps-of-4 : matchBySteps ABC tree (level 4) ≡ some (found 1 0 1 2 (2 ∷ []))
+  pub match-of-4 : matchOf ABC tree (level 4) ≡ matchWith 1 0 1 2 (2 ∷ [])
+  pub steps-of-4 : matchBySteps ABC tree (level 4) ≡ some (matchWith 1 0 1 2 (2 ∷ []))
   -- "n = 3, stored (0,0,0), query (1,0,0): scatter 2, g = h = 1, bound 2/3 rounded up to 1"
   pub scatter-of-3 : scatter query3 ≡ 2
   pub tree-of-3 : treeOf (measures 3 8 2) stored3 ≡ node (segment3 ∷ []) (leaf (0 ∷ [])) ∷ []

@@ -7,7 +7,7 @@ use mathlib.Core.List.{List, [], _∷_, _++_, map, foldl, flatten}
 use lib.ListN.{length, take}
 use lib.Dec.{T}
 use Rattle.integer.specs.Words.{total, counting, those, isIn}
-use Rattle.integer.specs.Sorting.{insertedBy, sortedBy, atPlace}
+use Rattle.integer.specs.Sorting.{sortedWith, sortedBy, atPlace}
 use Rattle.segment.specs.Figures.{distance}
 use Rattle.dstree.specs.Measures.{Trace, within}
 use Rattle.dstree.specs.Node.{Tree, nodeAt}
@@ -60,7 +60,7 @@ pub record Listing : Type 0 where
 
 -- the k nearest so far, and one more
 abbrev pub listWith : ℕ → List Near → Near → List Near
-listWith k list a = take k (insertedBy isNearer a list)
+listWith k list a = take k (sortedWith isNearer a list)
 
 -- to read a leaf
 unfoldable pub readInto : ℕ → List Trace → Tree → Trace → Listing → ℕ → Listing
@@ -123,8 +123,8 @@ inRank (a ∷ []) = true
 inRank (a ∷ (b ∷ rest)) = isNearer a b && inRank (b ∷ rest)
 
 -- the numbers of a list
-abbrev pub numbersOf : List Near → List ℕ
-numbersOf = map (λ (a : Near). a .trace)
+abbrev pub traceNumbers : List Near → List ℕ
+traceNumbers = map (λ (a : Near). a .trace)
 
 -- the list, of any stored traces
 pub record ListClaims (k : ℕ) (stored : List Trace) (query : Trace) : Type 0 where
@@ -136,7 +136,7 @@ pub record ListClaims (k : ℕ) (stored : List Trace) (query : Trace) : Type 0 w
       → (a .trace < length stored) × (a ≡ nearAt stored query (a .trace))
   -- "the k nearest": each listed one comes before every stored one that is not listed
   pub nearest : (place : ℕ) (a : Near) (trace : ℕ) → atPlace place (nearestList k stored query) ≡ some a → trace < length stored
-      → T (not (isIn trace (numbersOf (nearestList k stored query)))) → T (isNearer a (nearAt stored query trace))
+      → T (not (isIn trace (traceNumbers (nearestList k stored query)))) → T (isNearer a (nearAt stored query trace))
   -- "A shorter list must be the beginning of a longer one"
   pub shorter : (j : ℕ) → j ≤ k → nearestList j stored query ≡ take j (nearestList k stored query)
 

@@ -143,13 +143,13 @@ pub record Match : Type 0 where
   pub trail : List ℕ
 
 -- what a search answers; none where nothing is stored, which is refused
-unfoldable pub answerOf : Search → Option Near → Option Match
-answerOf s none = none
-answerOf s (some best) = some (record { trace = best .trace; distance = best .distance; leaves = length (s .trail); traces = s .traces; trail = s .trail })
+unfoldable pub matchFrom : Search → Option Near → Option Match
+matchFrom s none = none
+matchFrom s (some best) = some (record { trace = best .trace; distance = best .distance; leaves = length (s .trail); traces = s .traces; trail = s .trail })
 
 -- the match by its steps: it holds for any well-formed tables
 unfoldable pub matchBySteps : List Trace → Tree → Trace → Option Match
-matchBySteps stored tree query = let s = searched stored tree query in answerOf s (s .best)
+matchBySteps stored tree query = let s = searched stored tree query in matchFrom s (s .best)
 
 -- ---- the match in closed form: "Demand 3"
 

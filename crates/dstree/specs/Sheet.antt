@@ -175,8 +175,8 @@ module _ (f : Format) where
   sampleBytesIn others = flatten (map (λ (b : List ℕ). take (sampleSize f) (carriedIn b)) others)
 
   -- the traces of those blocks
-  unfoldable pub tracesIn : ℕ → ℕ → List (List ℕ) → List Trace
-  tracesIn count n others = pieces n count (map decoded (pieces (f .sampleBytes) (count * n) (sampleBytesIn others)))
+  unfoldable pub tracesInBlocks : ℕ → ℕ → List (List ℕ) → List Trace
+  tracesInBlocks count n others = pieces n count (map decoded (pieces (f .sampleBytes) (count * n) (sampleBytesIn others)))
 
 -- ---- reading: what is refused
 
@@ -249,7 +249,7 @@ module _ (f : Format) where
   -- what the blocks hold. (A sheet that is not refused has a block)
   unfoldable pub libraryIn : List (List ℕ) → Judged
   libraryIn [] = refused sheetLength
-  libraryIn (first ∷ others) = holds (measuresIn first) (tracesIn f (countIn first) (measuresIn first .n) others)
+  libraryIn (first ∷ others) = holds (measuresIn first) (tracesInBlocks f (countIn first) (measuresIn first .n) others)
 
   unfoldable pub judgeAs : List ℕ → Judged
   judgeAs bytes = judgedBy (firstOf (conditionsAs f bytes)) (libraryIn (blocksIn bytes))

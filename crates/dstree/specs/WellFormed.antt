@@ -97,7 +97,7 @@ nodeFits limit n tree number a =
     && segmentsFit limit 1 (a .segments) && testFits limit n (a .kind)
 
 -- `count` traces under these measures with this tree
-unfoldable pub wellFormed : ℕ → Measures → ℕ → Tree → Bool
-wellFormed limit m count tree =
+unfoldable pub wellFormedTree : ℕ → Measures → ℕ → Tree → Bool
+wellFormedTree limit m count tree =
     inRange m && leb count (m .capacity) && Bool·beq (eqb (length tree) 0) (eqb count 0)
     && everyNode (nodeFits limit (m .n) tree) 0 tree && childOnce tree && inOneLeaf count tree

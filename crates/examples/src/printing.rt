@@ -1,7 +1,7 @@
 // Answers as text, on standard output. No contract can speak of output, so that nothing here has one.
 
-use crate::steps::Grown;
-use crate::steps::Matched;
+use crate::steps::AddingStep;
+use crate::steps::MatchStep;
 use adding::Added;
 use matching::Found;
 use opening::Opened;
@@ -38,7 +38,7 @@ pub fn opened(answer: Opened) {
     line_end();
 }
 
-pub fn grown(step: Grown) {
+pub fn grown(step: AddingStep) {
     let answer = step.answer;
     match answer {
         Added::At(k) => item(b"added ", k),
@@ -80,7 +80,7 @@ fn read_on(trail: &[u16], leaves: u64) {
     }
 }
 
-pub fn matched(step: Matched) {
+pub fn matched(step: MatchStep) {
     let answer = step.answer;
     let trail = step.trail;
     match answer {

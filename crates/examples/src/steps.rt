@@ -13,13 +13,13 @@ ghost use Rattle.matching.specs.Answered as found;
 ghost use Rattle.examples.specs.Steps.{trailJunk, starredIn};
 
 // What an adding answers, and how many nodes there are then.
-pub struct Grown {
+pub struct AddingStep {
     pub answer: Added,
     pub nodes: u16,
 }
 
 // What a match answers, and the trail that it leaves.
-pub struct Matched {
+pub struct MatchStep {
     pub answer: Found,
     pub trail: [u16; 3],
 }
@@ -31,8 +31,8 @@ pub fn add_to(
     links: &mut [u16],
     work: &[u64],
     trace: &[i16],
-) -> Grown
-    ensures { λ r. ⌜ (outcome (added.answerOf (r .answer))
+) -> AddingStep
+    ensures { λ r. ⌜ (outcome (added.answerBy (r .answer))
         (tables (now (control .exit)) (now (samples .exit)) (now (nodes .exit)) (now (links .exit)) (now (work .entry))) []
         ≡ outcomeOn (adding (now (trace .entry)))
         (tables (now (control .entry)) (now (samples .entry)) (now (nodes .entry)) (now (links .entry)) (now (work .entry))))
@@ -41,7 +41,7 @@ pub fn add_to(
 {
     let answer = adding::add(control, samples, nodes, links, work, trace);
     let count = tables::control::field(control, tables::places::NODE_COUNT);
-    Grown {
+    AddingStep {
         answer: answer,
         nodes: count,
     }
@@ -55,7 +55,7 @@ pub fn match_of(
     links: &[u16],
     work: &mut [u64],
     query: &[i16],
-) -> Matched
+) -> MatchStep
     ensures { λ r. ⌜ outcome (found.answerBy (r .answer) (r .trail))
         (tables (now (control .entry)) (now (samples .entry)) (now (nodes .entry)) (now (links .entry)) (now (work .exit))) (r .trail ∷ [])
         ≡ outcomeOn (matching (now (query .entry)) trailJunk)
@@ -63,7 +63,7 @@ pub fn match_of(
 {
     let mut trail = [7u16; 3];
     let answer = matching::nearest(control, samples, nodes, links, work, &mut trail, query);
-    Matched {
+    MatchStep {
         answer: answer,
         trail: trail,
     }

@@ -19,9 +19,9 @@ Above m [] = Unit {0}
 Above m (x ∷ xs) = (m ≤ x) × Above m xs
 
 -- a list is in order
-abbrev pub Sorted : List ℕ → Type 0
-Sorted [] = Unit {0}
-Sorted (x ∷ xs) = Above x xs × Sorted xs
+abbrev pub SortedKeys : List ℕ → Type 0
+SortedKeys [] = Unit {0}
+SortedKeys (x ∷ xs) = Above x xs × SortedKeys xs
 
 pub le-or-lt : (a b : ℕ) → (a ≤ b) ⊎ (b < a)
 le-or-lt a b = go (leb a b) refl where
@@ -118,7 +118,7 @@ above-insert m a (x ∷ xs) h k =
     let ih = above-insert m a xs h (k .1) in
     ⊎-elim (λ (p : a ≤ x). rw (insert-here a x xs p) (h, k)) (λ (p : x < a). rw (insert-past a x xs p) (k .0, ih)) (le-or-lt a x)
 
-pub sorted-insert : (a : ℕ) (l : List ℕ) → Sorted l → Sorted (insertKey a l)
+pub sorted-insert : (a : ℕ) (l : List ℕ) → SortedKeys l → SortedKeys (insertKey a l)
 sorted-insert a [] s = rw (insert-nil a) (tt, tt)
 sorted-insert a (x ∷ xs) s =
     let ih = sorted-insert a xs (s .1) in
@@ -162,7 +162,7 @@ unfolding pour
 above-pour m [] l h k = k
 above-pour m (x ∷ xs) l h k = above-insert m x (pour xs l) (h .0) (above-pour m xs l (h .1) k)
 
-pub sorted-pour : (xs l : List ℕ) → Sorted l → Sorted (pour xs l)
+pub sorted-pour : (xs l : List ℕ) → SortedKeys l → SortedKeys (pour xs l)
 unfolding pour
 sorted-pour [] l s = s
 sorted-pour (x ∷ xs) l s = sorted-insert x (pour xs l) (sorted-pour xs l s)
@@ -173,7 +173,7 @@ length-pour [] l = omega arith
 length-pour (x ∷ xs) l = omega (arith, length-insert x (pour xs l), length-pour xs l)
 
 -- what is in order is its own order
-pub sorted-same : (l : List ℕ) → Sorted l → sortedOf l ≡ l
+pub sorted-same : (l : List ℕ) → SortedKeys l → sortedOf l ≡ l
 sorted-same [] s = pour-nil []
 sorted-same (x ∷ xs) s = rw (pour-cons x xs [], sorted-same xs (s .1)) (insert-first x xs (s .0))
 

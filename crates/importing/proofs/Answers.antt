@@ -11,7 +11,7 @@ use Rattle.dstree.specs.Refusals.{Refusal, firstOf, full, badRecording}
 use Rattle.dstree.specs.Recording.{Recording, judgeRecording, isBadFile, fileTraces}
 use Rattle.dstree.specs.Book.{importing, besideOf, imported, refusing, answering}
 use Rattle.tables.specs.Tables.{Tables, measuresOf}
-use Rattle.recording.specs.Found.{tracesHeld}
+use Rattle.recording.specs.FileTraces.{tracesRecorded}
 use Rattle.calls.specs.Outcome.{unlessRefused}
 use Rattle.calls.specs.Effects.{imports, effectOf, outcomeOn}
 use Rattle.importing.specs.Answered.{countUnless, fileAnswer}
@@ -19,23 +19,23 @@ use Rattle.importing.specs.Answered.{countUnless, fileAnswer}
 -- ---- of a file
 
 module _ (m : Measures) (stored : ℕ) where
-  pub bad-answer : (file : Option Recording) → none ≡ tracesHeld file → refusing badRecording ≡ fileAnswer m stored file
-  unfolding tracesHeld countUnless firstOf isBadFile
+  pub bad-answer : (file : Option Recording) → none ≡ tracesRecorded file → refusing badRecording ≡ fileAnswer m stored file
+  unfolding tracesRecorded countUnless firstOf isBadFile
   bad-answer none e = refl
   bad-answer (some r) e = let z : _≡_ {A = ℕ} 0 1 = cc in absurd (omega arith)
 
   module _ (fits : stored ≤ m .capacity) (count : ℕ) where
-    pub full-answer : (file : Option Recording) → some count ≡ tracesHeld file → m .capacity - stored < count
+    pub full-answer : (file : Option Recording) → some count ≡ tracesRecorded file → m .capacity - stored < count
         → refusing full ≡ fileAnswer m stored file
-    unfolding tracesHeld countUnless firstOf isBadFile fileTraces
+    unfolding tracesRecorded countUnless firstOf isBadFile fileTraces
     full-answer none e less = let z : _≡_ {A = ℕ} 0 1 = cc in absurd (omega arith)
     full-answer (some r) e less =
         let k : count ≡ length (r .traces) = cc in
         rw (lt-ltb (m .capacity) (stored + length (r .traces)) (omega (arith, k, less, fits)))
 
-    pub count-answer : (file : Option Recording) → some count ≡ tracesHeld file → count ≤ m .capacity - stored
+    pub count-answer : (file : Option Recording) → some count ≡ tracesRecorded file → count ≤ m .capacity - stored
         → answering (imported count) ≡ fileAnswer m stored file
-    unfolding tracesHeld countUnless firstOf isBadFile fileTraces
+    unfolding tracesRecorded countUnless firstOf isBadFile fileTraces
     count-answer none e room = let z : _≡_ {A = ℕ} 0 1 = cc in absurd (omega arith)
     count-answer (some r) e room =
         let k : count ≡ length (r .traces) = cc in
@@ -55,21 +55,21 @@ counted-by (some w) k count e = let z : _≡_ {A = ℕ} 0 1 = cc in absurd (omeg
 
 module _ (t : Tables) (bytes : List ℕ) where
   -- how many traces the file has
-  abbrev held : ℕ
-  held = length (fileTraces (judgeRecording (measuresOf t .n) bytes))
+  abbrev file-count : ℕ
+  file-count = length (fileTraces (judgeRecording (measuresOf t .n) bytes))
 
-  pub answer-is : countUnless (firstOf (imports t bytes .conditions)) held ≡ outcomeOn (importing bytes) t .answer
+  pub answer-is : countUnless (firstOf (imports t bytes .conditions)) file-count ≡ outcomeOn (importing bytes) t .answer
   unfolding outcomeOn effectOf besideOf imports unlessRefused countUnless
   answer-is = by (firstOf (imports t bytes .conditions))
     where
-      by : (o : Option Refusal) → countUnless o held ≡ unlessRefused o t [] (imports t bytes) .answer
+      by : (o : Option Refusal) → countUnless o file-count ≡ unlessRefused o t [] (imports t bytes) .answer
       by none = refl
       by (some why) = refl
 
   pub refused-first : (why : Refusal) → refusing why ≡ outcomeOn (importing bytes) t .answer
       → firstOf (imports t bytes .conditions) ≡ some why
-  refused-first why e = refused-by (firstOf (imports t bytes .conditions)) held why (e ∙ sym answer-is)
+  refused-first why e = refused-by (firstOf (imports t bytes .conditions)) file-count why (e ∙ sym answer-is)
 
   pub counted : (count : ℕ) → answering (imported count) ≡ outcomeOn (importing bytes) t .answer
-      → (firstOf (imports t bytes .conditions) ≡ none) × (count ≡ held)
-  counted count e = counted-by (firstOf (imports t bytes .conditions)) held count (e ∙ sym answer-is)
+      → (firstOf (imports t bytes .conditions) ≡ none) × (count ≡ file-count)
+  counted count e = counted-by (firstOf (imports t bytes .conditions)) file-count count (e ∙ sym answer-is)

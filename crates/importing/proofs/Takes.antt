@@ -24,7 +24,7 @@ use Rattle.insertion_memory.proofs.Keeps.{first-size, takes-rest}
 use Rattle.adding.specs.Putting.{Takes}
 use Rattle.calls.specs.Effects.{imports}
 use Rattle.calls.proofs.OneCall.{import-takes}
-use Rattle.importing.specs.Loads.{Loads}
+use Rattle.importing.specs.Loads.{LoadsFile}
 
 -- ---- the next one
 
@@ -90,7 +90,7 @@ module _ (t : Tables) (bytes : List ℕ) (e : firstOf (imports t bytes .conditio
   traces-are = are-traces (isRecording n bytes) _ sound
 
   pub loads : T (areBytes bytes) → T (areSamples (t .samples)) → (count : ℕ) → count ≡ length (fileTraces (judgeRecording n bytes))
-      → Loads (t .control) (t .samples) (t .nodes) (t .links) bytes n count
+      → LoadsFile (t .control) (t .samples) (t .nodes) (t .links) bytes n count
   loads are-bytes typed count counted = record {
     size = refl;
     sound = sound;

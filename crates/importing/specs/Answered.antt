@@ -12,9 +12,9 @@ use Rattle.importing.specs.declared.Imported.{Imported}
 use Rattle.importing.specs.declared.Imported.the-variants as i
 
 -- "the answer is how many"
-unfoldable pub answerOf : Imported → Answer
-answerOf (i.Traces count) = answering (imported count)
-answerOf (i.Refused why) = refusing (wordOf why)
+unfoldable pub answerBy : Imported → Answer
+answerBy (i.Traces count) = answering (imported count)
+answerBy (i.Refused why) = refusing (wordOf why)
 
 -- by the first condition that holds: a refusal, or so many traces
 unfoldable pub countUnless : Option word.Refusal → ℕ → Answer

@@ -2,7 +2,7 @@
 // file is judged once: what is found is the answer of the call.
 
 use crate::Imported;
-use recording::Found;
+use recording::FileTraces;
 use recording::judging::judge_recording;
 use tables::Refusal;
 use tables::Verdict;
@@ -20,13 +20,13 @@ ghost use Rattle.dstree.specs.Recording.{judgeRecording};
 ghost use Rattle.dstree.specs.Book.{importing};
 ghost use Rattle.tables.specs.Tables.{tables, measuresOf, traceCount};
 ghost use Rattle.calls.specs.Effects.{outcomeOn};
-ghost use Rattle.importing.specs.Answered.{answerOf, fileAnswer};
+ghost use Rattle.importing.specs.Answered.{answerBy, fileAnswer};
 
 // What is refused behind the tables.
 fn judge_file(control: &[u16], bytes: &[u8]) -> Imported
     requires { ⌜ (0 < measuresOf (tables (now control) [] [] [] []) .n)
         × (traceCount (tables (now control) [] [] [] []) ≤ measuresOf (tables (now control) [] [] [] []) .capacity) ⌝ }
-    ensures { λ r. ⌜ answerOf r ≡ fileAnswer (measuresOf (tables (now (control .entry)) [] [] [] []))
+    ensures { λ r. ⌜ answerBy r ≡ fileAnswer (measuresOf (tables (now (control .entry)) [] [] [] []))
         (traceCount (tables (now (control .entry)) [] [] [] []))
         (judgeRecording (measuresOf (tables (now (control .entry)) [] [] [] []) .n) (now (bytes .entry))) ⌝ }
 {
@@ -35,8 +35,8 @@ fn judge_file(control: &[u16], bytes: &[u8]) -> Imported
     let k = wider(field(control, TRACE_COUNT));
     let found = judge_recording(bytes, n);
     match found {
-        Found::Bad => Imported::Refused(Refusal::BadRecording),
-        Found::Traces(count) => {
+        FileTraces::Bad => Imported::Refused(Refusal::BadRecording),
+        FileTraces::Traces(count) => {
             if capacity - k < count {
                 return Imported::Refused(Refusal::Full);
             }
@@ -53,7 +53,7 @@ pub fn judge(
     work: &[u64],
     bytes: &[u8],
 ) -> Imported
-    ensures { λ r. ⌜ answerOf r ≡ outcomeOn (importing (now (bytes .entry)))
+    ensures { λ r. ⌜ answerBy r ≡ outcomeOn (importing (now (bytes .entry)))
         (tables (now (control .entry)) (now (samples .entry)) (now (nodes .entry)) (now (links .entry)) (now (work .entry))) .answer ⌝ }
 {
     let made = judge_tables(control, samples, nodes, links, work);

@@ -14,7 +14,7 @@ ghost use Rattle.dstree.specs.Book.{importing};
 ghost use Rattle.tables.specs.Tables.{tables};
 ghost use Rattle.calls.specs.Outcome.{outcome};
 ghost use Rattle.calls.specs.Effects.{outcomeOn};
-ghost use Rattle.importing.specs.Answered.{answerOf};
+ghost use Rattle.importing.specs.Answered.{answerBy};
 
 // How many traces were added, or a refusal.
 pub enum Imported {
@@ -36,7 +36,7 @@ pub fn import_recording(
     work: &[u64],
     bytes: &[u8],
 ) -> Imported
-    ensures { λ r. ⌜ outcome (answerOf r)
+    ensures { λ r. ⌜ outcome (answerBy r)
         (tables (now (control .exit)) (now (samples .exit)) (now (nodes .exit)) (now (links .exit)) (now (work .entry)))
         []
         ≡ outcomeOn (importing (now (bytes .entry)))

@@ -9,7 +9,7 @@ ghost use lib.ListN.{length, getD};
 ghost use Rattle.dstree.specs.Recording.{recordedTraces};
 ghost use Rattle.tables.specs.Tables.{tables};
 ghost use Rattle.insertion_memory.specs.Memory.{addedTo};
-ghost use Rattle.importing.specs.Loads.{Next, Loads};
+ghost use Rattle.importing.specs.Loads.{NextInFile, LoadsFile};
 
 // The trace with this number, into tables that refuse nothing of it. `trace` is a place for its samples.
 fn put_next(
@@ -21,7 +21,7 @@ fn put_next(
     number: usize,
     trace: &mut [i16],
 )
-    requires { ⌜ Next (now control) (now samples) (now nodes) (now links) (now bytes) (length (now trace)) number ⌝ }
+    requires { ⌜ NextInFile (now control) (now samples) (now nodes) (now links) (now bytes) (length (now trace)) number ⌝ }
     ensures { λ _. ⌜ ((work : List ℕ) → tables (now (control .exit)) (now (samples .exit)) (now (nodes .exit)) (now (links .exit)) work
         ≡ addedTo (tables (now (control .entry)) (now (samples .entry)) (now (nodes .entry)) (now (links .entry)) work)
         (getD (recordedTraces (length (now (trace .entry))) (now (bytes .entry))) number [])) ⌝ }
@@ -40,7 +40,7 @@ fn put_one(
     n: usize,
     number: usize,
 )
-    requires { ⌜ Next (now control) (now samples) (now nodes) (now links) (now bytes) n number ⌝ }
+    requires { ⌜ NextInFile (now control) (now samples) (now nodes) (now links) (now bytes) n number ⌝ }
     ensures { λ _. ⌜ ((work : List ℕ) → tables (now (control .exit)) (now (samples .exit)) (now (nodes .exit)) (now (links .exit)) work
         ≡ addedTo (tables (now (control .entry)) (now (samples .entry)) (now (nodes .entry)) (now (links .entry)) work)
         (getD (recordedTraces n (now (bytes .entry))) number [])) ⌝ }
@@ -67,7 +67,7 @@ pub fn load(
     n: usize,
     count: usize,
 )
-    requires { ⌜ Loads (now control) (now samples) (now nodes) (now links) (now bytes) n count ⌝ }
+    requires { ⌜ LoadsFile (now control) (now samples) (now nodes) (now links) (now bytes) n count ⌝ }
     ensures { λ _. ⌜ ((work : List ℕ) → tables (now (control .exit)) (now (samples .exit)) (now (nodes .exit)) (now (links .exit)) work
         ≡ foldl addedTo (tables (now (control .entry)) (now (samples .entry)) (now (nodes .entry)) (now (links .entry)) work)
         (recordedTraces n (now (bytes .entry)))) ⌝ }

@@ -1,4 +1,4 @@
--- The way down by the node table: one step of it, where it ends, that it is document 01's `way`, and what code that goes down knows at each node (`Going`).
+-- The way down by the node table: one step of it, where it ends, that it is document 01's `way`, and what code that goes down knows at each node (`GoingDown`).
 -- A child is numbered above its parent, so that a node is met once: records met later are as they were.
 use mathlib.Core.Path.{_≡_, refl, sym, ap, subst, _∙_}
 use mathlib.Core.Bool.{Bool, true, false}
@@ -159,7 +159,7 @@ widen-length : (x : Trace) (r : List ℤ) {n : ℕ} → Readable r n → length 
 widen-length x r ok = ap length (sym (partly-all x r)) ∙ partly-length x r (smallAt r segmentsPlace) (omega (arith, ok .few, ok .size))
 
 -- the nodes before `at` on the way are widened, every record from `at` on is as it was, and what is left to do comes to the whole
-pub record Going (nodes : List ℤ) (count : ℕ) (x : Trace) (now : List ℤ) (at : ℕ) : Type 0 where
+pub record GoingDown (nodes : List ℤ) (count : ℕ) (x : Trace) (now : List ℤ) (at : ℕ) : Type 0 where
   pub inside : at < count
   pub same-length : length now ≡ length nodes
   pub same : (j : ℕ) → at ≤ j → j < count → recordOf now j ≡ recordOf nodes j
@@ -167,10 +167,10 @@ pub record Going (nodes : List ℤ) (count : ℕ) (x : Trace) (now : List ℤ) (
   pub last : lastOf (wayIn nodes count x at) ≡ lastOf (wayIn nodes count x 0)
 
 module _ {nodes : List ℤ} {count n : ℕ} (ok : Descendable nodes count n) (x : Trace) where
-  pub going-starts : Going nodes count x nodes 0
+  pub going-starts : GoingDown nodes count x nodes 0
   going-starts = record { inside = ok .some-node; same-length = refl; same = λ j a b. refl; left = refl; last = refl }
 
-  module _ {now : List ℤ} {at : ℕ} (g : Going nodes count x now at) where
+  module _ {now : List ℤ} {at : ℕ} (g : GoingDown nodes count x now at) where
     pub fits : at * recordPlaces + recordPlaces ≤ length now
     fits = omega (arith, g .inside, g .same-length, ok .room)
 
@@ -184,7 +184,7 @@ module _ {nodes : List ℤ} {count n : ℕ} (ok : Descendable nodes count n) (x 
     widened-length = with-length now at (widenRecord x (recordOf now at)) fits widened-size ∙ g .same-length
 
     -- on to a child
-    pub on-to : (c : ℕ) → nextIn (recordOf nodes at) x ≡ some c → Going nodes count x (onRecord (widenRecord x) now at) c
+    pub on-to : (c : ℕ) → nextIn (recordOf nodes at) x ≡ some c → GoingDown nodes count x (onRecord (widenRecord x) now at) c
     on-to c q =
         let b = child-above ok x at (g .inside) c q in
         record {
@@ -216,5 +216,5 @@ module _ {nodes : List ℤ} {count n : ℕ} (ok : Descendable nodes count n) (x 
       pub falls : (next ≡ 0 → ⊥) → (at < next) × (next < count)
       falls f = child-above ok x at (g .inside) next (at-inner f)
 
-      pub goes-on : (next ≡ 0 → ⊥) → Going nodes count x (onRecord (widenRecord x) now at) next
+      pub goes-on : (next ≡ 0 → ⊥) → GoingDown nodes count x (onRecord (widenRecord x) now at) next
       goes-on f = on-to next (at-inner f)

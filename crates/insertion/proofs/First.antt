@@ -15,14 +15,14 @@ use Rattle.tables.specs.Layout.{headPlaces, recordPlaces}
 use Rattle.tables.specs.Tables.{filled}
 use Rattle.insertion_memory.specs.Records.{segmentFields, fieldsOf, leafRecord}
 use Rattle.insertion.specs.Widening.{withSegment}
-use Rattle.insertion.specs.Heads.{leafHead, segmentBy}
+use Rattle.insertion.specs.Heads.{leafHead, segmentOfParts}
 
 whole : (x : Trace) → samplesOn (run 1 (length x)) x ≡ x
 unfolding samplesOn
 whole x = let e : suc (length x) - 1 ≡ length x = omega arith in ap (λ (w : ℕ). take w x) e ∙ take-all (length x) x (omega arith)
 
 pub first-is : (r : List ℤ) (x : Trace) → length r ≡ recordPlaces
-    → withSegment (leafHead 1 0 ++ drop headPlaces (filled recordPlaces (pos 0) r)) 0 (segmentBy (length x) (sum x) (sum x) (scatter x) (scatter x))
+    → withSegment (leafHead 1 0 ++ drop headPlaces (filled recordPlaces (pos 0) r)) 0 (segmentOfParts (length x) (sum x) (sum x) (scatter x) (scatter x))
     ≡ leafRecord (segmentsOf (length x ∷ []) (x ∷ [])) 0
 unfolding withSegment segmentFields fieldsOf leafRecord flatten chosen segmentOf segmentsFrom
 first-is r x size =

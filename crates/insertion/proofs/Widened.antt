@@ -14,7 +14,7 @@ use Rattle.dstree.specs.Figures.{Run, run, sumOn, scatterOn}
 use Rattle.dstree.specs.Node.{Segment, changeAll}
 use Rattle.dstree.specs.Adding.{widenSegment}
 use Rattle.tables.specs.Layout.{segmentsPlace, headPlaces, segmentPlaces, segmentAt, recordPlaces}
-use Rattle.tables.specs.View.{smallOf, scatterIn, placeOf, smallAt, segmentIn, segmentsIn}
+use Rattle.tables.specs.View.{smallOf, scatterIn, valueAt, smallAt, segmentIn, segmentsIn}
 use Rattle.tables.specs.Runs.{Inside}
 use Rattle.tables.proofs.Small.{small-back, scatter-back}
 use Rattle.insertion_memory.specs.Records.{segmentFields, fieldsOf, widenRecord}
@@ -35,7 +35,7 @@ stored r p q₁ q₂ q₃ q₄ a b c d h e₁ e₂ e₃ e₄ =
 
 -- ---- a segment, widened in place
 
-later : (r : List ℤ) (p q : ℕ) (a b : ℤ) (k : ℕ) → p < k → q < k → placeOf (set (set r p a) q b) k ≡ placeOf r k
+later : (r : List ℤ) (p q : ℕ) (a b : ℤ) (k : ℕ) → p < k → q < k → valueAt (set (set r p a) q b) k ≡ valueAt r k
 later r p q a b k g h = getD-set-other (set r p a) q k b (pos 0) (λ e. omega arith) ∙ getD-set-other r p k a (pos 0) (λ e. omega arith)
 
 fields : {e e′ a b b′ c c′ d d′ : ℤ} → e ≡ e′ → b ≡ b′ → c ≡ c′ → d ≡ d′ → _≡_ {A = List ℤ} (e ∷ a ∷ b ∷ c ∷ d ∷ []) (e′ ∷ a ∷ b′ ∷ c′ ∷ d′ ∷ [])
@@ -55,24 +55,24 @@ module _ (r : List ℤ) (i first n : ℕ) (narrow : n ≤ 256) (size : length r 
   unfolding withSegment widenSegment segmentFields segmentIn
   widened-stored =
       let v = scatterOn on x in
-      let low = placeOf r (place + 3) in
-      let high = placeOf r (place + 4) in
+      let low = valueAt r (place + 3) in
+      let high = valueAt r (place + 4) in
       let greatest-place : place + 1 + 1 ≡ place + 2 = omega arith in
       let high-place : place + 3 + 1 ≡ place + 4 = omega arith in
-      let end-back : placeOf r place ≡ pos (endIn r i) = sym (small-back (placeOf r place) (omega (arith, ok .on .to-n, narrow))) in
-      let greatest : greater (placeOf r (place + 1 + 1)) (sumOn on x) ≡ greater (placeOf r (place + 2)) (sumOn on x) = rw greatest-place in
-      let least-scatter : lesser (placeOf sums (place + 3)) (pos v) ≡ pos (min (scatterIn low) v) =
-      ap (λ (z : ℤ). lesser z (pos v)) (later r (place + 1) (place + 1 + 1) (lesser (placeOf r (place + 1)) (sumOn on x)) (greater (placeOf r (place + 1 + 1)) (sumOn on x))
+      let end-back : valueAt r place ≡ pos (endIn r i) = sym (small-back (valueAt r place) (omega (arith, ok .on .to-n, narrow))) in
+      let greatest : greater (valueAt r (place + 1 + 1)) (sumOn on x) ≡ greater (valueAt r (place + 2)) (sumOn on x) = rw greatest-place in
+      let least-scatter : lesser (valueAt sums (place + 3)) (pos v) ≡ pos (min (scatterIn low) v) =
+      ap (λ (z : ℤ). lesser z (pos v)) (later r (place + 1) (place + 1 + 1) (lesser (valueAt r (place + 1)) (sumOn on x)) (greater (valueAt r (place + 1 + 1)) (sumOn on x))
       (place + 3) (omega arith) (omega arith)
       ∙ sym (scatter-back low (ok .least-scatter)))
       ∙ lesser-pos (scatterIn low) v in
-      let greatest-scatter : greater (placeOf sums (place + 3 + 1)) (pos v) ≡ pos (max (scatterIn high) v) =
-      ap (λ (z : ℤ). greater z (pos v)) (later r (place + 1) (place + 1 + 1) (lesser (placeOf r (place + 1)) (sumOn on x)) (greater (placeOf r (place + 1 + 1)) (sumOn on x))
+      let greatest-scatter : greater (valueAt sums (place + 3 + 1)) (pos v) ≡ pos (max (scatterIn high) v) =
+      ap (λ (z : ℤ). greater z (pos v)) (later r (place + 1) (place + 1 + 1) (lesser (valueAt r (place + 1)) (sumOn on x)) (greater (valueAt r (place + 1 + 1)) (sumOn on x))
       (place + 3 + 1) (omega arith) (omega arith)
-      ∙ (ap (placeOf r) high-place ∙ sym (scatter-back high (ok .greatest-scatter))))
+      ∙ (ap (valueAt r) high-place ∙ sym (scatter-back high (ok .greatest-scatter))))
       ∙ greater-pos (scatterIn high) v in
       stored r place (place + 1) (place + 1 + 1) (place + 3) (place + 3 + 1)
-      (lesser (placeOf r (place + 1)) (sumOn on x)) (greater (placeOf r (place + 1 + 1)) (sumOn on x)) (lesser (placeOf sums (place + 3)) (pos v)) (greater (placeOf sums (place + 3 + 1)) (pos v))
+      (lesser (valueAt r (place + 1)) (sumOn on x)) (greater (valueAt r (place + 1 + 1)) (sumOn on x)) (lesser (valueAt sums (place + 3)) (pos v)) (greater (valueAt sums (place + 3 + 1)) (pos v))
       (omega arith) refl (omega arith) refl (omega arith)
       ∙ ap (λ (l : List ℤ). take place r ++ (l ++ drop (place + 5) r)) (fields end-back greatest least-scatter greatest-scatter)
 
@@ -104,13 +104,13 @@ module _ (x : Trace) (r : List ℤ) where
     front-is : length (front x r i) ≡ segmentAt i
     front-is = front-length i (omega arith)
 
-    place-later : (j : ℕ) → placeOf (partly x r i) (segmentAt i + j) ≡ placeOf r (segmentAt i + j)
+    place-later : (j : ℕ) → valueAt (partly x r i) (segmentAt i + j) ≡ valueAt r (segmentAt i + j)
     place-later j =
         subst (λ (n : ℕ). getD (partly x r i) (n + j) (pos 0) ≡ getD (drop (segmentAt i) r) j (pos 0)) front-is (getD-append-add (front x r i) (drop (segmentAt i) r) j (pos 0))
         ∙ getD-drop (segmentAt i) r j (pos 0)
 
-    place-first : placeOf (partly x r i) (segmentAt i) ≡ placeOf r (segmentAt i)
-    place-first = let e : segmentAt i ≡ segmentAt i + 0 = omega arith in subst (λ (n : ℕ). placeOf (partly x r i) n ≡ placeOf r n) (sym e) (place-later 0)
+    place-first : valueAt (partly x r i) (segmentAt i) ≡ valueAt r (segmentAt i)
+    place-first = let e : segmentAt i ≡ segmentAt i + 0 = omega arith in subst (λ (n : ℕ). valueAt (partly x r i) n ≡ valueAt r n) (sym e) (place-later 0)
 
     pub end-later : endIn (partly x r i) i ≡ endIn r i
     end-later = ap smallOf place-first

@@ -9,6 +9,6 @@ abbrev pub leafHead : ℕ → ℕ → List ℤ
 leafHead segments first = pos 0 ∷ pos segments ∷ pos first ∷ pos 0 ∷ pos 0 ∷ pos 0 ∷ pos 0 ∷ []
 
 -- a segment, by its five parts
-abbrev pub segmentBy : ℕ → ℤ → ℤ → ℕ → ℕ → Segment
-segmentBy end leastSum greatestSum leastScatter greatestScatter =
+abbrev pub segmentOfParts : ℕ → ℤ → ℤ → ℕ → ℕ → Segment
+segmentOfParts end leastSum greatestSum leastScatter greatestScatter =
     record { end = end; leastSum = leastSum; greatestSum = greatestSum; leastScatter = leastScatter; greatestScatter = greatestScatter }

@@ -8,13 +8,13 @@ use Rattle.integer.specs.Words.{lesser, greater}
 use Rattle.segment.specs.Limits.{scatterRoom}
 use Rattle.dstree.specs.Node.{Segment}
 use Rattle.tables.specs.Layout.{segmentsPlace, segmentPlaces, segmentAt, recordPlaces}
-use Rattle.tables.specs.View.{placeOf, smallAt, segmentIn}
+use Rattle.tables.specs.View.{valueAt, smallAt, segmentIn}
 use Rattle.tables.specs.Runs.{Inside}
 use Rattle.insertion_memory.specs.Records.{segmentFields}
 
 -- a range of a record, its least at a place and its greatest behind that, with a figure in it too
 abbrev pub rangeWith : List ℤ → ℕ → ℤ → List ℤ
-rangeWith r place v = set (set r place (lesser (placeOf r place) v)) (place + 1) (greater (placeOf r (place + 1)) v)
+rangeWith r place v = set (set r place (lesser (valueAt r place) v)) (place + 1) (greater (valueAt r (place + 1)) v)
 
 -- segment i's five places as those of another segment, every other place as it was
 unfoldable pub withSegment : List ℤ → ℕ → Segment → List ℤ

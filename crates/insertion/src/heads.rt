@@ -29,7 +29,7 @@ ghost use Rattle.tables.specs.Runs.{figureBy, testBy};
 ghost use Rattle.insertion_memory.specs.Records.{leafRecord, innerKind, innerRecord};
 ghost use Rattle.insertion_memory.specs.Memory.{onRecord};
 ghost use Rattle.insertion.specs.Widening.{withSegment};
-ghost use Rattle.insertion.specs.Heads.{leafHead, segmentBy};
+ghost use Rattle.insertion.specs.Heads.{leafHead, segmentOfParts};
 
 // A leaf's head, by its number of segments and its first trace. Its test's places become 0, and its segments stay.
 pub fn write_leaf_head(record: &mut [i64], segments: usize, first: usize)
@@ -91,7 +91,7 @@ pub fn write_segment(
     greatest_scatter: u64,
 )
     requires { ⌜ (length (now «record») ≡ recordPlaces) × (i < 16) × (end ≤ smallMost) × («least_scatter» ≤ scatterRoom) × («greatest_scatter» ≤ scatterRoom) ⌝ }
-    ensures { λ _. ⌜ now («record» .exit) ≡ withSegment (now («record» .entry)) i (segmentBy end «least_sum» «greatest_sum» «least_scatter» «greatest_scatter») ⌝ }
+    ensures { λ _. ⌜ now («record» .exit) ≡ withSegment (now («record» .entry)) i (segmentOfParts end «least_sum» «greatest_sum» «least_scatter» «greatest_scatter») ⌝ }
 {
     let at = HEAD + i * SEGMENT;
     record[at] = end as i64;

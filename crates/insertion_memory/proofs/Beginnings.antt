@@ -25,7 +25,7 @@ use Rattle.tables.proofs.Beginning.{extended, restOf, begins-is}
 use Rattle.insertion_memory.specs.Memory.{TreeTables, treeTables}
 use Rattle.dstree.proofs.Nodes.{nodes-most}
 use Rattle.insertion_memory.proofs.Placing.{record-inside}
-use Rattle.insertion_memory.proofs.Represents.{Reads, reads-same, kind-named, Represents, node-read}
+use Rattle.insertion_memory.proofs.Represents.{ReadsAs, reads-same, kind-named, Represents, node-read}
 use Rattle.insertion_memory.proofs.FromTables.{Long, facts, node-count, tables-stand}
 use Rattle.insertion_memory.proofs.Made.{Holds}
 
@@ -38,7 +38,7 @@ pub represents-like : {n c k : ℕ} {nodes : List ℤ} {links : List ℕ} {h : T
 represents-like {c} {tree} h′ s count records same = record {
   few = s .few;
   count = count ∙ s .count;
-  reads = λ j g. subst (λ (r : List ℤ). Reads (h′ .links) r (nodeAt tree j)) (sym (records j (omega (arith, g, nodes-most (s .shape), s .few))))
+  reads = λ j g. subst (λ (r : List ℤ). ReadsAs (h′ .links) r (nodeAt tree j)) (sym (records j (omega (arith, g, nodes-most (s .shape), s .few))))
       (reads-same (λ t i. same t (omega (arith, s .shape .numbers t j (in-is i), s .few))) (s .reads j g));
   shape = s .shape;
   nodes-size = refl;
@@ -94,12 +94,12 @@ module _ {t s : Tables} (a : Agree t s) where
     pub formed-same : T (wellFormed s)
     unfolding wellFormed
     formed-same =
-        let tree : T (abstract.wellFormed sampleLimit (measuresOf t) (traceCount t) (treeIn t)) = and-yes (kindsNamed t)
-        (abstract.wellFormed sampleLimit (measuresOf t) (traceCount t) (treeIn t)) w .1 in
-        yes-and (kindsNamed s) (abstract.wellFormed sampleLimit (measuresOf s) (traceCount s) (treeIn s)) kinds-same
-        (subst (λ (m : Measures). T (abstract.wellFormed sampleLimit m (traceCount s) (treeIn s))) (sym measures-same)
-        (subst (λ (k : ℕ). T (abstract.wellFormed sampleLimit (measuresOf t) k (treeIn s))) (sym traces-counted)
-        (subst (λ (r : Tree). T (abstract.wellFormed sampleLimit (measuresOf t) (traceCount t) r)) (sym tree-same) tree)))
+        let tree : T (abstract.wellFormedTree sampleLimit (measuresOf t) (traceCount t) (treeIn t)) = and-yes (kindsNamed t)
+        (abstract.wellFormedTree sampleLimit (measuresOf t) (traceCount t) (treeIn t)) w .1 in
+        yes-and (kindsNamed s) (abstract.wellFormedTree sampleLimit (measuresOf s) (traceCount s) (treeIn s)) kinds-same
+        (subst (λ (m : Measures). T (abstract.wellFormedTree sampleLimit m (traceCount s) (treeIn s))) (sym measures-same)
+        (subst (λ (k : ℕ). T (abstract.wellFormedTree sampleLimit (measuresOf t) k (treeIn s))) (sym traces-counted)
+        (subst (λ (r : Tree). T (abstract.wellFormedTree sampleLimit (measuresOf t) (traceCount t) r)) (sym tree-same) tree)))
 
 -- they agree the other way round
 pub agree-back : {t s : Tables} → Agree t s → Agree s t

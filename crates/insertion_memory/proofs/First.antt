@@ -15,9 +15,9 @@ use Rattle.tables.specs.Tables.{recordOf, withRecord}
 use Rattle.insertion_memory.specs.Records.{leafRecord}
 use Rattle.insertion_memory.specs.Memory.{treeTables}
 use Rattle.tables.proofs.Linked.{Linked, l-end}
-use Rattle.insertion_memory.proofs.Placing.{Placed, placed}
+use Rattle.insertion_memory.proofs.Placing.{RecordPlaced, placed}
 use Rattle.insertion_memory.specs.Represents.{Space}
-use Rattle.insertion_memory.proofs.Represents.{Reads, reads-leaf, Represents}
+use Rattle.insertion_memory.proofs.Represents.{ReadsAs, reads-leaf, Represents}
 
 module _ (n : ℕ) (x : Trace) (wide : 1 ≤ n) where
   fits-ends : Fits n (ends (newLeaf (x ∷ []) (n ∷ []) (0 ∷ []) .segments))
@@ -30,11 +30,11 @@ module _ (n : ℕ) (x : Trace) (wide : 1 ≤ n) where
     link : Linked (set links 0 0) (0 ∷ [])
     link = l-end (getD-set-same links 0 0 0 (omega (arith, space .links-room)))
 
-    reads-new : Reads (set links 0 0) new (newLeaf (x ∷ []) (n ∷ []) (0 ∷ []))
+    reads-new : ReadsAs (set links 0 0) new (newLeaf (x ∷ []) (n ∷ []) (0 ∷ []))
     unfolding newLeaf
     reads-new = reads-leaf (space .narrow) (segmentsOf (n ∷ []) (x ∷ [])) fits-ends (omega arith) link
 
-    p : Placed (2 * c - 1) nodes (withRecord nodes 0 new) 0 new
+    p : RecordPlaced (2 * c - 1) nodes (withRecord nodes 0 new) 0 new
     p = placed (2 * c - 1) 0 nodes new (space .nodes-room) (omega arith) (reads-new .size)
 
     pub first-represents : Represents n c nodes links 1 (treeTables (withRecord nodes 0 new) (set links 0 0) 1) (firstTree n x)
@@ -49,6 +49,6 @@ module _ (n : ℕ) (x : Trace) (wide : 1 ≤ n) where
       links-behind = drop-set-lt c links 0 0 some;
     }
       where
-        reads : (j : ℕ) → j < 1 → Reads (set links 0 0) (recordOf (withRecord nodes 0 new) j) (nodeAt (firstTree n x) j)
-        reads zero h = subst (λ (r : List ℤ). Reads (set links 0 0) r (newLeaf (x ∷ []) (n ∷ []) (0 ∷ []))) (sym (p .here)) reads-new
+        reads : (j : ℕ) → j < 1 → ReadsAs (set links 0 0) (recordOf (withRecord nodes 0 new) j) (nodeAt (firstTree n x) j)
+        reads zero h = subst (λ (r : List ℤ). ReadsAs (set links 0 0) r (newLeaf (x ∷ []) (n ∷ []) (0 ∷ []))) (sym (p .here)) reads-new
         reads (suc j) h = absurd (omega arith)

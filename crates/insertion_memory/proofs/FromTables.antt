@@ -20,7 +20,7 @@ use Rattle.tables.proofs.Views.{tree-size, tree-node, tree-kind, tree-formed, m
 use Rattle.insertion_memory.specs.Memory.{treeTables}
 use Rattle.insertion_memory.proofs.Placing.{record-inside}
 use Rattle.insertion_memory.specs.Represents.{Space}
-use Rattle.insertion_memory.proofs.Represents.{kind-means, Reads, Represents}
+use Rattle.insertion_memory.proofs.Represents.{kind-means, ReadsAs, Represents}
 
 -- tables are long enough by what a call finds that refuses short ones
 pub long-of : (t : Tables) → Room (lentOf t) (measuresOf t) → Long t
@@ -41,13 +41,13 @@ module _ (t : Tables) (w : T (wellFormed t)) where
     unfolding recordsNeeded linksNeeded
     space = record { wide = range .n-low; narrow = range .n-high; small = range .capacity-high; nodes-room = long .nodes-long; links-room = long .links-long }
 
-    reads : (j : ℕ) → j < length (treeIn t) → Reads (t .links) (recordOf (t .nodes) j) (nodeAt (treeIn t) j)
+    reads : (j : ℕ) → j < length (treeIn t) → ReadsAs (t .links) (recordOf (t .nodes) j) (nodeAt (treeIn t) j)
     unfolding nodeIn
     reads j h =
         let inside : j < nodeCount t = omega (arith, node-count) in
         let v : ℕ = smallAt (recordOf (t .nodes) j) kindPlace in
         let kind : nodeAt (treeIn t) j .kind ≡ kindIn (t .links) (traceCount t) (recordOf (t .nodes) j) v = tree-kind t j inside in
-        subst (λ (a : Node). Reads (t .links) (recordOf (t .nodes) j) a) (sym (tree-node t j inside)) (record {
+        subst (λ (a : Node). ReadsAs (t .links) (recordOf (t .nodes) j) a) (sym (tree-node t j inside)) (record {
           size = record-length (t .nodes) j (record-inside (2 * measuresOf t .capacity - 1) j (t .nodes) (space .nodes-room) (omega (arith, h, nodes-most (facts .shape), facts .room)));
           segments = refl;
           kind = kind-means (t .links) (recordOf (t .nodes) j) (traceCount t) v refl (kind-named t w j inside) (subst (λ (a : Kind). Up 0 (numbersIn a)) kind (numbers-up (facts .shape) j))

@@ -17,16 +17,16 @@ use Rattle.insertion_memory.specs.Links.{joined}
 use Rattle.insertion_memory.specs.Memory.{TreeTables, treeTables}
 use Rattle.insertion_memory.proofs.Following.{join-at-other, joined-linked, joined-length, joined-behind}
 use Rattle.insertion_memory.specs.Represents.{Space}
-use Rattle.insertion_memory.proofs.Represents.{Means, m-leaf, Low, Reads, reads-same, Represents}
+use Rattle.insertion_memory.proofs.Represents.{Means, m-leaf, AllBelow, ReadsAs, reads-same, Represents}
 
-means-join : {links : List ℕ} {r : List ℤ} {ns : List ℕ} (k : ℕ) → Means links r (leaf ns) → Up 0 ns → Low k ns → k < length links → Means (joined links ns k) r (leaf (ns ++ (k ∷ [])))
+means-join : {links : List ℕ} {r : List ℤ} {ns : List ℕ} (k : ℕ) → Means links r (leaf ns) → Up 0 ns → AllBelow k ns → k < length links → Means (joined links ns k) r (leaf (ns ++ (k ∷ [])))
 means-join {links} k (m-leaf {x} {l} e q w) u low h = m-leaf e q (joined-linked links x l k h w u low)
 
 other-link : (links : List ℕ) (ns : List ℕ) (k s : ℕ) → 0 < length ns → k < length links → (s ≡ k → ⊥) → (In s ns → ⊥) → getD (joined links ns k) s 0 ≡ getD links s 0
 other-link links [] k s some h f g = absurd (omega arith)
 other-link links (x ∷ l) k s some h f g = join-at-other links x l k h s f (λ e. g (subst (λ (t : ℕ). In t (x ∷ l)) (sym e) (last-in x l)))
 
-pub last-low : (k : ℕ) (ns : List ℕ) → 0 < length ns → Low k ns → lastOf ns < k
+pub last-low : (k : ℕ) (ns : List ℕ) → 0 < length ns → AllBelow k ns → lastOf ns < k
 last-low k [] some low = absurd (omega arith)
 last-low k (x ∷ l) some low = low _ (last-in x l)
 
@@ -44,10 +44,10 @@ module _ {n c : ℕ} {nodes : List ℤ} {links : List ℕ} (space : Space n c no
       let numbers : numbersIn (nodeAt tree at .kind) ≡ ns = ap numbersIn is in
       let up : Up 0 ns = subst (λ (l : List ℕ). Up 0 l) numbers (numbers-up (s .shape) at) in
       let in-at : (t : ℕ) → In t ns → In t (numbersIn (nodeAt tree at .kind)) = λ t i. subst (λ (l : List ℕ). In t l) (sym numbers) i in
-      let low : Low k ns = λ t i. s .shape .numbers t at (in-is (in-at t i)) in
+      let low : AllBelow k ns = λ t i. s .shape .numbers t at (in-is (in-at t i)) in
       let longer : Node = node (nodeAt tree at .segments) (leaf (ns ++ (k ∷ []))) in
       let is-set : join k at tree ≡ set tree at longer = join-is k at tree ns is in
-      let own : Reads (joined (h .links) ns k) (recordOf (h .nodes) at) longer = record {
+      let own : ReadsAs (joined (h .links) ns k) (recordOf (h .nodes) at) longer = record {
         size = s .reads at inside .size;
         segments = s .reads at inside .segments;
         kind = means-join k (subst (λ (a : Kind). Means (h .links) (recordOf (h .nodes) at) a) is (s .reads at inside .kind)) up low full;
@@ -55,9 +55,9 @@ module _ {n c : ℕ} {nodes : List ℤ} {links : List ℕ} (space : Space n c no
       record {
         few = less;
         count = s .count ∙ sym (ap length is-set ∙ length-set tree at longer);
-        reads = λ j g. subst (λ (tree′ : Tree). Reads (joined (h .links) ns k) (recordOf (h .nodes) j) (nodeAt tree′ j)) (sym is-set)
-            (set-cases (node [] (leaf [])) (λ (a : Node). Reads (joined (h .links) ns k) (recordOf (h .nodes) j) a) tree at longer j
-            (λ e q. subst (λ (i : ℕ). Reads (joined (h .links) ns k) (recordOf (h .nodes) i) longer) (sym e) own)
+        reads = λ j g. subst (λ (tree′ : Tree). ReadsAs (joined (h .links) ns k) (recordOf (h .nodes) j) (nodeAt tree′ j)) (sym is-set)
+            (set-cases (node [] (leaf [])) (λ (a : Node). ReadsAs (joined (h .links) ns k) (recordOf (h .nodes) j) a) tree at longer j
+            (λ e q. subst (λ (i : ℕ). ReadsAs (joined (h .links) ns k) (recordOf (h .nodes) i) longer) (sym e) own)
             (λ f q. reads-same (λ t i. other-link (h .links) ns k t some full (λ e. omega (arith, e, s .shape .numbers t j (in-is i)))
             (λ i′. f (s .shape .one-leaf t j at (in-is i) (in-is (in-at t i′))))) (s .reads j q))
             (λ q. absurd (omega (arith, g, ap length is-set, length-set tree at longer))));

@@ -23,7 +23,7 @@ use Rattle.tables.specs.View.{treeIn, tracesIn, wellFormed}
 use Rattle.insertion_memory.specs.Memory.{addedTo}
 pub use Rattle.insertion_memory.specs.Takes.{TakesAll}
 use Rattle.insertion_memory.proofs.FromTables.{Long, facts}
-use Rattle.insertion_memory.proofs.Meaning.{Added, meaning, well-formed-after}
+use Rattle.insertion_memory.proofs.Meaning.{AfterAdding, meaning, well-formed-after}
 use Rattle.insertion_memory.proofs.Made.{count-is, long-after}
 
 -- adding keeps tables well formed
@@ -36,7 +36,7 @@ keeps-well-formed t x w long size room all is-trace =
     let g : Formed sampleLimit m (length (tracesIn t ++ (x ∷ []))) (insertion m (tracesIn t) (treeIn t) x) =
     insertion-formed sampleLimit m (tracesIn t) (treeIn t) x f (omega (arith, count-is t)) all is-trace in
     let e : length (tracesIn t ++ (x ∷ [])) ≡ suc (traceCount t) = omega (arith, count-is t, length-append (tracesIn t) (x ∷ [])) in
-    well-formed-after t x w long size room (subst (λ (k : ℕ). T (abstract.wellFormed sampleLimit m k (insertion m (tracesIn t) (treeIn t) x))) e (well-formed g))
+    well-formed-after t x w long size room (subst (λ (k : ℕ). T (abstract.wellFormedTree sampleLimit m k (insertion m (tracesIn t) (treeIn t) x))) e (well-formed g))
 
 more-traces : (is : Trace → Bool) (stored : List Trace) (x : Trace) → T (every is stored) → T (is x) → {y : Trace} → In y (stored ++ (x ∷ [])) → T (is y)
 more-traces is stored x all one {y} i = by (in-snoc stored i)
@@ -59,7 +59,7 @@ pub record AddedAll (t : Tables) (more : List Trace) : Type 0 where
   pub links-behind : drop (linksNeeded (measuresOf t)) (foldl addedTo t more .links) ≡ drop (linksNeeded (measuresOf t)) (t .links)
 
 -- one adding, and then more of them
-after-one : (t : Tables) (x : Trace) (more : List Trace) → Added t x → AddedAll (addedTo t x) more → AddedAll t (x ∷ more)
+after-one : (t : Tables) (x : Trace) (more : List Trace) → AfterAdding t x → AddedAll (addedTo t x) more → AddedAll t (x ∷ more)
 after-one t x more a r =
     let same = a .measures-stay in
     record {
@@ -93,7 +93,7 @@ module _ {t : Tables} {x : Trace} {more : List Trace} (k : TakesAll t (x ∷ mor
   pub first-size : length x ≡ n
   first-size = trace-length sampleLimit n x first-is
 
-  pub takes-first : Added t x
+  pub takes-first : AfterAdding t x
   takes-first = meaning t x (k .formed) (k .long) first-size (omega (arith, k .room))
 
   -- the first of them is added, and the tables refuse nothing of the others

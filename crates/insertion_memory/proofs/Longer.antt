@@ -21,7 +21,7 @@ use Rattle.dstree.specs.Matching.{numbersIn}
 use Rattle.dstree.specs.Formed.{Fits}
 use Rattle.dstree.proofs.Nodes.{nodes-most}
 use Rattle.dstree.proofs.Cuts.{new-ends}
-use Rattle.dstree.proofs.Splits.{Good, split-length, split-shape, best-is-good}
+use Rattle.dstree.proofs.Splits.{GoodSplit, split-length, split-shape, best-is-good}
 use Rattle.tables.specs.Layout.{kindPlace, recordPlaces}
 use Rattle.tables.specs.Tables.{recordOf, withRecord}
 use Rattle.tables.specs.View.{smallAt, segmentsIn, kindIn}
@@ -108,7 +108,7 @@ module _ {n c : ℕ} {nodes : List ℤ} {links : List ℕ} (space : Space n c no
         leaf-length segments (getD numbers 0 0) (omega (arith, f .few, ap length (new-ends traces (cut .childEnds) numbers), length-map segments (λ (a : Segment). a .end)))
 
     module _ {k : ℕ} {h : TreeTables} {tree : Tree} (s : Represents n c nodes links k h tree) (at : ℕ) (numbers : List ℕ)
-        (inside : at < length tree) (is : nodeAt tree at .kind ≡ leaf numbers) (cut : Split) (good : Good n traces (ends (nodeAt tree at .segments)) numbers cut) where
+        (inside : at < length tree) (is : nodeAt tree at .kind ≡ leaf numbers) (cut : Split) (good : GoodSplit n traces (ends (nodeAt tree at .segments)) numbers cut) where
       abbrev m : ℕ
       m = h .count
 
@@ -167,7 +167,7 @@ module _ {n c : ℕ} {nodes : List ℤ} {links : List ℕ} (space : Space n c no
     -- ---- a split, or none
 
     split-to-more : {k : ℕ} {h : TreeTables} {tree : Tree} → Represents n c nodes links k h tree → (at : ℕ) (numbers : List ℕ) → at < length tree
-        → nodeAt tree at .kind ≡ leaf numbers → (o : Option Split) → ((cut : Split) → o ≡ some cut → Good n traces (ends (nodeAt tree at .segments)) numbers cut)
+        → nodeAt tree at .kind ≡ leaf numbers → (o : Option Split) → ((cut : Split) → o ≡ some cut → GoodSplit n traces (ends (nodeAt tree at .segments)) numbers cut)
         → splitTo traces (longer ns ls h) at o ≡ longer ns ls (splitTo traces h at o)
     unfolding splitTo
     split-to-more s at numbers inside is none good = refl
@@ -191,7 +191,7 @@ module _ {n c : ℕ} {nodes : List ℤ} {links : List ℕ} (space : Space n c no
           by : (b : Bool) → (if b then splitTo traces (longer ns ls h) at (best traces (ends (segmentsIn (recordOf
               (h .nodes) at))) numbers) else longer ns ls h) ≡ longer ns ls (if b then splitTo traces h at (best traces (ends (segmentsIn (recordOf (h .nodes) at))) numbers) else h)
           by true = split-to-more s at numbers inside is (best traces (ends (segmentsIn (recordOf (h .nodes) at))) numbers)
-              (λ cut e. subst (λ (l : List Segment). Good n traces (ends l) numbers cut) (s .reads at inside .segments)
+              (λ cut e. subst (λ (l : List Segment). GoodSplit n traces (ends l) numbers cut) (s .reads at inside .segments)
               (best-is-good n traces (ends (segmentsIn (recordOf (h .nodes) at))) numbers fits e))
           by false = refl
 

@@ -27,7 +27,7 @@ use Rattle.tables.proofs.Views.{traces-size}
 use Rattle.insertion_memory.specs.Memory.{addedTo}
 pub use Rattle.tables.specs.Holds.{Holds}
 use Rattle.tables.specs.Holds.{Long}
-use Rattle.insertion_memory.proofs.Meaning.{Added, meaning, well-formed-after}
+use Rattle.insertion_memory.proofs.Meaning.{AfterAdding, meaning, well-formed-after}
 
 -- ---- a library with fewer traces
 
@@ -56,7 +56,7 @@ pub count-is : (t : Tables) → traceCount t ≡ length (tracesIn t)
 count-is t = sym (traces-size t)
 
 -- tables stay long enough
-pub long-after : (t : Tables) (x : Trace) → Long t → Added t x → Long (addedTo t x)
+pub long-after : (t : Tables) (x : Trace) → Long t → AfterAdding t x → Long (addedTo t x)
 long-after t x long a =
     let lengths : lentOf (addedTo t x) ≡ lentOf t = a .lengths-stay in
     record {
@@ -94,7 +94,9 @@ module _ (m : Measures) where
   -- an adding to tables that hold some traces leaves tables that hold one more
   pub holds-more : (t : Tables) (traces : List Trace) (x : Trace) → Holds t m traces → T (isLibrary sampleLimit m (traces ++ (x ∷ []))) → Holds (addedTo t x) m (traces ++ (x ∷ []))
   holds-more t traces x h library = record {
-    formed = well-formed-after t x (h .formed) (h .long) size less (subst (λ (tree : Tree). T (abstract.wellFormed sampleLimit (measuresOf t) (suc (traceCount t)) tree)) (sym new-tree) new-formed);
+    formed = well-formed-after t x (h .formed) (h .long) size less
+        (subst (λ (tree : Tree). T (abstract.wellFormedTree sampleLimit (measuresOf t) (suc (traceCount t)) tree))
+        (sym new-tree) new-formed);
     long = long-after t x (h .long) a;
     measures-are = a .measures-stay ∙ h .measures-are;
     traces-are = a .traces ∙ ap (λ (l : List Trace). l ++ (x ∷ [])) (h .traces-are);
@@ -110,7 +112,7 @@ module _ (m : Measures) where
       less : traceCount t < measuresOf t .capacity
       less = takes-more t traces x h library .1
 
-      a : Added t x
+      a : AfterAdding t x
       a = meaning t x (h .formed) (h .long) size less
 
       new-tree : insertion (measuresOf t) (tracesIn t) (treeIn t) x ≡ treeOf m (traces ++ (x ∷ []))
@@ -119,7 +121,7 @@ module _ (m : Measures) where
           by : (k : Measures) (stored : List Trace) (tree : Tree) → k ≡ m → stored ≡ traces → tree ≡ treeOf m traces → insertion k stored tree x ≡ treeOf m (traces ++ (x ∷ []))
           by k stored tree p q r = rw (p, q, r) (sym (grown-more m [] [] traces x))
 
-      new-formed : T (abstract.wellFormed sampleLimit (measuresOf t) (suc (traceCount t)) (treeOf m (traces ++ (x ∷ []))))
+      new-formed : T (abstract.wellFormedTree sampleLimit (measuresOf t) (suc (traceCount t)) (treeOf m (traces ++ (x ∷ []))))
       new-formed =
           let e : suc (traceCount t) ≡ length (traces ++ (x ∷ [])) = omega (arith, counted, length-append traces (x ∷ [])) in
           rw (h .measures-are, e) (shape sampleLimit m (traces ++ (x ∷ [])) library .well-formed)
@@ -136,7 +138,7 @@ module _ (m : Measures) where
 
 module _ (t : Tables) (m : Measures) (range : T (inRange m)) (enough : Room (lentOf t) m) where
   pub holds-none : Holds (opened t m) m []
-  unfolding opened wellFormed kindsNamed treeIn tracesIn counting every abstract.wellFormed abstract.everyNode abstract.childOnce
+  unfolding opened wellFormed kindsNamed treeIn tracesIn counting every abstract.wellFormedTree abstract.everyNode abstract.childOnce
       abstract.inOneLeaf grown samplesNeeded recordsNeeded linksNeeded workNeeded flatten
   holds-none = record {
     formed = passes (inRange m) (leb 0 (m .capacity) ∷ true ∷ true ∷ true ∷ true ∷ []) (range, (le→leb 0 (m .capacity) (omega arith), (tt, (tt, (tt, tt)))));

@@ -51,7 +51,7 @@ unfolding numbersIn
 leaf-is kind ns e = e ∙ ap leaf (sym (ap numbersIn e))
 
 -- what adding leaves, of tables t and a trace x
-pub record Added (t : Tables) (x : Trace) : Type 0 where
+pub record AfterAdding (t : Tables) (x : Trace) : Type 0 where
   -- "Adding appends its trace"
   pub traces : tracesIn (addedTo t x) ≡ tracesIn t ++ (x ∷ [])
   -- the tree is the one that the steps make
@@ -207,7 +207,7 @@ module _ (t : Tables) (x : Trace) (w : T (wellFormed t)) (long : Long t) (size :
     after-represents .links-size,
   )
 
-  pub meaning : Added t x
+  pub meaning : AfterAdding t x
   unfolding addedTo samplesNeeded recordsNeeded linksNeeded
   meaning = record {
     traces = traces-after;
@@ -226,10 +226,10 @@ module _ (t : Tables) (x : Trace) (w : T (wellFormed t)) (long : Long t) (size :
   }
 
   -- the tables stay well formed if the tree does
-  pub well-formed-after : T (abstract.wellFormed sampleLimit (measuresOf t) (suc k) result) → T (wellFormed (addedTo t x))
+  pub well-formed-after : T (abstract.wellFormedTree sampleLimit (measuresOf t) (suc k) result) → T (wellFormed (addedTo t x))
   unfolding wellFormed
   well-formed-after h =
-      yes-and (kindsNamed (addedTo t x)) (abstract.wellFormed sampleLimit (measuresOf (addedTo t x)) (traceCount (addedTo t x)) (treeIn (addedTo t x))) (subst T (sym kinds-after) tt)
-      (subst (λ (m : Measures). T (abstract.wellFormed sampleLimit m (traceCount (addedTo t x)) (treeIn (addedTo t x)))) (sym measures-after)
-      (subst (λ (j : ℕ). T (abstract.wellFormed sampleLimit (measuresOf t) j (treeIn (addedTo t x)))) (sym count-after)
-      (subst (λ (tree : Tree). T (abstract.wellFormed sampleLimit (measuresOf t) (suc k) tree)) (sym tree-after) h)))
+      yes-and (kindsNamed (addedTo t x)) (abstract.wellFormedTree sampleLimit (measuresOf (addedTo t x)) (traceCount (addedTo t x)) (treeIn (addedTo t x))) (subst T (sym kinds-after) tt)
+      (subst (λ (m : Measures). T (abstract.wellFormedTree sampleLimit m (traceCount (addedTo t x)) (treeIn (addedTo t x)))) (sym measures-after)
+      (subst (λ (j : ℕ). T (abstract.wellFormedTree sampleLimit (measuresOf t) j (treeIn (addedTo t x)))) (sym count-after)
+      (subst (λ (tree : Tree). T (abstract.wellFormedTree sampleLimit (measuresOf t) (suc k) tree)) (sym tree-after) h)))

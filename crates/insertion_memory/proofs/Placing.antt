@@ -12,7 +12,7 @@ use Rattle.tables.specs.Layout.{recordPlaces}
 use Rattle.tables.specs.Tables.{recordOf, withRecord}
 use Rattle.tables.proofs.Frame.{record-same, record-other, with-length}
 
-pub record Placed (b : ℕ) (nodes nodes′ : List ℤ) (j : ℕ) (r : List ℤ) : Type 0 where
+pub record RecordPlaced (b : ℕ) (nodes nodes′ : List ℤ) (j : ℕ) (r : List ℤ) : Type 0 where
   pub here : recordOf nodes′ j ≡ r
   pub other : (i : ℕ) → i ≢ j → i < b → recordOf nodes′ i ≡ recordOf nodes i
   pub size : length nodes′ ≡ length nodes
@@ -41,7 +41,7 @@ module _ (b j : ℕ) (nodes r : List ℤ) (room : b * recordPlaces ≤ length no
       ∙ drop-drop m (j * recordPlaces + recordPlaces) nodes
       ∙ ap (λ (k : ℕ). drop k nodes) past
 
-  pub placed : Placed b nodes (withRecord nodes j r) j r
+  pub placed : RecordPlaced b nodes (withRecord nodes j r) j r
   placed = record {
     here = record-same nodes j r fits size;
     other = λ i d g. record-other nodes j r fits size i d (record-inside b i nodes room g);

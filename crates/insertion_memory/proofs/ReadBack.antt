@@ -13,7 +13,7 @@ use Rattle.dstree.specs.Measures.{Trace}
 use Rattle.dstree.specs.Node.{Segment, Figure, bySum, byScatter, Test, changeAll}
 use Rattle.dstree.specs.Adding.{widenSegment}
 use Rattle.tables.specs.Layout.{kindPlace, segmentsPlace, firstPlace, rightPlace, segmentAt, headPlaces, segmentPlaces, recordPlaces}
-use Rattle.tables.specs.View.{smallOf, scatterIn, placeOf, smallAt, segmentIn, segmentsIn, testIn}
+use Rattle.tables.specs.View.{smallOf, scatterIn, valueAt, smallAt, segmentIn, segmentsIn, testIn}
 use Rattle.tables.proofs.Small.{small-read}
 use Rattle.tables.proofs.Views.{segments-length}
 use Rattle.insertion_memory.specs.Records.{segmentFields, fieldsOf, leafRecord, widenRecord, innerKind, innerRecord}
@@ -37,16 +37,16 @@ segment-is : (s : Segment) {e : ℕ} {ls gs : ℤ} {lv gv : ℕ} → e ≡ s .en
 segment-is s a b c d e = rw (a, b, c, d, e)
 
 module _ (r : List ℤ) where
-  at-place : (i p : ℕ) {l : List ℤ} → drop (segmentAt i) r ≡ l → placeOf r (segmentAt i + p) ≡ getD l p (pos 0)
+  at-place : (i p : ℕ) {l : List ℤ} → drop (segmentAt i) r ≡ l → valueAt r (segmentAt i + p) ≡ getD l p (pos 0)
   at-place i p e = sym (getD-drop (segmentAt i) r p (pos 0)) ∙ ap (λ (l : List ℤ). getD l p (pos 0)) e
 
   segment-back : (s : Segment) (i : ℕ) (rest : List ℤ) → s .end ≤ 65535 → drop (segmentAt i) r ≡ segmentFields s ++ rest → segmentIn r i ≡ s
   unfolding segmentIn segmentFields
   segment-back s i rest h e =
       let start : segmentAt i ≡ segmentAt i + 0 = omega arith in
-      let end : placeOf r (segmentAt i) ≡ pos (s .end) = ap (λ (k : ℕ). placeOf r k) start ∙ at-place i 0 e in
-      let least : placeOf r (segmentAt i + 3) ≡ pos (s .leastScatter) = at-place i 3 e in
-      let most : placeOf r (segmentAt i + 4) ≡ pos (s .greatestScatter) = at-place i 4 e in
+      let end : valueAt r (segmentAt i) ≡ pos (s .end) = ap (λ (k : ℕ). valueAt r k) start ∙ at-place i 0 e in
+      let least : valueAt r (segmentAt i + 3) ≡ pos (s .leastScatter) = at-place i 3 e in
+      let most : valueAt r (segmentAt i + 4) ≡ pos (s .greatestScatter) = at-place i 4 e in
       segment-is s (ap smallOf end ∙ small-read (s .end) h) (at-place i 1 e) (at-place i 2 e) (ap scatterIn least) (ap scatterIn most)
 
   -- segments from number i on, as they lie in the record
@@ -113,7 +113,7 @@ module _ (x : Trace) (r : List ℤ) (size : length r ≡ recordPlaces) where
   head-size = length-take-le headPlaces r (omega arith)
 
   -- the head stays
-  pub widen-head : (p : ℕ) → p < headPlaces → placeOf (widenRecord x r) p ≡ placeOf r p
+  pub widen-head : (p : ℕ) → p < headPlaces → valueAt (widenRecord x r) p ≡ valueAt r p
   unfolding widenRecord
   widen-head p h =
       List·getD-append (take headPlaces r) (fieldsOf widened ++ drop (headPlaces + segmentPlaces * length widened) r) (pos 0) p (omega (arith, head-size))
@@ -157,11 +157,11 @@ module _ (test : Test) (left right : ℕ) (r : List ℤ) where
   inner-test h g = rw (small-read (test .on .first) h, small-read (test .on .last) g)
 
   -- its segments stay
-  inner-behind : (q m : ℕ) → q ≡ headPlaces + m → placeOf (innerRecord test left right r) q ≡ placeOf r q
+  inner-behind : (q m : ℕ) → q ≡ headPlaces + m → valueAt (innerRecord test left right r) q ≡ valueAt r q
   unfolding innerRecord
   inner-behind q m e =
-      let head : List ℤ = innerKind (test .figure) ∷ placeOf r segmentsPlace ∷ pos left ∷ pos right ∷ pos (test .on .first) ∷ pos (test .on .last) ∷ test .threshold ∷ [] in
-      ap (λ (k : ℕ). placeOf (head ++ drop headPlaces r) k) e ∙ (getD-append-add head (drop headPlaces r) m (pos 0) ∙ getD-drop headPlaces r m (pos 0)) ∙ ap (λ (k : ℕ). placeOf r k) (sym e)
+      let head : List ℤ = innerKind (test .figure) ∷ valueAt r segmentsPlace ∷ pos left ∷ pos right ∷ pos (test .on .first) ∷ pos (test .on .last) ∷ test .threshold ∷ [] in
+      ap (λ (k : ℕ). valueAt (head ++ drop headPlaces r) k) e ∙ (getD-append-add head (drop headPlaces r) m (pos 0) ∙ getD-drop headPlaces r m (pos 0)) ∙ ap (λ (k : ℕ). valueAt r k) (sym e)
 
   inner-segment : (i : ℕ) → segmentIn (innerRecord test left right r) i ≡ segmentIn r i
   unfolding segmentIn

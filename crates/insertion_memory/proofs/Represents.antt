@@ -18,11 +18,11 @@ use Rattle.dstree.proofs.Formed.{number-node, numbers-up}
 use Rattle.dstree.proofs.Cuts.{ends-low}
 use Rattle.tables.specs.Layout.{kindPlace, firstPlace, rightPlace, runFirstPlace, runLastPlace, thresholdPlace, headPlaces}
 use Rattle.tables.specs.Tables.{recordOf}
-use Rattle.tables.specs.View.{smallOf, placeOf, smallAt, segmentsIn, testIn, numbersFrom, kindIn, nodeIn}
+use Rattle.tables.specs.View.{smallOf, valueAt, smallAt, segmentsIn, testIn, numbersFrom, kindIn, nodeIn}
 use Rattle.tables.specs.Walk.{Rising}
 use Rattle.insertion_memory.specs.Records.{leafRecord, widenRecord, innerRecord}
 use Rattle.insertion_memory.specs.Memory.{TreeTables}
-pub use Rattle.insertion_memory.specs.Represents.{Means, m-leaf, m-inner, Reads, Represents}
+pub use Rattle.insertion_memory.specs.Represents.{Means, m-leaf, m-inner, ReadsAs, Represents}
 use Rattle.insertion_memory.proofs.ReadBack.{SmallEnds, leaf-kind, leaf-first, leaf-segments, leaf-length, widen-head}
 use Rattle.insertion_memory.proofs.ReadBack.{widen-segments, widen-length, kindNumber, inner-kind, inner-left, inner-right}
 use Rattle.insertion_memory.proofs.ReadBack.{inner-test, inner-segments, inner-length}
@@ -31,11 +31,11 @@ use Rattle.tables.proofs.Linked.{Linked, leaf-follows, leaf-followed, linked-sa
 -- ---- a record's kind
 
 -- numbers below k
-abbrev pub Low : ℕ → List ℕ → Type 0
-Low k l = (t : ℕ) → In t l → t < k
+abbrev pub AllBelow : ℕ → List ℕ → Type 0
+AllBelow k l = (t : ℕ) → In t l → t < k
 
 -- it is read so, with the count k
-pub means-kind : {links : List ℕ} {r : List ℤ} {kind : Kind} (k : ℕ) → Means links r kind → Up 0 (numbersIn kind) → Low k (numbersIn kind) → kindIn links k r (smallAt r kindPlace) ≡ kind
+pub means-kind : {links : List ℕ} {r : List ℤ} {kind : Kind} (k : ℕ) → Means links r kind → Up 0 (numbersIn kind) → AllBelow k (numbersIn kind) → kindIn links k r (smallAt r kindPlace) ≡ kind
 unfolding numbersIn kindIn kindNumber
 means-kind {links} {r} k (m-leaf {x} {l} e q w) u low = rw (e, q) (ap leaf (leaf-followed k w u low))
 means-kind {links} {r} k (m-inner {test} {left} {right} e q p s) u low = rw e (by (test .figure) q)
@@ -46,7 +46,7 @@ means-kind {links} {r} k (m-inner {test} {left} {right} e q p s) u low = rw e (b
 
 -- .. and what is read so, with a kind that the layout names, is
 pub kind-means : (links : List ℕ) (r : List ℤ) (k v : ℕ) → smallAt r kindPlace ≡ v → v ≤ 2 → Up 0 (numbersIn (kindIn links k r v))
-    → Low k (numbersIn (kindIn links k r v)) → Means links r (kindIn links k r v)
+    → AllBelow k (numbersIn (kindIn links k r v)) → Means links r (kindIn links k r v)
 unfolding numbersIn kindIn kindNumber testIn numbersFrom
 kind-means links r k zero e h u low = m-leaf e refl (leaf-follows links k (smallAt r firstPlace) u low)
 kind-means links r k (suc zero) e h u low = m-inner e refl refl refl
@@ -69,7 +69,7 @@ means-same h (m-leaf e q w) = m-leaf e q (linked-same h w)
 means-same h (m-inner e q p s) = m-inner e q p s
 
 -- only the head bears on it
-means-head : {links : List ℕ} {r r′ : List ℤ} {kind : Kind} → ((p : ℕ) → p < headPlaces → placeOf r′ p ≡ placeOf r p) → Means links r kind → Means links r′ kind
+means-head : {links : List ℕ} {r r′ : List ℤ} {kind : Kind} → ((p : ℕ) → p < headPlaces → valueAt r′ p ≡ valueAt r p) → Means links r kind → Means links r′ kind
 unfolding testIn
 means-head h (m-leaf e q w) = m-leaf (ap smallOf (h kindPlace (omega arith)) ∙ e) (ap smallOf (h firstPlace (omega arith)) ∙ q) w
 means-head {links} {r} {r′} h (m-inner {test} e q p s) =
@@ -80,11 +80,11 @@ means-head {links} {r} {r′} h (m-inner {test} e q p s) =
 
 -- ---- a record as a node
 
-pub reads-node : {links : List ℕ} {r : List ℤ} {a : Node} (k : ℕ) → Reads links r a → Up 0 (numbersIn (a .kind)) → Low k (numbersIn (a .kind)) → nodeIn links k r ≡ a
+pub reads-node : {links : List ℕ} {r : List ℤ} {a : Node} (k : ℕ) → ReadsAs links r a → Up 0 (numbersIn (a .kind)) → AllBelow k (numbersIn (a .kind)) → nodeIn links k r ≡ a
 unfolding nodeIn
 reads-node {links} {r} {a} k d u low = rw (d .segments, means-kind k (d .kind) u low)
 
-pub reads-same : {links links′ : List ℕ} {r : List ℤ} {a : Node} → ((s : ℕ) → In s (numbersIn (a .kind)) → getD links′ s 0 ≡ getD links s 0) → Reads links r a → Reads links′ r a
+pub reads-same : {links links′ : List ℕ} {r : List ℤ} {a : Node} → ((s : ℕ) → In s (numbersIn (a .kind)) → getD links′ s 0 ≡ getD links s 0) → ReadsAs links r a → ReadsAs links′ r a
 reads-same h d = record { size = d .size; segments = d .segments; kind = means-same h (d .kind) }
 
 small-ends : {n : ℕ} {l : List Segment} → n ≤ 256 → Fits n (ends l) → SmallEnds l
@@ -95,7 +95,7 @@ few-segments l f = omega (arith, f .few, length-map l (λ (a : Segment). a .end)
 
 module _ {n : ℕ} (narrow : n ≤ 256) where
   -- a record that was widened
-  pub reads-widen : {links : List ℕ} {r : List ℤ} {a : Node} (x : Trace) → Fits n (ends (a .segments)) → Reads links r a → Reads links (widenRecord x r) (widen x a)
+  pub reads-widen : {links : List ℕ} {r : List ℤ} {a : Node} (x : Trace) → Fits n (ends (a .segments)) → ReadsAs links r a → ReadsAs links (widenRecord x r) (widen x a)
   unfolding widen
   reads-widen {links} {r} {a} x f d =
       let g : Fits n (ends (segmentsIn r)) = subst (λ (l : List Segment). Fits n (ends l)) (sym (d .segments)) f in
@@ -107,7 +107,7 @@ module _ {n : ℕ} (narrow : n ≤ 256) where
 
   -- a new leaf's
   pub reads-leaf : {links : List ℕ} {x : ℕ} {l : List ℕ} (segments : List Segment) → Fits n (ends segments) → x ≤ 65535
-      → Linked links (x ∷ l) → Reads links (leafRecord segments x) (node segments (leaf (x ∷ l)))
+      → Linked links (x ∷ l) → ReadsAs links (leafRecord segments x) (node segments (leaf (x ∷ l)))
   reads-leaf {links} {x} {l} segments f h w = record {
     size = leaf-length segments x (few-segments segments f);
     segments = leaf-segments segments x (few-segments segments f) (small-ends narrow f);
@@ -116,7 +116,7 @@ module _ {n : ℕ} (narrow : n ≤ 256) where
 
 -- a leaf's that became inner
 pub reads-inner : {links links′ : List ℕ} {r : List ℤ} {a : Node} (test : Test) (left right : ℕ) → test .on .first ≤ 65535 → test .on .last ≤ 65535 → left ≤ 65535 → right ≤ 65535
-    → Reads links r a → Reads links′ (innerRecord test left right r) (node (a .segments) (inner test left right))
+    → ReadsAs links r a → ReadsAs links′ (innerRecord test left right r) (node (a .segments) (inner test left right))
 reads-inner {r} test left right from to l g d = record {
   size = inner-length test left right r (d .size);
   segments = inner-segments test left right r ∙ d .segments;
@@ -126,7 +126,7 @@ reads-inner {r} test left right from to l g d = record {
 -- ---- nodes and links as a tree
 
 module _ {n c : ℕ} {nodes : List ℤ} {links : List ℕ} {k : ℕ} {h : TreeTables} {tree : Tree} (s : Represents n c nodes links k h tree) where
-  low-at : (j : ℕ) → Low k (numbersIn (nodeAt tree j .kind))
+  low-at : (j : ℕ) → AllBelow k (numbersIn (nodeAt tree j .kind))
   low-at j t i = s .shape .numbers t j (in-is i)
 
   pub node-read : (j : ℕ) → j < length tree → nodeIn (h .links) k (recordOf (h .nodes) j) ≡ nodeAt tree j
@@ -147,7 +147,8 @@ module _ {n c : ℕ} {nodes : List ℤ} {links : List ℕ} {k : ℕ} {h : TreeTa
       by (nodeAt tree (o .at) .kind) (s .reads (o .at) (number-node tree t (o .at) (o .holds)) .kind) (numbers-up (s .shape) (o .at))
       (low-at (o .at)) (is-in t (numbersIn (nodeAt tree (o .at) .kind)) (o .holds))
     where
-      by : {r : List ℤ} (kind : Kind) → Means (h .links) r kind → Up 0 (numbersIn kind) → Low k (numbersIn kind) → In t (numbersIn kind)
+      by : {r : List ℤ} (kind : Kind) → Means (h .links) r kind → Up 0 (numbersIn kind) → AllBelow k (numbersIn kind)
+          → In t (numbersIn kind)
           → (getD (h .links) t 0 ≡ 0) ⊎ ((t < getD (h .links) t 0) × (getD (h .links) t 0 < k))
       by (leaf (x ∷ l)) (m-leaf e q w) u low i = link-rises w u low i
       by (inner test left right) (m-inner e q p s) u low i = absurd (in-nil i)

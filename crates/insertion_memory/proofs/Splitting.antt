@@ -21,7 +21,7 @@ use Rattle.dstree.specs.Formed.{Fits, Shape}
 use Rattle.dstree.proofs.Formed.{numbers-up}
 use Rattle.dstree.proofs.Nodes.{nodes-most}
 use Rattle.dstree.proofs.Cuts.{new-ends}
-use Rattle.dstree.proofs.Splits.{Good, sides-apart, split-length, split-cases, split-shape, best-is-good}
+use Rattle.dstree.proofs.Splits.{GoodSplit, sides-apart, split-length, split-cases, split-shape, best-is-good}
 use Rattle.tables.specs.Layout.{kindPlace}
 use Rattle.tables.specs.Tables.{recordOf, withRecord}
 use Rattle.tables.specs.View.{smallAt, segmentsIn, kindIn}
@@ -30,9 +30,9 @@ use Rattle.insertion_memory.specs.Links.{linked}
 use Rattle.insertion_memory.specs.Memory.{TreeTables, treeTables, splitTo, splitLeaf, splitAt, splitOn, splitAllOf}
 use Rattle.insertion_memory.proofs.Following.{laid-length, laid-other, laid-behind, laid-linked}
 use Rattle.tables.proofs.Linked.{Linked, linked-same}
-use Rattle.insertion_memory.proofs.Placing.{Placed, placed}
+use Rattle.insertion_memory.proofs.Placing.{RecordPlaced, placed}
 use Rattle.insertion_memory.specs.Represents.{Space}
-use Rattle.insertion_memory.proofs.Represents.{Low, Reads, reads-same, reads-leaf, reads-inner, Represents, kind-read}
+use Rattle.insertion_memory.proofs.Represents.{AllBelow, ReadsAs, reads-same, reads-leaf, reads-inner, Represents, kind-read}
 
 -- ---- the pass, turn by turn
 
@@ -49,12 +49,12 @@ pass-turn fuel leafSize traces h at g = rw (lt-ltb at (h .count) g)
 
 -- ---- one side
 
-side-linked : (l links : List ℕ) → 0 < length l → Up 0 l → Low (length links) l → Linked (linked l links) l
+side-linked : (l links : List ℕ) → 0 < length l → Up 0 l → AllBelow (length links) l → Linked (linked l links) l
 side-linked [] links h u low = absurd (omega arith)
 side-linked (x ∷ l) links h u low = laid-linked x l links u low
 
 reads-side : {n : ℕ} {links : List ℕ} (narrow : n ≤ 256) (segments : List Segment) (l : List ℕ) → Fits n (ends segments) → 0 < length l
-    → Low 65536 l → Linked links l → Reads links (leafRecord segments (getD l 0 0)) (node segments (leaf l))
+    → AllBelow 65536 l → Linked links l → ReadsAs links (leafRecord segments (getD l 0 0)) (node segments (leaf l))
 reads-side narrow segments [] f h low w = absurd (omega arith)
 reads-side narrow segments (x ∷ l) f h low w = reads-leaf narrow segments f (omega (arith, low x first)) w
 
@@ -62,7 +62,7 @@ module _ {n c : ℕ} {nodes : List ℤ} {links : List ℕ} (space : Space n c no
   -- ---- one leaf
 
   module _ {k : ℕ} {tree : Tree} (N : List ℤ) (L : List ℕ) (s : Represents n c nodes links k (treeTables N L (length tree)) tree) (at : ℕ)
-      (ns : List ℕ) (inside : at < length tree) (is : nodeAt tree at .kind ≡ leaf ns) (cut : Split) (good : Good n traces (ends (nodeAt tree at .segments)) ns cut) where
+      (ns : List ℕ) (inside : at < length tree) (is : nodeAt tree at .kind ≡ leaf ns) (cut : Split) (good : GoodSplit n traces (ends (nodeAt tree at .segments)) ns cut) where
     abbrev m : ℕ
     m = length tree
 
@@ -133,17 +133,17 @@ module _ {n c : ℕ} {nodes : List ℤ} {links : List ℕ} (space : Space n c no
     abbrev rightRecord : List ℤ
     rightRecord = leafRecord (segmentsOf (cut .childEnds) (tracesOf traces (cut .right))) (getD (cut .right) 0 0)
 
-    reads-parent : Reads L₂ parentRecord (node (nodeAt tree at .segments) (inner (cut .test) m (suc m)))
+    reads-parent : ReadsAs L₂ parentRecord (node (nodeAt tree at .segments) (inner (cut .test) m (suc m)))
     reads-parent = reads-inner (cut .test) m (suc m) (omega (arith, good .run-in .some-sample, good .run-in .to-n, space .narrow))
         (omega (arith, good .run-in .to-n, space .narrow)) (omega (arith, two-more, space .small)) (omega (arith, two-more, space .small)) (s .reads at inside)
 
-    reads-left : Reads L₂ leftRecord (newLeaf traces (cut .childEnds) (cut .left))
+    reads-left : ReadsAs L₂ leftRecord (newLeaf traces (cut .childEnds) (cut .left))
     unfolding newLeaf
     reads-left = reads-side (space .narrow) (segmentsOf (cut .childEnds) (tracesOf traces (cut .left))) (cut .left)
         (subst (λ (l : List ℕ). Fits n l) (sym (new-ends traces (cut .childEnds) (cut .left))) (good .children-fit)) (good .left-some)
         (λ t i. omega (arith, low t (left-in t i), s .few, space .small)) left-linked
 
-    reads-right : Reads L₂ rightRecord (newLeaf traces (cut .childEnds) (cut .right))
+    reads-right : ReadsAs L₂ rightRecord (newLeaf traces (cut .childEnds) (cut .right))
     unfolding newLeaf
     reads-right = reads-side (space .narrow) (segmentsOf (cut .childEnds) (tracesOf traces (cut .right))) (cut .right)
         (subst (λ (l : List ℕ). Fits n l) (sym (new-ends traces (cut .childEnds) (cut .right))) (good .children-fit)) (good .right-some)
@@ -158,27 +158,28 @@ module _ {n c : ℕ} {nodes : List ℤ} {links : List ℕ} (space : Space n c no
     abbrev N₃ : List ℤ
     N₃ = withRecord N₂ (suc m) rightRecord
 
-    p₁ : Placed b N N₁ at parentRecord
+    p₁ : RecordPlaced b N N₁ at parentRecord
     p₁ = placed b at N parentRecord (omega (arith, space .nodes-room, s .nodes-size)) (omega (arith, two-more, inside)) (reads-parent .size)
 
-    p₂ : Placed b N₁ N₂ m leftRecord
+    p₂ : RecordPlaced b N₁ N₂ m leftRecord
     p₂ = placed b m N₁ leftRecord (omega (arith, space .nodes-room, s .nodes-size, p₁ .size)) (omega (arith, two-more)) (reads-left .size)
 
-    p₃ : Placed b N₂ N₃ (suc m) rightRecord
+    p₃ : RecordPlaced b N₂ N₃ (suc m) rightRecord
     p₃ = placed b (suc m) N₂ rightRecord (omega (arith, space .nodes-room, s .nodes-size, p₁ .size, p₂ .size)) (omega (arith, two-more)) (reads-right .size)
 
     old-record : (j : ℕ) → j < m → recordOf N₃ j ≡ recordOf N₁ j
     old-record j g = p₃ .other j (λ e. omega (arith, g, e)) (omega (arith, g, two-more)) ∙ p₂ .other j (λ e. omega (arith, g, e)) (omega (arith, g, two-more))
 
-    reads-after : (j : ℕ) → j < suc (suc m) → Reads L₂ (recordOf N₃ j) (nodeAt after j)
+    reads-after : (j : ℕ) → j < suc (suc m) → ReadsAs L₂ (recordOf N₃ j) (nodeAt after j)
     reads-after j g =
-        split-cases traces tree at cut (λ (a : Node). Reads L₂ (recordOf N₃ j) a) j
-        (λ e. subst (λ (r : List ℤ). Reads L₂ r (node (nodeAt tree at .segments) (inner (cut .test) m (suc m)))) (sym (ap (λ (i : ℕ). recordOf N₃ i) e ∙ old-record at inside ∙ p₁ .here)) reads-parent)
-        (λ f q. subst (λ (r : List ℤ). Reads L₂ r (nodeAt tree j)) (sym (old-record j q ∙ p₁ .other j f (omega (arith, q, two-more))))
+        split-cases traces tree at cut (λ (a : Node). ReadsAs L₂ (recordOf N₃ j) a) j
+        (λ e. subst (λ (r : List ℤ). ReadsAs L₂ r (node (nodeAt tree at .segments) (inner (cut .test) m (suc m))))
+        (sym (ap (λ (i : ℕ). recordOf N₃ i) e ∙ old-record at inside ∙ p₁ .here)) reads-parent)
+        (λ f q. subst (λ (r : List ℤ). ReadsAs L₂ r (nodeAt tree j)) (sym (old-record j q ∙ p₁ .other j f (omega (arith, q, two-more))))
         (reads-same (λ t i. other-link t (λ i′. f (s .shape .one-leaf t j at (in-is i) (in-is (in-at t i′))))) (s .reads j q)))
-        (λ e. subst (λ (r : List ℤ). Reads L₂ r (newLeaf traces (cut .childEnds) (cut .left)))
+        (λ e. subst (λ (r : List ℤ). ReadsAs L₂ r (newLeaf traces (cut .childEnds) (cut .left)))
         (sym (ap (λ (i : ℕ). recordOf N₃ i) e ∙ p₃ .other m (λ z. omega (arith, z)) (omega (arith, two-more)) ∙ p₂ .here)) reads-left)
-        (λ e. subst (λ (r : List ℤ). Reads L₂ r (newLeaf traces (cut .childEnds) (cut .right))) (sym (ap (λ (i : ℕ). recordOf N₃ i) e ∙ p₃ .here)) reads-right)
+        (λ e. subst (λ (r : List ℤ). ReadsAs L₂ r (newLeaf traces (cut .childEnds) (cut .right))) (sym (ap (λ (i : ℕ). recordOf N₃ i) e ∙ p₃ .here)) reads-right)
         (λ q. absurd (omega (arith, q, g)))
 
     split-some : Represents n c nodes links k (splitTo traces (treeTables N L m) at (some cut)) after
@@ -198,7 +199,7 @@ module _ {n c : ℕ} {nodes : List ℤ} {links : List ℕ} (space : Space n c no
   -- ---- a split, or none
 
   split-to : {k : ℕ} {h : TreeTables} {tree : Tree} → Represents n c nodes links k h tree → (at : ℕ) (ns : List ℕ) → at < length tree
-      → nodeAt tree at .kind ≡ leaf ns → (o : Option Split) → ((cut : Split) → o ≡ some cut → Good n traces (ends (nodeAt tree at .segments)) ns cut)
+      → nodeAt tree at .kind ≡ leaf ns → (o : Option Split) → ((cut : Split) → o ≡ some cut → GoodSplit n traces (ends (nodeAt tree at .segments)) ns cut)
       → Represents n c nodes links k (splitTo traces h at o) (splitInto traces tree at o)
   unfolding splitTo splitInto
   split-to s at ns inside is none good = s

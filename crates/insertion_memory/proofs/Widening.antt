@@ -14,9 +14,9 @@ use Rattle.insertion_memory.specs.Records.{widenRecord}
 use Rattle.insertion_memory.specs.Memory.{TreeTables, treeTables, onRecord}
 use Rattle.dstree.proofs.Nodes.{nodes-most}
 use Rattle.dstree.proofs.Joins.{widen-shape}
-use Rattle.insertion_memory.proofs.Placing.{Placed, placed}
+use Rattle.insertion_memory.proofs.Placing.{RecordPlaced, placed}
 use Rattle.insertion_memory.specs.Represents.{Space}
-use Rattle.insertion_memory.proofs.Represents.{Reads, reads-widen, Represents}
+use Rattle.insertion_memory.proofs.Represents.{ReadsAs, reads-widen, Represents}
 
 module _ {n c : ℕ} {nodes : List ℤ} {links : List ℕ} (space : Space n c nodes links) (x : Trace) where
   pub widen-one : {k : ℕ} {h : TreeTables} {tree : Tree} (at : ℕ) → at < length tree → Represents n c nodes links k h tree
@@ -26,16 +26,16 @@ module _ {n c : ℕ} {nodes : List ℤ} {links : List ℕ} (space : Space n c no
       let b : ℕ = 2 * c - 1 in
       let most : length tree ≤ 2 * k - 1 = nodes-most (s .shape) in
       let wide : Node = widen x (nodeAt tree at) in
-      let own : Reads (h .links) (widenRecord x (recordOf (h .nodes) at)) wide = reads-widen (space .narrow) x (s .shape .fits at inside) (s .reads at inside) in
-      let p : Placed b (h .nodes) (onRecord (widenRecord x) (h .nodes) at) at (widenRecord x (recordOf (h .nodes) at)) =
+      let own : ReadsAs (h .links) (widenRecord x (recordOf (h .nodes) at)) wide = reads-widen (space .narrow) x (s .shape .fits at inside) (s .reads at inside) in
+      let p : RecordPlaced b (h .nodes) (onRecord (widenRecord x) (h .nodes) at) at (widenRecord x (recordOf (h .nodes) at)) =
       placed b at (h .nodes) (widenRecord x (recordOf (h .nodes) at)) (omega (arith, space .nodes-room, s .nodes-size)) (omega (arith, s .few)) (own .size) in
       record {
         few = s .few;
         count = s .count ∙ sym (length-set tree at wide);
         reads = λ j g. let low : j < b = omega (arith, g, length-set tree at wide, s .few) in
-            set-cases (node [] (leaf [])) (λ (a : Node). Reads (h .links) (recordOf (onRecord (widenRecord x) (h .nodes) at) j) a) tree at wide j
-            (λ e q. subst (λ (r : List ℤ). Reads (h .links) r wide) (sym (ap (λ (i : ℕ). recordOf (onRecord (widenRecord x) (h .nodes) at) i) e ∙ p .here)) own)
-            (λ f q. subst (λ (r : List ℤ). Reads (h .links) r (nodeAt tree j)) (sym (p .other j f low)) (s .reads j q))
+            set-cases (node [] (leaf [])) (λ (a : Node). ReadsAs (h .links) (recordOf (onRecord (widenRecord x) (h .nodes) at) j) a) tree at wide j
+            (λ e q. subst (λ (r : List ℤ). ReadsAs (h .links) r wide) (sym (ap (λ (i : ℕ). recordOf (onRecord (widenRecord x) (h .nodes) at) i) e ∙ p .here)) own)
+            (λ f q. subst (λ (r : List ℤ). ReadsAs (h .links) r (nodeAt tree j)) (sym (p .other j f low)) (s .reads j q))
             (λ q. absurd (omega (arith, g, length-set tree at wide)));
         shape = widen-shape x (at ∷ []) (s .shape);
         nodes-size = p .size ∙ s .nodes-size;

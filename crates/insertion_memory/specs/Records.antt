@@ -7,7 +7,7 @@ use Rattle.dstree.specs.Measures.{Trace}
 use Rattle.dstree.specs.Node.{Segment, Figure, bySum, byScatter, Test, changeAll}
 use Rattle.dstree.specs.Adding.{widenSegment}
 use Rattle.tables.specs.Layout.{segmentsPlace, headPlaces, segmentPlaces, recordPlaces}
-use Rattle.tables.specs.View.{placeOf, segmentsIn}
+use Rattle.tables.specs.View.{valueAt, segmentsIn}
 
 -- a segment's five places
 unfoldable pub segmentFields : Segment → List ℤ
@@ -36,5 +36,5 @@ innerKind byScatter = pos 2
 -- "The leaf .. becomes inner": its segments stay
 unfoldable pub innerRecord : Test → ℕ → ℕ → List ℤ → List ℤ
 innerRecord test left right r =
-    (innerKind (test .figure) ∷ placeOf r segmentsPlace ∷ pos left ∷ pos right ∷ pos (test .on .first) ∷ pos (test .on .last) ∷ test .threshold ∷ [])
+    (innerKind (test .figure) ∷ valueAt r segmentsPlace ∷ pos left ∷ pos right ∷ pos (test .on .first) ∷ pos (test .on .last) ∷ test .threshold ∷ [])
     ++ drop headPlaces r

@@ -26,7 +26,7 @@ pub data Means (links : List ℕ) (r : List ℤ) : Kind → Type 0 where
       → smallAt r firstPlace ≡ left → smallAt r rightPlace ≡ right → Means links r (inner test left right)
 
 -- a record reads as a node
-pub record Reads (links : List ℕ) (r : List ℤ) (a : Node) : Type 0 where
+pub record ReadsAs (links : List ℕ) (r : List ℤ) (a : Node) : Type 0 where
   pub size : length r ≡ recordPlaces
   pub segments : segmentsIn r ≡ a .segments
   pub kind : Means links r (a .kind)
@@ -43,7 +43,7 @@ pub record Space (n c : ℕ) (nodes : List ℤ) (links : List ℕ) : Type 0 wher
 pub record Represents (n c : ℕ) (nodes : List ℤ) (links : List ℕ) (k : ℕ) (h : TreeTables) (tree : Tree) : Type 0 where
   pub few : k ≤ c
   pub count : h .count ≡ length tree
-  pub reads : (j : ℕ) → j < length tree → Reads (h .links) (recordOf (h .nodes) j) (nodeAt tree j)
+  pub reads : (j : ℕ) → j < length tree → ReadsAs (h .links) (recordOf (h .nodes) j) (nodeAt tree j)
   pub shape : Shape n k tree
   pub nodes-size : length (h .nodes) ≡ length nodes
   pub nodes-behind : drop ((2 * c - 1) * recordPlaces) (h .nodes) ≡ drop ((2 * c - 1) * recordPlaces) nodes

@@ -130,10 +130,10 @@ linear ρ p h = exact p .1 h
 pub data Claim (ρ : List ℤ) (H A : Type 0) : Type 1 where
   claim : Fact ρ H → Fact ρ A → Claim ρ H A
 
-abbrev pub Follows : {ρ : List ℤ} {H A : Type 0} → Claim ρ H A → Type 0
-Follows (claim p q) = Linear p → Linear q
+abbrev pub LinearFollows : {ρ : List ℤ} {H A : Type 0} → Claim ρ H A → Type 0
+LinearFollows (claim p q) = Linear p → Linear q
 
-pub from : (ρ : List ℤ) {H A : Type 0} → H → (c : Claim ρ H A) → Follows c → A
+pub from : (ρ : List ℤ) {H A : Type 0} → H → (c : Claim ρ H A) → LinearFollows c → A
 from ρ h (claim p q) k = exact q .1 (k (exact p .0 h))
 
 -- ---- an order by a certificate that is written out: b − a is a sum of products that are not negative. It is checked as `ring` is, whatever its size

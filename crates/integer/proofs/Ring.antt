@@ -4,7 +4,7 @@
 --     square a b = ring (a ∷ b ∷ []) (search reading depth 30) tt
 --
 -- The list holds the unknowns: any terms of ℤ, and `pos n` for a natural number n. `search reading` reads the two sides over that list:
--- it writes a term of `Reads`, whose index is the integer that it reads. `norm` makes a polynomial of it, and `tt` proves that the two
+-- it writes a term of `IntReading`, whose index is the integer that it reads. `norm` makes a polynomial of it, and `tt` proves that the two
 -- polynomials are the same, by computation. Read are `+ℤ`, `-ℤ`, `*ℤ`, `negℤ`, numerals `pos 2` and `negsuc 2`, and under `pos` also `+`, `*` and `suc`.
 use mathlib.Core.Path.{_≡_, refl, sym, _∙_, ap, ap₂, subst}
 use mathlib.Core.Bool.{Bool, true, false}
@@ -56,9 +56,9 @@ abbrev pub ins : ℕ → List ℕ → List ℕ
 ins i [] = i ∷ []
 ins i (j ∷ m) = choose (compare i j) (λ _. i ∷ j ∷ m) (λ _. i ∷ j ∷ m) (λ _. j ∷ ins i m)
 
-abbrev pub join : List ℕ → List ℕ → List ℕ
-join [] n = n
-join (i ∷ m) n = ins i (join m n)
+abbrev pub joinMonomials : List ℕ → List ℕ → List ℕ
+joinMonomials [] n = n
+joinMonomials (i ∷ m) n = ins i (joinMonomials m n)
 
 -- ---- the operations
 abbrev pub isZero : ℤ → Bool
@@ -79,7 +79,7 @@ plus (term c m p) q = addTerm c m (plus p) q
 
 abbrev pub scale : ℤ → List ℕ → Poly → Poly
 scale c m nil = nil
-scale c m (term d n p) = term (c *ℤ d) (join m n) (scale c m p)
+scale c m (term d n p) = term (c *ℤ d) (joinMonomials m n) (scale c m p)
 
 abbrev pub times : Poly → Poly → Poly
 times nil q = nil
@@ -103,9 +103,10 @@ module _ (ρ : List ℤ) where
   mono-ins i (j ∷ m) = choose-ind (λ l. mono l ρ ≡ at ρ i *ℤ (at ρ j *ℤ mono m ρ)) (compare i j) (λ _. i ∷ j ∷ m) (λ _. i ∷ j ∷ m) (λ _. j ∷ ins i m)
       refl (λ _. refl) (ap (λ t. at ρ j *ℤ t) (mono-ins i m) ∙ *ℤ-swap (at ρ j) (at ρ i) (mono m ρ))
 
-  mono-join : (m n : List ℕ) → mono (join m n) ρ ≡ mono m ρ *ℤ mono n ρ
+  mono-join : (m n : List ℕ) → mono (joinMonomials m n) ρ ≡ mono m ρ *ℤ mono n ρ
   mono-join [] n = sym (one-*ℤ (mono n ρ))
-  mono-join (i ∷ m) n = mono-ins i (join m n) ∙ ap (λ t. at ρ i *ℤ t) (mono-join m n) ∙ sym (*ℤ-assoc (at ρ i) (mono m ρ) (mono n ρ))
+  mono-join (i ∷ m) n = mono-ins i (joinMonomials m n) ∙ ap (λ t. at ρ i *ℤ t) (mono-join m n)
+      ∙ sym (*ℤ-assoc (at ρ i) (mono m ρ) (mono n ρ))
 
   val-cons : (c : ℤ) (m : List ℕ) (p : Poly) → val (cons c m p) ρ ≡ c *ℤ mono m ρ +ℤ val p ρ
   val-cons (pos zero) m p = sym (ap (λ t. t +ℤ val p ρ) (zero-*ℤ (mono m ρ)) ∙ +ℤ-idl (val p ρ))
@@ -133,16 +134,16 @@ module _ (ρ : List ℤ) where
   val-times (term c m p) q = val-plus (scale c m q) (times p q) ∙ ap₂ _+ℤ_ (val-scale c m q) (val-times p q) ∙ sym (+ℤ-*ℤ (c *ℤ mono m ρ) (val p ρ) (val q ρ))
 
 -- ---- a reading of an integer: how it is made of the entries of ρ. Its index is the integer, so that `search reading` writes it
-pub data Reads (ρ : List ℤ) : ℤ → Type 0 where
-  lit : (n : ℕ) → Reads ρ (pos n)
-  litn : (n : ℕ) → Reads ρ (negsuc n)
-  var : (i : ℕ) → Reads ρ (at ρ i)
-  add : {a b : ℤ} → Reads ρ a → Reads ρ b → Reads ρ (a +ℤ b)
-  mul : {a b : ℤ} → Reads ρ a → Reads ρ b → Reads ρ (a *ℤ b)
-  neg : {a : ℤ} → Reads ρ a → Reads ρ (negℤ a)
-  nxt : {n : ℕ} → Reads ρ (pos n) → Reads ρ (pos (suc n))
+pub data IntReading (ρ : List ℤ) : ℤ → Type 0 where
+  lit : (n : ℕ) → IntReading ρ (pos n)
+  litn : (n : ℕ) → IntReading ρ (negsuc n)
+  var : (i : ℕ) → IntReading ρ (at ρ i)
+  add : {a b : ℤ} → IntReading ρ a → IntReading ρ b → IntReading ρ (a +ℤ b)
+  mul : {a b : ℤ} → IntReading ρ a → IntReading ρ b → IntReading ρ (a *ℤ b)
+  neg : {a : ℤ} → IntReading ρ a → IntReading ρ (negℤ a)
+  nxt : {n : ℕ} → IntReading ρ (pos n) → IntReading ρ (pos (suc n))
 
-abbrev pub norm : {ρ : List ℤ} {z : ℤ} → Reads ρ z → Poly
+abbrev pub norm : {ρ : List ℤ} {z : ℤ} → IntReading ρ z → Poly
 norm (lit n) = cons (pos n) [] nil
 norm (litn n) = term (negsuc n) [] nil
 norm (var i) = term (pos 1) (i ∷ []) nil
@@ -151,7 +152,7 @@ norm (mul r s) = times (norm r) (norm s)
 norm (neg r) = scale (negsuc 0) [] (norm r)
 norm (nxt r) = plus (term (pos 1) [] nil) (norm r)
 
-pub norm-sound : {ρ : List ℤ} {z : ℤ} (r : Reads ρ z) → val (norm r) ρ ≡ z
+pub norm-sound : {ρ : List ℤ} {z : ℤ} (r : IntReading ρ z) → val (norm r) ρ ≡ z
 norm-sound {ρ} (lit n) = val-cons ρ (pos n) [] nil ∙ +ℤ-idr (pos n *ℤ pos 1) ∙ *ℤ-pos-one (pos n)
 norm-sound {ρ} (litn n) = +ℤ-idr (negsuc n *ℤ pos 1) ∙ *ℤ-pos-one (negsuc n)
 norm-sound {ρ} (var i) = +ℤ-idr (pos 1 *ℤ (at ρ i *ℤ pos 1)) ∙ one-*ℤ (at ρ i *ℤ pos 1) ∙ *ℤ-pos-one (at ρ i)
@@ -171,11 +172,11 @@ abbrev pub both : Bool → Bool → Bool
 both true b = b
 both false b = false
 
-abbrev pub same : Poly → Poly → Bool
-same nil nil = true
-same nil (term d n q) = false
-same (term c m p) nil = false
-same (term c m p) (term d n q) = both (sameℤ c d) (both (isEq (cmp m n)) (same p q))
+abbrev pub samePoly : Poly → Poly → Bool
+samePoly nil nil = true
+samePoly nil (term d n q) = false
+samePoly (term c m p) nil = false
+samePoly (term c m p) (term d n q) = both (sameℤ c d) (both (isEq (cmp m n)) (samePoly p q))
 
 sameℤ-eq : (c d : ℤ) → T (sameℤ c d) → c ≡ d
 sameℤ-eq (pos a) (pos b) t = ap pos (eqb→eq a b t)
@@ -192,92 +193,92 @@ is-eq Ordering·lt t = absurd t
 is-eq Ordering·eq t = refl
 is-eq Ordering·gt t = absurd t
 
-same-eq : (p q : Poly) → T (same p q) → p ≡ q
+same-eq : (p q : Poly) → T (samePoly p q) → p ≡ q
 same-eq nil nil t = refl
 same-eq nil (term d n q) t = absurd t
 same-eq (term c m p) nil t = absurd t
 same-eq (term c m p) (term d n q) t =
-    let t₁ = both-parts (sameℤ c d) (both (isEq (cmp m n)) (same p q)) t in
-    let t₂ = both-parts (isEq (cmp m n)) (same p q) (t₁ .1) in
+    let t₁ = both-parts (sameℤ c d) (both (isEq (cmp m n)) (samePoly p q)) t in
+    let t₂ = both-parts (isEq (cmp m n)) (samePoly p q) (t₁ .1) in
     λ i. term (sameℤ-eq c d (t₁ .0) i) (cmp-eq m n (is-eq (cmp m n) (t₂ .0)) i) (same-eq p q (t₂ .1) i)
 
 -- ---- the theorem
 pub data Sides (ρ : List ℤ) (a b : ℤ) : Type 0 where
-  sides : Reads ρ a → Reads ρ b → Sides ρ a b
+  sides : IntReading ρ a → IntReading ρ b → Sides ρ a b
 
 abbrev pub Same : {ρ : List ℤ} {a b : ℤ} → Sides ρ a b → Type 0
-Same (sides r s) = T (same (norm r) (norm s))
+Same (sides r s) = T (samePoly (norm r) (norm s))
 
 pub ring : (ρ : List ℤ) {a b : ℤ} (r : Sides ρ a b) → Same r → a ≡ b
 ring ρ (sides r s) t = sym (norm-sound r) ∙ ap (λ p. val p ρ) (same-eq (norm r) (norm s) t) ∙ norm-sound s
 
 -- ---- what `search reading` applies: the entries of ρ, the operations, and numerals
 -- (one rule for each place: rules `here` and `there` would meet `search`'s bound of 1,000 fits at six unknowns. Sixteen places; for one
--- more, `let w : Reads ρ (f 16) = var 16 in` before the call: `search` takes a variable in scope too)
-abbrev pub v0 : {x0 : ℤ} {ρ : List ℤ} → Reads (x0 ∷ ρ) x0
+-- more, `let w : IntReading ρ (f 16) = var 16 in` before the call: `search` takes a variable in scope too)
+abbrev pub v0 : {x0 : ℤ} {ρ : List ℤ} → IntReading (x0 ∷ ρ) x0
 v0 = var 0
 
-abbrev pub v1 : {x0 x1 : ℤ} {ρ : List ℤ} → Reads (x0 ∷ x1 ∷ ρ) x1
+abbrev pub v1 : {x0 x1 : ℤ} {ρ : List ℤ} → IntReading (x0 ∷ x1 ∷ ρ) x1
 v1 = var 1
 
-abbrev pub v2 : {x0 x1 x2 : ℤ} {ρ : List ℤ} → Reads (x0 ∷ x1 ∷ x2 ∷ ρ) x2
+abbrev pub v2 : {x0 x1 x2 : ℤ} {ρ : List ℤ} → IntReading (x0 ∷ x1 ∷ x2 ∷ ρ) x2
 v2 = var 2
 
-abbrev pub v3 : {x0 x1 x2 x3 : ℤ} {ρ : List ℤ} → Reads (x0 ∷ x1 ∷ x2 ∷ x3 ∷ ρ) x3
+abbrev pub v3 : {x0 x1 x2 x3 : ℤ} {ρ : List ℤ} → IntReading (x0 ∷ x1 ∷ x2 ∷ x3 ∷ ρ) x3
 v3 = var 3
 
-abbrev pub v4 : {x0 x1 x2 x3 x4 : ℤ} {ρ : List ℤ} → Reads (x0 ∷ x1 ∷ x2 ∷ x3 ∷ x4 ∷ ρ) x4
+abbrev pub v4 : {x0 x1 x2 x3 x4 : ℤ} {ρ : List ℤ} → IntReading (x0 ∷ x1 ∷ x2 ∷ x3 ∷ x4 ∷ ρ) x4
 v4 = var 4
 
-abbrev pub v5 : {x0 x1 x2 x3 x4 x5 : ℤ} {ρ : List ℤ} → Reads (x0 ∷ x1 ∷ x2 ∷ x3 ∷ x4 ∷ x5 ∷ ρ) x5
+abbrev pub v5 : {x0 x1 x2 x3 x4 x5 : ℤ} {ρ : List ℤ} → IntReading (x0 ∷ x1 ∷ x2 ∷ x3 ∷ x4 ∷ x5 ∷ ρ) x5
 v5 = var 5
 
-abbrev pub v6 : {x0 x1 x2 x3 x4 x5 x6 : ℤ} {ρ : List ℤ} → Reads (x0 ∷ x1 ∷ x2 ∷ x3 ∷ x4 ∷ x5 ∷ x6 ∷ ρ) x6
+abbrev pub v6 : {x0 x1 x2 x3 x4 x5 x6 : ℤ} {ρ : List ℤ} → IntReading (x0 ∷ x1 ∷ x2 ∷ x3 ∷ x4 ∷ x5 ∷ x6 ∷ ρ) x6
 v6 = var 6
 
-abbrev pub v7 : {x0 x1 x2 x3 x4 x5 x6 x7 : ℤ} {ρ : List ℤ} → Reads (x0 ∷ x1 ∷ x2 ∷ x3 ∷ x4 ∷ x5 ∷ x6 ∷ x7 ∷ ρ) x7
+abbrev pub v7 : {x0 x1 x2 x3 x4 x5 x6 x7 : ℤ} {ρ : List ℤ} → IntReading (x0 ∷ x1 ∷ x2 ∷ x3 ∷ x4 ∷ x5 ∷ x6 ∷ x7 ∷ ρ) x7
 v7 = var 7
 
-abbrev pub v8 : {x0 x1 x2 x3 x4 x5 x6 x7 x8 : ℤ} {ρ : List ℤ} → Reads (x0 ∷ x1 ∷ x2 ∷ x3 ∷ x4 ∷ x5 ∷ x6 ∷ x7 ∷ x8 ∷ ρ) x8
+abbrev pub v8 : {x0 x1 x2 x3 x4 x5 x6 x7 x8 : ℤ} {ρ : List ℤ} → IntReading (x0 ∷ x1 ∷ x2 ∷ x3 ∷ x4 ∷ x5 ∷ x6 ∷ x7 ∷ x8 ∷ ρ) x8
 v8 = var 8
 
-abbrev pub v9 : {x0 x1 x2 x3 x4 x5 x6 x7 x8 x9 : ℤ} {ρ : List ℤ} → Reads (x0 ∷ x1 ∷ x2 ∷ x3 ∷ x4 ∷ x5 ∷ x6 ∷ x7 ∷ x8 ∷ x9 ∷ ρ) x9
+abbrev pub v9 : {x0 x1 x2 x3 x4 x5 x6 x7 x8 x9 : ℤ} {ρ : List ℤ} → IntReading (x0 ∷ x1 ∷ x2 ∷ x3 ∷ x4 ∷ x5 ∷ x6 ∷ x7 ∷ x8 ∷ x9 ∷ ρ) x9
 v9 = var 9
 
-abbrev pub v10 : {x0 x1 x2 x3 x4 x5 x6 x7 x8 x9 x10 : ℤ} {ρ : List ℤ} → Reads (x0 ∷ x1 ∷ x2 ∷ x3 ∷ x4 ∷ x5 ∷ x6 ∷ x7 ∷ x8 ∷ x9 ∷ x10 ∷ ρ) x10
+abbrev pub v10 : {x0 x1 x2 x3 x4 x5 x6 x7 x8 x9 x10 : ℤ} {ρ : List ℤ} → IntReading (x0 ∷ x1 ∷ x2 ∷ x3 ∷ x4 ∷ x5 ∷ x6 ∷ x7 ∷ x8 ∷ x9 ∷ x10 ∷ ρ) x10
 v10 = var 10
 
-abbrev pub v11 : {x0 x1 x2 x3 x4 x5 x6 x7 x8 x9 x10 x11 : ℤ} {ρ : List ℤ} → Reads (x0 ∷ x1 ∷ x2 ∷ x3 ∷ x4 ∷ x5 ∷ x6 ∷ x7 ∷ x8 ∷ x9 ∷ x10 ∷ x11 ∷ ρ) x11
+abbrev pub v11 : {x0 x1 x2 x3 x4 x5 x6 x7 x8 x9 x10 x11 : ℤ} {ρ : List ℤ} → IntReading (x0 ∷ x1 ∷ x2 ∷ x3 ∷ x4 ∷ x5 ∷ x6 ∷ x7 ∷ x8 ∷ x9 ∷ x10 ∷ x11 ∷ ρ) x11
 v11 = var 11
 
-abbrev pub v12 : {x0 x1 x2 x3 x4 x5 x6 x7 x8 x9 x10 x11 x12 : ℤ} {ρ : List ℤ} → Reads (x0 ∷ x1 ∷ x2 ∷ x3 ∷ x4 ∷ x5 ∷ x6 ∷ x7 ∷ x8 ∷ x9 ∷ x10 ∷ x11 ∷ x12 ∷ ρ) x12
+abbrev pub v12 : {x0 x1 x2 x3 x4 x5 x6 x7 x8 x9 x10 x11 x12 : ℤ} {ρ : List ℤ} → IntReading (x0 ∷ x1 ∷ x2 ∷ x3 ∷ x4 ∷ x5 ∷ x6 ∷ x7 ∷ x8 ∷ x9 ∷ x10 ∷ x11 ∷ x12 ∷ ρ) x12
 v12 = var 12
 
-abbrev pub v13 : {x0 x1 x2 x3 x4 x5 x6 x7 x8 x9 x10 x11 x12 x13 : ℤ} {ρ : List ℤ} → Reads (x0 ∷ x1 ∷ x2 ∷ x3 ∷ x4 ∷ x5 ∷ x6 ∷ x7 ∷ x8 ∷ x9 ∷ x10 ∷ x11 ∷ x12 ∷ x13 ∷ ρ) x13
+abbrev pub v13 : {x0 x1 x2 x3 x4 x5 x6 x7 x8 x9 x10 x11 x12 x13 : ℤ} {ρ : List ℤ} → IntReading (x0 ∷ x1 ∷ x2 ∷ x3 ∷ x4 ∷ x5 ∷ x6 ∷ x7 ∷ x8 ∷ x9 ∷ x10 ∷ x11 ∷ x12 ∷ x13 ∷ ρ) x13
 v13 = var 13
 
-abbrev pub v14 : {x0 x1 x2 x3 x4 x5 x6 x7 x8 x9 x10 x11 x12 x13 x14 : ℤ} {ρ : List ℤ} → Reads (x0 ∷ x1 ∷ x2 ∷ x3 ∷ x4 ∷ x5 ∷ x6 ∷ x7 ∷ x8 ∷ x9 ∷ x10 ∷ x11 ∷ x12 ∷ x13 ∷ x14 ∷ ρ) x14
+abbrev pub v14 : {x0 x1 x2 x3 x4 x5 x6 x7 x8 x9 x10 x11 x12 x13 x14 : ℤ} {ρ : List ℤ} → IntReading (x0 ∷ x1 ∷ x2 ∷ x3 ∷ x4 ∷ x5 ∷ x6 ∷ x7 ∷ x8 ∷ x9 ∷ x10 ∷ x11 ∷ x12 ∷ x13 ∷ x14 ∷ ρ) x14
 v14 = var 14
 
-abbrev pub v15 : {x0 x1 x2 x3 x4 x5 x6 x7 x8 x9 x10 x11 x12 x13 x14 x15 : ℤ} {ρ : List ℤ} → Reads (x0 ∷ x1 ∷ x2 ∷ x3 ∷ x4 ∷ x5 ∷ x6 ∷ x7 ∷ x8 ∷ x9 ∷ x10 ∷ x11 ∷ x12 ∷ x13 ∷ x14 ∷ x15 ∷ ρ) x15
+abbrev pub v15 : {x0 x1 x2 x3 x4 x5 x6 x7 x8 x9 x10 x11 x12 x13 x14 x15 : ℤ} {ρ : List ℤ} → IntReading (x0 ∷ x1 ∷ x2 ∷ x3 ∷ x4 ∷ x5 ∷ x6 ∷ x7 ∷ x8 ∷ x9 ∷ x10 ∷ x11 ∷ x12 ∷ x13 ∷ x14 ∷ x15 ∷ ρ) x15
 v15 = var 15
 
 -- (a natural number's sum and product in ℤ: `pos (a + b)` is `pos a +ℤ pos b` by computation)
-abbrev pub add-nat : {ρ : List ℤ} {a b : ℕ} → Reads ρ (pos a) → Reads ρ (pos b) → Reads ρ (pos (a + b))
+abbrev pub add-nat : {ρ : List ℤ} {a b : ℕ} → IntReading ρ (pos a) → IntReading ρ (pos b) → IntReading ρ (pos (a + b))
 add-nat r s = add r s
 
-abbrev pub mul-nat : {ρ : List ℤ} {a b : ℕ} → Reads ρ (pos a) → Reads ρ (pos b) → Reads ρ (pos (a * b))
+abbrev pub mul-nat : {ρ : List ℤ} {a b : ℕ} → IntReading ρ (pos a) → IntReading ρ (pos b) → IntReading ρ (pos (a * b))
 mul-nat r s = mul r s
 
 -- (a numeral: the test computes at a numeral and at nothing else, so that a natural number that ρ lacks is not taken for one)
-abbrev pub numeral : {ρ : List ℤ} {n : ℕ} → eqb n n ≡ true → Reads ρ (pos n)
+abbrev pub numeral : {ρ : List ℤ} {n : ℕ} → eqb n n ≡ true → IntReading ρ (pos n)
 numeral {n} e = lit n
 
-abbrev pub numeral⁻ : {ρ : List ℤ} {n : ℕ} → eqb n n ≡ true → Reads ρ (negsuc n)
+abbrev pub numeral⁻ : {ρ : List ℤ} {n : ℕ} → eqb n n ≡ true → IntReading ρ (negsuc n)
 numeral⁻ {n} e = litn n
 
 -- (−(n + 1), which is how `negℤ (pos (suc n))` computes)
-abbrev pub negsuc-nat : {ρ : List ℤ} {n : ℕ} → Reads ρ (pos n) → Reads ρ (negsuc n)
+abbrev pub negsuc-nat : {ρ : List ℤ} {n : ℕ} → IntReading ρ (pos n) → IntReading ρ (negsuc n)
 negsuc-nat r = neg (nxt r)
 
 pub ruleset reading = (sides, v0, v1, v2, v3, v4, v5, v6, v7, v8, v9, v10, v11, v12, v13, v14, v15, add-nat, mul-nat, add, mul, neg, nxt, negsuc-nat, numeral, numeral⁻)

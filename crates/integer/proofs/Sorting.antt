@@ -12,7 +12,7 @@ use native.Mathlib.Omega.{arith}
 use lib.ListN.{length, getD, take, drop, length-take}
 use lib.Dec.{T}
 use Rattle.integer.specs.Words.{if_then_else_}
-use Rattle.integer.specs.Sorting.{insertedBy, sortedBy, atPlace, Ordered, ordered-none, ordered-more}
+use Rattle.integer.specs.Sorting.{sortedWith, sortedBy, atPlace, Ordered, ordered-none, ordered-more}
 use Rattle.integer.proofs.Lists.{In, first, later, in-nil, in-cons, in-front, in-getD, All, all-none, all-more, all-at, all-in}
 use Rattle.integer.proofs.Lists.{all-mono}
 use Rattle.integer.proofs.Lists.{all-take, Apart, apart-none, apart-more}
@@ -75,8 +75,8 @@ module _ {A : Type 0} where
 -- ---- the same elements
 
 module _ {A : Type 0} (before : A → A → Bool) where
-  pub from-inserted : (a : A) {b : A} (l : List A) → In b (insertedBy before a l) → (b ≡ a) ⊎ In b l
-  unfolding insertedBy
+  pub from-inserted : (a : A) {b : A} (l : List A) → In b (sortedWith before a l) → (b ≡ a) ⊎ In b l
+  unfolding sortedWith
   from-inserted a [] i = in-cons i
   from-inserted a {b} (c ∷ l) i = by (before a c) i (from-inserted a l)
     where
@@ -84,34 +84,34 @@ module _ {A : Type 0} (before : A → A → Bool) where
       on (inl e) = inl e
       on (inr j) = inr (later j)
 
-      at : (b ≡ c) ⊎ In b (insertedBy before a l) → (In b (insertedBy before a l) → (b ≡ a) ⊎ In b l) → (b ≡ a) ⊎ In b (c ∷ l)
+      at : (b ≡ c) ⊎ In b (sortedWith before a l) → (In b (sortedWith before a l) → (b ≡ a) ⊎ In b l) → (b ≡ a) ⊎ In b (c ∷ l)
       at (inl e) ih = inr (in-front e)
       at (inr j) ih = on (ih j)
 
-      by : (t : Bool) → In b (if t then a ∷ c ∷ l else c ∷ insertedBy before a l) → (In b (insertedBy before a l) → (b ≡ a) ⊎ In b l)
+      by : (t : Bool) → In b (if t then a ∷ c ∷ l else c ∷ sortedWith before a l) → (In b (sortedWith before a l) → (b ≡ a) ⊎ In b l)
           → (b ≡ a) ⊎ In b (c ∷ l)
       by true j ih = in-cons j
       by false j ih = at (in-cons j) ih
 
-  inserted-here : (a : A) (l : List A) → In a (insertedBy before a l)
-  unfolding insertedBy
+  inserted-here : (a : A) (l : List A) → In a (sortedWith before a l)
+  unfolding sortedWith
   inserted-here a [] = first
   inserted-here a (c ∷ l) = by (before a c) (inserted-here a l)
     where
-      by : (t : Bool) → In a (insertedBy before a l) → In a (if t then a ∷ c ∷ l else c ∷ insertedBy before a l)
+      by : (t : Bool) → In a (sortedWith before a l) → In a (if t then a ∷ c ∷ l else c ∷ sortedWith before a l)
       by true ih = first
       by false ih = later ih
 
-  inserted-other : (a : A) {b : A} {l : List A} → In b l → In b (insertedBy before a l)
-  unfolding insertedBy
+  inserted-other : (a : A) {b : A} {l : List A} → In b l → In b (sortedWith before a l)
+  unfolding sortedWith
   inserted-other a {b} (first {rest}) = by (before a b)
     where
-      by : (t : Bool) → In b (if t then a ∷ b ∷ rest else b ∷ insertedBy before a rest)
+      by : (t : Bool) → In b (if t then a ∷ b ∷ rest else b ∷ sortedWith before a rest)
       by true = later first
       by false = first
   inserted-other a {b} (later {b = c} {rest} i) = by (before a c) (inserted-other a i)
     where
-      by : (t : Bool) → In b (insertedBy before a rest) → In b (if t then a ∷ c ∷ rest else c ∷ insertedBy before a rest)
+      by : (t : Bool) → In b (sortedWith before a rest) → In b (if t then a ∷ c ∷ rest else c ∷ sortedWith before a rest)
       by true ih = later (later i)
       by false ih = later ih
 
@@ -129,13 +129,13 @@ module _ {A : Type 0} (before : A → A → Bool) where
   in-sorted {b} (first {rest}) = inserted-here b (sortedBy before rest)
   in-sorted (later {b = a} i) = inserted-other a (in-sorted i)
 
-  pub inserted-length : (a : A) (l : List A) → length (insertedBy before a l) ≡ suc (length l)
-  unfolding insertedBy
+  pub inserted-length : (a : A) (l : List A) → length (sortedWith before a l) ≡ suc (length l)
+  unfolding sortedWith
   inserted-length a [] = refl
   inserted-length a (b ∷ rest) = by (before a b) (inserted-length a rest)
     where
-      by : (c : Bool) → length (insertedBy before a rest) ≡ suc (length rest)
-          → length (if c then a ∷ b ∷ rest else b ∷ insertedBy before a rest) ≡ suc (suc (length rest))
+      by : (c : Bool) → length (sortedWith before a rest) ≡ suc (length rest)
+          → length (if c then a ∷ b ∷ rest else b ∷ sortedWith before a rest) ≡ suc (suc (length rest))
       by true e = refl
       by false e = ap suc e
 
@@ -145,22 +145,22 @@ module _ {A : Type 0} (before : A → A → Bool) where
   sorted-length (a ∷ l) = inserted-length a (sortedBy before l) ∙ ap suc (sorted-length l)
 
   -- of a list of which only the first k are kept, no more bears on the first k
-  take-inserted : (k : ℕ) (a : A) (l : List A) → take k (insertedBy before a (take k l)) ≡ take k (insertedBy before a l)
-  unfolding insertedBy
+  take-inserted : (k : ℕ) (a : A) (l : List A) → take k (sortedWith before a (take k l)) ≡ take k (sortedWith before a l)
+  unfolding sortedWith
   take-inserted zero a l = refl
   take-inserted (suc k) a [] = refl
   take-inserted (suc k) a (b ∷ l) = by (before a b) (take-inserted k a l)
     where
-      by : (c : Bool) → take k (insertedBy before a (take k l)) ≡ take k (insertedBy before a l)
-          → take (suc k) (if c then a ∷ b ∷ take k l else b ∷ insertedBy before a (take k l)) ≡ take (suc k)
-          (if c then a ∷ b ∷ l else b ∷ insertedBy before a l)
+      by : (c : Bool) → take k (sortedWith before a (take k l)) ≡ take k (sortedWith before a l)
+          → take (suc k) (if c then a ∷ b ∷ take k l else b ∷ sortedWith before a (take k l)) ≡ take (suc k)
+          (if c then a ∷ b ∷ l else b ∷ sortedWith before a l)
       by true ih = ap (λ (r : List A). a ∷ r) (take-less k b l)
       by false ih = ap (λ (r : List A). b ∷ r) ih
 
 -- ---- an order
 
 -- each of two different elements stands before the other or behind it
-pub record Linear {A : Type 0} (before : A → A → Bool) : Type 0 where
+pub record LinearOrder {A : Type 0} (before : A → A → Bool) : Type 0 where
   pub irreflexive : (a : A) → before a a ≡ false
   pub transitive : (a b c : A) → before a b ≡ true → before b c ≡ true → before a c ≡ true
   pub total : (a b : A) → before a b ≡ false → before b a ≡ false → a ≡ b
@@ -173,7 +173,7 @@ pub data Sorted {A : Type 0} (before : A → A → Bool) : List A → Type 0 whe
 never : {b : Bool} → b ≡ true → b ≡ false → ⊥
 never p q = subst T (sym p ∙ q) tt
 
-module _ {A : Type 0} {before : A → A → Bool} (linear : Linear before) where
+module _ {A : Type 0} {before : A → A → Bool} (linear : LinearOrder before) where
   -- not both before each other
   pub asymmetric : (a b : A) → before a b ≡ true → before b a ≡ false
   asymmetric a b p = by (before b a) refl
@@ -187,10 +187,10 @@ module _ {A : Type 0} {before : A → A → Bool} (linear : Linear before) where
   module _ (a b : A) where
     -- both stand before x, or both go past it, or one does
     front-two : (x : A) (l : List A) (u v s t : Bool) → before a x ≡ u → before b x ≡ v → before a b ≡ s → before b a ≡ t
-        → insertedBy before a (insertedBy before b l) ≡ insertedBy before b (insertedBy before a l)
-        → insertedBy before a (if v then b ∷ x ∷ l else x ∷ insertedBy before b l) ≡ insertedBy before b
-        (if u then a ∷ x ∷ l else x ∷ insertedBy before a l)
-    unfolding insertedBy
+        → sortedWith before a (sortedWith before b l) ≡ sortedWith before b (sortedWith before a l)
+        → sortedWith before a (if v then b ∷ x ∷ l else x ∷ sortedWith before b l) ≡ sortedWith before b
+        (if u then a ∷ x ∷ l else x ∷ sortedWith before a l)
+    unfolding sortedWith
     front-two x l true true true true r w p q ih = absurd (never (linear .transitive a b a p q) (linear .irreflexive a))
     front-two x l true true true false r w p q ih = rw (p, q, w)
     front-two x l true true false true r w p q ih = rw (p, q, r)
@@ -201,8 +201,8 @@ module _ {A : Type 0} {before : A → A → Bool} (linear : Linear before) where
     front-two x l false true false t r w p q ih = rw (w, p, r)
     front-two x l false false s t r w p q ih = rw (r, w) (ap (λ (m : List A). x ∷ m) ih)
 
-    inserted-two : (l : List A) → insertedBy before a (insertedBy before b l) ≡ insertedBy before b (insertedBy before a l)
-    unfolding insertedBy
+    inserted-two : (l : List A) → sortedWith before a (sortedWith before b l) ≡ sortedWith before b (sortedWith before a l)
+    unfolding sortedWith
     inserted-two [] = by (before a b) (before b a) refl refl
       where
         by : (s t : Bool) → before a b ≡ s → before b a ≡ t
@@ -215,28 +215,28 @@ module _ {A : Type 0} {before : A → A → Bool} (linear : Linear before) where
 
   -- elements put in one by one, from the left on, of which the first k are kept
   abbrev pub keep : ℕ → List A → A → List A
-  keep k l a = take k (insertedBy before a l)
+  keep k l a = take k (sortedWith before a l)
 
   -- elements put into a list, from the right on
   poured : List A → List A → List A
   poured [] l = l
-  poured (a ∷ more) l = insertedBy before a (poured more l)
+  poured (a ∷ more) l = sortedWith before a (poured more l)
 
-  poured-past : (a : A) (more l : List A) → poured more (insertedBy before a l) ≡ insertedBy before a (poured more l)
+  poured-past : (a : A) (more l : List A) → poured more (sortedWith before a l) ≡ sortedWith before a (poured more l)
   unfolding poured
   poured-past a [] l = refl
-  poured-past a (b ∷ more) l = ap (insertedBy before b) (poured-past a more l) ∙ inserted-two b a (poured more l)
+  poured-past a (b ∷ more) l = ap (sortedWith before b) (poured-past a more l) ∙ inserted-two b a (poured more l)
 
   poured-nil : (more : List A) → poured more [] ≡ sortedBy before more
   unfolding poured sortedBy
   poured-nil [] = refl
-  poured-nil (a ∷ more) = ap (insertedBy before a) (poured-nil more)
+  poured-nil (a ∷ more) = ap (sortedWith before a) (poured-nil more)
 
   keep-poured : (k : ℕ) (more l : List A) → foldl (keep k) (take k l) more ≡ take k (poured more l)
   unfolding poured
   keep-poured k [] l = refl
   keep-poured k (a ∷ more) l =
-      ap (λ (m : List A). foldl (keep k) m more) (take-inserted before k a l) ∙ keep-poured k more (insertedBy before a l)
+      ap (λ (m : List A). foldl (keep k) m more) (take-inserted before k a l) ∙ keep-poured k more (sortedWith before a l)
       ∙ ap (take k) (poured-past a more l)
 
   pub keep-sorted : (k : ℕ) (more : List A) → foldl (keep k) [] more ≡ take k (sortedBy before more)
@@ -248,13 +248,13 @@ module _ {A : Type 0} {before : A → A → Bool} (linear : Linear before) where
 
   -- ---- what sorting gives
 
-  inserted-sorted : (a : A) {l : List A} → Sorted before l → (In a l → ⊥) → Sorted before (insertedBy before a l)
-  unfolding insertedBy
+  inserted-sorted : (a : A) {l : List A} → Sorted before l → (In a l → ⊥) → Sorted before (sortedWith before a l)
+  unfolding sortedWith
   inserted-sorted a sorted-none out = sorted-more all-none sorted-none
   inserted-sorted a (sorted-more {a = b} {rest} o os) out = by (before a b) refl (inserted-sorted a os (λ i. out (later i)))
     where
-      behind : before a b ≡ false → All (λ c. before b c ≡ true) (insertedBy before a rest)
-      behind p = all-of (insertedBy before a rest) (λ c i. at c (from-inserted before a rest i))
+      behind : before a b ≡ false → All (λ c. before b c ≡ true) (sortedWith before a rest)
+      behind p = all-of (sortedWith before a rest) (λ c i. at c (from-inserted before a rest i))
         where
           ahead : before b a ≡ true
           ahead = to (before b a) refl
@@ -271,8 +271,8 @@ module _ {A : Type 0} {before : A → A → Bool} (linear : Linear before) where
           all-of [] h = all-none
           all-of (c ∷ l) h = all-more (h c first) (all-of l (λ d i. h d (later i)))
 
-      by : (t : Bool) → before a b ≡ t → Sorted before (insertedBy before a rest)
-          → Sorted before (if t then a ∷ b ∷ rest else b ∷ insertedBy before a rest)
+      by : (t : Bool) → before a b ≡ t → Sorted before (sortedWith before a rest)
+          → Sorted before (if t then a ∷ b ∷ rest else b ∷ sortedWith before a rest)
       by true p ih = sorted-more (all-more p (all-mono (λ c q. linear .transitive a b c p q) o)) (sorted-more o os)
       by false p ih = sorted-more (behind p) ih
 
@@ -381,20 +381,20 @@ module _ {A : Type 0} {before : A → A → Bool} (linear : Linear before) where
       by true true r w = absurd (never (linear .transitive a b c r w) p)
       by true false r w = absurd (never (rw (linear .total b c w q) at r) p)
 
-  pub inserted-ordered : (a : A) {l : List A} → Ordered before l → Ordered before (insertedBy before a l)
-  unfolding insertedBy
+  pub inserted-ordered : (a : A) {l : List A} → Ordered before l → Ordered before (sortedWith before a l)
+  unfolding sortedWith
   inserted-ordered a ordered-none = ordered-more all-none ordered-none
   inserted-ordered a (ordered-more {a = b} {rest} o os) = by (before a b) refl (inserted-ordered a os)
     where
-      behind : before a b ≡ false → All (λ c. before c b ≡ false) (insertedBy before a rest)
-      behind p = all-in (insertedBy before a rest) (λ c i. at c (from-inserted before a rest i))
+      behind : before a b ≡ false → All (λ c. before c b ≡ false) (sortedWith before a rest)
+      behind p = all-in (sortedWith before a rest) (λ c i. at c (from-inserted before a rest i))
         where
           at : (c : A) → (c ≡ a) ⊎ In c rest → before c b ≡ false
           at c (inl e) = rw e p
           at c (inr j) = all-at o j
 
-      by : (t : Bool) → before a b ≡ t → Ordered before (insertedBy before a rest)
-          → Ordered before (if t then a ∷ b ∷ rest else b ∷ insertedBy before a rest)
+      by : (t : Bool) → before a b ≡ t → Ordered before (sortedWith before a rest)
+          → Ordered before (if t then a ∷ b ∷ rest else b ∷ sortedWith before a rest)
       by true p ih =
           let q : before b a ≡ false = asymmetric a b p in
           ordered-more (all-more q (all-mono (λ c r. not-before c a b r q) o)) (ordered-more o os)
@@ -422,8 +422,8 @@ module _ {A : Type 0} {before : A → A → Bool} (linear : Linear before) where
 -- an element goes behind those that it is not before, and ahead of what it is before
 pub inserted-at : {A : Type 0} (before : A → A → Bool) (a : A) (p : ℕ) (l : List A)
     → All (λ b. before a b ≡ false) (take p l) → All (λ b. before a b ≡ true) (drop p l)
-    → insertedBy before a l ≡ take p l ++ (a ∷ drop p l)
-unfolding insertedBy
+    → sortedWith before a l ≡ take p l ++ (a ∷ drop p l)
+unfolding sortedWith
 inserted-at before a zero [] ahead behind = refl
 inserted-at before a (suc p) [] ahead behind = refl
 inserted-at before a zero (b ∷ l) ahead (all-more h hs) = rw h
@@ -431,32 +431,32 @@ inserted-at {A} before a (suc p) (b ∷ l) (all-more h hs) behind = rw h (ap (λ
 
 -- of an element that comes before the one at a place, the first ones up to there are those ahead of that place with it
 pub inserted-ahead : {A : Type 0} (before : A → A → Bool) (a : A) (j : ℕ) (l : List A) (d : A) → j < length l
-    → before a (getD l j d) ≡ true → take (suc j) (insertedBy before a l) ≡ insertedBy before a (take j l)
-unfolding insertedBy
+    → before a (getD l j d) ≡ true → take (suc j) (sortedWith before a l) ≡ sortedWith before a (take j l)
+unfolding sortedWith
 inserted-ahead before a j [] d h p = absurd (omega arith)
 inserted-ahead before a zero (b ∷ l) d h p = rw p
 inserted-ahead {A} before a (suc j) (b ∷ l) d h p = by (before a b) (inserted-ahead before a j l d (omega arith) p)
   where
-    by : (t : Bool) → take (suc j) (insertedBy before a l) ≡ insertedBy before a (take j l)
-        → take (suc (suc j)) (if t then a ∷ b ∷ l else b ∷ insertedBy before a l)
-        ≡ (if t then a ∷ b ∷ take j l else b ∷ insertedBy before a (take j l))
+    by : (t : Bool) → take (suc j) (sortedWith before a l) ≡ sortedWith before a (take j l)
+        → take (suc (suc j)) (if t then a ∷ b ∷ l else b ∷ sortedWith before a l)
+        ≡ (if t then a ∷ b ∷ take j l else b ∷ sortedWith before a (take j l))
     by true ih = refl
     by false ih = ap (λ (m : List A). b ∷ m) ih
 
 -- the list of those that stay has no more than there were and one, nor more than k
 pub kept-length : {A : Type 0} (before : A → A → Bool) (k : ℕ) (a : A) (l : List A) → length l ≤ k
-    → (length l ≤ length (take k (insertedBy before a l))) × (length (take k (insertedBy before a l)) ≤ k)
+    → (length l ≤ length (take k (sortedWith before a l))) × (length (take k (sortedWith before a l)) ≤ k)
 kept-length before k a l h =
-    let e : length (take k (insertedBy before a l)) ≡ min k (suc (length l)) =
-    length-take k (insertedBy before a l) ∙ ap (min k) (inserted-length before a l) in
+    let e : length (take k (sortedWith before a l)) ≡ min k (suc (length l)) =
+    length-take k (sortedWith before a l) ∙ ap (min k) (inserted-length before a l) in
     (omega arith, omega arith)
 
 pub kept-more : {A : Type 0} (before : A → A → Bool) (k : ℕ) (l more : List A) → length l ≤ k
-    → length l ≤ length (foldl (λ (m : List A) (a : A). take k (insertedBy before a m)) l more)
+    → length l ≤ length (foldl (λ (m : List A) (a : A). take k (sortedWith before a m)) l more)
 kept-more before k l [] h = omega arith
 kept-more before k l (a ∷ more) h =
     let one = kept-length before k a l h in
-    omega (arith, one .0, kept-more before k (take k (insertedBy before a l)) more (one .1))
+    omega (arith, one .0, kept-more before k (take k (sortedWith before a l)) more (one .1))
 
 -- what is at a place, and what is past the end
 pub place-getD : {A : Type 0} (i : ℕ) (l : List A) (d : A) → i < length l → atPlace i l ≡ some (getD l i d)

@@ -9,9 +9,9 @@ use mathlib.Core.Path.{_≡_, refl, sym, subst}
 use lib.Dec.{T, eqb, eqb-refl}
 
 -- a && b && c && ..
-abbrev pub joined : Bool → List Bool → Bool
-joined a [] = a
-joined a (b ∷ more) = joined (a && b) more
+abbrev pub andAll : Bool → List Bool → Bool
+andAll a [] = a
+andAll a (b ∷ more) = andAll (a && b) more
 
 -- T a × (T b × (T c × ..))
 abbrev pub Each : Bool → List Bool → Type 0
@@ -28,11 +28,11 @@ passes-and : (a b : Bool) (more : List Bool) → T a → Each b more → Each (a
 passes-and true b more t u = u
 passes-and false b more t u = absurd t
 
-pub passed : (a : Bool) (more : List Bool) → T (joined a more) → Each a more
+pub passed : (a : Bool) (more : List Bool) → T (andAll a more) → Each a more
 passed a [] t = t
 passed a (b ∷ more) t = passed-and a b more (passed (a && b) more t)
 
-pub passes : (a : Bool) (more : List Bool) → Each a more → T (joined a more)
+pub passes : (a : Bool) (more : List Bool) → Each a more → T (andAll a more)
 passes a [] t = t
 passes a (b ∷ more) t = passes (a && b) more (passes-and a b more (t .0) (t .1))
 

@@ -14,7 +14,7 @@ use Rattle.integer.proofs.Lists.{same-or-not}
 use Rattle.dstree.specs.Measures.{Trace}
 use Rattle.dstree.specs.Figures.{run, sumOn, scatterOn}
 use Rattle.tables.specs.View.{traceIn}
-use Rattle.leaf_figures.specs.Rows.{FiguresAt, Rows, Placed, Column, Columns}
+use Rattle.leaf_figures.specs.Rows.{FiguresAt, Rows, PlacesInList, Column, Columns}
 
 -- figures that are the same elsewhere
 pub kept-at : {x : Trace} {first last : ℕ} {sums : List ℤ} {scatters : List ℕ} {i : ℕ} (sums′ : List ℤ) (scatters′ : List ℕ) → FiguresAt x first last sums scatters i
@@ -126,7 +126,7 @@ no-columns samples n list count = record {
 }
 
 -- columns by the places of the list are rows by its numbers
-pub rows-of : (samples : List ℤ) (n : ℕ) (list : List ℕ) (count : ℕ) (place runs : List ℕ) (sums : List ℤ) (scatters : List ℕ) → Placed list count place
+pub rows-of : (samples : List ℤ) (n : ℕ) (list : List ℕ) (count : ℕ) (place runs : List ℕ) (sums : List ℤ) (scatters : List ℕ) → PlacesInList list count place
     → Columns samples n list count runs sums scatters → Rows samples n (take count list) place runs sums scatters
 rows-of samples n list count place runs sums scatters p c = record {
   places = c .runs-places;

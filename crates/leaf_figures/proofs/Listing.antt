@@ -22,8 +22,8 @@ in-more l i {t} h m = in-snoc (take i l) (subst (In t) more m)
     more = rw (add-one i) (take-suc l i 0 h)
 
 -- what holds of those in the first places, and of the next, holds of one place more
-pub all-more : (l : List ℕ) (P : ℕ → Type 0) (i : ℕ) → i < length l → ((t : ℕ) → In t (take i l) → P t) → P (getD l i 0) → (t : ℕ) → In t (take (i + 1) l) → P t
-all-more l P i h all here t m = by (in-more l i h m)
+pub all-taken-more : (l : List ℕ) (P : ℕ → Type 0) (i : ℕ) → i < length l → ((t : ℕ) → In t (take i l) → P t) → P (getD l i 0) → (t : ℕ) → In t (take (i + 1) l) → P t
+all-taken-more l P i h all here t m = by (in-more l i h m)
   where
     by : In t (take i l) ⊎ (t ≡ getD l i 0) → P t
     by (inl j) = all t j

@@ -69,16 +69,16 @@ drop-take (suc p) (suc m) [] = sym (take-nil (suc m - suc p))
 drop-take (suc p) (suc m) (x ∷ l) = let e : suc m - suc p ≡ m - p = omega arith in rw e (drop-take p m l)
 
 -- ends up to place i, moved: those before the place, the new one, and those behind it
-abbrev pub Moved : List ℕ → ℕ → ℕ → List ℕ → ℕ → Type 0
-Moved from new place at i = take (i + 1) at ≡ take place from ++ new ∷ take (i - place) (drop place from)
+abbrev pub EndsMoved : List ℕ → ℕ → ℕ → List ℕ → ℕ → Type 0
+EndsMoved from new place at i = take (i + 1) at ≡ take place from ++ new ∷ take (i - place) (drop place from)
 
-pub moved-none : (from : List ℕ) (new place : ℕ) → place < length from → Moved from new place (set from place new) place
+pub moved-none : (from : List ℕ) (new place : ℕ) → place < length from → EndsMoved from new place (set from place new) place
 moved-none from new place h =
     let e : place - place ≡ 0 = omega arith in
     rw (add-one place, take-suc-set from place new h, e)
 
-pub moved-more : (from : List ℕ) (new place : ℕ) (at : List ℕ) (i : ℕ) → place ≤ i → i < length from → i + 1 < length at → Moved from new place at i
-    → Moved from new place (set at (i + 1) (getD from i 0)) (i + 1)
+pub moved-more : (from : List ℕ) (new place : ℕ) (at : List ℕ) (i : ℕ) → place ≤ i → i < length from → i + 1 < length at → EndsMoved from new place at i
+    → EndsMoved from new place (set at (i + 1) (getD from i 0)) (i + 1)
 moved-more from new place at i p h room m =
     let e : i + 1 - place ≡ suc (i - place) = omega arith in
     let f : place + (i - place) ≡ i = omega arith in
@@ -87,7 +87,7 @@ moved-more from new place at i p h room m =
     take-suc rest (i - place) 0 (omega (arith, length-drop place from)) ∙ ap (λ (x : ℕ). take (i - place) rest ++ (x ∷ [])) (getD-drop place from (i - place) 0 ∙ ap (λ (j : ℕ). getD from j 0) f) in
     rw (add-one (i + 1), take-suc-set at (i + 1) (getD from i 0) room, m, e, more) (append-assoc (take place from) (new ∷ take (i - place) rest) (getD from i 0 ∷ []))
 
-pub moved-all : (from : List ℕ) (new count : ℕ) (at : List ℕ) → placeIn new (take count from) ≤ count → Moved from new (placeIn new (take count from)) at count
+pub moved-all : (from : List ℕ) (new count : ℕ) (at : List ℕ) → placeIn new (take count from) ≤ count → EndsMoved from new (placeIn new (take count from)) at count
     → take (count + 1) at ≡ cutAt new (take count from)
 moved-all from new count at h m =
     let p = placeIn new (take count from) in

@@ -11,9 +11,9 @@ use Rattle.dstree.specs.Node.{Segment, bySum, byScatter, figureOf}
 use Rattle.dstree.specs.Adding.{segmentOf}
 use Rattle.dstree.proofs.Deviations.{least-deviation, greatest-deviation}
 use Rattle.leaf_figures.specs.Sides.{segmentBy}
-use Rattle.leaf_figures.specs.declared.sides.Figures.{Figures}
+use Rattle.leaf_figures.specs.declared.sides.SideRange.{SideRange}
 
-module _ (traces : List Trace) (on : Run) (f : Figures) (e : segmentBy (on .last) f ≡ segmentOf traces on) where
+module _ (traces : List Trace) (on : Run) (f : SideRange) (e : segmentBy (on .last) f ≡ segmentOf traces on) where
   pub least-sum-is : f .«least_sum» ≡ leastℤ (map (figureOf bySum on) traces)
   unfolding segmentOf figureOf
   least-sum-is = ap (λ (s : Segment). s .leastSum) e

@@ -18,14 +18,14 @@ use Rattle.dstree.specs.Node.{Segment}
 use Rattle.dstree.specs.Adding.{segmentOf, tracesOf}
 use Rattle.tables.specs.View.{traceIn}
 use Rattle.leaf_figures.specs.Rows.{tracesAt}
-use Rattle.leaf_figures.specs.Sides.{marked, noFigures, withFigures, Small, segmentBy}
-use Rattle.leaf_figures.specs.declared.sides.Figures.{Figures}
+use Rattle.leaf_figures.specs.Sides.{marked, noFigures, withFigures, SmallFigures, segmentBy}
+use Rattle.leaf_figures.specs.declared.sides.SideRange.{SideRange}
 
 module _ (sumAt : ℕ → ℤ) (scatterAt : ℕ → ℕ) where
-  abbrev taking : Figures → ℕ → Figures
+  abbrev taking : SideRange → ℕ → SideRange
   taking f t = withFigures f (sumAt t) (scatterAt t)
 
-  abbrev figures : ℤ → ℤ → ℕ → ℕ → Figures
+  abbrev figures : ℤ → ℤ → ℕ → ℕ → SideRange
   figures a b c d = record { any = true; «least_sum» = a; «greatest_sum» = b; «least_scatter» = c; «greatest_scatter» = d }
 
   more-taken : (a b : ℤ) (c d : ℕ) (l : List ℕ) → foldl taking (figures a b c d) l ≡ figures (foldl lesser a (map sumAt l)) (foldl greater b (map sumAt l))
@@ -45,7 +45,7 @@ module _ (sumAt : ℕ → ℤ) (scatterAt : ℕ → ℕ) where
 -- of a side's traces
 module _ (stored : List Trace) (on : Run) (marks : List ℕ) (mark : ℕ) where
   -- one trace more, if it is on the side
-  abbrev pub sideTaking : Figures → ℕ → Figures
+  abbrev pub sideTaking : SideRange → ℕ → SideRange
   sideTaking f t = if eqb (getD marks t 0) mark then withFigures f (sumOn on (getD stored t [])) (scatterOn on (getD stored t [])) else f
 
   abbrev sums : ℕ → ℤ
@@ -54,12 +54,12 @@ module _ (stored : List Trace) (on : Run) (marks : List ℕ) (mark : ℕ) where
   abbrev scatters : ℕ → ℕ
   scatters t = scatterOn on (getD stored t [])
 
-  on-side : (f : Figures) (l : List ℕ) → foldl sideTaking f l ≡ foldl (taking sums scatters) f (marked marks mark l)
+  on-side : (f : SideRange) (l : List ℕ) → foldl sideTaking f l ≡ foldl (taking sums scatters) f (marked marks mark l)
   unfolding those
   on-side f [] = refl
-  on-side f (t ∷ l) = by (eqb (getD marks t 0) mark) (λ (g : Figures). on-side g l)
+  on-side f (t ∷ l) = by (eqb (getD marks t 0) mark) (λ (g : SideRange). on-side g l)
     where
-      by : (b : Bool) → ((g : Figures) → foldl sideTaking g l ≡ foldl (taking sums scatters) g (marked marks mark l))
+      by : (b : Bool) → ((g : SideRange) → foldl sideTaking g l ≡ foldl (taking sums scatters) g (marked marks mark l))
           → foldl sideTaking (if b then taking sums scatters f t else f) l ≡ foldl (taking sums scatters) f (if b then t ∷ marked marks mark l else marked marks mark l)
       by true rec = rec (taking sums scatters f t)
       by false rec = rec f
@@ -72,7 +72,7 @@ module _ (stored : List Trace) (on : Run) (marks : List ℕ) (mark : ℕ) where
 
 -- of the traces of a list
 module _ (samples : List ℤ) (n : ℕ) (on : Run) where
-  abbrev pub takingAt : Figures → ℕ → Figures
+  abbrev pub takingAt : SideRange → ℕ → SideRange
   takingAt f t = withFigures f (sumOn on (traceIn samples n t)) (scatterOn on (traceIn samples n t))
 
   pub along-taken : (numbers : List ℕ) → segmentBy (on .last) (foldl takingAt noFigures numbers) ≡ segmentOf (tracesAt samples n numbers) on
@@ -97,11 +97,11 @@ greater-small a b m h k = by (ltZ a b)
     by true = k
     by false = h
 
-pub with-small : (f : Figures) (s : ℤ) (v : ℕ) → Small f → natAbs s ≤ 2 ^ 23 → v ≤ 2 ^ 46 → Small (withFigures f s v)
+pub with-small : (f : SideRange) (s : ℤ) (v : ℕ) → SmallFigures f → natAbs s ≤ 2 ^ 23 → v ≤ 2 ^ 46 → SmallFigures (withFigures f s v)
 unfolding withFigures
 with-small f s v h hs hv = by (f .any)
   where
-    more : Figures
+    more : SideRange
     more = record {
       any = true;
       «least_sum» = lesser (f .«least_sum») s;
@@ -110,10 +110,10 @@ with-small f s v h hs hv = by (f .any)
       «greatest_scatter» = max (f .«greatest_scatter») v;
     }
 
-    one : Figures
+    one : SideRange
     one = record { any = true; «least_sum» = s; «greatest_sum» = s; «least_scatter» = v; «greatest_scatter» = v }
 
-    by : (b : Bool) → Small (if b then more else one)
+    by : (b : Bool) → SmallFigures (if b then more else one)
     by true = record {
       least-sum = lesser-small (f .«least_sum») s (2 ^ 23) (h .least-sum) hs;
       greatest-sum = greater-small (f .«greatest_sum») s (2 ^ 23) (h .greatest-sum) hs;
@@ -124,7 +124,7 @@ with-small f s v h hs hv = by (f .any)
 
 -- ---- the sums of small figures, read back
 
-module _ (f : Figures) (m : Small f) where
+module _ (f : SideRange) (m : SmallFigures f) where
   pub least-back : read w64 (f .«least_sum») ≡ f .«least_sum»
   least-back = toZ-ofZ (small {w = w64} {z = f .«least_sum»} (omega (arith, m .least-sum)))
 

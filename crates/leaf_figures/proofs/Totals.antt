@@ -15,16 +15,16 @@ use Rattle.leaf_figures.proofs.Placed.{end-at, no-end}
 abbrev pub spreadFrom : ℕ → List ℕ → List Trace → ℕ
 spreadFrom first ends traces = totalOver spreadOn first (segmentsFrom first ends traces)
 
-pub record Next (n first end : ℕ) (rest : List ℕ) : Type 0 where
+pub record RisesOn (n first end : ℕ) (rest : List ℕ) : Type 0 where
   pub rises : first ≤ end
   pub to-n : end ≤ n
   pub on : Rises n (end + 1) rest
 
-next-of : {n first end : ℕ} {rest : List ℕ} → Rises n first (end ∷ rest) → Next n first end rest
+next-of : {n first end : ℕ} {rest : List ℕ} → Rises n first (end ∷ rest) → RisesOn n first end rest
 next-of {n} {first} {end} {rest} (rises-more a b r) = record { rises = a; to-n = b; on = subst (λ (x : ℕ). Rises n x rest) (sym (add-one end)) r }
 
 module _ (at : List ℕ) (count : ℕ) (room : count ≤ length at) (i : ℕ) (h : i < count) where
-  pub next-at : {n first : ℕ} → Rises n first (drop i (take count at)) → Next n first (getD at i 0) (drop (i + 1) (take count at))
+  pub next-at : {n first : ℕ} → Rises n first (drop i (take count at)) → RisesOn n first (getD at i 0) (drop (i + 1) (take count at))
   next-at {n} {first} r = next-of (subst (Rises n first) (end-at at count room i h) r)
 
   pub spread-more : (first : ℕ) (traces : List Trace)

@@ -16,7 +16,7 @@ abbrev pub tracesAt : List ℤ → ℕ → List ℕ → List Trace
 tracesAt samples n numbers = map (traceIn samples n) numbers
 
 -- the first `count` places hold numbers of traces that lie in the table whole
-pub record Listed (samples : List ℤ) (n : ℕ) (list : List ℕ) (count : ℕ) : Type 0 where
+pub record TracesListed (samples : List ℤ) (n : ℕ) (list : List ℕ) (count : ℕ) : Type 0 where
   pub narrow : n ≤ mostSamples
   pub places : length list ≡ 4096
   pub few : count ≤ mostTraces
@@ -41,7 +41,7 @@ pub record Rows (samples : List ℤ) (n : ℕ) (numbers place runs : List ℕ) (
 -- ---- while the table is made
 
 -- each number's row is where it stands in the list
-pub record Placed (list : List ℕ) (count : ℕ) (place : List ℕ) : Type 0 where
+pub record PlacesInList (list : List ℕ) (count : ℕ) (place : List ℕ) : Type 0 where
   pub places : length place ≡ 4096
   pub inside : (t : ℕ) → In t (take count list) → t < 4096
   pub row : (t : ℕ) → In t (take count list) → getD place t 0 < count

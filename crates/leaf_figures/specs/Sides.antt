@@ -11,7 +11,7 @@ use Rattle.dstree.specs.Measures.{Trace}
 use Rattle.dstree.specs.Node.{Segment}
 use Rattle.dstree.specs.Adding.{tracesOf}
 use Rattle.tables.specs.Walk.{storedIn, numbersOf}
-use Rattle.leaf_figures.specs.declared.sides.Figures.{Figures}
+use Rattle.leaf_figures.specs.declared.sides.SideRange.{SideRange}
 
 -- the numbers with a mark
 abbrev pub marked : List ℕ → ℕ → List ℕ → List ℕ
@@ -22,17 +22,17 @@ abbrev pub sideTraces : List ℤ → List ℕ → ℕ → ℕ → ℕ → List �
 sideTraces samples links n k first marks mark = tracesOf (storedIn samples n k) (marked marks mark (numbersOf links k first))
 
 -- no trace yet
-abbrev pub noFigures : Figures
+abbrev pub noFigures : SideRange
 noFigures = record { any = false; «least_sum» = pos 0; «greatest_sum» = pos 0; «least_scatter» = 0; «greatest_scatter» = 0 }
 
 -- one trace's figures alone
-abbrev pub oneFigures : ℤ → ℕ → Figures
+abbrev pub oneFigures : ℤ → ℕ → SideRange
 oneFigures s v = record { any = true; «least_sum» = s; «greatest_sum» = s; «least_scatter» = v; «greatest_scatter» = v }
 
 -- one trace's figures more
-unfoldable pub withFigures : Figures → ℤ → ℕ → Figures
+unfoldable pub withFigures : SideRange → ℤ → ℕ → SideRange
 withFigures f s v =
-    let more : Figures = record {
+    let more : SideRange = record {
       any = true;
       «least_sum» = lesser (f .«least_sum») s;
       «greatest_sum» = greater (f .«greatest_sum») s;
@@ -42,12 +42,12 @@ withFigures f s v =
     if f .any then more else oneFigures s v
 
 -- figures of at most 256 samples of 16 bits
-pub record Small (f : Figures) : Type 0 where
+pub record SmallFigures (f : SideRange) : Type 0 where
   pub least-sum : natAbs (f .«least_sum») ≤ sumMost 256
   pub greatest-sum : natAbs (f .«greatest_sum») ≤ sumMost 256
   pub least-scatter : f .«least_scatter» ≤ scatterMost 256
   pub greatest-scatter : f .«greatest_scatter» ≤ scatterMost 256
 
 -- the figures as a segment of a node's record
-abbrev pub segmentBy : ℕ → Figures → Segment
+abbrev pub segmentBy : ℕ → SideRange → Segment
 segmentBy end f = record { end = end; leastSum = f .«least_sum»; greatestSum = f .«greatest_sum»; leastScatter = f .«least_scatter»; greatestScatter = f .«greatest_scatter» }

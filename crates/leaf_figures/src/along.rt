@@ -2,7 +2,7 @@
 
 use crate::rows::column_of;
 use crate::rows::figures_at;
-use crate::sides::Figures;
+use crate::sides::SideRange;
 use crate::sides::widened;
 use tables::numbers::wide;
 ghost use mathlib.Core.Path.{_≡_};
@@ -10,8 +10,8 @@ ghost use lib.ListN.{take};
 ghost use Rattle.dstree.specs.Figures.{run};
 ghost use Rattle.dstree.specs.Adding.{segmentOf};
 ghost use Rattle.tables.specs.Runs.{Inside};
-ghost use Rattle.leaf_figures.specs.Sides.{Small, segmentBy};
-ghost use Rattle.leaf_figures.specs.Rows.{tracesAt, Listed, Rows};
+ghost use Rattle.leaf_figures.specs.Sides.{SmallFigures, segmentBy};
+ghost use Rattle.leaf_figures.specs.Rows.{tracesAt, TracesListed, Rows};
 
 // A loop that leaves the last trace out does not meet this. `guess` is the column that the run may have.
 pub fn figures_along(
@@ -26,14 +26,14 @@ pub fn figures_along(
     guess: usize,
     first: usize,
     last: usize,
-) -> Figures
-    requires { ⌜ Listed (now samples) n (now list) count × Inside n first last
+) -> SideRange
+    requires { ⌜ TracesListed (now samples) n (now list) count × Inside n first last
         × Rows (now samples) n (take count (now list)) (now place) (now runs) (now sums) (now scatters) ⌝ }
     ensures { λ r. ⌜ segmentBy last r ≡ segmentOf (tracesAt (now (samples .entry)) n (take count (now (list .entry)))) (run first last) ⌝ }
-    ensures small { λ r. ⌜ Small r ⌝ }
+    ensures small { λ r. ⌜ SmallFigures r ⌝ }
 {
     let column = column_of(runs, guess, first, last);
-    let mut f = Figures {
+    let mut f = SideRange {
         any: false,
         least_sum: 0,
         greatest_sum: 0,

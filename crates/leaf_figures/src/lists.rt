@@ -7,7 +7,7 @@ ghost use lib.ListN.{length, take};
 ghost use Rattle.integer.specs.Lists.{In};
 ghost use Rattle.dstree.specs.Measures.{mostTraces};
 ghost use Rattle.tables.specs.Walk.{Rising, numbersOf};
-ghost use Rattle.leaf_figures.specs.Rows.{Placed};
+ghost use Rattle.leaf_figures.specs.Rows.{PlacesInList};
 
 // The numbers of the list that starts at `head`, in its order. The answer is how many there are; places behind them are not looked at.
 pub fn list_leaf(links: &[u16], k: usize, head: usize, list: &mut [u16; 4096]) -> usize
@@ -29,7 +29,7 @@ pub fn list_leaf(links: &[u16], k: usize, head: usize, list: &mut [u16; 4096]) -
 // Where each number stands in the list.
 pub fn place_list(list: &[u16; 4096], count: usize, place: &mut [u16; 4096])
     requires { ⌜ (length (now list) ≡ 4096) × (count ≤ mostTraces) × (length (now place) ≡ 4096) × ((t : ℕ) → In t (take count (now list)) → t < 4096) ⌝ }
-    ensures { λ _. ⌜ Placed (now (list .entry)) count (now (place .exit)) ⌝ }
+    ensures { λ _. ⌜ PlacesInList (now (list .entry)) count (now (place .exit)) ⌝ }
 {
     let mut i: usize = 0;
     while i < count {

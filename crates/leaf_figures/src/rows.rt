@@ -11,7 +11,7 @@ ghost use lib.ListN.{length, getD};
 ghost use Rattle.segment.specs.Limits.{sumMost, scatterMost};
 ghost use Rattle.dstree.specs.Figures.{run, sumOn, scatterOn};
 ghost use Rattle.tables.specs.View.{traceIn};
-ghost use Rattle.tables.specs.Runs.{RunIn};
+ghost use Rattle.tables.specs.Runs.{RunOfTrace};
 ghost use Rattle.leaf_figures.specs.Rows.{FiguresAt};
 
 // The column of a run, if it is the one that the caller thinks of; 48 for none. So a wrong guess costs time and nothing else.
@@ -44,7 +44,7 @@ pub fn figures_at(
     first: usize,
     last: usize,
 ) -> Figures
-    requires { ⌜ RunIn (now samples) n t first last × (column < 48 → t < length (now place))
+    requires { ⌜ RunOfTrace (now samples) n t first last × (column < 48 → t < length (now place))
         × (column < 48 → FiguresAt (traceIn (now samples) n t) first last (now sums) (now scatters) (column * 65 + getD (now place) t 0)) ⌝ }
     ensures sum { λ r. ⌜ (r .sum ≡ sumOn (run first last) (traceIn (now (samples .entry)) n t)) × (natAbs (r .sum) ≤ sumMost 256) ⌝ }
     ensures scatter { λ r. ⌜ (r .scatter ≡ scatterOn (run first last) (traceIn (now (samples .entry)) n t)) × (r .scatter ≤ scatterMost 256) ⌝ }

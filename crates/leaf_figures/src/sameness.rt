@@ -9,7 +9,7 @@ ghost use lib.ListN.{length, getD, take};
 ghost use Rattle.integer.specs.Lists.{In};
 ghost use Rattle.dstree.specs.Measures.{mostSamples};
 ghost use Rattle.tables.specs.View.{traceIn};
-ghost use Rattle.leaf_figures.specs.Rows.{Listed};
+ghost use Rattle.leaf_figures.specs.Rows.{TracesListed};
 
 // 0 if two samples are the same, and else 1.
 fn differs(a: i16, b: i16) -> u16
@@ -36,7 +36,7 @@ fn same_trace(x: &[i16], y: &[i16]) -> bool
 
 // Yes says that all of the list's traces are its first one. Of fewer than two it says no, which promises nothing.
 pub fn all_same(samples: &[i16], n: usize, list: &[u16; 4096], count: usize) -> bool
-    requires { ⌜ Listed (now samples) n (now list) count ⌝ }
+    requires { ⌜ TracesListed (now samples) n (now list) count ⌝ }
     ensures { λ r. ⌜ (r ≡ true → (t : ℕ) → In t (take count (now (list .entry))) → traceIn (now (samples .entry)) n t ≡ traceIn (now (samples .entry)) n (getD (now (list .entry)) 0 0)) ⌝ }
 {
     if count < 2 {

@@ -14,11 +14,11 @@ ghost use Rattle.dstree.specs.Figures.{run, sumOn, scatterOn};
 ghost use Rattle.dstree.specs.Adding.{segmentOf};
 ghost use Rattle.tables.specs.View.{traceIn};
 ghost use Rattle.tables.specs.Walk.{Stored};
-ghost use Rattle.tables.specs.Runs.{RunIn, Inside};
-ghost use Rattle.leaf_figures.specs.Sides.{sideTraces, withFigures, Small, segmentBy};
+ghost use Rattle.tables.specs.Runs.{RunOfTrace, Inside};
+ghost use Rattle.leaf_figures.specs.Sides.{sideTraces, withFigures, SmallFigures, segmentBy};
 
 // The figures of no trace are 0.
-pub struct Figures {
+pub struct SideRange {
     pub any: bool,
     pub least_sum: i64,
     pub greatest_sum: i64,
@@ -27,11 +27,11 @@ pub struct Figures {
 }
 
 // One trace's figures more.
-pub fn widened(f: Figures, sum: i64, scatter: u64) -> Figures
+pub fn widened(f: SideRange, sum: i64, scatter: u64) -> SideRange
     ensures { λ r. ⌜ r ≡ withFigures f sum scatter ⌝ }
 {
     if f.any {
-        Figures {
+        SideRange {
             any: true,
             least_sum: lesser(f.least_sum, sum),
             greatest_sum: greater(f.greatest_sum, sum),
@@ -39,7 +39,7 @@ pub fn widened(f: Figures, sum: i64, scatter: u64) -> Figures
             greatest_scatter: larger(f.greatest_scatter, scatter),
         }
     } else {
-        Figures {
+        SideRange {
             any: true,
             least_sum: sum,
             greatest_sum: sum,
@@ -57,11 +57,11 @@ fn with_trace(
     first: usize,
     last: usize,
     on_side: bool,
-    f: Figures,
-) -> Figures
-    requires { ⌜ RunIn (now samples) n t first last × Small f ⌝ }
+    f: SideRange,
+) -> SideRange
+    requires { ⌜ RunOfTrace (now samples) n t first last × SmallFigures f ⌝ }
     ensures { λ r. ⌜ r ≡ (if «on_side» then withFigures f (sumOn (run first last) (traceIn (now (samples .entry)) n t)) (scatterOn (run first last) (traceIn (now (samples .entry)) n t)) else f) ⌝ }
-    ensures small { λ r. ⌜ Small r ⌝ }
+    ensures small { λ r. ⌜ SmallFigures r ⌝ }
 {
     if on_side {
         let trace = trace_at(samples, n, t);
@@ -83,12 +83,12 @@ pub fn side_figures(
     mark: u8,
     first: usize,
     last: usize,
-) -> Figures
+) -> SideRange
     requires { ⌜ Stored (now samples) (now links) n k head × Inside n first last × (length (now marks) ≡ 4096) ⌝ }
     ensures { λ r. ⌜ segmentBy last r ≡ segmentOf (sideTraces (now (samples .entry)) (now (links .entry)) n k head (now (marks .entry)) mark) (run first last) ⌝ }
-    ensures small { λ r. ⌜ Small r ⌝ }
+    ensures small { λ r. ⌜ SmallFigures r ⌝ }
 {
-    let mut f = Figures {
+    let mut f = SideRange {
         any: false,
         least_sum: 0,
         greatest_sum: 0,

@@ -8,7 +8,7 @@ ghost use Rattle.dstree.specs.Adding.{segmentOf, spreadOn, spread};
 ghost use Rattle.dstree.specs.Formed.{Rises};
 ghost use Rattle.tables.specs.Runs.{Inside};
 ghost use Rattle.leaf_figures.specs.Ends.{endsOf, EndsRoom};
-ghost use Rattle.leaf_figures.specs.Rows.{tracesAt, Listed, Rows};
+ghost use Rattle.leaf_figures.specs.Rows.{tracesAt, TracesListed, Rows};
 
 // One segment's term of the spread.
 fn segment_spread(
@@ -24,7 +24,7 @@ fn segment_spread(
     first: usize,
     last: usize,
 ) -> u64
-    requires { ⌜ Listed (now samples) n (now list) count × Inside n first last
+    requires { ⌜ TracesListed (now samples) n (now list) count × Inside n first last
         × Rows (now samples) n (take count (now list)) (now place) (now runs) (now sums) (now scatters) ⌝ }
     ensures { λ r. ⌜ r ≡ spreadOn (run first last) (segmentOf (tracesAt (now (samples .entry)) n (take count (now (list .entry)))) (run first last)) ⌝ }
     ensures size { λ r. ⌜ r ≤ termMost ⌝ }
@@ -76,7 +76,7 @@ pub fn spread_along(
     halved: usize,
     e: crate::ends::Ends,
 ) -> u64
-    requires { ⌜ Listed (now samples) n (now list) count × Rows (now samples) n (take count (now list)) (now place) (now runs) (now sums) (now scatters) × EndsRoom e × Rises n 1 (endsOf e) ⌝ }
+    requires { ⌜ TracesListed (now samples) n (now list) count × Rows (now samples) n (take count (now list)) (now place) (now runs) (now sums) (now scatters) × EndsRoom e × Rises n 1 (endsOf e) ⌝ }
     ensures { λ r. ⌜ r ≡ spread (endsOf e) (tracesAt (now (samples .entry)) n (take count (now (list .entry)))) ⌝ }
     ensures size { λ r. ⌜ r ≤ spreadMost ⌝ }
 {

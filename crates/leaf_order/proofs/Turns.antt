@@ -16,9 +16,9 @@ use Rattle.heap.proofs.Sorting.{Above, sorted-pour, pour-nil, insert-nil, lengt
 use Rattle.dstree.specs.Measures.{Trace}
 use Rattle.dstree.specs.Node.{Test, leaf, inner, Tree, nodeAt}
 use Rattle.dstree.specs.Matching.{isLeaf}
-use Rattle.best_first.specs.NodeKeys.{boundIn, numberIn, leafIn, childKey, firstKey, inStead}
+use Rattle.best_first.specs.NodeKeys.{keyBound, keyNumber, keyLeaf, childKey, firstKey, inStead}
 use Rattle.best_first.specs.Branching.{Branching}
-use Rattle.best_first.specs.Waiting.{toCome, load}
+use Rattle.best_first.specs.Waiting.{toCome, nodesWaiting}
 use Rattle.best_first.proofs.Order.{Front, length-load, number-inside, come-first, come-leaf, load-leaf, front-leaf}
 use Rattle.best_first.proofs.Order.{come-inner, load-inner, front-inner, come-start, load-start, front-start}
 use Rattle.best_first.proofs.Reading.{leaves-in-order}
@@ -50,7 +50,7 @@ module _ (tree : Tree) (b : Branching tree) (query : Trace) where
           fits = omega (arith, b .some-node);
           room = rw keys (omega (arith, load-start tree b query));
         };
-        all = rw keys (ap (map leafIn) (come-start tree b query) ∙ leaves-in-order tree query (b .few));
+        all = rw keys (ap (map keyLeaf) (come-start tree b query) ∙ leaves-in-order tree query (b .few));
       }
 
   -- no key waits
@@ -67,24 +67,24 @@ module _ {tree : Tree} {query : Trace} {n : ℕ} {work : List ℕ} (w : Waits tr
   front : Front tree query (x ∷ others)
   front = subst (Front tree query) keys (record { sorted = sorted-pour (take n work) [] tt; keyed = w .keyed })
 
-  room : load tree (x ∷ others) ≤ length work
-  room = subst (λ (l : List ℕ). load tree l ≤ length work) keys (w .room)
+  room : nodesWaiting tree (x ∷ others) ≤ length work
+  room = subst (λ (l : List ℕ). nodesWaiting tree l ≤ length work) keys (w .room)
 
-  remain : remaining tree query n work ≡ map leafIn (toCome tree query (x ∷ others))
+  remain : remaining tree query n work ≡ map keyLeaf (toCome tree query (x ∷ others))
   unfolding remaining
-  remain = ap (λ (l : List ℕ). map leafIn (toCome tree query l)) keys
+  remain = ap (λ (l : List ℕ). map keyLeaf (toCome tree query l)) keys
 
   -- if its bound is past the limit, so is that of every leaf to come
-  pub least-past : Branching tree → (limited : Bool) (limit : ℕ) → isPast limited limit (boundIn x) ≡ true → All (Past limited limit) (remaining tree query n work)
+  pub least-past : Branching tree → (limited : Bool) (limit : ℕ) → isPast limited limit (keyBound x) ≡ true → All (Past limited limit) (remaining tree query n work)
   least-past b limited limit e = rw remain (by (toCome tree query (x ∷ others)) (come-first tree b query x others front))
     where
-      by : (l : List ℕ) → Above x l → All (Past limited limit) (map leafIn l)
+      by : (l : List ℕ) → Above x l → All (Past limited limit) (map keyLeaf l)
       by [] a = all-none
-      by (y ∷ l) a = all-more (past-more limited limit (boundIn x) (boundIn y) (omega (arith, a .0)) e) (by l (a .1))
+      by (y ∷ l) a = all-more (past-more limited limit (keyBound x) (keyBound y) (omega (arith, a .0)) e) (by l (a .1))
 
 -- ---- .. is out
 
-pub record Took (tree : Tree) (query : Trace) (n : ℕ) (work : List ℕ) (x : ℕ) (left : List ℕ) : Type 0 where
+pub record KeyTaken (tree : Tree) (query : Trace) (n : ℕ) (work : List ℕ) (x : ℕ) (left : List ℕ) : Type 0 where
   pub branching : Branching tree
   pub whole : length tree ≡ length work
   pub waits : Waits tree query n work
@@ -99,22 +99,22 @@ same-least {n} {x} {y} {work} {left} l p =
     let h : x ≡ y = cc in
     rw h p
 
-module _ {tree : Tree} {query : Trace} {n : ℕ} {work : List ℕ} {x : ℕ} {left : List ℕ} (c : Took tree query n work x left) where
+module _ {tree : Tree} {query : Trace} {n : ℕ} {work : List ℕ} {x : ℕ} {left : List ℕ} (c : KeyTaken tree query n work x left) where
   abbrev others : List ℕ
   others = keysIn (n - 1) left
 
   abbrev ahead : Front tree query (x ∷ others)
   ahead = front (c .waits) (c .popped .keys)
 
-  pub took-number : numberIn x < length work
+  pub took-number : keyNumber x < length work
   took-number = omega (arith, number-inside tree (c .branching) query x others ahead, c .whole)
 
   -- its node is a leaf
-  module _ {ns : List ℕ} (e : nodeAt tree (numberIn x) .kind ≡ leaf ns) where
-    pub took-leaf : (limited : Bool) (limit : ℕ) → isPast limited limit (boundIn x) ≡ false → HandedLeaf tree query limited limit n work left (boundIn x) (numberIn x) (n - 1)
+  module _ {ns : List ℕ} (e : nodeAt tree (keyNumber x) .kind ≡ leaf ns) where
+    pub took-leaf : (limited : Bool) (limit : ℕ) → isPast limited limit (keyBound x) ≡ false → HandedLeaf tree query limited limit n work left (keyBound x) (keyNumber x) (n - 1)
     unfolding remaining isLeaf
     took-leaf limited limit p = record {
-      first = remain (c .waits) (c .popped .keys) ∙ ap (map leafIn) (come-leaf tree (c .branching) query x others ahead e);
+      first = remain (c .waits) (c .popped .keys) ∙ ap (map keyLeaf) (come-leaf tree (c .branching) query x others ahead e);
       inside = number-inside tree (c .branching) query x others ahead;
       is-leaf = rw e tt;
       within = p;
@@ -127,33 +127,33 @@ module _ {tree : Tree} {query : Trace} {n : ℕ} {work : List ℕ} {x : ℕ} {le
     }
 
   -- its node has two children
-  module _ {test : Test} {l r : ℕ} (e : nodeAt tree (numberIn x) .kind ≡ inner test l r) where
+  module _ {test : Test} {l r : ℕ} (e : nodeAt tree (keyNumber x) .kind ≡ inner test l r) where
     after : List ℕ
     after = inStead tree query x l r others
 
-    after-load : load tree (x ∷ others) ≡ suc (load tree after)
+    after-load : nodesWaiting tree (x ∷ others) ≡ suc (nodesWaiting tree after)
     unfolding after
     after-load = load-inner tree (c .branching) query x others ahead e
 
     after-length : length after ≡ n + 1
     unfolding after
     after-length =
-        let kr = childKey tree query (boundIn x) r in
-        omega (arith, c .some-key, length-insert (childKey tree query (boundIn x) l) (insertKey kr others), length-insert kr others, keys-count (n - 1) left (omega (arith, c .waits .fits, c .long)))
+        let kr = childKey tree query (keyBound x) r in
+        omega (arith, c .some-key, length-insert (childKey tree query (keyBound x) l) (insertKey kr others), length-insert kr others, keys-count (n - 1) left (omega (arith, c .waits .fits, c .long)))
 
     -- there is room for both keys
     pub took-room : n - 1 + 2 ≤ length work
     took-room = omega (arith, c .some-key, after-length, length-load tree after, after-load, room (c .waits) (c .popped .keys))
 
-    module _ (between work′ : List ℕ) (long : length work′ ≡ length left) (q : Pushed (n - 1) (childKey tree query (boundIn x) r) left between)
-        (t : Pushed (n - 1 + 1) (childKey tree query (boundIn x) l) between work′) where
+    module _ (between work′ : List ℕ) (long : length work′ ≡ length left) (q : Pushed (n - 1) (childKey tree query (keyBound x) r) left between)
+        (t : Pushed (n - 1 + 1) (childKey tree query (keyBound x) l) between work′) where
       after-keys : keysIn (n - 1 + 2) work′ ≡ after
       unfolding after
       after-keys =
           let k : n - 1 + 2 ≡ n - 1 + 1 + 1 = omega arith in
-          rw k (t .keys ∙ ap (insertKey (childKey tree query (boundIn x) l)) (q .keys))
+          rw k (t .keys ∙ ap (insertKey (childKey tree query (keyBound x) l)) (q .keys))
 
-      pub took-less : load tree (keysIn (n - 1 + 2) work′) < load tree (keysIn n work)
+      pub took-less : nodesWaiting tree (keysIn (n - 1 + 2) work′) < nodesWaiting tree (keysIn n work)
       took-less = rw (c .popped .keys, after-keys) (omega (arith, after-load))
 
       pub took-inner : Waits tree query (n - 1 + 2) work′
@@ -167,5 +167,5 @@ module _ {tree : Tree} {query : Trace} {n : ℕ} {work : List ℕ} {x : ℕ} {le
 
       pub took-same : remaining tree query (n - 1 + 2) work′ ≡ remaining tree query n work
       unfolding remaining after
-      took-same = sym (remain (c .waits) (c .popped .keys) ∙ ap (map leafIn) (come-inner tree (c .branching) query x others ahead e)
-          ∙ ap (λ (k : List ℕ). map leafIn (toCome tree query k)) (sym after-keys))
+      took-same = sym (remain (c .waits) (c .popped .keys) ∙ ap (map keyLeaf) (come-inner tree (c .branching) query x others ahead e)
+          ∙ ap (λ (k : List ℕ). map keyLeaf (toCome tree query k)) (sym after-keys))

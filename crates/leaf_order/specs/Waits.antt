@@ -14,9 +14,9 @@ use Rattle.tables.specs.Layout.{kindPlace, firstPlace, rightPlace, recordPlaces
 use Rattle.tables.specs.Tables.{recordOf}
 use Rattle.tables.specs.View.{smallAt, nodeIn}
 use Rattle.query.specs.Bounded.{Bounded}
-use Rattle.best_first.specs.NodeKeys.{leafIn, childKey}
+use Rattle.best_first.specs.NodeKeys.{keyLeaf, childKey}
 use Rattle.best_first.specs.Branching.{Branching}
-use Rattle.best_first.specs.Waiting.{toCome, load, Keyed}
+use Rattle.best_first.specs.Waiting.{toCome, nodesWaiting, Keyed}
 
 -- ---- records
 
@@ -41,11 +41,11 @@ pub record Waits (tree : Tree) (query : Trace) (n : ℕ) (work : List ℕ) : Typ
   pub heap : IsHeap n work
   pub keyed : Keyed tree query (keysIn n work)
   pub fits : n ≤ length work
-  pub room : load tree (keysIn n work) ≤ length work
+  pub room : nodesWaiting tree (keysIn n work) ≤ length work
 
 -- the leaves that they stand for
 unfoldable pub remaining : Tree → Trace → ℕ → List ℕ → List LeafBound
-remaining tree query n work = map leafIn (toCome tree query (keysIn n work))
+remaining tree query n work = map keyLeaf (toCome tree query (keysIn n work))
 
 -- ---- what calls leave
 
@@ -55,7 +55,7 @@ pub record Begun (tree : Tree) (query : Trace) (work : List ℕ) : Type 0 where
   pub all : remaining tree query 1 work ≡ readingOrder tree query
 
 -- the right child's key is put in first, then the left one's
-pub record Opened (tree : Tree) (query : Trace) (n : ℕ) (r : List ℤ) (above : ℕ) (work work′ : List ℕ) : Type 0 where
+pub record ChildrenPushed (tree : Tree) (query : Trace) (n : ℕ) (r : List ℤ) (above : ℕ) (work work′ : List ℕ) : Type 0 where
   pub between : List ℕ
   pub long : length between ≡ length work
   pub right : Pushed n (childKey tree query above (smallAt r rightPlace)) work between

@@ -12,7 +12,7 @@ ghost use Rattle.tables.specs.Tables.{recordOf};
 ghost use Rattle.tables.specs.View.{smallAt};
 ghost use Rattle.prefixes.specs.Prefixes.{Prefixes};
 ghost use Rattle.best_first.specs.NodeKeys.{boundsBelow};
-ghost use Rattle.leaf_order.specs.Waits.{shapeIn, Walkable, Waits, Begun, Opened};
+ghost use Rattle.leaf_order.specs.Waits.{shapeIn, Walkable, Waits, Begun, ChildrenPushed};
 ghost use Rattle.leaf_order.specs.Handed.{Handed};
 
 // The next leaf: its bound, its number, and how many keys wait then. Or the end: no leaf comes whose bound is within the limit, and so many keys wait.
@@ -49,7 +49,8 @@ fn open_node(
 )
     requires { ⌜ Walkable (now nodes) (length (now work)) (now query) × Prefixes (now query) (now sums) (now squares) × (n + 2 ≤ length (now work)) × IsHeap n (now work) ⌝ }
     requires inner { ⌜ (j < length (now work)) × (above < boundsBelow) × (1 ≤ smallAt (recordOf (now nodes) j) kindPlace) ⌝ }
-    ensures { λ _. ⌜ Opened (shapeIn (now (nodes .entry)) (length (now (work .entry)))) (now (query .entry)) n (recordOf (now (nodes .entry)) j) above (now (work .entry)) (now (work .exit)) ⌝ }
+    ensures { λ _. ⌜ ChildrenPushed (shapeIn (now (nodes .entry)) (length (now (work .entry)))) (now (query .entry)) n
+        (recordOf (now (nodes .entry)) j) above (now (work .entry)) (now (work .exit)) ⌝ }
 {
     let first = node_small(nodes, j, FIRST);
     let second = node_small(nodes, j, RIGHT);

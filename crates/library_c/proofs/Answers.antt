@@ -42,11 +42,11 @@ use Rattle.checking.specs.Answered as checking
 use Rattle.checking.specs.declared.Checked.{Checked}
 use Rattle.checking.specs.declared.Checked.the-variants as k
 use Rattle.batching.specs.Answered as batching
-use Rattle.batching.specs.declared.Outcome as n
-use Rattle.batching.specs.declared.Outcome.the-variants as b
+use Rattle.batching.specs.declared.Batched as n
+use Rattle.batching.specs.declared.Batched.the-variants as b
 use Rattle.calls.specs.Outcome.{Outcome, outcome}
 use Rattle.calls.specs.Numbers.{codeOf, resultValues, valuesOf, laid}
-use Rattle.library_c.specs.Exported.{Returned, returned, returnedOf, Exported, exported, exportedOf}
+use Rattle.library_c.specs.COutcome.{Returned, returned, returnedOf, COutcome, cOutcome, cOutcomeOf}
 
 one-laid : (x : ℕ) (out : List ℕ) → set out 0 x ≡ laid (x ∷ []) out
 unfolding laid
@@ -109,27 +109,27 @@ pub four-stores : (out a b c d : List ℕ) (w x y z : ℕ) → a ≡ set out 0 w
 four-stores out a b c d w x y z e f g h = h ∙ ap (λ (l : List ℕ). set l 3 z) (three-stores out a b c w x y e f g)
 
 pub exported-call : (code : ℕ) (out out′ : List ℕ) (answer : Answer) (after : Tables) (beside : List (List ℕ)) (o : Outcome)
-    → returned code out′ ≡ returnedOf answer out → outcome answer after beside ≡ o → exported code out′ after beside ≡ exportedOf o out
+    → returned code out′ ≡ returnedOf answer out → outcome answer after beside ≡ o → cOutcome code out′ after beside ≡ cOutcomeOf o out
 exported-call code out out′ answer after beside o e f =
-    ap {B = Exported} (λ (x : Returned). record { answer = x; after = after; beside = beside }) e ∙ ap (λ (x : Outcome). exportedOf x out) f
+    ap {B = COutcome} (λ (x : Returned). record { answer = x; after = after; beside = beside }) e ∙ ap (λ (x : Outcome). cOutcomeOf x out) f
 
 -- ---- the answers of the calls, case by case
 
-pub opened-done : (answer : Opened) (out : List ℕ) → answer ≡ o.Done → returned 0 out ≡ returnedOf (opened.answerOf answer) out
-unfolding opened.answerOf
-opened-done answer out e = done-returned out ∙ ap (λ (x : Opened). returnedOf (opened.answerOf x) out) (sym e)
+pub opened-done : (answer : Opened) (out : List ℕ) → answer ≡ o.Done → returned 0 out ≡ returnedOf (opened.answerBy answer) out
+unfolding opened.answerBy
+opened-done answer out e = done-returned out ∙ ap (λ (x : Opened). returnedOf (opened.answerBy x) out) (sym e)
 
-pub opened-refused : (answer : Opened) (why : r.Refusal) (out : List ℕ) → answer ≡ o.Refused why → returnedOf (refusing (wordOf why)) out ≡ returnedOf (opened.answerOf answer) out
-unfolding opened.answerOf
-opened-refused answer why out e = ap (λ (x : Opened). returnedOf (opened.answerOf x) out) (sym e)
+pub opened-refused : (answer : Opened) (why : r.Refusal) (out : List ℕ) → answer ≡ o.Refused why → returnedOf (refusing (wordOf why)) out ≡ returnedOf (opened.answerBy answer) out
+unfolding opened.answerBy
+opened-refused answer why out e = ap (λ (x : Opened). returnedOf (opened.answerBy x) out) (sym e)
 
-pub added-at : (answer : Added) (number : ℕ) (out out′ : List ℕ) → out′ ≡ set out 0 number → answer ≡ a.At number → returned 0 out′ ≡ returnedOf (added.answerOf answer) out
-unfolding added.answerOf resultValues
-added-at answer number out out′ g e = one-returned (added number) number out out′ refl g ∙ ap (λ (x : Added). returnedOf (added.answerOf x) out) (sym e)
+pub added-at : (answer : Added) (number : ℕ) (out out′ : List ℕ) → out′ ≡ set out 0 number → answer ≡ a.At number → returned 0 out′ ≡ returnedOf (added.answerBy answer) out
+unfolding added.answerBy resultValues
+added-at answer number out out′ g e = one-returned (added number) number out out′ refl g ∙ ap (λ (x : Added). returnedOf (added.answerBy x) out) (sym e)
 
-pub added-refused : (answer : Added) (why : r.Refusal) (out : List ℕ) → answer ≡ a.Refused why → returnedOf (refusing (wordOf why)) out ≡ returnedOf (added.answerOf answer) out
-unfolding added.answerOf
-added-refused answer why out e = ap (λ (x : Added). returnedOf (added.answerOf x) out) (sym e)
+pub added-refused : (answer : Added) (why : r.Refusal) (out : List ℕ) → answer ≡ a.Refused why → returnedOf (refusing (wordOf why)) out ≡ returnedOf (added.answerBy answer) out
+unfolding added.answerBy
+added-refused answer why out e = ap (λ (x : Added). returnedOf (added.answerBy x) out) (sym e)
 
 pub found-at : (answer : Found) (trail : List ℕ) (trace distance leaves traces : ℕ) (out p q s t : List ℕ)
     → p ≡ set out 0 trace → q ≡ set p 1 distance → s ≡ set q 2 leaves → t ≡ set s 3 traces → answer ≡ f.At trace distance leaves traces
@@ -171,24 +171,24 @@ pub written-refused : (answer : Written) (sheet : List ℕ) (why : r.Refusal) (o
 unfolding writing.answerBy
 written-refused answer sheet why out e = ap (λ (x : Written). returnedOf (writing.answerBy x sheet) out) (sym e)
 
-pub read-done : (answer : Read) (out : List ℕ) → answer ≡ d.Done → returned 0 out ≡ returnedOf (reading.answerOf answer) out
-unfolding reading.answerOf
-read-done answer out e = done-returned out ∙ ap (λ (x : Read). returnedOf (reading.answerOf x) out) (sym e)
+pub read-done : (answer : Read) (out : List ℕ) → answer ≡ d.Done → returned 0 out ≡ returnedOf (reading.answerBy answer) out
+unfolding reading.answerBy
+read-done answer out e = done-returned out ∙ ap (λ (x : Read). returnedOf (reading.answerBy x) out) (sym e)
 
-pub read-refused : (answer : Read) (why : r.Refusal) (out : List ℕ) → answer ≡ d.Refused why → returnedOf (refusing (wordOf why)) out ≡ returnedOf (reading.answerOf answer) out
-unfolding reading.answerOf
-read-refused answer why out e = ap (λ (x : Read). returnedOf (reading.answerOf x) out) (sym e)
+pub read-refused : (answer : Read) (why : r.Refusal) (out : List ℕ) → answer ≡ d.Refused why → returnedOf (refusing (wordOf why)) out ≡ returnedOf (reading.answerBy answer) out
+unfolding reading.answerBy
+read-refused answer why out e = ap (λ (x : Read). returnedOf (reading.answerBy x) out) (sym e)
 
 pub imported-traces : (answer : Imported) (count : ℕ) (out out′ : List ℕ) → out′ ≡ set out 0 count → answer ≡ i.Traces count
-    → returned 0 out′ ≡ returnedOf (importing.answerOf answer) out
-unfolding importing.answerOf resultValues
+    → returned 0 out′ ≡ returnedOf (importing.answerBy answer) out
+unfolding importing.answerBy resultValues
 imported-traces answer count out out′ g is =
-    one-returned (book.imported count) count out out′ refl g ∙ ap (λ (x : Imported). returnedOf (importing.answerOf x) out) (sym is)
+    one-returned (book.imported count) count out out′ refl g ∙ ap (λ (x : Imported). returnedOf (importing.answerBy x) out) (sym is)
 
 pub imported-refused : (answer : Imported) (why : r.Refusal) (out : List ℕ) → answer ≡ i.Refused why
-    → returnedOf (refusing (wordOf why)) out ≡ returnedOf (importing.answerOf answer) out
-unfolding importing.answerOf
-imported-refused answer why out is = ap (λ (x : Imported). returnedOf (importing.answerOf x) out) (sym is)
+    → returnedOf (refusing (wordOf why)) out ≡ returnedOf (importing.answerBy answer) out
+unfolding importing.answerBy
+imported-refused answer why out is = ap (λ (x : Imported). returnedOf (importing.answerBy x) out) (sym is)
 
 pub exported-bytes : (answer : e.Exported) (size : ℕ) (buffer out out′ : List ℕ) → out′ ≡ set out 0 size → answer ≡ x.Bytes size
     → returned 0 out′ ≡ returnedOf (exporting.answerBy answer buffer) out
@@ -211,14 +211,14 @@ pub checked-refused : (answer : Checked) (why : r.Refusal) (out : List ℕ) → 
 unfolding checking.answerBy
 checked-refused answer why out is = ap (λ (x : Checked). returnedOf (checking.answerBy x) out) (sym is)
 
-pub batched-leaves : (answer : n.Outcome) (records : List Near) (trail : List ℕ) (leaves : ℕ) (out out′ : List ℕ) → out′ ≡ set out 0 leaves
+pub batched-leaves : (answer : n.Batched) (records : List Near) (trail : List ℕ) (leaves : ℕ) (out out′ : List ℕ) → out′ ≡ set out 0 leaves
     → answer ≡ b.Done leaves → returned 0 out′ ≡ returnedOf (batching.answerBy answer records trail) out
 unfolding batching.answerBy resultValues
 batched-leaves answer records trail leaves out out′ g is =
     one-returned (book.batched (record { answers = records; leaves = leaves; trail = take leaves trail })) leaves out out′ refl g
-    ∙ ap (λ (x : n.Outcome). returnedOf (batching.answerBy x records trail) out) (sym is)
+    ∙ ap (λ (x : n.Batched). returnedOf (batching.answerBy x records trail) out) (sym is)
 
-pub batched-refused : (answer : n.Outcome) (records : List Near) (trail : List ℕ) (why : r.Refusal) (out : List ℕ) → answer ≡ b.Refused why
+pub batched-refused : (answer : n.Batched) (records : List Near) (trail : List ℕ) (why : r.Refusal) (out : List ℕ) → answer ≡ b.Refused why
     → returnedOf (refusing (wordOf why)) out ≡ returnedOf (batching.answerBy answer records trail) out
 unfolding batching.answerBy
-batched-refused answer records trail why out is = ap (λ (x : n.Outcome). returnedOf (batching.answerBy x records trail) out) (sym is)
+batched-refused answer records trail why out is = ap (λ (x : n.Batched). returnedOf (batching.answerBy x records trail) out) (sym is)

@@ -6,7 +6,7 @@
 
 pub mod telling; // an answer as numbers
 
-use batching::Answer;
+use batching::AnswerRecord;
 ghost use mathlib.Core.Path.{_≡_};
 ghost use mathlib.Core.List.{[], _∷_};
 ghost use Rattle.dstree.specs.Measures.{measures};
@@ -14,8 +14,8 @@ ghost use Rattle.dstree.specs.KNearest.{listPlaces};
 ghost use Rattle.dstree.specs.Book as book;
 ghost use Rattle.tables.specs.Tables.{tables};
 ghost use Rattle.calls.specs.Effects.{outcomeOn};
-ghost use Rattle.batch_answers.specs.Answers.{nearsOf};
-ghost use Rattle.library_c.specs.Exported.{exported, exportedOf};
+ghost use Rattle.batch_answers.specs.AnswerRecords.{nearsOf};
+ghost use Rattle.library_c.specs.COutcome.{cOutcome, cOutcomeOf};
 
 // Two wrong programs that the contract rules out: one that gives the place as its code, and one that writes the place of a refusal into a place of `out`
 // behind the first.
@@ -31,10 +31,10 @@ pub extern "C" fn silkendoz_open(
     leaf_size: u64,
     out: &mut [u64],
 ) -> u64
-    ensures { λ r. ⌜ exported r (now (out .exit))
+    ensures { λ r. ⌜ cOutcome r (now (out .exit))
         (tables (now (control .exit)) (now (samples .exit)) (now (nodes .exit)) (now (links .exit)) (now (work .exit)))
         []
-        ≡ exportedOf (outcomeOn (book.opening (measures n capacity «leaf_size»))
+        ≡ cOutcomeOf (outcomeOn (book.opening (measures n capacity «leaf_size»))
         (tables (now (control .entry)) (now (samples .entry)) (now (nodes .entry)) (now (links .entry)) (now (work .entry)))) (now (out .entry)) ⌝ }
 {
     let answer = opening::open(control, samples, nodes, links, work, n, capacity, leaf_size);
@@ -52,10 +52,10 @@ pub extern "C" fn silkendoz_add(
     trace: &[i16],
     out: &mut [u64],
 ) -> u64
-    ensures { λ r. ⌜ exported r (now (out .exit))
+    ensures { λ r. ⌜ cOutcome r (now (out .exit))
         (tables (now (control .exit)) (now (samples .exit)) (now (nodes .exit)) (now (links .exit)) (now (work .entry)))
         []
-        ≡ exportedOf (outcomeOn (book.adding (now (trace .entry)))
+        ≡ cOutcomeOf (outcomeOn (book.adding (now (trace .entry)))
         (tables (now (control .entry)) (now (samples .entry)) (now (nodes .entry)) (now (links .entry)) (now (work .entry)))) (now (out .entry)) ⌝ }
 {
     let answer = adding::add(control, samples, nodes, links, work, trace);
@@ -74,10 +74,10 @@ pub extern "C" fn silkendoz_nearest(
     query: &[i16],
     out: &mut [u64],
 ) -> u64
-    ensures { λ r. ⌜ exported r (now (out .exit))
+    ensures { λ r. ⌜ cOutcome r (now (out .exit))
         (tables (now (control .entry)) (now (samples .entry)) (now (nodes .entry)) (now (links .entry)) (now (work .exit)))
         (now (trail .exit) ∷ [])
-        ≡ exportedOf (outcomeOn (book.matching (now (query .entry)) (now (trail .entry)))
+        ≡ cOutcomeOf (outcomeOn (book.matching (now (query .entry)) (now (trail .entry)))
         (tables (now (control .entry)) (now (samples .entry)) (now (nodes .entry)) (now (links .entry)) (now (work .entry)))) (now (out .entry)) ⌝ }
 {
     let answer = matching::nearest(control, samples, nodes, links, work, trail, query);
@@ -101,10 +101,10 @@ pub extern "C" fn silkendoz_k_nearest(
     k: u64,
     out: &mut [u64],
 ) -> u64
-    ensures { λ r. ⌜ exported r (now (out .exit))
+    ensures { λ r. ⌜ cOutcome r (now (out .exit))
         (tables (now (control .entry)) (now (samples .entry)) (now (nodes .entry)) (now (links .entry)) (now (work .exit)))
         (now (trail .exit) ∷ now (list .exit) ∷ [])
-        ≡ exportedOf (outcomeOn (book.listing k (now (query .entry)) (now (trail .entry)) (now (list .entry)))
+        ≡ cOutcomeOf (outcomeOn (book.listing k (now (query .entry)) (now (trail .entry)) (now (list .entry)))
         (tables (now (control .entry)) (now (samples .entry)) (now (nodes .entry)) (now (links .entry)) (now (work .entry))))
         (now (out .entry)) ⌝ }
 {
@@ -123,10 +123,10 @@ pub extern "C" fn silkendoz_write_sheet(
     sheet: &mut [u8],
     out: &mut [u64],
 ) -> u64
-    ensures { λ r. ⌜ exported r (now (out .exit))
+    ensures { λ r. ⌜ cOutcome r (now (out .exit))
         (tables (now (control .entry)) (now (samples .entry)) (now (nodes .entry)) (now (links .entry)) (now (work .entry)))
         (now (sheet .exit) ∷ [])
-        ≡ exportedOf (outcomeOn (book.writing (now (sheet .entry)))
+        ≡ cOutcomeOf (outcomeOn (book.writing (now (sheet .entry)))
         (tables (now (control .entry)) (now (samples .entry)) (now (nodes .entry)) (now (links .entry)) (now (work .entry)))) (now (out .entry)) ⌝ }
 {
     let answer = sheet_writing::write_sheet(control, samples, nodes, links, work, sheet);
@@ -144,10 +144,10 @@ pub extern "C" fn silkendoz_read_sheet(
     sheet: &[u8],
     out: &mut [u64],
 ) -> u64
-    ensures { λ r. ⌜ exported r (now (out .exit))
+    ensures { λ r. ⌜ cOutcome r (now (out .exit))
         (tables (now (control .exit)) (now (samples .exit)) (now (nodes .exit)) (now (links .exit)) (now (work .exit)))
         []
-        ≡ exportedOf (outcomeOn (book.reading (now (sheet .entry)))
+        ≡ cOutcomeOf (outcomeOn (book.reading (now (sheet .entry)))
         (tables (now (control .entry)) (now (samples .entry)) (now (nodes .entry)) (now (links .entry)) (now (work .entry)))) (now (out .entry)) ⌝ }
 {
     let answer = sheet_reading::read_sheet(control, samples, nodes, links, work, sheet);
@@ -166,10 +166,10 @@ pub extern "C" fn silkendoz_import_recording(
     bytes: &[u8],
     out: &mut [u64],
 ) -> u64
-    ensures { λ r. ⌜ exported r (now (out .exit))
+    ensures { λ r. ⌜ cOutcome r (now (out .exit))
         (tables (now (control .exit)) (now (samples .exit)) (now (nodes .exit)) (now (links .exit)) (now (work .entry)))
         []
-        ≡ exportedOf (outcomeOn (book.importing (now (bytes .entry)))
+        ≡ cOutcomeOf (outcomeOn (book.importing (now (bytes .entry)))
         (tables (now (control .entry)) (now (samples .entry)) (now (nodes .entry)) (now (links .entry)) (now (work .entry)))) (now (out .entry)) ⌝ }
 {
     let answer = importing::import_recording(control, samples, nodes, links, work, bytes);
@@ -189,10 +189,10 @@ pub extern "C" fn silkendoz_export_recording(
     rate: u64,
     out: &mut [u64],
 ) -> u64
-    ensures { λ r. ⌜ exported r (now (out .exit))
+    ensures { λ r. ⌜ cOutcome r (now (out .exit))
         (tables (now (control .entry)) (now (samples .entry)) (now (nodes .entry)) (now (links .entry)) (now (work .entry)))
         (now (buffer .exit) ∷ [])
-        ≡ exportedOf (outcomeOn (book.exporting number rate (now (buffer .entry)))
+        ≡ cOutcomeOf (outcomeOn (book.exporting number rate (now (buffer .entry)))
         (tables (now (control .entry)) (now (samples .entry)) (now (nodes .entry)) (now (links .entry)) (now (work .entry)))) (now (out .entry)) ⌝ }
 {
     let answer = exporting::export_recording(
@@ -218,10 +218,10 @@ pub extern "C" fn silkendoz_check_tables(
     work: &[u64],
     out: &mut [u64],
 ) -> u64
-    ensures { λ r. ⌜ exported r (now (out .exit))
+    ensures { λ r. ⌜ cOutcome r (now (out .exit))
         (tables (now (control .entry)) (now (samples .entry)) (now (nodes .entry)) (now (links .entry)) (now (work .entry)))
         []
-        ≡ exportedOf (outcomeOn book.checking
+        ≡ cOutcomeOf (outcomeOn book.checking
         (tables (now (control .entry)) (now (samples .entry)) (now (nodes .entry)) (now (links .entry)) (now (work .entry)))) (now (out .entry)) ⌝ }
 {
     let answer = checking::check_tables(control, samples, nodes, links, work);
@@ -242,13 +242,13 @@ pub extern "C" fn silkendoz_match_batch(
     trail: &mut [u16],
     queries: &[i16],
     many: usize,
-    answers: &mut [Answer],
+    answers: &mut [AnswerRecord],
     out: &mut [u64],
 ) -> u64
-    ensures { λ r. ⌜ exported r (now (out .exit))
+    ensures { λ r. ⌜ cOutcome r (now (out .exit))
         (tables (now (control .entry)) (now (samples .entry)) (now (nodes .entry)) (now (links .entry)) (now (work .exit)))
         (now (trail .exit) ∷ listPlaces (nearsOf (now (answers .exit))) ∷ [])
-        ≡ exportedOf (outcomeOn (book.batching many (now (queries .entry)) (now (trail .entry)) (nearsOf (now (answers .entry))))
+        ≡ cOutcomeOf (outcomeOn (book.batching many (now (queries .entry)) (now (trail .entry)) (nearsOf (now (answers .entry))))
         (tables (now (control .entry)) (now (samples .entry)) (now (nodes .entry)) (now (links .entry)) (now (work .entry))))
         (now (out .entry)) ⌝ }
 {

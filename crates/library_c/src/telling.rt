@@ -1,7 +1,7 @@
 // An answer as numbers: its code is given back, its values go into a lent slice.
 
 use adding::Added;
-use batching::Outcome;
+use batching::Batched;
 use checking::Checked;
 use exporting::Exported;
 use importing::Imported;
@@ -28,7 +28,7 @@ ghost use Rattle.importing.specs.Answered as importing;
 ghost use Rattle.exporting.specs.Answered as exporting;
 ghost use Rattle.checking.specs.Answered as checking;
 ghost use Rattle.batching.specs.Answered as batching;
-ghost use Rattle.library_c.specs.Exported.{returned, returnedOf};
+ghost use Rattle.library_c.specs.COutcome.{returned, returnedOf};
 
 // A number at its place, if there is such a place.
 fn put(out: &mut [u64], at: usize, x: u64)
@@ -49,7 +49,7 @@ fn tell_refusal(why: Refusal, out: &mut [u64]) -> u64
 }
 
 pub fn tell_opened(answer: Opened, out: &mut [u64]) -> u64
-    ensures { λ r. ⌜ returned r (now (out .exit)) ≡ returnedOf (opened.answerOf answer) (now (out .entry)) ⌝ }
+    ensures { λ r. ⌜ returned r (now (out .exit)) ≡ returnedOf (opened.answerBy answer) (now (out .entry)) ⌝ }
 {
     match answer {
         Opened::Done => 0,
@@ -58,7 +58,7 @@ pub fn tell_opened(answer: Opened, out: &mut [u64]) -> u64
 }
 
 pub fn tell_added(answer: Added, out: &mut [u64]) -> u64
-    ensures { λ r. ⌜ returned r (now (out .exit)) ≡ returnedOf (added.answerOf answer) (now (out .entry)) ⌝ }
+    ensures { λ r. ⌜ returned r (now (out .exit)) ≡ returnedOf (added.answerBy answer) (now (out .entry)) ⌝ }
 {
     match answer {
         Added::At(number) => {
@@ -115,7 +115,7 @@ pub fn tell_written(answer: Written, out: &mut [u64]) -> u64
 }
 
 pub fn tell_read(answer: Read, out: &mut [u64]) -> u64
-    ensures { λ r. ⌜ returned r (now (out .exit)) ≡ returnedOf (reading.answerOf answer) (now (out .entry)) ⌝ }
+    ensures { λ r. ⌜ returned r (now (out .exit)) ≡ returnedOf (reading.answerBy answer) (now (out .entry)) ⌝ }
 {
     match answer {
         Read::Done => 0,
@@ -124,7 +124,7 @@ pub fn tell_read(answer: Read, out: &mut [u64]) -> u64
 }
 
 pub fn tell_imported(answer: Imported, out: &mut [u64]) -> u64
-    ensures { λ r. ⌜ returned r (now (out .exit)) ≡ returnedOf (importing.answerOf answer) (now (out .entry)) ⌝ }
+    ensures { λ r. ⌜ returned r (now (out .exit)) ≡ returnedOf (importing.answerBy answer) (now (out .entry)) ⌝ }
 {
     match answer {
         Imported::Traces(count) => {
@@ -158,15 +158,15 @@ pub fn tell_checked(answer: Checked, out: &mut [u64]) -> u64
 }
 
 // Records and trail are told by the slices that the batch leaves them in.
-pub fn tell_batched(answer: Outcome, out: &mut [u64]) -> u64
+pub fn tell_batched(answer: Batched, out: &mut [u64]) -> u64
     ensures { λ r. ⌜ ((records : List Near) (trail : List ℕ)
         → returned r (now (out .exit)) ≡ returnedOf (batching.answerBy answer records trail) (now (out .entry))) ⌝ }
 {
     match answer {
-        Outcome::Done(leaves) => {
+        Batched::Done(leaves) => {
             put(out, 0, leaves);
             0
         }
-        Outcome::Refused(why) => tell_refusal(why, out),
+        Batched::Refused(why) => tell_refusal(why, out),
     }
 }

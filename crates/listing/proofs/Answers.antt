@@ -17,7 +17,7 @@ use Rattle.tables.specs.Tables.{Tables, tables}
 use Rattle.tables.specs.View.{treeIn, tracesIn}
 use Rattle.reading.specs.Listed.{nearsIn}
 use Rattle.reading.proofs.Places.{list-over}
-use Rattle.search.specs.Searched.{made, listing, ListSearched}
+use Rattle.search.specs.Searched.{withoutWork, listingBy, ListSearched}
 use Rattle.calls.specs.Outcome.{outcome}
 use Rattle.calls.specs.Effects.{lists, effectOf, outcomeOn}
 use Rattle.calls.proofs.Ends.{ends-done, over-first}
@@ -30,8 +30,8 @@ module _ (control : List ℕ) (samples nodes : List ℤ) (links work : List ℕ)
 
   module _ (work′ trail′ list′ : List ℕ) (many out traces : ℕ) (trail-size : length trail′ ≡ length trail)
       (list-size : length list′ ≡ length list) (room : 2 * k ≤ length list)
-      (s : ListSearched k (made control samples nodes links) query work work′ trail trail′ list list′ many out traces) where
-    same : listed k (tracesIn lent) (treeIn lent) query ≡ listing (nearsIn many list′) traces (take out trail′)
+      (s : ListSearched k (withoutWork control samples nodes links) query work work′ trail trail′ list list′ many out traces) where
+    same : listed k (tracesIn lent) (treeIn lent) query ≡ listingBy (nearsIn many list′) traces (take out trail′)
     unfolding tracesIn treeIn
     same = sym (s .visited .found)
 

@@ -14,11 +14,11 @@ use Rattle.dstree.proofs.Conditions.{none-first, none-both}
 use Rattle.tables.specs.Tables.{Tables}
 use Rattle.tables.specs.Answers.{madeConditions}
 use Rattle.calls.specs.Effects.{queryConditionsIn, listConditionsIn, lists}
-use Rattle.query_judging.proofs.Taken.{Taken, taken}
+use Rattle.query_judging.proofs.Taken.{QueryAccepted, taken}
 use Rattle.listing.proofs.Range.{k-range}
 
 pub record MayList (t : Tables) (k : ℕ) (query : Trace) (trail list : List ℕ) : Type 0 where
-  pub may-search : Taken t query trail
+  pub may-search : QueryAccepted t query trail
   pub k-low : 1 ≤ k
   pub k-high : k ≤ mostNearest
   pub list-room : 2 * k ≤ length list

@@ -9,14 +9,14 @@ use lib.IntN.{ℤ}
 use lib.ListN.{length, take}
 use lib.Seq.{length-take-le}
 use Rattle.dstree.specs.Measures.{Trace}
-use Rattle.dstree.specs.Matching.{Search, Match, searched, answerOf, matchBySteps}
+use Rattle.dstree.specs.Matching.{Search, Match, searched, matchFrom, matchBySteps}
 use Rattle.dstree.specs.Refusals.{firstOf}
 use Rattle.dstree.specs.Book.{matching, besideOf, over}
 use Rattle.tables.specs.Tables.{Tables, tables}
 use Rattle.tables.specs.View.{treeIn, tracesIn}
-use Rattle.reading.specs.Nearest.{bestOf}
+use Rattle.reading.specs.Nearest.{nearBy}
 use Rattle.reading.specs.declared.best.Best.{Best}
-use Rattle.search.specs.Searched.{made, seen, Searched}
+use Rattle.search.specs.Searched.{withoutWork, seen, Searched}
 use Rattle.calls.specs.Outcome.{outcome}
 use Rattle.calls.specs.Effects.{resultOf, trailOf, isNone, matches, effectOf, outcomeOn}
 use Rattle.calls.proofs.Ends.{ends-done, over-first}
@@ -28,18 +28,18 @@ module _ (control : List ℕ) (samples nodes : List ℤ) (links work : List ℕ)
   lent = tables control samples nodes links work
 
   module _ (work′ trail′ : List ℕ) (best : Best) (out traces : ℕ) (size : length trail′ ≡ length trail)
-      (s : Searched (made control samples nodes links) query work work′ trail trail′ (bestOf best) out traces) where
-    same : searched (tracesIn lent) (treeIn lent) query ≡ seen (bestOf best) traces (take out trail′)
+      (s : Searched (withoutWork control samples nodes links) query work work′ trail trail′ (nearBy best) out traces) where
+    same : searched (tracesIn lent) (treeIn lent) query ≡ seen (nearBy best) traces (take out trail′)
     unfolding tracesIn treeIn
     same = sym (s .found)
 
-    by-steps : matchBySteps (tracesIn lent) (treeIn lent) query ≡ answerOf (seen (bestOf best) traces (take out trail′)) (bestOf best)
+    by-steps : matchBySteps (tracesIn lent) (treeIn lent) query ≡ matchFrom (seen (nearBy best) traces (take out trail′)) (nearBy best)
     unfolding matchBySteps
-    by-steps = ap (λ (q : Search). answerOf q (q .best)) same
+    by-steps = ap (λ (q : Search). matchFrom q (q .best)) same
 
     -- a search of tables that refuse nothing has found a trace
     pub found-one : isNone (matchBySteps (tracesIn lent) (treeIn lent) query) ≡ false → best .found ≡ true
-    unfolding isNone answerOf
+    unfolding isNone matchFrom
     found-one h = by (best .found) refl
       where
         by : (b : Bool) → best .found ≡ b → best .found ≡ true
@@ -54,7 +54,7 @@ module _ (control : List ℕ) (samples nodes : List ℤ) (links work : List ℕ)
 
     found-is : best .found ≡ true
         → some (record { trace = best .trace; distance = best .distance; leaves = out; traces = traces; trail = take out trail′ }) ≡ matchBySteps (tracesIn lent) (treeIn lent) query
-    unfolding answerOf
+    unfolding matchFrom
     found-is e = sym (by-steps ∙ rw (e, read-long))
 
     pub found-answer : best .found ≡ true → firstOf (matches lent query trail .conditions) ≡ none

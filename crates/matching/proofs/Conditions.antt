@@ -12,10 +12,10 @@ use Rattle.tables.specs.Tables.{Tables}
 use Rattle.tables.specs.View.{treeIn, tracesIn}
 use Rattle.tables.specs.Answers.{madeConditions}
 use Rattle.calls.specs.Effects.{isNone, queryConditionsIn, matches}
-use Rattle.query_judging.proofs.Taken.{Taken, taken}
+use Rattle.query_judging.proofs.Taken.{QueryAccepted, taken}
 
 module _ (t : Tables) (query : Trace) (trail : List ℕ) (e : firstOf (matches t query trail .conditions) ≡ none) where
-  pub may-search : Taken t query trail
+  pub may-search : QueryAccepted t query trail
   unfolding matches
   may-search =
       let parts = none-both (madeConditions t) _ e in

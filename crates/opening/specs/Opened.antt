@@ -5,6 +5,6 @@ use Rattle.opening.specs.declared.Opened.{Opened}
 use Rattle.opening.specs.declared.Opened.the-variants as o
 
 -- "Opening and sheet reading answer only that they succeeded"
-unfoldable pub answerOf : Opened → Answer
-answerOf o.Done = answering done
-answerOf (o.Refused why) = refusing (wordOf why)
+unfoldable pub answerBy : Opened → Answer
+answerBy o.Done = answering done
+answerBy (o.Refused why) = refusing (wordOf why)

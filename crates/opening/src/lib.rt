@@ -27,7 +27,7 @@ ghost use Rattle.tables.specs.Answers.{opened};
 ghost use Rattle.tables.specs.Judge.{LongEnough};
 ghost use Rattle.calls.specs.Outcome.{outcome};
 ghost use Rattle.calls.specs.Effects.{outcomeOn};
-ghost use Rattle.opening.specs.Opened.{answerOf};
+ghost use Rattle.opening.specs.Opened.{answerBy};
 
 pub enum Opened {
     Done,
@@ -87,7 +87,7 @@ pub fn open(
     capacity: u64,
     leaf_size: u64,
 ) -> Opened
-    ensures { λ r. ⌜ outcome (answerOf r)
+    ensures { λ r. ⌜ outcome (answerBy r)
         (tables (now (control .exit)) (now (samples .exit)) (now (nodes .exit)) (now (links .exit)) (now (work .exit)))
         []
         ≡ outcomeOn (opening (measures n capacity «leaf_size»))

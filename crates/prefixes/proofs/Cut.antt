@@ -11,7 +11,7 @@ use Rattle.integer.specs.Words.{square}
 use Rattle.integer.proofs.Ring.{ring}
 use Rattle.integer.proofs.Facts.{reading}
 use Rattle.segment.specs.Figures.{sum, sumOfSquares, scatter}
-use Rattle.segment.specs.Limits.{Within, sumLimit, scatterLimit}
+use Rattle.segment.specs.Limits.{SamplesWithin, sumLimit, scatterLimit}
 use Rattle.segment.proofs.Sums.{sum-append, squares-append}
 use Rattle.segment.proofs.Scatter.{scatter-law}
 use Rattle.segment.proofs.Limits.{within-take, within-drop, sum-limit, squares-limit, scatter-limit}
@@ -68,7 +68,7 @@ module _ {trace : Trace} {sums : List ℤ} {squares : List ℕ} (p : Prefixes tr
         let room : suc last - first ≤ length (drop before trace) = simp length-drop (omega (arith, i .from-1, i .rises, i .to-n)) in
         length-take-le (suc last - first) (drop before trace) room
 
-    there-within : Within sampleLimit there
+    there-within : SamplesWithin sampleLimit there
     unfolding samplesOn
     there-within = within-take (suc last - first) (drop before trace) (within-drop before trace (p .within))
 

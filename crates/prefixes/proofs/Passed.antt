@@ -10,7 +10,7 @@ use lib.Seq.{getD-set-same, getD-set-other, take-all, length-take-le}
 use borrow.Author.Count.{below-more}
 use Rattle.integer.specs.Words.{square}
 use Rattle.segment.specs.Figures.{sum, sumOfSquares}
-use Rattle.segment.specs.Limits.{Within, sumLimit}
+use Rattle.segment.specs.Limits.{SamplesWithin, sumLimit}
 use Rattle.segment.proofs.Sums.{sum-more, squares-more}
 use Rattle.segment.proofs.Limits.{within-more, sum-limit, squares-limit}
 use Rattle.dstree.specs.Measures.{sampleLimit}
@@ -20,7 +20,7 @@ pub record Passed (trace sums : List ℤ) (squares : List ℕ) (i : ℕ) : Type 
   pub inside : i ≤ length trace
   pub sum-places : length sums ≡ 257
   pub square-places : length squares ≡ 257
-  pub within : Within sampleLimit (take i trace)
+  pub within : SamplesWithin sampleLimit (take i trace)
   pub sums-are : (j : ℕ) → j < i + 1 → getD sums j (pos 0) ≡ sum (take j trace)
   pub squares-are : (j : ℕ) → j < i + 1 → getD squares j 0 ≡ sumOfSquares (take j trace)
 

@@ -54,14 +54,14 @@ pub record Left (r : List ℤ) (n count first i : ℕ) : Type 0 where
   pub limited : AllLimited sampleLimit first (segmentsAfter r count i)
 
 -- .. of segment i, which ends at `last`, and of those behind it
-pub record Next (r : List ℤ) (n count first i last : ℕ) : Type 0 where
+pub record NextSegment (r : List ℤ) (n count first i last : ℕ) : Type 0 where
   pub rises : first ≤ last
   pub to-n : last ≤ n
   pub limited : Limited sampleLimit (width (run first last)) (segmentIn r i)
   pub on : Left r n count (last + 1) (i + 1)
 
 next-of : {r : List ℤ} {n count first i : ℕ} → Rises n first (ends (segmentIn r i ∷ segmentsAfter r count (i + 1)))
-    → AllLimited sampleLimit first (segmentIn r i ∷ segmentsAfter r count (i + 1)) → Next r n count first i (segmentIn r i .end)
+    → AllLimited sampleLimit first (segmentIn r i ∷ segmentsAfter r count (i + 1)) → NextSegment r n count first i (segmentIn r i .end)
 next-of {r} {n} {count} {first} {i} (rises-more a b p) (l-more c d) =
     let e : suc (segmentIn r i .end) ≡ segmentIn r i .end + 1 = sym (add-one (segmentIn r i .end)) in
     record {
@@ -93,11 +93,11 @@ module _ (r : List ℤ) (count i : ℕ) (h : i < count) where
     is-end : segmentIn r i .end ≡ last
     is-end = end-is r i ∙ sym e
 
-    pub next-at : {n first : ℕ} → Left r n count first i → Next r n count first i last
+    pub next-at : {n first : ℕ} → Left r n count first i → NextSegment r n count first i last
     next-at {n} {first} l =
         let rises = subst (λ (s : List Segment). Rises n first (ends s)) after-more (l .rises) in
         let limited = subst (AllLimited sampleLimit first) after-more (l .limited) in
-        subst (Next r n count first i) is-end (next-of rises limited)
+        subst (NextSegment r n count first i) is-end (next-of rises limited)
 
     pub bound-more : (query : Trace) (first : ℕ) → totalOver (boundOn query) first (segmentsAfter r count i)
         ≡ boundOn query (run first last) (segmentIn r i) + totalOver (boundOn query) (last + 1) (segmentsAfter r count (i + 1))

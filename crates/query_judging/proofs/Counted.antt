@@ -18,7 +18,7 @@ use Rattle.tables.specs.Layout.{kindPlace, recordPlaces}
 use Rattle.tables.specs.Tables.{Tables, measuresOf, traceCount, nodeCount, recordOf}
 use Rattle.tables.specs.View.{smallAt, kindIn, treeIn, wellFormed}
 use Rattle.tables.proofs.Views.{tree-size, tree-kind, tree-passes, tree-formed, measures-fit}
-use Rattle.query_judging.specs.Leaves.{leafIn, oneIf, leafCount}
+use Rattle.query_judging.specs.LeafCount.{leafIn, oneIf, leafCount}
 
 -- a kind other than 1 and 2
 pub leaf-by : (r : List ℤ) (v : ℕ) → (v ≡ 1 → ⊥) → (v ≡ 2 → ⊥) → isLeaf (kindIn [] 0 r v) ≡ true

@@ -18,7 +18,7 @@ use Rattle.tables.specs.Tables.{Tables, measuresOf, traceCount, nodeCount}
 use Rattle.tables.specs.View.{treeIn, kindsNamed, wellFormed}
 use Rattle.tables.specs.Answers.{madeConditions}
 use Rattle.tables.proofs.Judged.{accepted}
-use Rattle.search.specs.Searched.{made, Ready}
+use Rattle.search.specs.Searched.{withoutWork, Ready}
 use Rattle.calls.specs.Effects.{queryConditionsIn}
 use Rattle.query_judging.proofs.Counted.{records-room, records-few}
 
@@ -34,12 +34,12 @@ some-of : (k : ℕ) → (k ≡ 0 → ⊥) → 0 < k
 some-of k f = omega (arith, f)
 
 -- what holds of them, whatever the search work holds
-pub record Taken (t : Tables) (query : Trace) (trail : List ℕ) : Type 0 where
+pub record QueryAccepted (t : Tables) (query : Trace) (trail : List ℕ) : Type 0 where
   pub work-room : workNeeded (measuresOf t) ≤ length (t .work)
-  pub ready : Ready (made (t .control) (t .samples) (t .nodes) (t .links)) query (length trail)
+  pub ready : Ready (withoutWork (t .control) (t .samples) (t .nodes) (t .links)) query (length trail)
 
 pub taken : (t : Tables) (query : Trace) (trail : List ℕ) → firstOf (madeConditions t) ≡ none
-    → firstOf (queryConditionsIn t query trail) ≡ none → Taken t query trail
+    → firstOf (queryConditionsIn t query trail) ≡ none → QueryAccepted t query trail
 unfolding wellFormed kindsNamed treeIn
 taken t query trail tables-fine query-fine =
     let ok = accepted t tables-fine in

@@ -1,2 +1,2 @@
 -- The leaves that a search's trail has to have room for, as code counts them.
-pub mod Leaves
+pub mod LeafCount

@@ -5,7 +5,7 @@ ghost use mathlib.Core.Path.{_≡_};
 ghost use Prim.Native.Nat.{_+_, _*_, _≤_, _<_};
 ghost use lib.ListN.{length};
 ghost use Rattle.tables.specs.Layout.{recordPlaces};
-ghost use Rattle.query_judging.specs.Leaves.{leafIn, oneIf, leafCount};
+ghost use Rattle.query_judging.specs.LeafCount.{leafIn, oneIf, leafCount};
 
 // 1 for a leaf and 0 for an inner node, which is of kind 1 or 2.
 fn leaf_one(nodes: &[i64], j: usize) -> usize

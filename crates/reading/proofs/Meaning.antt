@@ -18,12 +18,12 @@ use Rattle.tables.proofs.Listed.{numbers-below}
 use Rattle.reading.specs.Nearest.{near, nearOf}
 
 -- node j of the tables is a leaf, and its list is among the stored traces
-pub record LeafAt (t : Tables) (j : ℕ) : Type 0 where
+pub record LeafInTables (t : Tables) (j : ℕ) : Type 0 where
   pub inside : j < nodeCount t
   pub is-leaf : smallAt (recordOf (t .nodes) j) kindPlace ≡ 0
   pub stored : Stored (t .samples) (t .links) (measuresOf t .n) (traceCount t) (smallAt (recordOf (t .nodes) j) firstPlace)
 
-module _ (t : Tables) (j : ℕ) (a : LeafAt t j) where
+module _ (t : Tables) (j : ℕ) (a : LeafInTables t j) where
   abbrev head : ℕ
   head = smallAt (recordOf (t .nodes) j) firstPlace
 

@@ -9,7 +9,7 @@ use lib.Seq.{length-take-le, take-all, take-at, take-take, take-set-le, drop-con
 use lib.Seq.{getD-set-other, ext-getD}
 use borrow.Author.Tests.{le-ltb, ne-eqb}
 use Rattle.integer.specs.Words.{counting}
-use Rattle.integer.specs.Sorting.{insertedBy, Ordered}
+use Rattle.integer.specs.Sorting.{sortedWith, Ordered}
 use Rattle.integer.proofs.Lists.{same-or-not, map-take, All, all-none, all-more}
 use Rattle.integer.proofs.Times.{counting-length}
 use Rattle.integer.proofs.Rows.{getD-table}
@@ -18,7 +18,7 @@ use Rattle.dstree.specs.Matching.{Near, isNearer}
 use Rattle.dstree.specs.KNearest.{listWith}
 use Rattle.dstree.proofs.Ranks.{linear}
 use Rattle.reading.specs.Nearest.{near}
-use Rattle.reading.specs.Listed.{recordAt, nearsIn, ListRoom, Lists}
+use Rattle.reading.specs.Listed.{recordAt, nearsIn, ListRoom, ListBegins}
 
 -- ---- the first m records
 
@@ -100,7 +100,7 @@ drop-set {A} l n a h =
     ∙ (let e = getD-set-same l n a a h in let f = drop-set-lt (suc n) l n a (omega arith) in rw (e, f))
 
 -- of the m records of `l₀` those from i on are one record on; record i is free
-pub record Moved (m : ℕ) (a : Near) (l₀ l : List ℕ) (i : ℕ) : Type 0 where
+pub record RecordsMoved (m : ℕ) (a : Near) (l₀ l : List ℕ) (i : ℕ) : Type 0 where
   pub few : i ≤ m
   pub long : length l ≡ length l₀
   pub ahead : take i (nearsIn (suc m) l) ≡ take i (nearsIn m l₀)
@@ -112,7 +112,7 @@ module _ (m : ℕ) (a : Near) (l₀ : List ℕ) (room : 2 * m + 2 ≤ length l�
   abbrev L : List Near
   L = nearsIn m l₀
 
-  pub moved-start : Moved m a l₀ l₀ m
+  pub moved-start : RecordsMoved m a l₀ l₀ m
   moved-start =
       let none-left : drop m L ≡ [] = drop-of-length-le L {i = m} (omega (arith, nears-length m l₀)) in
       record {
@@ -124,7 +124,7 @@ module _ (m : ℕ) (a : Near) (l₀ : List ℕ) (room : 2 * m + 2 ≤ length l�
         rest = refl;
       }
 
-  module _ (l : List ℕ) (i j : ℕ) (s : Moved m a l₀ l i) (next : i ≡ suc j) where
+  module _ (l : List ℕ) (i j : ℕ) (s : RecordsMoved m a l₀ l i) (next : i ≡ suc j) where
     abbrev N : List Near
     N = nearsIn (suc m) l
 
@@ -156,8 +156,8 @@ module _ (m : ℕ) (a : Near) (l₀ : List ℕ) (room : 2 * m + 2 ≤ length l�
         ∙ ap (λ (n : ℕ). set (set l (2 * j + 2) (getD l (2 * j) 0)) n (getD l (2 * j + 1) 0)) f
 
     -- the trace comes before it, so it moves on
-    pub moved-next : isNearer a (recordAt l j) ≡ true → Moved m a l₀ (movedOn l j) j
-    moved-next e = subst (λ (r : List ℕ). Moved m a l₀ r j) moved-as (record {
+    pub moved-next : isNearer a (recordAt l j) ≡ true → RecordsMoved m a l₀ (movedOn l j) j
+    moved-next e = subst (λ (r : List ℕ). RecordsMoved m a l₀ r j) moved-as (record {
       few = omega (arith, s .few);
       long = put-length l i (getD l (2 * j) 0) (getD l (2 * j + 1) 0) ∙ s .long;
       ahead =
@@ -179,9 +179,9 @@ module _ (m : ℕ) (a : Near) (l₀ : List ℕ) (room : 2 * m + 2 ≤ length l�
     none-ahead o e = rw next (up-to linear a j (near 0 0) o inside (sym (ap (isNearer a) record-ahead) ∙ e))
 
 -- the free record is the trace's place
-module _ (m : ℕ) (t d : ℕ) (l₀ l : List ℕ) (i : ℕ) (room : 2 * m + 2 ≤ length l₀) (s : Moved m (near t d) l₀ l i) where
+module _ (m : ℕ) (t d : ℕ) (l₀ l : List ℕ) (i : ℕ) (room : 2 * m + 2 ≤ length l₀) (s : RecordsMoved m (near t d) l₀ l i) where
   pub moved-end : All (λ b. isNearer (near t d) b ≡ false) (take i (nearsIn m l₀))
-      → nearsIn (suc m) (putIn l i t d) ≡ insertedBy isNearer (near t d) (nearsIn m l₀)
+      → nearsIn (suc m) (putIn l i t d) ≡ sortedWith isNearer (near t d) (nearsIn m l₀)
   moved-end o =
       nears-put (suc m) i l t d (omega (arith, s .few)) (omega (arith, room, s .few, s .long))
       ∙ (set-split (nearsIn (suc m) l) i (near t d) (omega (arith, s .few, nears-length (suc m) l))
@@ -195,41 +195,41 @@ module _ (m : ℕ) (t d : ℕ) (l₀ l : List ℕ) (i : ℕ) (room : 2 * m + 2 �
 -- ---- one trace more, of which the k nearest stay
 
 module _ (k many t d : ℕ) (l : List ℕ) (r : ListRoom k many l) where
-  abbrev held : List Near
-  held = nearsIn many l
+  abbrev soFar : List Near
+  soFar = nearsIn many l
 
-  pub placed-more : (l′ : List ℕ) → many < k → nearsIn (many + 1) l′ ≡ insertedBy isNearer (near t d) held
-      → drop (2 * (many + 1)) l′ ≡ drop (2 * (many + 1)) l → Lists k (many + 1) (listWith k held (near t d)) l l′
+  pub placed-more : (l′ : List ℕ) → many < k → nearsIn (many + 1) l′ ≡ sortedWith isNearer (near t d) soFar
+      → drop (2 * (many + 1)) l′ ≡ drop (2 * (many + 1)) l → ListBegins k (many + 1) (listWith k soFar (near t d)) l l′
   placed-more l′ h e rest = record {
     nears-are =
-        e ∙ sym (take-all k (insertedBy isNearer (near t d) held)
-        (omega (arith, inserted-length isNearer (near t d) held, nears-length many l)));
+        e ∙ sym (take-all k (sortedWith isNearer (near t d) soFar)
+        (omega (arith, inserted-length isNearer (near t d) soFar, nears-length many l)));
     few = omega arith;
     rest = rest;
   }
 
   -- the list is full
   module _ (full : k ≤ many) where
-    ahead-few : k - 1 < length held
+    ahead-few : k - 1 < length soFar
     ahead-few = omega (arith, nears-length many l, r .some-record, full)
 
-    last-is : getD held (k - 1) (near 0 0) ≡ recordAt l (k - 1)
+    last-is : getD soFar (k - 1) (near 0 0) ≡ recordAt l (k - 1)
     last-is = nears-at many (k - 1) l (omega (arith, r .some-record, full))
 
     one-less : suc (k - 1) ≡ k
     one-less = omega (arith, r .some-record)
 
     -- the trace is not before the last, and so before none
-    pub placed-none : isNearer (near t d) (recordAt l (k - 1)) ≡ false → Lists k k (listWith k held (near t d)) l l
+    pub placed-none : isNearer (near t d) (recordAt l (k - 1)) ≡ false → ListBegins k k (listWith k soFar (near t d)) l l
     placed-none e =
         let all-k : many ≡ k = omega (arith, full, r .few) in
-        let none-before : All (λ b. isNearer (near t d) b ≡ false) (take k held) =
-        subst (λ (n : ℕ). All (λ b. isNearer (near t d) b ≡ false) (take n held)) one-less
+        let none-before : All (λ b. isNearer (near t d) b ≡ false) (take k soFar) =
+        subst (λ (n : ℕ). All (λ b. isNearer (near t d) b ≡ false) (take n soFar)) one-less
         (up-to linear (near t d) (k - 1) (near 0 0) (r .ordered) ahead-few (ap (isNearer (near t d)) last-is ∙ e)) in
-        let past : drop k held ≡ [] = drop-of-length-le held {i = k} (omega (arith, nears-length many l, r .few)) in
-        let stays : listWith k held (near t d) ≡ take k held =
-        ap (take k) (inserted-at isNearer (near t d) k held none-before (rw past all-none))
-        ∙ take-at (take k held) (near t d ∷ drop k held) k (length-take-le k held (omega (arith, nears-length many l, full))) in
+        let past : drop k soFar ≡ [] = drop-of-length-le soFar {i = k} (omega (arith, nears-length many l, r .few)) in
+        let stays : listWith k soFar (near t d) ≡ take k soFar =
+        ap (take k) (inserted-at isNearer (near t d) k soFar none-before (rw past all-none))
+        ∙ take-at (take k soFar) (near t d ∷ drop k soFar) k (length-take-le k soFar (omega (arith, nears-length many l, full))) in
         record {
           nears-are = sym (stays ∙ nears-take k many l full);
           few = omega arith;
@@ -237,7 +237,7 @@ module _ (k many t d : ℕ) (l : List ℕ) (r : ListRoom k many l) where
         }
 
     -- the trace is beyond the last one's distance, whatever their numbers
-    pub placed-beyond : recordAt l (k - 1) .distance < d → Lists k k (listWith k held (near t d)) l l
+    pub placed-beyond : recordAt l (k - 1) .distance < d → ListBegins k k (listWith k soFar (near t d)) l l
     unfolding isNearer
     placed-beyond h =
         let last = recordAt l (k - 1) .distance in
@@ -245,14 +245,14 @@ module _ (k many t d : ℕ) (l : List ℕ) (r : ListRoom k many l) where
 
     -- the trace is before the last, which goes
     pub placed-nearer : (l′ : List ℕ) → isNearer (near t d) (recordAt l (k - 1)) ≡ true
-        → nearsIn (k - 1 + 1) l′ ≡ insertedBy isNearer (near t d) (nearsIn (k - 1) l)
-        → drop (2 * (k - 1 + 1)) l′ ≡ drop (2 * (k - 1 + 1)) l → Lists k k (listWith k held (near t d)) l l′
+        → nearsIn (k - 1 + 1) l′ ≡ sortedWith isNearer (near t d) (nearsIn (k - 1) l)
+        → drop (2 * (k - 1 + 1)) l′ ≡ drop (2 * (k - 1 + 1)) l → ListBegins k k (listWith k soFar (near t d)) l l′
     placed-nearer l′ e f rest =
         let again : k - 1 + 1 ≡ k = omega (arith, r .some-record) in
-        let first-k : listWith k held (near t d) ≡ insertedBy isNearer (near t d) (nearsIn (k - 1) l) =
-        ap (λ (n : ℕ). take n (insertedBy isNearer (near t d) held)) (sym one-less)
-        ∙ (inserted-ahead isNearer (near t d) (k - 1) held (near 0 0) ahead-few (ap (isNearer (near t d)) last-is ∙ e)
-        ∙ ap (insertedBy isNearer (near t d)) (nears-take (k - 1) many l (omega (arith, full)))) in
+        let first-k : listWith k soFar (near t d) ≡ sortedWith isNearer (near t d) (nearsIn (k - 1) l) =
+        ap (λ (n : ℕ). take n (sortedWith isNearer (near t d) soFar)) (sym one-less)
+        ∙ (inserted-ahead isNearer (near t d) (k - 1) soFar (near 0 0) ahead-few (ap (isNearer (near t d)) last-is ∙ e)
+        ∙ ap (sortedWith isNearer (near t d)) (nears-take (k - 1) many l (omega (arith, full)))) in
         record {
           nears-are = (rw again at f) ∙ sym first-k;
           few = omega arith;

@@ -16,21 +16,21 @@ use Rattle.dstree.proofs.Ranks.{linear}
 use Rattle.tables.specs.Walk.{numbersOf, Rising, behindOf, Stored}
 use Rattle.tables.proofs.Listed.{metFrom, met-start, met-more, met-end}
 use Rattle.reading.specs.Nearest.{nearOf}
-use Rattle.reading.specs.Listed.{nearsIn, ListRoom, Lists}
+use Rattle.reading.specs.Listed.{nearsIn, ListRoom, ListBegins}
 use Rattle.reading.proofs.Records.{nears-length}
 
 module _ (samples : List ℤ) (n : ℕ) (query : Trace) (links : List ℕ) (count k : ℕ) where
   -- what is listed, and all that the walk still meets from t on
   abbrev listFrom : List Near → ℕ → List Near
-  listFrom held t = foldl (listWith k) held (map (nearOf samples n query) (metFrom links count t))
+  listFrom soFar t = foldl (listWith k) soFar (map (nearOf samples n query) (metFrom links count t))
 
-  listed-more : Rising links count → (held : List Near) (t : ℕ) → t < count
-      → listFrom held t ≡ listFrom (listWith k held (nearOf samples n query t)) (behindOf links count t)
-  listed-more rising held t h =
-      ap (λ (l : List ℕ). foldl (listWith k) held (map (nearOf samples n query) l)) (met-more links count rising t h)
+  listed-more : Rising links count → (soFar : List Near) (t : ℕ) → t < count
+      → listFrom soFar t ≡ listFrom (listWith k soFar (nearOf samples n query t)) (behindOf links count t)
+  listed-more rising soFar t h =
+      ap (λ (l : List ℕ). foldl (listWith k) soFar (map (nearOf samples n query) l)) (met-more links count rising t h)
 
-  listed-end : (held : List Near) (t : ℕ) → count ≤ t → listFrom held t ≡ held
-  listed-end held t h = ap (λ (l : List ℕ). foldl (listWith k) held (map (nearOf samples n query) l)) (met-end links count t h)
+  listed-end : (soFar : List Near) (t : ℕ) → count ≤ t → listFrom soFar t ≡ soFar
+  listed-end soFar t h = ap (λ (l : List ℕ). foldl (listWith k) soFar (map (nearOf samples n query) l)) (met-end links count t h)
 
   -- the walk has come to t, and m are listed
   module _ (head many : ℕ) (list₀ : List ℕ) where
@@ -54,15 +54,15 @@ module _ (samples : List ℤ) (n : ℕ) (query : Trace) (links : List ℕ) (coun
     }
 
     pub walk-next : Rising links count → {list list′ : List ℕ} {m m′ t : ℕ} → Walking list m t → t < count
-        → Lists k m′ (listWith k (nearsIn m list) (nearOf samples n query t)) list list′ → length list′ ≡ length list
+        → ListBegins k m′ (listWith k (nearsIn m list) (nearOf samples n query t)) list list′ → length list′ ≡ length list
         → Walking list′ m′ (behindOf links count t)
     walk-next rising {list} {list′} {m} {m′} {t} w h f size =
         let a = nearOf samples n query t in
-        let held = nearsIn m list in
+        let soFar = nearsIn m list in
         let more : m ≤ m′ =
         omega (
           arith,
-          kept-length isNearer k a held (omega (arith, nears-length m list, w .room .few)) .0,
+          kept-length isNearer k a soFar (omega (arith, nears-length m list, w .room .few)) .0,
           nears-length m list,
           nears-length m′ list′,
           ap length (f .nears-are),
@@ -78,11 +78,11 @@ module _ (samples : List ℤ) (n : ℕ) (query : Trace) (links : List ℕ) (coun
           long = size ∙ w .long;
           goes-on =
               ap (λ (l : List Near). listFrom l (behindOf links count t)) (f .nears-are)
-              ∙ (sym (listed-more rising held t h) ∙ w .goes-on);
+              ∙ (sym (listed-more rising soFar t h) ∙ w .goes-on);
           rest = f .rest ∙ drop-more (2 * m′) (2 * m) list list₀ (omega arith) (w .rest);
         }
 
-    pub walk-end : {list : List ℕ} {m t : ℕ} → Walking list m t → count ≤ t → Lists k m whole list₀ list
+    pub walk-end : {list : List ℕ} {m t : ℕ} → Walking list m t → count ≤ t → ListBegins k m whole list₀ list
     walk-end {list} {m} {t} w h = record {
       nears-are = sym (listed-end (nearsIn m list) t h) ∙ w .goes-on;
       few = w .room .few;

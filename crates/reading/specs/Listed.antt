@@ -24,7 +24,7 @@ pub record ListRoom (k many : ℕ) (list : List ℕ) : Type 0 where
   pub ordered : Ordered isNearer (nearsIn many list)
 
 -- a list whose first records are these, no more than k: "List places past those filled keep their contents"
-pub record Lists (k many : ℕ) (nears : List Near) (list list′ : List ℕ) : Type 0 where
+pub record ListBegins (k many : ℕ) (nears : List Near) (list list′ : List ℕ) : Type 0 where
   pub nears-are : nearsIn many list′ ≡ nears
   pub few : many ≤ k
   pub rest : drop (2 * many) list′ ≡ drop (2 * many) list

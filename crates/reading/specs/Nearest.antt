@@ -14,8 +14,8 @@ use Rattle.reading.specs.declared.best.Best.{Best}
 abbrev pub near : ℕ → ℕ → Near
 near t d = record { trace = t; distance = d }
 
-abbrev pub bestOf : Best → Option Near
-bestOf best = if best .found then some (near (best .trace) (best .distance)) else none
+abbrev pub nearBy : Best → Option Near
+nearBy best = if best .found then some (near (best .trace) (best .distance)) else none
 
 -- stored trace t with its distance to a query
 abbrev pub nearOf : List ℤ → ℕ → Trace → ℕ → Near

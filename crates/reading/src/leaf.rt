@@ -1,6 +1,6 @@
 // The distances of a leaf's traces, each as far as the k-th distance so far.
 use crate::list::kth_distance;
-use crate::list::place;
+use crate::list::put_in_list;
 use segment::within::Distance;
 ghost use mathlib.Core.Path.{_≡_};
 ghost use mathlib.Core.List.{map, foldl};
@@ -12,7 +12,7 @@ ghost use Rattle.dstree.specs.KNearest.{listWith};
 ghost use Rattle.tables.specs.View.{traceIn};
 ghost use Rattle.tables.specs.Walk.{numbersOf, Stored};
 ghost use Rattle.reading.specs.Nearest.{nearOf};
-ghost use Rattle.reading.specs.Listed.{nearsIn, ListRoom, Lists};
+ghost use Rattle.reading.specs.Listed.{nearsIn, ListRoom, ListBegins};
 
 // The distance of stored trace t to the query.
 pub fn trace_distance(samples: &[i16], n: usize, t: usize, query: &[i16]) -> u64
@@ -43,12 +43,12 @@ fn take_trace(
     query: &[i16],
 ) -> usize
     requires { ⌜ (n ≤ 256) × (t * n + n ≤ length (now samples)) × (length (now query) ≡ n) × ListRoom k listed (now list) ⌝ }
-    ensures { λ r. ⌜ Lists k r
+    ensures { λ r. ⌜ ListBegins k r
         (listWith k (nearsIn listed (now (list .entry))) (nearOf (now (samples .entry)) n (now (query .entry)) t))
         (now (list .entry)) (now (list .exit)) ⌝ }
 {
     if listed < k {
-        return place(
+        return put_in_list(
             list,
             listed,
             k,
@@ -58,13 +58,13 @@ fn take_trace(
     }
     let limit = kth_distance(list, k);
     match trace_within(samples, n, t, query, limit) {
-        Distance::Exact(distance) => place(list, listed, k, t as u64, distance),
+        Distance::Exact(distance) => put_in_list(list, listed, k, t as u64, distance),
         Distance::Beyond(_) => k,
     }
 }
 
 // What a leaf's reading leaves: how many traces are listed, and how many were read.
-pub struct Read {
+pub struct LeafRead {
     pub listed: usize,
     pub traces: usize,
 }
@@ -81,9 +81,9 @@ pub fn read_leaf(
     list: &mut [u64],
     listed: usize,
     k: usize,
-) -> Read
+) -> LeafRead
     requires { ⌜ Stored (now samples) (now links) n count head × (length (now query) ≡ n) × ListRoom k listed (now list) ⌝ }
-    ensures list { λ r. ⌜ Lists k (r .listed)
+    ensures list { λ r. ⌜ ListBegins k (r .listed)
         (foldl (listWith k) (nearsIn listed (now (list .entry)))
         (map (nearOf (now (samples .entry)) n (now (query .entry))) (numbersOf (now (links .entry)) count head)))
         (now (list .entry)) (now (list .exit)) ⌝ }
@@ -98,5 +98,5 @@ pub fn read_leaf(
         traces += 1;
         t = tables::walk::behind(links, count, t);
     }
-    Read { listed: m, traces }
+    LeafRead { listed: m, traces }
 }

@@ -3,11 +3,11 @@
 ghost use mathlib.Core.Path.{_≡_};
 ghost use Prim.Native.Nat.{_+_, _*_, _-_, _≤_};
 ghost use lib.ListN.{length, getD, drop, set};
-ghost use Rattle.integer.specs.Sorting.{insertedBy, Ordered};
+ghost use Rattle.integer.specs.Sorting.{sortedWith, Ordered};
 ghost use Rattle.dstree.specs.Matching.{isNearer};
 ghost use Rattle.dstree.specs.KNearest.{listWith};
 ghost use Rattle.reading.specs.Nearest.{near};
-ghost use Rattle.reading.specs.Listed.{recordAt, nearsIn, ListRoom, Lists};
+ghost use Rattle.reading.specs.Listed.{recordAt, nearsIn, ListRoom, ListBegins};
 
 // A trace comes before record i: it is nearer, or as near with a lower number.
 fn comes_before(list: &[u64], i: usize, trace: u64, distance: u64) -> bool
@@ -60,7 +60,7 @@ fn move_on(list: &mut [u64], i: usize)
 fn insert(list: &mut [u64], m: usize, trace: u64, distance: u64)
     requires { ⌜ (2 * m + 2 ≤ length (now list)) × Ordered isNearer (nearsIn m (now list)) ⌝ }
     ensures nears { λ _. ⌜ nearsIn (m + 1) (now (list .exit))
-        ≡ insertedBy isNearer (near trace distance) (nearsIn m (now (list .entry))) ⌝ }
+        ≡ sortedWith isNearer (near trace distance) (nearsIn m (now (list .entry))) ⌝ }
     ensures rest { λ _. ⌜ drop (2 * (m + 1)) (now (list .exit)) ≡ drop (2 * (m + 1)) (now (list .entry)) ⌝ }
 {
     let mut i = m;
@@ -81,9 +81,9 @@ fn insert(list: &mut [u64], m: usize, trace: u64, distance: u64)
 //
 // Two wrong programs that the contract rules out: one that keeps the later of two at an equal distance whatever their numbers, and one
 // that writes the record behind the k-th.
-pub fn place(list: &mut [u64], listed: usize, k: usize, trace: u64, distance: u64) -> usize
+pub fn put_in_list(list: &mut [u64], listed: usize, k: usize, trace: u64, distance: u64) -> usize
     requires { ⌜ ListRoom k listed (now list) ⌝ }
-    ensures { λ r. ⌜ Lists k r (listWith k (nearsIn listed (now (list .entry))) (near trace distance)) (now (list .entry))
+    ensures { λ r. ⌜ ListBegins k r (listWith k (nearsIn listed (now (list .entry))) (near trace distance)) (now (list .entry))
         (now (list .exit)) ⌝ }
 {
     if listed < k {

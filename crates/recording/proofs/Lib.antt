@@ -1,3 +1,3 @@
 pub mod Begins
 pub mod Put
-pub mod Held
+pub mod HoldsTrace

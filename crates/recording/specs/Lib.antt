@@ -1,4 +1,4 @@
 -- What the code of recordings answers, and what it takes.
-pub mod Found
-pub mod Held
+pub mod FileTraces
+pub mod HoldsTrace
 pub mod Sections

@@ -1,12 +1,12 @@
 // What a file of any bytes is: how many traces it holds, or a bad recording.
 
-use crate::Found;
+use crate::FileTraces;
 use crate::header::header_fits;
 use sheet::fields::four_bytes;
 ghost use mathlib.Core.Path.{_≡_};
 ghost use Prim.Native.Nat.{_<_};
 ghost use Rattle.dstree.specs.Recording.{isRecording, judgeRecording};
-ghost use Rattle.recording.specs.Found.{tracesFound, tracesHeld};
+ghost use Rattle.recording.specs.FileTraces.{tracesFound, tracesRecorded};
 
 // Not "of any other form or length, an odd size, a sample count not a multiple of n".
 fn is_recording(bytes: &[u8], n: u64) -> bool
@@ -36,12 +36,12 @@ fn is_recording(bytes: &[u8], n: u64) -> bool
 //
 // Two wrong programs that the contract rules out: one that takes a file with a byte behind its data, and one whose sizes are numbers of 32 bits, so
 // that a data size of 2^32 - 36 has a RIFF size of 0.
-pub fn judge_recording(bytes: &[u8], n: usize) -> Found
+pub fn judge_recording(bytes: &[u8], n: usize) -> FileTraces
     requires { ⌜ 0 < n ⌝ }
-    ensures { λ r. ⌜ tracesFound r ≡ tracesHeld (judgeRecording n (now (bytes .entry))) ⌝ }
+    ensures { λ r. ⌜ tracesFound r ≡ tracesRecorded (judgeRecording n (now (bytes .entry))) ⌝ }
 {
     if !is_recording(bytes, n as u64) {
-        return Found::Bad;
+        return FileTraces::Bad;
     }
-    Found::Traces(four_bytes(bytes, 40) / 2 / n as u64)
+    FileTraces::Traces(four_bytes(bytes, 40) / 2 / n as u64)
 }

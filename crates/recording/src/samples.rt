@@ -5,7 +5,7 @@ ghost use mathlib.Core.Path.{_≡_};
 ghost use mathlib.Core.List.{[]};
 ghost use lib.ListN.{length, getD};
 ghost use Rattle.dstree.specs.Recording.{recordedTraces};
-ghost use Rattle.recording.specs.Held.{HoldsTrace};
+ghost use Rattle.recording.specs.HoldsTrace.{HoldsTrace};
 
 // A trace by its number. Its samples stand one behind another.
 pub fn read_trace(bytes: &[u8], number: usize, trace: &mut [i16])

@@ -8,19 +8,19 @@ use lib.IntN.{ℤ}
 use Rattle.integer.proofs.Lists.{Up, u-none, u-more}
 use Rattle.dstree.specs.Node.{Segment, ends}
 use Rattle.tables.specs.View.{segmentIn}
-use Rattle.records_fit.specs.Fits.{segmentsFrom, endsIn, EndsRise}
+use Rattle.records_fit.specs.Fits.{segmentsInFrom, endsIn, EndsRise}
 use Rattle.records_fit.proofs.Merging.{all-among, same-front, other-front, short-among}
 use Rattle.records_fit.proofs.Segments.{from-more, from-none, from-first, ends-length}
 
 -- what is left, from segment i on
 abbrev left : List ℤ → ℕ → ℕ → List Segment
-left r count i = segmentsFrom r (count - i) i
+left r count i = segmentsInFrom r (count - i) i
 
 pub record Merged (child : List ℤ) (count : ℕ) (parent : List ℤ) (many p i : ℕ) : Type 0 where
   pub child-few : i ≤ count
   pub parent-few : p ≤ many
   pub room : many + i ≤ count + p
-  pub whole : endsIn (segmentsFrom child count 0) (segmentsFrom parent many 0) ≡ endsIn (left child count i) (left parent many p)
+  pub whole : endsIn (segmentsInFrom child count 0) (segmentsInFrom parent many 0) ≡ endsIn (left child count i) (left parent many p)
   pub child-rises : Up 0 (ends (left child count i))
   pub parent-rises : Up 0 (ends (left parent many p))
 
@@ -45,13 +45,13 @@ weaker {l = a ∷ l} (u-more h u) = u-more {k = 0} {a = a} (omega arith) u
 
 -- the child has fewer ends
 pub too-few : (child : List ℤ) (count : ℕ) (parent : List ℤ) (many : ℕ) → EndsRise child count → EndsRise parent many → count < many
-    → false ≡ endsIn (segmentsFrom child count 0) (segmentsFrom parent many 0)
+    → false ≡ endsIn (segmentsInFrom child count 0) (segmentsInFrom parent many 0)
 too-few child count parent many c d h =
-    sym (short-among (ends (segmentsFrom child count 0)) (ends (segmentsFrom parent many 0)) (c .rise) (d .rise) (omega (arith, ends-length child count 0, ends-length parent many 0, h)))
+    sym (short-among (ends (segmentsInFrom child count 0)) (ends (segmentsInFrom parent many 0)) (c .rise) (d .rise) (omega (arith, ends-length child count 0, ends-length parent many 0, h)))
 
 module _ {child : List ℤ} {count : ℕ} {parent : List ℤ} {many p i : ℕ} (w : Merged child count parent many p i) where
   -- the parent has none left
-  pub merged-done : many ≤ p → true ≡ endsIn (segmentsFrom child count 0) (segmentsFrom parent many 0)
+  pub merged-done : many ≤ p → true ≡ endsIn (segmentsInFrom child count 0) (segmentsInFrom parent many 0)
   merged-done h = sym (w .whole ∙ (ap (endsIn (left child count i)) (from-none parent many p h) ∙ all-among (ends (left child count i))))
 
   module _ (h : p < many) where
@@ -77,7 +77,8 @@ module _ {child : List ℤ} {count : ℕ} {parent : List ℤ} {many p i : ℕ} (
     parent-up : Up 0 (y ∷ ends ys)
     parent-up = subst (λ (l : List Segment). Up 0 (ends l)) (from-more parent many p h) (w .parent-rises)
 
-    fronts : endsIn (segmentsFrom child count 0) (segmentsFrom parent many 0) ≡ endsIn (segmentIn child i ∷ xs) (segmentIn parent p ∷ ys)
+    fronts : endsIn (segmentsInFrom child count 0) (segmentsInFrom parent many 0)
+        ≡ endsIn (segmentIn child i ∷ xs) (segmentIn parent p ∷ ys)
     fronts = w .whole ∙ ap₂ endsIn (from-more child count i more-left) (from-more parent many p h)
 
     pub merged-same : x ≡ y → Merged child count parent many (p + 1) (i + 1)
@@ -91,7 +92,7 @@ module _ {child : List ℤ} {count : ℕ} {parent : List ℤ} {many p i : ℕ} (
     }
 
     module _ (f : x ≡ y → ⊥) where
-      passed : endsIn (segmentsFrom child count 0) (segmentsFrom parent many 0) ≡ endsIn xs (left parent many p)
+      passed : endsIn (segmentsInFrom child count 0) (segmentsInFrom parent many 0) ≡ endsIn xs (left parent many p)
       passed =
           fronts
           ∙ (other-front x y (ends xs) (ends ys) f (behind child-up) (behind parent-up)
@@ -109,7 +110,7 @@ module _ {child : List ℤ} {count : ℕ} {parent : List ℤ} {many p i : ℕ} (
       }
 
       -- there is none to spare
-      pub merged-short : count + p ≤ many + i → false ≡ endsIn (segmentsFrom child count 0) (segmentsFrom parent many 0)
+      pub merged-short : count + p ≤ many + i → false ≡ endsIn (segmentsInFrom child count 0) (segmentsInFrom parent many 0)
       merged-short g =
           sym (passed ∙ short-among (ends xs) (ends (left parent many p)) (behind child-up) (w .parent-rises)
           (omega (arith, ends-length child (count - (i + 1)) (i + 1), ends-length parent (many - p) p, g, h, w .room)))

@@ -15,7 +15,7 @@ use Rattle.dstree.specs.Figures.{run}
 use Rattle.dstree.specs.Node.{Figure, Kind, inner}
 use Rattle.dstree.specs.WellFormed.{childrenOf, thresholdFits, testFits}
 use Rattle.tables.specs.Layout.{kindPlace, firstPlace, rightPlace, runFirstPlace, runLastPlace, thresholdPlace}
-use Rattle.tables.specs.View.{placeOf, smallAt, testIn, kindIn}
+use Rattle.tables.specs.View.{valueAt, smallAt, testIn, kindIn}
 use Rattle.records_fit.specs.Fits.{figureNamed, childFits, headFits}
 
 -- an inner node of this kind field
@@ -90,7 +90,7 @@ module _ (n first last : ℕ) (figure : Figure) (threshold : ℤ) (left right : 
 
 -- the fields that were read are the test's
 pub test-is : (n : ℕ) (r : List ℤ) {kind first last : ℕ} {threshold : ℤ} → kind ≡ smallAt r kindPlace → first ≡ smallAt r runFirstPlace
-    → last ≡ smallAt r runLastPlace → threshold ≡ placeOf r thresholdPlace
+    → last ≡ smallAt r runLastPlace → threshold ≡ valueAt r thresholdPlace
     → testFits sampleLimit n (inner (record { on = run first last; figure = figureNamed kind; threshold = threshold })
     (smallAt r firstPlace) (smallAt r rightPlace)) ≡ testFits sampleLimit n (innerNamed r (smallAt r kindPlace))
 unfolding testIn

@@ -9,7 +9,7 @@ use lib.IntN.{ℤ, pos, negsuc, negℤ, _+ℤ_}
 use lib.Signed.{leZ, leZ-yes, mag}
 use lib.Dec.{T, leb, leb→le, le→leb}
 use mir.Facts.{and-yes, yes-and}
-use Rattle.integer.proofs.Tests.{is-true, joined, passed, passes, test-true, test-false}
+use Rattle.integer.proofs.Tests.{is-true, andAll, passed, passes, test-true, test-false}
 use Rattle.integer.proofs.Order.{≤ℤ→, →≤ℤ, ≤ℤ-trans, up, down, sum-parts, neg-parts}
 use Rattle.segment.specs.Limits.{sumLimit, scatterLimit, rootLimit}
 use Rattle.dstree.specs.Measures.{sampleLimit}
@@ -92,7 +92,7 @@ module _ (w end : ℕ) (a b p q : ℤ) where
     top : limit * limit < 2 ^ 63
     top = omega (arith, square-fits w 256 h)
 
-    meant : T whole → T (joined (leZ a b) tests)
+    meant : T whole → T (andAll (leZ a b) tests)
     unfolding segmentFits sumLimit scatterLimit sampleLimit withinℤ
     meant t =
         let s = passed (leZ a b) (leb (scatterIn p) (scatterIn q) ∷ withinℤ limit a ∷ withinℤ limit b ∷ leb (scatterIn q) (w * w * (32768 * 32768)) ∷ []) t in
@@ -101,7 +101,7 @@ module _ (w end : ℕ) (a b p q : ℤ) where
         let z = scatters-meant (limit * limit) top p q (s .1 .0) (subst (λ (x : ℕ). T (leb (scatterIn q) x)) squared (s .1 .1 .1 .1)) in
         passes (leZ a b) tests (s .0, (greatest .1, (least .0, (z .1 .0, (z .0, z .1 .1)))))
 
-    shown : T (joined (leZ a b) tests) → T whole
+    shown : T (andAll (leZ a b) tests) → T whole
     unfolding segmentFits sumLimit scatterLimit sampleLimit withinℤ
     shown t =
         let s = passed (leZ a b) tests t in
@@ -123,7 +123,7 @@ module _ (w end : ℕ) (a b p q : ℤ) where
           ),
         )
 
-    pub segment-is : whole ≡ joined (leZ a b) tests
+    pub segment-is : whole ≡ andAll (leZ a b) tests
     segment-is = same-test meant shown
 
 pub sum-threshold : (w : ℕ) (t : ℤ) → thresholdFits sampleLimit bySum w t ≡ leZ t (pos (2 * (w * 32768))) && leZ (negℤ (pos (2 * (w * 32768)))) t

@@ -21,10 +21,10 @@ use Rattle.dstree.specs.Figures.{run, width}
 use Rattle.dstree.specs.Node.{Segment, ends}
 use Rattle.dstree.specs.WellFormed.{rising, endsFit, segmentFits, segmentsFit}
 use Rattle.tables.specs.Layout.{segmentAt, segmentsPlace}
-use Rattle.tables.specs.View.{smallOf, scatterIn, placeOf, smallAt, segmentIn, segmentsIn}
+use Rattle.tables.specs.View.{smallOf, scatterIn, valueAt, smallAt, segmentIn, segmentsIn}
 use Rattle.tables.proofs.Small.{small-read}
 use Rattle.records_fit.proofs.Limits.{clash}
-use Rattle.records_fit.specs.Fits.{between, segmentsHold, segmentsFrom, restHolds, EndsRise}
+use Rattle.records_fit.specs.Fits.{between, segmentsHold, segmentsInFrom, restHolds, EndsRise}
 
 -- ---- a number in between
 
@@ -67,19 +67,19 @@ module _ (low high : ℕ) (g : low ≤ high) (h : high ≤ 256) where
 -- ---- what is left
 
 module _ (r : List ℤ) (count i : ℕ) where
-  pub from-more : i < count → segmentsFrom r (count - i) i ≡ segmentIn r i ∷ segmentsFrom r (count - (i + 1)) (i + 1)
+  pub from-more : i < count → segmentsInFrom r (count - i) i ≡ segmentIn r i ∷ segmentsInFrom r (count - (i + 1)) (i + 1)
   unfolding counting
   from-more h = let e : count - i ≡ suc (count - (i + 1)) = omega arith in rw (e, add-one i)
 
-  pub from-none : count ≤ i → segmentsFrom r (count - i) i ≡ []
+  pub from-none : count ≤ i → segmentsInFrom r (count - i) i ≡ []
   unfolding counting
   from-none h = let e : count - i ≡ 0 = omega arith in rw e
 
-pub from-first : (r : List ℤ) (count : ℕ) → segmentsFrom r (count - 0) 0 ≡ segmentsFrom r count 0
+pub from-first : (r : List ℤ) (count : ℕ) → segmentsInFrom r (count - 0) 0 ≡ segmentsInFrom r count 0
 from-first r count = let e : count - 0 ≡ count = omega arith in rw e
 
 -- the figures that were read are the segment's
-pub figures-are : (w : ℕ) (r : List ℤ) (i : ℕ) {a b p q : ℤ} → a ≡ placeOf r (segmentAt i + 1) → b ≡ placeOf r (segmentAt i + 2) → p ≡ placeOf r (segmentAt i + 3) → q ≡ placeOf r (segmentAt i + 4)
+pub figures-are : (w : ℕ) (r : List ℤ) (i : ℕ) {a b p q : ℤ} → a ≡ valueAt r (segmentAt i + 1) → b ≡ valueAt r (segmentAt i + 2) → p ≡ valueAt r (segmentAt i + 3) → q ≡ valueAt r (segmentAt i + 4)
     → segmentFits sampleLimit w (record {
       end = smallAt r (segmentAt i);
       leastSum = a;
@@ -175,19 +175,21 @@ up-less u-none = u-none
 up-less (u-more {a} h u) = u-more {k = 0} {a = a} (omega arith) u
 
 -- as many ends as segments
-pub ends-length : (r : List ℤ) (count i : ℕ) → length (ends (segmentsFrom r count i)) ≡ count
-ends-length r count i = length-map (segmentsFrom r count i) (λ (s : Segment). s .end) ∙ (length-map (counting count i) (segmentIn r) ∙ counting-length count i)
+pub ends-length : (r : List ℤ) (count i : ℕ) → length (ends (segmentsInFrom r count i)) ≡ count
+ends-length r count i = length-map (segmentsInFrom r count i) (λ (s : Segment). s .end) ∙ (length-map (counting count i) (segmentIn r) ∙ counting-length count i)
 
 module _ (n : ℕ) (r : List ℤ) where
   pub none-hold : smallAt r segmentsPlace < 1 → segmentsHold n r ≡ false
   unfolding segmentsHold segmentsIn endsFit counting isEmpty
   none-hold h = let e : smallAt r segmentsPlace ≡ 0 = omega arith in rw e
 
-  many : (count : ℕ) → 16 < count → endsFit n (ends (segmentsFrom r count 0)) && segmentsFit sampleLimit 1 (segmentsFrom r count 0) ≡ false
+  many : (count : ℕ) → 16 < count → endsFit n (ends (segmentsInFrom r count 0))
+      && segmentsFit sampleLimit 1 (segmentsInFrom r count 0) ≡ false
   unfolding endsFit
-  many count h = rw (lt-leb (length (ends (segmentsFrom r count 0))) 16 (omega (arith, ends-length r count 0))) (by (not (isEmpty (ends (segmentsFrom r count 0)))))
+  many count h = rw (lt-leb (length (ends (segmentsInFrom r count 0))) 16 (omega (arith, ends-length r count 0))) (by (not (isEmpty (ends (segmentsInFrom r count 0)))))
     where
-      by : (b : Bool) → (((b && false) && rising (0 ∷ ends (segmentsFrom r count 0))) && eqb (lastOf (ends (segmentsFrom r count 0))) n) && segmentsFit sampleLimit 1 (segmentsFrom r count 0) ≡ false
+      by : (b : Bool) → (((b && false) && rising (0 ∷ ends (segmentsInFrom r count 0)))
+          && eqb (lastOf (ends (segmentsInFrom r count 0))) n) && segmentsFit sampleLimit 1 (segmentsInFrom r count 0) ≡ false
       by true = refl
       by false = refl
 
@@ -195,12 +197,12 @@ module _ (n : ℕ) (r : List ℤ) where
   unfolding segmentsHold segmentsIn
   many-hold h = many (smallAt r segmentsPlace) h
 
-  some : (count : ℕ) → 1 ≤ count → count ≤ 16 → endsFit n (ends (segmentsFrom r count 0)) && segmentsFit sampleLimit 1 (segmentsFrom r count 0) ≡ restHolds n 0 (segmentsFrom r count 0)
+  some : (count : ℕ) → 1 ≤ count → count ≤ 16 → endsFit n (ends (segmentsInFrom r count 0)) && segmentsFit sampleLimit 1 (segmentsInFrom r count 0) ≡ restHolds n 0 (segmentsInFrom r count 0)
   unfolding endsFit counting isEmpty
   some zero g h = absurd (omega arith)
-  some (suc k) g h = rw (le-leb (length (ends (segmentsFrom r (suc k) 0))) 16 (omega (arith, ends-length r (suc k) 0))) (rest-is n 0 (segmentsFrom r (suc k) 0))
+  some (suc k) g h = rw (le-leb (length (ends (segmentsInFrom r (suc k) 0))) 16 (omega (arith, ends-length r (suc k) 0))) (rest-is n 0 (segmentsInFrom r (suc k) 0))
 
-  pub some-hold : 1 ≤ smallAt r segmentsPlace → smallAt r segmentsPlace ≤ 16 → segmentsHold n r ≡ restHolds n 0 (segmentsFrom r (smallAt r segmentsPlace) 0)
+  pub some-hold : 1 ≤ smallAt r segmentsPlace → smallAt r segmentsPlace ≤ 16 → segmentsHold n r ≡ restHolds n 0 (segmentsInFrom r (smallAt r segmentsPlace) 0)
   unfolding segmentsHold segmentsIn
   some-hold g h = some (smallAt r segmentsPlace) g h
 
@@ -212,15 +214,15 @@ module _ (n : ℕ) (r : List ℤ) where
       by false b f g = clash (sym e ∙ many-hold (leb-false (smallAt r segmentsPlace) 16 f))
       by true false f g = clash (sym e ∙ none-hold (leb-false 1 (smallAt r segmentsPlace) g))
       by true true f g =
-          let t : T (restHolds n 0 (segmentsFrom r (smallAt r segmentsPlace) 0)) =
+          let t : T (restHolds n 0 (segmentsInFrom r (smallAt r segmentsPlace) 0)) =
           is-true (sym (some-hold (leb-true 1 (smallAt r segmentsPlace) g) (leb-true (smallAt r segmentsPlace) 16 f)) ∙ e) in
           record {
             few = leb-true (smallAt r segmentsPlace) 16 f;
-            rise = up-less (rest-rises n 0 (segmentsFrom r (smallAt r segmentsPlace) 0) t);
+            rise = up-less (rest-rises n 0 (segmentsInFrom r (smallAt r segmentsPlace) 0) t);
             low = λ i h. omega (
               arith,
               l,
-              rest-under n 0 (segmentsFrom r (smallAt r segmentsPlace) 0) t (segmentIn r i .end)
+              rest-under n 0 (segmentsInFrom r (smallAt r segmentsPlace) 0) t (segmentIn r i .end)
                   (in-map (λ (s : Segment). s .end) (in-map (segmentIn r) (in-counting (smallAt r segmentsPlace) 0 i (omega arith) (omega arith)))),
             );
           }

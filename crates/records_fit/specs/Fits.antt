@@ -42,8 +42,8 @@ unfoldable pub recordFits : ℕ → ℕ → ℕ → List ℤ → Bool
 recordFits n m j r = headFits n m j r && segmentsHold n r
 
 -- the first `count` segments of a record from segment i on
-abbrev pub segmentsFrom : List ℤ → ℕ → ℕ → List Segment
-segmentsFrom r count i = map (segmentIn r) (counting count i)
+abbrev pub segmentsInFrom : List ℤ → ℕ → ℕ → List Segment
+segmentsInFrom r count i = map (segmentIn r) (counting count i)
 
 -- a number is above `low`, and `high` at most
 abbrev pub between : ℕ → ℕ → ℕ → Bool
@@ -93,7 +93,7 @@ allKept m nodes = every (keptAt nodes) (counting m 0)
 -- the ends of a record's first segments rise
 pub record EndsRise (r : List ℤ) (count : ℕ) : Type 0 where
   pub few : count ≤ 16
-  pub rise : Up 0 (ends (segmentsFrom r count 0))
+  pub rise : Up 0 (ends (segmentsInFrom r count 0))
   pub low : (i : ℕ) → i < count → segmentIn r i .end ≤ mostSamples
 
 -- the records of m nodes are in the table, and fit

@@ -24,7 +24,7 @@ ghost use Rattle.dstree.specs.Node.{inner};
 ghost use Rattle.dstree.specs.WellFormed.{segmentFits, testFits};
 ghost use Rattle.tables.specs.Layout.{segmentsPlace, recordPlaces};
 ghost use Rattle.tables.specs.View.{smallMost, smallOf, smallAt, segmentIn, segmentsIn};
-ghost use Rattle.records_fit.specs.Fits.{figureNamed, between, childFits, headFits, segmentsHold, recordFits, segmentsFrom, restHolds, endsIn, EndsRise};
+ghost use Rattle.records_fit.specs.Fits.{figureNamed, between, childFits, headFits, segmentsHold, recordFits, segmentsInFrom, restHolds, endsIn, EndsRise};
 
 // ---- segments
 
@@ -79,7 +79,7 @@ pub fn segment_fits(places: &[i64], i: usize, w: u64) -> bool
 // The first `count` segments: their ends rise to n, and their figures are in their limits.
 fn segments_run(places: &[i64], count: usize, n: usize) -> bool
     requires { ⌜ (length (now places) ≡ recordPlaces) × (count ≤ 16) × (n ≤ mostSamples) ⌝ }
-    ensures { λ r. ⌜ r ≡ restHolds n 0 (segmentsFrom (now (places .entry)) count 0) ⌝ }
+    ensures { λ r. ⌜ r ≡ restHolds n 0 (segmentsInFrom (now (places .entry)) count 0) ⌝ }
 {
     let mut before: usize = 0;
     let mut i: usize = 0;
@@ -182,7 +182,7 @@ pub fn record_fits(places: &[i64], j: usize, m: usize, n: usize) -> bool
 fn ends_in(child: &[i64], count: usize, parent: &[i64], many: usize) -> bool
     requires { ⌜ (length (now child) ≡ recordPlaces) × EndsRise (now child) count
         × (length (now parent) ≡ recordPlaces) × EndsRise (now parent) many ⌝ }
-    ensures { λ r. ⌜ r ≡ endsIn (segmentsFrom (now (child .entry)) count 0) (segmentsFrom (now (parent .entry)) many 0) ⌝ }
+    ensures { λ r. ⌜ r ≡ endsIn (segmentsInFrom (now (child .entry)) count 0) (segmentsInFrom (now (parent .entry)) many 0) ⌝ }
 {
     if count < many {
         return false;

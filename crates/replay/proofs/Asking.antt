@@ -15,19 +15,19 @@ use Rattle.dstree.specs.Measures.{sampleLimit, areSamples}
 use Rattle.dstree.specs.Sheet.{areBytes}
 use Rattle.dstree.specs.Book.{Lent, Ask, Call}
 use Rattle.tables.specs.Tables.{Tables, lentOf}
-use Rattle.tables.specs.Beginning.{Within}
+use Rattle.tables.specs.Beginning.{LentWithin}
 use Rattle.calls.specs.Follows.{Typed}
-use Rattle.replay.specs.declared.Cursor.{Cursor}
+use Rattle.replay.specs.declared.Amounts.{Amounts}
 use Rattle.replay.specs.declared.Wanted.{Wanted}
 use Rattle.replay.specs.declared.Plan.{Plan}
-use Rattle.replay.specs.Script.{State, numberAt, lentBy, nextOf, aheadOf, Kind, kinds, kindAt, fitsIn, enough, ifEnough, playable}
+use Rattle.replay.specs.Script.{State, numberAt, lentBy, nextOf, aheadOf, CallKind, kinds, callKindAt, fitsIn, enough, ifEnough, playable}
 use Rattle.replay.specs.Script.{askedBy, asks}
 use Rattle.replay.specs.Script.{takesOf, moved, movedBy, wantedBy, plannedBy, takenBy, stateAfter}
 use Rattle.replay.proofs.OfKind.{of-kind}
 
 -- ---- which call
 
-pub fits-within : (lent lengths : Lent) → fitsIn lent lengths ≡ true → Within lent lengths
+pub fits-within : (lent lengths : Lent) → fitsIn lent lengths ≡ true → LentWithin lent lengths
 unfolding fitsIn
 fits-within lent lengths e =
     let p = passed (leb (lent .control) (lengths .control)) (leb (lent .samples) (lengths .samples) ∷ leb (lent .nodes) (lengths .nodes)
@@ -45,23 +45,23 @@ if-some true o x e = (refl, e)
 if-some false o x e = absurd (Option·none-ne-some x e)
 
 -- a row that can be played
-pub record Playable (lengths : Lent) (ahead : Cursor) (row : List ℕ) (k : Kind) : Type 0 where
-  pub is-kind : kindAt kinds (numberAt row 0) ≡ some k
-  pub within : Within (lentBy row) lengths
+pub record Playable (lengths : Lent) (ahead : Amounts) (row : List ℕ) (k : CallKind) : Type 0 where
+  pub is-kind : callKindAt kinds (numberAt row 0) ≡ some k
+  pub within : LentWithin (lentBy row) lengths
   pub samples-there : k .takes row .samples ≤ ahead .samples
   pub trails-there : k .takes row .trails ≤ ahead .trails
   pub sheets-there : k .takes row .sheets ≤ ahead .sheets
   pub lists-there : k .takes row .lists ≤ ahead .lists
 
-if-enough : (o : Option Kind) (row : List ℕ) (ahead : Cursor) (k : Kind) → ifEnough o row ahead ≡ some k → (o
+if-enough : (o : Option CallKind) (row : List ℕ) (ahead : Amounts) (k : CallKind) → ifEnough o row ahead ≡ some k → (o
     ≡ some k) × (enough (k .takes row) ahead ≡ true)
 unfolding ifEnough
 if-enough none row ahead k e = absurd (Option·none-ne-some k e)
 if-enough (some k₀) row ahead k e =
     let f = if-some (enough (k₀ .takes row) ahead) (some k₀) k e in
-    (f .1, subst (λ (k : Kind). enough (k .takes row) ahead ≡ true) (Option·some-injective k₀ k (f .1)) (f .0))
+    (f .1, subst (λ (k : CallKind). enough (k .takes row) ahead ≡ true) (Option·some-injective k₀ k (f .1)) (f .0))
 
-pub enough-is : (size ahead : Cursor) → enough size ahead ≡ true
+pub enough-is : (size ahead : Amounts) → enough size ahead ≡ true
     → (size .samples ≤ ahead .samples) × (size .trails ≤ ahead .trails) × (size .sheets ≤ ahead .sheets) × (size .lists ≤ ahead .lists)
 unfolding enough
 enough-is size ahead e =
@@ -74,12 +74,12 @@ enough-is size ahead e =
       leb→le (size .lists) (ahead .lists) (p .1 .1 .1),
     )
 
-pub playable-is : (lengths : Lent) (ahead : Cursor) (row : List ℕ) (k : Kind) → playable lengths ahead row ≡ some k
+pub playable-is : (lengths : Lent) (ahead : Amounts) (row : List ℕ) (k : CallKind) → playable lengths ahead row ≡ some k
     → Playable lengths ahead row k
 unfolding playable
 playable-is lengths ahead row k e =
-    let f = if-some (fitsIn (lentBy row) lengths) (ifEnough (kindAt kinds (numberAt row 0)) row ahead) k e in
-    let g = if-enough (kindAt kinds (numberAt row 0)) row ahead k (f .1) in
+    let f = if-some (fitsIn (lentBy row) lengths) (ifEnough (callKindAt kinds (numberAt row 0)) row ahead) k e in
+    let g = if-enough (callKindAt kinds (numberAt row 0)) row ahead k (f .1) in
     let there = enough-is (k .takes row) ahead (g .1) in
     record {
       is-kind = g .0;
@@ -91,27 +91,27 @@ playable-is lengths ahead row k e =
     }
 
 -- .. by how much is taken behind it
-pub record Moved (o : Option Kind) (row : List ℕ) (at to : Cursor) : Type 0 where
-  pub kind : Kind
+pub record MovedOn (o : Option CallKind) (row : List ℕ) (at to : Amounts) : Type 0 where
+  pub kind : CallKind
   pub is : o ≡ some kind
   pub to-is : to ≡ moved at (kind .takes row)
 
-pub moved-is : (o : Option Kind) (row : List ℕ) (at to : Cursor) → some to ≡ movedBy o row at → Moved o row at to
+pub moved-is : (o : Option CallKind) (row : List ℕ) (at to : Amounts) → some to ≡ movedBy o row at → MovedOn o row at to
 unfolding movedBy
 moved-is none row at to e = absurd (Option·none-ne-some to (sym e))
 moved-is (some k) row at to e = record { kind = k; is = refl; to-is = Option·some-injective to (moved at (k .takes row)) e }
 
-pub asks-it : (lengths : Lent) (row : List ℕ) (s : State) (k : Kind) → playable lengths (aheadOf s) row ≡ some k
+pub asks-it : (lengths : Lent) (row : List ℕ) (s : State) (k : CallKind) → playable lengths (aheadOf s) row ≡ some k
     → asks lengths row s ≡ some (k .ask row (nextOf (k .takes row) s))
 unfolding asks askedBy
-asks-it lengths row s k e = ap (λ (o : Option Kind). askedBy o row s) e
+asks-it lengths row s k e = ap (λ (o : Option CallKind). askedBy o row s) e
 
-pub asks-not : (lengths : Lent) (row : List ℕ) (s : State) (at : Cursor) → movedBy (playable lengths (aheadOf s) row) row at ≡ none
+pub asks-not : (lengths : Lent) (row : List ℕ) (s : State) (at : Amounts) → movedBy (playable lengths (aheadOf s) row) row at ≡ none
     → asks lengths row s ≡ none
 unfolding asks movedBy askedBy
 asks-not lengths row s at e = by (playable lengths (aheadOf s) row) e
   where
-    by : (o : Option Kind) → movedBy o row at ≡ none → askedBy o row s ≡ none
+    by : (o : Option CallKind) → movedBy o row at ≡ none → askedBy o row s ≡ none
     by none e = refl
     by (some k) e = absurd (Option·none-ne-some (moved at (k .takes row)) (sym e))
 
@@ -129,58 +129,58 @@ planned-some r e = rw e refl
 pub planned-none : (r : Plan) → r .made ≡ false → plannedBy r ≡ none
 planned-none r e = rw e refl
 
-module _ (lengths : Lent) (ahead : Cursor) (row : List ℕ) (at : Cursor) (lent : Lent) (l : lent ≡ lentBy row) where
+module _ (lengths : Lent) (ahead : Amounts) (row : List ℕ) (at : Amounts) (lent : Lent) (l : lent ≡ lentBy row) where
   pub not-lent : fitsIn lent lengths ≡ false → none ≡ movedBy (playable lengths ahead row) row at
   unfolding playable movedBy
-  not-lent e = sym (ap (λ (b : Bool). movedBy (if b then ifEnough (kindAt kinds (numberAt row 0)) row ahead else none) row at) (ap (λ (l
+  not-lent e = sym (ap (λ (b : Bool). movedBy (if b then ifEnough (callKindAt kinds (numberAt row 0)) row ahead else none) row at) (ap (λ (l
       : Lent). fitsIn l lengths) (sym l) ∙ e))
 
   -- that the tables are long enough leaves the kind, and what is ahead
-  long-enough : fitsIn lent lengths ≡ true → movedBy (ifEnough (kindAt kinds (numberAt row 0)) row ahead) row at
+  long-enough : fitsIn lent lengths ≡ true → movedBy (ifEnough (callKindAt kinds (numberAt row 0)) row ahead) row at
       ≡ movedBy (playable lengths ahead row) row at
   unfolding playable
-  long-enough e = sym (ap (λ (b : Bool). movedBy (if b then ifEnough (kindAt kinds (numberAt row 0)) row ahead else none) row at) (ap (λ
+  long-enough e = sym (ap (λ (b : Bool). movedBy (if b then ifEnough (callKindAt kinds (numberAt row 0)) row ahead else none) row at) (ap (λ
       (l : Lent). fitsIn l lengths) (sym l) ∙ e))
 
-  pub no-kind : fitsIn lent lengths ≡ true → takesOf (kindAt kinds (numberAt row 0)) row ≡ none → none
+  pub no-kind : fitsIn lent lengths ≡ true → takesOf (callKindAt kinds (numberAt row 0)) row ≡ none → none
       ≡ movedBy (playable lengths ahead row) row at
   unfolding takesOf ifEnough movedBy
-  no-kind f e = by (kindAt kinds (numberAt row 0)) e ∙ long-enough f
+  no-kind f e = by (callKindAt kinds (numberAt row 0)) e ∙ long-enough f
     where
-      by : (o : Option Kind) → takesOf o row ≡ none → none ≡ movedBy (ifEnough o row ahead) row at
+      by : (o : Option CallKind) → takesOf o row ≡ none → none ≡ movedBy (ifEnough o row ahead) row at
       by none e = refl
       by (some k) e = absurd (Option·none-ne-some (k .takes row) (sym e))
 
-  pub too-few : fitsIn lent lengths ≡ true → (size : Cursor) → takesOf (kindAt kinds (numberAt row 0)) row ≡ some size
+  pub too-few : fitsIn lent lengths ≡ true → (size : Amounts) → takesOf (callKindAt kinds (numberAt row 0)) row ≡ some size
       → enough size ahead ≡ false
       → none ≡ movedBy (playable lengths ahead row) row at
   unfolding takesOf ifEnough movedBy
-  too-few f size e g = by (kindAt kinds (numberAt row 0)) e ∙ long-enough f
+  too-few f size e g = by (callKindAt kinds (numberAt row 0)) e ∙ long-enough f
     where
-      by : (o : Option Kind) → takesOf o row ≡ some size → none ≡ movedBy (ifEnough o row ahead) row at
+      by : (o : Option CallKind) → takesOf o row ≡ some size → none ≡ movedBy (ifEnough o row ahead) row at
       by none e = absurd (Option·none-ne-some size e)
       by (some k) e =
-          let h : enough (k .takes row) ahead ≡ false = ap (λ (z : Cursor). enough z ahead) (Option·some-injective (k .takes row) size e)
+          let h : enough (k .takes row) ahead ≡ false = ap (λ (z : Amounts). enough z ahead) (Option·some-injective (k .takes row) size e)
           ∙ g in
           sym (ap (λ (b : Bool). movedBy (if b then some k else none) row at) h)
 
-  pub goes : fitsIn lent lengths ≡ true → (size : Cursor) → takesOf (kindAt kinds (numberAt row 0)) row ≡ some size → enough size ahead
+  pub goes : fitsIn lent lengths ≡ true → (size : Amounts) → takesOf (callKindAt kinds (numberAt row 0)) row ≡ some size → enough size ahead
       ≡ true
       → some (moved at size) ≡ movedBy (playable lengths ahead row) row at
   unfolding takesOf ifEnough movedBy
-  goes f size e g = by (kindAt kinds (numberAt row 0)) e ∙ long-enough f
+  goes f size e g = by (callKindAt kinds (numberAt row 0)) e ∙ long-enough f
     where
-      by : (o : Option Kind) → takesOf o row ≡ some size → some (moved at size) ≡ movedBy (ifEnough o row ahead) row at
+      by : (o : Option CallKind) → takesOf o row ≡ some size → some (moved at size) ≡ movedBy (ifEnough o row ahead) row at
       by none e = absurd (Option·none-ne-some size e)
       by (some k) e =
           let q = Option·some-injective (k .takes row) size e in
-          let h : enough (k .takes row) ahead ≡ true = ap (λ (z : Cursor). enough z ahead) q ∙ g in
-          ap (λ (z : Cursor). some (moved at z)) (sym q) ∙ sym (ap (λ (b : Bool). movedBy (if b then some k else none) row at) h)
+          let h : enough (k .takes row) ahead ≡ true = ap (λ (z : Amounts). enough z ahead) q ∙ g in
+          ap (λ (z : Amounts). some (moved at z)) (sym q) ∙ sym (ap (λ (b : Bool). movedBy (if b then some k else none) row at) h)
 
 -- ---- the call that is asked for
 
 record Asked (lengths : Lent) (row : List ℕ) (s : State) (ask : Ask) : Type 0 where
-  pub kind : Kind
+  pub kind : CallKind
   pub can : playable lengths (aheadOf s) row ≡ some kind
   pub ask-is : kind .ask row (nextOf (kind .takes row) s) ≡ ask
 
@@ -188,14 +188,14 @@ asked-is : (lengths : Lent) (row : List ℕ) (s : State) (ask : Ask) → asks le
 unfolding asks askedBy
 asked-is lengths row s ask e = by (playable lengths (aheadOf s) row) refl e
   where
-    by : (o : Option Kind) → playable lengths (aheadOf s) row ≡ o → askedBy o row s ≡ some ask → Asked lengths row s ask
+    by : (o : Option CallKind) → playable lengths (aheadOf s) row ≡ o → askedBy o row s ≡ some ask → Asked lengths row s ask
     by none f e = absurd (Option·none-ne-some ask e)
     by (some k) f e = record { kind = k; can = f; ask-is = Option·some-injective (k .ask row (nextOf (k .takes row) s)) ask e }
 
 -- ---- what is known of it
 
 -- what the slices' types say of a state, and that its tables are as long as they were
-pub record Sound (lengths : Lent) (s : State) : Type 0 where
+pub record SoundState (lengths : Lent) (s : State) : Type 0 where
   pub as-long : lentOf (s .memory) ≡ lengths
   pub of-samples : T (areSamples (s .samples))
   pub of-bytes : T (areBytes (s .sheets .ahead))
@@ -206,7 +206,7 @@ isSample sample = ltb (mag sample) sampleLimit
 abbrev pub isByte : ℕ → Bool
 isByte byte = ltb byte 256
 
-pub asked-typed : (lengths : Lent) (row : List ℕ) (s : State) → Sound lengths s → (ask : Ask) → asks lengths row s ≡ some ask
+pub asked-typed : (lengths : Lent) (row : List ℕ) (s : State) → SoundState lengths s → (ask : Ask) → asks lengths row s ≡ some ask
     → (t : Tables) → T (areSamples (t .samples)) → Typed ask t
 unfolding areBytes
 asked-typed lengths row s sound ask e t known =
@@ -219,14 +219,14 @@ asked-typed lengths row s sound ask e t known =
     .of-bytes)) known)
 
 -- a call is asked for only where it is lent no more than there is
-pub asked-within : (lengths : Lent) (row : List ℕ) (s : State) (ask : Ask) → asks lengths row s ≡ some ask → Within (lentBy row) lengths
+pub asked-within : (lengths : Lent) (row : List ℕ) (s : State) (ask : Ask) → asks lengths row s ≡ some ask → LentWithin (lentBy row) lengths
 asked-within lengths row s ask e =
     let a = asked-is lengths row s ask e in
     playable-is lengths (aheadOf s) row (a .kind) (a .can) .within
 
 -- a call takes from what is ahead
-pub sound-after : (lengths : Lent) (s : State) → Sound lengths s → (c : Call) → lentOf (stateAfter c s .memory) ≡ lengths
-    → Sound lengths (stateAfter c s)
+pub sound-after : (lengths : Lent) (s : State) → SoundState lengths s → (c : Call) → lentOf (stateAfter c s .memory) ≡ lengths
+    → SoundState lengths (stateAfter c s)
 unfolding stateAfter areBytes
 sound-after lengths s sound c e = record {
   as-long = e;

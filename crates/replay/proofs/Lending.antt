@@ -7,7 +7,7 @@ use lib.ListN.{length, take, drop, length-append, length-drop}
 use lib.Seq.{length-take-le, take-at, drop-at, drop-drop}
 use Rattle.dstree.specs.Book.{Lent}
 use Rattle.tables.specs.Tables.{Tables, tables, lentOf}
-use Rattle.tables.specs.Beginning.{over, left, Within}
+use Rattle.tables.specs.Beginning.{over, left, LentWithin}
 use Rattle.tables.proofs.Beginning.{tables-same}
 use Rattle.replay.specs.Script.{supply, supplyAt}
 
@@ -34,7 +34,7 @@ back-is-left lent part memory e = tables-same
     (front (lent .work) (part .work) (memory .work) (ap (λ (l : Lent). l .work) e))
 
 -- the lengths of what a call leaves: they are those that it was lent
-pub lengths-kept : (lent : Lent) (part memory : Tables) → Within lent (lentOf memory)
+pub lengths-kept : (lent : Lent) (part memory : Tables) → LentWithin lent (lentOf memory)
     → length (part .control) ≡ length (take (lent .control) (memory .control)) → length (part .samples) ≡ length (take (lent .samples) (memory .samples))
     → length (part .nodes) ≡ length (take (lent .nodes) (memory .nodes)) → length (part .links) ≡ length (take (lent .links) (memory .links))
     → length (part .work) ≡ length (take (lent .work) (memory .work)) → lentOf part ≡ lent

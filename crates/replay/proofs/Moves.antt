@@ -11,12 +11,12 @@ use Rattle.dstree.specs.Book.{Lent, Ask}
 use Rattle.tables.specs.Tables.{Tables, lentOf}
 use Rattle.tables.specs.Beginning.{firstPlaces, left}
 use Rattle.calls.specs.Effects.{outcomeOn}
-use Rattle.replay.specs.declared.Cursor.{Cursor}
+use Rattle.replay.specs.declared.Amounts.{Amounts}
 use Rattle.replay.specs.declared.Turn.{Turn}
-use Rattle.replay.specs.Numbers.{replyRow}
-use Rattle.replay.specs.Script.{State, supplyAt, stateAt, CursorInside, lentBy, cursor, Taken, taken, sizeOf, nextOf, aheadOf, Kind}
+use Rattle.replay.specs.ReplyRows.{replyRow}
+use Rattle.replay.specs.Script.{State, supplyAt, stateAt, AmountsInside, lentBy, amounts, Taken, taken, amountsOf, nextOf, aheadOf, CallKind}
 use Rattle.replay.specs.Script.{playable, asks, moved}
-use Rattle.replay.specs.Script.{takenBy, leftBy, used, stateAfter, Called, called, calledBy, turned, made, turnOf}
+use Rattle.replay.specs.Script.{takenBy, leftBy, used, stateAfter, Called, called, calledBy, turned, turnMade, turnOf}
 use Rattle.replay.proofs.OfKind.{of-kind, taken-same}
 use Rattle.replay.proofs.Asking.{Playable, playable-is, asks-it}
 use Rattle.replay.proofs.Lending.{next-places, so-many, ahead-moved, supply-moved}
@@ -24,19 +24,19 @@ use Rattle.replay.proofs.Lending.{next-places, so-many, ahead-moved, su
 -- ---- no call
 
 -- as code has it
-abbrev pub stays : Cursor → Turn
-stays at = record { made = false; told = 0 ∷ 0 ∷ 0 ∷ 0 ∷ 0 ∷ []; at = at }
+abbrev pub stays : Amounts → Turn
+stays at = record { made = false; numbers = 0 ∷ 0 ∷ 0 ∷ 0 ∷ 0 ∷ []; at = at }
 
-pub none-is : (r : Turn) (at : Cursor) → r ≡ stays at → (lent : Lent) (memory : Tables) (pool : List ℤ) (trails sheets lists : List ℕ) (o :
+pub none-is : (r : Turn) (at : Amounts) → r ≡ stays at → (lent : Lent) (memory : Tables) (pool : List ℤ) (trails sheets lists : List ℕ) (o :
     Option Ask) → o ≡ none
-    → turnOf r memory pool trails sheets lists ≡ made lent o (stateAt memory pool trails sheets lists at)
-unfolding made
+    → turnOf r memory pool trails sheets lists ≡ turnMade lent o (stateAt memory pool trails sheets lists at)
+unfolding turnMade
 none-is r at e lent memory pool trails sheets lists o n = rw (e, n) refl
 
 -- ---- how much is ahead
 
-pub ahead-is : (memory : Tables) (pool : List ℤ) (trails sheets lists : List ℕ) (at : Cursor)
-    → cursor (length pool - at .samples) (length trails - at .trails) (length sheets - at .sheets) (length lists - at .lists)
+pub ahead-is : (memory : Tables) (pool : List ℤ) (trails sheets lists : List ℕ) (at : Amounts)
+    → amounts (length pool - at .samples) (length trails - at .trails) (length sheets - at .sheets) (length lists - at .lists)
     ≡ aheadOf (stateAt memory pool trails sheets lists at)
 ahead-is memory pool trails sheets lists at = rw (
   length-drop (at .samples) pool,
@@ -48,10 +48,10 @@ ahead-is memory pool trails sheets lists at = rw (
 -- ---- a call that is made
 
 -- by the numbers of its reply, the memory that it leaves, and how far it has come
-made-is : (lent : Lent) (at at′ : Cursor) (memory memory′ : Tables) (pool : List ℤ) (trails trails′ sheets sheets′ lists lists′ : List ℕ)
+made-is : (lent : Lent) (at at′ : Amounts) (memory memory′ : Tables) (pool : List ℤ) (trails trails′ sheets sheets′ lists lists′ : List ℕ)
     (ask : Ask)
-    (told : List ℕ)
-    → told ≡ replyRow (outcomeOn ask (firstPlaces lent memory) .answer) → memory′
+    (numbers : List ℕ)
+    → numbers ≡ replyRow (outcomeOn ask (firstPlaces lent memory) .answer) → memory′
     ≡ left (outcomeOn ask (firstPlaces lent memory) .after) memory
     → drop (at′ .samples) pool ≡ drop (length (takenBy ask .samples)) (drop (at .samples) pool)
     → supplyAt (at′ .trails) trails′ ≡ used (supplyAt (at .trails) trails) (takenBy ask .trail) (leftBy ask (outcomeOn ask (firstPlaces
@@ -60,40 +60,41 @@ made-is : (lent : Lent) (at at′ : Cursor) (memory memory′ : Tables) (pool : 
     lent memory) .beside) .sheet)
     → supplyAt (at′ .lists) lists′ ≡ used (supplyAt (at .lists) lists) (takenBy ask .list) (leftBy ask (outcomeOn ask (firstPlaces
     lent memory) .beside) .list)
-    → turned (some told) (stateAt memory′ pool trails′ sheets′ lists′ at′) ≡ made lent (some ask) (stateAt memory pool trails sheets
+    → turned (some numbers) (stateAt memory′ pool trails′ sheets′ lists′ at′) ≡ turnMade lent (some ask) (stateAt memory pool trails sheets
     lists at)
-unfolding made stateAfter
-made-is lent at at′ memory memory′ pool trails trails′ sheets sheets′ lists lists′ ask told a m p t s l = rw (a, m, p, t, s, l)
+unfolding turnMade stateAfter
+made-is lent at at′ memory memory′ pool trails trails′ sheets sheets′ lists lists′ ask numbers a m p t s l = rw (a, m, p, t, s, l)
 
 -- a supply of which a call took the next places and left them so
-abbrev pub put : ℕ → ℕ → List ℕ → List ℕ → List ℕ
-put from to part l = take from l ++ (part ++ drop to l)
+abbrev pub putOver : ℕ → ℕ → List ℕ → List ℕ → List ℕ
+putOver from to part l = take from l ++ (part ++ drop to l)
 
 moved-on : (from many : ℕ) (l taken left part : List ℕ) → from ≤ length l → many ≤ length l - from → taken ≡ take many (drop from l)
     → part ≡ left → length part ≡ many
-    → supplyAt (from + many) (put from (from + many) part l) ≡ used (supplyAt from l) taken left
+    → supplyAt (from + many) (putOver from (from + many) part l) ≡ used (supplyAt from l) taken left
 moved-on from many l taken left part h g t p n = rw (t, ← p) (supply-moved from many l part h g n)
 
-module _ (memory : Tables) (pool : List ℤ) (trails sheets lists : List ℕ) (at : Cursor) (inside : CursorInside at pool trails sheets lists)
+module _ (memory : Tables) (pool : List ℤ) (trails sheets lists : List ℕ) (at : Amounts)
+    (inside : AmountsInside at pool trails sheets lists)
     (row : List ℕ)
-    (k : Kind)
+    (k : CallKind)
     (can : playable (lentOf memory) (aheadOf (stateAt memory pool trails sheets lists at)) row ≡ some k) where
   abbrev here : State
   here = stateAt memory pool trails sheets lists at
 
-  abbrev size : Cursor
+  abbrev size : Amounts
   size = k .takes row
 
   abbrev next : Taken
   next = nextOf size here
 
-  pub is : Playable (lentOf memory) (cursor (length pool - at .samples) (length trails - at .trails) (length sheets - at .sheets) (length
+  pub is : Playable (lentOf memory) (amounts (length pool - at .samples) (length trails - at .trails) (length sheets - at .sheets) (length
       lists - at .lists)) row k
-  is = playable-is (lentOf memory) _ row k (ap (λ (a : Cursor). playable (lentOf memory) a row) (ahead-is memory pool trails sheets lists
+  is = playable-is (lentOf memory) _ row k (ap (λ (a : Amounts). playable (lentOf memory) a row) (ahead-is memory pool trails sheets lists
       at)
       ∙ can)
 
-  pub next-size : sizeOf next ≡ size
+  pub next-size : amountsOf next ≡ size
   next-size = rw (
     so-many (at .samples) (size .samples) pool (is .samples-there),
     so-many (at .trails) (size .trails) trails (is .trails-there),
@@ -101,7 +102,7 @@ module _ (memory : Tables) (pool : List ℤ) (trails sheets lists : List ℕ) (a
     so-many (at .lists) (size .lists) lists (is .lists-there),
   ) refl
 
-  pub inside-then : CursorInside (moved at size) pool trails sheets lists
+  pub inside-then : AmountsInside (moved at size) pool trails sheets lists
   inside-then = record {
     samples-inside = omega (arith, inside .samples-inside, is .samples-there);
     trails-inside = omega (arith, inside .trails-inside, is .trails-there);
@@ -110,18 +111,19 @@ module _ (memory : Tables) (pool : List ℤ) (trails sheets lists : List ℕ) (a
   }
 
   -- by what the call left of what it was lent
-  played-is : (told : List ℕ) (after memory′ : Tables) (trail sheet list : List ℕ)
-      → (sizeOf next ≡ size → called told after (taken (next .samples) trail sheet list)
+  played-is : (numbers : List ℕ) (after memory′ : Tables) (trail sheet list : List ℕ)
+      → (amountsOf next ≡ size → called numbers after (taken (next .samples) trail sheet list)
       ≡ calledBy (k .ask row next) (firstPlaces (lentBy row) memory))
       → memory′ ≡ left after memory → length trail ≡ size .trails → length sheet ≡ size .sheets → length list ≡ size .lists
-      → turned (some told) (stateAt memory′ pool (put (at .trails) (at .trails + size .trails) trail trails) (put (at .sheets) (at
-      .sheets + size .sheets) sheet sheets) (put (at .lists) (at .lists + size .lists) list lists) (moved at size))
-      ≡ made (lentBy row) (asks (lentOf memory) row here) here
-  played-is told after memory′ trail sheet list does m t s l =
+      → turned (some numbers) (stateAt memory′ pool (putOver (at .trails) (at .trails + size .trails) trail trails)
+      (putOver (at .sheets) (at
+      .sheets + size .sheets) sheet sheets) (putOver (at .lists) (at .lists + size .lists) list lists) (moved at size))
+      ≡ turnMade (lentBy row) (asks (lentOf memory) row here) here
+  played-is numbers after memory′ trail sheet list does m t s l =
       let c = does next-size in
       let took : takenBy (k .ask row next) ≡ next = of-kind _ k (is .is-kind) .takes-all row next next-size in
-      made-is (lentBy row) at (moved at size) memory memory′ pool trails _ sheets _ lists _ (k .ask row next) told
-      (ap (λ (x : Called). x .told) c)
+      made-is (lentBy row) at (moved at size) memory memory′ pool trails _ sheets _ lists _ (k .ask row next) numbers
+      (ap (λ (x : Called). x .numbers) c)
       (m ∙ ap (λ (x : Called). left (x .after) memory) c)
       (ahead-moved (at .samples) (size .samples) pool (is .samples-there)
       ∙ ap (λ (x : Taken). drop (length (x .samples)) (drop (at .samples) pool)) (sym took))
@@ -131,27 +133,30 @@ module _ (memory : Tables) (pool : List ℤ) (trails sheets lists : List ℕ) (a
       took) (ap (λ (x : Called). x .left .sheet) c) s)
       (moved-on (at .lists) (size .lists) lists _ _ list (inside .lists-inside) (is .lists-there) (ap (λ (x : Taken). x .list) took)
       (ap (λ (x : Called). x .left .list) c) l)
-      ∙ ap (λ (o : Option Ask). made (lentBy row) o here) (sym (asks-it (lentOf memory) row here k can))
+      ∙ ap (λ (o : Option Ask). turnMade (lentBy row) o here) (sym (asks-it (lentOf memory) row here k can))
 
   -- .. as code has it, which knows how far the row goes
-  module _ (to : Cursor) (e : to ≡ moved at size) where
+  module _ (to : Amounts) (e : to ≡ moved at size) where
     pub next-is : taken (take (to .samples - at .samples) (drop (at .samples) pool)) (take (to .trails - at .trails) (drop (at .trails)
         trails))
         (take (to .sheets - at .sheets) (drop (at .sheets) sheets)) (take (to .lists - at .lists) (drop (at .lists) lists)) ≡ next
-    next-is = subst (λ (z : Cursor). taken (take (z .samples - at .samples) (drop (at .samples) pool)) (take (z .trails - at .trails)
+    next-is = subst (λ (z : Amounts). taken (take (z .samples - at .samples) (drop (at .samples) pool)) (take (z .trails - at .trails)
         (drop (at .trails) trails))
         (take (z .sheets - at .sheets) (drop (at .sheets) sheets)) (take (z .lists - at .lists) (drop (at .lists) lists)) ≡ next) (sym e)
         (taken-same (next-places (at .samples) (size .samples) pool) (next-places (at .trails) (size .trails) trails) (next-places (at
         .sheets) (size .sheets) sheets) (next-places (at .lists) (size .lists) lists))
 
-    pub played-to : (told : List ℕ) (after memory′ : Tables) (trail sheet list : List ℕ)
-        → (sizeOf next ≡ size → called told after (taken (next .samples) trail sheet list)
+    pub played-to : (numbers : List ℕ) (after memory′ : Tables) (trail sheet list : List ℕ)
+        → (amountsOf next ≡ size → called numbers after (taken (next .samples) trail sheet list)
         ≡ calledBy (k .ask row next) (firstPlaces (lentBy row) memory))
         → memory′ ≡ left after memory → length trail ≡ size .trails → length sheet ≡ size .sheets → length list ≡ size .lists
-        → turned (some told) (stateAt memory′ pool (put (at .trails) (to .trails) trail trails) (put (at .sheets) (to .sheets) sheet
-        sheets) (put (at .lists) (to .lists) list lists) to)
-        ≡ made (lentBy row) (asks (lentOf memory) row here) here
-    played-to told after memory′ trail sheet list does m t s l =
-        subst (λ (z : Cursor). turned (some told) (stateAt memory′ pool (put (at .trails) (z .trails) trail trails) (put (at .sheets) (z
-        .sheets) sheet sheets) (put (at .lists) (z .lists) list lists) z)
-        ≡ made (lentBy row) (asks (lentOf memory) row here) here) (sym e) (played-is told after memory′ trail sheet list does m t s l)
+        → turned (some numbers) (stateAt memory′ pool (putOver (at .trails) (to .trails) trail trails)
+        (putOver (at .sheets) (to .sheets) sheet
+        sheets) (putOver (at .lists) (to .lists) list lists) to)
+        ≡ turnMade (lentBy row) (asks (lentOf memory) row here) here
+    played-to numbers after memory′ trail sheet list does m t s l =
+        subst (λ (z : Amounts). turned (some numbers) (stateAt memory′ pool (putOver (at .trails) (z .trails) trail trails)
+        (putOver (at .sheets) (z
+        .sheets) sheet sheets) (putOver (at .lists) (z .lists) list lists) z)
+        ≡ turnMade (lentBy row) (asks (lentOf memory) row here) here) (sym e)
+        (played-is numbers after memory′ trail sheet list does m t s l)

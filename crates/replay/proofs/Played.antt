@@ -15,18 +15,18 @@ use Rattle.dstree.specs.Measures.{areSamples}
 use Rattle.dstree.specs.Sheet.{areBytes}
 use Rattle.dstree.specs.Book.{Lent, Ask, Call, call, Answer, Reply}
 use Rattle.tables.specs.Tables.{Tables, lentOf}
-use Rattle.tables.specs.Beginning.{Within, firstPlaces}
+use Rattle.tables.specs.Beginning.{LentWithin, firstPlaces}
 use Rattle.tables.proofs.Beginning.{first-lent}
 use Rattle.calls.specs.Follows.{Follows, Ran, no-call, a-call}
 use Rattle.calls.proofs.Demands.{demands}
 use Rattle.replay.specs.Demanded.{Demanded}
-use Rattle.replay.specs.declared.Cursor.{Cursor}
+use Rattle.replay.specs.declared.Amounts.{Amounts}
 use Rattle.replay.specs.declared.Turn.{Turn}
-use Rattle.replay.specs.Numbers.{replyRow, withRow, repliesLaid}
-use Rattle.replay.specs.Script.{rowsIn, rowsOf, lentBy, State, stateAt, CursorInside, cursor, asks, replyIn, stateAfter, Turned, turned}
-use Rattle.replay.specs.Script.{made, turnOf}
+use Rattle.replay.specs.ReplyRows.{replyRow, withRow, repliesLaid}
+use Rattle.replay.specs.Script.{rowsIn, rowsOf, lentBy, State, stateAt, AmountsInside, amounts, asks, replyIn, stateAfter, Turned, turned}
+use Rattle.replay.specs.Script.{turnMade, turnOf}
 use Rattle.replay.specs.Script.{Played, begun, playedOne, playedRow, answersOf, played, whole, tellsRow, nextRow}
-use Rattle.replay.proofs.Asking.{Sound, isSample, asked-typed, asked-within, sound-after}
+use Rattle.replay.proofs.Asking.{SoundState, isSample, asked-typed, asked-within, sound-after}
 
 -- ---- one call more
 
@@ -55,27 +55,28 @@ answers-length (s ∷ said) = ap suc (answers-length said)
 -- ---- a row more
 
 -- what holds of the rows that were played
-pub record Fine (t₀ : Tables) (replies₀ : List ℕ) (p : Played) (replies : List ℕ) (k : ℕ) : Type 0 where
+pub record RowsPlayed (t₀ : Tables) (replies₀ : List ℕ) (p : Played) (replies : List ℕ) (k : ℕ) : Type 0 where
   pub ran : Ran t₀ (p .asked) (p .said) (p .now .memory)
-  pub sound : Sound (lentOf t₀) (p .now)
+  pub sound : SoundState (lentOf t₀) (p .now)
   pub counted : k ≡ length (p .said)
   pub laid : replies ≡ repliesLaid (answersOf (p .said)) 0 replies₀
 
 module _ (t₀ : Tables) (replies₀ : List ℕ) where
   -- by whether the row asks for a call
   row-fine : (row : List ℕ) (p : Played) (replies : List ℕ) (k : ℕ) (r : Turn) (now′ : State) (o : Option Ask)
-      → Fine t₀ replies₀ p replies k → asks (lentOf t₀) row (p .now) ≡ o → turned (if r .made then some (r .told) else none) now′ ≡ made
+      → RowsPlayed t₀ replies₀ p replies k → asks (lentOf t₀) row (p .now) ≡ o
+      → turned (if r .made then some (r .numbers) else none) now′ ≡ turnMade
       (lentBy row) o (p .now)
       → lentOf (now′ .memory) ≡ lentOf t₀ → T (areSamples (p .now .memory .samples))
-      → (now′ ≡ playedOne (lentBy row) o p .now) × Fine t₀ replies₀ (playedOne (lentBy row) o p) (tellsRow r k replies) (nextRow r k)
-  unfolding made stateAfter playedOne tellsRow nextRow
-  row-fine row p replies k r now′ none f a e l known = by (r .made) (ap (λ (t : Turned). t .told) e)
+      → (now′ ≡ playedOne (lentBy row) o p .now) × RowsPlayed t₀ replies₀ (playedOne (lentBy row) o p) (tellsRow r k replies) (nextRow r k)
+  unfolding turnMade stateAfter playedOne tellsRow nextRow
+  row-fine row p replies k r now′ none f a e l known = by (r .made) (ap (λ (t : Turned). t .numbers) e)
     where
-      by : (b : Bool) → (if b then some (r .told) else none) ≡ none
-          → (now′ ≡ p .now) × Fine t₀ replies₀ p (if b then withRow replies k (r .told) else replies) (if b then k + 1 else k)
+      by : (b : Bool) → (if b then some (r .numbers) else none) ≡ none
+          → (now′ ≡ p .now) × RowsPlayed t₀ replies₀ p (if b then withRow replies k (r .numbers) else replies) (if b then k + 1 else k)
       by true n = let z : _≡_ {A = ℕ} 0 1 = cc in absurd (omega arith)
       by false n = (ap (λ (t : Turned). t .now) e, f)
-  row-fine row p replies k r now′ (some ask) f a e l known = by (r .made) (ap (λ (t : Turned). t .told) e)
+  row-fine row p replies k r now′ (some ask) f a e l known = by (r .made) (ap (λ (t : Turned). t .numbers) e)
     where
       c : Call
       c = call (lentBy row) ask
@@ -89,18 +90,18 @@ module _ (t₀ : Tables) (replies₀ : List ℕ) where
       follows : Follows c (p .now .memory) (replyIn c (p .now .memory)) (stateAfter c (p .now) .memory)
       follows = record {
         has-places = first-lent (lentBy row) (p .now .memory)
-            (subst (λ (x : Lent). Within (lentBy row) x) (sym (f .sound .as-long)) (asked-within (lentOf t₀) row (p .now) ask a));
+            (subst (λ (x : Lent). LentWithin (lentBy row) x) (sym (f .sound .as-long)) (asked-within (lentOf t₀) row (p .now) ask a));
         typed = asked-typed (lentOf t₀) row (p .now) (f .sound) ask a (firstPlaces (lentBy row) (p .now .memory))
             (every-take isSample (lentBy row .samples) (p .now .memory .samples) known);
         follows = refl;
       }
 
-      by : (b : Bool) → (if b then some (r .told) else none) ≡ some (replyRow (replyIn c (p .now .memory) .answer))
-          → (now′ ≡ stateAfter c (p .now)) × Fine t₀ replies₀ (playedOne (lentBy row) (some ask) p) (if b then withRow replies k
-          (r .told) else replies) (if b then k + 1 else k)
+      by : (b : Bool) → (if b then some (r .numbers) else none) ≡ some (replyRow (replyIn c (p .now .memory) .answer))
+          → (now′ ≡ stateAfter c (p .now)) × RowsPlayed t₀ replies₀ (playedOne (lentBy row) (some ask) p) (if b then withRow replies k
+          (r .numbers) else replies) (if b then k + 1 else k)
       by false n = let z : _≡_ {A = ℕ} 0 1 = cc in absurd (omega arith)
       by true n =
-          let told : r .told ≡ replyRow (replyIn c (p .now .memory) .answer) = cc in
+          let numbers : r .numbers ≡ replyRow (replyIn c (p .now .memory) .answer) = cc in
           let so-many : 0 + length (answersOf (p .said)) ≡ length (p .said) = omega (arith, answers-length (p .said)) in (
             moved,
             record {
@@ -108,7 +109,7 @@ module _ (t₀ : Tables) (replies₀ : List ℕ) where
               sound = sound-after (lentOf t₀) (p .now) (f .sound) c long;
               counted = omega (arith, f .counted, length-append (p .said) (replyIn c (p .now .memory) ∷ []));
               laid =
-                  rw (told, f .laid, f .counted, answers-more (p .said) (replyIn c (p .now .memory)))
+                  rw (numbers, f .laid, f .counted, answers-more (p .said) (replyIn c (p .now .memory)))
                   (sym (laid-more (answersOf (p .said)) (replyIn c (p .now .memory) .answer) 0 replies₀
                   ∙ ap (λ (j : ℕ). withRow (repliesLaid (answersOf (p .said)) 0 replies₀) j (replyRow (replyIn c
                   (p .now .memory) .answer))) so-many));
@@ -122,15 +123,15 @@ module _ (t₀ : Tables) (script : List ℕ) (pool : List ℤ) (trails₀ sheets
   end = played t₀ script pool trails₀ sheets₀ lists₀
 
   -- the rows up to a place are played, and k replies are laid down
-  pub record Playing (t : Tables) (trails sheets lists replies : List ℕ) (at : Cursor) (place k : ℕ) : Type 0 where
+  pub record Playing (t : Tables) (trails sheets lists replies : List ℕ) (at : Amounts) (place k : ℕ) : Type 0 where
     pub so-far : Played
     pub state-is : stateAt t pool trails sheets lists at ≡ so-far .now
-    pub fine : Fine t₀ replies₀ so-far replies k
+    pub fine : RowsPlayed t₀ replies₀ so-far replies k
     pub onward : foldl (playedRow (lentOf t₀)) so-far (rowsOf (drop place script)) ≡ end
-    pub inside : CursorInside at pool trails sheets lists
+    pub inside : AmountsInside at pool trails sheets lists
     pub few : k ≤ place
 
-  pub playing-first : T (areSamples pool) → T (areBytes sheets₀) → Playing t₀ trails₀ sheets₀ lists₀ replies₀ (cursor 0 0 0 0) 0 0
+  pub playing-first : T (areSamples pool) → T (areBytes sheets₀) → Playing t₀ trails₀ sheets₀ lists₀ replies₀ (amounts 0 0 0 0) 0 0
   unfolding repliesLaid
   playing-first s b = record {
     so-far = begun t₀ pool trails₀ sheets₀ lists₀;
@@ -150,13 +151,13 @@ module _ (t₀ : Tables) (script : List ℕ) (pool : List ℤ) (trails₀ sheets
       by false = omega arith
 
   -- a row that a turn has played
-  pub playing-on : {t t′ : Tables} {trails trails′ sheets sheets′ lists lists′ replies : List ℕ} {at : Cursor} {place k : ℕ} (r : Turn)
+  pub playing-on : {t t′ : Tables} {trails trails′ sheets sheets′ lists lists′ replies : List ℕ} {at : Amounts} {place k : ℕ} (r : Turn)
       (row : List ℕ) (to : ℕ)
       → Playing t trails sheets lists replies at place k → T (areSamples (t .samples)) → lentOf t ≡ lentOf t₀ → lentOf t′ ≡ lentOf t₀
       → rowsOf (drop place script) ≡ row ∷ rowsOf (drop to script) → place + 1 ≤ to
-      → turnOf r t′ pool trails′ sheets′ lists′ ≡ made (lentBy row) (asks (lentOf t) row (stateAt t pool trails sheets lists at))
+      → turnOf r t′ pool trails′ sheets′ lists′ ≡ turnMade (lentBy row) (asks (lentOf t) row (stateAt t pool trails sheets lists at))
       (stateAt t pool trails sheets lists at)
-      → CursorInside (r .at) pool trails sheets lists → length trails′ ≡ length trails → length sheets′ ≡ length sheets → length lists′ ≡
+      → AmountsInside (r .at) pool trails sheets lists → length trails′ ≡ length trails → length sheets′ ≡ length sheets → length lists′ ≡
       length lists
       → (replies′ : List ℕ) (k′ : ℕ) → replies′ ≡ tellsRow r k replies → k′ ≡ nextRow r k → Playing t′ trails′ sheets′ lists′ replies′
       (r .at) to k′
@@ -164,17 +165,18 @@ module _ (t₀ : Tables) (script : List ℕ) (pool : List ℤ) (trails₀ sheets
   playing-on {t} {t′} {trails} {trails′} {sheets} {sheets′} {lists} {lists′} {replies} {at} {place} {k} r row to h known l l′ next more e
       i m n o replies′ k′ q u =
       let p = h .so-far in
-      let asked : turnOf r t′ pool trails′ sheets′ lists′ ≡ made (lentBy row) (asks (lentOf t₀) row (p .now)) (p .now) =
+      let asked : turnOf r t′ pool trails′ sheets′ lists′ ≡ turnMade (lentBy row) (asks (lentOf t₀) row (p .now)) (p .now) =
       e
-      ∙ (ap (λ (x : Lent). made (lentBy row) (asks x row (stateAt t pool trails sheets lists at)) (stateAt t pool trails sheets lists at)) l
-      ∙ ap (λ (x : State). made (lentBy row) (asks (lentOf t₀) row x) x) (h .state-is)) in
+      ∙ (ap (λ (x : Lent). turnMade (lentBy row) (asks x row (stateAt t pool trails sheets lists at))
+      (stateAt t pool trails sheets lists at)) l
+      ∙ ap (λ (x : State). turnMade (lentBy row) (asks (lentOf t₀) row x) x) (h .state-is)) in
       let g = row-fine t₀ replies₀ row p replies k r (stateAt t′ pool trails′ sheets′ lists′ (r .at)) (asks (lentOf t₀) row (p .now))
       (h .fine) refl asked l′ (subst (λ (x : State). T (areSamples (x .memory .samples))) (h .state-is) known) in
       record {
         so-far = playedRow (lentOf t₀) p row;
         state-is = g .0;
-        fine = subst (λ (l : List ℕ). Fine t₀ replies₀ (playedRow (lentOf t₀) p row) l k′) (sym q)
-            (subst (λ (j : ℕ). Fine t₀ replies₀ (playedRow (lentOf t₀) p row) (tellsRow r k replies) j) (sym u) (g .1));
+        fine = subst (λ (l : List ℕ). RowsPlayed t₀ replies₀ (playedRow (lentOf t₀) p row) l k′) (sym q)
+            (subst (λ (j : ℕ). RowsPlayed t₀ replies₀ (playedRow (lentOf t₀) p row) (tellsRow r k replies) j) (sym u) (g .1));
         onward = ap (λ (rows : List (List ℕ)). foldl (playedRow (lentOf t₀)) p rows) (sym next) ∙ h .onward;
         inside = record {
           samples-inside = i .samples-inside;
@@ -186,7 +188,7 @@ module _ (t₀ : Tables) (script : List ℕ) (pool : List ℤ) (trails₀ sheets
       }
 
   -- when every row is played
-  module _ {t : Tables} {trails sheets lists replies : List ℕ} {at : Cursor} {place k : ℕ} (h : Playing t trails sheets lists replies at
+  module _ {t : Tables} {trails sheets lists replies : List ℕ} {at : Amounts} {place k : ℕ} (h : Playing t trails sheets lists replies at
       place k) (all : length script ≤ place) where
     at-end : h .so-far ≡ end
     unfolding rowsIn

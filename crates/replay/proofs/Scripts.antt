@@ -22,13 +22,13 @@ use Rattle.reading.specs.Listed.{nearsIn}
 use Rattle.dstree.specs.Book.{Lent, Ask, opening, adding, matching, writing, reading, listing, importing, exporting, checking, Call}
 use Rattle.dstree.specs.Book.{batching, call}
 use Rattle.tables.specs.Tables.{Tables, lentOf}
-use Rattle.tables.specs.Beginning.{Within}
-use Rattle.replay.specs.Script.{State, lentBy, Taken, sizeOf, nextOf, aheadOf, Kind, openings, addings, matchings, writings}
-use Rattle.replay.specs.Script.{cursor, readings, listings, importings, exportings, checkings, batchings, kinds, kindAt}
-use Rattle.replay.specs.Script.{fitsIn, enough, ifEnough, playable, askedBy, asks, takenBy, stateAfter, made, Played, begun}
+use Rattle.tables.specs.Beginning.{LentWithin}
+use Rattle.replay.specs.Script.{State, lentBy, Taken, amountsOf, nextOf, aheadOf, CallKind, openingCalls, addingCalls, matchingCalls, writingCalls}
+use Rattle.replay.specs.Script.{amounts, readingCalls, listingCalls, importingCalls, exportingCalls, checkingCalls, batchingCalls, kinds, callKindAt}
+use Rattle.replay.specs.Script.{fitsIn, enough, ifEnough, playable, askedBy, asks, takenBy, stateAfter, turnMade, Played, begun}
 use Rattle.replay.specs.Script.{playedOne, playedRow}
-use Rattle.replay.specs.declared.Cursor.{Cursor}
-use Rattle.replay.specs.Scripts.{Word, Mark, Sized, Possible, MachineLengths, Script}
+use Rattle.replay.specs.declared.Amounts.{Amounts}
+use Rattle.replay.specs.Scripts.{Word, Mark, ArgumentsFit, Possible, MachineLengths, Script}
 use Rattle.replay.proofs.ReadBack.{scriptOf, rows-of-script}
 use Rattle.replay.proofs.Asking.{isSample, isByte}
 use Rattle.replay.proofs.Records.{places-length, nears-back, half}
@@ -42,24 +42,24 @@ lengthsAnd lent own = lent .control ∷ lent .samples ∷ lent .nodes ∷ lent .
 record Row (ask : Ask) : Type 0 where
   pub number : ℕ
   pub own : List ℕ
-  pub kind : Kind
-  pub is-kind : kindAt kinds number ≡ some kind
-  pub takes-that : (lent : Lent) → kind .takes (number ∷ lengthsAnd lent own) ≡ sizeOf (takenBy ask)
+  pub kind : CallKind
+  pub is-kind : callKindAt kinds number ≡ some kind
+  pub takes-that : (lent : Lent) → kind .takes (number ∷ lengthsAnd lent own) ≡ amountsOf (takenBy ask)
   pub asks-that : (lent : Lent) → kind .ask (number ∷ lengthsAnd lent own) (takenBy ask) ≡ ask
   pub short : length own < 2 ^ 63
-  pub numbers-fit : Sized ask → All Word own
+  pub numbers-fit : ArgumentsFit ask → All Word own
   pub number-fits : Word number
-  pub samples-fit : Sized ask → All (λ z. T (isSample z)) (takenBy ask .samples)
-  pub marks-fit : Sized ask → All Mark (takenBy ask .trail)
-  pub bytes-fit : Sized ask → All (λ b. T (isByte b)) (takenBy ask .sheet)
-  pub list-fits : Sized ask → All Word (takenBy ask .list)
+  pub samples-fit : ArgumentsFit ask → All (λ z. T (isSample z)) (takenBy ask .samples)
+  pub marks-fit : ArgumentsFit ask → All Mark (takenBy ask .trail)
+  pub bytes-fit : ArgumentsFit ask → All (λ b. T (isByte b)) (takenBy ask .sheet)
+  pub list-fits : ArgumentsFit ask → All Word (takenBy ask .list)
 
 rowFor : (ask : Ask) → Row ask
-unfolding kindAt lengthsAnd takenBy Sized areBytes
+unfolding callKindAt lengthsAnd takenBy ArgumentsFit areBytes
 rowFor (opening m) = record {
   number = 0;
   own = m .n ∷ m .capacity ∷ m .leafSize ∷ [];
-  kind = openings;
+  kind = openingCalls;
   is-kind = refl;
   takes-that = λ lent. refl;
   asks-that = λ lent. refl;
@@ -74,7 +74,7 @@ rowFor (opening m) = record {
 rowFor (adding x) = record {
   number = 1;
   own = length x ∷ [];
-  kind = addings;
+  kind = addingCalls;
   is-kind = refl;
   takes-that = λ lent. refl;
   asks-that = λ lent. refl;
@@ -89,7 +89,7 @@ rowFor (adding x) = record {
 rowFor (matching x trail) = record {
   number = 2;
   own = length x ∷ length trail ∷ [];
-  kind = matchings;
+  kind = matchingCalls;
   is-kind = refl;
   takes-that = λ lent. refl;
   asks-that = λ lent. refl;
@@ -104,7 +104,7 @@ rowFor (matching x trail) = record {
 rowFor (writing sheet) = record {
   number = 3;
   own = length sheet ∷ [];
-  kind = writings;
+  kind = writingCalls;
   is-kind = refl;
   takes-that = λ lent. refl;
   asks-that = λ lent. refl;
@@ -119,7 +119,7 @@ rowFor (writing sheet) = record {
 rowFor (reading bytes) = record {
   number = 4;
   own = length bytes ∷ [];
-  kind = readings;
+  kind = readingCalls;
   is-kind = refl;
   takes-that = λ lent. refl;
   asks-that = λ lent. refl;
@@ -134,7 +134,7 @@ rowFor (reading bytes) = record {
 rowFor (listing k x trail list) = record {
   number = 5;
   own = length x ∷ length trail ∷ length list ∷ k ∷ [];
-  kind = listings;
+  kind = listingCalls;
   is-kind = refl;
   takes-that = λ lent. refl;
   asks-that = λ lent. refl;
@@ -149,7 +149,7 @@ rowFor (listing k x trail list) = record {
 rowFor (importing bytes) = record {
   number = 6;
   own = length bytes ∷ [];
-  kind = importings;
+  kind = importingCalls;
   is-kind = refl;
   takes-that = λ lent. refl;
   asks-that = λ lent. refl;
@@ -164,7 +164,7 @@ rowFor (importing bytes) = record {
 rowFor (exporting number rate buffer) = record {
   number = 7;
   own = length buffer ∷ number ∷ rate ∷ [];
-  kind = exportings;
+  kind = exportingCalls;
   is-kind = refl;
   takes-that = λ lent. refl;
   asks-that = λ lent. refl;
@@ -179,7 +179,7 @@ rowFor (exporting number rate buffer) = record {
 rowFor checking = record {
   number = 8;
   own = [];
-  kind = checkings;
+  kind = checkingCalls;
   is-kind = refl;
   takes-that = λ lent. refl;
   asks-that = λ lent. refl;
@@ -194,9 +194,9 @@ rowFor checking = record {
 rowFor (batching many x trail list) = record {
   number = 9;
   own = length x ∷ length trail ∷ length (listPlaces list) ∷ many ∷ [];
-  kind = batchings;
+  kind = batchingCalls;
   is-kind = refl;
-  takes-that = λ lent. ap (λ (n : ℕ). cursor (length x) (length trail) 0 n)
+  takes-that = λ lent. ap (λ (n : ℕ). amounts (length x) (length trail) 0 n)
       (ap (λ (n : ℕ). 2 * n) (half list) ∙ sym (places-length list));
   asks-that = λ lent. ap (batching many x trail)
       (ap (λ (n : ℕ). nearsIn n (listPlaces list)) (half list) ∙ nears-back (length list) list refl);
@@ -234,7 +234,7 @@ behind f (c ∷ calls) = f (c .ask) ++ behind f calls
 
 -- ---- the call that the row asks for
 
-within-fits : (lent lengths : Lent) → Within lent lengths → fitsIn lent lengths ≡ true
+within-fits : (lent lengths : Lent) → LentWithin lent lengths → fitsIn lent lengths ≡ true
 unfolding fitsIn
 within-fits lent lengths w =
     test-true (fitsIn lent lengths)
@@ -275,12 +275,12 @@ record Next (s : State) (ask : Ask) (pool : List ℤ) (trails sheets lists : Lis
   pub sheet-next : s .sheets .ahead ≡ takenBy ask .sheet ++ sheets
   pub list-next : s .lists .ahead ≡ takenBy ask .list ++ lists
 
-module _ (lent lengths : Lent) (w : Within lent lengths) (s : State) (pool : List ℤ) (trails sheets lists : List ℕ) (ask : Ask)
+module _ (lent lengths : Lent) (w : LentWithin lent lengths) (s : State) (pool : List ℤ) (trails sheets lists : List ℕ) (ask : Ask)
     (n : Next s ask pool trails sheets lists) where
   abbrev x : Taken
   x = takenBy ask
 
-  there-all : enough (sizeOf x) (aheadOf s) ≡ true
+  there-all : enough (amountsOf x) (aheadOf s) ≡ true
   unfolding enough
   there-all = simp (
     there (x .samples) pool (s .samples) (n .samples-next),
@@ -289,7 +289,7 @@ module _ (lent lengths : Lent) (w : Within lent lengths) (s : State) (pool : Lis
     there (x .list) lists (s .lists .ahead) (n .list-next),
   )
 
-  the-next-all : nextOf (sizeOf x) s ≡ x
+  the-next-all : nextOf (amountsOf x) s ≡ x
   the-next-all = rw (
     the-next (x .samples) pool (s .samples) (n .samples-next),
     the-next (x .trail) trails (s .trails .ahead) (n .trail-next),
@@ -302,9 +302,9 @@ module _ (lent lengths : Lent) (w : Within lent lengths) (s : State) (pool : Lis
   is-playable =
       let row = rowFor ask in
       let numbers = row .number ∷ lengthsAnd lent (row .own) in
-      ap (λ (b : Bool). if b then ifEnough (kindAt kinds (row .number)) numbers (aheadOf s) else none) (within-fits lent lengths w)
-      ∙ (ap (λ (o : Option Kind). ifEnough o numbers (aheadOf s)) (row .is-kind)
-      ∙ (ap (λ (size : Cursor). if enough size (aheadOf s) then some (row .kind) else none) (row .takes-that lent)
+      ap (λ (b : Bool). if b then ifEnough (callKindAt kinds (row .number)) numbers (aheadOf s) else none) (within-fits lent lengths w)
+      ∙ (ap (λ (o : Option CallKind). ifEnough o numbers (aheadOf s)) (row .is-kind)
+      ∙ (ap (λ (size : Amounts). if enough size (aheadOf s) then some (row .kind) else none) (row .takes-that lent)
       ∙ ap (λ (b : Bool). if b then some (row .kind) else none) there-all))
 
   asks-it : asks lengths (rowBy lent ask) s ≡ some ask
@@ -313,9 +313,9 @@ module _ (lent lengths : Lent) (w : Within lent lengths) (s : State) (pool : Lis
       let row = rowFor ask in
       let numbers = rowBy lent ask in
       let can : playable lengths (aheadOf s) numbers ≡ some (row .kind) = is-playable in
-      ap (λ (o : Option Kind). askedBy o numbers s) can
+      ap (λ (o : Option CallKind). askedBy o numbers s) can
       ∙ ap (λ (a : Ask). some a)
-      (ap (λ (size : Cursor). row .kind .ask numbers (nextOf size s)) (row .takes-that lent)
+      (ap (λ (size : Amounts). row .kind .ask numbers (nextOf size s)) (row .takes-that lent)
       ∙ (ap (λ (y : Taken). row .kind .ask numbers y) the-next-all ∙ row .asks-that lent))
 
   -- and what is ahead then
@@ -343,7 +343,7 @@ asks-all : (lengths : Lent) (calls : List Call) (p : Played) → All (Possible l
     → p .now .samples ≡ behind samplesOf calls → p .now .trails .ahead ≡ behind trailOf calls → p .now .sheets .ahead
     ≡ behind sheetOf calls → p .now .lists .ahead ≡ behind listOf calls
     → foldl (playedRow lengths) p (map rowOf calls) .asked ≡ p .asked ++ calls
-unfolding behind playedOne made
+unfolding behind playedOne turnMade
 asks-all lengths [] p possible a b c d = sym (append-nil (p .asked))
 asks-all lengths (q ∷ calls) p (all-more h others) a b c d =
     let next : Next (p .now) (q .ask) (behind samplesOf calls) (behind trailOf calls) (behind sheetOf calls)
@@ -370,7 +370,7 @@ behind-all lengths f each [] all-none = all-none
 behind-all lengths f each (c ∷ calls) (all-more h others) = all-append (each c h) (behind-all lengths f each calls others)
 
 module _ (lengths : Lent) (long : MachineLengths lengths) where
-  lengths-fit : (lent : Lent) → Within lent lengths → (own : List ℕ) → All Word own → All Word (lengthsAnd lent own)
+  lengths-fit : (lent : Lent) → LentWithin lent lengths → (own : List ℕ) → All Word own → All Word (lengthsAnd lent own)
   unfolding lengthsAnd
   lengths-fit lent w own h =
       all-more (lt-of-le-of-lt (w .control-within) (long .control-long))
@@ -379,7 +379,7 @@ module _ (lengths : Lent) (long : MachineLengths lengths) where
       (all-more (lt-of-le-of-lt (w .links-within) (long .links-long))
       (all-more (lt-of-le-of-lt (w .work-within) (long .work-long)) h))))
 
-  row-fits : (lent : Lent) (ask : Ask) → Within lent lengths → Sized ask → All Word (rowBy lent ask)
+  row-fits : (lent : Lent) (ask : Ask) → LentWithin lent lengths → ArgumentsFit ask → All Word (rowBy lent ask)
   unfolding rowBy
   row-fits lent ask w s = all-more (rowFor ask .number-fits) (lengths-fit lent w _ (rowFor ask .numbers-fit s))
 

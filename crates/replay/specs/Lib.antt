@@ -1,5 +1,5 @@
 -- Scripts of calls, what a script asks for, what holds after it, and which lists of calls have one.
-pub mod Numbers
+pub mod ReplyRows
 pub mod Script
 pub mod Demanded
 pub mod Scripts

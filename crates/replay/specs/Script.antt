@@ -17,9 +17,9 @@ use Rattle.tables.specs.Tables.{Tables, lentOf}
 use Rattle.reading.specs.Listed.{nearsIn}
 use Rattle.calls.specs.Effects.{outcomeOn}
 use Rattle.calls.specs.Follows.{outcomeIn}
-use Rattle.replay.specs.Numbers.{replyRow, withRow}
+use Rattle.replay.specs.ReplyRows.{replyRow, withRow}
 use Rattle.replay.specs.declared.Lengths.{Lengths}
-use Rattle.replay.specs.declared.Cursor.{Cursor}
+use Rattle.replay.specs.declared.Amounts.{Amounts}
 use Rattle.replay.specs.declared.Turn.{Turn}
 use Rattle.replay.specs.declared.Wanted.{Wanted}
 use Rattle.replay.specs.declared.Plan.{Plan}
@@ -94,12 +94,12 @@ state memory samples trails sheets lists = record {
 abbrev pub supplyAt : ℕ → List ℕ → Supply
 supplyAt place l = supply (take place l) (drop place l)
 
-abbrev pub stateAt : Tables → List ℤ → List ℕ → List ℕ → List ℕ → Cursor → State
+abbrev pub stateAt : Tables → List ℤ → List ℕ → List ℕ → List ℕ → Amounts → State
 stateAt memory pool trails sheets lists at =
     state memory (drop (at .samples) pool) (supplyAt (at .trails) trails) (supplyAt (at .sheets) sheets) (supplyAt (at .lists) lists)
 
 -- no more is taken than there is
-pub record CursorInside (at : Cursor) (pool : List ℤ) (trails sheets lists : List ℕ) : Type 0 where
+pub record AmountsInside (at : Amounts) (pool : List ℤ) (trails sheets lists : List ℕ) : Type 0 where
   pub samples-inside : at .samples ≤ length pool
   pub trails-inside : at .trails ≤ length trails
   pub sheets-inside : at .sheets ≤ length sheets
@@ -107,8 +107,8 @@ pub record CursorInside (at : Cursor) (pool : List ℤ) (trails sheets lists : L
 
 -- ---- what a row takes
 
-abbrev pub cursor : ℕ → ℕ → ℕ → ℕ → Cursor
-cursor samples trails sheets lists = record { samples = samples; trails = trails; sheets = sheets; lists = lists }
+abbrev pub amounts : ℕ → ℕ → ℕ → ℕ → Amounts
+amounts samples trails sheets lists = record { samples = samples; trails = trails; sheets = sheets; lists = lists }
 
 -- what a call takes of the samples, of the trails, of the sheets and of the lists
 pub record Taken : Type 0 where
@@ -121,98 +121,99 @@ abbrev pub taken : List ℤ → List ℕ → List ℕ → List ℕ → Taken
 taken samples trail sheet list = record { samples = samples; trail = trail; sheet = sheet; list = list }
 
 -- how much that is
-abbrev pub sizeOf : Taken → Cursor
-sizeOf x = cursor (length (x .samples)) (length (x .trail)) (length (x .sheet)) (length (x .list))
+abbrev pub amountsOf : Taken → Amounts
+amountsOf x = amounts (length (x .samples)) (length (x .trail)) (length (x .sheet)) (length (x .list))
 
 -- .. of the next that is ahead
-abbrev pub nextOf : Cursor → State → Taken
+abbrev pub nextOf : Amounts → State → Taken
 nextOf size s =
     taken (take (size .samples) (s .samples)) (take (size .trails) (s .trails .ahead)) (take (size .sheets) (s .sheets .ahead))
     (take (size .lists) (s .lists .ahead))
 
 -- how much is ahead
-abbrev pub aheadOf : State → Cursor
-aheadOf s = cursor (length (s .samples)) (length (s .trails .ahead)) (length (s .sheets .ahead)) (length (s .lists .ahead))
+abbrev pub aheadOf : State → Amounts
+aheadOf s = amounts (length (s .samples)) (length (s .trails .ahead)) (length (s .sheets .ahead)) (length (s .lists .ahead))
 
 -- ---- the kinds of rows
 
 -- whether its calls change tables (and not search work alone); how much a row of this kind takes, by its numbers; and the call that it makes of that
-pub record Kind : Type 0 where
+pub record CallKind : Type 0 where
   pub changes : Bool
-  pub takes : List ℕ → Cursor
+  pub takes : List ℕ → Amounts
   pub ask : List ℕ → Taken → Ask
 
 -- an opening, of n, capacity and leaf size
-abbrev pub openings : Kind
-openings = record {
+abbrev pub openingCalls : CallKind
+openingCalls = record {
   changes = true;
-  takes = λ row. cursor 0 0 0 0;
+  takes = λ row. amounts 0 0 0 0;
   ask = λ row x. opening (measures (ownNumber row 0) (ownNumber row 1) (ownNumber row 2));
 }
 
 -- an adding of the next so many samples
-abbrev pub addings : Kind
-addings = record { changes = true; takes = λ row. cursor (ownNumber row 0) 0 0 0; ask = λ row x. adding (x .samples) }
+abbrev pub addingCalls : CallKind
+addingCalls = record { changes = true; takes = λ row. amounts (ownNumber row 0) 0 0 0; ask = λ row x. adding (x .samples) }
 
 -- a match of the next so many samples, with a trail of the next so many places
-abbrev pub matchings : Kind
-matchings = record {
+abbrev pub matchingCalls : CallKind
+matchingCalls = record {
   changes = false;
-  takes = λ row. cursor (ownNumber row 0) (ownNumber row 1) 0 0;
+  takes = λ row. amounts (ownNumber row 0) (ownNumber row 1) 0 0;
   ask = λ row x. matching (x .samples)
       (x .trail);
 }
 
 -- a writing to a sheet of the next so many bytes
-abbrev pub writings : Kind
-writings = record { changes = false; takes = λ row. cursor 0 0 (ownNumber row 0) 0; ask = λ row x. writing (x .sheet) }
+abbrev pub writingCalls : CallKind
+writingCalls = record { changes = false; takes = λ row. amounts 0 0 (ownNumber row 0) 0; ask = λ row x. writing (x .sheet) }
 
 -- a reading of a sheet of the next so many bytes
-abbrev pub readings : Kind
-readings = record { changes = true; takes = λ row. cursor 0 0 (ownNumber row 0) 0; ask = λ row x. reading (x .sheet) }
+abbrev pub readingCalls : CallKind
+readingCalls = record { changes = true; takes = λ row. amounts 0 0 (ownNumber row 0) 0; ask = λ row x. reading (x .sheet) }
 
 -- a listing of the k nearest of the next so many samples, with a trail and a list of the next so many places
-abbrev pub listings : Kind
-listings = record {
+abbrev pub listingCalls : CallKind
+listingCalls = record {
   changes = false;
-  takes = λ row. cursor (ownNumber row 0) (ownNumber row 1) 0 (ownNumber row 2);
+  takes = λ row. amounts (ownNumber row 0) (ownNumber row 1) 0 (ownNumber row 2);
   ask = λ row x. listing (ownNumber row 3) (x .samples) (x .trail) (x .list);
 }
 
 -- an import of a recording of the next so many bytes
-abbrev pub importings : Kind
-importings = record { changes = true; takes = λ row. cursor 0 0 (ownNumber row 0) 0; ask = λ row x. importing (x .sheet) }
+abbrev pub importingCalls : CallKind
+importingCalls = record { changes = true; takes = λ row. amounts 0 0 (ownNumber row 0) 0; ask = λ row x. importing (x .sheet) }
 
 -- an export of the trace with a number, at a rate, to a buffer of the next so many bytes
-abbrev pub exportings : Kind
-exportings = record {
+abbrev pub exportingCalls : CallKind
+exportingCalls = record {
   changes = false;
-  takes = λ row. cursor 0 0 (ownNumber row 0) 0;
+  takes = λ row. amounts 0 0 (ownNumber row 0) 0;
   ask = λ row x. exporting (ownNumber row 1) (ownNumber row 2) (x .sheet);
 }
 
 -- a check
-abbrev pub checkings : Kind
-checkings = record { changes = false; takes = λ row. cursor 0 0 0 0; ask = λ row x. checking }
+abbrev pub checkingCalls : CallKind
+checkingCalls = record { changes = false; takes = λ row. amounts 0 0 0 0; ask = λ row x. checking }
 
 -- a batch of so many queries, in a run of the next so many samples, with a trail of the next so many places and a list of records of the next so
 -- many, two places each: of an odd number the last is not taken
-abbrev pub batchings : Kind
-batchings = record {
+abbrev pub batchingCalls : CallKind
+batchingCalls = record {
   changes = false;
-  takes = λ row. cursor (ownNumber row 0) (ownNumber row 1) 0 (2 * (ownNumber row 2 / 2));
+  takes = λ row. amounts (ownNumber row 0) (ownNumber row 1) 0 (2 * (ownNumber row 2 / 2));
   ask = λ row x. batching (ownNumber row 3) (x .samples) (x .trail) (nearsIn (ownNumber row 2 / 2) (x .list));
 }
 
 -- a row's first number is its kind's place here
-abbrev pub kinds : List Kind
-kinds = openings ∷ addings ∷ matchings ∷ writings ∷ readings ∷ listings ∷ importings ∷ exportings ∷ checkings ∷ batchings
+abbrev pub kinds : List CallKind
+kinds = openingCalls ∷ addingCalls ∷ matchingCalls ∷ writingCalls ∷ readingCalls ∷ listingCalls ∷ importingCalls ∷ exportingCalls
+    ∷ checkingCalls ∷ batchingCalls
     ∷ []
 
-unfoldable pub kindAt : List Kind → ℕ → Option Kind
-kindAt [] n = none
-kindAt (k ∷ others) zero = some k
-kindAt (k ∷ others) (suc n) = kindAt others n
+unfoldable pub callKindAt : List CallKind → ℕ → Option CallKind
+callKindAt [] n = none
+callKindAt (k ∷ others) zero = some k
+callKindAt (k ∷ others) (suc n) = callKindAt others n
 
 -- ---- the call that a row asks for
 
@@ -226,7 +227,7 @@ fitsIn lent lengths =
     && leb (lent .work) (lengths .work)
 
 -- no more is taken than is ahead
-unfoldable pub enough : Cursor → Cursor → Bool
+unfoldable pub enough : Amounts → Amounts → Bool
 enough size ahead =
     leb (size .samples) (ahead .samples)
     && leb (size .trails) (ahead .trails)
@@ -234,19 +235,19 @@ enough size ahead =
     && leb (size .lists) (ahead .lists)
 
 -- what a row takes that is of this kind, if there is as much
-unfoldable pub takesOf : Option Kind → List ℕ → Option Cursor
+unfoldable pub takesOf : Option CallKind → List ℕ → Option Amounts
 takesOf none row = none
 takesOf (some k) row = some (k .takes row)
 
-unfoldable pub ifEnough : Option Kind → List ℕ → Cursor → Option Kind
+unfoldable pub ifEnough : Option CallKind → List ℕ → Amounts → Option CallKind
 ifEnough none row ahead = none
 ifEnough (some k) row ahead = if enough (k .takes row) ahead then some k else none
 
 -- the kind of a row that can be played. A row of no kind cannot, nor one that lends more than there is or takes more than is ahead
-unfoldable pub playable : Lent → Cursor → List ℕ → Option Kind
-playable lengths ahead row = if fitsIn (lentBy row) lengths then ifEnough (kindAt kinds (numberAt row 0)) row ahead else none
+unfoldable pub playable : Lent → Amounts → List ℕ → Option CallKind
+playable lengths ahead row = if fitsIn (lentBy row) lengths then ifEnough (callKindAt kinds (numberAt row 0)) row ahead else none
 
-unfoldable pub askedBy : Option Kind → List ℕ → State → Option Ask
+unfoldable pub askedBy : Option CallKind → List ℕ → State → Option Ask
 askedBy none row s = none
 askedBy (some k) row s = some (k .ask row (nextOf (k .takes row) s))
 
@@ -254,19 +255,19 @@ unfoldable pub asks : Lent → List ℕ → State → Option Ask
 asks lengths row s = askedBy (playable lengths (aheadOf s) row) row s
 
 -- how much is taken behind such a row
-abbrev pub moved : Cursor → Cursor → Cursor
+abbrev pub moved : Amounts → Amounts → Amounts
 moved at size =
-    cursor (at .samples + size .samples) (at .trails + size .trails) (at .sheets + size .sheets) (at .lists + size .lists)
+    amounts (at .samples + size .samples) (at .trails + size .trails) (at .sheets + size .sheets) (at .lists + size .lists)
 
-unfoldable pub movedBy : Option Kind → List ℕ → Cursor → Option Cursor
+unfoldable pub movedBy : Option CallKind → List ℕ → Amounts → Option Amounts
 movedBy none row at = none
 movedBy (some k) row at = some (moved at (k .takes row))
 
 -- .. as code has it
-abbrev pub wantedBy : Wanted → Option Cursor
+abbrev pub wantedBy : Wanted → Option Amounts
 wantedBy r = if r .known then some (r .size) else none
 
-abbrev pub plannedBy : Plan → Option Cursor
+abbrev pub plannedBy : Plan → Option Amounts
 plannedBy r = if r .made then some (r .to) else none
 
 -- ---- what a call leaves
@@ -314,12 +315,12 @@ stateAfter c s =
 
 -- a call that is lent all that it takes: the numbers of its reply, and what it leaves
 pub record Called : Type 0 where
-  pub told : List ℕ
+  pub numbers : List ℕ
   pub after : Tables
   pub left : Taken
 
 abbrev pub called : List ℕ → Tables → Taken → Called
-called told after left = record { told = told; after = after; left = left }
+called numbers after left = record { numbers = numbers; after = after; left = left }
 
 abbrev pub calledBy : Ask → Tables → Called
 calledBy ask t =
@@ -328,29 +329,29 @@ calledBy ask t =
 
 -- .. as a row makes it that has this number, and whose kind changes tables or does not
 abbrev pub Plays : Bool → ℕ → List ℕ → Taken → Tables → Called → Type 0
-Plays changes number row x t c = (k : Kind) → kindAt kinds number ≡ some k → k .changes ≡ changes → sizeOf x ≡ k .takes row → c
+Plays changes number row x t c = (k : CallKind) → callKindAt kinds number ≡ some k → k .changes ≡ changes → amountsOf x ≡ k .takes row → c
     ≡ calledBy (k .ask row x) t
 
 -- a row that is played: the numbers of the call's reply, if a call is made, and the state after it
 pub record Turned : Type 0 where
-  pub told : Option (List ℕ)
+  pub numbers : Option (List ℕ)
   pub now : State
 
 abbrev pub turned : Option (List ℕ) → State → Turned
-turned told s = record { told = told; now = s }
+turned numbers s = record { numbers = numbers; now = s }
 
-unfoldable pub made : Lent → Option Ask → State → Turned
-made lent none s = turned none s
-made lent (some ask) s = turned (some (replyRow (outcomeIn (call lent ask) (s .memory) .answer))) (stateAfter (call lent ask) s)
+unfoldable pub turnMade : Lent → Option Ask → State → Turned
+turnMade lent none s = turned none s
+turnMade lent (some ask) s = turned (some (replyRow (outcomeIn (call lent ask) (s .memory) .answer))) (stateAfter (call lent ask) s)
 
 -- .. as code has it: a row's outcome, and what the lent slices hold then
 abbrev pub turnOf : Turn → Tables → List ℤ → List ℕ → List ℕ → List ℕ → Turned
 turnOf r memory pool trails sheets lists =
-    turned (if r .made then some (r .told) else none) (stateAt memory pool trails sheets lists (r .at))
+    turned (if r .made then some (r .numbers) else none) (stateAt memory pool trails sheets lists (r .at))
 
 -- .. and what it does to row k of the replies, and to the number of replies
 unfoldable pub tellsRow : Turn → ℕ → List ℕ → List ℕ
-tellsRow r k replies = if r .made then withRow replies k (r .told) else replies
+tellsRow r k replies = if r .made then withRow replies k (r .numbers) else replies
 
 unfoldable pub nextRow : Turn → ℕ → ℕ
 nextRow r k = if r .made then k + 1 else k

@@ -12,7 +12,7 @@ use Rattle.dstree.specs.Sheet.{areBytes}
 use Rattle.dstree.specs.Book.{Lent, Ask, opening, adding, matching, writing, reading, listing, importing, exporting, checking, Call}
 use Rattle.dstree.specs.Book.{batching}
 use Rattle.tables.specs.Tables.{Tables}
-use Rattle.tables.specs.Beginning.{Within}
+use Rattle.tables.specs.Beginning.{LentWithin}
 use Rattle.replay.specs.Script.{played}
 
 -- numbers that a slice of 64-bit, or of 16-bit, numbers without sign holds
@@ -24,25 +24,25 @@ Mark x = x < 2 ^ 16
 
 -- what the types of arguments say: measures, lengths, k, a number of queries, places of a list, a trace's number and a rate have 64 bits,
 -- samples and places of a trail 16, bytes 8
-unfoldable pub Sized : Ask → Type 0
-Sized (opening m) = Word (m .n) × Word (m .capacity) × Word (m .leafSize)
-Sized (adding x) = T (areSamples x) × Word (length x)
-Sized (matching x trail) = T (areSamples x) × Word (length x) × All Mark trail × Word (length trail)
-Sized (writing sheet) = T (areBytes sheet) × Word (length sheet)
-Sized (reading bytes) = T (areBytes bytes) × Word (length bytes)
-Sized (listing k x trail list) =
+unfoldable pub ArgumentsFit : Ask → Type 0
+ArgumentsFit (opening m) = Word (m .n) × Word (m .capacity) × Word (m .leafSize)
+ArgumentsFit (adding x) = T (areSamples x) × Word (length x)
+ArgumentsFit (matching x trail) = T (areSamples x) × Word (length x) × All Mark trail × Word (length trail)
+ArgumentsFit (writing sheet) = T (areBytes sheet) × Word (length sheet)
+ArgumentsFit (reading bytes) = T (areBytes bytes) × Word (length bytes)
+ArgumentsFit (listing k x trail list) =
     Word k × T (areSamples x) × Word (length x) × All Mark trail × Word (length trail) × All Word list × Word (length list)
-Sized (importing bytes) = T (areBytes bytes) × Word (length bytes)
-Sized (exporting number rate buffer) = Word number × Word rate × T (areBytes buffer) × Word (length buffer)
-Sized checking = Unit
-Sized (batching many x trail list) =
+ArgumentsFit (importing bytes) = T (areBytes bytes) × Word (length bytes)
+ArgumentsFit (exporting number rate buffer) = Word number × Word rate × T (areBytes buffer) × Word (length buffer)
+ArgumentsFit checking = Unit
+ArgumentsFit (batching many x trail list) =
     Word many × T (areSamples x) × Word (length x) × All Mark trail × Word (length trail) × All Word (listPlaces list)
     × Word (length (listPlaces list))
 
 -- .. and no table is lent longer than it is
 pub record Possible (lengths : Lent) (c : Call) : Type 0 where
-  pub within : Within (c .lent) lengths
-  pub sized : Sized (c .ask)
+  pub within : LentWithin (c .lent) lengths
+  pub sized : ArgumentsFit (c .ask)
 
 -- tables as they are in a machine
 pub record MachineLengths (lengths : Lent) : Type 0 where

@@ -2,8 +2,8 @@
 // branch.
 
 use crate::replies::of_refusal;
-use crate::rows::number;
-use batching::Outcome;
+use crate::rows::number_at;
+use batching::Batched;
 use checking::Checked;
 use exporting::Exported;
 use listing::Listed;
@@ -21,7 +21,7 @@ ghost use Rattle.checking.specs.Answered as checked;
 ghost use Rattle.batching.specs.Answered as batched;
 ghost use Rattle.dstree.specs.Matching.{Near};
 ghost use Rattle.tables.specs.Tables.{tables};
-ghost use Rattle.replay.specs.Numbers.{replyRow};
+ghost use Rattle.replay.specs.ReplyRows.{replyRow};
 ghost use Rattle.replay.specs.Script.{taken, called, Plays};
 
 // The trail is told by the slice that the match leaves it in, so that any list may stand for it here.
@@ -74,12 +74,12 @@ fn of_checked(answer: Checked) -> [u64; 5]
 }
 
 // Records and trail are told by the slices that the batch leaves them in.
-fn of_batched(answer: Outcome) -> [u64; 5]
+fn of_batched(answer: Batched) -> [u64; 5]
     ensures { λ r. ⌜ ((records : List Near) (trail : List ℕ) → r ≡ replyRow (batched.answerBy answer records trail)) ⌝ }
 {
     match answer {
-        Outcome::Done(leaves) => [0, leaves, 0, 0, 0],
-        Outcome::Refused(why) => of_refusal(why),
+        Batched::Done(leaves) => [0, leaves, 0, 0, 0],
+        Batched::Refused(why) => of_refusal(why),
     }
 }
 
@@ -111,7 +111,7 @@ pub fn play(
         return of_written(sheet_writing::write_sheet(control, samples, nodes, links, work, sheet));
     }
     if kind == 5 {
-        let k = number(row, 9);
+        let k = number_at(row, 9);
         return of_listed(listing::k_nearest(
             control,
             samples,
@@ -125,8 +125,8 @@ pub fn play(
         ));
     }
     if kind == 7 {
-        let trace = number(row, 7);
-        let rate = number(row, 8);
+        let trace = number_at(row, 7);
+        let rate = number_at(row, 8);
         return of_exported(exporting::export_recording(
             control,
             samples,
@@ -142,8 +142,8 @@ pub fn play(
         return of_checked(checking::check_tables(control, samples, nodes, links, work));
     }
     if kind == 9 {
-        let places = number(row, 8);
-        let many = number(row, 9);
+        let places = number_at(row, 8);
+        let many = number_at(row, 9);
         return of_batched(crate::batches::play_batch(
             control,
             samples,

@@ -1,7 +1,7 @@
 // A batch, played over the covered core of its call: its records go into a list of numbers, two places each.
 
-use batching::Found;
-use batching::Outcome;
+use batching::BatchFound;
+use batching::Batched;
 use tables::Refusal;
 ghost use mathlib.Core.Path.{_≡_};
 ghost use mathlib.Core.List.{[], _∷_};
@@ -16,14 +16,14 @@ ghost use Rattle.calls.specs.Effects.{outcomeOn};
 ghost use Rattle.batching.specs.Answered.{answerBy, listAfter};
 
 // Place i of the records found.
-fn place_at(found: Found, i: usize) -> u64
+fn place_at(found: BatchFound, i: usize) -> u64
     ensures { λ r. ⌜ r ≡ getD (found .bests) i 0 ⌝ }
 {
     if i < 32 { found.bests[i] } else { 0 }
 }
 
 // The records found go into a list that has as many.
-fn store(found: Found, records: usize, list: &mut [u64])
+fn store(found: BatchFound, records: usize, list: &mut [u64])
     requires { ⌜ length (now list) ≡ 2 * records ⌝ }
     ensures { λ _. ⌜ now (list .exit) ≡ listPlaces (listAfter found (nearsIn records (now (list .entry)))) ⌝ }
 {
@@ -49,7 +49,7 @@ pub fn play_batch(
     queries: &[i16],
     many: u64,
     places: u64,
-) -> Outcome
+) -> Batched
     ensures { λ r. ⌜ (length (now (list .entry)) ≡ 2 * (places / 2)
         → calls.outcome (answerBy r (nearsIn (places / 2) (now (list .exit))) (now (trail .exit)))
         (tables (now (control .entry)) (now (samples .entry)) (now (nodes .entry)) (now (links .entry)) (now (work .exit)))
@@ -59,7 +59,7 @@ pub fn play_batch(
 {
     let records = (places / 2) as usize;
     if list.len() != 2 * records {
-        return Outcome::Refused(Refusal::BadBatch);
+        return Batched::Refused(Refusal::BadBatch);
     }
     let found = batching::match_all(
         control,

@@ -1,7 +1,7 @@
 // Rows whose calls change tables: openings (0), addings (1), readings (4), imports (6). A kind is a reply and a branch.
 
 use crate::replies::of_refusal;
-use crate::rows::number;
+use crate::rows::number_at;
 use adding::Added;
 use importing::Imported;
 use opening::Opened;
@@ -15,11 +15,11 @@ ghost use Rattle.adding.specs.Answered as added;
 ghost use Rattle.sheet_reading.specs.Answered as read;
 ghost use Rattle.importing.specs.Answered as imported;
 ghost use Rattle.tables.specs.Tables.{tables};
-ghost use Rattle.replay.specs.Numbers.{replyRow};
+ghost use Rattle.replay.specs.ReplyRows.{replyRow};
 ghost use Rattle.replay.specs.Script.{taken, called, Plays};
 
 fn of_opened(answer: Opened) -> [u64; 5]
-    ensures { λ r. ⌜ r ≡ replyRow (opened.answerOf answer) ⌝ }
+    ensures { λ r. ⌜ r ≡ replyRow (opened.answerBy answer) ⌝ }
 {
     match answer {
         Opened::Done => [0; 5],
@@ -28,7 +28,7 @@ fn of_opened(answer: Opened) -> [u64; 5]
 }
 
 fn of_added(answer: Added) -> [u64; 5]
-    ensures { λ r. ⌜ r ≡ replyRow (added.answerOf answer) ⌝ }
+    ensures { λ r. ⌜ r ≡ replyRow (added.answerBy answer) ⌝ }
 {
     match answer {
         Added::At(trace) => [0, trace, 0, 0, 0],
@@ -37,7 +37,7 @@ fn of_added(answer: Added) -> [u64; 5]
 }
 
 fn of_read(answer: Read) -> [u64; 5]
-    ensures { λ r. ⌜ r ≡ replyRow (read.answerOf answer) ⌝ }
+    ensures { λ r. ⌜ r ≡ replyRow (read.answerBy answer) ⌝ }
 {
     match answer {
         Read::Done => [0; 5],
@@ -46,7 +46,7 @@ fn of_read(answer: Read) -> [u64; 5]
 }
 
 fn of_imported(answer: Imported) -> [u64; 5]
-    ensures { λ r. ⌜ r ≡ replyRow (imported.answerOf answer) ⌝ }
+    ensures { λ r. ⌜ r ≡ replyRow (imported.answerBy answer) ⌝ }
 {
     match answer {
         Imported::Traces(count) => [0, count, 0, 0, 0],
@@ -74,9 +74,9 @@ pub fn play(
         (taken (now (query .entry)) trail (now (sheet .entry)) list))) ⌝ }
 {
     if kind == 0 {
-        let n = number(row, 6);
-        let capacity = number(row, 7);
-        let leaf_size = number(row, 8);
+        let n = number_at(row, 6);
+        let capacity = number_at(row, 7);
+        let leaf_size = number_at(row, 8);
         return of_opened(opening::open(
             control,
             samples,

@@ -14,7 +14,7 @@ use crate::turns::turn;
 use tables::loops::look;
 ghost use mathlib.Core.Path.{_≡_};
 ghost use Rattle.tables.specs.Tables.{tables};
-ghost use Rattle.replay.specs.Numbers.{repliesLaid};
+ghost use Rattle.replay.specs.ReplyRows.{repliesLaid};
 ghost use Rattle.replay.specs.Script.{answersOf, played, whole};
 ghost use Rattle.replay.specs.Demanded.{Demanded};
 
@@ -28,7 +28,7 @@ pub struct Lengths {
 }
 
 // How much of the samples, the trails, the sheets and the lists: what calls have taken, what a row takes, or all that there is.
-pub struct Cursor {
+pub struct Amounts {
     pub samples: usize,
     pub trails: usize,
     pub sheets: usize,
@@ -38,21 +38,21 @@ pub struct Cursor {
 // How much a row takes, if it is of a kind.
 pub struct Wanted {
     pub known: bool,
-    pub size: Cursor,
+    pub size: Amounts,
 }
 
 // Whether a row can be played, and how much is taken then.
 pub struct Plan {
     pub made: bool,
-    pub to: Cursor,
+    pub to: Amounts,
 }
 
 // What playing a row comes to: whether a call was made; its reply as numbers, which are 0 or the refusal's number, then the answer's values or the
 // refusal's place, zeros behind them; and how much is taken.
 pub struct Turn {
     pub made: bool,
-    pub told: [u64; 5],
-    pub at: Cursor,
+    pub numbers: [u64; 5],
+    pub at: Amounts,
 }
 
 // Every call of a script, in its order, on tables that hold anything. `script` has a row of numbers a call, each behind its length: which
@@ -106,14 +106,14 @@ pub fn play(
         (tables (now (control .exit)) (now (samples .exit)) (now (nodes .exit)) (now (links .exit)) (now (work .exit))) ⌝ }
 {
     look(pool);
-    let mut at = Cursor {
+    let mut at = Amounts {
         samples: 0,
         trails: 0,
         sheets: 0,
         lists: 0,
     };
     let mut place: usize = 0;
-    let mut told: usize = 0;
+    let mut count: usize = 0;
     while place < script.len() {
         look(samples); // an import, and a check, are known to be of samples of 16 bits
         let from = place + 1;
@@ -131,7 +131,7 @@ pub fn play(
             &script[from..to],
             at,
         );
-        told = tell(replies, told, turned);
+        count = tell(replies, count, turned);
         at = turned.at;
         place = to;
     }

@@ -1,25 +1,25 @@
 // How much a row takes, and whether it can be played: by numbers alone.
 
-use crate::Cursor;
+use crate::Amounts;
 use crate::Lengths;
 use crate::Plan;
 use crate::Wanted;
 use crate::rows::lengths;
-use crate::rows::number;
+use crate::rows::number_at;
 use crate::rows::places;
 ghost use mathlib.Core.Path.{_≡_};
 ghost use mathlib.Core.Bool.{true, false};
 ghost use mathlib.Core.Option.{some};
 ghost use Prim.Native.Nat.{_-_, _*_, _/_, _≤_};
-ghost use Rattle.replay.specs.Script.{numberAt, lengthsBy, cursor, Kind, kinds, kindAt};
+ghost use Rattle.replay.specs.Script.{numberAt, lengthsBy, amounts, CallKind, kinds, callKindAt};
 ghost use Rattle.replay.specs.Script.{fitsIn, enough, takesOf, playable, movedBy, wantedBy, plannedBy};
 
 fn size(samples: usize, trails: usize, sheets: usize, lists: usize) -> Wanted
-    ensures { λ r. ⌜ r ≡ record { known = true; size = cursor samples trails sheets lists } ⌝ }
+    ensures { λ r. ⌜ r ≡ record { known = true; size = amounts samples trails sheets lists } ⌝ }
 {
     Wanted {
         known: true,
-        size: Cursor {
+        size: Amounts {
             samples: samples,
             trails: trails,
             sheets: sheets,
@@ -37,11 +37,11 @@ fn even(places: usize) -> usize
 
 // By a row's kind and its first three own numbers. Sheets and recordings take bytes alone, a check nothing. (Behind the last kind there is none.)
 fn wanted(row: &[u64]) -> Wanted
-    ensures { λ r. ⌜ wantedBy r ≡ takesOf (kindAt kinds (numberAt (now (row .entry)) 0)) (now (row .entry)) ⌝ }
+    ensures { λ r. ⌜ wantedBy r ≡ takesOf (callKindAt kinds (numberAt (now (row .entry)) 0)) (now (row .entry)) ⌝ }
 {
-    let kind = number(row, 0);
-    let first = places(number(row, 6));
-    let second = places(number(row, 7));
+    let kind = number_at(row, 0);
+    let first = places(number_at(row, 6));
+    let second = places(number_at(row, 7));
     if kind == 0 {
         return size(0, 0, 0, 0);
     }
@@ -52,7 +52,7 @@ fn wanted(row: &[u64]) -> Wanted
         return size(first, second, 0, 0);
     }
     if kind == 5 {
-        return size(first, second, 0, places(number(row, 8)));
+        return size(first, second, 0, places(number_at(row, 8)));
     }
     if kind < 8 {
         return size(0, 0, first, 0);
@@ -61,11 +61,11 @@ fn wanted(row: &[u64]) -> Wanted
         return size(0, 0, 0, 0);
     }
     if kind == 9 {
-        return size(first, second, 0, even(places(number(row, 8))));
+        return size(first, second, 0, even(places(number_at(row, 8))));
     }
     Wanted {
         known: false,
-        size: Cursor {
+        size: Amounts {
             samples: 0,
             trails: 0,
             sheets: 0,
@@ -76,7 +76,7 @@ fn wanted(row: &[u64]) -> Wanted
 
 // Whether a kind's calls change tables.
 pub fn changes(kind: u64) -> bool
-    ensures { λ r. ⌜ ((k : Kind) → kindAt kinds kind ≡ some k → k .changes ≡ r) ⌝ }
+    ensures { λ r. ⌜ ((k : CallKind) → callKindAt kinds kind ≡ some k → k .changes ≡ r) ⌝ }
 {
     if kind == 2 {
         return false;
@@ -122,8 +122,8 @@ fn fits(all: Lengths, lent: Lengths) -> bool
 }
 
 // No more is taken than is ahead.
-fn is_enough(size: Cursor, samples: usize, trails: usize, sheets: usize, lists: usize) -> bool
-    ensures { λ r. ⌜ r ≡ enough size (cursor samples trails sheets lists) ⌝ }
+fn is_enough(size: Amounts, samples: usize, trails: usize, sheets: usize, lists: usize) -> bool
+    ensures { λ r. ⌜ r ≡ enough size (amounts samples trails sheets lists) ⌝ }
 {
     if samples < size.samples {
         return false;
@@ -140,7 +140,7 @@ fn is_enough(size: Cursor, samples: usize, trails: usize, sheets: usize, lists: 
     true
 }
 
-fn not_played(at: Cursor) -> Plan
+fn not_played(at: Amounts) -> Plan
     ensures { λ r. ⌜ r ≡ record { made = false; to = at } ⌝ }
 {
     Plan {
@@ -150,11 +150,11 @@ fn not_played(at: Cursor) -> Plan
 }
 
 // On tables of these lengths, where this much of all that there is has been taken.
-pub fn plan(row: &[u64], lent: Lengths, at: Cursor, all: Cursor) -> Plan
+pub fn plan(row: &[u64], lent: Lengths, at: Amounts, all: Amounts) -> Plan
     requires { ⌜ (at .samples ≤ all .samples) × (at .trails ≤ all .trails) × (at .sheets ≤ all .sheets) × (at .lists ≤ all .lists) ⌝ }
     ensures { λ r. ⌜ plannedBy r
         ≡ movedBy (playable (lengthsBy lent)
-        (cursor (all .samples - at .samples) (all .trails - at .trails) (all .sheets - at .sheets) (all .lists - at .lists))
+        (amounts (all .samples - at .samples) (all .trails - at .trails) (all .sheets - at .sheets) (all .lists - at .lists))
         (now (row .entry))) (now (row .entry)) at ⌝ }
 {
     if !fits(lent, lengths(row)) {
@@ -176,7 +176,7 @@ pub fn plan(row: &[u64], lent: Lengths, at: Cursor, all: Cursor) -> Plan
     }
     Plan {
         made: true,
-        to: Cursor {
+        to: Amounts {
             samples: at.samples + size.samples,
             trails: at.trails + size.trails,
             sheets: at.sheets + size.sheets,

@@ -15,7 +15,7 @@ pub fn places(x: u64) -> usize
 }
 
 // A number of a row, and 0 behind its end.
-pub fn number(row: &[u64], place: usize) -> u64
+pub fn number_at(row: &[u64], place: usize) -> u64
     ensures { λ r. ⌜ r ≡ numberAt (now (row .entry)) place ⌝ }
 {
     if place < row.len() { row[place] } else { 0 }
@@ -26,11 +26,11 @@ pub fn lengths(row: &[u64]) -> Lengths
     ensures { λ r. ⌜ lengthsBy r ≡ lentBy (now (row .entry)) ⌝ }
 {
     Lengths {
-        control: places(number(row, 1)),
-        samples: places(number(row, 2)),
-        nodes: places(number(row, 3)),
-        links: places(number(row, 4)),
-        work: places(number(row, 5)),
+        control: places(number_at(row, 1)),
+        samples: places(number_at(row, 2)),
+        nodes: places(number_at(row, 3)),
+        links: places(number_at(row, 4)),
+        work: places(number_at(row, 5)),
     }
 }
 

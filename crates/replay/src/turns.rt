@@ -1,28 +1,28 @@
 // A row, played: planned, then lent what it takes.
 
-use crate::Cursor;
+use crate::Amounts;
 use crate::Lengths;
 use crate::Turn;
 use crate::asks;
 use crate::changes;
 use crate::plans;
 use crate::rows::lengths;
-use crate::rows::number;
+use crate::rows::number_at;
 ghost use mathlib.Core.Path.{_≡_};
 ghost use mathlib.Core.Option.{some};
 ghost use mathlib.Core.List.{[], _∷_};
 ghost use mathlib.Core.Bool.{Bool, false};
 ghost use Rattle.tables.specs.Tables.{tables, lentOf};
-ghost use Rattle.replay.specs.Script.{lentBy, stateAt, CursorInside, taken, aheadOf, playable, asks, movedBy};
-ghost use Rattle.replay.specs.Script.{called, Plays, turned, made, turnOf};
+ghost use Rattle.replay.specs.Script.{lentBy, stateAt, AmountsInside, taken, aheadOf, playable, asks, movedBy};
+ghost use Rattle.replay.specs.Script.{called, Plays, turned, turnMade, turnOf};
 
 // A row that makes no call takes nothing.
-fn no_call(at: Cursor) -> Turn
-    ensures { λ r. ⌜ r ≡ record { made = false; told = 0 ∷ 0 ∷ 0 ∷ 0 ∷ 0 ∷ []; at = at } ⌝ }
+fn no_call(at: Amounts) -> Turn
+    ensures { λ r. ⌜ r ≡ record { made = false; numbers = 0 ∷ 0 ∷ 0 ∷ 0 ∷ 0 ∷ []; at = at } ⌝ }
 {
     Turn {
         made: false,
-        told: [0; 5],
+        numbers: [0; 5],
         at: at,
     }
 }
@@ -89,24 +89,24 @@ fn lend(
     lists: &mut [u64],
     pool: &[i16],
     row: &[u64],
-    at: Cursor,
-    to: Cursor,
+    at: Amounts,
+    to: Amounts,
 ) -> [u64; 5]
-    requires { ⌜ CursorInside at (now pool) (now trails) (now sheets) (now lists) ⌝ }
+    requires { ⌜ AmountsInside at (now pool) (now trails) (now sheets) (now lists) ⌝ }
     requires { ⌜ some to ≡ movedBy (playable (lentOf (tables (now control) (now samples) (now nodes) (now links) (now work)))
         (aheadOf (stateAt (tables (now control) (now samples) (now nodes) (now links) (now work)) (now pool)
         (now trails) (now sheets) (now lists) at)) (now row)) (now row) at ⌝ }
     ensures { λ r. ⌜ turned (some r) (stateAt
         (tables (now (control .exit)) (now (samples .exit)) (now (nodes .exit)) (now (links .exit)) (now (work .exit)))
         (now (pool .entry)) (now (trails .exit)) (now (sheets .exit)) (now (lists .exit)) to)
-        ≡ made (lentBy (now (row .entry))) (asks (lentOf
+        ≡ turnMade (lentBy (now (row .entry))) (asks (lentOf
         (tables (now (control .entry)) (now (samples .entry)) (now (nodes .entry)) (now (links .entry)) (now (work .entry)))) (now (row .entry)) (stateAt
         (tables (now (control .entry)) (now (samples .entry)) (now (nodes .entry)) (now (links .entry)) (now (work .entry)))
         (now (pool .entry)) (now (trails .entry)) (now (sheets .entry)) (now (lists .entry)) at)) (stateAt
         (tables (now (control .entry)) (now (samples .entry)) (now (nodes .entry)) (now (links .entry)) (now (work .entry)))
         (now (pool .entry)) (now (trails .entry)) (now (sheets .entry)) (now (lists .entry)) at) ⌝ }
 {
-    let kind = number(row, 0);
+    let kind = number_at(row, 0);
     let lent = lengths(row);
     let c = lent.control;
     let s = lent.samples;
@@ -148,19 +148,19 @@ pub fn turn(
     lists: &mut [u64],
     pool: &[i16],
     row: &[u64],
-    at: Cursor,
+    at: Amounts,
 ) -> Turn
-    requires { ⌜ CursorInside at (now pool) (now trails) (now sheets) (now lists) ⌝ }
+    requires { ⌜ AmountsInside at (now pool) (now trails) (now sheets) (now lists) ⌝ }
     ensures { λ r. ⌜ (turnOf r
         (tables (now (control .exit)) (now (samples .exit)) (now (nodes .exit)) (now (links .exit)) (now (work .exit)))
         (now (pool .entry)) (now (trails .exit)) (now (sheets .exit)) (now (lists .exit))
-        ≡ made (lentBy (now (row .entry))) (asks (lentOf
+        ≡ turnMade (lentBy (now (row .entry))) (asks (lentOf
         (tables (now (control .entry)) (now (samples .entry)) (now (nodes .entry)) (now (links .entry)) (now (work .entry)))) (now (row .entry)) (stateAt
         (tables (now (control .entry)) (now (samples .entry)) (now (nodes .entry)) (now (links .entry)) (now (work .entry)))
         (now (pool .entry)) (now (trails .entry)) (now (sheets .entry)) (now (lists .entry)) at)) (stateAt
         (tables (now (control .entry)) (now (samples .entry)) (now (nodes .entry)) (now (links .entry)) (now (work .entry)))
         (now (pool .entry)) (now (trails .entry)) (now (sheets .entry)) (now (lists .entry)) at))
-        × CursorInside (r .at) (now (pool .entry)) (now (trails .entry)) (now (sheets .entry)) (now (lists .entry)) ⌝ }
+        × AmountsInside (r .at) (now (pool .entry)) (now (trails .entry)) (now (sheets .entry)) (now (lists .entry)) ⌝ }
 {
     let lent = Lengths {
         control: control.len(),
@@ -169,7 +169,7 @@ pub fn turn(
         links: links.len(),
         work: work.len(),
     };
-    let all = Cursor {
+    let all = Amounts {
         samples: pool.len(),
         trails: trails.len(),
         sheets: sheets.len(),
@@ -180,7 +180,7 @@ pub fn turn(
         return no_call(at);
     }
     let to = planned.to;
-    let told = lend(
+    let numbers = lend(
         control,
         samples,
         nodes,
@@ -196,7 +196,7 @@ pub fn turn(
     );
     Turn {
         made: true,
-        told: told,
+        numbers: numbers,
         at: to,
     }
 }

@@ -24,7 +24,7 @@ use Rattle.tables.proofs.Views.{tree-size, tree-numbers, tree-formed, measures-
 use Rattle.tables.proofs.Linked.{tables-rise}
 use Rattle.query.specs.Bounded.{Bounded}
 use Rattle.query.proofs.FromRules.{bounded-at}
-use Rattle.reading.proofs.Meaning.{LeafAt}
+use Rattle.reading.proofs.Meaning.{LeafInTables}
 use Rattle.best_first.specs.Branching.{Branching}
 use Rattle.best_first.proofs.Branching.{branching}
 use Rattle.best_first.proofs.Alike.{AlikeKind, both-leaves, same-inner, Alike, alike-none, alike-more, branching-alike}
@@ -124,5 +124,5 @@ module _ (t : Tables) (query : Trace) (trail : ℕ) (r : Ready t query trail) wh
       inside = rules .shape .numbers head j (in-is (subst (In head) (sym (tree-numbers t j h e)) head-first));
     }
 
-    pub leaf-at : LeafAt t j
+    pub leaf-at : LeafInTables t j
     leaf-at = record { inside = h; is-leaf = e; stored = stored }

@@ -12,17 +12,17 @@ use Rattle.dstree.specs.KNearest.{Listing}
 use Rattle.dstree.proofs.KSteps.{listOf, asListing, one-searched}
 use Rattle.tables.specs.Tables.{Tables}
 use Rattle.tables.specs.View.{treeIn, tracesIn}
-use Rattle.reading.specs.Nearest.{near, bestOf}
+use Rattle.reading.specs.Nearest.{near, nearBy}
 use Rattle.reading.specs.Listed.{recordAt, nearsIn}
 use Rattle.reading.specs.declared.best.Best.{Best}
 use Rattle.reading.proofs.Records.{nears-length, nears-at}
-use Rattle.search.specs.Searched.{listing, seen, ListSearched, Searched}
+use Rattle.search.specs.Searched.{listingBy, seen, ListSearched, Searched}
 
 -- the record of a list of one, as the match answers it
 abbrev pub bestIn : ℕ → List ℕ → Best
 bestIn many list = record { found = eqb many 1; trace = getD list 0 0; distance = getD list 1 0 }
 
-best-is : (best : Option Near) (many : ℕ) (list : List ℕ) → nearsIn many list ≡ listOf best → bestOf (bestIn many list) ≡ best
+best-is : (best : Option Near) (many : ℕ) (list : List ℕ) → nearsIn many list ≡ listOf best → nearBy (bestIn many list) ≡ best
 best-is none many list e = let z : many ≡ 0 = omega (arith, ap length e, nears-length many list) in rw z
 best-is (some b) many list e =
     let z : many ≡ 1 = omega (arith, ap length e, nears-length many list) in
@@ -35,10 +35,10 @@ module _ (t : Tables) (query : Trace) (work work′ trail trail′ list list′ 
   abbrev match : Search
   match = searched (tracesIn t) (treeIn t) query
 
-  as-listed : listing (nearsIn many list′) traces (take out trail′) ≡ asListing match
+  as-listed : listingBy (nearsIn many list′) traces (take out trail′) ≡ asListing match
   as-listed = s .visited .found ∙ one-searched (tracesIn t) (treeIn t) query
 
-  pub one-found : Searched t query work work′ trail trail′ (bestOf (bestIn many list′)) out traces
+  pub one-found : Searched t query work work′ trail trail′ (nearBy (bestIn many list′)) out traces
   one-found =
       let b = best-is (match .best) many list′ (ap (λ (l : Listing). l .list) as-listed) in
       let n = ap (λ (l : Listing). l .traces) as-listed in

@@ -24,13 +24,13 @@ use Rattle.tables.specs.Tables.{Tables, measuresOf, traceCount, nodeCount, reco
 use Rattle.tables.specs.View.{smallAt, treeIn, tracesIn}
 use Rattle.tables.specs.Walk.{numbersOf, Stored}
 use Rattle.reading.specs.Nearest.{near, nearOf}
-use Rattle.reading.specs.Listed.{recordAt, nearsIn, ListRoom, Lists}
+use Rattle.reading.specs.Listed.{recordAt, nearsIn, ListRoom, ListBegins}
 use Rattle.reading.proofs.Records.{nears-length, nears-none, nears-at}
-use Rattle.reading.proofs.Meaning.{LeafAt, answer-is}
+use Rattle.reading.proofs.Meaning.{LeafInTables, answer-is}
 use Rattle.best_first.proofs.Alike.{order-alike}
 use Rattle.leaf_order.specs.Waits.{shapeIn, Waits, remaining, Begun}
 use Rattle.leaf_order.specs.Handed.{isPast, Past, HandedLeaf}
-use Rattle.search.specs.Searched.{Ready, listing, Visited}
+use Rattle.search.specs.Searched.{Ready, listingBy, Visited}
 use Rattle.search.proofs.Facts.{shape-alike}
 
 -- reading a leaf
@@ -79,17 +79,17 @@ drop-one : (n : ℕ) (l m : List ℕ) → drop n l ≡ drop n m → drop (n + 1)
 drop-one n l m e = sym (drop-drop 1 n l) ∙ ap (drop 1) e ∙ drop-drop 1 n m
 
 -- a leaf's list, with n, the count of traces and the head as code has them
-pub stored-as : (t : Tables) (j : ℕ) (at : LeafAt t j) (n k head : ℕ) → n ≡ measuresOf t .n → k ≡ traceCount t
+pub stored-as : (t : Tables) (j : ℕ) (at : LeafInTables t j) (n k head : ℕ) → n ≡ measuresOf t .n → k ≡ traceCount t
     → head ≡ smallAt (recordOf (t .nodes) j) firstPlace → Stored (t .samples) (t .links) n k head
 stored-as t j at n k head n-is k-is head-is = rw (n-is, k-is, head-is) (at .stored)
 
 -- ---- the invariant
 
 -- the keys that wait stand for leaves; to read these on from what is found gives the answer, and the trail has room for them
-pub record State (k : ℕ) (t : Tables) (query : Trace) (tree : Tree) (trail₀ list₀ work trail list : List ℕ)
+pub record SearchState (k : ℕ) (t : Tables) (query : Trace) (tree : Tree) (trail₀ list₀ work trail list : List ℕ)
     (waiting out traces many : ℕ) : Type 0 where
   pub waits : Waits tree query waiting work
-  pub goes-on : readOn (stopsAtKth k) (readIn k t query) (listing (nearsIn many list) traces (take out trail))
+  pub goes-on : readOn (stopsAtKth k) (readIn k t query) (listingBy (nearsIn many list) traces (take out trail))
       (remaining tree query waiting work)
       ≡ listed k (tracesIn t) (treeIn t) query
   pub trail-room : out + length (remaining tree query waiting work) ≡ length (leaves (treeIn t))
@@ -104,7 +104,7 @@ module _ (k : ℕ) (t : Tables) (query : Trace) (trail₀ list₀ : List ℕ) (r
   -- all leaves are to come
   pub state-start : (1 ≤ k) × (2 * k ≤ length list₀) → (m : ℕ) → m ≡ nodeCount t → (work : List ℕ)
       → Begun (shapeIn (t .nodes) m) query work
-      → State k t query (shapeIn (t .nodes) m) trail₀ list₀ work trail₀ list₀ 1 0 0 0
+      → SearchState k t query (shapeIn (t .nodes) m) trail₀ list₀ work trail₀ list₀ 1 0 0 0
   unfolding listed
   state-start places m e work b =
       let order : remaining (shapeIn (t .nodes) m) query 1 work ≡ readingOrder (treeIn t) query =
@@ -122,7 +122,7 @@ module _ (k : ℕ) (t : Tables) (query : Trace) (trail₀ list₀ : List ℕ) (r
       }
 
   module _ {tree : Tree} {work trail list : List ℕ} {waiting out traces many : ℕ}
-      (s : State k t query tree trail₀ list₀ work trail list waiting out traces many) where
+      (s : SearchState k t query tree trail₀ list₀ work trail list waiting out traces many) where
     -- no more leaves are read than there are
     pub out-most : out ≤ length (leaves (treeIn t))
     out-most = omega (arith, s .trail-room)
@@ -133,7 +133,7 @@ module _ (k : ℕ) (t : Tables) (query : Trace) (trail₀ list₀ : List ℕ) (r
     abbrev limit : ℕ
     limit = recordAt list (k - 1) .distance
 
-    stops-as : (bound : ℕ) → isPast limited limit bound ≡ stopsAtKth k (listing (nearsIn many list) traces (take out trail)) bound
+    stops-as : (bound : ℕ) → isPast limited limit bound ≡ stopsAtKth k (listingBy (nearsIn many list) traces (take out trail)) bound
     unfolding stopsAtKth
     stops-as bound = past-is k many list (s .room .some-record) (s .room .few) bound
 
@@ -142,7 +142,7 @@ module _ (k : ℕ) (t : Tables) (query : Trace) (trail₀ list₀ : List ℕ) (r
         → Visited k t query trail₀ trail list₀ list many out traces
     state-end past = record {
       found =
-          sym (read-end (stopsAtKth k) (readIn k t query) (listing (nearsIn many list) traces (take out trail))
+          sym (read-end (stopsAtKth k) (readIn k t query) (listingBy (nearsIn many list) traces (take out trail))
           (all-mono (λ a e. sym (stops-as (a .bound)) ∙ e) past)) ∙ s .goes-on;
       within = omega (arith, out-most, ready .trail-long);
       trail-rest = s .trail-rest;
@@ -158,23 +158,24 @@ module _ (k : ℕ) (t : Tables) (query : Trace) (trail₀ list₀ : List ℕ) (r
       pub leaf-less : length (remaining tree query left work′) < length (remaining tree query waiting work)
       leaf-less = rw (h .first) (omega arith)
 
-      pub state-leaf : (at : LeafAt t j) (n count head traces′ many′ : ℕ) (list′ : List ℕ) → n ≡ measuresOf t .n → count ≡ traceCount t
+      pub state-leaf : (at : LeafInTables t j) (n count head traces′ many′ : ℕ) (list′ : List ℕ) → n ≡ measuresOf t .n
+          → count ≡ traceCount t
           → head ≡ smallAt (recordOf (t .nodes) j) firstPlace
-          → Lists k many′
+          → ListBegins k many′
           (foldl (listWith k) (nearsIn many list) (map (nearOf (t .samples) n query) (numbersOf (t .links) count head))) list list′
           → length list′ ≡ length list
           → traces′ ≡ length (numbersOf (t .links) count head)
           → traces′ ≤ count
-          → State k t query tree trail₀ list₀ work′ (set trail out j) list′ left (out + 1) (traces + traces′) many′
+          → SearchState k t query tree trail₀ list₀ work′ (set trail out j) list′ left (out + 1) (traces + traces′) many′
       state-leaf at n count head traces′ many′ list′ n-is count-is head-is lists size counted most =
-          let soFar = listing (nearsIn many list) traces (take out trail) in
+          let soFar = listingBy (nearsIn many list) traces (take out trail) in
           let met = map (nearOf (t .samples) n query) (numbersOf (t .links) count head) in
           let noted : take (out + 1) (set trail out j) ≡ take out trail ++ (j ∷ []) =
           rw (add-one out) (take-suc-set trail out j leaf-room) in
-          let read : readIn k t query soFar j ≡ listing (nearsIn many′ list′) (traces + traces′) (take (out + 1) (set trail out j)) =
+          let read : readIn k t query soFar j ≡ listingBy (nearsIn many′ list′) (traces + traces′) (take (out + 1) (set trail out j)) =
           answer-is t j at query k soFar (nearsIn many′ list′) traces′ (rw (n-is, count-is, head-is) at (lists .nears-are))
           (rw (count-is, head-is) at counted)
-          ∙ ap (listing (nearsIn many′ list′) (traces + traces′)) (sym noted) in
+          ∙ ap (listingBy (nearsIn many′ list′) (traces + traces′)) (sym noted) in
           let go : stopsAtKth k soFar bound ≡ false = sym (stops-as bound) ∙ h .within in
           let more : many ≤ many′ =
           omega (

@@ -7,8 +7,8 @@ ghost use Prim.Native.Nat.{_*_, _≤_};
 ghost use lib.ListN.{length};
 ghost use Rattle.dstree.specs.Measures.{workNeeded};
 ghost use Rattle.tables.specs.Tables.{measuresOf};
-ghost use Rattle.reading.specs.Nearest.{bestOf};
-ghost use Rattle.search.specs.Searched.{made, Ready, ListSearched, Searched};
+ghost use Rattle.reading.specs.Nearest.{nearBy};
+ghost use Rattle.search.specs.Searched.{withoutWork, Ready, ListSearched, Searched};
 
 // Lists the k nearest: two places a record, trace number and distance, from the list's first place on; the places behind them stay. The
 // needed places of search work are zero when it ends, whatever they held.
@@ -23,10 +23,10 @@ pub fn search_list(
     list: &mut [u64],
     k: usize,
 ) -> crate::visiting::Seen
-    requires { ⌜ Ready (made (now control) (now samples) (now nodes) (now links)) (now query) (length (now trail))
-        × (workNeeded (measuresOf (made (now control) (now samples) (now nodes) (now links))) ≤ length (now work)) ⌝ }
+    requires { ⌜ Ready (withoutWork (now control) (now samples) (now nodes) (now links)) (now query) (length (now trail))
+        × (workNeeded (measuresOf (withoutWork (now control) (now samples) (now nodes) (now links))) ≤ length (now work)) ⌝ }
     requires list { ⌜ (1 ≤ k) × (2 * k ≤ length (now list)) ⌝ }
-    ensures { λ r. ⌜ ListSearched k (made (now (control .entry)) (now (samples .entry)) (now (nodes .entry)) (now (links .entry)))
+    ensures { λ r. ⌜ ListSearched k (withoutWork (now (control .entry)) (now (samples .entry)) (now (nodes .entry)) (now (links .entry)))
         (now (query .entry)) (now (work .entry)) (now (work .exit)) (now (trail .entry)) (now (trail .exit)) (now (list .entry))
         (now (list .exit)) (r .listed) (r .out) (r .traces) ⌝ }
 {
@@ -70,10 +70,10 @@ pub fn search_all(
     work: &mut [u64],
     trail: &mut [u16],
 ) -> Matched
-    requires { ⌜ Ready (made (now control) (now samples) (now nodes) (now links)) (now query) (length (now trail))
-        × (workNeeded (measuresOf (made (now control) (now samples) (now nodes) (now links))) ≤ length (now work)) ⌝ }
-    ensures { λ r. ⌜ Searched (made (now (control .entry)) (now (samples .entry)) (now (nodes .entry)) (now (links .entry)))
-        (now (query .entry)) (now (work .entry)) (now (work .exit)) (now (trail .entry)) (now (trail .exit)) (bestOf (r .best)) (r .out)
+    requires { ⌜ Ready (withoutWork (now control) (now samples) (now nodes) (now links)) (now query) (length (now trail))
+        × (workNeeded (measuresOf (withoutWork (now control) (now samples) (now nodes) (now links))) ≤ length (now work)) ⌝ }
+    ensures { λ r. ⌜ Searched (withoutWork (now (control .entry)) (now (samples .entry)) (now (nodes .entry)) (now (links .entry)))
+        (now (query .entry)) (now (work .entry)) (now (work .exit)) (now (trail .entry)) (now (trail .exit)) (nearBy (r .best)) (r .out)
         (r .traces) ⌝ }
 {
     let mut list: [u64; 2] = [0; 2];

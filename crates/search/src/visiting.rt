@@ -9,7 +9,7 @@ ghost use lib.ListN.{length};
 ghost use Rattle.tables.specs.Tables.{nodeCount};
 ghost use Rattle.tables.specs.View.{smallMost};
 ghost use Rattle.prefixes.specs.Prefixes.{Prefixes};
-ghost use Rattle.search.specs.Searched.{made, Ready, Visited};
+ghost use Rattle.search.specs.Searched.{withoutWork, Ready, Visited};
 
 // The traces listed, the leaves read, which the trail begins with, and the traces read.
 pub struct Seen {
@@ -43,11 +43,11 @@ pub fn visit(
     list: &mut [u64],
     k: usize,
 ) -> Seen
-    requires { ⌜ Ready (made (now control) (now samples) (now nodes) (now links)) (now query) (length (now trail))
+    requires { ⌜ Ready (withoutWork (now control) (now samples) (now nodes) (now links)) (now query) (length (now trail))
         × Prefixes (now query) (now sums) (now squares)
-        × (length (now work) ≡ nodeCount (made (now control) (now samples) (now nodes) (now links))) ⌝ }
+        × (length (now work) ≡ nodeCount (withoutWork (now control) (now samples) (now nodes) (now links))) ⌝ }
     requires list { ⌜ (1 ≤ k) × (2 * k ≤ length (now list)) ⌝ }
-    ensures { λ r. ⌜ Visited k (made (now (control .entry)) (now (samples .entry)) (now (nodes .entry)) (now (links .entry)))
+    ensures { λ r. ⌜ Visited k (withoutWork (now (control .entry)) (now (samples .entry)) (now (nodes .entry)) (now (links .entry)))
         (now (query .entry)) (now (trail .entry)) (now (trail .exit)) (now (list .entry)) (now (list .exit)) (r .listed) (r .out)
         (r .traces) ⌝ }
 {

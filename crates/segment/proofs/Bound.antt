@@ -18,7 +18,7 @@ use Rattle.integer.proofs.Order.{_≤ℤ_, ≤ℤ→, <ℤ→, natAbs-diff}
 use Rattle.segment.specs.Figures.{sum, scatter, distance}
 use Rattle.segment.specs.Roots.{floorRoot, ceilingRoot}
 use Rattle.segment.specs.Terms.{sumGap, scatterGap, boundTerm}
-use Rattle.segment.specs.Partition.{Ranges, Holds, segmentBound, totalBound, AllHold, none-left, one-more}
+use Rattle.segment.specs.Partition.{Ranges, WithinRanges, segmentBound, totalBound, AllWithinRanges, none-left, one-more}
 use Rattle.segment.proofs.Newton.{floor-root, ceiling-root}
 use Rattle.segment.proofs.Sums.{distance-cut}
 use Rattle.segment.proofs.Apart.{apart, apart-below}
@@ -48,7 +48,7 @@ larger-of P a b pa pb = by (decLe a b)
     by (yes h) = let e : max a b ≡ b = omega arith in subst P (sym e) pb
     by (no f) = let e : max a b ≡ a = omega arith in subst P (sym e) pa
 
-module _ (r : Ranges) (xs ys : List ℤ) (same : length xs ≡ length ys) (h : Holds r ys) where
+module _ (r : Ranges) (xs ys : List ℤ) (same : length xs ≡ length ys) (h : WithinRanges r ys) where
   g : ℕ
   g = sumGap (sum xs) (r .leastSum) (r .greatestSum)
 
@@ -84,7 +84,8 @@ module _ (r : Ranges) (xs ys : List ℤ) (same : length xs ≡ length ys) (h : H
 -- ---- over a partition
 
 -- the total of the bounds is at most the distance, since distances add up
-pub total-bound : (parts : List Ranges) (xs ys : List ℤ) → length xs ≡ length ys → AllHold parts ys → totalBound parts xs ≤ distance xs ys
+pub total-bound : (parts : List Ranges) (xs ys : List ℤ) → length xs ≡ length ys → AllWithinRanges parts ys
+    → totalBound parts xs ≤ distance xs ys
 unfolding totalBound
 total-bound [] xs ys same none-left = omega arith
 total-bound (r ∷ rest) xs ys same (one-more hw h all) =

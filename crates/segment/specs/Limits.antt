@@ -12,8 +12,8 @@ abbrev pub sampleMost : ℕ
 sampleMost = 32768
 
 -- every sample is from −limit to limit − 1. (`mag` of −1 − m is m)
-abbrev pub Within : ℕ → List ℤ → Type 0
-Within limit xs = (i : ℕ) → i < length xs → mag (getD xs i (pos 0)) < limit
+abbrev pub SamplesWithin : ℕ → List ℤ → Type 0
+SamplesWithin limit xs = (i : ℕ) → i < length xs → mag (getD xs i (pos 0)) < limit
 
 -- "sums within w × 32,768 either side of 0"
 unfoldable pub sumLimit : ℕ → ℕ → ℕ
@@ -77,9 +77,9 @@ largestDistance limit n = n * ((2 * limit - 1) * (2 * limit - 1))
 
 -- what is claimed of it, for every n: no two traces of n samples are farther apart, and two are just so far
 pub record IsLargest (limit n : ℕ) : Type 0 where
-  pub none-greater : (x y : List ℤ) → length x ≡ n → Within limit x → Within limit y → distance x y ≤ largestDistance limit n
+  pub none-greater : (x y : List ℤ) → length x ≡ n → SamplesWithin limit x → SamplesWithin limit y → distance x y ≤ largestDistance limit n
   pub one : List ℤ
   pub other : List ℤ
   pub sizes : (length one ≡ n) × (length other ≡ n)
-  pub within : Within limit one × Within limit other
+  pub within : SamplesWithin limit one × SamplesWithin limit other
   pub reached : distance one other ≡ largestDistance limit n

@@ -17,7 +17,7 @@ pub record Ranges : Type 0 where
   pub greatestScatter : ℕ
 
 -- a stored segment whose figures are within the ranges
-pub record Holds (r : Ranges) (ys : List ℤ) : Type 0 where
+pub record WithinRanges (r : Ranges) (ys : List ℤ) : Type 0 where
   pub width-is : length ys ≡ r .width
   pub sum-above : r .leastSum ≤ℤ sum ys
   pub sum-below : sum ys ≤ℤ r .greatestSum
@@ -34,6 +34,6 @@ totalBound [] xs = 0
 totalBound (r ∷ rest) xs = segmentBound r (take (r .width) xs) + totalBound rest (drop (r .width) xs)
 
 -- every segment of a stored trace is one of those ranges', each at least one sample wide
-pub data AllHold : List Ranges → List ℤ → Type 0 where
-  none-left : {ys : List ℤ} → AllHold [] ys
-  one-more : {r : Ranges} {rest : List Ranges} {ys : List ℤ} → 0 < r .width → Holds r (take (r .width) ys) → AllHold rest (drop (r .width) ys) → AllHold (r ∷ rest) ys
+pub data AllWithinRanges : List Ranges → List ℤ → Type 0 where
+  none-left : {ys : List ℤ} → AllWithinRanges [] ys
+  one-more : {r : Ranges} {rest : List Ranges} {ys : List ℤ} → 0 < r .width → WithinRanges r (take (r .width) ys) → AllWithinRanges rest (drop (r .width) ys) → AllWithinRanges (r ∷ rest) ys

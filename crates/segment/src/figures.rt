@@ -106,7 +106,7 @@ pub fn square_difference(a: i16, b: i16) -> u64
 
 // What the samples from `from` to before `end` add to the distance. Where the compiler sees that they are sixteen, it takes them all
 // at once, eight to a register.
-pub fn stretch(x: &[i16], y: &[i16], from: usize, end: usize) -> u64
+pub fn stretch_distance(x: &[i16], y: &[i16], from: usize, end: usize) -> u64
     requires { ⌜ (length (now x) ≡ length (now y)) × (from ≤ end) × (end ≤ length (now x)) × (end ≤ 256) ⌝ }
     ensures { λ r. ⌜ figure.distance (take from (now (x .entry))) (take from (now (y .entry))) + r
         ≡ figure.distance (take end (now (x .entry))) (take end (now (y .entry))) ⌝ }
@@ -133,8 +133,8 @@ pub fn distance(x: &[i16], y: &[i16]) -> u64
     let mut total: u64 = 0;
     let mut k: usize = 0;
     while 16 <= n - k {
-        total += stretch(x, y, k, k + 16);
+        total += stretch_distance(x, y, k, k + 16);
         k += 16;
     }
-    total + stretch(x, y, k, n)
+    total + stretch_distance(x, y, k, n)
 }

@@ -43,14 +43,14 @@ pub fn distance_within(x: &[i16], y: &[i16], limit: u64) -> Distance
     let mut total: u64 = 0;
     let mut k: usize = 0;
     while 16 <= n - k {
-        let next = total + crate::figures::stretch(x, y, k, k + 16);
+        let next = total + crate::figures::stretch_distance(x, y, k, k + 16);
         if limit < next {
             return Distance::Beyond(passing(x, y, limit, k, total));
         }
         total = next;
         k += 16;
     }
-    let whole = total + crate::figures::stretch(x, y, k, n);
+    let whole = total + crate::figures::stretch_distance(x, y, k, n);
     if limit < whole {
         return Distance::Beyond(passing(x, y, limit, k, total));
     }

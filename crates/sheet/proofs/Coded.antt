@@ -71,22 +71,22 @@ module _ (z : ℤ) (f : SFits w16 z) (e : ltZ (read w16 z) (pos 0) ≡ true) whe
   c = complement z (subst (λ (x : ℤ). ltZ x (pos 0) ≡ true) (toZ-ofZ f) e) (f .sfits)
 
   -- as the machine makes it
-  abbrev pub added : ℤ
-  added = pos 65536 +ℤ read w64 (read w16 z)
+  abbrev pub shifted : ℤ
+  shifted = pos 65536 +ℤ read w64 (read w16 z)
 
-  added-is : added ≡ pos (c .number)
+  added-is : shifted ≡ pos (c .number)
   added-is = ap (λ (x : ℤ). pos 65536 +ℤ x) (read-wider {v = w16} w64 tt f) ∙ c .sum
 
-  pub added-fits : SFits w64 added
+  pub added-fits : SFits w64 shifted
   added-fits = subst (SFits w64) (sym added-is) (small {w = w64} {z = pos (c .number)} (omega (arith, c .small)))
 
-  read-added : read w64 added ≡ pos (c .number)
+  read-added : read w64 shifted ≡ pos (c .number)
   read-added = toZ-ofZ added-fits ∙ added-is
 
-  pub added-cast : T (nonNeg (read w64 added)) × Fits w16 (natAbs (read w64 added))
+  pub added-cast : T (nonNeg (read w64 shifted)) × Fits w16 (natAbs (read w64 shifted))
   added-cast = subst (λ (x : ℤ). T (nonNeg x) × Fits w16 (natAbs x)) (sym read-added) (tt, omega (arith, c .small))
 
-  pub added-bytes : bytesOf 2 (natAbs (read w64 added)) ≡ coded narrow z
+  pub added-bytes : bytesOf 2 (natAbs (read w64 shifted)) ≡ coded narrow z
   added-bytes = ap (λ (x : ℤ). bytesOf 2 (natAbs x)) read-added ∙ c .bytes
 
 -- a sample from 0 on is its own number

@@ -10,24 +10,24 @@ use lib.Seq.{take-all, take-take, drop-drop, length-take-le, getD-drop}
 use Rattle.integer.specs.Words.{total}
 use Rattle.dstree.specs.Sheet.{part, checkedSize, weighted}
 use Rattle.dstree.proofs.SheetPieces.{part-length, drop-take}
-use Rattle.sheet.specs.Columns.{columns, added, AtMost, mostSum, mostLater, Columns}
+use Rattle.sheet.specs.Columns.{columns, addedUp, EachAtMost, mostSum, mostLater, ColumnSums}
 
 -- ---- numbers with others added
 
-pub added-none : (xs : List ℕ) → added xs [] ≡ xs
-unfolding added
+pub added-none : (xs : List ℕ) → addedUp xs [] ≡ xs
+unfolding addedUp
 added-none [] = refl
 added-none (x ∷ xs) = refl
 
-pub added-length : (xs ys : List ℕ) → length (added xs ys) ≡ length xs
-unfolding added
+pub added-length : (xs ys : List ℕ) → length (addedUp xs ys) ≡ length xs
+unfolding addedUp
 added-length [] ys = refl
 added-length (x ∷ xs) [] = refl
 added-length (x ∷ xs) (y ∷ ys) = ap suc (added-length xs ys)
 
 -- behind the first j, nothing is added
-pub added-at : (xs ys : List ℕ) (j : ℕ) → getD (added xs (take j ys)) j 0 ≡ getD xs j 0
-unfolding added
+pub added-at : (xs ys : List ℕ) (j : ℕ) → getD (addedUp xs (take j ys)) j 0 ≡ getD xs j 0
+unfolding addedUp
 added-at [] ys j = refl
 added-at (x ∷ xs) ys zero = refl
 added-at (x ∷ xs) [] (suc j) = refl
@@ -35,23 +35,23 @@ added-at (x ∷ xs) (y ∷ ys) (suc j) = added-at xs ys j
 
 -- one more
 pub added-more : (xs ys : List ℕ) (j : ℕ) → j < length xs → j < length ys
-    → set (added xs (take j ys)) j (getD xs j 0 + getD ys j 0) ≡ added xs (take (suc j) ys)
-unfolding added
+    → set (addedUp xs (take j ys)) j (getD xs j 0 + getD ys j 0) ≡ addedUp xs (take (suc j) ys)
+unfolding addedUp
 added-more [] ys j h k = absurd (not-suc-le-zero h)
 added-more (x ∷ xs) [] j h k = absurd (not-suc-le-zero k)
 added-more (x ∷ xs) (y ∷ ys) zero h k = ap (λ (l : List ℕ). (x + y) ∷ l) (sym (added-none xs))
 added-more (x ∷ xs) (y ∷ ys) (suc j) h k =
     ap (λ (l : List ℕ). (x + y) ∷ l) (added-more xs ys j (le-of-suc-le-suc h) (le-of-suc-le-suc k))
 
-pub total-added : (xs ys : List ℕ) → length ys ≤ length xs → total (added xs ys) ≡ total xs + total ys
-unfolding added total
+pub total-added : (xs ys : List ℕ) → length ys ≤ length xs → total (addedUp xs ys) ≡ total xs + total ys
+unfolding addedUp total
 total-added [] [] h = refl
 total-added [] (y ∷ ys) h = absurd (not-suc-le-zero h)
 total-added (x ∷ xs) [] h = omega arith
 total-added (x ∷ xs) (y ∷ ys) h = omega (arith, total-added xs ys (le-of-suc-le-suc h))
 
-pub weighted-added : (p : ℕ) (xs ys : List ℕ) → length ys ≤ length xs → weighted p (added xs ys) ≡ weighted p xs + weighted p ys
-unfolding added weighted
+pub weighted-added : (p : ℕ) (xs ys : List ℕ) → length ys ≤ length xs → weighted p (addedUp xs ys) ≡ weighted p xs + weighted p ys
+unfolding addedUp weighted
 weighted-added p [] [] h = refl
 weighted-added p [] (y ∷ ys) h = absurd (not-suc-le-zero h)
 weighted-added p (x ∷ xs) [] h = omega arith
@@ -59,14 +59,14 @@ weighted-added p (x ∷ xs) (y ∷ ys) h = omega (arith, weighted-added (suc p) 
 
 -- ---- sizes
 
-pub most-added : (a b : ℕ) (xs ys : List ℕ) → AtMost a xs → AtMost b ys → AtMost (a + b) (added xs ys)
-unfolding added
+pub most-added : (a b : ℕ) (xs ys : List ℕ) → EachAtMost a xs → EachAtMost b ys → EachAtMost (a + b) (addedUp xs ys)
+unfolding addedUp
 most-added a b [] ys f g i = omega (arith, f i)
 most-added a b (x ∷ xs) [] f g i = omega (arith, f i)
 most-added a b (x ∷ xs) (y ∷ ys) f g zero = omega (arith, f 0, g 0)
 most-added a b (x ∷ xs) (y ∷ ys) f g (suc i) = most-added a b xs ys (λ k. f (suc k)) (λ k. g (suc k)) i
 
-pub most-taken : (a k : ℕ) (xs : List ℕ) → AtMost a xs → AtMost a (take k xs)
+pub most-taken : (a k : ℕ) (xs : List ℕ) → EachAtMost a xs → EachAtMost a (take k xs)
 most-taken a zero xs f i = omega arith
 most-taken a (suc k) [] f i = f i
 most-taken a (suc k) (x ∷ xs) f zero = f 0
@@ -97,7 +97,7 @@ unfolding weighted
 zeros-weigh p zero = refl
 zeros-weigh p (suc k) = omega (arith, zeros-weigh (suc p) k)
 
-nothing-total : (xs : List ℕ) → AtMost 0 xs → total xs ≡ 0
+nothing-total : (xs : List ℕ) → EachAtMost 0 xs → total xs ≡ 0
 unfolding total
 nothing-total [] f = refl
 nothing-total (x ∷ xs) f = omega (arith, f 0, nothing-total xs (λ i. f (suc i)))
@@ -124,26 +124,26 @@ total-more l j h = omega (arith, ap (λ (i : ℕ). total (take i l)) (add-one j)
 
 -- ---- rows, from the last to the first
 
-most-part : (a place k : ℕ) (xs : List ℕ) → AtMost a xs → AtMost a (part place k xs)
+most-part : (a place k : ℕ) (xs : List ℕ) → EachAtMost a xs → EachAtMost a (part place k xs)
 most-part a place k xs f =
     most-taken a k (drop place xs) (λ i. subst (λ (x : ℕ). x ≤ a) (sym (getD-drop place xs i 0)) (f (place + i)))
 
-most-zeros : (a k : ℕ) → AtMost a (replicate k 0)
+most-zeros : (a k : ℕ) → EachAtMost a (replicate k 0)
 most-zeros a zero i = omega arith
 most-zeros a (suc k) zero = omega arith
 most-zeros a (suc k) (suc i) = most-zeros a k i
 
 -- what the columns are once the rows from number k on are taken
-pub record Rows (block : List ℕ) (k : ℕ) (sums later : List ℕ) : Type 0 where
+pub record RowsTaken (block : List ℕ) (k : ℕ) (sums later : List ℕ) : Type 0 where
   pub sums-long : length sums ≡ columns
   pub later-long : length later ≡ columns
-  pub sums-small : AtMost (256 * (8 - k)) sums
-  pub later-small : AtMost (mostSum * (7 - k)) later
+  pub sums-small : EachAtMost (256 * (8 - k)) sums
+  pub later-small : EachAtMost (mostSum * (7 - k)) later
   pub weigh : weighted (columns * k) sums + columns * total later
       ≡ weighted (columns * k) (drop (columns * k) (take checkedSize block))
 
 -- they are as small as they may be
-pub rows-columns : {block sums later : List ℕ} {k : ℕ} → Rows block k sums later → Columns sums later
+pub rows-columns : {block sums later : List ℕ} {k : ℕ} → RowsTaken block k sums later → ColumnSums sums later
 rows-columns r =
     record {
       sums-long = r .sums-long;
@@ -153,7 +153,7 @@ rows-columns r =
     }
 
 -- before any row
-pub no-columns : Columns (replicate columns 0) (replicate columns 0)
+pub no-columns : ColumnSums (replicate columns 0) (replicate columns 0)
 no-columns =
     record {
       sums-long = refl;
@@ -162,13 +162,13 @@ no-columns =
       later-small = most-zeros mostLater columns;
     }
 
-module _ (block : List ℕ) (bytes : AtMost 255 block) (long : checkedSize ≤ length block) where
+module _ (block : List ℕ) (bytes : EachAtMost 255 block) (long : checkedSize ≤ length block) where
   -- no row yet
   abbrev none : List ℕ
   none = replicate columns 0
 
   -- the last one, which ends with the last byte that is checked
-  pub rows-first : Rows block 7 (added none (part 448 62 block)) (added none (take (length (part 448 62 block)) none))
+  pub rows-first : RowsTaken block 7 (addedUp none (part 448 62 block)) (addedUp none (take (length (part 448 62 block)) none))
   rows-first =
       let last = part 448 62 block in
       let size = part-length 448 62 block (omega arith) in
@@ -192,14 +192,14 @@ module _ (block : List ℕ) (bytes : AtMost 255 block) (long : checkedSize ≤ l
       }
 
   -- one before those taken
-  module _ (k next : ℕ) (e : next ≡ k + 1) (few : next ≤ 7) (sums later : List ℕ) (r : Rows block next sums later) where
+  module _ (k next : ℕ) (e : next ≡ k + 1) (few : next ≤ 7) (sums later : List ℕ) (r : RowsTaken block next sums later) where
     abbrev row : List ℕ
     row = part (columns * k) columns block
 
     row-long : length row ≡ columns
     row-long = part-length (columns * k) columns block (omega arith)
 
-    row-bytes : AtMost 255 row
+    row-bytes : EachAtMost 255 row
     row-bytes = most-part 255 (columns * k) columns block bytes
 
     -- the most that a column has so far
@@ -229,7 +229,7 @@ module _ (block : List ℕ) (bytes : AtMost 255 block) (long : checkedSize ≤ l
         (ap (take columns) (drop-take (columns * k) checkedSize block) ∙ whole)
         (drop-drop columns (columns * k) checked ∙ ap (λ (i : ℕ). drop i checked) to)
 
-    pub rows-more : Rows block k (added sums row) (added later (take (length row) sums))
+    pub rows-more : RowsTaken block k (addedUp sums row) (addedUp later (take (length row) sums))
     rows-more =
         record {
           sums-long = added-length sums row ∙ r .sums-long;
@@ -240,7 +240,7 @@ module _ (block : List ℕ) (bytes : AtMost 255 block) (long : checkedSize ≤ l
               omega (
                 arith,
                 weighted-added (columns * k) sums row (omega (arith, row-long, r .sums-long)),
-                ap (λ (l : List ℕ). total (added later l)) all-sums,
+                ap (λ (l : List ℕ). total (addedUp later l)) all-sums,
                 total-added later sums (omega (arith, r .sums-long, r .later-long)),
                 weighted-on columns (columns * k) sums,
                 ap (λ (i : ℕ). weighted i sums) to,

@@ -9,13 +9,13 @@ abbrev pub columns : ℕ
 columns = 64
 
 -- numbers with others added, as many as there are of these
-unfoldable pub added : List ℕ → List ℕ → List ℕ
-added [] more = []
-added (x ∷ xs) [] = x ∷ xs
-added (x ∷ xs) (y ∷ ys) = (x + y) ∷ added xs ys
+unfoldable pub addedUp : List ℕ → List ℕ → List ℕ
+addedUp [] more = []
+addedUp (x ∷ xs) [] = x ∷ xs
+addedUp (x ∷ xs) (y ∷ ys) = (x + y) ∷ addedUp xs ys
 
-abbrev pub AtMost : ℕ → List ℕ → Type 0
-AtMost most xs = (i : ℕ) → getD xs i 0 ≤ most
+abbrev pub EachAtMost : ℕ → List ℕ → Type 0
+EachAtMost most xs = (i : ℕ) → getD xs i 0 ≤ most
 
 -- more than eight rows make of one column: eight bytes, and each of them once for each of seven rows
 abbrev pub mostSum : ℕ
@@ -25,11 +25,11 @@ abbrev pub mostLater : ℕ
 mostLater = 16384
 
 -- the columns of so many rows or fewer
-pub record Columns (sums later : List ℕ) : Type 0 where
+pub record ColumnSums (sums later : List ℕ) : Type 0 where
   pub sums-long : length sums ≡ columns
   pub later-long : length later ≡ columns
-  pub sums-small : AtMost mostSum sums
-  pub later-small : AtMost mostLater later
+  pub sums-small : EachAtMost mostSum sums
+  pub later-small : EachAtMost mostLater later
 
 -- the most that one of them adds to the check's total
 abbrev pub columnWeight : ℕ

@@ -6,14 +6,14 @@ ghost use Prim.Native.Nat.{_+_, _*_, _≤_, _<_};
 ghost use lib.ListN.{length, take};
 ghost use Rattle.integer.specs.Words.{total};
 ghost use Rattle.dstree.specs.Sheet.{checkedSize, weighted, checkOf};
-ghost use Rattle.sheet.specs.Columns.{columns, added, Columns, mostSum, mostLater, columnWeight};
+ghost use Rattle.sheet.specs.Columns.{columns, addedUp, ColumnSums, mostSum, mostLater, columnWeight};
 
 // One row before those taken so far. `sums` has the total of each column; `later` has every byte once for each row before its own that is
 // taken too.
 fn add_row(row: &[u8], sums: &mut [u16], later: &mut [u16])
-    requires { ⌜ Columns (now sums) (now later) × (length (now row) ≤ columns) ⌝ }
-    ensures { λ _. ⌜ (now (sums .exit) ≡ added (now (sums .entry)) (now (row .entry)))
-        × (now (later .exit) ≡ added (now (later .entry)) (take (length (now (row .entry))) (now (sums .entry)))) ⌝ }
+    requires { ⌜ ColumnSums (now sums) (now later) × (length (now row) ≤ columns) ⌝ }
+    ensures { λ _. ⌜ (now (sums .exit) ≡ addedUp (now (sums .entry)) (now (row .entry)))
+        × (now (later .exit) ≡ addedUp (now (later .entry)) (take (length (now (row .entry))) (now (sums .entry)))) ⌝ }
 {
     let mut j = 0;
     while j < row.len() {
@@ -32,7 +32,7 @@ fn weight(column: usize, sum: u16, later: u16) -> u32
 }
 
 fn weigh(sums: &[u16], later: &[u16]) -> u32
-    requires { ⌜ Columns (now sums) (now later) ⌝ }
+    requires { ⌜ ColumnSums (now sums) (now later) ⌝ }
     ensures { λ r. ⌜ r ≡ weighted 0 (now (sums .entry)) + columns * total (now (later .entry)) ⌝ }
 {
     let mut total: u32 = 0;

@@ -10,7 +10,7 @@ use borrow.Author.Tests.{eq-eqb, ne-eqb}
 use Rattle.integer.specs.Words.{same}
 use Rattle.dstree.specs.Sheet.{blockSize, part, numberIn, letters, measuresIn, countIn}
 use Rattle.sheet_judging.specs.Blocks.{blockAt}
-use Rattle.sheet_judging.specs.Heads.{Says}
+use Rattle.sheet_judging.specs.HeadBlock.{HeadSays}
 use Rattle.dstree.proofs.SheetPieces.{part-part, part-cons}
 
 -- ---- letters
@@ -55,7 +55,7 @@ module _ (bytes : List ℕ) where
   field place h = ap numberIn (first-part place 2 h)
 
   pub says : (n capacity leafSize count : ℕ) → n ≡ numberIn (part 8 2 bytes) → capacity ≡ numberIn (part 10 2 bytes)
-      → leafSize ≡ numberIn (part 12 2 bytes) → count ≡ numberIn (part 14 2 bytes) → Says (blockAt bytes 0) n capacity leafSize count
+      → leafSize ≡ numberIn (part 12 2 bytes) → count ≡ numberIn (part 14 2 bytes) → HeadSays (blockAt bytes 0) n capacity leafSize count
   unfolding measuresIn countIn
   says n capacity leafSize count a b c d = record {
     measures-are = rw (field 8 (omega arith), field 10 (omega arith), field 12 (omega arith), a, b, c);

@@ -11,7 +11,7 @@ use Rattle.dstree.specs.Sheet.{blockSize, carriedSize, part, narrow, sampleSize
 use Rattle.dstree.proofs.SheetPieces.{drop-part}
 use Rattle.dstree.proofs.SheetFormat.{narrow-sound}
 use Rattle.sheet_judging.specs.Blocks.{blockCount, InBlocks, laterBlocks}
-use Rattle.sheet_judging.specs.Traces.{placeOf}
+use Rattle.sheet_judging.specs.Traces.{samplePlace}
 use Rattle.sheet_judging.proofs.Places.{no-block}
 use Rattle.sheet_judging.proofs.Carried.{carriedFrom, carriedAt, carried-on}
 
@@ -39,7 +39,7 @@ module _ (bytes : List ℕ) (whole : InBlocks bytes) (samples : ℕ) where
     abbrev at : ℕ → List ℕ
     at = carriedAt (sampleSize narrow) (narrow-sound .room) bytes whole
 
-    pub left-last : left ≡ part (placeOf last used) (carriedSize - narrow .sampleBytes * used) bytes
+    pub left-last : left ≡ part (samplePlace last used) (carriedSize - narrow .sampleBytes * used) bytes
     unfolding flatten sampleBytesIn
     left-last =
         let whole-blocks : samples * narrow .sampleBytes ≡ (last - 1) * sampleSize narrow + narrow .sampleBytes * used = omega (arith, n .above) in

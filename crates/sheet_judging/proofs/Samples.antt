@@ -11,16 +11,16 @@ use Rattle.integer.proofs.Tests.{test-true}
 use Rattle.integer.proofs.Lists.{all-more, all-parts}
 use Rattle.dstree.specs.Measures.{inRange, sampleLimit}
 use Rattle.dstree.specs.Refusals.{firstOf}
-use Rattle.dstree.specs.Sheet.{blockSize, narrow, sampleSize, part, blocksIn, measuresIn, sampleBytesIn, tracesIn}
+use Rattle.dstree.specs.Sheet.{blockSize, narrow, sampleSize, part, blocksIn, measuresIn, sampleBytesIn, tracesInBlocks}
 use Rattle.dstree.specs.Sheet.{sampleBlocksNeeded, tornConditions, badConditions, sheetConditions, conditionsAs}
 use Rattle.dstree.proofs.Conditions.{NoneOf, none-of}
 use Rattle.dstree.proofs.SheetPieces.{pieces-length, drop-part}
 use Rattle.dstree.proofs.SheetFormat.{narrow-sound, needed-room}
-use Rattle.dstree.proofs.SheetRead.{Good, none-good}
+use Rattle.dstree.proofs.SheetRead.{GoodSheet, none-good}
 use Rattle.tables.specs.Judge.{InRange}
 use Rattle.tables.proofs.Range.{in-range}
 use Rattle.sheet_judging.specs.Blocks.{blockCount, InBlocks, blockAt, laterBlocks}
-use Rattle.sheet_judging.specs.Traces.{sizeOf, countOf, tracesOf, IsAt, placeOf, samplesFrom}
+use Rattle.sheet_judging.specs.Traces.{sizeOf, countOf, sheetTraces, IsAt, samplePlace, samplesFrom}
 use Rattle.sheet.specs.Codes.{samplesIn}
 use Rattle.sheet.proofs.SamplesIn.{samples-add, samples-first, trace-at}
 use Rattle.sheet_judging.proofs.Places.{blocks-are}
@@ -31,11 +31,11 @@ width = narrow .sampleBytes
 
 -- ---- a sheet that is not refused
 
-pub record Fine (bytes : List ℕ) : Type 0 where
+pub record SoundSheet (bytes : List ℕ) : Type 0 where
   pub whole : InBlocks bytes
-  pub good : Good narrow (blockAt bytes 0) (laterBlocks bytes 1)
+  pub good : GoodSheet narrow (blockAt bytes 0) (laterBlocks bytes 1)
 
-none-fine : (bytes : List ℕ) → NoneOf (sheetConditions bytes) → Fine bytes
+none-fine : (bytes : List ℕ) → NoneOf (sheetConditions bytes) → SoundSheet bytes
 unfolding conditionsAs
 none-fine bytes (all-more l rest) =
     let bad : NoneOf (badConditions narrow (blocksIn bytes)) = all-parts (tornConditions narrow 0 (blocksIn bytes)) rest .1 in
@@ -45,11 +45,11 @@ none-fine bytes (all-more l rest) =
           (subst (λ (bs : List (List ℕ)). NoneOf (badConditions narrow bs)) (blocks-are bytes l) bad);
     }
 
-pub fine : (bytes : List ℕ) → firstOf (sheetConditions bytes) ≡ none → Fine bytes
+pub fine : (bytes : List ℕ) → firstOf (sheetConditions bytes) ≡ none → SoundSheet bytes
 fine bytes e = none-fine bytes (none-of (sheetConditions bytes) e)
 
 -- the sizes that such a sheet says
-module _ (bytes : List ℕ) (f : Fine bytes) where
+module _ (bytes : List ℕ) (f : SoundSheet bytes) where
   pub range : InRange (measuresIn (blockAt bytes 0))
   range = in-range (measuresIn (blockAt bytes 0)) (test-true (inRange (measuresIn (blockAt bytes 0))) (f .good .measured))
 
@@ -77,8 +77,8 @@ module _ (bytes : List ℕ) where
 
   -- a trace is the n samples from n times its number on
   pub trace-is : (number : ℕ) → number < countOf bytes
-      → getD (tracesOf bytes) number [] ≡ samplesFrom bytes (number * sizeOf bytes) (sizeOf bytes)
-  unfolding tracesIn
+      → getD (sheetTraces bytes) number [] ≡ samplesFrom bytes (number * sizeOf bytes) (sizeOf bytes)
+  unfolding tracesInBlocks
   trace-is number h =
       let all : ℕ = countOf bytes * sizeOf bytes in
       trace-at (sizeOf bytes) (countOf bytes) all number taken h (le-refl all)
@@ -98,7 +98,7 @@ module _ (bytes : List ℕ) where
 
     module _ (k : ℕ) (room : used + k ≤ narrow .samplesPerBlock) where
       -- where their bytes stand
-      bytes-at : part (i * width) (k * width) taken ≡ part (placeOf number used) (k * width) bytes
+      bytes-at : part (i * width) (k * width) taken ≡ part (samplePlace number used) (k * width) bytes
       unfolding sampleBytesIn
       bytes-at =
           let u : ℕ = width * used in
@@ -116,8 +116,8 @@ module _ (bytes : List ℕ) where
           ∙ ap (λ (j : ℕ). take (k * width) (drop u (here j) ++ from (suc j))) last
           ∙ take-append-le (k * width) (drop u (here number)) (from (suc number)) long
           ∙ ap (take (k * width)) (drop-part u (number * blockSize + 4) size bytes)
-          ∙ take-take (k * width) (size - u) (drop (placeOf number used) bytes) (omega (arith, room))
+          ∙ take-take (k * width) (size - u) (drop (samplePlace number used) bytes) (omega (arith, room))
 
       -- a stretch of samples, by the bytes that stand there
-      pub samples-at : samplesIn k (part (placeOf number used) (k * width) bytes) ≡ samplesFrom bytes i k
+      pub samples-at : samplesIn k (part (samplePlace number used) (k * width) bytes) ≡ samplesFrom bytes i k
       samples-at = ap (samplesIn k) (sym bytes-at) ∙ sym (samples-first k (drop (i * width) taken))

@@ -1,3 +1,3 @@
 pub mod Blocks
-pub mod Heads
+pub mod HeadBlock
 pub mod Traces

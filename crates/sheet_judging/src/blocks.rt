@@ -12,7 +12,7 @@ ghost use Rattle.dstree.specs.Refusals.{firstOf};
 ghost use Rattle.dstree.specs.Sheet.{blockSize, mostBlocks, narrow, kindOf, isTorn, blocksIn, tornConditions};
 ghost use Rattle.tables.specs.Answers.{foundBy};
 ghost use Rattle.sheet_judging.specs.Blocks.{InBlocks};
-ghost use Rattle.sheet_judging.specs.Traces.{IsAt, placeOf};
+ghost use Rattle.sheet_judging.specs.Traces.{IsAt, samplePlace};
 
 // The number of the block that is read next, and how many of its samples are read already.
 pub struct Cursor {
@@ -49,7 +49,7 @@ impl Cursor {
     // The first byte of the sample that is read next.
     pub fn place(self) -> usize
         requires { ⌜ (self .number ≤ mostBlocks) × (self .used < narrow .samplesPerBlock) ⌝ }
-        ensures { λ r. ⌜ r ≡ placeOf (self .number) (self .used) ⌝ }
+        ensures { λ r. ⌜ r ≡ samplePlace (self .number) (self .used) ⌝ }
     {
         self.start() + 4 + 2 * self.used
     }

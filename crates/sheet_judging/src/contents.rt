@@ -14,7 +14,7 @@ ghost use Rattle.dstree.specs.Refusals.{firstOf};
 ghost use Rattle.dstree.specs.Sheet.{part, blockSize, narrow, letters, blocksIn, badConditions};
 ghost use Rattle.tables.specs.Answers.{foundBy};
 ghost use Rattle.sheet_judging.specs.Blocks.{InBlocks, blockAt};
-ghost use Rattle.sheet_judging.specs.Heads.{Says};
+ghost use Rattle.sheet_judging.specs.HeadBlock.{HeadSays};
 
 // Bytes 4 to 7 are the letters.
 fn letters_fit(sheet: &[u8]) -> bool
@@ -41,7 +41,7 @@ pub struct Head {
 
 pub fn head_of(sheet: &[u8]) -> Head
     requires { ⌜ blockSize ≤ length (now sheet) ⌝ }
-    ensures { λ r. ⌜ Says (blockAt (now (sheet .entry)) 0) (r .n) (r .capacity) (r .leaf) (r .count) ⌝ }
+    ensures { λ r. ⌜ HeadSays (blockAt (now (sheet .entry)) 0) (r .n) (r .capacity) (r .leaf) (r .count) ⌝ }
 {
     Head {
         n: two_bytes(sheet, 8),

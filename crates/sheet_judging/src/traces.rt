@@ -10,14 +10,14 @@ ghost use lib.ListN.{length, getD};
 ghost use Rattle.dstree.specs.Refusals.{firstOf};
 ghost use Rattle.dstree.specs.Sheet.{narrow, sheetConditions};
 ghost use Rattle.sheet_judging.specs.Blocks.{InBlocks, blockCount};
-ghost use Rattle.sheet_judging.specs.Traces.{sizeOf, countOf, tracesOf, numberAt, IsAt, samplesFrom};
+ghost use Rattle.sheet_judging.specs.Traces.{sizeOf, countOf, sheetTraces, sampleNumber, IsAt, samplesFrom};
 
 // As many samples as there are places, from the cursor on; and the cursor behind them. They are read by stretches, each in one block.
 pub fn read_samples(sheet: &[u8], from: Cursor, places: &mut [i16]) -> Cursor
-    requires { ⌜ InBlocks (now sheet) × IsAt (from .number) (from .used) (numberAt (from .number) (from .used))
-        × (numberAt (from .number) (from .used) + length (now places) ≤ (blockCount (now sheet) - 1) * narrow .samplesPerBlock) ⌝ }
-    ensures { λ r. ⌜ (now (places .exit) ≡ samplesFrom (now (sheet .entry)) (numberAt (from .number) (from .used)) (length (now (places .entry))))
-        × IsAt (r .number) (r .used) (numberAt (from .number) (from .used) + length (now (places .entry))) ⌝ }
+    requires { ⌜ InBlocks (now sheet) × IsAt (from .number) (from .used) (sampleNumber (from .number) (from .used))
+        × (sampleNumber (from .number) (from .used) + length (now places) ≤ (blockCount (now sheet) - 1) * narrow .samplesPerBlock) ⌝ }
+    ensures { λ r. ⌜ (now (places .exit) ≡ samplesFrom (now (sheet .entry)) (sampleNumber (from .number) (from .used)) (length (now (places .entry))))
+        × IsAt (r .number) (r .used) (sampleNumber (from .number) (from .used) + length (now (places .entry))) ⌝ }
 {
     let n = places.len();
     let mut cursor = from;
@@ -35,7 +35,7 @@ pub fn read_samples(sheet: &[u8], from: Cursor, places: &mut [i16]) -> Cursor
 // A trace by its number, of a sheet that is not refused.
 pub fn read_trace(sheet: &[u8], number: usize, trace: &mut [i16])
     requires { ⌜ (firstOf (sheetConditions (now sheet)) ≡ none) × (number < countOf (now sheet)) × (length (now trace) ≡ sizeOf (now sheet)) ⌝ }
-    ensures { λ _. ⌜ now (trace .exit) ≡ getD (tracesOf (now (sheet .entry))) number [] ⌝ }
+    ensures { λ _. ⌜ now (trace .exit) ≡ getD (sheetTraces (now (sheet .entry))) number [] ⌝ }
 {
     let from = Cursor::at_sample(number * trace.len());
     read_samples(sheet, from, trace);

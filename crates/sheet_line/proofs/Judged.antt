@@ -22,7 +22,7 @@ use Rattle.tables.specs.declared.Verdict.the-variants as v
 use Rattle.tables.specs.Judge.{LongEnough}
 use Rattle.dstree.proofs.Conditions.{none-first, first-some, first-none, none-both}
 use Rattle.matching.specs.declared.Found.the-variants as f
-use Rattle.sheet_judging.specs.Traces.{countOf, tracesOf}
+use Rattle.sheet_judging.specs.Traces.{countOf, sheetTraces}
 use Rattle.sheet_judging.proofs.Samples.{range, fine as good}
 use Rattle.sheet_reading.proofs.Ends.{said, judged-holds}
 use Rattle.sheet_reading.proofs.Library.{traces-count}
@@ -51,7 +51,7 @@ small-line m traces count e =
 module _ (bytes : List ℕ) where
   -- "Its last trace is the query, the earlier ones the library"
   abbrev pub lastLine : ℕ → Line
-  lastLine last = lineOf (said bytes) (take last (tracesOf bytes)) (getD (tracesOf bytes) last [])
+  lastLine last = lineOf (said bytes) (take last (sheetTraces bytes)) (getD (sheetTraces bytes) last [])
 
   -- a refusal's line, or that of the last trace
   abbrev unless : Option Refusal → Line
@@ -71,7 +71,7 @@ module _ (bytes : List ℕ) where
       by (some why) e = at-some why e
       by none e =
           ap judgedLine (judged-holds bytes e)
-          ∙ (small-line (said bytes) (tracesOf bytes) (countOf bytes) (traces-count bytes)
+          ∙ (small-line (said bytes) (sheetTraces bytes) (countOf bytes) (traces-count bytes)
           ∙ ap unless (sym (first-none (sheetConditions bytes) small e)))
 
   program-line : programLine bytes ≡ unless (firstOf (programConditions bytes))

@@ -10,7 +10,7 @@ use lib.Seq.{length-take-le}
 use lib.Dec.{T}
 use Rattle.dstree.specs.Measures.{Trace, Measures, sampleLimit, isLibrary}
 use Rattle.dstree.specs.Node.{Tree}
-use Rattle.dstree.specs.Matching.{Search, Match, searched, answerOf, matchBySteps}
+use Rattle.dstree.specs.Matching.{Search, Match, searched, matchFrom, matchBySteps}
 use Rattle.dstree.specs.Refusals.{empty}
 use Rattle.dstree.specs.Program.{Line, found, refusalLine, matchLine, lineOf}
 use Rattle.dstree.proofs.Laws.{claims, node-count}
@@ -19,7 +19,7 @@ use Rattle.tables.specs.View.{treeIn, tracesIn}
 use Rattle.tables.specs.Answers.{wordOf}
 use Rattle.tables.specs.declared.Refusal.the-variants as r
 use Rattle.insertion_memory.proofs.Made.{Holds, count-is}
-use Rattle.reading.specs.Nearest.{bestOf}
+use Rattle.reading.specs.Nearest.{nearBy}
 use Rattle.reading.specs.declared.best.Best.{Best}
 use Rattle.search.specs.Searched.{seen, Ready}
 use Rattle.search.proofs.Facts.{leaves-most}
@@ -47,22 +47,22 @@ module _ (t : Tables) (m : Measures) (earlier : List Trace) (query : Trace) (h :
   }
 
   module _ (s : Search) (e : s ≡ searched (tracesIn t) (treeIn t) query) where
-    steps-line : optionLine (answerOf s (s .best)) ≡ lineOf m earlier query
+    steps-line : optionLine (matchFrom s (s .best)) ≡ lineOf m earlier query
     unfolding matchBySteps lineOf optionLine
     steps-line =
-        ap (λ (k : Search). optionLine (answerOf k (k .best))) e
+        ap (λ (k : Search). optionLine (matchFrom k (k .best))) e
         ∙ (ap₂ (λ (l : List Trace) (tree : Tree). optionLine (matchBySteps l tree query)) (h .traces-are) (h .tree-is)
         ∙ ap optionLine (claims sampleLimit m earlier library query one size .steps-give-it))
 
-  module _ (best : Best) (out traces : ℕ) (trail : List ℕ) (room : out ≤ length trail) (e : seen (bestOf best) traces (take out trail) ≡ searched (tracesIn t) (treeIn t) query) where
+  module _ (best : Best) (out traces : ℕ) (trail : List ℕ) (room : out ≤ length trail) (e : seen (nearBy best) traces (take out trail) ≡ searched (tracesIn t) (treeIn t) query) where
     pub found-line : best .found ≡ true → lineBy (f.At (best .trace) (best .distance) out traces) ≡ lineOf m earlier query
-    unfolding lineBy optionLine answerOf matchLine
+    unfolding lineBy optionLine matchFrom matchLine
     found-line p =
-        let first : found (best .trace) (best .distance) out traces ≡ optionLine (answerOf (seen (bestOf best) traces (take out trail)) (bestOf best)) = rw (p, length-take-le out trail room) in
-        first ∙ steps-line (seen (bestOf best) traces (take out trail)) e
+        let first : found (best .trace) (best .distance) out traces ≡ optionLine (matchFrom (seen (nearBy best) traces (take out trail)) (nearBy best)) = rw (p, length-take-le out trail room) in
+        first ∙ steps-line (seen (nearBy best) traces (take out trail)) e
 
     pub none-line : best .found ≡ false → lineBy (f.Refused r.Empty) ≡ lineOf m earlier query
-    unfolding lineBy optionLine answerOf wordOf
+    unfolding lineBy optionLine matchFrom wordOf
     none-line p =
-        let first : refusalLine empty ≡ optionLine (answerOf (seen (bestOf best) traces (take out trail)) (bestOf best)) = rw p in
-        first ∙ steps-line (seen (bestOf best) traces (take out trail)) e
+        let first : refusalLine empty ≡ optionLine (matchFrom (seen (nearBy best) traces (take out trail)) (nearBy best)) = rw p in
+        first ∙ steps-line (seen (nearBy best) traces (take out trail)) e

@@ -14,7 +14,7 @@ use Rattle.tables.specs.Tables.{tables}
 use Rattle.tables.specs.Judge.{Room}
 use Rattle.tables.specs.Holds.{Holds}
 use Rattle.sheet_judging.specs.Blocks.{blockAt}
-use Rattle.sheet_judging.specs.Traces.{sizeOf, countOf, tracesOf}
+use Rattle.sheet_judging.specs.Traces.{sizeOf, countOf, sheetTraces}
 use Rattle.sheet_line.specs.Conditions.{programConditions}
 
 -- the measures that the program has tables for. (What tables need does not depend on the leaf size)
@@ -31,5 +31,5 @@ pub record EarlierStored (control : List ℕ) (samples nodes : List ℤ) (links 
   pub fine : firstOf (programConditions sheet) ≡ none
   pub size : n ≡ sizeOf sheet
   pub before-last : last + 1 ≡ countOf sheet
-  pub earlier : Holds (tables control samples nodes links []) (measuresIn (blockAt sheet 0)) (take last (tracesOf sheet))
+  pub earlier : Holds (tables control samples nodes links []) (measuresIn (blockAt sheet 0)) (take last (sheetTraces sheet))
   pub work-long : workNeeded (measuresIn (blockAt sheet 0)) ≤ length work

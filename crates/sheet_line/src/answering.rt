@@ -17,7 +17,7 @@ ghost use Rattle.dstree.specs.Program.{lineOf, programLine};
 ghost use Rattle.dstree.specs.Sheet.{measuresIn};
 ghost use Rattle.tables.specs.Tables.{tables, lentOf};
 ghost use Rattle.sheet_judging.specs.Blocks.{blockAt};
-ghost use Rattle.sheet_judging.specs.Traces.{tracesOf};
+ghost use Rattle.sheet_judging.specs.Traces.{sheetTraces};
 ghost use Rattle.sheet_line.specs.Conditions.{programConditions};
 ghost use Rattle.sheet_line.specs.Lines.{lineBy};
 ghost use Rattle.sheet_line.specs.Stored.{EarlierStored, Roomy, most};
@@ -36,7 +36,7 @@ fn match_query(
 ) -> Found
     requires { ⌜ EarlierStored (now control) (now samples) (now nodes) (now links) (now work) (now sheet) (length (now query)) last
         × (recordsNeeded most ≤ length (now trail)) ⌝ }
-    ensures { λ r. ⌜ lineBy r ≡ lineOf (measuresIn (blockAt (now (sheet .entry)) 0)) (take last (tracesOf (now (sheet .entry)))) (getD (tracesOf (now (sheet .entry))) last []) ⌝ }
+    ensures { λ r. ⌜ lineBy r ≡ lineOf (measuresIn (blockAt (now (sheet .entry)) 0)) (take last (sheetTraces (now (sheet .entry)))) (getD (sheetTraces (now (sheet .entry))) last []) ⌝ }
 {
     read_trace(sheet, last, query);
     let seen = search::searching::search_all(control, samples, nodes, links, query, work, trail);
@@ -63,7 +63,7 @@ fn match_last(
     last: usize,
 ) -> Found
     requires { ⌜ EarlierStored (now control) (now samples) (now nodes) (now links) (now work) (now sheet) n last ⌝ }
-    ensures { λ r. ⌜ lineBy r ≡ lineOf (measuresIn (blockAt (now (sheet .entry)) 0)) (take last (tracesOf (now (sheet .entry)))) (getD (tracesOf (now (sheet .entry))) last []) ⌝ }
+    ensures { λ r. ⌜ lineBy r ≡ lineOf (measuresIn (blockAt (now (sheet .entry)) 0)) (take last (sheetTraces (now (sheet .entry)))) (getD (sheetTraces (now (sheet .entry))) last []) ⌝ }
 {
     let mut query = [0i16; 64];
     let mut trail = [0u16; 127];

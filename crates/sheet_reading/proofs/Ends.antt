@@ -18,13 +18,13 @@ use Rattle.dstree.proofs.Conditions.{none-first}
 use Rattle.tables.specs.Judge.{LongEnough}
 use Rattle.tables.proofs.Judged.{room-of}
 use Rattle.sheet_judging.specs.Blocks.{blockAt}
-use Rattle.sheet_judging.specs.Traces.{tracesOf}
+use Rattle.sheet_judging.specs.Traces.{sheetTraces}
 use Rattle.sheet_judging.proofs.Places.{blocks-are}
 use Rattle.sheet_judging.proofs.Samples.{fine, range}
 use Rattle.calls.specs.Outcome.{outcome}
 use Rattle.calls.specs.Effects.{loaded, loadedBy, reads, effectOf, outcomeOn}
 use Rattle.calls.proofs.Ends.{ends-refused, ends-done}
-use Rattle.sheet_reading.specs.Answered.{answerOf}
+use Rattle.sheet_reading.specs.Answered.{answerBy}
 use Rattle.sheet_reading.specs.declared.Read.the-variants as r
 
 module _ (bytes : List ℕ) where
@@ -36,7 +36,7 @@ module _ (bytes : List ℕ) where
   unfolding judgeAs judgedBy
   judged-refused why e = rw e
 
-  pub judged-holds : firstOf (sheetConditions bytes) ≡ none → judgeSheet bytes ≡ holds said (tracesOf bytes)
+  pub judged-holds : firstOf (sheetConditions bytes) ≡ none → judgeSheet bytes ≡ holds said (sheetTraces bytes)
   unfolding judgeAs judgedBy libraryIn
   judged-holds e = rw (e, blocks-are bytes (fine bytes e .whole))
 
@@ -77,15 +77,15 @@ module _ (t : Tables) (bytes : List ℕ) where
   refusals = readingConditions layout (lentOf t) (judgeSheet bytes)
 
   pub refused-answer : (why : Refusal) → firstOf refusals ≡ foundBy (v.Refused why)
-      → outcome (answerOf (r.Refused why)) t [] ≡ outcomeOn (reading bytes) t
-  unfolding answerOf outcomeOn effectOf besideOf reads
+      → outcome (answerBy (r.Refused why)) t [] ≡ outcomeOn (reading bytes) t
+  unfolding answerBy outcomeOn effectOf besideOf reads
   refused-answer why e = ends-refused t [] (reads t bytes) why e
 
-  loaded-is : firstOf (sheetConditions bytes) ≡ none → loaded t (said bytes) (tracesOf bytes) ≡ loadedBy t (judgeSheet bytes)
+  loaded-is : firstOf (sheetConditions bytes) ≡ none → loaded t (said bytes) (sheetTraces bytes) ≡ loadedBy t (judgeSheet bytes)
   unfolding loadedBy
   loaded-is sound = rw (judged-holds bytes sound) refl
 
-  pub done-answer : (after : Tables) → firstOf refusals ≡ none → after ≡ loaded t (said bytes) (tracesOf bytes)
-      → outcome (answerOf r.Done) after [] ≡ outcomeOn (reading bytes) t
-  unfolding answerOf outcomeOn effectOf besideOf reads
+  pub done-answer : (after : Tables) → firstOf refusals ≡ none → after ≡ loaded t (said bytes) (sheetTraces bytes)
+      → outcome (answerBy r.Done) after [] ≡ outcomeOn (reading bytes) t
+  unfolding answerBy outcomeOn effectOf besideOf reads
   done-answer after e p = ends-done t [] (reads t bytes) done after [] e refl (p ∙ loaded-is (sheet-fine bytes (lentOf t) e)) refl

@@ -11,7 +11,7 @@ use lib.Dec.{T}
 use Rattle.integer.proofs.Lists.{in-getD}
 use Rattle.dstree.specs.Measures.{Trace, Measures, sampleLimit, isLibrary}
 use Rattle.dstree.specs.Refusals.{firstOf}
-use Rattle.dstree.specs.Sheet.{areBytes, tracesIn, sheetConditions}
+use Rattle.dstree.specs.Sheet.{areBytes, tracesInBlocks, sheetConditions}
 use Rattle.dstree.proofs.Laws.{trace-length}
 use Rattle.dstree.proofs.RoundTrips.{is-library}
 use Rattle.dstree.proofs.SheetPieces.{pieces-length}
@@ -19,16 +19,16 @@ use Rattle.tables.specs.Tables.{Tables, tables, traceCount}
 use Rattle.insertion_memory.specs.Memory.{addedTo}
 use Rattle.insertion_memory.proofs.Made.{Holds, count-is, room, is-trace, shorter, holds-all}
 use Rattle.adding.specs.Putting.{Takes}
-use Rattle.sheet_judging.specs.Traces.{sizeOf, countOf, tracesOf}
+use Rattle.sheet_judging.specs.Traces.{sizeOf, countOf, sheetTraces}
 use Rattle.sheet_reading.proofs.Ends.{said, judged-holds}
 
-pub traces-count : (bytes : List ℕ) → length (tracesOf bytes) ≡ countOf bytes
-unfolding tracesIn
+pub traces-count : (bytes : List ℕ) → length (sheetTraces bytes) ≡ countOf bytes
+unfolding tracesInBlocks
 traces-count bytes = pieces-length (sizeOf bytes) (countOf bytes) _
 
 module _ (bytes : List ℕ) (sound : firstOf (sheetConditions bytes) ≡ none) (known : T (areBytes bytes)) where
   abbrev traces : List Trace
-  traces = tracesOf bytes
+  traces = sheetTraces bytes
 
   whole : T (isLibrary sampleLimit (said bytes) traces)
   whole = is-library bytes (said bytes) traces known (judged-holds bytes sound)

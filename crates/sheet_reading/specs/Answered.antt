@@ -5,6 +5,6 @@ use Rattle.sheet_reading.specs.declared.Read.{Read}
 use Rattle.sheet_reading.specs.declared.Read.the-variants as r
 
 -- "Opening and sheet reading answer only that they succeeded"
-unfoldable pub answerOf : Read → Answer
-answerOf r.Done = answering done
-answerOf (r.Refused why) = refusing (wordOf why)
+unfoldable pub answerBy : Read → Answer
+answerBy r.Done = answering done
+answerBy (r.Refused why) = refusing (wordOf why)

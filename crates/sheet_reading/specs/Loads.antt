@@ -10,18 +10,18 @@ use Rattle.tables.specs.Tables.{tables}
 use Rattle.tables.specs.Holds.{Holds}
 use Rattle.adding.specs.Putting.{Takes}
 use Rattle.sheet_judging.specs.Blocks.{blockCount, blockAt}
-use Rattle.sheet_judging.specs.Traces.{sizeOf, countOf, numberAt, IsAt, samplesFrom}
+use Rattle.sheet_judging.specs.Traces.{sizeOf, countOf, sampleNumber, IsAt, samplesFrom}
 
 -- tables that refuse nothing of the n samples from a place of a sheet on; the sheet is not refused, and has so many there
-pub record Next (control : List ℕ) (samples nodes : List ℤ) (links sheet : List ℕ) (n number used : ℕ) : Type 0 where
+pub record NextInSheet (control : List ℕ) (samples nodes : List ℤ) (links sheet : List ℕ) (n number used : ℕ) : Type 0 where
   pub sound : firstOf (sheetConditions sheet) ≡ none
   pub size : n ≡ sizeOf sheet
-  pub at : IsAt number used (numberAt number used)
-  pub inside : numberAt number used + n ≤ (blockCount sheet - 1) * narrow .samplesPerBlock
-  pub takes : Takes control samples nodes links (samplesFrom sheet (numberAt number used) n)
+  pub at : IsAt number used (sampleNumber number used)
+  pub inside : sampleNumber number used + n ≤ (blockCount sheet - 1) * narrow .samplesPerBlock
+  pub takes : Takes control samples nodes links (samplesFrom sheet (sampleNumber number used) n)
 
 -- tables that hold an empty library with the measures of a sheet that is not refused, which has so many traces at least
-pub record Loads (control : List ℕ) (samples nodes : List ℤ) (links sheet : List ℕ) (n count : ℕ) : Type 0 where
+pub record LoadsSheet (control : List ℕ) (samples nodes : List ℤ) (links sheet : List ℕ) (n count : ℕ) : Type 0 where
   pub sound : firstOf (sheetConditions sheet) ≡ none
   pub size : n ≡ sizeOf sheet
   pub counted : count ≤ countOf sheet

@@ -13,7 +13,7 @@ ghost use Rattle.dstree.specs.Book.{reading};
 ghost use Rattle.tables.specs.Tables.{tables};
 ghost use Rattle.calls.specs.Outcome.{outcome};
 ghost use Rattle.calls.specs.Effects.{outcomeOn};
-ghost use Rattle.sheet_reading.specs.Answered.{answerOf};
+ghost use Rattle.sheet_reading.specs.Answered.{answerBy};
 
 // That the tables hold the sheet's library, or a refusal.
 pub enum Read {
@@ -34,7 +34,7 @@ pub fn read_sheet(
     work: &mut [u64],
     sheet: &[u8],
 ) -> Read
-    ensures { λ r. ⌜ outcome (answerOf r)
+    ensures { λ r. ⌜ outcome (answerBy r)
         (tables (now (control .exit)) (now (samples .exit)) (now (nodes .exit)) (now (links .exit)) (now (work .exit)))
         []
         ≡ outcomeOn (reading (now (sheet .entry)))

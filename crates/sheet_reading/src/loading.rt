@@ -9,8 +9,8 @@ ghost use Prim.Native.Nat.{ℕ, _+_};
 ghost use lib.ListN.{length, take};
 ghost use Rattle.tables.specs.Tables.{tables};
 ghost use Rattle.insertion_memory.specs.Memory.{addedTo};
-ghost use Rattle.sheet_judging.specs.Traces.{tracesOf, numberAt, IsAt, samplesFrom};
-ghost use Rattle.sheet_reading.specs.Loads.{Next, Loads};
+ghost use Rattle.sheet_judging.specs.Traces.{sheetTraces, sampleNumber, IsAt, samplesFrom};
+ghost use Rattle.sheet_reading.specs.Loads.{NextInSheet, LoadsSheet};
 
 // The trace that the cursor is at, into tables that refuse nothing of it; and the cursor behind it. `trace` is a place for its samples.
 fn put_next(
@@ -22,11 +22,12 @@ fn put_next(
     from: Cursor,
     trace: &mut [i16],
 ) -> Cursor
-    requires { ⌜ Next (now control) (now samples) (now nodes) (now links) (now sheet) (length (now trace)) (from .number) (from .used) ⌝ }
+    requires { ⌜ NextInSheet (now control) (now samples) (now nodes) (now links) (now sheet) (length (now trace)) (from .number)
+        (from .used) ⌝ }
     ensures { λ r. ⌜ ((work : List ℕ) → tables (now (control .exit)) (now (samples .exit)) (now (nodes .exit)) (now (links .exit)) work
         ≡ addedTo (tables (now (control .entry)) (now (samples .entry)) (now (nodes .entry)) (now (links .entry)) work)
-        (samplesFrom (now (sheet .entry)) (numberAt (from .number) (from .used)) (length (now (trace .entry)))))
-        × IsAt (r .number) (r .used) (numberAt (from .number) (from .used) + length (now (trace .entry))) ⌝ }
+        (samplesFrom (now (sheet .entry)) (sampleNumber (from .number) (from .used)) (length (now (trace .entry)))))
+        × IsAt (r .number) (r .used) (sampleNumber (from .number) (from .used) + length (now (trace .entry))) ⌝ }
 {
     let behind = read_samples(sheet, from, trace);
     put(control, samples, nodes, links, trace);
@@ -43,11 +44,11 @@ fn put_one(
     n: usize,
     from: Cursor,
 ) -> Cursor
-    requires { ⌜ Next (now control) (now samples) (now nodes) (now links) (now sheet) n (from .number) (from .used) ⌝ }
+    requires { ⌜ NextInSheet (now control) (now samples) (now nodes) (now links) (now sheet) n (from .number) (from .used) ⌝ }
     ensures { λ r. ⌜ ((work : List ℕ) → tables (now (control .exit)) (now (samples .exit)) (now (nodes .exit)) (now (links .exit)) work
         ≡ addedTo (tables (now (control .entry)) (now (samples .entry)) (now (nodes .entry)) (now (links .entry)) work)
-        (samplesFrom (now (sheet .entry)) (numberAt (from .number) (from .used)) n))
-        × IsAt (r .number) (r .used) (numberAt (from .number) (from .used) + n) ⌝ }
+        (samplesFrom (now (sheet .entry)) (sampleNumber (from .number) (from .used)) n))
+        × IsAt (r .number) (r .used) (sampleNumber (from .number) (from .used) + n) ⌝ }
 {
     let mut trace = [0i16; 256];
     put_next(control, samples, nodes, links, sheet, from, &mut trace[..n])
@@ -63,10 +64,10 @@ pub fn load(
     n: usize,
     count: usize,
 )
-    requires { ⌜ Loads (now control) (now samples) (now nodes) (now links) (now sheet) n count ⌝ }
+    requires { ⌜ LoadsSheet (now control) (now samples) (now nodes) (now links) (now sheet) n count ⌝ }
     ensures { λ _. ⌜ ((work : List ℕ) → tables (now (control .exit)) (now (samples .exit)) (now (nodes .exit)) (now (links .exit)) work
         ≡ foldl addedTo (tables (now (control .entry)) (now (samples .entry)) (now (nodes .entry)) (now (links .entry)) work)
-        (take count (tracesOf (now (sheet .entry))))) ⌝ }
+        (take count (sheetTraces (now (sheet .entry))))) ⌝ }
 {
     let mut cursor = Cursor::first().next();
     let mut number = 0;

@@ -12,7 +12,7 @@ use Rattle.dstree.specs.Figures.{run}
 use Rattle.dstree.specs.Adding.{Split, byEither, halves, cutAt, candidatesFrom, best}
 use Rattle.dstree.specs.Formed.{Rises, rises-more}
 use Rattle.tables.specs.Runs.{Inside}
-use Rattle.split_choice.specs.Choosing.{nothing, chosenBy, tried, Sound}
+use Rattle.split_choice.specs.Choosing.{nothing, chosenBy, tried, ChoiceSound}
 use Rattle.split_choice.specs.declared.choice.Choice.{Choice}
 use Rattle.split_choice.proofs.Cuts.{rise-in, rise-cut}
 use Rattle.split_choice.proofs.Tried.{all-tried, segment-tried}
@@ -21,7 +21,7 @@ module _ (n : ℕ) (stored : List Trace) (all numbers : List ℕ) where
   -- the segments from sample `first` on are left, with the right ends `rest`
   pub record Going (found : Choice) (first : ℕ) (rest : List ℕ) : Type 0 where
     pub from-1 : 1 ≤ first
-    pub sound : Sound n stored all numbers found
+    pub sound : ChoiceSound n stored all numbers found
     -- what is found, and what the rest finds, is the best of all
     pub comes : tried stored all numbers (chosenBy stored all numbers found) (candidatesFrom all first rest) ≡ best stored all numbers
     pub rise : Rises n first rest
@@ -41,13 +41,13 @@ module _ (n : ℕ) (stored : List Trace) (all numbers : List ℕ) where
   unfolding candidatesFrom
   going-end g = g .comes
 
-  pub record Turn (first end : ℕ) (rest : List ℕ) : Type 0 where
+  pub record SegmentTurn (first end : ℕ) (rest : List ℕ) : Type 0 where
     pub inside : Inside n first end
     pub cuts : (m : ℕ) → first ≤ m → m < end → Rises n 1 (cutAt m all)
     pub on : (found next : Choice) → Going found first (end ∷ rest) → chosenBy stored all numbers next
-        ≡ tried stored all numbers (chosenBy stored all numbers found) (byEither (run first end) all ++ halves all (run first end)) → Sound n stored all numbers next → Going next (end + 1) rest
+        ≡ tried stored all numbers (chosenBy stored all numbers found) (byEither (run first end) all ++ halves all (run first end)) → ChoiceSound n stored all numbers next → Going next (end + 1) rest
 
-  turn-by : {first end : ℕ} {rest : List ℕ} → 1 ≤ first → Rises n first (end ∷ rest) → ((m : ℕ) → first ≤ m → m ≤ n → (In m (end ∷ rest) → ⊥) → Rises n 1 (cutAt m all)) → Turn first end rest
+  turn-by : {first end : ℕ} {rest : List ℕ} → 1 ≤ first → Rises n first (end ∷ rest) → ((m : ℕ) → first ≤ m → m ≤ n → (In m (end ∷ rest) → ⊥) → Rises n 1 (cutAt m all)) → SegmentTurn first end rest
   turn-by {first} {end} {rest} h (rises-more a b r) cuts = record {
     inside = record { from-1 = h; rises = a; to-n = b };
     cuts = λ m k l. cuts m k (omega arith) (λ i. outside m l (in-cons i));
@@ -69,5 +69,5 @@ module _ (n : ℕ) (stored : List Trace) (all numbers : List ℕ) where
       passed m k f (inl e) = omega arith
       passed m k f (inr i) = f i
 
-  pub turn : {found : Choice} {first end : ℕ} {rest : List ℕ} → Going found first (end ∷ rest) → Turn first end rest
+  pub turn : {found : Choice} {first end : ℕ} {rest : List ℕ} → Going found first (end ∷ rest) → SegmentTurn first end rest
   turn g = turn-by (g .from-1) (g .rise) (g .cuts)

@@ -10,39 +10,40 @@ use lib.Dec.{eqb}
 use Rattle.integer.specs.Words.{those}
 use Rattle.integer.proofs.Lists.{In, first, later, in-nil, in-cons, same-or-not}
 use Rattle.leaf_figures.specs.Sides.{marked}
-use Rattle.split_choice.specs.Marking.{codeOf, marksBy}
+use Rattle.split_choice.specs.Marking.{sideMark, marksBy}
 
 those-same : (p q : ℕ → Bool) (l : List ℕ) → ((t : ℕ) → In t l → p t ≡ q t) → those p l ≡ those q l
 unfolding those
 those-same p q [] h = refl
 those-same p q (t ∷ l) h = rw (h t first, those-same p q l (λ u i. h u (later i)))
 
-left-code : (b : Bool) → eqb (codeOf b) 1 ≡ b
+left-code : (b : Bool) → eqb (sideMark b) 1 ≡ b
 left-code true = refl
 left-code false = refl
 
-right-code : (b : Bool) → eqb (codeOf b) 2 ≡ not b
+right-code : (b : Bool) → eqb (sideMark b) 2 ≡ not b
 right-code true = refl
 right-code false = refl
 
 module _ (left : ℕ → Bool) where
   -- a mark that is right stays so
-  kept : (l marks : List ℕ) (t : ℕ) → t < length marks → getD marks t 0 ≡ codeOf (left t) → getD (marksBy left marks l) t 0 ≡ codeOf (left t)
+  kept : (l marks : List ℕ) (t : ℕ) → t < length marks → getD marks t 0 ≡ sideMark (left t) → getD (marksBy left marks l) t 0 ≡ sideMark (left t)
   kept [] marks t h e = e
-  kept (u ∷ l) marks t h e = kept l (set marks u (codeOf (left u))) t (simp length-set h) (by (same-or-not u t))
+  kept (u ∷ l) marks t h e = kept l (set marks u (sideMark (left u))) t (simp length-set h) (by (same-or-not u t))
     where
-      by : Dec (u ≡ t) → getD (set marks u (codeOf (left u))) t 0 ≡ codeOf (left t)
-      by (yes p) = subst (λ (v : ℕ). getD (set marks v (codeOf (left v))) t 0 ≡ codeOf (left t)) (sym p) (getD-set-same marks t (codeOf (left t)) 0 h)
-      by (no f) = getD-set-other marks u t (codeOf (left u)) 0 (λ p. f (sym p)) ∙ e
+      by : Dec (u ≡ t) → getD (set marks u (sideMark (left u))) t 0 ≡ sideMark (left t)
+      by (yes p) = subst (λ (v : ℕ). getD (set marks v (sideMark (left v))) t 0 ≡ sideMark (left t)) (sym p) (getD-set-same marks t (sideMark (left t)) 0 h)
+      by (no f) = getD-set-other marks u t (sideMark (left u)) 0 (λ p. f (sym p)) ∙ e
 
-  marked-at : (l marks : List ℕ) (t : ℕ) → ((u : ℕ) → In u l → u < length marks) → In t l → getD (marksBy left marks l) t 0 ≡ codeOf (left t)
+  marked-at : (l marks : List ℕ) (t : ℕ) → ((u : ℕ) → In u l → u < length marks) → In t l → getD (marksBy left marks l) t 0 ≡ sideMark (left t)
   marked-at [] marks t room i = absurd (in-nil i)
-  marked-at (u ∷ l) marks t room i = by (in-cons i) (marked-at l (set marks u (codeOf (left u))) t (λ v j. simp length-set (room v (later j))))
+  marked-at (u ∷ l) marks t room i = by (in-cons i) (marked-at l (set marks u (sideMark (left u))) t (λ v j. simp length-set (room v (later j))))
     where
-      by : (t ≡ u) ⊎ In t l → (In t l → getD (marksBy left (set marks u (codeOf (left u))) l) t 0 ≡ codeOf (left t)) → getD (marksBy left (set marks u (codeOf (left u))) l) t 0 ≡ codeOf (left t)
+      by : (t ≡ u) ⊎ In t l → (In t l → getD (marksBy left (set marks u (sideMark (left u))) l) t 0 ≡ sideMark (left t))
+          → getD (marksBy left (set marks u (sideMark (left u))) l) t 0 ≡ sideMark (left t)
       by (inl p) rec =
-          kept l (set marks u (codeOf (left u))) t (simp length-set (room t i))
-          (subst (λ (v : ℕ). getD (set marks v (codeOf (left v))) t 0 ≡ codeOf (left t)) p (getD-set-same marks t (codeOf (left t)) 0 (room t i)))
+          kept l (set marks u (sideMark (left u))) t (simp length-set (room t i))
+          (subst (λ (v : ℕ). getD (set marks v (sideMark (left v))) t 0 ≡ sideMark (left t)) p (getD-set-same marks t (sideMark (left t)) 0 (room t i)))
       by (inr j) rec = rec j
 
   module _ (l marks : List ℕ) (room : (u : ℕ) → In u l → u < length marks) where

@@ -16,7 +16,7 @@ use Rattle.dstree.specs.Adding.{Candidate, candidates, candidatesFrom, byEither
 use Rattle.dstree.proofs.Parting.{parting}
 use Rattle.tables.specs.Runs.{figureBy}
 use Rattle.tables.specs.Runs.{testBy}
-use Rattle.split_choice.specs.Choosing.{childEnds, candidateBy, splitOn, splitOf, chosenBy, choiceOf, betterOf, betterSplit, tryOne, tried, Fit, Found, Sound}
+use Rattle.split_choice.specs.Choosing.{childEnds, candidateBy, splitByTest, splitOf, chosenBy, choiceOf, betterOf, betterSplit, tryOne, tried, TrialFits, ChoiceFound, ChoiceSound}
 use Rattle.split_choice.specs.declared.choice.Trial.{Trial}
 use Rattle.split_choice.specs.declared.choice.Choice.{Choice}
 
@@ -61,17 +61,17 @@ module _ (stored : List Trace) (all numbers : List ℕ) where
   figures c = map (figureOf (figureBy (c .«by_scatter»)) (run (c .first) (c .last))) (tracesOf stored numbers)
 
   split-is : (c : Trial) (threshold : ℤ) → threshold ≡ thresholdOf (figureBy (c .«by_scatter»)) (run (c .first) (c .last)) (tracesOf stored numbers)
-      → splitBy stored numbers (candidateBy all c) ≡ splitOn stored numbers (testBy (c .first) (c .last) (c .«by_scatter») threshold) (childEnds (c .cut) all)
+      → splitBy stored numbers (candidateBy all c) ≡ splitByTest stored numbers (testBy (c .first) (c .last) (c .«by_scatter») threshold) (childEnds (c .cut) all)
   unfolding splitBy testOf
-  split-is c threshold e = ap (λ (t : ℤ). splitOn stored numbers (testBy (c .first) (c .last) (c .«by_scatter») t) (childEnds (c .cut) all)) (sym e)
+  split-is c threshold e = ap (λ (t : ℤ). splitByTest stored numbers (testBy (c .first) (c .last) (c .«by_scatter») t) (childEnds (c .cut) all)) (sym e)
 
-  module _ (n : ℕ) (old : Choice) (sound : Sound n stored all numbers old) where
+  module _ (n : ℕ) (old : Choice) (sound : ChoiceSound n stored all numbers old) where
     -- it does not part the leaf
     pub one-whole : (c : Trial) → ltZ (leastℤ (figures c)) (greatestℤ (figures c)) ≡ false
         → chosenBy stored all numbers old ≡ tried stored all numbers (chosenBy stored all numbers old) (candidateBy all c ∷ [])
     one-whole c e = rw (parting stored numbers (candidateBy all c), e)
 
-    module _ (new : Choice) (is-new : new .found ≡ true) (good : Found n stored all numbers new) where
+    module _ (new : Choice) (is-new : new .found ≡ true) (good : ChoiceFound n stored all numbers new) where
       better-chosen : chosenBy stored all numbers (betterOf old new) ≡ betterSplit (gain stored all numbers) (chosenBy stored all numbers old) (splitOf stored all numbers new)
       better-chosen = by (old .found) refl
         where
@@ -88,23 +88,23 @@ module _ (stored : List Trace) (all numbers : List ℕ) where
           by true f = on (ltZ (old .gain) (new .gain)) f refl
           by false f = rw is-new
 
-      better-sound : Sound n stored all numbers (betterOf old new)
+      better-sound : ChoiceSound n stored all numbers (betterOf old new)
       better-sound = by (old .found)
         where
-          on : (t : Bool) → Sound n stored all numbers (if t then new else old)
+          on : (t : Bool) → ChoiceSound n stored all numbers (if t then new else old)
           on true = λ f. good
           on false = sound
 
-          by : (b : Bool) → Sound n stored all numbers (if b then (if ltZ (old .gain) (new .gain) then new else old) else new)
+          by : (b : Bool) → ChoiceSound n stored all numbers (if b then (if ltZ (old .gain) (new .gain) then new else old) else new)
           by true = on (ltZ (old .gain) (new .gain))
           by false = λ f. good
 
     -- it parts the leaf
     module _ (c : Trial) (threshold g : ℤ) (above : ltZ (leastℤ (figures c)) (greatestℤ (figures c)) ≡ true)
         (t-is : threshold ≡ thresholdOf (figureBy (c .«by_scatter»)) (run (c .first) (c .last)) (tracesOf stored numbers))
-        (g-is : g ≡ gain stored all numbers (splitOn stored numbers (testBy (c .first) (c .last) (c .«by_scatter») threshold) (childEnds (c .cut) all)))
-        (small : natAbs threshold ≤ 2 ^ 47) (fit : Fit n all (c .first) (c .last) (c .cut)) where
-      good : Found n stored all numbers (choiceOf c threshold g)
+        (g-is : g ≡ gain stored all numbers (splitByTest stored numbers (testBy (c .first) (c .last) (c .«by_scatter») threshold) (childEnds (c .cut) all)))
+        (small : natAbs threshold ≤ 2 ^ 47) (fit : TrialFits n all (c .first) (c .last) (c .cut)) where
+      good : ChoiceFound n stored all numbers (choiceOf c threshold g)
       good = record { gain-is = g-is; size = small; fit = fit }
 
       pub one-chosen : chosenBy stored all numbers (betterOf old (choiceOf c threshold g)) ≡ tried stored all numbers (chosenBy stored all numbers old) (candidateBy all c ∷ [])
@@ -112,5 +112,5 @@ module _ (stored : List Trace) (all numbers : List ℕ) where
           better-chosen (choiceOf c threshold g) refl good
           ∙ rw (parting stored numbers (candidateBy all c), above, split-is c threshold t-is)
 
-      pub one-sound : Sound n stored all numbers (betterOf old (choiceOf c threshold g))
+      pub one-sound : ChoiceSound n stored all numbers (betterOf old (choiceOf c threshold g))
       one-sound = better-sound (choiceOf c threshold g) refl good

@@ -19,7 +19,7 @@ use Rattle.dstree.specs.Formed.{Rises}
 use Rattle.tables.specs.Walk.{storedIn, numbersOf}
 use Rattle.tables.specs.Runs.{figureBy, Inside}
 use Rattle.leaf_figures.specs.Ends.{endsOf, EndsRoom}
-use Rattle.leaf_figures.specs.Rows.{Listed, Rows}
+use Rattle.leaf_figures.specs.Rows.{TracesListed, Rows}
 use Rattle.leaf_figures.specs.declared.ends.Ends.{Ends}
 use Rattle.tables.specs.Runs.{testBy}
 use Rattle.split_choice.specs.declared.choice.Trial.{Trial}
@@ -38,8 +38,8 @@ abbrev pub candidateBy : List ℕ → Trial → Candidate
 candidateBy all c = record { on = run (c .first) (c .last); figure = figureBy (c .«by_scatter»); childEnds = childEnds (c .cut) all }
 
 -- what a test makes of a leaf
-abbrev pub splitOn : List Trace → List ℕ → Test → List ℕ → Split
-splitOn stored numbers test ends = record {
+abbrev pub splitByTest : List Trace → List ℕ → Test → List ℕ → Split
+splitByTest stored numbers test ends = record {
   test = test;
   childEnds = ends;
   left = those (λ (number : ℕ). goesLeft test (getD stored number [])) numbers;
@@ -48,7 +48,7 @@ splitOn stored numbers test ends = record {
 
 -- the split of a choice that was found
 abbrev pub splitOf : List Trace → List ℕ → List ℕ → Choice → Split
-splitOf stored all numbers r = splitOn stored numbers (testBy (r .first) (r .last) (r .«by_scatter») (r .threshold)) (childEnds (r .cut) all)
+splitOf stored all numbers r = splitByTest stored numbers (testBy (r .first) (r .last) (r .«by_scatter») (r .threshold)) (childEnds (r .cut) all)
 
 -- what a choice stands for
 abbrev pub chosenBy : List Trace → List ℕ → List ℕ → Choice → Option Split
@@ -82,22 +82,22 @@ tried stored all numbers = foldl (tryOne stored all numbers)
 -- ---- what callers may rely on
 
 -- a run inside 1 to n, and children's ends that rise and have room
-pub record Fit (n : ℕ) (all : List ℕ) (first last cut : ℕ) : Type 0 where
+pub record TrialFits (n : ℕ) (all : List ℕ) (first last cut : ℕ) : Type 0 where
   pub inside : Inside n first last
   pub room : (cut ≡ 0 → ⊥) → length all < 16
   pub rise : Rises n 1 (childEnds cut all)
 
 -- a choice that was found: its gain, its run and its ends
-pub record Found (n : ℕ) (stored : List Trace) (all numbers : List ℕ) (r : Choice) : Type 0 where
+pub record ChoiceFound (n : ℕ) (stored : List Trace) (all numbers : List ℕ) (r : Choice) : Type 0 where
   pub gain-is : r .gain ≡ gain stored all numbers (splitOf stored all numbers r)
   pub size : natAbs (r .threshold) ≤ 2 * scatterMost 256
-  pub fit : Fit n all (r .first) (r .last) (r .cut)
+  pub fit : TrialFits n all (r .first) (r .last) (r .cut)
 
-abbrev pub Sound : ℕ → List Trace → List ℕ → List ℕ → Choice → Type 0
-Sound n stored all numbers r = r .found ≡ true → Found n stored all numbers r
+abbrev pub ChoiceSound : ℕ → List Trace → List ℕ → List ℕ → Choice → Type 0
+ChoiceSound n stored all numbers r = r .found ≡ true → ChoiceFound n stored all numbers r
 
-abbrev pub SoundIn : List ℤ → List ℕ → ℕ → ℕ → ℕ → Ends → Choice → Type 0
-SoundIn samples links n k head e r = Sound n (storedIn samples n k) (endsOf e) (numbersOf links k head) r
+abbrev pub ChoiceSoundIn : List ℤ → List ℕ → ℕ → ℕ → ℕ → Ends → Choice → Type 0
+ChoiceSoundIn samples links n k head e r = ChoiceSound n (storedIn samples n k) (endsOf e) (numbersOf links k head) r
 
 abbrev pub chosenIn : List ℤ → List ℕ → ℕ → ℕ → ℕ → Ends → Choice → Option Split
 chosenIn samples links n k head e r = chosenBy (storedIn samples n k) (endsOf e) (numbersOf links k head) r
@@ -107,11 +107,11 @@ chosenIn samples links n k head e r = chosenBy (storedIn samples n k) (endsOf e)
 -- what some candidates make of the best so far
 pub record After (n : ℕ) (stored : List Trace) (all numbers : List ℕ) (old : Choice) (cs : List Candidate) (r : Choice) : Type 0 where
   pub is : chosenBy stored all numbers r ≡ tried stored all numbers (chosenBy stored all numbers old) cs
-  pub sound : Sound n stored all numbers r
+  pub sound : ChoiceSound n stored all numbers r
 
 -- a leaf's numbers, its node's right ends, its spread over them, and the table of its figures
 pub record Leaf (samples : List ℤ) (n k : ℕ) (list : List ℕ) (count : ℕ) (place runs : List ℕ) (sums : List ℤ) (scatters : List ℕ) (e : Ends) (whole : ℕ) : Type 0 where
-  pub listed : Listed samples n list count
+  pub listed : TracesListed samples n list count
   pub below : (t : ℕ) → In t (take count list) → t < k
   pub rows : Rows samples n (take count list) place runs sums scatters
   pub room : EndsRoom e
@@ -120,7 +120,7 @@ pub record Leaf (samples : List ℤ) (n k : ℕ) (list : List ℕ) (count : ℕ)
   pub size : whole ≤ spreadMost
 
 -- the least and the greatest figure of some traces on a trial's run
-pub record Reached (traces : List Trace) (c : Trial) (low high : ℤ) : Type 0 where
+pub record TrialExtremes (traces : List Trace) (c : Trial) (low high : ℤ) : Type 0 where
   pub low-is : low ≡ leastℤ (map (figureOf (figureBy (c .«by_scatter»)) (run (c .first) (c .last))) traces)
   pub high-is : high ≡ greatestℤ (map (figureOf (figureBy (c .«by_scatter»)) (run (c .first) (c .last))) traces)
   pub low-size : natAbs low ≤ scatterMost 256

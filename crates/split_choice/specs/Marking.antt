@@ -5,10 +5,10 @@ use mathlib.Core.List.{List, foldl}
 use lib.ListN.{set}
 
 -- 1 left, 2 right
-abbrev pub codeOf : Bool → ℕ
-codeOf true = 1
-codeOf false = 2
+abbrev pub sideMark : Bool → ℕ
+sideMark true = 1
+sideMark false = 2
 
 -- each number marked by its side, in order
 abbrev pub marksBy : (ℕ → Bool) → List ℕ → List ℕ → List ℕ
-marksBy goesLeft marks numbers = foldl (λ (m : List ℕ) (t : ℕ). set m t (codeOf (goesLeft t))) marks numbers
+marksBy goesLeft marks numbers = foldl (λ (m : List ℕ) (t : ℕ). set m t (sideMark (goesLeft t))) marks numbers

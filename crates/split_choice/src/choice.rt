@@ -22,9 +22,9 @@ ghost use Rattle.dstree.specs.Formed.{Rises};
 ghost use Rattle.tables.specs.Walk.{storedIn, numbersOf, Stored};
 ghost use Rattle.tables.specs.Runs.{Inside};
 ghost use Rattle.leaf_figures.specs.Ends.{endsOf, EndsRoom};
-ghost use Rattle.leaf_figures.specs.Rows.{Listed, Rows};
-ghost use Rattle.split_choice.specs.Choosing.{nothing, choiceOf, betterOf, trialBy, candidateBy, childEnds, chosenBy, chosenIn, Sound, SoundIn};
-ghost use Rattle.split_choice.specs.Choosing.{After, Fit, Leaf, Reached};
+ghost use Rattle.leaf_figures.specs.Rows.{TracesListed, Rows};
+ghost use Rattle.split_choice.specs.Choosing.{nothing, choiceOf, betterOf, trialBy, candidateBy, childEnds, chosenBy, chosenIn, ChoiceSound, ChoiceSoundIn};
+ghost use Rattle.split_choice.specs.Choosing.{After, TrialFits, Leaf, TrialExtremes};
 
 // A candidate: a run, its figure, and where the children's segments are cut, 0 for nowhere. Its column in the table of figures is a guess.
 pub struct Trial {
@@ -100,9 +100,9 @@ fn try_one(
     old: Choice,
     side: &mut [u16; 4096],
 ) -> Choice
-    requires { ⌜ Leaf (now samples) n k (now list) count (now place) (now runs) (now sums) (now scatters) e whole × Fit n (endsOf e) (c .first) (c .last) (c .cut)
-        × Reached (tracesOf (storedIn (now samples) n k) (take count (now list))) c low high
-        × Sound n (storedIn (now samples) n k) (endsOf e) (take count (now list)) old × (length (now side) ≡ 4096) ⌝ }
+    requires { ⌜ Leaf (now samples) n k (now list) count (now place) (now runs) (now sums) (now scatters) e whole × TrialFits n (endsOf e) (c .first) (c .last) (c .cut)
+        × TrialExtremes (tracesOf (storedIn (now samples) n k) (take count (now list))) c low high
+        × ChoiceSound n (storedIn (now samples) n k) (endsOf e) (take count (now list)) old × (length (now side) ≡ 4096) ⌝ }
     ensures { λ r. ⌜ After n (storedIn (now (samples .entry)) n k) (endsOf e) (take count (now (list .entry))) old (candidateBy (endsOf e) c ∷ []) r ⌝ }
     ensures room { λ _. ⌜ length (now (side .exit)) ≡ 4096 ⌝ }
 {
@@ -192,11 +192,11 @@ fn try_sum(
     old: Choice,
     side: &mut [u16; 4096],
 ) -> BySum
-    requires { ⌜ Leaf (now samples) n k (now list) count (now place) (now runs) (now sums) (now scatters) e whole × Fit n (endsOf e) first last cut
-        × Sound n (storedIn (now samples) n k) (endsOf e) (take count (now list)) old × (length (now side) ≡ 4096) ⌝ }
+    requires { ⌜ Leaf (now samples) n k (now list) count (now place) (now runs) (now sums) (now scatters) e whole × TrialFits n (endsOf e) first last cut
+        × ChoiceSound n (storedIn (now samples) n k) (endsOf e) (take count (now list)) old × (length (now side) ≡ 4096) ⌝ }
     ensures { λ r. ⌜ After n (storedIn (now (samples .entry)) n k) (endsOf e) (take count (now (list .entry))) old
         (candidateBy (endsOf e) (trialBy first last cut column false) ∷ []) (r .best) ⌝ }
-    ensures scatter { λ r. ⌜ Reached (tracesOf (storedIn (now (samples .entry)) n k) (take count (now (list .entry))))
+    ensures scatter { λ r. ⌜ TrialExtremes (tracesOf (storedIn (now (samples .entry)) n k) (take count (now (list .entry))))
         (trialBy first last cut column true) (r .low) (r .high) ⌝ }
     ensures room { λ _. ⌜ length (now (side .exit)) ≡ 4096 ⌝ }
 {
@@ -259,8 +259,8 @@ fn try_both(
     old: Choice,
     side: &mut [u16; 4096],
 ) -> Choice
-    requires { ⌜ Leaf (now samples) n k (now list) count (now place) (now runs) (now sums) (now scatters) e whole × Fit n (endsOf e) first last cut
-        × Sound n (storedIn (now samples) n k) (endsOf e) (take count (now list)) old × (length (now side) ≡ 4096) ⌝ }
+    requires { ⌜ Leaf (now samples) n k (now list) count (now place) (now runs) (now sums) (now scatters) e whole × TrialFits n (endsOf e) first last cut
+        × ChoiceSound n (storedIn (now samples) n k) (endsOf e) (take count (now list)) old × (length (now side) ≡ 4096) ⌝ }
     ensures { λ r. ⌜ After n (storedIn (now (samples .entry)) n k) (endsOf e) (take count (now (list .entry))) old (byEither (run first last) (childEnds cut (endsOf e))) r ⌝ }
     ensures room { λ _. ⌜ length (now (side .exit)) ≡ 4096 ⌝ }
 {
@@ -326,7 +326,7 @@ fn try_halves(
 ) -> Choice
     requires { ⌜ Leaf (now samples) n k (now list) count (now place) (now runs) (now sums) (now scatters) e whole × Inside n first last
         × ((m : ℕ) → first ≤ m → m < last → Rises n 1 (cutAt m (endsOf e))) × (i < 16) × (first < last) × (e .count < 16)
-        × Sound n (storedIn (now samples) n k) (endsOf e) (take count (now list)) old × (length (now side) ≡ 4096) ⌝ }
+        × ChoiceSound n (storedIn (now samples) n k) (endsOf e) (take count (now list)) old × (length (now side) ≡ 4096) ⌝ }
     ensures { λ r. ⌜ After n (storedIn (now (samples .entry)) n k) (endsOf e) (take count (now (list .entry))) old (halves (endsOf e) (run first last)) r ⌝ }
     ensures room { λ _. ⌜ length (now (side .exit)) ≡ 4096 ⌝ }
 {
@@ -395,7 +395,7 @@ fn try_segment(
 ) -> Choice
     requires { ⌜ Leaf (now samples) n k (now list) count (now place) (now runs) (now sums) (now scatters) e whole × Inside n first last
         × ((m : ℕ) → first ≤ m → m < last → Rises n 1 (cutAt m (endsOf e))) × (i < 16)
-        × Sound n (storedIn (now samples) n k) (endsOf e) (take count (now list)) old × (length (now side) ≡ 4096) ⌝ }
+        × ChoiceSound n (storedIn (now samples) n k) (endsOf e) (take count (now list)) old × (length (now side) ≡ 4096) ⌝ }
     ensures { λ r. ⌜ After n (storedIn (now (samples .entry)) n k) (endsOf e) (take count (now (list .entry))) old (byEither (run first last) (endsOf e) ++ halves (endsOf e) (run first last)) r ⌝ }
     ensures room { λ _. ⌜ length (now (side .exit)) ≡ 4096 ⌝ }
 {
@@ -458,11 +458,11 @@ fn best_along(
     scatters: &[u64],
     e: Ends,
 ) -> Choice
-    requires { ⌜ Listed (now samples) n (now list) count × ((t : ℕ) → In t (take count (now list)) → t < k)
+    requires { ⌜ TracesListed (now samples) n (now list) count × ((t : ℕ) → In t (take count (now list)) → t < k)
         × Rows (now samples) n (take count (now list)) (now place) (now runs) (now sums) (now scatters) × EndsRoom e × Rises n 1 (endsOf e) ⌝ }
     ensures { λ r. ⌜ chosenBy (storedIn (now (samples .entry)) n k) (endsOf e) (take count (now (list .entry))) r
         ≡ best (storedIn (now (samples .entry)) n k) (endsOf e) (take count (now (list .entry))) ⌝ }
-    ensures sound { λ r. ⌜ Sound n (storedIn (now (samples .entry)) n k) (endsOf e) (take count (now (list .entry))) r ⌝ }
+    ensures sound { λ r. ⌜ ChoiceSound n (storedIn (now (samples .entry)) n k) (endsOf e) (take count (now (list .entry))) r ⌝ }
 {
     let whole = spread_along(samples, n, list, count, place, runs, sums, scatters, 16, e);
     let mut side = [0u16; 4096];
@@ -506,10 +506,10 @@ fn best_kept(
     count: usize,
     e: Ends,
 ) -> Choice
-    requires { ⌜ Listed (now samples) n (now list) count × ((t : ℕ) → In t (take count (now list)) → t < k) × (k ≤ mostTraces) × EndsRoom e × Rises n 1 (endsOf e) ⌝ }
+    requires { ⌜ TracesListed (now samples) n (now list) count × ((t : ℕ) → In t (take count (now list)) → t < k) × (k ≤ mostTraces) × EndsRoom e × Rises n 1 (endsOf e) ⌝ }
     ensures { λ r. ⌜ chosenBy (storedIn (now (samples .entry)) n k) (endsOf e) (take count (now (list .entry))) r
         ≡ best (storedIn (now (samples .entry)) n k) (endsOf e) (take count (now (list .entry))) ⌝ }
-    ensures sound { λ r. ⌜ Sound n (storedIn (now (samples .entry)) n k) (endsOf e) (take count (now (list .entry))) r ⌝ }
+    ensures sound { λ r. ⌜ ChoiceSound n (storedIn (now (samples .entry)) n k) (endsOf e) (take count (now (list .entry))) r ⌝ }
 {
     let mut place = [0u16; 4096];
     let mut runs = [0usize; 96];
@@ -545,7 +545,7 @@ fn best_kept(
 pub fn choose(samples: &[i16], links: &[u16], n: usize, k: usize, head: usize, e: Ends) -> Choice
     requires { ⌜ Stored (now samples) (now links) n k head × EndsRoom e × Rises n 1 (endsOf e) ⌝ }
     ensures { λ r. ⌜ chosenIn (now (samples .entry)) (now (links .entry)) n k head e r ≡ best (storedIn (now (samples .entry)) n k) (endsOf e) (numbersOf (now (links .entry)) k head) ⌝ }
-    ensures sound { λ r. ⌜ SoundIn (now (samples .entry)) (now (links .entry)) n k head e r ⌝ }
+    ensures sound { λ r. ⌜ ChoiceSoundIn (now (samples .entry)) (now (links .entry)) n k head e r ⌝ }
 {
     let mut list = [0u16; 4096];
     let count = list_leaf(links, k, head, &mut list);

@@ -15,9 +15,9 @@ ghost use Rattle.dstree.specs.Formed.{Rises};
 ghost use Rattle.tables.specs.Walk.{storedIn};
 ghost use Rattle.tables.specs.Runs.{Inside};
 ghost use Rattle.leaf_figures.specs.Ends.{endsOf, EndsRoom};
-ghost use Rattle.leaf_figures.specs.Rows.{tracesAt, Listed, Rows};
+ghost use Rattle.leaf_figures.specs.Rows.{tracesAt, TracesListed, Rows};
 ghost use Rattle.split_choice.specs.Siding.{trialTest, sideOf};
-ghost use Rattle.split_choice.specs.Choosing.{childEnds, Fit, Leaf, splitOn};
+ghost use Rattle.split_choice.specs.Choosing.{childEnds, TrialFits, Leaf, splitByTest};
 
 // Twice the leaf's spread less both children's. It is a number with a sign: children's spreads can be the larger ones.
 pub fn gain(whole: u64, left: u64, right: u64) -> i64
@@ -55,7 +55,7 @@ fn side_spread(
     child: Ends,
     side: &mut [u16; 4096],
 ) -> u64
-    requires { ⌜ Listed (now samples) n (now list) count × Inside n (c .first) (c .last)
+    requires { ⌜ TracesListed (now samples) n (now list) count × Inside n (c .first) (c .last)
         × Rows (now samples) n (take count (now list)) (now place) (now runs) (now sums) (now scatters) × (length (now side) ≡ 4096) × EndsRoom child × Rises n 1 (endsOf child) ⌝ }
     ensures { λ r. ⌜ r ≡ spread (endsOf child) (tracesAt (now (samples .entry)) n (sideOf (now (samples .entry)) n (trialTest c threshold) left (take count (now (list .entry))))) ⌝ }
     ensures size { λ r. ⌜ r ≤ spreadMost ⌝ }
@@ -119,9 +119,10 @@ pub fn gain_of(
     threshold: i64,
     side: &mut [u16; 4096],
 ) -> i64
-    requires { ⌜ Leaf (now samples) n k (now list) count (now place) (now runs) (now sums) (now scatters) e whole × Fit n (endsOf e) (c .first) (c .last) (c .cut) × (length (now side) ≡ 4096) ⌝ }
+    requires { ⌜ Leaf (now samples) n k (now list) count (now place) (now runs) (now sums) (now scatters) e whole
+        × TrialFits n (endsOf e) (c .first) (c .last) (c .cut) × (length (now side) ≡ 4096) ⌝ }
     ensures { λ r. ⌜ r ≡ adding.gain (storedIn (now (samples .entry)) n k) (endsOf e) (take count (now (list .entry)))
-        (splitOn (storedIn (now (samples .entry)) n k) (take count (now (list .entry))) (trialTest c threshold) (childEnds (c .cut) (endsOf e))) ⌝ }
+        (splitByTest (storedIn (now (samples .entry)) n k) (take count (now (list .entry))) (trialTest c threshold) (childEnds (c .cut) (endsOf e))) ⌝ }
     ensures room { λ _. ⌜ length (now (side .exit)) ≡ 4096 ⌝ }
 {
     let child = child_ends(e, c.cut);

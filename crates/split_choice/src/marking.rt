@@ -6,9 +6,9 @@ ghost use lib.ListN.{length, getD};
 ghost use Rattle.dstree.specs.Node.{goesLeft};
 ghost use Rattle.tables.specs.View.{traceIn};
 ghost use Rattle.tables.specs.Walk.{storedIn, numbersOf, Stored};
-ghost use Rattle.tables.specs.Runs.{RunIn, Inside};
+ghost use Rattle.tables.specs.Runs.{RunOfTrace, Inside};
 ghost use Rattle.tables.specs.Runs.{testBy};
-ghost use Rattle.split_choice.specs.Marking.{codeOf, marksBy};
+ghost use Rattle.split_choice.specs.Marking.{sideMark, marksBy};
 
 // 1 if trace t goes left, and 2 if it goes right.
 pub fn side_of(
@@ -20,8 +20,8 @@ pub fn side_of(
     by_scatter: bool,
     threshold: i64,
 ) -> u8
-    requires { ⌜ RunIn (now samples) n t first last ⌝ }
-    ensures { λ r. ⌜ r ≡ codeOf (goesLeft (testBy first last «by_scatter» threshold) (traceIn (now (samples .entry)) n t)) ⌝ }
+    requires { ⌜ RunOfTrace (now samples) n t first last ⌝ }
+    ensures { λ r. ⌜ r ≡ sideMark (goesLeft (testBy first last «by_scatter» threshold) (traceIn (now (samples .entry)) n t)) ⌝ }
 {
     let trace = tables::runs::trace_at(samples, n, t);
     if tables::runs::goes_left(trace, first, last, by_scatter, threshold) {

@@ -11,9 +11,9 @@ ghost use Rattle.integer.specs.Lists.{In};
 ghost use Rattle.dstree.specs.Adding.{tracesOf, goesBy};
 ghost use Rattle.tables.specs.Walk.{storedIn};
 ghost use Rattle.tables.specs.Runs.{Inside};
-ghost use Rattle.leaf_figures.specs.Rows.{Listed, Rows};
+ghost use Rattle.leaf_figures.specs.Rows.{TracesListed, Rows};
 ghost use Rattle.split_choice.specs.Siding.{trialTest};
-ghost use Rattle.split_choice.specs.Choosing.{Reached};
+ghost use Rattle.split_choice.specs.Choosing.{TrialExtremes};
 ghost use Rattle.split_choice.specs.Parting.{lookOf};
 
 // Whether both sides were seen, and how many traces were taken: up to the one that showed the second side, or all.
@@ -37,7 +37,7 @@ fn goes_listed(
     threshold: i64,
     i: usize,
 ) -> bool
-    requires { ⌜ Listed (now samples) n (now list) count × ((t : ℕ) → In t (take count (now list)) → t < k)
+    requires { ⌜ TracesListed (now samples) n (now list) count × ((t : ℕ) → In t (take count (now list)) → t < k)
         × Rows (now samples) n (take count (now list)) (now place) (now runs) (now sums) (now scatters)
         × Inside n (c .first) (c .last) × (i < count) ⌝ }
     ensures { λ r. ⌜ r ≡ goesBy (storedIn (now (samples .entry)) n k) (trialTest c threshold) (getD (now (list .entry)) i 0) ⌝ }
@@ -76,7 +76,7 @@ pub fn look_along(
     c: Trial,
     threshold: i64,
 ) -> Look
-    requires { ⌜ Listed (now samples) n (now list) count × ((t : ℕ) → In t (take count (now list)) → t < k)
+    requires { ⌜ TracesListed (now samples) n (now list) count × ((t : ℕ) → In t (take count (now list)) → t < k)
         × Rows (now samples) n (take count (now list)) (now place) (now runs) (now sums) (now scatters)
         × Inside n (c .first) (c .last) ⌝ }
     ensures { λ r. ⌜ r ≡ lookOf (storedIn (now (samples .entry)) n k) (trialTest c threshold) (take count (now (list .entry))) ⌝ }
@@ -148,9 +148,9 @@ pub fn look_at(
     low: i64,
     high: i64,
 ) -> Look
-    requires { ⌜ Listed (now samples) n (now list) count × ((t : ℕ) → In t (take count (now list)) → t < k)
+    requires { ⌜ TracesListed (now samples) n (now list) count × ((t : ℕ) → In t (take count (now list)) → t < k)
         × Rows (now samples) n (take count (now list)) (now place) (now runs) (now sums) (now scatters)
-        × Inside n (c .first) (c .last) × Reached (tracesOf (storedIn (now samples) n k) (take count (now list))) c low high ⌝ }
+        × Inside n (c .first) (c .last) × TrialExtremes (tracesOf (storedIn (now samples) n k) (take count (now list))) c low high ⌝ }
     ensures { λ r. ⌜ r ≡ lookOf (storedIn (now (samples .entry)) n k) (trialTest c (low +ℤ high)) (take count (now (list .entry))) ⌝ }
 {
     if low < high {

@@ -12,8 +12,8 @@ ghost use Rattle.integer.specs.Words.{if_then_else_};
 ghost use Rattle.dstree.specs.Measures.{mostTraces};
 ghost use Rattle.dstree.specs.Node.{goesLeft};
 ghost use Rattle.tables.specs.View.{traceIn};
-ghost use Rattle.tables.specs.Runs.{RunIn, Inside, testBy};
-ghost use Rattle.leaf_figures.specs.Rows.{Listed, FiguresAt, Rows};
+ghost use Rattle.tables.specs.Runs.{RunOfTrace, Inside, testBy};
+ghost use Rattle.leaf_figures.specs.Rows.{TracesListed, FiguresAt, Rows};
 ghost use Rattle.split_choice.specs.Siding.{trialTest, onSide, sideOf};
 
 // Whether trace t goes left, by its figures from the table.
@@ -30,7 +30,7 @@ pub fn goes_left_at(
     by_scatter: bool,
     threshold: i64,
 ) -> bool
-    requires { ⌜ RunIn (now samples) n t first last × (column < 48 → t < length (now place))
+    requires { ⌜ RunOfTrace (now samples) n t first last × (column < 48 → t < length (now place))
         × (column < 48 → FiguresAt (traceIn (now samples) n t) first last (now sums) (now scatters) (column * 65 + getD (now place) t 0)) ⌝ }
     ensures { λ r. ⌜ r ≡ goesLeft (testBy first last «by_scatter» threshold) (traceIn (now (samples .entry)) n t) ⌝ }
 {
@@ -64,7 +64,7 @@ pub fn list_side(
     left: bool,
     side: &mut [u16; 4096],
 ) -> usize
-    requires { ⌜ Listed (now samples) n (now list) count × Inside n (c .first) (c .last)
+    requires { ⌜ TracesListed (now samples) n (now list) count × Inside n (c .first) (c .last)
         × Rows (now samples) n (take count (now list)) (now place) (now runs) (now sums) (now scatters) × (length (now side) ≡ 4096) ⌝ }
     ensures { λ r. ⌜ take r (now (side .exit)) ≡ sideOf (now (samples .entry)) n (trialTest c threshold) left (take count (now (list .entry))) ⌝ }
     ensures few { λ r. ⌜ r ≤ mostTraces ⌝ }

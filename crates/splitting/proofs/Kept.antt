@@ -26,7 +26,7 @@ use Rattle.insertion_memory.proofs.ReadBack.{kindNumber}
 use Rattle.dstree.proofs.Cuts.{parted-rises}
 use Rattle.dstree.proofs.Nodes.{nodes-most}
 use Rattle.dstree.proofs.Splits.{best-is-good}
-use Rattle.insertion_memory.proofs.Represents.{Means, m-leaf, m-inner, Low, Represents, links-rise}
+use Rattle.insertion_memory.proofs.Represents.{Means, m-leaf, m-inner, AllBelow, Represents, links-rise}
 use Rattle.insertion_memory.proofs.Splitting.{split-at}
 use Rattle.splitting.specs.Splits as needs
 use Rattle.splitting.specs.Splits.{IsLeaf, Splits}
@@ -37,7 +37,7 @@ use Rattle.splitting.proofs.Tried.{long-splits}
 
 -- ---- a leaf's first trace
 
-leaf-first : {links : List ℕ} {r : List ℤ} {kind : Kind} (k : ℕ) → smallAt r kindPlace ≡ 0 → Means links r kind → Low k (numbersIn kind) → smallAt r firstPlace < k
+leaf-first : {links : List ℕ} {r : List ℤ} {kind : Kind} (k : ℕ) → smallAt r kindPlace ≡ 0 → Means links r kind → AllBelow k (numbersIn kind) → smallAt r firstPlace < k
 unfolding numbersIn kindNumber
 leaf-first k e (m-leaf {x} q f w) low = omega (arith, f, low x first)
 leaf-first {links} {r} k e (m-inner {test} q f p s) low = by (test .figure) q

@@ -15,7 +15,7 @@ use Rattle.tables.specs.View.{smallAt, segmentsIn}
 use Rattle.tables.specs.Walk.{storedIn, numbersOf, Stored}
 use Rattle.leaf_figures.specs.Ends.{endsOf, EndsRoom}
 use Rattle.leaf_figures.specs.declared.ends.Ends.{Ends}
-use Rattle.split_choice.specs.Choosing.{Fit, splitOf}
+use Rattle.split_choice.specs.Choosing.{TrialFits, splitOf}
 use Rattle.split_choice.specs.declared.choice.Choice.{Choice}
 
 -- both sides have a trace, and there is room for two nodes more
@@ -30,7 +30,7 @@ pub record Parts (nodes : List ℤ) (links : List ℕ) (samples : List ℤ) (n k
   pub inside : at < count
   pub stored : Stored samples links n k head
   pub room : EndsRoom e
-  pub fit : Fit n (endsOf e) (c .first) (c .last) (c .cut)
+  pub fit : TrialFits n (endsOf e) (c .first) (c .last) (c .cut)
   pub threshold-size : natAbs (c .threshold) ≤ 2 * scatterMost 256
   pub parted : TwoSides nodes count (splitOf (storedIn samples n k) (endsOf e) (numbersOf links k head) c)
 

@@ -11,7 +11,7 @@ use Rattle.dstree.specs.Measures.{Measures, samplesNeeded, recordsNeeded, links
 use Rattle.dstree.specs.Book.{Lent}
 use Rattle.tables.specs.Layout.{controlFields, recordPlaces}
 use Rattle.tables.specs.Tables.{Tables, tables, lentOf, filled}
-use Rattle.tables.specs.Beginning.{firstPlaces, over, left, Begins, Within}
+use Rattle.tables.specs.Beginning.{firstPlaces, over, left, Begins, LentWithin}
 use Rattle.tables.specs.Answers.{opened}
 use Rattle.tables.specs.Judge.{Room}
 
@@ -118,7 +118,7 @@ begins-on part whole memory b c = tables-same
 
 -- ---- lengths
 
-pub begins-within : (part memory : Tables) → Begins part memory → Within (lentOf part) (lentOf memory)
+pub begins-within : (part memory : Tables) → Begins part memory → LentWithin (lentOf part) (lentOf memory)
 begins-within part memory b = record {
   control-within = begin-no-longer (part .control) (memory .control) (ap (λ (t : Tables). t .control) b);
   samples-within = begin-no-longer (part .samples) (memory .samples) (ap (λ (t : Tables). t .samples) b);
@@ -128,7 +128,7 @@ begins-within part memory b = record {
 }
 
 -- of two beginnings of a memory, the one with no table longer begins the other
-pub begins-between : (short long memory : Tables) → Begins short memory → Begins long memory → Within (lentOf short) (lentOf long) → Begins short long
+pub begins-between : (short long memory : Tables) → Begins short memory → Begins long memory → LentWithin (lentOf short) (lentOf long) → Begins short long
 begins-between short long memory b c h = tables-same
     (begin-of (short .control) (long .control) (memory .control) (ap (λ (t : Tables). t .control) b) (ap (λ (t : Tables). t .control) c) (h .control-within))
     (begin-of (short .samples) (long .samples) (memory .samples) (ap (λ (t : Tables). t .samples) b) (ap (λ (t : Tables). t .samples) c) (h .samples-within))
@@ -137,7 +137,7 @@ begins-between short long memory b c h = tables-same
     (begin-of (short .work) (long .work) (memory .work) (ap (λ (t : Tables). t .work) b) (ap (λ (t : Tables). t .work) c) (h .work-within))
 
 -- lent as many places as asked, where the memory has them
-pub first-lent : (lent : Lent) (memory : Tables) → Within lent (lentOf memory) → lentOf (firstPlaces lent memory) ≡ lent
+pub first-lent : (lent : Lent) (memory : Tables) → LentWithin lent (lentOf memory) → lentOf (firstPlaces lent memory) ≡ lent
 first-lent lent memory h = rw (
   length-take-le (lent .control) (memory .control) (h .control-within),
   length-take-le (lent .samples) (memory .samples) (h .samples-within),
@@ -147,7 +147,7 @@ first-lent lent memory h = rw (
 )
 
 -- the memory keeps its lengths
-pub left-lent : (part memory : Tables) → Within (lentOf part) (lentOf memory) → lentOf (left part memory) ≡ lentOf memory
+pub left-lent : (part memory : Tables) → LentWithin (lentOf part) (lentOf memory) → lentOf (left part memory) ≡ lentOf memory
 left-lent part memory h = rw (
   over-length (part .control) (memory .control) (h .control-within),
   over-length (part .samples) (memory .samples) (h .samples-within),

@@ -15,7 +15,7 @@ use Rattle.integer.proofs.Times.{counting-length}
 use Rattle.integer.proofs.Rows.{getD-table}
 use Rattle.tables.specs.View.{traceIn, numbersFrom}
 use Rattle.tables.specs.Walk.{storedIn, numbersOf, Rising, behindOf, Stored}
-use Rattle.tables.specs.Runs.{Inside, RunIn}
+use Rattle.tables.specs.Runs.{Inside, RunOfTrace}
 
 -- what a walk meets from t on, which goes on while it is below k
 abbrev pub metFrom : List ℕ → ℕ → ℕ → List ℕ
@@ -91,7 +91,7 @@ pub stored-at : (samples : List ℤ) (n k t : ℕ) → t < k → getD (storedIn 
 stored-at samples n k t h = let e : 0 + t ≡ t = omega arith in getD-table (traceIn samples n) k 0 t [] h ∙ ap (traceIn samples n) e
 
 -- .. lie in the table whole
-pub run-in : {samples : List ℤ} {links : List ℕ} {n k head first last : ℕ} → Stored samples links n k head → Inside n first last → (t : ℕ) → t < k → RunIn samples n t first last
+pub run-in : {samples : List ℤ} {links : List ℕ} {n k head first last : ℕ} → Stored samples links n k head → Inside n first last → (t : ℕ) → t < k → RunOfTrace samples n t first last
 run-in {samples} {links} {n} {k} s i t h =
     let room : suc t * n ≤ k * n = mul-le-mul-right n h in
     record { narrow = s .narrow; room = omega (arith, room, s .samples-room); inside = i }

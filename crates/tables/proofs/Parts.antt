@@ -9,7 +9,7 @@ use lib.Seq.{length-take-le}
 use Rattle.dstree.specs.Measures.{Trace}
 use Rattle.dstree.specs.Figures.{run, samplesOn}
 use Rattle.tables.specs.View.{traceIn}
-use Rattle.tables.specs.Runs.{RunOf, RunIn}
+use Rattle.tables.specs.Runs.{RunOf, RunOfTrace}
 
 module _ (x : Trace) {first last : ℕ} (on : RunOf (length x) first last) where
   pub part-on : take (last - (first - 1)) (drop (first - 1) x) ≡ samplesOn (run first last) x
@@ -27,6 +27,6 @@ pub trace-length : (samples : List ℤ) (n t : ℕ) → t * n + n ≤ length sam
 unfolding traceIn
 trace-length samples n t h = length-take-le n (drop (t * n) samples) (simp length-drop (omega arith))
 
-pub run-of : {samples : List ℤ} {n t first last : ℕ} → RunIn samples n t first last → RunOf (length (traceIn samples n t)) first last
+pub run-of : {samples : List ℤ} {n t first last : ℕ} → RunOfTrace samples n t first last → RunOf (length (traceIn samples n t)) first last
 run-of {samples} {n} {t} {first} {last} r =
     subst (λ (m : ℕ). RunOf m first last) (sym (trace-length samples n t (r .room))) (record { narrow = r .narrow; inside = r .inside })

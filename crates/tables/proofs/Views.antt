@@ -84,11 +84,11 @@ module _ (t : Tables) where
   -- ---- well-formed tables
 
   module _ (w : T (wellFormed t)) where
-    both : T (kindsNamed t) × T (abstract.wellFormed sampleLimit (measuresOf t) (traceCount t) (treeIn t))
+    both : T (kindsNamed t) × T (abstract.wellFormedTree sampleLimit (measuresOf t) (traceCount t) (treeIn t))
     unfolding wellFormed
-    both = and-yes (kindsNamed t) (abstract.wellFormed sampleLimit (measuresOf t) (traceCount t) (treeIn t)) w
+    both = and-yes (kindsNamed t) (abstract.wellFormedTree sampleLimit (measuresOf t) (traceCount t) (treeIn t)) w
 
-    pub tree-passes : T (abstract.wellFormed sampleLimit (measuresOf t) (traceCount t) (treeIn t))
+    pub tree-passes : T (abstract.wellFormedTree sampleLimit (measuresOf t) (traceCount t) (treeIn t))
     tree-passes = both .1
 
     -- the rules, as facts of the tree

@@ -29,7 +29,7 @@ abbrev pub Begins : Tables → Tables → Type 0
 Begins part memory = firstPlaces (lentOf part) memory ≡ part
 
 -- no table longer
-pub record Within (short long : Lent) : Type 0 where
+pub record LentWithin (short long : Lent) : Type 0 where
   pub control-within : short .control ≤ long .control
   pub samples-within : short .samples ≤ long .samples
   pub nodes-within : short .nodes ≤ long .nodes

@@ -28,7 +28,7 @@ pub record RunOf (n first last : ℕ) : Type 0 where
   pub inside : Inside n first last
 
 -- trace t of n samples is in the table whole, and the run is inside 1 to n
-pub record RunIn (samples : List ℤ) (n t first last : ℕ) : Type 0 where
+pub record RunOfTrace (samples : List ℤ) (n t first last : ℕ) : Type 0 where
   pub narrow : n ≤ 256
   pub room : t * n + n ≤ length samples
   pub inside : Inside n first last

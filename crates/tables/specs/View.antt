@@ -29,11 +29,11 @@ abbrev pub scatterIn : ℤ → ℕ
 scatterIn (pos n) = n
 scatterIn (negsuc n) = 2 ^ 63
 
-abbrev pub placeOf : List ℤ → ℕ → ℤ
-placeOf r place = getD r place (pos 0)
+abbrev pub valueAt : List ℤ → ℕ → ℤ
+valueAt r place = getD r place (pos 0)
 
 abbrev pub smallAt : List ℤ → ℕ → ℕ
-smallAt r place = smallOf (placeOf r place)
+smallAt r place = smallOf (valueAt r place)
 
 -- ---- a record as a node
 
@@ -41,17 +41,17 @@ smallAt r place = smallOf (placeOf r place)
 unfoldable pub segmentIn : List ℤ → ℕ → Segment
 segmentIn r i = record {
   end = smallAt r (segmentAt i);
-  leastSum = placeOf r (segmentAt i + 1);
-  greatestSum = placeOf r (segmentAt i + 2);
-  leastScatter = scatterIn (placeOf r (segmentAt i + 3));
-  greatestScatter = scatterIn (placeOf r (segmentAt i + 4));
+  leastSum = valueAt r (segmentAt i + 1);
+  greatestSum = valueAt r (segmentAt i + 2);
+  leastScatter = scatterIn (valueAt r (segmentAt i + 3));
+  greatestScatter = scatterIn (valueAt r (segmentAt i + 4));
 }
 
 unfoldable pub segmentsIn : List ℤ → List Segment
 segmentsIn r = map (segmentIn r) (counting (smallAt r segmentsPlace) 0)
 
 unfoldable pub testIn : List ℤ → Figure → Test
-testIn r figure = record { on = run (smallAt r runFirstPlace) (smallAt r runLastPlace); figure = figure; threshold = placeOf r thresholdPlace }
+testIn r figure = record { on = run (smallAt r runFirstPlace) (smallAt r runLastPlace); figure = figure; threshold = valueAt r thresholdPlace }
 
 -- a leaf's trace numbers: its first, then by the links. A link of 0 ends them, which no number is that a rising list goes on to. `fuel` of them at most
 unfoldable pub numbersFrom : List ℕ → ℕ → ℕ → List ℕ
@@ -92,4 +92,4 @@ kindsNamed t = every (λ j. leb (smallAt (recordOf (t .nodes) j) kindPlace) 2) (
 
 -- the other rules are of what the tables stand for. "Recorded sums and scatters are not recomputed": no sample is looked at
 unfoldable pub wellFormed : Tables → Bool
-wellFormed t = kindsNamed t && abstract.wellFormed sampleLimit (measuresOf t) (traceCount t) (treeIn t)
+wellFormed t = kindsNamed t && abstract.wellFormedTree sampleLimit (measuresOf t) (traceCount t) (treeIn t)

@@ -6,7 +6,7 @@ ghost use Prim.Native.Nat.{_+_, _*_, _≤_, _<_};
 ghost use lib.ListN.{length};
 ghost use Rattle.tables.specs.Layout.{recordPlaces};
 ghost use Rattle.tables.specs.Tables.{recordOf};
-ghost use Rattle.tables.specs.View.{smallOf, scatterIn, smallAt, placeOf};
+ghost use Rattle.tables.specs.View.{smallOf, scatterIn, smallAt, valueAt};
 
 // A field that holds a small number. What is no 16-bit number reads as 65,536, which no rule accepts.
 pub fn small(v: i64) -> usize
@@ -36,7 +36,7 @@ pub fn scatter(v: i64) -> u64
 // What a field holds.
 pub fn value_at(record: &[i64], place: usize) -> i64
     requires { ⌜ (length (now «record») ≡ recordPlaces) × (place < recordPlaces) ⌝ }
-    ensures { λ r. ⌜ r ≡ placeOf (now («record» .entry)) place ⌝ }
+    ensures { λ r. ⌜ r ≡ valueAt (now («record» .entry)) place ⌝ }
 {
     record[place]
 }

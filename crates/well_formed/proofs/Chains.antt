@@ -141,19 +141,19 @@ module _ (links : List ℕ) where
 
   -- ---- links that rise below k make lists that do
 
-  pub record Rising (k : ℕ) (l : List ℕ) : Type 0 where
+  pub record RisingBelow (k : ℕ) (l : List ℕ) : Type 0 where
     pub rise : T (rising l)
     pub low : (x : ℕ) → In x l → x < k
 
   module _ (k : ℕ) (fit : (i : ℕ) → i < k → LinkRises k i (link i)) where
-    one : (at : ℕ) → at < k → Rising k (at ∷ [])
+    one : (at : ℕ) → at < k → RisingBelow k (at ∷ [])
     one at h = record { rise = rising-one at; low = λ x i. by x (in-cons i) }
       where
         by : (x : ℕ) → (x ≡ at) ⊎ In x [] → x < k
         by x (inl p) = omega (arith, p, h)
         by x (inr i) = absurd (in-nil i)
 
-    more : (at fuel : ℕ) → at < k → at < link at → Rising k (numbersFrom links (suc fuel) (link at)) → Rising k (at ∷ numbersFrom links (suc fuel) (link at))
+    more : (at fuel : ℕ) → at < k → at < link at → RisingBelow k (numbersFrom links (suc fuel) (link at)) → RisingBelow k (at ∷ numbersFrom links (suc fuel) (link at))
     more at fuel h g r = record {
       rise =
           subst (λ (l : List ℕ). T (rising (at ∷ l))) (sym (list-is fuel (link at)))
@@ -165,15 +165,15 @@ module _ (links : List ℕ) where
         by x (inl p) = omega (arith, p, h)
         by x (inr i) = r .low x i
 
-    pub list-rises : (fuel at : ℕ) → at < k → Rising k (numbersFrom links (suc fuel) at)
+    pub list-rises : (fuel at : ℕ) → at < k → RisingBelow k (numbersFrom links (suc fuel) at)
     list-rises zero at h = by (same-or-not (link at) 0)
       where
-        by : Dec (link at ≡ 0) → Rising k (numbersFrom links 1 at)
-        by (yes e) = subst (Rising k) (sym (list-ends 0 at e)) (one at h)
-        by (no f) = subst (Rising k) (sym (list-goes 0 at f ∙ ap (λ (l : List ℕ). at ∷ l) (list-stops (link at)))) (one at h)
+        by : Dec (link at ≡ 0) → RisingBelow k (numbersFrom links 1 at)
+        by (yes e) = subst (RisingBelow k) (sym (list-ends 0 at e)) (one at h)
+        by (no f) = subst (RisingBelow k) (sym (list-goes 0 at f ∙ ap (λ (l : List ℕ). at ∷ l) (list-stops (link at)))) (one at h)
     list-rises (suc fuel) at h = by (same-or-not (link at) 0) (fit at h) (list-rises fuel (link at))
       where
-        by : Dec (link at ≡ 0) → LinkRises k at (link at) → (link at < k → Rising k (numbersFrom links (suc fuel) (link at))) → Rising k (numbersFrom links (suc (suc fuel)) at)
-        by (yes e) r ih = subst (Rising k) (sym (list-ends (suc fuel) at e)) (one at h)
+        by : Dec (link at ≡ 0) → LinkRises k at (link at) → (link at < k → RisingBelow k (numbersFrom links (suc fuel) (link at))) → RisingBelow k (numbersFrom links (suc (suc fuel)) at)
+        by (yes e) r ih = subst (RisingBelow k) (sym (list-ends (suc fuel) at e)) (one at h)
         by (no f) (inl e) ih = absurd (f e)
-        by (no f) (inr p) ih = subst (Rising k) (sym (list-goes (suc fuel) at f)) (more at fuel h (p .0) (ih (p .1)))
+        by (no f) (inr p) ih = subst (RisingBelow k) (sym (list-goes (suc fuel) at f)) (more at fuel h (p .0) (ih (p .1)))

@@ -173,13 +173,13 @@ module _ (control : List ℕ) (nodes : List ℤ) (links : List ℕ) where
   abbrev kinds : ℕ → Bool
   kinds j = leb (smallAt (recordOf nodes j) kindPlace) 2
 
-  parts : T (wellFormed t) → T (every kinds (counting m 0)) × T (abstract.wellFormed sampleLimit (measuresOf t) k tree)
+  parts : T (wellFormed t) → T (every kinds (counting m 0)) × T (abstract.wellFormedTree sampleLimit (measuresOf t) k tree)
   unfolding wellFormed kindsNamed
-  parts w = and-yes (every kinds (counting m 0)) (abstract.wellFormed sampleLimit (measuresOf t) k tree) w
+  parts w = and-yes (every kinds (counting m 0)) (abstract.wellFormedTree sampleLimit (measuresOf t) k tree) w
 
-  joined : T (every kinds (counting m 0)) → T (abstract.wellFormed sampleLimit (measuresOf t) k tree) → T (wellFormed t)
+  joined : T (every kinds (counting m 0)) → T (abstract.wellFormedTree sampleLimit (measuresOf t) k tree) → T (wellFormed t)
   unfolding wellFormed kindsNamed
-  joined a b = yes-and (every kinds (counting m 0)) (abstract.wellFormed sampleLimit (measuresOf t) k tree) a b
+  joined a b = yes-and (every kinds (counting m 0)) (abstract.wellFormedTree sampleLimit (measuresOf t) k tree) a b
 
   abbrev leavesFit : Bool
   leavesFit = every (leafFitsAt nodes links k) (counting m 0)
@@ -189,7 +189,7 @@ module _ (control : List ℕ) (nodes : List ℤ) (links : List ℕ) where
 
   -- what passes the definition passes the test
   pub shown : T (wellFormed t) → T (countsFit m k capacity && recordsFit n m nodes && allKept m nodes && childrenOnce m nodes && leavesHold m nodes k links)
-  unfolding abstract.wellFormed countsFit recordsFit allKept leavesHold treeIn
+  unfolding abstract.wellFormedTree countsFit recordsFit allKept leavesHold treeIn
   shown w =
       let p = parts w in
       let q = passed (inRange (measuresOf t)) rules (p .1) in
@@ -216,7 +216,7 @@ module _ (control : List ℕ) (nodes : List ℤ) (links : List ℕ) where
 
   -- what passes the test passes the definition
   pub meant : T (inRange (measuresOf t)) → T (countsFit m k capacity && recordsFit n m nodes && allKept m nodes && childrenOnce m nodes && leavesHold m nodes k links) → T (wellFormed t)
-  unfolding abstract.wellFormed countsFit recordsFit allKept leavesHold treeIn
+  unfolding abstract.wellFormedTree countsFit recordsFit allKept leavesHold treeIn
   meant g w =
       let p = passed (countsFit m k capacity) tests w in
       let c = passed (leb k capacity) (Bool·beq (eqb m 0) (eqb k 0) ∷ leb m (2 * k - 1) ∷ []) (p .0) in

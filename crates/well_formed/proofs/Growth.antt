@@ -13,15 +13,15 @@ use Rattle.integer.specs.Words.{counting, timesIn}
 use Rattle.integer.proofs.Lists.{same-or-not}
 use Rattle.integer.proofs.Times.{times-nil, times-same, times-other, times-append}
 use Rattle.records_fit.proofs.Limits.{clash}
-use Rattle.well_formed.specs.Marks.{Grown, Twice, Took}
+use Rattle.well_formed.specs.Marks.{MarksGrown, Twice, MarkedOrTwice}
 
 -- ---- no number, one number, more numbers
 
-pub grown-none : (marks : List ℕ) → Grown marks marks []
+pub grown-none : (marks : List ℕ) → MarksGrown marks marks []
 grown-none marks = record { size = refl; at = λ x g. omega (arith, times-nil x); single = λ h. h }
 
 module _ (marks : List ℕ) (number : ℕ) (h : number < length marks) where
-  pub grown-one : getD marks number 0 ≤ 0 → Grown marks (set marks number 1) (number ∷ [])
+  pub grown-one : getD marks number 0 ≤ 0 → MarksGrown marks (set marks number 1) (number ∷ [])
   grown-one e = record { size = length-set marks number 1; at = λ x g. by x (same-or-not x number); single = λ one x. most one x (same-or-not x number) }
     where
       by : (x : ℕ) → Dec (x ≡ number) → getD (set marks number 1) x 0 ≡ getD marks x 0 + timesIn x (number ∷ [])
@@ -37,8 +37,8 @@ module _ (marks : List ℕ) (number : ℕ) (h : number < length marks) where
   pub met-again : 0 < getD marks number 0 → Twice marks (number ∷ [])
   met-again f = record { number = number; inside = h; again = omega (arith, f, times-same number [], times-nil number) }
 
-module _ {a b : List ℕ} {xs : List ℕ} (g : Grown a b xs) where
-  pub grown-then : {c : List ℕ} {ys : List ℕ} → Grown b c ys → Grown a c (xs ++ ys)
+module _ {a b : List ℕ} {xs : List ℕ} (g : MarksGrown a b xs) where
+  pub grown-then : {c : List ℕ} {ys : List ℕ} → MarksGrown b c ys → MarksGrown a c (xs ++ ys)
   grown-then {c} {ys} k = record {
     size = k .size ∙ g .size;
     at = λ x h. omega (arith, k .at x (omega (arith, h, g .size)), g .at x h, times-append x xs ys);
@@ -95,39 +95,39 @@ module _ (f : ℕ → List ℕ) where
             omega (arith, t .again, subst (λ (y : ℕ). timesIn (t .number) (firsts j) ≤ timesIn (t .number) (firsts y)) e (times-firsts (t .number) j (m - j)));
       }
 
-  module _ {a b : List ℕ} {j : ℕ} (g : Grown a b (firsts j)) where
-    pub grown-firsts : {c : List ℕ} → Grown b c (f j) → Grown a c (firsts (j + 1))
-    grown-firsts {c} k = subst (Grown a c) (sym (firsts-more j)) (grown-then g k)
+  module _ {a b : List ℕ} {j : ℕ} (g : MarksGrown a b (firsts j)) where
+    pub grown-firsts : {c : List ℕ} → MarksGrown b c (f j) → MarksGrown a c (firsts (j + 1))
+    grown-firsts {c} k = subst (MarksGrown a c) (sym (firsts-more j)) (grown-then g k)
 
     pub again-firsts : (m : ℕ) → j < m → Twice b (f j) → Twice a (firsts m)
     again-firsts m h t = twice-firsts (j + 1) m (omega arith) (subst (Twice a) (sym (firsts-more j)) (twice-then g t))
 
 -- ---- two numbers, one after the other
 
-pub took-none : (marks : List ℕ) → Took marks marks [] true
+pub took-none : (marks : List ℕ) → MarkedOrTwice marks marks [] true
 took-none marks = record { new = λ _. grown-none marks; old = λ e. clash e }
 
-module _ {a b : List ℕ} {x : ℕ} (y : ℕ) {r : Bool} (t : Took a b (x ∷ []) r) where
-  pub took-first : r ≡ false → {after : List ℕ} → Took a after (x ∷ (y ∷ [])) false
+module _ {a b : List ℕ} {x : ℕ} (y : ℕ) {r : Bool} (t : MarkedOrTwice a b (x ∷ []) r) where
+  pub took-first : r ≡ false → {after : List ℕ} → MarkedOrTwice a after (x ∷ (y ∷ [])) false
   took-first e = record { new = λ z. clash (sym z); old = λ _. twice-more (y ∷ []) (t .old e) }
 
-  pub took-both : r ≡ true → {c : List ℕ} {q : Bool} → Took b c (y ∷ []) q → Took a c (x ∷ (y ∷ [])) q
+  pub took-both : r ≡ true → {c : List ℕ} {q : Bool} → MarkedOrTwice b c (y ∷ []) q → MarkedOrTwice a c (x ∷ (y ∷ [])) q
   took-both e u = record { new = λ z. grown-then (t .new e) (u .new z); old = λ z. twice-then (t .new e) (u .old z) }
 
 -- numbers that all were marked, and numbers of which one was met again
-pub took-new : {a b xs : List ℕ} → Grown a b xs → Took a b xs true
+pub took-new : {a b xs : List ℕ} → MarksGrown a b xs → MarkedOrTwice a b xs true
 took-new g = record { new = λ _. g; old = λ e. clash e }
 
-pub took-old : {a b xs : List ℕ} → Twice a xs → Took a b xs false
+pub took-old : {a b xs : List ℕ} → Twice a xs → MarkedOrTwice a b xs false
 took-old t = record { new = λ e. clash (sym e); old = λ _. t }
 
-pub firsts-none : (f : ℕ → List ℕ) (marks : List ℕ) → Grown marks marks (flatten (map f (counting 0 0)))
+pub firsts-none : (f : ℕ → List ℕ) (marks : List ℕ) → MarksGrown marks marks (flatten (map f (counting 0 0)))
 unfolding counting flatten
 firsts-none f marks = grown-none marks
 
 -- the same numbers
-pub took-as : {a b xs ys : List ℕ} {r : Bool} → xs ≡ ys → Took a b ys r → Took a b xs r
-took-as {a} {b} {r} e t = subst (λ (l : List ℕ). Took a b l r) (sym e) t
+pub took-as : {a b xs ys : List ℕ} {r : Bool} → xs ≡ ys → MarkedOrTwice a b ys r → MarkedOrTwice a b xs r
+took-as {a} {b} {r} e t = subst (λ (l : List ℕ). MarkedOrTwice a b l r) (sym e) t
 
 -- ---- of the first i numbers so many pass, all of them exactly if that is i
 

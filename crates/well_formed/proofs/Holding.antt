@@ -16,7 +16,7 @@ use Rattle.integer.proofs.Times.{times-append, in-times, times-in, once-length,
 use Rattle.records_fit.specs.Fits.{AllFit}
 use Rattle.records_fit.proofs.Limits.{passing, failing, clash}
 use Rattle.records_fit.proofs.Loops.{all-passed, each-passes}
-use Rattle.well_formed.specs.Marks.{Grown, Named, LinkRises, LinksRise, LinksMarked, LinksName}
+use Rattle.well_formed.specs.Marks.{MarksGrown, Named, LinkRises, LinksRise, LinksMarked, LinksName}
 use Rattle.well_formed.specs.Tests.{childrenOnce, firstsOf, notZero, linkAt, linksOf, leavesHold, markedOnce}
 use Rattle.well_formed.proofs.Growth.{none-at}
 use Rattle.well_formed.proofs.Naming.{link-in, leaves-many, leaves-sound, links-fit, called-once, firsts-low, called-low}
@@ -99,7 +99,7 @@ module _ (nodes : List ℤ) (m : ℕ) (a : AllFit m nodes) (links : List ℕ) (k
 
   -- the first numbers are marked
   module _ (h : 0 < m) (c : childrenOnce m nodes ≡ true) {marks : List ℕ} {r : Bool} (n : Named k unnamed marks firsts r) (e : r ≡ true) where
-    grown : Grown unnamed marks firsts
+    grown : MarksGrown unnamed marks firsts
     grown = n .new e
 
     at : (x : ℕ) → x < 4096 → getD marks x 0 ≡ timesIn x firsts

@@ -20,7 +20,7 @@ use Rattle.well_formed.specs.Marks.{NodeVisited, VisitedFirst, RecordsPa
 use Rattle.well_formed.specs.Tests.{childrenAt, childrenOfFirst, childrenOnce, firstAt, markedOnce}
 use Rattle.well_formed.proofs.Growth.{grown-firsts, firsts-none}
 use Rattle.well_formed.proofs.Taking.{marked-start, marked-more, marked-end}
-use Rattle.well_formed.proofs.Once.{blank, marked-is}
+use Rattle.well_formed.proofs.Once.{noMarks, marked-is}
 
 module _ (n m k : ℕ) (nodes : List ℤ) where
   pub visited-none : (marks named : List ℕ) → VisitedFirst n m k nodes 0 marks marks named named
@@ -41,7 +41,7 @@ module _ (n m k : ℕ) (nodes : List ℤ) where
   }
 
   -- every node was visited, node 0 by itself, and each other one is a child
-  module _ {marked named after : List ℕ} (w : VisitedFirst n m k nodes m blank marked named after) (some : 0 < m) (low : m ≤ 8191)
+  module _ {marked named after : List ℕ} (w : VisitedFirst n m k nodes m noMarks marked named after) (some : 0 < m) (low : m ≤ 8191)
       (root : segmentsHold n (recordOf nodes 0) ≡ true) (all : markedOnce marked 1 (m - 1) ≡ true) where
     once : childrenOnce m nodes ≡ true
     unfolding childrenOnce

@@ -27,7 +27,7 @@ use Rattle.records_fit.proofs.Children.{kind-named, head-fits-at}
 use Rattle.well_formed.specs.Marks.{LinkRises}
 use Rattle.well_formed.specs.Tests.{childrenAt, childrenOfFirst, childrenOnce, kindAt, leafFitsAt, numbersAt, numbersOfFirst, firstAt, firstsOf, linkAt, linksOf, leavesHold}
 use Rattle.well_formed.proofs.ByKind.{no-child, two-children, is-leaf, no-number, inner-fits, leaf-numbers}
-use Rattle.well_formed.proofs.Chains.{leaf-rises, leaf-of, flat-append, followers, list-rest, list-is, list-first, Chain, chain, Rising, list-rises}
+use Rattle.well_formed.proofs.Chains.{leaf-rises, leaf-of, flat-append, followers, list-rest, list-is, list-first, Chain, chain, RisingBelow, list-rises}
 use Rattle.well_formed.proofs.Once.{children-inside}
 
 -- ---- a link
@@ -91,7 +91,7 @@ module _ (nodes : List ℤ) (m : ℕ) (a : AllFit m nodes) (links : List ℕ) (k
   sorted j h = sort-of nodes links k a j h
 
   -- leaves that rise below k
-  pub record Fit : Type 0 where
+  pub record LeavesFit : Type 0 where
     pub each : (j : ℕ) → j < m → T (leafFitsAt nodes links k j)
     pub low : (x : ℕ) → In x all → x < k
 
@@ -101,7 +101,7 @@ module _ (nodes : List ℤ) (m : ℕ) (a : AllFit m nodes) (links : List ℕ) (k
   under : {j : ℕ} → In j (counting m 0) → j < m
   under i = omega (arith, from-counting m 0 i .1)
 
-  module _ (w : Fit) where
+  module _ (w : LeavesFit) where
     leaf-chain : (j number : ℕ) → j < m → kindAt nodes links k j ≡ leaf (numbersFrom links (suc k) number) → Chain links (numbersFrom links (suc k) number) number
     leaf-chain j number h e =
         chain links k k number (omega arith) (leaf-rises (numbersFrom links (suc k) number) (subst (λ c. T (leafFits c)) e (w .each j h)))
@@ -223,11 +223,11 @@ module _ (nodes : List ℤ) (m : ℕ) (a : AllFit m nodes) (links : List ℕ) (k
   at j h = in-counting m 0 j (omega arith) (omega arith)
 
   module _ (low : T (every within (firstsOf nodes m))) (fit : (i : ℕ) → i < k → LinkRises k i (getD links i 0)) where
-    rises : (j number : ℕ) → j < m → firstAt nodes j ≡ number ∷ [] → Rising links k (numbersFrom links (suc k) number)
+    rises : (j number : ℕ) → j < m → firstAt nodes j ≡ number ∷ [] → RisingBelow links k (numbersFrom links (suc k) number)
     rises j number h f =
         list-rises links k fit k number (ltb→lt number k (from-every within (firstsOf nodes m) low (in-flat (firstAt nodes) (at j h) (subst (In number) (sym f) first))))
 
-    leaves-fit : Fit nodes m a links k
+    leaves-fit : LeavesFit nodes m a links k
     leaves-fit = record { each = λ j h. each j h (sort-of nodes links k a j h); low = λ x i. under-k x (from-flat (numbersAt nodes links k) (counting m 0) i) }
       where
         each : (j : ℕ) → j < m → Sort nodes links k j → T (leafFitsAt nodes links k j)
@@ -271,7 +271,7 @@ module _ (nodes : List ℤ) (m : ℕ) (a : AllFit m nodes) (links : List ℕ) (k
         let p = and-yes (every (leafFitsAt nodes links k) (counting m 0)) (every (λ number. eqb (timesIn number met) 1) (counting k 0) && every within met) t in
         (p .0, and-yes (every (λ number. eqb (timesIn number met) 1) (counting k 0)) (every within met) (p .1))
 
-    fits-all : Fit nodes m a links k
+    fits-all : LeavesFit nodes m a links k
     fits-all = record {
       each = λ j h. from-every (leafFitsAt nodes links k) (counting m 0) (parts .0) (at j h);
       low = λ x i. ltb→lt x k (from-every within met (parts .1 .1) i);

@@ -18,14 +18,14 @@ use Rattle.tables.specs.View.{smallAt}
 use Rattle.records_fit.specs.Fits.{headFits, AllFit}
 use Rattle.records_fit.proofs.Loops.{all-passed, one-failed}
 use Rattle.records_fit.proofs.Children.{kind-named, left-above, right-above, head-fits-at}
-use Rattle.well_formed.specs.Marks.{Grown, Twice}
+use Rattle.well_formed.specs.Marks.{MarksGrown, Twice}
 use Rattle.well_formed.specs.Tests.{childrenAt, childrenOfFirst, childrenOnce, markedOnce}
 use Rattle.well_formed.proofs.Growth.{none-at}
 use Rattle.well_formed.proofs.ByKind.{no-child, two-children}
 
 -- no marks
-abbrev pub blank : List ℕ
-blank = replicate 8192 0
+abbrev pub noMarks : List ℕ
+noMarks = replicate 8192 0
 
 pub every-same : (p q : ℕ → Bool) (l : List ℕ) → ((x : ℕ) → In x l → p x ≡ q x) → every p l ≡ every q l
 unfolding every
@@ -38,14 +38,14 @@ module _ (numbers : List ℕ) (from count : ℕ) where
   abbrev pub onceEach : Bool
   onceEach = every (λ number. eqb (timesIn number numbers) 1) (counting count from)
 
-  pub again-fails : ((x : ℕ) → In x numbers → (from ≤ x) × (x < from + count)) → Twice blank numbers → false ≡ onceEach
+  pub again-fails : ((x : ℕ) → In x numbers → (from ≤ x) × (x < from + count)) → Twice noMarks numbers → false ≡ onceEach
   again-fails inside t =
       let x = t .number in
       let more : 1 < timesIn x numbers = omega (arith, t .again, none-at 8192 x) in
       let p = inside x (times-in x numbers (omega arith)) in
       one-failed (λ number. eqb (timesIn number numbers) 1) count from x (p .0) (p .1) (ne-eqb (timesIn x numbers) 1 (λ e. omega (arith, more, e)))
 
-  pub marked-is : {marks : List ℕ} → Grown blank marks numbers → from + count ≤ 8192 → markedOnce marks from count ≡ onceEach
+  pub marked-is : {marks : List ℕ} → MarksGrown noMarks marks numbers → from + count ≤ 8192 → markedOnce marks from count ≡ onceEach
   marked-is {marks} g h = every-same (λ number. eqb (getD marks number 0) 1) (λ number. eqb (timesIn number numbers) 1) (counting count from) (λ x i. same x (from-counting count from i .1))
     where
       same : (x : ℕ) → x < from + count → eqb (getD marks x 0) 1 ≡ eqb (timesIn x numbers) 1
@@ -84,11 +84,12 @@ module _ (nodes : List ℤ) (m : ℕ) (a : AllFit m nodes) where
       by : InFlat (childrenAt nodes) x (counting m 0) → (1 ≤ x) × (x < 1 + (m - 1))
       by (flat j k l) = child-of x j (omega (arith, from-counting m 0 k .1)) l
 
-  pub children-again : Twice blank (childrenOfFirst nodes m) → false ≡ childrenOnce m nodes
+  pub children-again : Twice noMarks (childrenOfFirst nodes m) → false ≡ childrenOnce m nodes
   unfolding childrenOnce
   children-again t = again-fails (childrenOfFirst nodes m) 1 (m - 1) children-inside t
 
-  pub children-marked : {marks : List ℕ} → Grown blank marks (childrenOfFirst nodes m) → markedOnce marks 1 (m - 1) ≡ childrenOnce m nodes
+  pub children-marked : {marks : List ℕ} → MarksGrown noMarks marks (childrenOfFirst nodes m)
+      → markedOnce marks 1 (m - 1) ≡ childrenOnce m nodes
   unfolding childrenOnce
   children-marked g = marked-is (childrenOfFirst nodes m) 1 (m - 1) g (omega (arith, a .low))
 

@@ -12,7 +12,7 @@ use borrow.Author.Tests.{eqb-true, eqb-false}
 use Rattle.integer.specs.Words.{every, counting}
 use Rattle.integer.proofs.Lists.{same-or-not, In, first, in-cons, in-nil, in-append, in-flat, every-of, from-every, in-counting}
 use Rattle.records_fit.proofs.Limits.{clash}
-use Rattle.well_formed.specs.Marks.{Grown, Twice, Took, Named, LinkRises, LinksRise, LinksMarked}
+use Rattle.well_formed.specs.Marks.{MarksGrown, Twice, MarkedOrTwice, Named, LinkRises, LinksRise, LinksMarked}
 use Rattle.well_formed.specs.Tests.{notZero, linkAt, linksOf}
 use Rattle.well_formed.proofs.Growth.{grown-none, grown-firsts, again-firsts, firsts-more, Tallied, tallied-none, tallied-more}
 
@@ -22,7 +22,7 @@ pub named-as : {count : ℕ} {a b xs ys : List ℕ} {r : Bool} → xs ≡ ys →
 named-as {count} {a} {b} {r} e n = subst (λ (l : List ℕ). Named count a b l r) (sym e) n
 
 -- numbers that are marked, and numbers that are refused
-pub named-new : {count : ℕ} {a b xs : List ℕ} → T (every (λ number. ltb number count) xs) → Grown a b xs → Named count a b xs true
+pub named-new : {count : ℕ} {a b xs : List ℕ} → T (every (λ number. ltb number count) xs) → MarksGrown a b xs → Named count a b xs true
 named-new t g = record { below = λ _. t; new = λ _. g; old = λ e. clash e }
 
 pub named-yes : {count : ℕ} {a b xs : List ℕ} {r : Bool} → Named count a b xs r → r ≡ true → Named count a b xs true
@@ -39,7 +39,7 @@ module _ {count : ℕ} (x : ℕ) {a b : List ℕ} where
   pub named-above : count ≤ x → Named count a b (x ∷ []) false
   named-above h = named-old (λ t. absurd (omega (arith, h, ltb→lt x count (from-every (λ number. ltb number count) (x ∷ []) t first))))
 
-  pub named-one : x < count → {r : Bool} → Took a b (x ∷ []) r → Named count a b (x ∷ []) r
+  pub named-one : x < count → {r : Bool} → MarkedOrTwice a b (x ∷ []) r → Named count a b (x ∷ []) r
   named-one h t = record { below = λ _. every-of (λ number. ltb number count) (x ∷ []) (λ y i. by y (in-cons i)); new = t .new; old = λ e _. t .old e }
     where
       by : (y : ℕ) → (y ≡ x) ⊎ In y [] → T (ltb y count)
@@ -57,7 +57,7 @@ module _ (f : ℕ → List ℕ) (count : ℕ) where
 
   pub record Marked (before marks : List ℕ) (j : ℕ) : Type 0 where
     pub below : T (every low (firsts j))
-    pub grown : Grown before marks (firsts j)
+    pub grown : MarksGrown before marks (firsts j)
 
   pub marked-start : (marks : List ℕ) → Marked marks marks 0
   unfolding counting flatten every
@@ -86,25 +86,26 @@ module _ (f : ℕ → List ℕ) (count : ℕ) where
 -- ---- one link after another
 
 module _ (links : List ℕ) (k : ℕ) where
-  abbrev pub Fits : ℕ → Type 0
-  Fits x = LinkRises k x (getD links x 0)
+  abbrev pub LinkFits : ℕ → Type 0
+  LinkFits x = LinkRises k x (getD links x 0)
 
   -- how many of the first i links rise, and how many end a list
   pub record Counted (fit ends i : ℕ) : Type 0 where
     pub few : i ≤ k
-    pub passed : Tallied Fits fit i
+    pub passed : Tallied LinkFits fit i
     pub count : ends + length (linksOf links i) ≡ i
 
   pub counted-start : Counted 0 0 0
   unfolding counting flatten
-  counted-start = record { few = omega arith; passed = tallied-none Fits; count = refl }
+  counted-start = record { few = omega arith; passed = tallied-none LinkFits; count = refl }
 
   pub counted-more : {fit ends i link : ℕ} (r e : ℕ) → Counted fit ends i → i < k → link ≡ getD links i 0
       → (r ≤ 1) × (r ≡ 1 → LinkRises k i link) × (LinkRises k i link → r ≡ 1) → e + length (notZero link) ≡ 1 → Counted (fit + r) (ends + e) (i + 1)
   counted-more {fit} {ends} {i} {link} r e w h q p z =
       let one = subst (λ (x : ℕ). e + length (notZero x) ≡ 1) q z in record {
         few = omega arith;
-        passed = tallied-more Fits (w .passed) (p .0) (λ f. subst (LinkRises k i) q (p .1 f)) (λ f. p .2 (subst (LinkRises k i) (sym q) f));
+        passed = tallied-more LinkFits (w .passed) (p .0) (λ f. subst (LinkRises k i) q (p .1 f))
+            (λ f. p .2 (subst (LinkRises k i) (sym q) f));
         count = omega (arith, w .count, one, ap length (firsts-more (linkAt links) i) ∙ length-append (linksOf links i) (linkAt links i));
       }
 

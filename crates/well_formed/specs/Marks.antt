@@ -14,7 +14,7 @@ use Rattle.records_fit.specs.Fits.{headFits, recordsFit, allKept, ChildrenUnder
 use Rattle.well_formed.specs.Tests.{childrenAt, childrenOfFirst, childrenOnce, firstAt, firstsOf, linksOf}
 
 -- the marks after some numbers more, none of which is met a second time
-pub record Grown (before after numbers : List ℕ) : Type 0 where
+pub record MarksGrown (before after numbers : List ℕ) : Type 0 where
   pub size : length after ≡ length before
   pub at : (x : ℕ) → x < length before → getD after x 0 ≡ getD before x 0 + timesIn x numbers
   pub single : ((x : ℕ) → getD before x 0 ≤ 1) → (x : ℕ) → getD after x 0 ≤ 1
@@ -26,14 +26,14 @@ pub record Twice (before numbers : List ℕ) : Type 0 where
   pub again : 1 < getD before number 0 + timesIn number numbers
 
 -- numbers are marked, or one of them is met again
-pub record Took (before after numbers : List ℕ) (all : Bool) : Type 0 where
-  pub new : all ≡ true → Grown before after numbers
+pub record MarkedOrTwice (before after numbers : List ℕ) (all : Bool) : Type 0 where
+  pub new : all ≡ true → MarksGrown before after numbers
   pub old : all ≡ false → Twice before numbers
 
 -- numbers that are to be below a count: they are, and are marked, or one is not, or one is met again
 pub record Named (count : ℕ) (before after numbers : List ℕ) (all : Bool) : Type 0 where
   pub below : all ≡ true → T (every (λ number. ltb number count) numbers)
-  pub new : all ≡ true → Grown before after numbers
+  pub new : all ≡ true → MarksGrown before after numbers
   pub old : all ≡ false → T (every (λ number. ltb number count) numbers) → Twice before numbers
 
 -- the link of trace i, of k: 0, or the number of a later trace
@@ -63,14 +63,14 @@ pub record LinksName (links : List ℕ) (k m : ℕ) (before : List ℕ) : Type 0
 pub record NodeVisited (n m k : ℕ) (nodes : List ℤ) (j : ℕ) (marks marked named after : List ℕ) : Type 0 where
   pub head : headFits n m j (recordOf nodes j) ≡ true
   pub under : ChildrenUnder n nodes j
-  pub children : Grown marks marked (childrenAt nodes j)
+  pub children : MarksGrown marks marked (childrenAt nodes j)
   pub first : Named k named after (firstAt nodes j) true
 
 -- the same of the first j nodes
 pub record VisitedFirst (n m k : ℕ) (nodes : List ℤ) (j : ℕ) (marks marked named after : List ℕ) : Type 0 where
   pub heads : (x : ℕ) → x < j → headFits n m x (recordOf nodes x) ≡ true
   pub unders : (x : ℕ) → x < j → ChildrenUnder n nodes x
-  pub children : Grown marks marked (childrenOfFirst nodes j)
+  pub children : MarksGrown marks marked (childrenOfFirst nodes j)
   pub firsts : Named k named after (firstsOf nodes j) true
 
 -- all rules on records hold, and the first trace numbers are marked

@@ -7,13 +7,13 @@ ghost use Prim.Native.Nat.{_+_, _≤_, _<_};
 ghost use lib.ListN.{length};
 ghost use lib.Dec.{eqb};
 ghost use Rattle.integer.specs.Words.{if_then_else_};
-ghost use Rattle.well_formed.specs.Marks.{Took};
+ghost use Rattle.well_formed.specs.Marks.{MarkedOrTwice};
 ghost use Rattle.well_formed.specs.Tests.{markedOnce};
 
 // Marks a node's number, if it was not met before.
 pub fn mark(marks: &mut [u8; 8192], number: usize) -> bool
     requires { ⌜ (number < 8192) × (length (now marks) ≡ 8192) ⌝ }
-    ensures { λ r. ⌜ Took (now (marks .entry)) (now (marks .exit)) (number ∷ []) r ⌝ }
+    ensures { λ r. ⌜ MarkedOrTwice (now (marks .entry)) (now (marks .exit)) (number ∷ []) r ⌝ }
 {
     if 0 < marks[number] {
         return false;
@@ -25,7 +25,7 @@ pub fn mark(marks: &mut [u8; 8192], number: usize) -> bool
 // Marks a trace's number, if it was not met before.
 pub fn mark_trace(marks: &mut [u8; 4096], number: usize) -> bool
     requires { ⌜ (number < 4096) × (length (now marks) ≡ 4096) ⌝ }
-    ensures { λ r. ⌜ Took (now (marks .entry)) (now (marks .exit)) (number ∷ []) r ⌝ }
+    ensures { λ r. ⌜ MarkedOrTwice (now (marks .entry)) (now (marks .exit)) (number ∷ []) r ⌝ }
 {
     if marks[number] != 0 {
         return false;

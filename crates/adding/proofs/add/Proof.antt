@@ -10,7 +10,7 @@ use Rattle.tables.specs.Tables.{Tables, tables}
 use Rattle.tables.specs.Answers.{foundBy}
 use Rattle.calls.specs.Effects.{adds, effectOf, outcomeOn}
 use Rattle.calls.proofs.Ends.{ends-refused, ends-done}
-use Rattle.adding.specs.Answered.{answerOf}
+use Rattle.adding.specs.Answered.{answerBy}
 use Rattle.adding.proofs.Conditions.{takes}
 use Rattle.adding.proofs.add.Statement.{statement}
 use Rattle.adding.proofs.add.Tie as tie
@@ -34,14 +34,14 @@ put-requires : tie.Need-put-requires
 put-requires c κs = let e = c .before .before .before .before .before .before .before in takes (lentTables (start (e .before .before))) (now (start (e .before .before) .args .trace)) (nothing e)
 
 returns : tie.Need-returns
-unfolding answerOf outcomeOn effectOf besideOf
+unfolding answerBy outcomeOn effectOf besideOf
 returns c =
     let j = c .before .before .before in
     let t = lentTables (start j) in
     ends-refused t [] (adds t (now (start j .args .trace))) _ (sym (j .judge .ensures) ∙ ap foundBy (c .before .verdict .given .1))
 
 returns-2 : tie.Need-returns-2
-unfolding answerOf outcomeOn effectOf besideOf adds
+unfolding answerBy outcomeOn effectOf besideOf adds
 returns-2 c =
     let p = c .before .before .before .before .before .before in
     let e = p .before .before .before .before .before .before .before .before in

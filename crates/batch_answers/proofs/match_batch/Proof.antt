@@ -45,9 +45,9 @@ use denote.Triple.Table.{entered, cited}
 use denote.Triple.Walked.{says, Stays, stay-none, stay-none-slice, gave-slice, walkOf, goes-none, goes-none-slice, goes-gave-slice, Walks}
 use denote.Triple.Walked.{ends-at, walked, walk-meets}
 use denote.Exit.{yes}
-use Rattle.batching.specs.declared.Answer.{Answer}
-use Rattle.batching.specs.declared.Outcome.{Outcome}
-use Rattle.batching.specs.declared.Found.{Found}
+use Rattle.batching.specs.declared.AnswerRecord.{AnswerRecord}
+use Rattle.batching.specs.declared.Batched.{Batched}
+use Rattle.batching.specs.declared.BatchFound.{BatchFound}
 use Rattle.dstree.specs.Matching.{Near}
 use Rattle.dstree.specs.KNearest.{listPlaces}
 use Rattle.dstree.specs.Book as book
@@ -55,13 +55,13 @@ use Rattle.tables.specs.Tables as lent
 use Rattle.calls.specs.Outcome.{outcome}
 use Rattle.calls.specs.Effects.{outcomeOn}
 use Rattle.batching.specs.Answered.{answerBy, listAfter}
-use Rattle.batch_answers.specs.Answers.{stored, storeOf, nearsOf}
+use Rattle.batch_answers.specs.AnswerRecords.{storeOutcome, storeOf, nearsOf}
 use Rattle.batch_answers.proofs.Whole as laws
-use Rattle.batching.proofs.Answer as T
-use Rattle.batching.proofs.Outcome as O
-use Rattle.batching.proofs.Outcome.Laws as O′
-use Rattle.batching.proofs.Found as F
-use Rattle.batching.proofs.Found.Laws as F′
+use Rattle.batching.proofs.AnswerRecord as T
+use Rattle.batching.proofs.Batched as O
+use Rattle.batching.proofs.Batched.Laws as O′
+use Rattle.batching.proofs.BatchFound as F
+use Rattle.batching.proofs.BatchFound.Laws as F′
 use Rattle.batching.proofs.match_all as search′
 use Rattle.batching.proofs.match_all.Symbol as search-def
 use Rattle.batching.proofs.match_all.Symbol.{name as #search}
@@ -117,7 +117,7 @@ module _ {M : Type 1} (𝓤 : URA M) (H : Heap 𝓤) (A : Atoms 𝓤) (mem : Mem
 module _ {M : Type 1} (𝓤 : URA M) (H : Heap 𝓤) (A : Atoms 𝓤) (W : Given 𝓤 H A) (mem : Memory → SProp 𝓤) (run : Routine → Fun 𝓤)
     (κ₀ κ₁ κ₂ κ₃ κ₄ κ₅ κ₆ κ₇ : Lft) (q₀ q₁ q₂ q₃ q₄ q₅ q₆ q₇ : Share)
     (control : RefT (List ℕ)) (samples : RefT (List ℤ)) (nodes : RefT (List ℤ)) (links : RefT (List ℕ)) (work : RefT (List ℕ))
-    (trail : RefT (List ℕ)) (queries : RefT (List ℤ)) (many : ℕ) (list : RefT (List Answer)) (many-fits : many < 2 ^ 64) where
+    (trail : RefT (List ℕ)) (queries : RefT (List ℤ)) (many : ℕ) (list : RefT (List AnswerRecord)) (many-fits : many < 2 ^ 64) where
   -- the slices' machine values, and what they own
   abbrev v-control : Val
   v-control = sliceVal (control .ptr) (length (control .now))
@@ -173,7 +173,7 @@ module _ {M : Type 1} (𝓤 : URA M) (H : Heap 𝓤) (A : Atoms 𝓤) (W : Given
 
   abbrev Arg : Type 0
   Arg = RefT (List ℕ) × (RefT (List ℤ) × (RefT (List ℤ) × (RefT (List ℕ) ×
-      (RefT (List ℕ) × (RefT (List ℕ) × (RefT (List ℤ) × (ℕ × (RefT (List Answer) × Unit {0}))))))))
+      (RefT (List ℕ) × (RefT (List ℕ) × (RefT (List ℤ) × (ℕ × (RefT (List AnswerRecord) × Unit {0}))))))))
 
   abbrev a : Arg
   a = (control, (samples, (nodes, (links, (work, (trail, (queries, (many, (list, tt)))))))))
@@ -199,29 +199,30 @@ module _ {M : Type 1} (𝓤 : URA M) (H : Heap 𝓤) (A : Atoms 𝓤) (W : Given
       (((κ₀, (κ₁, (κ₂, (κ₃, (κ₄, (κ₅, (κ₆, (κ₇, tt)))))))), (q₀, (q₁, (q₂, (q₃, (q₄, (q₅, (q₆, (q₇, tt)))))))), tt, a, vals), tt)
 
   -- what is ensured, by the callees and by the whole
-  abbrev Searched : Found → List ℕ → List ℕ → Type 0
+  abbrev Searched : BatchFound → List ℕ → List ℕ → Type 0
   Searched found work′ trail′ = (l : List Near) → length l ≡ length (list .now) → outcome
       (answerBy (found .outcome) (listAfter found l) trail′) (lent.tables (control .now) (samples .now) (nodes .now) (links .now) work′)
       (trail′ ∷ listPlaces (listAfter found l) ∷ []) ≡ outcomeOn (book.batching many (queries .now) (trail .now) l)
       (lent.tables (control .now) (samples .now) (nodes .now) (links .now) (work .now))
 
-  abbrev Stored : Found → Bool → List Answer → Type 0
-  Stored found done list′ = stored done list′ ≡ storeOf found (list .now)
+  abbrev Stored : BatchFound → Bool → List AnswerRecord → Type 0
+  Stored found done list′ = storeOutcome done list′ ≡ storeOf found (list .now)
 
-  abbrev Tells : Found → Outcome → Type 0
+  abbrev Tells : BatchFound → Batched → Type 0
   Tells found r = r ≡ found .outcome
 
-  abbrev Ensured : Outcome → List ℕ → List ℕ → List Answer → Type 0
+  abbrev Ensured : Batched → List ℕ → List ℕ → List AnswerRecord → Type 0
   Ensured r work′ trail′ list′ = outcome (answerBy r (nearsOf list′) trail′)
       (lent.tables (control .now) (samples .now) (nodes .now) (links .now) work′) (trail′ ∷ listPlaces (nearsOf list′) ∷ []) ≡ outcomeOn
       (book.batching many (queries .now) (trail .now) (nearsOf (list .now)))
       (lent.tables (control .now) (samples .now) (nodes .now) (links .now) (work .now))
 
-  told-said : (found : Found) (r : Outcome) → ent 𝓤 (ensured 𝓤 H A told′.ended (told′.clauses 𝓤 H A mem run) tt (found, tt) tt r)
+  told-said : (found : BatchFound) (r : Batched) → ent 𝓤 (ensured 𝓤 H A told′.ended (told′.clauses 𝓤 H A mem run) tt (found, tt) tt r)
       (fact 𝓤 (Tells found r))
   told-said found r = exE 𝓤 _ (λ ws. snd∗ 𝓤 (sem 𝓤 H A (lasts told′.ended tt (found, tt) ws)) (fact 𝓤 (Tells found r)))
 
-  exits : (r : Outcome) (w : Val) (work′ : List ℕ) (trail′ : List ℕ) (list′ : List Answer) → Ensured r work′ trail′ list′ → length work′
+  exits : (r : Batched) (w : Val) (work′ : List ℕ) (trail′ : List ℕ) (list′ : List AnswerRecord) → Ensured r work′ trail′ list′
+      → length work′
       ≡ length (work .now) → length trail′ ≡ length (trail .now) → length list′ ≡ length (list .now)
       → ent 𝓤 (⋆ 𝓤 H A (‵ (flft κ₀ q₀) ∷ ‵ (flft κ₁ q₁) ∷ ‵ (flft κ₂ q₂) ∷ ‵ (flft κ₃ q₃) ∷ ‵ (flft κ₄ q₄) ∷ ‵ (flft κ₅ q₅) ∷ ‵
       (flft κ₆ q₆) ∷ ‵ (flft κ₇ q₇) ∷ ‵ Own-control ∷ ‵ Own-samples ∷ ‵ Own-nodes ∷ ‵ Own-links ∷ ‵ Own-queries ∷ ‵
@@ -284,18 +285,18 @@ module _ {M : Type 1} (𝓤 : URA M) (H : Heap 𝓤) (A : Atoms 𝓤) (W : Given
       join ! $ move ! (6 ∷ 0 ∷ []) $ join ! $ move ! (5 ∷ 0 ∷ []) $ join ! $ move ! (4 ∷ 0 ∷ []) $ join ! $ move ! (3 ∷ 0 ∷ []) $ join ! $
       move ! (2 ∷ 0 ∷ []) $ join ! $ join ! $ frame ! $ done !
 
-  abbrev to-store : Found → Val → Store 𝓤 H A mem run .Ghost
+  abbrev to-store : BatchFound → Val → Store 𝓤 H A mem run .Ghost
   to-store = λ found w. (((κ₇, tt), (q₇, tt), tt, (found, (list, tt)), (w ∷ [], (v-list ∷ [], tt))), tt)
 
-  goes-store : (found : Found) (w : Val) → ent 𝓤 (⋆ 𝓤 H A (‵ (flft κ₇ q₇) ∷ ‵ (F.the-row .own found (w ∷ [])) ∷ ‵ Own-list ∷ []))
+  goes-store : (found : BatchFound) (w : Val) → ent 𝓤 (⋆ 𝓤 H A (‵ (flft κ₇ q₇) ∷ ‵ (F.the-row .own found (w ∷ [])) ∷ ‵ Own-list ∷ []))
       (Store 𝓤 H A mem run .pre (to-store found w))
   goes-store found w = qed W (‵ (flft κ₇ q₇) ∷ ‵ (F.the-row .own found (w ∷ [])) ∷ ‵ Own-list ∷ []) ∵ nothing ! $ move ! (3 ∷ 0 ∷ []) $
       fjoin ! $ move ! (2 ∷ 0 ∷ []) $ fjoin ! $ nothing ! $ move ! (2 ∷ 0 ∷ []) $ join ! $ join ! $ frame ! $ done !
 
-  abbrev to-told : Found → Val → Told 𝓤 H A mem run .Ghost
+  abbrev to-told : BatchFound → Val → Told 𝓤 H A mem run .Ghost
   to-told = λ found w. ((tt, tt, tt, (found, tt), (w ∷ [], tt)), tt)
 
-  goes-told : (found : Found) (w : Val) → ent 𝓤 (sem 𝓤 H A (F.the-row .own found (w ∷ []))) (Told 𝓤 H A mem run .pre (to-told found w))
+  goes-told : (found : BatchFound) (w : Val) → ent 𝓤 (sem 𝓤 H A (F.the-row .own found (w ∷ []))) (Told 𝓤 H A mem run .pre (to-told found w))
   goes-told found w = qed W (‵ (F.the-row .own found (w ∷ [])) ∷ []) ∵ nothing ! $ move ! (1 ∷ 0 ∷ []) $ join ! $ nothing ! $ join ! $
       frame ! $ done !
 
@@ -368,7 +369,7 @@ module _ {M : Type 1} (𝓤 : URA M) (H : Heap 𝓤) (A : Atoms 𝓤) (W : Given
         (and-then ! (load ! (from ! (stop !)) (look ! 30 refl))
         (and-then ! (load ! (from ! (stop !)) (look ! 28 refl))
         (and-then ! (load ! (from ! (stop !)) (look ! 24 refl)) (no-more !)))))))))) (λ w₁.
-        use1 W (later (some (λ (found : Found). ((‵ (flft κ₀ q₀) ⊛
+        use1 W (later (some (λ (found : BatchFound). ((‵ (flft κ₀ q₀) ⊛
         (‵ (flft κ₁ q₁) ⊛ (‵ (flft κ₂ q₂) ⊛ (‵ (flft κ₃ q₃) ⊛
         (‵ (flft κ₄ q₄) ⊛ (‵ (flft κ₅ q₅) ⊛ (‵ (flft κ₆ q₆) ⊛ (‵ ftrue)))))))) ⊛ ‵ (F.the-row .own found (w₁ ∷ []))) ⊛ raw
         (ensured 𝓤 H A search′.ended (search′.clauses 𝓤 H A mem run) (κ₀, (κ₁, (κ₂, (κ₃, (κ₄, (κ₅, (κ₆, tt))))))) to tt found))))
@@ -402,7 +403,7 @@ module _ {M : Type 1} (𝓤 : URA M) (H : Heap 𝓤) (A : Atoms 𝓤) (W : Given
         (ensured 𝓤 H A store′.ended (store′.clauses 𝓤 H A mem run) (κ₇, tt) (found, (list, tt)) tt stored′)))) (id⊢ 𝓤 _) $
         await ! tt $ pick ! (λ stored′.
         split ! $ move ! (1 ∷ []) $
-        use1 W (some (λ (zs : Unit {0} × (List Answer × Unit {0})). ‵ (lasts store′.ended (κ₇, tt) (found, (list, tt)) zs) ⊛ raw
+        use1 W (some (λ (zs : Unit {0} × (List AnswerRecord × Unit {0})). ‵ (lasts store′.ended (κ₇, tt) (found, (list, tt)) zs) ⊛ raw
         (fact 𝓤 (Stored found stored′ (zs .1 .0))))) (id⊢ 𝓤 _) $
         pick ! (λ zs.
         split ! $ move ! (1 ∷ []) $ heard ! (Stored found stored′ (zs .1 .0)) (λ e₂.
@@ -415,7 +416,7 @@ module _ {M : Type 1} (𝓤 : URA M) (H : Heap 𝓤) (A : Atoms 𝓤) (W : Given
         use1 W (raw (Told 𝓤 H A mem run .pre (to-told found w₁))) (goes-told found w₁) $
         calls-at ! fm (Told 𝓤 H A mem run) known-told (to-told found w₁)
         (and-then ! (load ! (from ! (stop !)) (look ! 31 refl)) (no-more !)) (λ w₃.
-        use1 W (later (some (λ (r : Outcome). (‵ ftrue ⊛ ‵ (O.the-row .own r (w₃ ∷ []))) ⊛ raw
+        use1 W (later (some (λ (r : Batched). (‵ ftrue ⊛ ‵ (O.the-row .own r (w₃ ∷ []))) ⊛ raw
         (ensured 𝓤 H A told′.ended (told′.clauses 𝓤 H A mem run) tt (found, tt) tt r)))) (id⊢ 𝓤 _) $
         await ! tt $ pick ! (λ r.
         split ! $ move ! (1 ∷ []) $ use1 W (raw (fact 𝓤 (Tells found r))) (told-said found r) $ heard ! (Tells found r) (λ e₃. split ! $

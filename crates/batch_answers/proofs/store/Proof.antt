@@ -1,5 +1,5 @@
 -- `batch_answers::store` meets its contract: a walk of its MIR, by hand. The slice's borrow is opened once, before the loop, and closed
--- once, after it. In a turn one record is taken out of the row, stored to, and put back; of `record_at` the proof knows only that it
+-- once, after it. In a turn one record is taken out of the row, stored to, and put back; of `answer_at` the proof knows only that it
 -- meets
 -- its contract.
 --     exits      from what is had at a `return` to the contract
@@ -58,21 +58,21 @@ use denote.Triple.Clauses.{ensured, lasts}
 use denote.Triple.Table.{entered, cited}
 use denote.Triple.Walked.{says, Stays, stay-none, stay-slice, walkOf, goes-none, goes-slice, Walks, ends-at, walked, walk-meets}
 use denote.Exit.{yes}
-use Rattle.batching.specs.declared.Answer.{Answer}
-use Rattle.batching.specs.declared.Found.{Found}
-use Rattle.batch_answers.specs.Over.{written}
-use Rattle.batching.specs.Answered.{recordOf}
-use Rattle.batch_answers.specs.Answers.{stored, storeOf}
+use Rattle.batching.specs.declared.AnswerRecord.{AnswerRecord}
+use Rattle.batching.specs.declared.BatchFound.{BatchFound}
+use Rattle.batch_answers.specs.Over.{withFirstValues}
+use Rattle.batching.specs.Answered.{answerAt}
+use Rattle.batch_answers.specs.AnswerRecords.{storeOutcome, storeOf}
 use Rattle.batch_answers.proofs.Over.{over-none, length-over, over-more}
 use Rattle.batch_answers.proofs.Whole.{left-alone, all-stored}
-use Rattle.batching.proofs.Answer as T
-use Rattle.batching.proofs.Answer.Laws as T′
-use Rattle.batching.proofs.Found as F
-use Rattle.batching.proofs.Found.Laws as F′
-use Rattle.batching.proofs.record_at as record-at
-use Rattle.batching.proofs.record_at.Symbol as record-at-def
-use Rattle.batching.proofs.record_at.Symbol.{name as #batching·record-at}
-use Rattle.batching.proofs.record_at.Met as record-at-thm
+use Rattle.batching.proofs.AnswerRecord as T
+use Rattle.batching.proofs.AnswerRecord.Laws as T′
+use Rattle.batching.proofs.BatchFound as F
+use Rattle.batching.proofs.BatchFound.Laws as F′
+use Rattle.batching.proofs.answer_at as answer-at
+use Rattle.batching.proofs.answer_at.Symbol as answer-at-def
+use Rattle.batching.proofs.answer_at.Symbol.{name as #batching·answer-at}
+use Rattle.batching.proofs.answer_at.Met as answer-at-thm
 use Rattle.batch_answers.proofs.store.Key.{name as #batch-answers·store}
 use Rattle.batch_answers.proofs.store as store′
 use Rattle.batch_answers.proofs.store.Statement as stated
@@ -106,13 +106,13 @@ abbrev stayed : Stays (store′.ended .signature .params) (store′.ended .kept)
 stayed = (stay-none (λ _. F.the-row) yes, (stay-slice (0 ∷ []) tt (plain (λ _. T.the-row)), tt))
 
 -- the contract that the proof cites
-abbrev RecordAt : {M : Type 1} (𝓤 : URA M) (H : Heap 𝓤) (A : Atoms 𝓤) (mem : Memory → SProp 𝓤) (run : Routine → Fun 𝓤) → Contract 𝓤
-RecordAt 𝓤 H A mem run = tripleOf 𝓤 H A record-at.signature (record-at.spec 𝓤 H A mem run)
+abbrev AnswerAt : {M : Type 1} (𝓤 : URA M) (H : Heap 𝓤) (A : Atoms 𝓤) (mem : Memory → SProp 𝓤) (run : Routine → Fun 𝓤) → Contract 𝓤
+AnswerAt 𝓤 H A mem run = tripleOf 𝓤 H A answer-at.signature (answer-at.spec 𝓤 H A mem run)
 
 module _ {M : Type 1} (𝓤 : URA M) (H : Heap 𝓤) (A : Atoms 𝓤) (W : Given 𝓤 H A) (mem : Memory → SProp 𝓤) (run : Routine → Fun 𝓤) (κ : Lft)
-    (q : Share) (found : Found) (b o : ℕ) (γ : GName) (ys : List Answer) where
+    (q : Share) (found : BatchFound) (b o : ℕ) (γ : GName) (ys : List AnswerRecord) where
   -- the borrow at the list l
-  abbrev x : List Answer → RefT (List Answer)
+  abbrev x : List AnswerRecord → RefT (List AnswerRecord)
   x l = record { ptr = (b, o); name = γ; now = l }
 
   -- the machine values: the batch's result, and the slice's pointer and count
@@ -123,7 +123,7 @@ module _ {M : Type 1} (𝓤 : URA M) (H : Heap 𝓤) (A : Atoms 𝓤) (W : Given
   s = sliceVal (b, o) (length ys)
 
   abbrev Arg : Type 0
-  Arg = Found × (RefT (List Answer) × Unit {0})
+  Arg = BatchFound × (RefT (List AnswerRecord) × Unit {0})
 
   abbrev a : Arg
   a = (found, (x ys, tt))
@@ -136,7 +136,7 @@ module _ {M : Type 1} (𝓤 : URA M) (H : Heap 𝓤) (A : Atoms 𝓤) (W : Given
 
   module _ (is : Is F.the-row found (mach ∷ [])) (room : Room T.the-row (length ys)) where
     -- the slice is owned at the list zs, of the same length, and the result is t
-    exits : (t : Bool) (zs : List Answer) → length zs ≡ length ys → stored t zs ≡ storeOf found ys
+    exits : (t : Bool) (zs : List AnswerRecord) → length zs ≡ length ys → storeOutcome t zs ≡ storeOf found ys
         → ent 𝓤 (⋆ 𝓤 H A (‵ (fobs γ (codedHoleys T.the-row .code (heres T.the-row zs))) ∷ ‵
         (fbor κ (Held T.the-row (length zs) b o γ)) ∷ ‵ (flft κ q) ∷ [])) (Post (vbool t))
     exits t zs long e =
@@ -172,26 +172,27 @@ module _ {M : Type 1} (𝓤 : URA M) (H : Heap 𝓤) (A : Atoms 𝓤) (W : Given
     Nearer-wf : WellFounded Nearer
     Nearer-wf = InvImage·wf (λ (i : Upto). length ys - i .0) (Nat·lt-wfRel .wf)
 
-    -- what `record_at` binds outside, and that it is had for nothing
-    abbrev to : ℕ → RecordAt 𝓤 H A mem run .Ghost
+    -- what `answer_at` binds outside, and that it is had for nothing
+    abbrev to : ℕ → AnswerAt 𝓤 H A mem run .Ghost
     to i = ((tt, tt, tt, (found, (i, tt)), (mach ∷ [], (vint w64 i ∷ [], tt))), tt)
 
-    goes : (i : ℕ) → i < 2 ^ 64 → ent 𝓤 (emp 𝓤) (RecordAt 𝓤 H A mem run .pre (to i))
+    goes : (i : ℕ) → i < 2 ^ 64 → ent 𝓤 (emp 𝓤) (AnswerAt 𝓤 H A mem run .pre (to i))
     goes i fits =
         qed W [] ∵ nothing ! $ owned ! usize (Is usize) (uint-makes 𝓤 H A W w64) i _ (refl, fits) $ fjoin ! $
         owned ! F.the-row (Is F.the-row) (LL.makes F.the-type F′.the-plain 𝓤 H A) found _ is $ fjoin ! $
         nothing ! $ join ! $ nothing ! $ move ! (1 ∷ 0 ∷ []) $ join ! $ done !
 
-    record-of : (i : ℕ) (r : Answer) → ent 𝓤 (ensured 𝓤 H A record-at.ended (record-at.clauses 𝓤 H A mem run) tt (found, (i, tt)) tt r)
-        (fact 𝓤 (r ≡ recordOf found i))
-    record-of i r = exE 𝓤 _ (λ ws. snd∗ 𝓤 (sem 𝓤 H A (lasts record-at.ended tt (found, (i, tt)) ws)) (fact 𝓤 (r ≡ recordOf found i)))
+    record-of : (i : ℕ) (r : AnswerRecord) → ent 𝓤
+        (ensured 𝓤 H A answer-at.ended (answer-at.clauses 𝓤 H A mem run) tt (found, (i, tt)) tt r)
+        (fact 𝓤 (r ≡ answerAt found i))
+    record-of i r = exE 𝓤 _ (λ ws. snd∗ 𝓤 (sem 𝓤 H A (lasts answer-at.ended tt (found, (i, tt)) ws)) (fact 𝓤 (r ≡ answerAt found i)))
 
-    all-over : length ys ≡ found .count → (i : Upto) → length ys ≤ i .0 → stored true (written (recordOf found) (i .0) ys)
+    all-over : length ys ≡ found .count → (i : Upto) → length ys ≤ i .0 → storeOutcome true (withFirstValues (answerAt found) (i .0) ys)
         ≡ storeOf found ys
-    all-over same i most = ap (λ (k : ℕ). stored true (written (recordOf found) k ys)) (le-antisymm (i .1) most)
+    all-over same i most = ap (λ (k : ℕ). storeOutcome true (withFirstValues (answerAt found) k ys)) (le-antisymm (i .1) most)
         ∙ all-stored found ys same
 
-    module _ (𝓣 : Tables 𝓤 H) (known : Triple 𝓤 (𝓣 .C #batching·record-at) (RecordAt 𝓤 H A mem run))
+    module _ (𝓣 : Tables 𝓤 H) (known : Triple 𝓤 (𝓣 .C #batching·answer-at) (AnswerAt 𝓤 H A mem run))
         (l₀ l₁ l₂ l₃ l₄ l₅ l₆ l₇ l₈ l₉ : ℕ) where
       abbrev C : Calls 𝓤 H
       C = 𝓣 .C
@@ -205,7 +206,7 @@ module _ {M : Type 1} (𝓤 : URA M) (H : Heap 𝓤) (A : Atoms 𝓤) (W : Given
 
       -- the first i records are stored, and the slice's borrow is open
       abbrev At : Upto → List (Item 𝓤)
-      At i = ‵ (row T.the-row fullShare (written (recordOf found) (i .0) ys) b o)
+      At i = ‵ (row T.the-row fullShare (withFirstValues (answerAt found) (i .0) ys) b o)
           ∷ ‵ (fobor κ q (Held T.the-row (length ys) b o γ)) ∷ ‵ (fobs γ (codedHoleys T.the-row .code (heres T.the-row ys))) ∷ ‵
           (fauth γ (codedHoleys T.the-row .code (heres T.the-row ys)))
           ∷ ‵ (froom tyPtr l₉ 0) ∷ ‵ (fdies tyPtr l₉) ∷ ‵ (froom T′.mir l₈ 0) ∷ ‵ (fdies T′.mir l₈) ∷ ‵ (froom tyBool l₇ 0) ∷ ‵
@@ -229,15 +230,15 @@ module _ {M : Type 1} (𝓤 : URA M) (H : Heap 𝓤) (A : Atoms 𝓤) (W : Given
           (init ! 8 refl (tt, tt)) $
           first ! $ branches ! (load ! (from ! (stop !)) (look ! 8 refl))
           (λ less. skips ! $ exec ! C Λ En (then (then (then text.turn-1))) (anyQ (Turned i)) $
-          use0 W (raw (RecordAt 𝓤 H A mem run .pre (to (i .0)))) (goes (i .0) (fits i)) $
-          calls-at ! (fmOf 𝓤 H (W .laws) 𝓣) (RecordAt 𝓤 H A mem run) known (to (i .0))
+          use0 W (raw (AnswerAt 𝓤 H A mem run .pre (to (i .0)))) (goes (i .0) (fits i)) $
+          calls-at ! (fmOf 𝓤 H (W .laws) 𝓣) (AnswerAt 𝓤 H A mem run) known (to (i .0))
           (and-then ! (load ! (from ! (stop !)) (look ! 21 refl)) (and-then ! (load ! (from ! (stop !)) (look ! 17 refl)) (no-more !)))
           (λ w.
-          use1 W (later (some (λ (r : Answer). (‵ ftrue ⊛ ‵ (T.the-row .own r (w ∷ []))) ⊛ raw
-          (ensured 𝓤 H A record-at.ended (record-at.clauses 𝓤 H A mem run) tt (found, (i .0, tt)) tt r)))) (id⊢ 𝓤 _) $
+          use1 W (later (some (λ (r : AnswerRecord). (‵ ftrue ⊛ ‵ (T.the-row .own r (w ∷ []))) ⊛ raw
+          (ensured 𝓤 H A answer-at.ended (answer-at.clauses 𝓤 H A mem run) tt (found, (i .0, tt)) tt r)))) (id⊢ 𝓤 _) $
           await ! tt $ pick ! (λ r.
-          split ! $ move ! (1 ∷ []) $ use1 W (raw (fact 𝓤 (r ≡ recordOf found (i .0)))) (record-of (i .0) r) $
-          heard ! (r ≡ recordOf found (i .0)) (λ e. split ! $ drop ! $
+          split ! $ move ! (1 ∷ []) $ use1 W (raw (fact 𝓤 (r ≡ answerAt found (i .0)))) (record-of (i .0) r) $
+          heard ! (r ≡ answerAt found (i .0)) (λ e. split ! $ drop ! $
           peeks ! T.the-row (Is T.the-row) (shows 𝓤 H A T.the-row) r (w ∷ []) (λ g.
           land ! (from ! (stop !)) (init ! 7 refl (LL.lawful T.the-type T′.the-laws 𝓤 H A W .typed r _ g .0)) $
           assigns ! (bin ! (load ! (from ! (stop !)) (look ! 17 refl)) (lit ! tt) (record { fits = scaled less })) (from ! (stop !))
@@ -249,13 +250,13 @@ module _ {M : Type 1} (𝓤 : URA M) (H : Heap 𝓤) (A : Atoms 𝓤) (W : Given
           -- back
           move ! (1 ∷ []) $
           elem-out ! T.the-row (Is T.the-row) (shows 𝓤 H A T.the-row) (LL.vals T.the-type T′.the-laws)
-          (LL.tells T.the-type T′.the-laws) fullShare (written (recordOf found) (i .0) ys) (i .0) r b o (inside less) (λ _.
+          (LL.tells T.the-type T′.the-laws) fullShare (withFirstValues (answerAt found) (i .0) ys) (i .0) r b o (inside less) (λ _.
           assigns ! (of-opd ! (load ! (from ! (stop !)) (look ! 9 refl))) (from ! (hop ! (look ! 7 refl) (stop !)))
           (store-raw ! 0 refl (LL.lawful T.the-type T′.the-laws 𝓤 H A W .typed r _ g .0)) $
           move ! (1 ∷ []) $ drop ! $ move ! (0 ∷ 2 ∷ 1 ∷ []) $
-          elem-put ! T.the-row fullShare (written (recordOf found) (i .0) ys) (i .0) r (w ∷ []) b o (inside less) $
-          rewrite ! 0 (λ (l : List Answer). ‵ (row T.the-row fullShare l b o))
-          (ap (set (written (recordOf found) (i .0) ys) (i .0)) e ∙ over-more (recordOf found) ys (i .0)
+          elem-put ! T.the-row fullShare (withFirstValues (answerAt found) (i .0) ys) (i .0) r (w ∷ []) b o (inside less) $
+          rewrite ! 0 (λ (l : List AnswerRecord). ‵ (row T.the-row fullShare l b o))
+          (ap (set (withFirstValues (answerAt found) (i .0) ys) (i .0)) e ∙ over-more (answerAt found) ys (i .0)
           (ltb→lt (i .0) (length ys) less)) refl $
           assigns-last ! (bin ! (load ! (from ! (stop !)) (look ! 16 refl)) (lit ! tt) (record { fits = fits (next less) }))
           (from ! (stop !)) (store ! 16 refl (tt, record { fits = fits (next less) })) $
@@ -263,14 +264,14 @@ module _ {M : Type 1} (𝓤 : URA M) (H : Heap 𝓤) (A : Atoms 𝓤) (W : Given
           again ! Nearer At i (next less) (add-one-dec (length ys) (i .0) (ltb→lt (i .0) (length ys) less))))))))
           (λ beyond. jumps ! $ exec ! C Λ En text.t-6 (atRet En Post) $
           -- the slice's borrow is closed at the list with all the records in it
-          closes-slice ! tt T.the-row ys (written (recordOf found) (i .0) ys) (length-over (recordOf found) ys (i .0) (i .1)) b o $
+          closes-slice ! tt T.the-row ys (withFirstValues (answerAt found) (i .0) ys) (length-over (answerAt found) ys (i .0) (i .1)) b o $
           assigns ! (of-opd ! (true-lit !)) (from ! (stop !)) (init ! 21 refl (tt, tt)) $
           returns ! (look ! 21 refl) $ forget ! 7 refl $ forget ! 9 refl $ forget ! 15 refl $ forget ! 17 refl $ forget ! 19 refl $
           forget ! 21 refl $
           move ! (21 ∷ 22 ∷ []) $ free1 ! $ move ! (19 ∷ 20 ∷ []) $ free1 ! $ move ! (17 ∷ 18 ∷ []) $ free1 ! $ move ! (15 ∷ 16 ∷ []) $
           free1 ! $ move ! (13 ∷ 14 ∷ []) $ free1 ! $ move ! (11 ∷ 12 ∷ []) $ free1 ! $ move ! (9 ∷ 10 ∷ []) $ free1 ! $
           move ! (7 ∷ 8 ∷ []) $ free1 ! $ move ! (5 ∷ 6 ∷ []) $ free1 ! $ move ! (3 ∷ 4 ∷ []) $ free1 ! $ free0 ! $
-          by ! (exits true (written (recordOf found) (i .0) ys) (length-over (recordOf found) ys (i .0) (i .1))
+          by ! (exits true (withFirstValues (answerAt found) (i .0) ys) (length-over (answerAt found) ys (i .0) (i .1))
           (all-over same i (nltb→le (i .0) (length ys) beyond))))
         where
           fits : (j : Upto) → j .0 < 2 ^ 64
@@ -279,8 +280,8 @@ module _ {M : Type 1} (𝓤 : URA M) (H : Heap 𝓤) (A : Atoms 𝓤) (W : Given
           next : T (ltb (i .0) (length ys)) → Upto
           next less = (i .0 + 1, add-one-le (ltb→lt (i .0) (length ys) less))
 
-          inside : T (ltb (i .0) (length ys)) → i .0 < length (written (recordOf found) (i .0) ys)
-          inside less = subst (λ (n : ℕ). i .0 < n) (sym (length-over (recordOf found) ys (i .0) (i .1)))
+          inside : T (ltb (i .0) (length ys)) → i .0 < length (withFirstValues (answerAt found) (i .0) ys)
+          inside less = subst (λ (n : ℕ). i .0 < n) (sym (length-over (answerAt found) ys (i .0) (i .1)))
               (ltb→lt (i .0) (length ys) less)
 
           scaled : T (ltb (i .0) (length ys)) → i .0 * 16 < 2 ^ 64
@@ -314,11 +315,11 @@ module _ {M : Type 1} (𝓤 : URA M) (H : Heap 𝓤) (A : Atoms 𝓤) (W : Given
           -- the slice's borrow is opened, once
           move ! (21 ∷ []) $ fsplit ! $ drop ! $ fsplit ! $ fsplit ! $ drop ! $ fsplit ! $ move ! (23 ∷ []) $ split ! $
           move ! (2 ∷ 3 ∷ 0 ∷ []) $ opens-slice ! tt T.the-row ys b o $
-          rewrite ! 0 (λ (l : List Answer). ‵ (row T.the-row fullShare l b o)) (sym (over-none (recordOf found) ys)) refl $
+          rewrite ! 0 (λ (l : List AnswerRecord). ‵ (row T.the-row fullShare l b o)) (sym (over-none (answerAt found) ys)) refl $
           keep ! (0 ∷ 1 ∷ 2 ∷ 3 ∷ 6 ∷ 7 ∷ 8 ∷ 9 ∷ 10 ∷ 11 ∷ 12 ∷ 13 ∷ 14 ∷ 15 ∷ 16 ∷ 17 ∷ 18 ∷ 19 ∷ 20 ∷ 21 ∷ 22 ∷ 23 ∷ 24 ∷ 25 ∷ []) $
           first ! $ blocks ! $ loops ! 𝓣 Nearer Nearer-wf At (turns (same-length same)) (0, zero-le))
 
-    enters : (𝓣 : Tables 𝓤 H) → Triple 𝓤 (𝓣 .C #batching·record-at) (RecordAt 𝓤 H A mem run) → ent 𝓤
+    enters : (𝓣 : Tables 𝓤 H) → Triple 𝓤 (𝓣 .C #batching·answer-at) (AnswerAt 𝓤 H A mem run) → ent 𝓤
         (onEntry 𝓤 H A store′.signature (κ, tt) (q, tt) a vals) (WpFn 𝓤 H (𝓣 .C) (𝓣 .Λ) code.function (mach ∷ s ∷ []) Post)
     enters 𝓣 known =
         qed W ((‵ (flft κ q) ⊛ ‵ ftrue) ∷ ‵ (owns (F.the-row ∷ MutSlice (named 0) κ T.the-row ∷ []) a vals) ∷ []) ∵ enter ! (𝓣 .C)
@@ -331,7 +332,7 @@ module _ {M : Type 1} (𝓤 : URA M) (H : Heap 𝓤) (A : Atoms 𝓤) (W : Given
         walk 𝓣 known l₀ l₁ l₂ l₃ l₄ l₅ l₆ l₇ l₈ l₉))))))))))
 
 module _ {M : Type 1} (𝓤 : URA M) (H : Heap 𝓤) (A : Atoms 𝓤) (W : Given 𝓤 H A) (mem : Memory → SProp 𝓤) (run : Routine → Fun 𝓤)
-    (𝓣 : Tables 𝓤 H) (known : Triple 𝓤 (𝓣 .C #batching·record-at) (RecordAt 𝓤 H A mem run)) where
+    (𝓣 : Tables 𝓤 H) (known : Triple 𝓤 (𝓣 .C #batching·answer-at) (AnswerAt 𝓤 H A mem run)) where
   store-walks : Walks 𝓤 H A store′.ended stayed (WpFn 𝓤 H (𝓣 .C) (𝓣 .Λ) code.function) (store′.clauses 𝓤 H A mem run)
   store-walks = walked 𝓤 H A store′.ended stayed (store′.clauses 𝓤 H A mem run) (WpFn 𝓤 H (𝓣 .C) (𝓣 .Λ) code.function)
       (λ κs. (LL.vals F.the-type F′.the-laws, (slice-vals, tt)))
@@ -354,5 +355,5 @@ store-spec 𝓤 H 𝓜 𝓖 𝓡 =
     entered 𝓤 H (tripleOf 𝓤 H (𝓖 .A) store′.signature (store′.spec 𝓤 H (𝓖 .A) (𝓜 .mem) (𝓡 .run)))
     (tables 𝓤 H 𝓜 𝓡 code.env .C) (tables 𝓤 H 𝓜 𝓡 code.env .Λ) #batch-answers·store code.function (code.unfolded 𝓤 H 𝓜 𝓡)
     (store-meets 𝓤 H (𝓖 .A) (givenOf 𝓤 H 𝓜 𝓖) (𝓜 .mem) (𝓡 .run) (tablesOf 𝓤 H 𝓜 (tables 𝓤 H 𝓜 𝓡 code.env))
-    (cited 𝓤 H (RecordAt 𝓤 H (𝓖 .A) (𝓜 .mem)
-    (𝓡 .run)) 𝓜 𝓡 code.env #batching·record-at record-at-def.routine code.calls-batching·record-at (record-at-thm.met 𝓤 H 𝓜 𝓖 𝓡)))
+    (cited 𝓤 H (AnswerAt 𝓤 H (𝓖 .A) (𝓜 .mem)
+    (𝓡 .run)) 𝓜 𝓡 code.env #batching·answer-at answer-at-def.routine code.calls-batching·answer-at (answer-at-thm.met 𝓤 H 𝓜 𝓖 𝓡)))

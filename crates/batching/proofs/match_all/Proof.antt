@@ -9,7 +9,7 @@ use Rattle.dstree.specs.Refusals.{Condition, firstOf}
 use Rattle.tables.specs.Tables.{Tables, tables}
 use Rattle.tables.specs.Answers.{foundBy, madeConditions}
 use Rattle.calls.specs.Effects.{batchConditionsIn}
-use Rattle.batching.proofs.Taken.{Taken, taken}
+use Rattle.batching.proofs.Taken.{BatchAccepted, taken}
 use Rattle.batching.proofs.Answers.{batch-refused, batch-answer}
 use Rattle.batching.proofs.match_all.Statement.{statement}
 use Rattle.batching.proofs.match_all.Tie as tie
@@ -35,7 +35,7 @@ module _ (e : tie.After-enum-told) where
   unfolding foundBy
   nothing = sym (e .before .before .judge .ensures) ∙ ap foundBy (e .enum-told .given .1)
 
-  may : Taken (lentTables s) (now (s .args .queries)) (s .args .many) (now (s .args .trail)) × (s .args .places ≡ s .args .many)
+  may : BatchAccepted (lentTables s) (now (s .args .queries)) (s .args .many) (now (s .args .trail)) × (s .args .places ≡ s .args .many)
   may = taken (lentTables s) (s .args .many) (s .args .places) (now (s .args .queries)) (now (s .args .trail)) nothing
 
 search-batch-requires : tie.Need-search-batch-requires

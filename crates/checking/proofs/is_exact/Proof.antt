@@ -7,7 +7,7 @@ use lib.ListN.{length-replicate}
 use borrow.Author.Needs.{needs}
 use Rattle.integer.specs.Words.{every, counting}
 use Rattle.tables.specs.Tables.{Tables, tables, measuresOf, traceCount, nodeCount}
-use Rattle.checking.specs.Laid.{treeBy, Walks, LaidOut, Ready}
+use Rattle.checking.specs.Laid.{treeBy, Walks, LaidOut, ReadyToCompare}
 use Rattle.checking.specs.Compared.{exactIn}
 use Rattle.checking.proofs.Trusted.{walks, ready, all-same}
 use Rattle.checking.proofs.is_exact.Statement.{statement}
@@ -55,10 +55,11 @@ module _ (c : tie.After-lay-out) where
       (subst (λ (m : ℕ). LaidOut (treeBy (t w .nodes) (t w .links) (w .before .before .wide2 .result) m) sizes starts order) (m-is w)
       (c .lay-out .ensures))
 
-  compared : Ready (t w .samples) (t w .nodes) (w .before .before .before .before .wide .result) (w .wide3 .result) sizes starts order
+  compared : ReadyToCompare (t w .samples) (t w .nodes) (w .before .before .before .before .wide .result)
+      (w .wide3 .result) sizes starts order
   compared =
-      subst (λ (n : ℕ). Ready (t w .samples) (t w .nodes) n (w .wide3 .result) sizes starts order) (sym (n-is w))
-      (subst (λ (m : ℕ). Ready (t w .samples) (t w .nodes) (measuresOf (t w) .n) m sizes starts order) (sym (m-is w))
+      subst (λ (n : ℕ). ReadyToCompare (t w .samples) (t w .nodes) n (w .wide3 .result) sizes starts order) (sym (n-is w))
+      (subst (λ (m : ℕ). ReadyToCompare (t w .samples) (t w .nodes) (measuresOf (t w) .n) m sizes starts order) (sym (m-is w))
       (ready (t w) (start w .pre .0) (start w .pre .1) laid))
 
 returns : tie.Need-returns

@@ -18,8 +18,8 @@ use Rattle.tables.specs.Answers.{foundBy}
 use Rattle.insertion_memory.specs.Memory.{addedTo}
 use Rattle.calls.specs.Effects.{imports, effectOf, outcomeOn}
 use Rattle.calls.proofs.Ends.{ends-refused, ends-done}
-use Rattle.importing.specs.Answered.{answerOf}
-use Rattle.importing.specs.Loads.{Loads}
+use Rattle.importing.specs.Answered.{answerBy}
+use Rattle.importing.specs.Loads.{LoadsFile}
 use Rattle.importing.proofs.Answers.{refused-first, counted}
 use Rattle.importing.proofs.Takes.{traces-are, loads}
 use Rattle.importing.proofs.import_recording.Statement.{statement}
@@ -49,43 +49,44 @@ module _ (l : tie.After-look) where
   abbrev wide : tie.After-wide
   wide = l .before .before
 
-  abbrev told : tie.After-judged2
-  told = wide .before .before .before .before
+  abbrev fine : tie.After-judged2
+  fine = wide .before .before .before .before
 
   abbrev judged : tie.After-judge
-  judged = told .before .before
+  judged = fine .before .before
 
   abbrev t : Tables
   t = lent judged
 
   abbrev count : ℕ
-  count = told .judged2 .given .0 .0
+  count = fine .judged2 .given .0 .0
 
   n-is : wide .wide .result ≡ measuresOf t .n
   n-is = wide .wide .ensures ∙ wide .before .field .ensures
 
   taken : (firstOf (imports t (bytes judged) .conditions) ≡ none)
       × (count ≡ length (fileTraces (judgeRecording (measuresOf t .n) (bytes judged))))
-  unfolding answerOf
-  taken = counted t (bytes judged) count (sym (ap answerOf (told .judged2 .given .1)) ∙ judged .judge .ensures)
+  unfolding answerBy
+  taken = counted t (bytes judged) count (sym (ap answerBy (fine .judged2 .given .1)) ∙ judged .judge .ensures)
 
 load-requires : tie.Need-load-requires
 load-requires c κs =
     let l = c .before .before .before .before in
     let j = judged l in
     let g = start j .args in
-    subst (λ (k : ℕ). Loads (now (g .control)) (now (g .samples)) (now (g .nodes)) (now (g .links)) (bytes j) k (count l)) (sym (n-is l))
+    subst (λ (k : ℕ). LoadsFile (now (g .control)) (now (g .samples)) (now (g .nodes)) (now (g .links)) (bytes j) k (count l))
+    (sym (n-is l))
     (loads (t l) (bytes j) (taken l .0) (are-bytes j) (l .look .ensures) (count l) (taken l .1))
 
 returns : tie.Need-returns
-unfolding answerOf outcomeOn effectOf besideOf foundBy
+unfolding answerBy outcomeOn effectOf besideOf foundBy
 returns c =
     let j = c .before .before .before in
     ends-refused (lent j) [] (imports (lent j) (bytes j)) _
-    (refused-first (lent j) (bytes j) _ (sym (ap answerOf (c .before .judged .given .1)) ∙ j .judge .ensures))
+    (refused-first (lent j) (bytes j) _ (sym (ap answerBy (c .before .judged .given .1)) ∙ j .judge .ensures))
 
 returns-2 : tie.Need-returns-2
-unfolding answerOf outcomeOn effectOf besideOf imports
+unfolding answerBy outcomeOn effectOf besideOf imports
 returns-2 c =
     let d = c .before .before .before .before .before .before in
     let l = d .before .before .before .before .before in

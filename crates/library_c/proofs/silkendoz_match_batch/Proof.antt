@@ -43,8 +43,8 @@ use denote.Triple.Table.{entered, cited}
 use denote.Triple.Walked.{says, Stays, stay-none, stay-none-slice, gave-slice, walkOf, goes-none, goes-none-slice, goes-gave-slice, Walks}
 use denote.Triple.Walked.{ends-at, walked, walk-meets}
 use denote.Exit.{yes}
-use Rattle.batching.specs.declared.Answer.{Answer}
-use Rattle.batching.specs.declared.Outcome.{Outcome}
+use Rattle.batching.specs.declared.AnswerRecord.{AnswerRecord}
+use Rattle.batching.specs.declared.Batched.{Batched}
 use Rattle.dstree.specs.Matching.{Near}
 use Rattle.dstree.specs.KNearest.{listPlaces}
 use Rattle.dstree.specs.Book as book
@@ -52,12 +52,12 @@ use Rattle.tables.specs.Tables as lent
 use Rattle.calls.specs.Outcome.{outcome}
 use Rattle.calls.specs.Effects.{outcomeOn}
 use Rattle.batching.specs.Answered.{answerBy}
-use Rattle.batch_answers.specs.Answers.{nearsOf}
-use Rattle.library_c.specs.Exported.{returned, returnedOf, exported, exportedOf}
+use Rattle.batch_answers.specs.AnswerRecords.{nearsOf}
+use Rattle.library_c.specs.COutcome.{returned, returnedOf, cOutcome, cOutcomeOf}
 use Rattle.library_c.proofs.Answers.{exported-call}
-use Rattle.batching.proofs.Answer as T
-use Rattle.batching.proofs.Outcome as O
-use Rattle.batching.proofs.Outcome.Laws as O′
+use Rattle.batching.proofs.AnswerRecord as T
+use Rattle.batching.proofs.Batched as O
+use Rattle.batching.proofs.Batched.Laws as O′
 use Rattle.batch_answers.proofs.match_batch as all′
 use Rattle.batch_answers.proofs.match_batch.Symbol as all-def
 use Rattle.batch_answers.proofs.match_batch.Symbol.{name as #all}
@@ -112,7 +112,7 @@ module _ {M : Type 1} (𝓤 : URA M) (H : Heap 𝓤) (A : Atoms 𝓤) (mem : Mem
 module _ {M : Type 1} (𝓤 : URA M) (H : Heap 𝓤) (A : Atoms 𝓤) (W : Given 𝓤 H A) (mem : Memory → SProp 𝓤) (run : Routine → Fun 𝓤)
     (κ₀ κ₁ κ₂ κ₃ κ₄ κ₅ κ₆ κ₇ κ₈ : Lft) (q₀ q₁ q₂ q₃ q₄ q₅ q₆ q₇ q₈ : Share)
     (control : RefT (List ℕ)) (samples : RefT (List ℤ)) (nodes : RefT (List ℤ)) (links : RefT (List ℕ)) (work : RefT (List ℕ))
-    (trail : RefT (List ℕ)) (queries : RefT (List ℤ)) (many : ℕ) (list : RefT (List Answer)) (out : RefT (List ℕ))
+    (trail : RefT (List ℕ)) (queries : RefT (List ℤ)) (many : ℕ) (list : RefT (List AnswerRecord)) (out : RefT (List ℕ))
     (many-fits : many < 2 ^ 64) where
   -- the slices' machine values, and what they own
   abbrev v-control : Val
@@ -175,7 +175,7 @@ module _ {M : Type 1} (𝓤 : URA M) (H : Heap 𝓤) (A : Atoms 𝓤) (W : Given
 
   abbrev Arg : Type 0
   Arg = RefT (List ℕ) × (RefT (List ℤ) × (RefT (List ℤ) × (RefT (List ℕ) ×
-      (RefT (List ℕ) × (RefT (List ℕ) × (RefT (List ℤ) × (ℕ × (RefT (List Answer) × (RefT (List ℕ) × Unit {0})))))))))
+      (RefT (List ℕ) × (RefT (List ℕ) × (RefT (List ℤ) × (ℕ × (RefT (List AnswerRecord) × (RefT (List ℕ) × Unit {0})))))))))
 
   abbrev a : Arg
   a = (control, (samples, (nodes, (links, (work, (trail, (queries, (many, (list, (out, tt))))))))))
@@ -203,22 +203,22 @@ module _ {M : Type 1} (𝓤 : URA M) (H : Heap 𝓤) (A : Atoms 𝓤) (W : Given
   )
 
   -- what is ensured, by the callees and by the whole
-  abbrev Answers : Outcome → List ℕ → List ℕ → List Answer → Type 0
+  abbrev Answers : Batched → List ℕ → List ℕ → List AnswerRecord → Type 0
   Answers r work′ trail′ list′ = outcome (answerBy r (nearsOf list′) trail′)
       (lent.tables (control .now) (samples .now) (nodes .now) (links .now) work′) (trail′ ∷ listPlaces (nearsOf list′) ∷ []) ≡ outcomeOn
       (book.batching many (queries .now) (trail .now) (nearsOf (list .now)))
       (lent.tables (control .now) (samples .now) (nodes .now) (links .now) (work .now))
 
-  abbrev Tells : Outcome → ℕ → List ℕ → Type 0
+  abbrev Tells : Batched → ℕ → List ℕ → Type 0
   Tells r code out′ = (records : List Near) (read : List ℕ) → returned code out′ ≡ returnedOf (answerBy r records read) (out .now)
 
-  abbrev Ensured : ℕ → List ℕ → List ℕ → List Answer → List ℕ → Type 0
-  Ensured code work′ trail′ list′ out′ = exported code out′ (lent.tables (control .now) (samples .now) (nodes .now) (links .now) work′)
-      (trail′ ∷ listPlaces (nearsOf list′) ∷ []) ≡ exportedOf
+  abbrev Ensured : ℕ → List ℕ → List ℕ → List AnswerRecord → List ℕ → Type 0
+  Ensured code work′ trail′ list′ out′ = cOutcome code out′ (lent.tables (control .now) (samples .now) (nodes .now) (links .now) work′)
+      (trail′ ∷ listPlaces (nearsOf list′) ∷ []) ≡ cOutcomeOf
       (outcomeOn (book.batching many (queries .now) (trail .now) (nearsOf (list .now)))
       (lent.tables (control .now) (samples .now) (nodes .now) (links .now) (work .now))) (out .now)
 
-  exits : (code′ : ℕ) (w : Val) (work′ : List ℕ) (trail′ : List ℕ) (list′ : List Answer) (out′ : List ℕ)
+  exits : (code′ : ℕ) (w : Val) (work′ : List ℕ) (trail′ : List ℕ) (list′ : List AnswerRecord) (out′ : List ℕ)
       → Ensured code′ work′ trail′ list′ out′ → length work′ ≡ length (work .now) → length trail′ ≡ length (trail .now) → length list′
       ≡ length (list .now) → length out′ ≡ length (out .now)
       → ent 𝓤 (⋆ 𝓤 H A (‵ (flft κ₀ q₀) ∷ ‵ (flft κ₁ q₁) ∷ ‵ (flft κ₂ q₂) ∷ ‵ (flft κ₃ q₃) ∷ ‵ (flft κ₄ q₄) ∷ ‵ (flft κ₅ q₅) ∷ ‵
@@ -244,7 +244,7 @@ module _ {M : Type 1} (𝓤 : URA M) (H : Heap 𝓤) (A : Atoms 𝓤) (W : Given
       move ! (2 ∷ 0 ∷ []) $ fjoin ! $ move ! (1 ∷ 0 ∷ []) $ fjoin ! $ done !
 
   abbrev to-list : RefT (List ℕ) × (RefT (List ℤ) × (RefT (List ℤ) ×
-      (RefT (List ℕ) × (RefT (List ℕ) × (RefT (List ℕ) × (RefT (List ℤ) × (ℕ × (RefT (List Answer) × Unit {0}))))))))
+      (RefT (List ℕ) × (RefT (List ℕ) × (RefT (List ℕ) × (RefT (List ℤ) × (ℕ × (RefT (List AnswerRecord) × Unit {0}))))))))
   to-list = (control, (samples, (nodes, (links, (work, (trail, (queries, (many, (list, tt)))))))))
 
   abbrev to-all : All 𝓤 H A mem run .Ghost
@@ -285,10 +285,10 @@ module _ {M : Type 1} (𝓤 : URA M) (H : Heap 𝓤) (A : Atoms 𝓤) (W : Given
       join ! $ move ! (8 ∷ 0 ∷ []) $ join ! $ move ! (7 ∷ 0 ∷ []) $ join ! $ move ! (6 ∷ 0 ∷ []) $ join ! $ move ! (5 ∷ 0 ∷ []) $ join ! $
       move ! (4 ∷ 0 ∷ []) $ join ! $ move ! (3 ∷ 0 ∷ []) $ join ! $ move ! (2 ∷ 0 ∷ []) $ join ! $ join ! $ frame ! $ done !
 
-  abbrev to-tell : Outcome → Val → Tell 𝓤 H A mem run .Ghost
+  abbrev to-tell : Batched → Val → Tell 𝓤 H A mem run .Ghost
   to-tell = λ r w. (((κ₈, tt), (q₈, tt), tt, (r, (out, tt)), (w ∷ [], (v-out ∷ [], tt))), tt)
 
-  goes-tell : (r : Outcome) (w : Val) → ent 𝓤 (⋆ 𝓤 H A (‵ (flft κ₈ q₈) ∷ ‵ (O.the-row .own r (w ∷ [])) ∷ ‵ Own-out ∷ []))
+  goes-tell : (r : Batched) (w : Val) → ent 𝓤 (⋆ 𝓤 H A (‵ (flft κ₈ q₈) ∷ ‵ (O.the-row .own r (w ∷ [])) ∷ ‵ Own-out ∷ []))
       (Tell 𝓤 H A mem run .pre (to-tell r w))
   goes-tell r w = qed W (‵ (flft κ₈ q₈) ∷ ‵ (O.the-row .own r (w ∷ [])) ∷ ‵ Own-out ∷ []) ∵ nothing ! $ move ! (3 ∷ 0 ∷ []) $ fjoin ! $
       move ! (2 ∷ 0 ∷ []) $ fjoin ! $ nothing ! $ move ! (2 ∷ 0 ∷ []) $ join ! $ join ! $ frame ! $ done !
@@ -366,7 +366,7 @@ module _ {M : Type 1} (𝓤 : URA M) (H : Heap 𝓤) (A : Atoms 𝓤) (W : Given
         (and-then ! (load ! (from ! (stop !)) (look ! 32 refl))
         (and-then ! (load ! (from ! (stop !)) (look ! 30 refl))
         (and-then ! (load ! (from ! (stop !)) (look ! 12 refl)) (no-more !)))))))))) (λ w₁.
-        use1 W (later (some (λ (r : Outcome). ((‵ (flft κ₀ q₀) ⊛
+        use1 W (later (some (λ (r : Batched). ((‵ (flft κ₀ q₀) ⊛
         (‵ (flft κ₁ q₁) ⊛ (‵ (flft κ₂ q₂) ⊛ (‵ (flft κ₃ q₃) ⊛
         (‵ (flft κ₄ q₄) ⊛ (‵ (flft κ₅ q₅) ⊛ (‵ (flft κ₆ q₆) ⊛ (‵ (flft κ₇ q₇) ⊛ (‵ ftrue))))))))) ⊛ ‵
         (O.the-row .own r (w₁ ∷ []))) ⊛ raw (ensured 𝓤 H A all′.ended (all′.clauses 𝓤 H A mem run)
@@ -374,7 +374,7 @@ module _ {M : Type 1} (𝓤 : URA M) (H : Heap 𝓤) (A : Atoms 𝓤) (W : Given
         await ! tt $ pick ! (λ r.
         split ! $ move ! (1 ∷ []) $
         use1 W (some (λ (ts : Unit {0} × (Unit {0} × (Unit {0} ×
-        (Unit {0} × (List ℕ × (List ℕ × (Unit {0} × (Unit {0} × (List Answer × Unit {0}))))))))). ‵
+        (Unit {0} × (List ℕ × (List ℕ × (Unit {0} × (Unit {0} × (List AnswerRecord × Unit {0}))))))))). ‵
         (lasts all′.ended (κ₀, (κ₁, (κ₂, (κ₃, (κ₄, (κ₅, (κ₆, (κ₇, tt)))))))) to-list ts) ⊛ raw
         (fact 𝓤 (Answers r (ts .1 .1 .1 .1 .0) (ts .1 .1 .1 .1 .1 .0) (ts .1 .1 .1 .1 .1 .1 .1 .1 .0))))) (id⊢ 𝓤 _) $
         pick ! (λ ts.

@@ -17,7 +17,7 @@ use Rattle.tables.specs.Answers.{foundBy}
 use Rattle.calls.specs.Effects.{isNone, matches, effectOf, outcomeOn}
 use Rattle.calls.proofs.Ends.{ends-refused}
 use Rattle.matching.specs.Answered.{answerBy}
-use Rattle.query_judging.proofs.Taken.{Taken}
+use Rattle.query_judging.proofs.Taken.{QueryAccepted}
 use Rattle.matching.proofs.Conditions.{may-search, finds}
 use Rattle.matching.proofs.Answers.{found-one, found-answer}
 use Rattle.matching.proofs.nearest.Statement.{statement}
@@ -39,7 +39,7 @@ module _ (e : tie.After-enum-told) where
   unfolding foundBy
   nothing = sym (e .before .before .judge .ensures) ∙ ap foundBy (e .enum-told .given .1)
 
-  may : Taken (lentTables s) (now (s .args .query)) (now (s .args .trail))
+  may : QueryAccepted (lentTables s) (now (s .args .query)) (now (s .args .trail))
   may = may-search (lentTables s) (now (s .args .query)) (now (s .args .trail)) nothing
 
   found : isNone (matchBySteps (tracesIn (lentTables s)) (treeIn (lentTables s)) (now (s .args .query))) ≡ false

@@ -12,7 +12,7 @@ use Rattle.tables.specs.Answers.{foundBy, openingConditions}
 use Rattle.dstree.specs.Book.{done, besideOf}
 use Rattle.calls.specs.Effects.{opens, effectOf, outcomeOn}
 use Rattle.calls.proofs.Ends.{ends-refused, ends-done}
-use Rattle.opening.specs.Opened.{answerOf}
+use Rattle.opening.specs.Opened.{answerBy}
 use Rattle.opening.proofs.Answered.{opening-long-enough}
 use Rattle.opening.proofs.open.Statement.{statement}
 use Rattle.opening.proofs.open.Tie as tie
@@ -44,26 +44,26 @@ module _ (c : tie.After-enum-told) where
   nothing = found (c .before .before) ∙ ap foundBy (c .enum-told .given .1)
 
 -- where the five tables are handed on
-abbrev told : tie.After-put-empty-arg5 → tie.After-enum-told
-told c = c .before .before .before .before .before
+abbrev fine : tie.After-put-empty-arg5 → tie.After-enum-told
+fine c = c .before .before .before .before .before
 
 put-empty-requires : tie.Need-put-empty-requires
 put-empty-requires c κs =
-    let e = told c in
+    let e = fine c in
     opening-long-enough (lentOf (lentTables (origin e))) (asked (origin e)) (nothing e)
 
 returns : tie.Need-returns
-unfolding answerOf outcomeOn effectOf besideOf opens openingConditions
+unfolding answerBy outcomeOn effectOf besideOf opens openingConditions
 returns c =
     let o = c .before .before .before in
     let t = lentTables (start o) in
     ends-refused t [] (opens t (asked (start o))) _ (found o ∙ ap foundBy (c .before .verdict .given .1))
 
 returns-2 : tie.Need-returns-2
-unfolding answerOf outcomeOn effectOf besideOf opens openingConditions
+unfolding answerBy outcomeOn effectOf besideOf opens openingConditions
 returns-2 c =
     let p = c .before .before .before .before .before .before .before .before in
-    let e = told (p .before) in
+    let e = fine (p .before) in
     let t = lentTables (origin e) in
     ends-done t [] (opens t (asked (origin e))) done _ [] (nothing e) refl (p .put-empty .ensures) refl
 

@@ -15,7 +15,7 @@ use Rattle.dstree.specs.Refusals.{firstOf}
 use Rattle.tables.specs.Tables.{Tables, tables, measuresOf, traceCount}
 use Rattle.tables.specs.View.{treeIn}
 use Rattle.tables.specs.Answers.{wordOf, foundBy}
-use Rattle.query_judging.specs.Leaves.{leafCount}
+use Rattle.query_judging.specs.LeafCount.{leafCount}
 use Rattle.query_judging.proofs.Counted.{leaves-counted}
 use Rattle.query_judging.proofs.judge_query.Statement.{statement}
 use Rattle.query_judging.proofs.judge_query.Tie as tie

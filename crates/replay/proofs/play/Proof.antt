@@ -15,10 +15,10 @@ use Rattle.replay.proofs.play.Tie as tie
 
 abbrev Inv-loop : tie.InvT-loop
 Inv-loop control₀ samples₀ nodes₀ links₀ work₀ trails₀ sheets₀ lists₀ script pool replies₀ at₀ place₀ told₀ control samples nodes links
-    work trails sheets lists replies at place told =
+    work trails sheets lists replies at place count =
     (place ≤ length script)
     × Playing (tables control₀ samples₀ nodes₀ links₀ work₀) script pool trails₀ sheets₀ lists₀ replies₀ (tables control samples nodes
-    links work) trails sheets lists replies at place told
+    links work) trails sheets lists replies at place count
     × (length control ≡ length control₀)
     × (length samples ≡ length samples₀)
     × (length nodes ≡ length nodes₀)
@@ -31,7 +31,7 @@ Inv-loop control₀ samples₀ nodes₀ links₀ work₀ trails₀ sheets₀ lis
 
 abbrev μ-loop : tie.MeasureT-loop
 μ-loop control₀ samples₀ nodes₀ links₀ work₀ trails₀ sheets₀ lists₀ script pool replies₀ at₀ place₀ told₀ control samples nodes links
-    work trails sheets lists replies at place told =
+    work trails sheets lists replies at place count =
     length script - place
 
 loop-holds : tie.Need-loop-holds Inv-loop μ-loop

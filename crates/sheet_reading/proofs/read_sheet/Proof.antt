@@ -17,7 +17,7 @@ use Rattle.tables.specs.Tables.{Tables, tables, lentOf}
 use Rattle.tables.specs.Answers.{foundBy, opened}
 use Rattle.tables.specs.Judge.{LongEnough}
 use Rattle.insertion_memory.specs.Memory.{addedTo}
-use Rattle.sheet_judging.specs.Traces.{tracesOf}
+use Rattle.sheet_judging.specs.Traces.{sheetTraces}
 use Rattle.sheet_judging.proofs.Places.{first-inside}
 use Rattle.sheet_judging.proofs.Samples.{fine}
 use Rattle.calls.specs.Library.{loaded}
@@ -118,9 +118,9 @@ returns-2 c =
     (l .load .ensures (p .put-empty .last .1 .1 .1 .1 .0)
     ∙ (ap (foldl addedTo (tables (p .put-empty .last .0) (p .put-empty .last .1 .0) (p .put-empty .last .1 .1 .0) (p .put-empty .last .1 .1 .1 .0)
     (p .put-empty .last .1 .1 .1 .1 .0)))
-    (take-all (head p .head-of .result .count) (tracesOf (bytes (origin p)))
+    (take-all (head p .head-of .result .count) (sheetTraces (bytes (origin p)))
     (omega (arith, head p .head-of .ensures .count-is, traces-count (bytes (origin p)))))
-    ∙ ap (λ (t : Tables). foldl addedTo t (tracesOf (bytes (origin p)))) (opened-is p)))
+    ∙ ap (λ (t : Tables). foldl addedTo t (sheetTraces (bytes (origin p)))) (opened-is p)))
 
 pub read-sheet-spec : {M : Type 1} → statement M
 read-sheet-spec =

@@ -12,10 +12,10 @@ use Rattle.tables.specs.Tables.{Tables, measuresOf, traceCount, nodeCount, reco
 use Rattle.tables.specs.View.{smallAt, treeIn}
 use Rattle.tables.specs.Walk.{numbersOf}
 use Rattle.reading.specs.Nearest.{nearOf}
-use Rattle.reading.proofs.Meaning.{LeafAt}
+use Rattle.reading.proofs.Meaning.{LeafInTables}
 use Rattle.leaf_order.specs.Waits.{Walkable}
 use Rattle.leaf_order.proofs.Records.{number-fits}
-use Rattle.search.specs.Searched.{made, Ready}
+use Rattle.search.specs.Searched.{withoutWork, Ready}
 use Rattle.search.proofs.Facts.{walkable, leaf-at}
 use Rattle.search.proofs.Turns.{stored-as}
 use Rattle.batch_search.specs.Batched.{queryAt, AllRead}
@@ -27,7 +27,7 @@ use Rattle.batch_search.proofs.leaves.read_once.Tie as tie
 
 module _ (s : tie.Start) where
   abbrev given : Tables
-  given = made (now (s .args .control)) (now (s .args .samples)) (now (s .args .nodes)) (now (s .args .links))
+  given = withoutWork (now (s .args .control)) (now (s .args .samples)) (now (s .args .nodes)) (now (s .args .links))
 
   ready : Ready given (queryAt given (now (s .args .queries)) 0) (length (leaves (treeIn given)))
   ready = ready-for given (now (s .args .queries)) (s .args .many) (s .pre .0 .0) 0 (omega (arith, s .pre .0 .0 .some-query))
@@ -35,7 +35,7 @@ module _ (s : tie.Start) where
   walks : Walkable (given .nodes) (nodeCount given) (queryAt given (now (s .args .queries)) 0)
   walks = walkable given (queryAt given (now (s .args .queries)) 0) (length (leaves (treeIn given))) ready
 
-  at-leaf : LeafAt given (s .args .j)
+  at-leaf : LeafInTables given (s .args .j)
   at-leaf = leaf-at given (queryAt given (now (s .args .queries)) 0) (length (leaves (treeIn given))) ready (s .args .j) (s .pre .1 .0)
       (s .pre .1 .1)
 

@@ -11,8 +11,8 @@ use Rattle.dstree.specs.Matching.{leaves}
 use Rattle.dstree.specs.Batch.{batchRead}
 use Rattle.tables.specs.Tables.{Tables, nodeCount}
 use Rattle.tables.specs.View.{treeIn, tracesIn}
-use Rattle.search.specs.Searched.{made}
-use Rattle.batch_search.specs.Batched.{queriesOf, Keeps, markedOf, Written}
+use Rattle.search.specs.Searched.{withoutWork}
+use Rattle.batch_search.specs.Batched.{queriesOf, BestsAndMarks, markedOf, TrailBegins}
 use Rattle.batch_search.proofs.Runs.{nodes-few}
 use Rattle.batch_search.proofs.Sweeps.{keeps-none, marked-few, batch-found}
 use Rattle.batch_search.proofs.searching.search_batch.Statement.{statement}
@@ -22,7 +22,7 @@ abbrev start : tie.After-marks → tie.Start
 start c = c .before .before .before .before .before .before .before
 
 abbrev given : tie.Start → Tables
-given s = made (now (s .args .control)) (now (s .args .samples)) (now (s .args .nodes)) (now (s .args .links))
+given s = withoutWork (now (s .args .control)) (now (s .args .samples)) (now (s .args .nodes)) (now (s .args .links))
 
 -- no mark
 abbrev blank : List ℕ
@@ -54,7 +54,7 @@ module _ (m : tie.After-search-marks) where
   abbrev marks : List ℕ
   marks = m .search-marks .last .1 .1 .1 .1 .1 .1 .1 .1 .0
 
-  keeps : Keeps (given s) (now (s .args .queries)) (s .args .many)
+  keeps : BestsAndMarks (given s) (now (s .args .queries)) (s .args .many)
       (batchRead (tracesIn (given s)) (treeIn (given s)) (queriesOf (given s) (now (s .args .queries)) (s .args .many))) bests marks
       (m .search-marks .result)
   keeps =
@@ -90,9 +90,9 @@ returns c =
     let w = r .before .before .before in
     let m = searched w in
     let a = s m .args in
-    let written : Written (markedOf (marks m) (nodeCount (given (s m)))) (r .write-trail .result) (now (a .trail))
+    let written : TrailBegins (markedOf (marks m) (nodeCount (given (s m)))) (r .write-trail .result) (now (a .trail))
     (r .write-trail .last .1 .1 .0) =
-    subst (λ (k : ℕ). Written (markedOf (marks m) k) (r .write-trail .result) (now (a .trail)) (r .write-trail .last .1 .1 .0))
+    subst (λ (k : ℕ). TrailBegins (markedOf (marks m) k) (r .write-trail .result) (now (a .trail)) (r .write-trail .last .1 .1 .0))
     (count-is w) (r .write-trail .ensures) in
     batch-found (given (s m)) (now (a .queries)) (a .many) (s m .pre .0) (bests m) (marks m) (m .search-marks .result) (keeps m)
     (now (a .work)) (m .search-marks .last .1 .1 .1 .1 .1 .1 .0) (now (a .trail)) (r .write-trail .last .1 .1 .0) (r .write-trail .result)

@@ -11,7 +11,7 @@ use Rattle.dstree.specs.Measures.{measures, recordsNeeded, workNeeded}
 use Rattle.dstree.specs.Matching.{leaves}
 use Rattle.tables.specs.Tables.{Tables, measuresOf, nodeCount, field, filled}
 use Rattle.tables.specs.View.{treeIn}
-use Rattle.search.specs.Searched.{made, Ready}
+use Rattle.search.specs.Searched.{withoutWork, Ready}
 use Rattle.search.proofs.Facts.{capacity-fits, nodes-needed}
 use Rattle.search.proofs.Cleared.{as-many, zeroed}
 use Rattle.batch_search.specs.Batched.{queryAt}
@@ -21,7 +21,7 @@ use Rattle.batch_search.proofs.searching.search_marks.Tie as tie
 
 module _ (s : tie.Start) where
   abbrev given : Tables
-  given = made (now (s .args .control)) (now (s .args .samples)) (now (s .args .nodes)) (now (s .args .links))
+  given = withoutWork (now (s .args .control)) (now (s .args .samples)) (now (s .args .nodes)) (now (s .args .links))
 
   abbrev leafs : ℕ
   leafs = length (leaves (treeIn given))

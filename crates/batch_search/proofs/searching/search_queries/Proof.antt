@@ -5,14 +5,14 @@ use native.Mathlib.Omega.{arith}
 use lib.ListN.{length}
 use denote.Ref.{now}
 use Rattle.tables.specs.Tables.{Tables, nodeCount}
-use Rattle.search.specs.Searched.{made}
+use Rattle.search.specs.Searched.{withoutWork}
 use Rattle.batch_search.proofs.Sweeps.{Sweeping, sweeping-start, sweeping-next, sweeping-end}
 use Rattle.batch_search.proofs.searching.search_queries.Statement.{statement}
 use Rattle.batch_search.proofs.searching.search_queries.Tie as tie
 
 abbrev Inv-loop : tie.InvT-loop
 Inv-loop control samples nodes links queries many work₀ bests₀ marks₀ seen₀ i₀ work bests marks seen i =
-    let t = made control samples nodes links in
+    let t = withoutWork control samples nodes links in
     Sweeping t queries many bests₀ marks₀ bests marks i seen × (length work ≡ nodeCount t)
 
 abbrev μ-loop : tie.MeasureT-loop
@@ -22,7 +22,7 @@ abbrev start : tie.At-loop Inv-loop μ-loop → tie.Start Inv-loop μ-loop
 start l = l .before .before .before .before .before .before
 
 abbrev given : tie.Start Inv-loop μ-loop → Tables
-given s = made (now (s .args .control)) (now (s .args .samples)) (now (s .args .nodes)) (now (s .args .links))
+given s = withoutWork (now (s .args .control)) (now (s .args .samples)) (now (s .args .nodes)) (now (s .args .links))
 
 loop-holds : tie.Need-loop-holds Inv-loop μ-loop
 loop-holds c =

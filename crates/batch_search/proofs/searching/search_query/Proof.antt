@@ -10,7 +10,7 @@ use Rattle.dstree.specs.Matching.{leaves}
 use Rattle.tables.specs.Tables.{Tables, measuresOf}
 use Rattle.tables.specs.View.{treeIn, traceIn}
 use Rattle.prefixes.specs.Prefixes.{Prefixes}
-use Rattle.search.specs.Searched.{made}
+use Rattle.search.specs.Searched.{withoutWork}
 use Rattle.search.proofs.Facts.{length-fits}
 use Rattle.batch_search.specs.Batched.{queryAt}
 use Rattle.batch_search.proofs.Runs.{query-room, ready-for}
@@ -18,7 +18,7 @@ use Rattle.batch_search.proofs.searching.search_query.Statement.{statem
 use Rattle.batch_search.proofs.searching.search_query.Tie as tie
 
 abbrev given : tie.Start → Tables
-given s = made (now (s .args .control)) (now (s .args .samples)) (now (s .args .nodes)) (now (s .args .links))
+given s = withoutWork (now (s .args .control)) (now (s .args .samples)) (now (s .args .nodes)) (now (s .args .links))
 
 trace-at-requires : tie.Need-trace-at-requires
 trace-at-requires c κs =

@@ -1,4 +1,4 @@
--- `batch_search::visiting::visit` meets its contract: `State` is the invariant, and the leaves to come are the measure (`Visits`).
+-- `batch_search::visiting::visit` meets its contract: `BatchState` is the invariant, and the leaves to come are the measure (`Visits`).
 use mathlib.Core.Path.{_≡_, refl, sym, _∙_, ap, subst}
 use mathlib.Core.Bool.{Bool}
 use mathlib.Core.List.{List}
@@ -18,29 +18,29 @@ use Rattle.leaf_order.specs.Waits.{shapeIn, Walkable, Begun, remaining}
 use Rattle.leaf_order.specs.Handed.{HandedLeaf, Handed}
 use Rattle.leaf_order.specs.declared.leaves.Next.{Next}
 use Rattle.leaf_order.proofs.Records.{leaf-kind, shape-length}
-use Rattle.search.specs.Searched.{made, Ready}
+use Rattle.search.specs.Searched.{withoutWork, Ready}
 use Rattle.search.proofs.Facts.{walkable}
 use Rattle.batch_search.specs.Batched.{queryAt}
 use Rattle.batch_search.proofs.Runs.{query-room, ready-for}
-use Rattle.batch_search.proofs.Visits.{State, state-start, state-end, leaf-less, state-leaf}
+use Rattle.batch_search.proofs.Visits.{BatchState, state-start, state-end, leaf-less, state-leaf}
 use Rattle.batch_search.proofs.visiting.visit.Statement.{statement}
 use Rattle.batch_search.proofs.visiting.visit.Tie as tie
 
 abbrev Inv-loop : tie.InvT-loop
 Inv-loop control samples nodes links queries many i sums squares work₀ bests₀ marks₀ seen n query waiting₀ some₀ work bests marks waiting some =
-    let t = made control samples nodes links in
-    State t queries many i (shapeIn nodes (nodeCount t)) bests₀ marks₀ seen work bests marks waiting some × (length work ≡ nodeCount t)
+    let t = withoutWork control samples nodes links in
+    BatchState t queries many i (shapeIn nodes (nodeCount t)) bests₀ marks₀ seen work bests marks waiting some × (length work ≡ nodeCount t)
 
 abbrev μ-loop : tie.MeasureT-loop
 μ-loop control samples nodes links queries many i sums squares work₀ bests₀ marks₀ seen n query waiting₀ some₀ work bests marks waiting some =
-    let t = made control samples nodes links in
+    let t = withoutWork control samples nodes links in
     length (remaining (shapeIn nodes (nodeCount t)) (queryAt t queries i) waiting work)
 
 -- ---- what the call was given
 
 module _ (s : tie.Start Inv-loop μ-loop) where
   abbrev given : Tables
-  given = made (now (s .args .control)) (now (s .args .samples)) (now (s .args .nodes)) (now (s .args .links))
+  given = withoutWork (now (s .args .control)) (now (s .args .samples)) (now (s .args .nodes)) (now (s .args .links))
 
   abbrev run : Trace
   run = now (s .args .queries)

@@ -16,7 +16,7 @@ use Rattle.dstree.specs.Batch.{isBatch}
 use Rattle.tables.specs.Tables.{Tables, tables, measuresOf, traceCount}
 use Rattle.tables.specs.View.{treeIn}
 use Rattle.tables.specs.Answers.{wordOf, foundBy}
-use Rattle.query_judging.specs.Leaves.{leafCount}
+use Rattle.query_judging.specs.LeafCount.{leafCount}
 use Rattle.query_judging.proofs.Counted.{leaves-counted}
 use Rattle.batching.proofs.Taken.{batch-range}
 use Rattle.batching.proofs.judging.judge_own.Statement.{statement}

@@ -8,7 +8,7 @@ use borrow.Author.Needs.{needs}
 use Rattle.dstree.specs.Figures.{run}
 use Rattle.dstree.specs.Adding.{segmentOf}
 use Rattle.leaf_figures.specs.Rows.{tracesAt}
-use Rattle.checking.specs.Laid.{numbersAt, Ready}
+use Rattle.checking.specs.Laid.{numbersLaidAt, ReadyToCompare}
 use Rattle.checking.proofs.figures.figures_below.Statement.{statement}
 use Rattle.checking.proofs.figures.figures_below.Tie as tie
 
@@ -29,7 +29,7 @@ module _ (c : tie.After-wide2) where
   abbrev j : ℕ
   j = start .args .j
 
-  abbrev ready : Ready (start .args .samples .now) (start .args .nodes .now) (start .args .n) (start .pre .0 .m) sizes starts order
+  abbrev ready : ReadyToCompare (start .args .samples .now) (start .args .nodes .now) (start .args .n) (start .pre .0 .m) sizes starts order
   ready = start .pre .0 .ready
 
   from-is : c .before .before .wide .result ≡ getD starts j 0
@@ -43,7 +43,7 @@ module _ (c : tie.After-wide2) where
 
   part-is : take (c .before .before .wide .result + c .wide2 .result - c .before .before .wide .result)
       (drop (c .before .before .wide .result) order)
-      ≡ numbersAt sizes starts order j
+      ≡ numbersLaidAt sizes starts order j
   part-is =
       let e : c .before .before .wide .result + c .wide2 .result - c .before .before .wide .result ≡ c .wide2 .result = omega arith in
       ap₂ (λ (a b : ℕ). take a (drop b order)) (e ∙ size-is) from-is

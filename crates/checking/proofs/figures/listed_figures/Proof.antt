@@ -15,7 +15,7 @@ use Rattle.dstree.specs.Figures.{run, sumOn, scatterOn}
 use Rattle.tables.specs.View.{traceIn}
 use Rattle.tables.proofs.Parts.{run-of}
 use Rattle.leaf_figures.specs.Sides.{noFigures, withFigures, segmentBy}
-use Rattle.leaf_figures.specs.declared.sides.Figures.{Figures}
+use Rattle.leaf_figures.specs.declared.sides.SideRange.{SideRange}
 use Rattle.leaf_figures.proofs.Taken.{takingAt, along-taken}
 use Rattle.checking.proofs.figures.listed_figures.Statement.{statement}
 use Rattle.checking.proofs.figures.listed_figures.Tie as tie
@@ -78,7 +78,7 @@ loop-again c =
     let rest : drop (l .next) list ≡ t k ∷ drop (l .next + 1) list =
     rw (add-one (l .next)) (drop-cons list (l .next) 0 (turn k .loop-test .taken)) in (
       omega (arith, turn k .loop-test .taken),
-      ap (λ (f : Figures). foldl step f (drop (l .next + 1) list)) taken ∙ (sym (ap (foldl step (l .f)) rest) ∙ l .inv .1),
+      ap (λ (f : SideRange). foldl step f (drop (l .next + 1) list)) taken ∙ (sym (ap (foldl step (l .f)) rest) ∙ l .inv .1),
     )
 
 returns : tie.Need-returns Inv-loop μ-loop

@@ -14,7 +14,7 @@ use Rattle.tables.specs.Layout.{kindPlace, firstPlace, rightPlace, recordPlaces
 use Rattle.tables.specs.Tables.{recordOf}
 use Rattle.tables.specs.View.{smallAt, traceIn}
 use Rattle.leaf_figures.specs.Sides.{segmentBy}
-use Rattle.checking.specs.Laid.{numbersAt, Ready}
+use Rattle.checking.specs.Laid.{numbersLaidAt, ReadyToCompare}
 use Rattle.checking.specs.Compared.{tracesUnder}
 use Rattle.checking.proofs.Joining.{joined-is}
 use Rattle.checking.proofs.figures.node_figures.Statement.{statement}
@@ -37,7 +37,7 @@ module _ (c : tie.After-node-small3) where
   abbrev r : List ℤ
   r = recordOf (s .args .nodes .now) j
 
-  abbrev ready : Ready (s .args .samples .now) (s .args .nodes .now) (s .args .n) (s .pre .0 .m) (s .args .sizes .now)
+  abbrev ready : ReadyToCompare (s .args .samples .now) (s .args .nodes .now) (s .args .n) (s .pre .0 .m) (s .args .sizes .now)
       (s .args .starts .now) (s .args .order .now)
   ready = s .pre .0 .ready
 
@@ -51,7 +51,7 @@ module _ (c : tie.After-node-small3) where
   right-is = c .node-small3 .ensures
 
   abbrev numbers : ℕ → List ℕ
-  numbers = numbersAt (s .args .sizes .now) (s .args .starts .now) (s .args .order .now)
+  numbers = numbersLaidAt (s .args .sizes .now) (s .args .starts .now) (s .args .order .now)
 
   abbrev under : ℕ → List Trace
   under = tracesUnder (s .args .samples .now) (s .args .n) (s .args .sizes .now) (s .args .starts .now) (s .args .order .now)

@@ -5,7 +5,7 @@ use native.Mathlib.Omega.{arith}
 use native.Mathlib.Numerals.{add-one}
 use borrow.Author.Tests.{eqb-true}
 use Rattle.tables.specs.Layout.{segmentsPlace, segmentAt}
-use Rattle.tables.specs.View.{smallAt, placeOf, segmentIn}
+use Rattle.tables.specs.View.{smallAt, valueAt, segmentIn}
 use Rattle.checking.specs.Compared.{firstOn}
 use Rattle.checking.proofs.Steps.{small-most}
 use Rattle.checking.proofs.figures.segment_on.Statement.{statement}
@@ -31,7 +31,7 @@ end-is c = c .small-at2 .ensures
 end-most : (c : tie.After-small-at2 Inv-loop μ-loop) → c .small-at2 .result ≤ 65536
 end-most c =
     let r = c .before .before .before .before .args .«record» .now in
-    omega (arith, c .small-at2 .ensures, small-most (placeOf r (segmentAt (c .before .before .loop .i))))
+    omega (arith, c .small-at2 .ensures, small-most (valueAt r (segmentAt (c .before .before .loop .i))))
 
 returns : tie.Need-returns Inv-loop μ-loop
 returns c =

@@ -5,7 +5,7 @@ use mir.Syntax.{w64}
 use borrow.Author.Tests.{eq-eqb, ne-eqb}
 use Rattle.integer.proofs.Width.{of-mag}
 use Rattle.dstree.specs.Checking.{sameℤ, sameFigures}
-use Rattle.leaf_figures.specs.declared.sides.Figures.{Figures}
+use Rattle.leaf_figures.specs.declared.sides.SideRange.{SideRange}
 use Rattle.checking.proofs.Steps.{same-yes, same-no}
 use Rattle.checking.proofs.nodes.same_figures.Statement.{statement}
 use Rattle.checking.proofs.nodes.same_figures.Tie as tie
@@ -14,10 +14,10 @@ module _ (c : tie.After-struct-told2) where
   abbrev start : tie.Start
   start = c .before .before .before .before
 
-  abbrev one : Figures
+  abbrev one : SideRange
   one = start .args .a
 
-  abbrev two : Figures
+  abbrev two : SideRange
   two = start .args .b
 
 returns : tie.Need-returns

@@ -16,7 +16,7 @@ use Rattle.tables.specs.View.{smallAt}
 use Rattle.tables.specs.Walk.{numbersOf}
 use Rattle.checking.specs.Laid.{treeBy, PutFrom, LaidTo}
 use Rattle.checking.proofs.ByKind.{size-is, in-table, in-tree, first-stored, leaf-is, leaf-below, inner-is, left-above, right-above, inner-below}
-use Rattle.checking.proofs.Standing.{stands-inside}
+use Rattle.checking.proofs.Starting.{starts-inside}
 use Rattle.checking.proofs.Laying.{here, laid-leaf, laid-inner}
 use Rattle.checking.proofs.order.lay_node.Statement.{statement}
 use Rattle.checking.proofs.order.lay_node.Tie as tie
@@ -45,7 +45,7 @@ module _ (s : tie.Start) where
   fits =
       omega (
         arith,
-        stands-inside (here (s .pre .0 .shape) inside (s .pre .3)) (some-below (s .pre .0 .shape) j inside),
+        starts-inside (here (s .pre .0 .shape) inside (s .pre .3)) (some-below (s .pre .0 .shape) j inside),
         few-below (s .pre .0 .shape) 0,
         s .pre .0 .few,
       )

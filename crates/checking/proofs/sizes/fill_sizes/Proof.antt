@@ -6,14 +6,14 @@ use lib.ListN.{length, set}
 use Rattle.dstree.specs.Node.{Tree}
 use Rattle.dstree.specs.Checking.{tracesBelow}
 use Rattle.dstree.proofs.BelowOnce.{few-below}
-use Rattle.checking.specs.Laid.{treeBy, Sized}
+use Rattle.checking.specs.Laid.{treeBy, SizesLaid}
 use Rattle.checking.proofs.ByKind.{size-is}
 use Rattle.checking.proofs.Sizing.{sized-none, sized-more}
 use Rattle.checking.proofs.sizes.fill_sizes.Statement.{statement}
 use Rattle.checking.proofs.sizes.fill_sizes.Tie as tie
 
 abbrev Inv-loop : tie.InvT-loop
-Inv-loop nodes links k m sizes₀ j₀ sizes j = (j ≤ m) × Sized (treeBy nodes links k m) sizes j
+Inv-loop nodes links k m sizes₀ j₀ sizes j = (j ≤ m) × SizesLaid (treeBy nodes links k m) sizes j
 
 abbrev μ-loop : tie.MeasureT-loop
 μ-loop nodes links k m sizes₀ j₀ sizes j = j
@@ -52,9 +52,9 @@ loop-again c =
     let k = c .before .before in
     let l = k .before .loop in (
       omega (arith, l .inv .0),
-      subst (λ (x : ℕ). Sized (tree k) (set (l .sizes) (j k) x) (j k)) (sym (c .node-size .ensures))
+      subst (λ (x : ℕ). SizesLaid (tree k) (set (l .sizes) (j k) x) (j k)) (sym (c .node-size .ensures))
           (sized-more (tree k) (l .sizes) (j k) (omega (arith, low k, l .inv .1 .places))
-          (subst (Sized (tree k) (l .sizes)) (sym (again k)) (l .inv .1))),
+          (subst (SizesLaid (tree k) (l .sizes)) (sym (again k)) (l .inv .1))),
     )
 
 returns : tie.Need-returns Inv-loop μ-loop
@@ -62,7 +62,7 @@ returns c =
     let s = c .before .before .before in
     let l = c .before .loop in
     let z : l .j ≡ 0 = omega (arith, c .loop-test .left) in
-    subst (Sized (treeBy (s .args .nodes .now) (s .args .links .now) (s .args .k) (s .args .m)) (l .sizes)) z (l .inv .1)
+    subst (SizesLaid (treeBy (s .args .nodes .now) (s .args .links .now) (s .args .k) (s .args .m)) (l .sizes)) z (l .inv .1)
 
 pub fill-sizes-spec : {M : Type 1} → statement M
 fill-sizes-spec =
@@ -72,7 +72,7 @@ fill-sizes-spec =
     (λ c κs. let k = c .before in (
       s k .pre .0,
       omega (arith, k .before .loop .inv .0, k .loop-test .taken),
-      subst (Sized (tree k) (k .before .loop .sizes)) (sym (again k)) (k .before .loop .inv .1),
+      subst (SizesLaid (tree k) (k .before .loop .sizes)) (sym (again k)) (k .before .loop .inv .1),
     ))
     (λ c. let k = c .before .before in omega (arith, c .node-size .ensures, few k))
     (λ c. let k = c .before .before in omega (arith, low k))

@@ -11,7 +11,7 @@ use Rattle.integer.proofs.Lists.{In}
 use Rattle.tables.specs.Walk.{storedIn}
 use Rattle.tables.specs.Runs.{testBy}
 use Rattle.tables.proofs.Listed.{numbers-below, run-in}
-use Rattle.leaf_figures.specs.Rows.{Listed}
+use Rattle.leaf_figures.specs.Rows.{TracesListed}
 use Rattle.leaf_figures.proofs.Filled.{no-columns, rows-of}
 use Rattle.split_choice.specs.Parting.{lookOf}
 use Rattle.examples.proofs.walks.walk_of.Statement.{statement}
@@ -33,7 +33,7 @@ module _ (l : tie.After-list-leaf) where
       let p = s .pre in
       numbers-below (s .args .links .now) (s .args .k) (p .rising) (s .args .head) t (p .inside) (subst (In t) (l .list-leaf .ensures .0) i)
 
-  listed : Listed (s .args .samples .now) (s .args .n) list (l .list-leaf .result)
+  listed : TracesListed (s .args .samples .now) (s .args .n) list (l .list-leaf .result)
   listed =
       let p = s .pre in
       record {

@@ -15,7 +15,7 @@ use Rattle.tables.specs.Answers.{foundBy, madeConditions}
 use Rattle.tables.proofs.Judged.{accepted}
 use Rattle.tables.proofs.Views.{tree-formed}
 use Rattle.calls.specs.Effects.{imports}
-use Rattle.importing.specs.Answered.{answerOf, countUnless}
+use Rattle.importing.specs.Answered.{answerBy, countUnless}
 use Rattle.importing.proofs.Answers.{answer-is}
 use Rattle.importing.proofs.judging.judge.Statement.{statement}
 use Rattle.importing.proofs.judging.judge.Tie as tie
@@ -69,7 +69,7 @@ unfolding imports
 refused j why e = first-some (madeConditions (lent j)) (own j) why e
 
 returns : tie.Need-returns
-unfolding foundBy answerOf countUnless
+unfolding foundBy answerBy countUnless
 returns c =
     let j = c .before .before .before in
     first-is j _ (refused j _ (sym (j .judge-tables .ensures) ∙ ap foundBy (c .before .made .given .1))) ∙ answer-is (lent j) (bytes j)

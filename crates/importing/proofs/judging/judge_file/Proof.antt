@@ -9,8 +9,8 @@ use borrow.Author.Needs.{needs}
 use Rattle.dstree.specs.Recording.{Recording, judgeRecording}
 use Rattle.tables.specs.Tables.{Tables, tables, measuresOf, traceCount}
 use Rattle.tables.specs.Answers.{wordOf}
-use Rattle.recording.specs.Found.{tracesFound, tracesHeld}
-use Rattle.importing.specs.Answered.{answerOf}
+use Rattle.recording.specs.FileTraces.{tracesFound, tracesRecorded}
+use Rattle.importing.specs.Answered.{answerBy}
 use Rattle.importing.proofs.Answers.{bad-answer, full-answer, count-answer}
 use Rattle.importing.proofs.judging.judge_file.Statement.{statement}
 use Rattle.importing.proofs.judging.judge_file.Tie as tie
@@ -34,8 +34,8 @@ module _ (j : tie.After-judge-recording) where
   n-is : j .before .before .before .before .before .wide .result ≡ measuresOf t .n
   n-is = j .before .before .before .before .before .wide .ensures ∙ j .before .before .before .before .before .before .field .ensures
 
-  found : tracesFound (j .judge-recording .result) ≡ tracesHeld file
-  found = j .judge-recording .ensures ∙ ap (λ (k : ℕ). tracesHeld (judgeRecording k (now (start .args .bytes)))) n-is
+  found : tracesFound (j .judge-recording .result) ≡ tracesRecorded file
+  found = j .judge-recording .ensures ∙ ap (λ (k : ℕ). tracesRecorded (judgeRecording k (now (start .args .bytes)))) n-is
 
 -- .. so many traces
 module _ (k : tie.After-known-told) where
@@ -46,7 +46,7 @@ module _ (k : tie.After-known-told) where
   fits = start judged .pre .1
 
 returns : tie.Need-returns
-unfolding answerOf wordOf tracesFound
+unfolding answerBy wordOf tracesFound
 returns c =
     let k = c .before in
     let j = judged k in
@@ -54,13 +54,13 @@ returns c =
     (omega (arith, c .if1 .taken, capacity-is j, k-is j))
 
 returns-2 : tie.Need-returns-2
-unfolding answerOf wordOf tracesFound
+unfolding answerBy wordOf tracesFound
 returns-2 c =
     let j = c .before .before in
     bad-answer (measuresOf (t j)) (traceCount (t j)) (file j) (sym (ap tracesFound (c .enum-told .given .1)) ∙ found j)
 
 returns-3 : tie.Need-returns-3
-unfolding answerOf tracesFound
+unfolding answerBy tracesFound
 returns-3 c =
     let k = c .before in
     let j = judged k in

@@ -63,7 +63,7 @@ put-one-requires c κs =
     let range = measures-fit (lent (at i) []) (p .takes .formed) in
     record {
       few = omega (arith, range .n-high, p .size);
-      held = record { some-sample = omega (arith, range .n-low, p .size); sound = p .sound; numbered = inside i };
+      holds = record { some-sample = omega (arith, range .n-low, p .size); sound = p .sound; numbered = inside i };
       takes = takes-next (lent (at i) []) (traces (at i)) (p .takes) (number i) (inside i) (l .control) (l .samples) (l .nodes) (l .links)
           (l .inv .1 []);
     }

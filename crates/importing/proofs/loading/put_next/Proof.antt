@@ -13,7 +13,7 @@ use Rattle.importing.proofs.loading.put_next.Statement.{statement}
 use Rattle.importing.proofs.loading.put_next.Tie as tie
 
 read-trace-requires : tie.Need-read-trace-requires
-read-trace-requires c κs = let s = c .before .before .before .before in s .pre .held
+read-trace-requires c κs = let s = c .before .before .before .before in s .pre .holds
 
 -- once the trace is read
 module _ (r : tie.After-read-trace) where

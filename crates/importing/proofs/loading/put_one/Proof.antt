@@ -10,7 +10,7 @@ use borrow.Author.Needs.{needs}
 use Rattle.dstree.specs.Recording.{recordedTraces}
 use Rattle.tables.specs.Tables.{tables}
 use Rattle.insertion_memory.specs.Memory.{addedTo}
-use Rattle.importing.specs.Loads.{Next}
+use Rattle.importing.specs.Loads.{NextInFile}
 use Rattle.importing.proofs.loading.put_one.Statement.{statement}
 use Rattle.importing.proofs.loading.put_one.Tie as tie
 
@@ -28,7 +28,7 @@ put-next-requires : tie.Need-put-next-requires
 put-next-requires c κs =
     let a = c .before in
     let g = start a .args in
-    let ready = Next (now (g .control)) (now (g .samples)) (now (g .nodes)) (now (g .links)) (now (g .bytes)) in
+    let ready = NextInFile (now (g .control)) (now (g .samples)) (now (g .nodes)) (now (g .links)) (now (g .bytes)) in
     subst (λ (k : ℕ). ready k (g .number)) (length-is a) (start a .pre)
 
 returns : tie.Need-returns

@@ -15,7 +15,7 @@ use Rattle.segment.specs.Figures.{sum, scatter}
 use Rattle.tables.specs.Layout.{headPlaces, recordPlaces}
 use Rattle.tables.specs.Tables.{filled}
 use Rattle.insertion.specs.Widening.{withSegment}
-use Rattle.insertion.specs.Heads.{leafHead, segmentBy}
+use Rattle.insertion.specs.Heads.{leafHead, segmentOfParts}
 use Rattle.insertion.proofs.First.{first-is}
 use Rattle.insertion.proofs.heads.first_record.Statement.{statement}
 use Rattle.insertion.proofs.heads.first_record.Tie as tie
@@ -45,7 +45,7 @@ returns c =
     toZ-ofZ (of-mag {w = w64} (f .sum) (c .before .before .before .struct-told .given .0 .1)) ∙ k .figures-of .ensures .0 .0 in
     let v : f .scatter ≡ scatter x = k .figures-of .ensures .1 .0 in
     let e : c .before .write-segment .last .0 ≡ withSegment (k .before .before .write-leaf-head .last .0) 0
-    (segmentBy (length x) (read w64 (f .sum)) (read w64 (f .sum)) (f .scatter) (f .scatter)) = c .before .write-segment .ensures in
+    (segmentOfParts (length x) (read w64 (f .sum)) (read w64 (f .sum)) (f .scatter) (f .scatter)) = c .before .write-segment .ensures in
     e ∙ rw (headed, z, v) (first-is r x (s .pre .0))
 
 pub first-record-spec : {M : Type 1} → statement M

@@ -17,12 +17,12 @@ use Rattle.insertion_memory.specs.Records.{widenRecord}
 use Rattle.insertion_memory.specs.Memory.{onRecord}
 use Rattle.insertion.specs.Widening.{Readable}
 use Rattle.insertion.specs.Way.{TestReadable, Descendable, nextIn, orZero}
-use Rattle.insertion.proofs.Down.{Going, going-starts, fits, same-record, widened-length, ended, falls, goes-on}
+use Rattle.insertion.proofs.Down.{GoingDown, going-starts, fits, same-record, widened-length, ended, falls, goes-on}
 use Rattle.insertion.proofs.way.descend_by.Statement.{statement}
 use Rattle.insertion.proofs.way.descend_by.Tie as tie
 
 abbrev Inv-loop : tie.InvT-loop
-Inv-loop nodes₀ count trace sums squares at₀ nodes at = Going nodes₀ count trace nodes at
+Inv-loop nodes₀ count trace sums squares at₀ nodes at = GoingDown nodes₀ count trace nodes at
 
 abbrev μ-loop : tie.MeasureT-loop
 μ-loop nodes₀ count trace sums squares at₀ nodes at = count - at
@@ -126,7 +126,7 @@ loop-again c =
     let m = c .before .before in
     let k = m .before .before in
     let l = turn k in
-    subst (λ (t : List ℤ). Going (now (l .before .args .nodes)) (l .before .args .count) (x l) t (k .before .before .next-of .result)) (sym (widened m))
+    subst (λ (t : List ℤ). GoingDown (now (l .before .args .nodes)) (l .before .args .count) (x l) t (k .before .before .next-of .result)) (sym (widened m))
     (goes-on (ok l) (x l) (l .loop .inv) (next-is (k .before .before)) (c .if1 .left))
 
 pub descend-by-spec : {M : Type 1} → statement M

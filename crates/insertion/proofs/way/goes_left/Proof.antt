@@ -15,7 +15,7 @@ use Rattle.integer.proofs.Width.{of-mag, read}
 use Rattle.segment.specs.Roots.{floorRoot}
 use Rattle.dstree.specs.Figures.{run, width}
 use Rattle.tables.specs.Layout.{kindPlace, runFirstPlace, runLastPlace, thresholdPlace}
-use Rattle.tables.specs.View.{placeOf, smallAt, testIn}
+use Rattle.tables.specs.View.{valueAt, smallAt, testIn}
 use Rattle.tables.proofs.Compared.{left-is}
 use Rattle.prefixes.proofs.Cut.{sum-most}
 use Rattle.insertion.proofs.way.goes_left.Statement.{statement}
@@ -48,10 +48,10 @@ returns c =
     let kind : k .before .before .small-at .result ≡ smallAt r kindPlace = k .before .before .small-at .ensures in
     let first : k .before .small-at2 .result ≡ smallAt r runFirstPlace = k .before .small-at2 .ensures in
     let last : k .small-at3 .result ≡ smallAt r runLastPlace = k .small-at3 .ensures in
-    let threshold : read w64 (value .result) ≡ placeOf r thresholdPlace = toZ-ofZ (sfits-of {w = w64} {z = value .result} (value .ok)) ∙ value .ensures in
+    let threshold : read w64 (value .result) ≡ valueAt r thresholdPlace = toZ-ofZ (sfits-of {w = w64} {z = value .result} (value .ok)) ∙ value .ensures in
     c .is-left .ensures
     ∙ ap₂ (λ (z t : ℤ). leZ (pos 2 *ℤ (if eqb (k .before .before .small-at .result) 2 then pos (floorRoot (g .result .scatter)) else z)) t) (sum-read (c .before)) threshold
-    ∙ left-is (k .before .small-at2 .result) (k .small-at3 .result) x (g .ensures .0) (g .ensures .1 .0) (eqb (k .before .before .small-at .result) 2) (placeOf r thresholdPlace)
+    ∙ left-is (k .before .small-at2 .result) (k .small-at3 .result) x (g .ensures .0) (g .ensures .1 .0) (eqb (k .before .before .small-at .result) 2) (valueAt r thresholdPlace)
     ∙ rw (kind, first, last)
 
 pub goes-left-spec : {M : Type 1} → statement M

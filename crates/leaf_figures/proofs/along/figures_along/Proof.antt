@@ -11,9 +11,9 @@ use Rattle.integer.proofs.Width.{of-mag}
 use Rattle.integer.proofs.Lists.{In}
 use Rattle.dstree.specs.Figures.{run}
 use Rattle.tables.specs.View.{traceIn}
-use Rattle.leaf_figures.specs.Sides.{noFigures, withFigures, Small, segmentBy}
+use Rattle.leaf_figures.specs.Sides.{noFigures, withFigures, SmallFigures, segmentBy}
 use Rattle.leaf_figures.specs.Rows.{FiguresAt}
-use Rattle.leaf_figures.specs.declared.sides.Figures.{Figures}
+use Rattle.leaf_figures.specs.declared.sides.SideRange.{SideRange}
 use Rattle.leaf_figures.proofs.Placed.{end-at, no-end}
 use Rattle.leaf_figures.proofs.Listing.{in-listed}
 use Rattle.leaf_figures.proofs.Taken.{with-small, takingAt, along-taken}
@@ -24,7 +24,7 @@ abbrev Inv-loop : tie.InvT-loop
 Inv-loop samples n list count place runs sums scatters guess first last column f₀ i₀ f i =
     (i ≤ count)
     × (foldl (takingAt samples n (run first last)) f (drop i (take count list)) ≡ foldl (takingAt samples n (run first last)) noFigures (take count list))
-    × Small f
+    × SmallFigures f
 
 abbrev μ-loop : tie.MeasureT-loop
 μ-loop samples n list count place runs sums scatters guess first last column f₀ i₀ f i = count - i
@@ -76,9 +76,9 @@ loop-again c =
     let e : c .widened .result ≡ withFigures (l .f) (r .sum) (r .scatter) = c .widened .ensures ∙ ap₂ (withFigures (l .f)) back refl in
     let taken : c .widened .result ≡ step (l .f) (getD (a .list .now) (l .i) 0) = e ∙ (ap₂ (withFigures (l .f)) (own .ensures .0 .0) (own .ensures .1 .0) ∙ ap (step (l .f)) (k .wide .ensures)) in (
       omega arith,
-      ap (λ (f : Figures). foldl step f (drop (l .i + 1) (take (a .count) (a .list .now)))) taken
+      ap (λ (f : SideRange). foldl step f (drop (l .i + 1) (take (a .count) (a .list .now)))) taken
           ∙ (sym (ap (foldl step (l .f)) (end-at (a .list .now) (a .count) room (l .i) (turn k .loop-test .taken))) ∙ l .inv .1),
-      subst Small (sym e) (with-small (l .f) (r .sum) (r .scatter) (l .inv .2) (own .ensures .0 .1) (own .ensures .1 .1)),
+      subst SmallFigures (sym e) (with-small (l .f) (r .sum) (r .scatter) (l .inv .2) (own .ensures .0 .1) (own .ensures .1 .1)),
     )
 
 returns : tie.Need-returns Inv-loop μ-loop

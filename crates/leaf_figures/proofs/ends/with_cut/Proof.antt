@@ -5,13 +5,13 @@ use Prim.Native.Nat.{ℕ, _+_, _-_, _≤_}
 use native.Mathlib.Omega.{arith}
 use lib.ListN.{length, getD, take, length-set}
 use Rattle.leaf_figures.specs.Ends.{placeIn}
-use Rattle.leaf_figures.proofs.Placed.{Moved, moved-none, moved-more, moved-all}
+use Rattle.leaf_figures.proofs.Placed.{EndsMoved, moved-none, moved-more, moved-all}
 use Rattle.leaf_figures.proofs.ends.with_cut.Statement.{statement}
 use Rattle.leaf_figures.proofs.ends.with_cut.Tie as tie
 
 abbrev Inv-loop : tie.InvT-loop
 Inv-loop middle place from count at₀ i₀ at i =
-    (place ≤ i) × (i ≤ count) × (length at ≡ 16) × Moved from middle place at i
+    (place ≤ i) × (i ≤ count) × (length at ≡ 16) × EndsMoved from middle place at i
 
 abbrev μ-loop : tie.MeasureT-loop
 μ-loop middle place from count at₀ i₀ at i = count - i
@@ -73,8 +73,8 @@ returns c =
     let place = c .before .before .before .before .place-of in
     let p = placeIn (s .args .middle) (take (s .args .e .count) from) in
     let all : l .i ≡ s .args .e .count = omega arith in
-    let m : Moved from (s .args .middle) p (l .at) (s .args .e .count) =
-    subst (λ (i : ℕ). Moved from (s .args .middle) p (l .at) i) all (subst (λ (q : ℕ). Moved from (s .args .middle) q (l .at) (l .i)) (place .ensures .0) (l .inv .3)) in
+    let m : EndsMoved from (s .args .middle) p (l .at) (s .args .e .count) =
+    subst (λ (i : ℕ). EndsMoved from (s .args .middle) p (l .at) i) all (subst (λ (q : ℕ). EndsMoved from (s .args .middle) q (l .at) (l .i)) (place .ensures .0) (l .inv .3)) in
     (moved-all from (s .args .middle) (s .args .e .count) (l .at) (omega (arith, place .ensures .0, place .ensures .1)) m, record { places = l .inv .2; few = omega (arith, s .pre .1) })
 
 pub with-cut-spec : {M : Type 1} → statement M

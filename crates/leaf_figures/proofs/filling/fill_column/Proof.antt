@@ -12,7 +12,7 @@ use Rattle.integer.proofs.Lists.{In}
 use Rattle.dstree.specs.Measures.{Trace}
 use Rattle.dstree.specs.Figures.{run, sumOn, scatterOn}
 use Rattle.tables.specs.View.{traceIn}
-use Rattle.tables.specs.Runs.{RunOf, RunIn}
+use Rattle.tables.specs.Runs.{RunOf, RunOfTrace}
 use Rattle.tables.proofs.Parts.{run-of}
 use Rattle.leaf_figures.specs.Rows.{Column}
 use Rattle.leaf_figures.proofs.Listing.{in-listed}
@@ -33,7 +33,7 @@ abbrev μ-loop : tie.MeasureT-loop
 μ-loop samples n list count f first last sums₀ scatters₀ p₀ sums scatters p = count - p
 
 -- the trace that the loop stands at lies in the table whole
-run-at : (c : tie.After-wide Inv-loop μ-loop) → let a = c .before .before .before .before .args in RunIn (a .samples .now) (a .n) (c .wide .result) (a .first) (a .last)
+run-at : (c : tie.After-wide Inv-loop μ-loop) → let a = c .before .before .before .before .args in RunOfTrace (a .samples .now) (a .n) (c .wide .result) (a .first) (a .last)
 run-at c =
     let k = c .before .before in
     let s = k .before .before in

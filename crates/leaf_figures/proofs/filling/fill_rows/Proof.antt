@@ -4,7 +4,7 @@ use native.Mathlib.Omega.{arith}
 use lib.ListN.{getD, take, drop}
 use Rattle.dstree.specs.Formed.{Rises}
 use Rattle.leaf_figures.specs.Rows.{Columns}
-use Rattle.leaf_figures.proofs.Totals.{Next, next-at}
+use Rattle.leaf_figures.proofs.Totals.{RisesOn, next-at}
 use Rattle.leaf_figures.proofs.filling.fill_rows.Statement.{statement}
 use Rattle.leaf_figures.proofs.filling.fill_rows.Tie as tie
 
@@ -20,7 +20,7 @@ module _ (c : tie.In-loop Inv-loop μ-loop) where
   abbrev s : tie.Start Inv-loop μ-loop
   s = c .before .before .before .before
 
-  next : Next (s .args .n) (c .before .loop .first) (getD (s .args .e .at) (c .before .loop .i) 0) (drop (c .before .loop .i + 1) (take (s .args .e .count) (s .args .e .at)))
+  next : RisesOn (s .args .n) (c .before .loop .first) (getD (s .args .e .at) (c .before .loop .i) 0) (drop (c .before .loop .i + 1) (take (s .args .e .count) (s .args .e .at)))
   next = next-at (s .args .e .at) (s .args .e .count) (omega (arith, s .pre .1 .places, s .pre .1 .few)) (c .before .loop .i) (c .loop-test .taken) (c .before .loop .inv .2)
 
 fill-segment-requires : tie.Need-fill-segment-requires Inv-loop μ-loop

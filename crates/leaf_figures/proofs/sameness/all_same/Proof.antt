@@ -10,7 +10,7 @@ use borrow.Author.Tests.{not-false}
 use Rattle.integer.proofs.Lists.{In, in-nil}
 use Rattle.tables.specs.View.{traceIn}
 use Rattle.tables.proofs.Parts.{trace-length}
-use Rattle.leaf_figures.proofs.Listing.{in-listed, all-more}
+use Rattle.leaf_figures.proofs.Listing.{in-listed, all-taken-more}
 use Rattle.leaf_figures.proofs.sameness.all_same.Statement.{statement}
 use Rattle.leaf_figures.proofs.sameness.all_same.Tie as tie
 
@@ -69,7 +69,7 @@ loop-again c =
     let equal = t .same-trace .ensures (not-false (t .same-trace .result) (c .if2 .left)) in
     let here : trace (getD list (l .i) 0) ≡ trace (getD list 0 0) =
     sym (ap trace (w .wide2 .ensures)) ∙ (sym (o .trace-at2 .ensures) ∙ (sym equal ∙ (f .trace-at .ensures ∙ ap trace (f .before .wide .ensures)))) in
-    (omega arith, all-more list (λ (u : ℕ). trace u ≡ trace (getD list 0 0)) (l .i) (omega (arith, s .pre .places, s .pre .few, k .loop-test .taken)) (l .inv .1) here)
+    (omega arith, all-taken-more list (λ (u : ℕ). trace u ≡ trace (getD list 0 0)) (l .i) (omega (arith, s .pre .places, s .pre .few, k .loop-test .taken)) (l .inv .1) here)
 
 returns-3 : tie.Need-returns-3 Inv-loop μ-loop
 returns-3 c = λ e.

@@ -6,8 +6,8 @@ use Prim.Native.Nat.{ℕ, _-_, _<_, _≤_}
 use native.Mathlib.Omega.{arith}
 use Rattle.dstree.specs.Figures.{run}
 use Rattle.tables.specs.Walk.{storedIn, numbersOf}
-use Rattle.leaf_figures.specs.Sides.{noFigures, Small, segmentBy}
-use Rattle.leaf_figures.specs.declared.sides.Figures.{Figures}
+use Rattle.leaf_figures.specs.Sides.{noFigures, SmallFigures, segmentBy}
+use Rattle.leaf_figures.specs.declared.sides.SideRange.{SideRange}
 use Rattle.tables.proofs.Listed.{metFrom, met-start, behind-rises, fold-more, fold-end, stored-at, run-in}
 use Rattle.leaf_figures.proofs.Taken.{sideTaking, side-taken}
 use Rattle.leaf_figures.proofs.sides.side_figures.Statement.{statement}
@@ -16,7 +16,7 @@ use Rattle.leaf_figures.proofs.sides.side_figures.Tie as tie
 abbrev Inv-loop : tie.InvT-loop
 Inv-loop samples links n k head marks mark first last f₀ t₀ f t =
     (t ≤ k) × (foldl (sideTaking (storedIn samples n k) (run first last) marks mark) f (metFrom links k t)
-    ≡ foldl (sideTaking (storedIn samples n k) (run first last) marks mark) noFigures (numbersOf links k head)) × Small f
+    ≡ foldl (sideTaking (storedIn samples n k) (run first last) marks mark) noFigures (numbersOf links k head)) × SmallFigures f
 
 abbrev μ-loop : tie.MeasureT-loop
 μ-loop samples links n k head marks mark first last f₀ t₀ f t = k - t
@@ -64,7 +64,7 @@ loop-again c =
     let step = sideTaking stored on (a .marks .now) (a .mark) in
     let e : c .before .with-trace .result ≡ step (l .f) (l .t) = rw (stored-at (a .samples .now) (a .n) (a .k) (l .t) h) (c .before .with-trace .ensures .0) in (
       omega (arith, c .behind .ensures, behind-rises (a .links .now) (a .k) (s .pre .0 .rising) (l .t) h),
-      ap₂ (λ (f : Figures) (u : ℕ). foldl step f (metFrom (a .links .now) (a .k) u)) e (c .behind .ensures)
+      ap₂ (λ (f : SideRange) (u : ℕ). foldl step f (metFrom (a .links .now) (a .k) u)) e (c .behind .ensures)
           ∙ (sym (fold-more step (a .links .now) (a .k) (s .pre .0 .rising) (l .f) (l .t) h) ∙ l .inv .1),
       c .before .with-trace .ensures .1,
     )

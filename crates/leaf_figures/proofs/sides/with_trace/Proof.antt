@@ -9,7 +9,7 @@ use Rattle.dstree.specs.Measures.{Trace}
 use Rattle.dstree.specs.Figures.{run, sumOn, scatterOn}
 use Rattle.tables.specs.Runs.{RunOf}
 use Rattle.tables.proofs.Parts.{run-of}
-use Rattle.leaf_figures.specs.Sides.{withFigures, Small}
+use Rattle.leaf_figures.specs.Sides.{withFigures, SmallFigures}
 use Rattle.leaf_figures.proofs.Taken.{with-small}
 use Rattle.leaf_figures.proofs.sides.with_trace.Statement.{statement}
 use Rattle.leaf_figures.proofs.sides.with_trace.Tie as tie
@@ -29,7 +29,7 @@ returns c =
     let e : c .widened .result ≡ withFigures f (r .sum) (r .scatter) = c .widened .ensures ∙ ap₂ (withFigures f) back refl in
     let small = with-small f (r .sum) (r .scatter) (s .pre .1) (own .ensures .0 .1) (own .ensures .1 .1) in
     rw (k .before .if1 .taken)
-    (e ∙ ap₂ (withFigures f) (own .ensures .0 .0 ∙ ap (sumOn on) (k .trace-at .ensures)) (own .ensures .1 .0 ∙ ap (scatterOn on) (k .trace-at .ensures)), subst Small (sym e) small)
+    (e ∙ ap₂ (withFigures f) (own .ensures .0 .0 ∙ ap (sumOn on) (k .trace-at .ensures)) (own .ensures .1 .0 ∙ ap (scatterOn on) (k .trace-at .ensures)), subst SmallFigures (sym e) small)
 
 pub with-trace-spec : {M : Type 1} → statement M
 with-trace-spec =

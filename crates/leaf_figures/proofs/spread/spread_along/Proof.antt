@@ -7,7 +7,7 @@ use lib.ListN.{getD, take, drop}
 use Rattle.dstree.specs.Adding.{spread}
 use Rattle.dstree.specs.Formed.{Rises}
 use Rattle.leaf_figures.specs.Rows.{tracesAt}
-use Rattle.leaf_figures.proofs.Totals.{spreadFrom, Next, next-at, spread-more, spread-end, spread-is}
+use Rattle.leaf_figures.proofs.Totals.{spreadFrom, RisesOn, next-at, spread-more, spread-end, spread-is}
 use Rattle.leaf_figures.proofs.spread.spread_along.Statement.{statement}
 use Rattle.leaf_figures.proofs.spread.spread_along.Tie as tie
 
@@ -38,7 +38,7 @@ module _ (c : tie.In-loop Inv-loop μ-loop) where
   abbrev s : tie.Start Inv-loop μ-loop
   s = c .before .before .before .before .before
 
-  next : Next (s .args .n) (c .before .loop .first) (getD (s .args .e .at) (c .before .loop .i) 0) (drop (c .before .loop .i + 1) (take (s .args .e .count) (s .args .e .at)))
+  next : RisesOn (s .args .n) (c .before .loop .first) (getD (s .args .e .at) (c .before .loop .i) 0) (drop (c .before .loop .i + 1) (take (s .args .e .count) (s .args .e .at)))
   next = next-at (s .args .e .at) (s .args .e .count) (omega (arith, s .pre .2 .places, s .pre .2 .few)) (c .before .loop .i) (c .loop-test .taken) (c .before .loop .inv .4)
 
 segment-spread-requires : tie.Need-segment-spread-requires Inv-loop μ-loop

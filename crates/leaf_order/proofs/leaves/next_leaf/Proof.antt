@@ -11,12 +11,12 @@ use Rattle.dstree.specs.Node.{Tree}
 use Rattle.tables.specs.Layout.{kindPlace}
 use Rattle.tables.specs.Tables.{recordOf}
 use Rattle.tables.specs.View.{smallAt}
-use Rattle.best_first.specs.NodeKeys.{boundIn, numberIn}
-use Rattle.best_first.specs.Waiting.{load}
-use Rattle.leaf_order.specs.Waits.{shapeIn, Walkable, keysIn, Waits, remaining, Opened}
+use Rattle.best_first.specs.NodeKeys.{keyBound, keyNumber}
+use Rattle.best_first.specs.Waiting.{nodesWaiting}
+use Rattle.leaf_order.specs.Waits.{shapeIn, Walkable, keysIn, Waits, remaining, ChildrenPushed}
 use Rattle.leaf_order.specs.Handed.{Past, Handed}
 use Rattle.leaf_order.proofs.Records.{InnerAt, shape-length, is-leaf, number-fits, inner-at}
-use Rattle.leaf_order.proofs.Turns.{none-remain, least-past, Took, same-least}
+use Rattle.leaf_order.proofs.Turns.{none-remain, least-past, KeyTaken, same-least}
 use Rattle.leaf_order.proofs.Turns.{took-number, took-leaf, took-room, took-less, took-inner, took-same}
 use Rattle.leaf_order.proofs.leaves.next_leaf.Statement.{statement}
 use Rattle.leaf_order.proofs.leaves.next_leaf.Tie as tie
@@ -27,7 +27,7 @@ Inv-loop nodes query sums squares work₀ waiting limited limit n₀ work n =
     Waits tree query n work × (remaining tree query n work ≡ remaining tree query waiting work₀) × (length work ≡ length work₀)
 
 abbrev μ-loop : tie.MeasureT-loop
-μ-loop nodes query sums squares work₀ waiting limited limit n₀ work n = load (shapeIn nodes (length work₀)) (keysIn n work)
+μ-loop nodes query sums squares work₀ waiting limited limit n₀ work n = nodesWaiting (shapeIn nodes (length work₀)) (keysIn n work)
 
 -- ---- what the call was given
 
@@ -91,7 +91,7 @@ module _ (p : tie.After-pop Inv-loop μ-loop) where
   abbrev key : ℕ
   key = least .least .result
 
-  abbrev took : Took (tree from) (query from) (turn least .loop .n) (turn least .loop .work) key (p .pop .last .0)
+  abbrev took : KeyTaken (tree from) (query from) (turn least .loop .n) (turn least .loop .work) key (p .pop .last .0)
   took =
       let L = turn least .loop in
       record {
@@ -103,7 +103,7 @@ module _ (p : tie.After-pop Inv-loop μ-loop) where
         popped = same-least (least .least .ensures) (p .pop .ensures);
       }
 
-  number-in : numberIn key < places from
+  number-in : keyNumber key < places from
   number-in = omega (arith, took-number took, turn least .loop .inv .2)
 
   left-long : length (p .pop .last .0) ≡ places from
@@ -116,7 +116,7 @@ node-small-requires : tie.Need-node-small-requires Inv-loop μ-loop
 node-small-requires c κs =
     let p = c .before .before in
     let s = from p in
-    (walkable s .record-room (numberIn (key p)) (number-in p), number-fits (nodes s) (places s) (query s) (walkable s) (numberIn (key p)) (number-in p), omega arith)
+    (walkable s .record-room (keyNumber (key p)) (number-in p), number-fits (nodes s) (places s) (query s) (walkable s) (keyNumber (key p)) (number-in p), omega arith)
 
 -- ---- a leaf
 
@@ -128,7 +128,7 @@ unfolding Handed
 returns-2 c =
     let p = c .before .before .before .before in
     let s = from p in
-    let at = is-leaf (nodes s) (places s) (numberIn (key p)) (number-in p) (sym (c .before .node-small .ensures) ∙ c .if2 .taken) in
+    let at = is-leaf (nodes s) (places s) (keyNumber (key p)) (number-in p) (sym (c .before .node-small .ensures) ∙ c .if2 .taken) in
     let h = took-leaf (took p) at (s .args .limited) (s .args .limit) (sym (p .before .before .before .is-past .ensures) ∙ p .before .before .if1 .left) in
     record { first = sym (turn (least p) .loop .inv .1) ∙ h .first; inside = h .inside; is-leaf = h .is-leaf; within = h .within; waits = h .waits }
 
@@ -138,11 +138,11 @@ module _ (c : tie.Else2 Inv-loop μ-loop) where
   abbrev out : tie.After-pop Inv-loop μ-loop
   out = c .before .before .before .before
 
-  inner-kind : 1 ≤ smallAt (recordOf (nodes (from out)) (numberIn (key out))) kindPlace
+  inner-kind : 1 ≤ smallAt (recordOf (nodes (from out)) (keyNumber (key out))) kindPlace
   inner-kind = omega (arith, c .if2 .left, c .before .node-small .ensures)
 
-  here : InnerAt (nodes (from out)) (places (from out)) (numberIn (key out))
-  here = inner-at (nodes (from out)) (places (from out)) (query (from out)) (walkable (from out)) (numberIn (key out)) (number-in out) inner-kind
+  here : InnerAt (nodes (from out)) (places (from out)) (keyNumber (key out))
+  here = inner-at (nodes (from out)) (places (from out)) (query (from out)) (walkable (from out)) (keyNumber (key out)) (number-in out) inner-kind
 
   -- there is room for both keys
   both : turn (least out) .loop .n - 1 + 2 ≤ places (from out)
@@ -172,12 +172,12 @@ module _ (o : tie.After-open-node Inv-loop μ-loop) where
   abbrev long : length work′ ≡ length (out at-inner .pop .last .0)
   long = o .open-node .kept .1 .1 .1 .1 .0
 
-  opened : Opened (tree (from (out at-inner))) (query (from (out at-inner))) (turn (least (out at-inner)) .loop .n - 1)
-      (recordOf (nodes (from (out at-inner))) (numberIn (key (out at-inner)))) (boundIn (key (out at-inner))) (out at-inner .pop .last .0) work′
+  opened : ChildrenPushed (tree (from (out at-inner))) (query (from (out at-inner))) (turn (least (out at-inner)) .loop .n - 1)
+      (recordOf (nodes (from (out at-inner))) (keyNumber (key (out at-inner)))) (keyBound (key (out at-inner))) (out at-inner .pop .last .0) work′
   opened =
       let p = out at-inner in
       let s = from p in
-      subst (λ (m : ℕ). Opened (shapeIn (nodes s) m) (query s) (turn (least p) .loop .n - 1) (recordOf (nodes s) (numberIn (key p))) (boundIn (key p)) (p .pop .last .0) work′)
+      subst (λ (m : ℕ). ChildrenPushed (shapeIn (nodes s) m) (query s) (turn (least p) .loop .n - 1) (recordOf (nodes s) (keyNumber (key p))) (keyBound (key p)) (p .pop .last .0) work′)
       (left-long p) (o .open-node .ensures)
 
 loop-less : tie.Need-loop-less Inv-loop μ-loop

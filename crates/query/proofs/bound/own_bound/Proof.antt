@@ -10,7 +10,7 @@ use Rattle.dstree.specs.Matching.{boundOn}
 use Rattle.tables.specs.Layout.{segmentsPlace}
 use Rattle.tables.specs.View.{smallAt, segmentsIn}
 use Rattle.query.specs.Bounded.{boundBy, boundLimit}
-use Rattle.query.proofs.Own.{segmentsAfter, Left, Next, next-at, bound-more, bound-end, after-start, few-segments, left-all}
+use Rattle.query.proofs.Own.{segmentsAfter, Left, NextSegment, next-at, bound-more, bound-end, after-start, few-segments, left-all}
 use Rattle.query.proofs.bound.own_bound.Statement.{statement}
 use Rattle.query.proofs.bound.own_bound.Tie as tie
 
@@ -63,7 +63,7 @@ small-at-requires-2 c κs = (c .before .before .before .pre .1 .places, omega (a
 next : (c : tie.After-small-at2 Inv-loop μ-loop) →
     let s = c .before .before .before .before in
     let l = c .before .before .loop in
-    Next (s .args .«record» .now) (length (s .args .query .now)) (c .before .before .before .small-at .result) (l .first) (l .i) (c .small-at2 .result)
+    NextSegment (s .args .«record» .now) (length (s .args .query .now)) (c .before .before .before .small-at .result) (l .first) (l .i) (c .small-at2 .result)
 next c =
     let s = c .before .before .before .before in
     let l = c .before .before .loop in

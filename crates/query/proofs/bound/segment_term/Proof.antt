@@ -75,11 +75,11 @@ returns c =
     let w : s .args .last - s .args .first + 1 ≡ suc (s .args .last) - s .args .first = omega (arith, s .pre .1 .rises) in
     let low = k .before .before .before .scatter .result in
     let high = k .before .scatter2 .result in
-    let told : c .segment-bound .result ≡ boundTerm (suc (s .args .last) - s .args .first) (sumGap (f .result .sum) (g .leastSum) (g .greatestSum)) (scatterGap (f .result .scatter) low high) =
+    let gives : c .segment-bound .result ≡ boundTerm (suc (s .args .last) - s .args .first) (sumGap (f .result .sum) (g .leastSum) (g .greatestSum)) (scatterGap (f .result .scatter) low high) =
     rw (sum-read k, least-read k, greatest-read k, w) at (c .segment-bound .ensures .0) in
     let e : c .segment-bound .result ≡ boundTerm (suc (s .args .last) - s .args .first) (sumGap (f .result .sum) (g .leastSum) (g .greatestSum))
     (scatterGap (f .result .scatter) (g .leastScatter) (g .greatestScatter)) =
-    told ∙ ap₂ (λ (a b : ℕ). boundTerm (width on) (sumGap (f .result .sum) (g .leastSum) (g .greatestSum)) (scatterGap (f .result .scatter) a b)) (least-scatter k) (greatest-scatter k) in (
+    gives ∙ ap₂ (λ (a b : ℕ). boundTerm (width on) (sumGap (f .result .sum) (g .leastSum) (g .greatestSum)) (scatterGap (f .result .scatter) a b)) (least-scatter k) (greatest-scatter k) in (
       e ∙ ap₂ (λ (t : ℤ) (u : ℕ). boundTerm (width on) (sumGap t (g .leastSum) (g .greatestSum)) (scatterGap u (g .leastScatter) (g .greatestScatter))) (f .ensures .0) (f .ensures .1 .0),
       rw e (gaps-size (width on) (f .result .sum) (f .result .scatter) g (omega (arith, s .pre .1 .rises)) (f .ensures .1 .1 .0) (f .ensures .1 .1 .1) (s .pre .4)),
     )

@@ -5,7 +5,7 @@ use native.Mathlib.Nat.{mul-le-mul-right}
 use native.Mathlib.Omega.{arith}
 use denote.Ref.{now}
 use Rattle.tables.specs.Layout.{recordPlaces}
-use Rattle.query_judging.specs.Leaves.{leafIn, leafCount}
+use Rattle.query_judging.specs.LeafCount.{leafIn, leafCount}
 use Rattle.query_judging.proofs.Counted.{count-more, count-none, one-most}
 use Rattle.query_judging.proofs.leaves.leaf_count.Statement.{statement}
 use Rattle.query_judging.proofs.leaves.leaf_count.Tie as tie

@@ -10,7 +10,7 @@ use Rattle.segment.proofs.Fewest.{exact-says, beyond-says}
 use Rattle.dstree.specs.KNearest.{listWith}
 use Rattle.tables.specs.View.{traceIn}
 use Rattle.reading.specs.Nearest.{near}
-use Rattle.reading.specs.Listed.{nearsIn, Lists}
+use Rattle.reading.specs.Listed.{nearsIn, ListBegins}
 use Rattle.reading.proofs.Records.{placed-beyond}
 use Rattle.reading.proofs.leaf.take_trace.Statement.{statement}
 use Rattle.reading.proofs.leaf.take_trace.Tie as tie
@@ -25,9 +25,10 @@ returns c =
     let d = p .before in
     let a = d .before .before .before .before .args in
     subst
-    (λ (r : ℕ). Lists (a .k) (p .place .result) (listWith (a .k) (nearsIn (a .listed) (now (a .list))) (near (a .t) r)) (now (a .list))
-    (p .place .last .0))
-    (d .trace-distance .ensures) (p .place .ensures)
+    (λ (r : ℕ). ListBegins (a .k) (p .put-in-list .result) (listWith (a .k) (nearsIn (a .listed) (now (a .list))) (near (a .t) r))
+    (now (a .list))
+    (p .put-in-list .last .0))
+    (d .trace-distance .ensures) (p .put-in-list .ensures)
 
 returns-2 : tie.Need-returns-2
 returns-2 c =
@@ -40,9 +41,10 @@ returns-2 c =
     exact-says (w .before .kth-distance .result) (told .distance .given .0 .0) (now (a .query)) (traceIn (now (a .samples)) (a .n) (a .t))
     (w .trace-within .result) (w .trace-within .ensures) (told .distance .given .1) .0 in
     subst
-    (λ (r : ℕ). Lists (a .k) (p .place2 .result) (listWith (a .k) (nearsIn (a .listed) (now (a .list))) (near (a .t) r)) (now (a .list))
-    (p .place2 .last .0))
-    whole (p .place2 .ensures)
+    (λ (r : ℕ). ListBegins (a .k) (p .put-in-list2 .result) (listWith (a .k) (nearsIn (a .listed) (now (a .list))) (near (a .t) r))
+    (now (a .list))
+    (p .put-in-list2 .last .0))
+    whole (p .put-in-list2 .ensures)
 
 returns-3 : tie.Need-returns-3
 returns-3 c =

@@ -1,4 +1,4 @@
--- `reading::list::insert` meets its contract: `Moved` is the invariant (`Records`), and the free record is the measure.
+-- `reading::list::insert` meets its contract: `RecordsMoved` is the invariant (`Records`), and the free record is the measure.
 use Prim.Native.Nat.{ℕ, suc, _+_, _*_, _-_, _≤_}
 use mathlib.Core.Path.{_≡_, sym, _∙_, subst}
 use mathlib.Core.Bool.{false}
@@ -10,12 +10,12 @@ use Rattle.integer.proofs.Lists.{All, all-none}
 use Rattle.dstree.specs.Matching.{isNearer}
 use Rattle.reading.specs.Nearest.{near}
 use Rattle.reading.specs.Listed.{nearsIn}
-use Rattle.reading.proofs.Records.{Moved, moved-start, moved-next, none-ahead, moved-end, end-rest}
+use Rattle.reading.proofs.Records.{RecordsMoved, moved-start, moved-next, none-ahead, moved-end, end-rest}
 use Rattle.reading.proofs.list.insert.Statement.{statement}
 use Rattle.reading.proofs.list.insert.Tie as tie
 
 abbrev Inv-loop : tie.InvT-loop
-Inv-loop list₀ m trace distance i₀ list i = Moved m (near trace distance) list₀ list i
+Inv-loop list₀ m trace distance i₀ list i = RecordsMoved m (near trace distance) list₀ list i
 
 abbrev μ-loop : tie.MeasureT-loop
 μ-loop list₀ m trace distance i₀ list i = i

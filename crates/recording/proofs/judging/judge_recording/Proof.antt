@@ -11,13 +11,13 @@ use borrow.Author.Tests.{not-true, not-false}
 use Rattle.integer.proofs.Tests.{is-true}
 use Rattle.dstree.specs.Recording.{sizeIn, isRecording, judgeRecording}
 use Rattle.dstree.proofs.Recordings.{SoundFile, passed-sound}
-use Rattle.recording.specs.Found.{tracesFound, tracesHeld}
-use Rattle.recording.proofs.Held.{traces-count}
+use Rattle.recording.specs.FileTraces.{tracesFound, tracesRecorded}
+use Rattle.recording.proofs.HoldsTrace.{traces-count}
 use Rattle.recording.proofs.judging.judge_recording.Statement.{statement}
 use Rattle.recording.proofs.judging.judge_recording.Tie as tie
 
 returns : tie.Need-returns
-unfolding tracesFound tracesHeld judgeRecording
+unfolding tracesFound tracesRecorded judgeRecording
 returns c = simp (sym (c .before .is-recording .ensures) ∙ not-true (c .before .is-recording .result) (c .if1 .taken))
 
 -- a sound file
@@ -42,7 +42,7 @@ unfolding sizeIn
 size-is c = c .four-bytes .ensures .0
 
 returns-2 : tie.Need-returns-2
-unfolding tracesFound tracesHeld judgeRecording
+unfolding tracesFound tracesRecorded judgeRecording
 returns-2 c =
     let s = c .before in
     simp (test s) (ap some (ap (λ (k : ℕ). k / 2 / n s) (size-is c) ∙ sym (traces-count (n s) (bytes s))))

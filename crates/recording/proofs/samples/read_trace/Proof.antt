@@ -8,7 +8,7 @@ use denote.Ref.{now}
 use borrow.Author.Needs.{needs}
 use borrow.Rule.Slice.PartMut.{mid-len}
 use Rattle.sheet.specs.Codes.{samplesIn}
-use Rattle.recording.proofs.Held.{first, inside, trace-is}
+use Rattle.recording.proofs.HoldsTrace.{firstByte, inside, trace-is}
 use Rattle.recording.proofs.samples.read_trace.Statement.{statement}
 use Rattle.recording.proofs.samples.read_trace.Tie as tie
 
@@ -20,7 +20,7 @@ module _ (s : tie.Start) where
   n = length (now (s .args .trace))
 
   abbrev from : ℕ
-  from = first n bytes (s .args .number) (s .pre)
+  from = firstByte n bytes (s .args .number) (s .pre)
 
   fits : from + 2 * n ≤ length bytes
   fits = inside n bytes (s .args .number) (s .pre)

@@ -3,7 +3,7 @@ use mathlib.Core.Path.{_≡_, sym, subst, _∙_}
 use denote.Ref.{now}
 use borrow.Author.Needs.{needs}
 use Rattle.tables.specs.View.{segmentsIn}
-use Rattle.records_fit.specs.Fits.{segmentsFrom, endsIn, EndsRise}
+use Rattle.records_fit.specs.Fits.{segmentsInFrom, endsIn, EndsRise}
 use Rattle.records_fit.proofs.records.ends_kept.Statement.{statement}
 use Rattle.records_fit.proofs.records.ends_kept.Tie as tie
 
@@ -20,8 +20,8 @@ returns : tie.Need-returns
 unfolding segmentsIn
 returns c =
     let a = c .before .before .before .args in
-    let e : c .ends-in .result ≡ endsIn (segmentsFrom (now (a .child)) (c .before .before .small-at .result) 0)
-    (segmentsFrom (now (a .parent)) (c .before .small-at2 .result) 0) = c .ends-in .ensures in
+    let e : c .ends-in .result ≡ endsIn (segmentsInFrom (now (a .child)) (c .before .before .small-at .result) 0)
+    (segmentsInFrom (now (a .parent)) (c .before .small-at2 .result) 0) = c .ends-in .ensures in
     e ∙ rw (c .before .before .small-at .ensures, c .before .small-at2 .ensures)
 
 pub ends-kept-spec : {M : Type 1} → statement M

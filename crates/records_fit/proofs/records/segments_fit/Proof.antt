@@ -4,7 +4,7 @@ use Prim.Native.Nat.{ℕ}
 use native.Mathlib.Omega.{arith}
 use denote.Ref.{now}
 use borrow.Author.Needs.{needs}
-use Rattle.records_fit.specs.Fits.{segmentsFrom, restHolds}
+use Rattle.records_fit.specs.Fits.{segmentsInFrom, restHolds}
 use Rattle.records_fit.proofs.Segments.{none-hold, many-hold, some-hold}
 use Rattle.records_fit.proofs.records.segments_fit.Statement.{statement}
 use Rattle.records_fit.proofs.records.segments_fit.Tie as tie
@@ -23,7 +23,7 @@ returns-3 c =
     let s = c .before .before .before in
     let a = s .before .args in
     c .segments-run .ensures
-    ∙ (ap (λ (count : ℕ). restHolds (a .n) 0 (segmentsFrom (now (a .places)) count 0)) (s .small-at .ensures)
+    ∙ (ap (λ (count : ℕ). restHolds (a .n) 0 (segmentsInFrom (now (a .places)) count 0)) (s .small-at .ensures)
     ∙ sym (some-hold (a .n) (now (a .places)) (omega (arith, s .small-at .ensures, c .before .before .if1 .left)) (omega (arith, s .small-at .ensures, c .before .if2 .left))))
 
 pub segments-fit-spec : {M : Type 1} → statement M

@@ -11,13 +11,13 @@ use Rattle.dstree.specs.Measures.{sampleLimit}
 use Rattle.dstree.specs.Node.{Segment}
 use Rattle.dstree.specs.WellFormed.{segmentFits}
 use Rattle.tables.specs.View.{segmentIn}
-use Rattle.records_fit.specs.Fits.{between, segmentsFrom, restHolds}
+use Rattle.records_fit.specs.Fits.{between, segmentsInFrom, restHolds}
 use Rattle.records_fit.proofs.Segments.{between-yes, from-more, from-none, from-first, rest-falls, rest-outside, rest-next, rest-done}
 use Rattle.records_fit.proofs.records.segments_run.Statement.{statement}
 use Rattle.records_fit.proofs.records.segments_run.Tie as tie
 
 abbrev Inv-loop : tie.InvT-loop
-Inv-loop places count n before₀ i₀ before i = (i ≤ count) × (before ≤ n) × (restHolds n before (segmentsFrom places (count - i) i) ≡ restHolds n 0 (segmentsFrom places count 0))
+Inv-loop places count n before₀ i₀ before i = (i ≤ count) × (before ≤ n) × (restHolds n before (segmentsInFrom places (count - i) i) ≡ restHolds n 0 (segmentsInFrom places count 0))
 
 abbrev μ-loop : tie.MeasureT-loop
 μ-loop places count n before₀ i₀ before i = count - i
@@ -46,9 +46,9 @@ module _ (c : tie.After-end-behind Inv-loop μ-loop) where
   before = c .before .before .loop .before
 
   abbrev rest : List Segment
-  rest = segmentsFrom places (count - (i + 1)) (i + 1)
+  rest = segmentsInFrom places (count - (i + 1)) (i + 1)
 
-  whole : restHolds n 0 (segmentsFrom places count 0) ≡ restHolds n before (segmentIn places i ∷ rest)
+  whole : restHolds n 0 (segmentsInFrom places count 0) ≡ restHolds n before (segmentIn places i ∷ rest)
   whole = sym (c .before .before .loop .inv .2) ∙ ap (λ (l : List Segment). restHolds n before l) (from-more places count i (omega arith))
 
   behind : {t : Bool} → c .end-behind .result ≡ t → between before n (segmentIn places i .end) ≡ t
@@ -94,7 +94,7 @@ loop-again c =
     let k = s .before .before .before in (
       omega arith,
       omega (arith, found (s .before), inside (s .before .before) .1),
-      subst (λ (x : ℕ). restHolds (n k) x (rest k) ≡ restHolds (n k) 0 (segmentsFrom (places k) (count k) 0)) (found (s .before))
+      subst (λ (x : ℕ). restHolds (n k) x (rest k) ≡ restHolds (n k) 0 (segmentsInFrom (places k) (count k) 0)) (found (s .before))
           (sym (whole k ∙ rest-next (n k) (before k) (segmentIn (places k) (i k)) (rest k) (inside (s .before .before) .0) (fits s (not-false (s .segment-fits .result) (c .if2 .left))))),
     )
 

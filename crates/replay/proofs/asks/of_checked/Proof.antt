@@ -2,7 +2,7 @@
 use borrow.Author.Needs.{needs}
 use Rattle.checking.specs.Answered.{answerBy}
 use Rattle.calls.specs.Numbers.{codeOf, resultValues, valuesOf, laid}
-use Rattle.replay.specs.Numbers.{replyRow}
+use Rattle.replay.specs.ReplyRows.{replyRow}
 use Rattle.replay.proofs.asks.of_checked.Statement.{statement}
 use Rattle.replay.proofs.asks.of_checked.Tie as tie
 

@@ -8,9 +8,9 @@ use Rattle.reading.specs.Listed.{nearsIn}
 use Rattle.tables.specs.Tables.{Tables, tables}
 use Rattle.calls.specs.Outcome.{Outcome}
 use Rattle.calls.specs.Effects.{outcomeOn}
-use Rattle.replay.specs.Numbers.{replyRow}
-use Rattle.replay.specs.declared.Cursor.{Cursor}
-use Rattle.replay.specs.Script.{taken, matchings, writings, listings, exportings, checkings, batchings}
+use Rattle.replay.specs.ReplyRows.{replyRow}
+use Rattle.replay.specs.declared.Amounts.{Amounts}
+use Rattle.replay.specs.Script.{taken, matchingCalls, writingCalls, listingCalls, exportingCalls, checkingCalls, batchingCalls}
 use Rattle.replay.proofs.OfKind.{own-kind, no-other-ask, is-matchings, is-writings, is-listings, is-exportings, matches-it}
 use Rattle.replay.proofs.OfKind.{is-checkings, is-batchings, writes-it, lists-it, exports-it, checks-it, batches-it}
 use Rattle.replay.proofs.asks.play.Statement.{statement}
@@ -24,7 +24,7 @@ returns c =
     let t : Tables = tables (now (a .control)) (now (a .samples)) (now (a .nodes)) (now (a .links)) (now (a .work)) in
     let call = c .before .before .before .before .before .nearest in
     let does = call .ensures in
-    own-kind (a .kind) row (taken (now (a .query)) (now (a .trail)) (now (a .sheet)) (now (a .list))) t _ matchings (is-matchings
+    own-kind (a .kind) row (taken (now (a .query)) (now (a .trail)) (now (a .sheet)) (now (a .list))) t _ matchingCalls (is-matchings
     (c .before .before .before .before .before .before .before .before .if1 .taken))
     (matches-it row (taken (now (a .query)) (now (a .trail)) (now (a .sheet)) (now (a .list))) t _ _ (call .last .1 .1 .1 .1 .1 .0)
     (c .of-found .ensures (call .last .1 .1 .1 .1 .1 .0) ∙ ap (λ (o : Outcome). replyRow (o .answer)) does) (ap (λ (o : Outcome). o
@@ -38,7 +38,7 @@ returns-2 c =
     let t : Tables = tables (now (a .control)) (now (a .samples)) (now (a .nodes)) (now (a .links)) (now (a .work)) in
     let call = c .before .before .before .write-sheet in
     let does = call .ensures in
-    own-kind (a .kind) row (taken (now (a .query)) (now (a .trail)) (now (a .sheet)) (now (a .list))) t _ writings (is-writings
+    own-kind (a .kind) row (taken (now (a .query)) (now (a .trail)) (now (a .sheet)) (now (a .list))) t _ writingCalls (is-writings
     (c .before .before .before .before .before .before .if2 .taken))
     (writes-it row (taken (now (a .query)) (now (a .trail)) (now (a .sheet)) (now (a .list))) t _ _ (call .last .1 .1 .1 .1 .1 .0)
     (c .of-written .ensures (call .last .1 .1 .1 .1 .1 .0) ∙ ap (λ (o : Outcome). replyRow (o .answer)) does) (ap (λ (o : Outcome). o
@@ -52,8 +52,8 @@ returns-3 c =
     let t : Tables = tables (now (a .control)) (now (a .samples)) (now (a .nodes)) (now (a .links)) (now (a .work)) in
     let call = c .before .before .before .before .before .before .before .k-nearest in
     let does = call .ensures ∙ ap (λ (k : ℕ). outcomeOn (listing k (now (a .query)) (now (a .trail)) (now (a .list))) t)
-    (c .before .before .before .before .before .before .before .before .before .before .before .number .ensures) in
-    own-kind (a .kind) row (taken (now (a .query)) (now (a .trail)) (now (a .sheet)) (now (a .list))) t _ listings (is-listings
+    (c .before .before .before .before .before .before .before .before .before .before .before .number-at .ensures) in
+    own-kind (a .kind) row (taken (now (a .query)) (now (a .trail)) (now (a .sheet)) (now (a .list))) t _ listingCalls (is-listings
     (c .before .before .before .before .before .before .before .before .before .before .before .before .if3 .taken))
     (lists-it row (taken (now (a .query)) (now (a .trail)) (now (a .sheet)) (now (a .list))) t _ _ (call .last .1 .1 .1 .1 .1 .0)
     (call .last .1 .1 .1 .1 .1 .1 .0)
@@ -68,9 +68,9 @@ returns-4 c =
     let t : Tables = tables (now (a .control)) (now (a .samples)) (now (a .nodes)) (now (a .links)) (now (a .work)) in
     let call = c .before .before .before .export-recording in
     let does = call .ensures ∙ ap₂ (λ (number : ℕ) (rate : ℕ). outcomeOn (exporting number rate (now (a .sheet))) t)
-    (c .before .before .before .before .before .before .before .number2 .ensures) (c .before .before .before .before .before .before
-    .number3 .ensures) in
-    own-kind (a .kind) row (taken (now (a .query)) (now (a .trail)) (now (a .sheet)) (now (a .list))) t _ exportings (is-exportings
+    (c .before .before .before .before .before .before .before .number-at2 .ensures) (c .before .before .before .before .before .before
+    .number-at3 .ensures) in
+    own-kind (a .kind) row (taken (now (a .query)) (now (a .trail)) (now (a .sheet)) (now (a .list))) t _ exportingCalls (is-exportings
     (c .before .before .before .before .before .before .before .before .if4 .taken))
     (exports-it row (taken (now (a .query)) (now (a .trail)) (now (a .sheet)) (now (a .list))) t _ _ (call .last .1 .1 .1 .1 .1 .0)
     (c .of-exported .ensures (call .last .1 .1 .1 .1 .1 .0) ∙ ap (λ (o : Outcome). replyRow (o .answer)) does) (ap (λ (o : Outcome). o
@@ -85,7 +85,7 @@ returns-5 c =
     let t : Tables = tables (now (a .control)) (now (a .samples)) (now (a .nodes)) (now (a .links)) (now (a .work)) in
     let call = c .before .check-tables in
     let does = call .ensures in
-    own-kind (a .kind) row x t _ checkings (is-checkings (c .before .before .before .if5 .taken))
+    own-kind (a .kind) row x t _ checkingCalls (is-checkings (c .before .before .before .if5 .taken))
     (checks-it row x t _ _ (c .of-checked .ensures ∙ ap (λ (o : Outcome). replyRow (o .answer)) does) (ap (λ (o : Outcome). o .after) does))
 
 returns-6 : tie.Need-returns-6
@@ -98,11 +98,11 @@ returns-6 c =
     let x = taken (now (a .query)) (now (a .trail)) (now (a .sheet)) (now (a .list)) in
     let t : Tables = tables (now (a .control)) (now (a .samples)) (now (a .nodes)) (now (a .links)) (now (a .work)) in
     let left = q .play-batch .last .1 .1 .1 .1 .1 in
-    own-kind (a .kind) row x t _ batchings (is-batchings (places .before .if6 .taken)) (λ e.
-    let whole = subst (λ (p : ℕ). length (now (a .list)) ≡ 2 * (p / 2)) (sym (places .number4 .ensures)) (ap (λ (s : Cursor). s .lists) e) in
+    own-kind (a .kind) row x t _ batchingCalls (is-batchings (places .before .if6 .taken)) (λ e.
+    let whole = subst (λ (p : ℕ). length (now (a .list)) ≡ 2 * (p / 2)) (sym (places .number-at4 .ensures)) (ap (λ (s : Amounts). s .lists) e) in
     let does = q .play-batch .ensures whole
     ∙ ap₂ (λ (m : ℕ) (p : ℕ). outcomeOn (batching m (now (a .query)) (now (a .trail)) (nearsIn (p / 2) (now (a .list)))) t)
-    (many .number5 .ensures) (places .number4 .ensures) in
+    (many .number-at5 .ensures) (places .number-at4 .ensures) in
     batches-it row x t _ _ (left .0) (left .1 .0) (c .of-batched .ensures _ _ ∙ ap (λ (o : Outcome). replyRow (o .answer)) does)
     (ap (λ (o : Outcome). o .after) does) (ap (λ (o : Outcome). o .beside) does) e)
 

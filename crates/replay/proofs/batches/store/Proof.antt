@@ -7,7 +7,7 @@ use lib.ListN.{length, getD, set, length-set}
 use denote.Ref.{now}
 use borrow.Author.Needs.{needs}
 use Rattle.integer.specs.Words.{counting}
-use Rattle.batch_answers.specs.Over.{written}
+use Rattle.batch_answers.specs.Over.{withFirstValues}
 use Rattle.batch_answers.proofs.Over.{over-none, over-more, over-all}
 use Rattle.replay.proofs.Records.{after-other, after-same}
 use Rattle.replay.proofs.batches.store.Statement.{statement}
@@ -15,7 +15,7 @@ use Rattle.replay.proofs.batches.store.Tie as tie
 
 abbrev Inv-loop : tie.InvT-loop
 Inv-loop found records list₀ i₀ list i =
-    (i ≤ length list₀) × (list ≡ written (λ (j : ℕ). getD (found .bests) j 0) i list₀) × (length list ≡ length list₀)
+    (i ≤ length list₀) × (list ≡ withFirstValues (λ (j : ℕ). getD (found .bests) j 0) i list₀) × (length list ≡ length list₀)
 
 abbrev μ-loop : tie.MeasureT-loop
 μ-loop found records list₀ i₀ list i = length list₀ - i

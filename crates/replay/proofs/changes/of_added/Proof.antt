@@ -1,13 +1,13 @@
 -- `replay::changes::of_added` meets its contract, arm by arm.
 use borrow.Author.Needs.{needs}
-use Rattle.adding.specs.Answered.{answerOf}
+use Rattle.adding.specs.Answered.{answerBy}
 use Rattle.calls.specs.Numbers.{codeOf, resultValues, valuesOf, laid}
-use Rattle.replay.specs.Numbers.{replyRow}
+use Rattle.replay.specs.ReplyRows.{replyRow}
 use Rattle.replay.proofs.changes.of_added.Statement.{statement}
 use Rattle.replay.proofs.changes.of_added.Tie as tie
 
 pub of-added-spec : {M : Type 1} → statement M
-unfolding replyRow codeOf valuesOf resultValues laid answerOf
+unfolding replyRow codeOf valuesOf resultValues laid answerBy
 of-added-spec =
     tie.close
     (tie.spec

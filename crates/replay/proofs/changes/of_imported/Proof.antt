@@ -1,13 +1,13 @@
 -- `replay::changes::of_imported` meets its contract, arm by arm.
 use borrow.Author.Needs.{needs}
-use Rattle.importing.specs.Answered.{answerOf}
+use Rattle.importing.specs.Answered.{answerBy}
 use Rattle.calls.specs.Numbers.{codeOf, resultValues, valuesOf, laid}
-use Rattle.replay.specs.Numbers.{replyRow}
+use Rattle.replay.specs.ReplyRows.{replyRow}
 use Rattle.replay.proofs.changes.of_imported.Statement.{statement}
 use Rattle.replay.proofs.changes.of_imported.Tie as tie
 
 pub of-imported-spec : {M : Type 1} → statement M
-unfolding replyRow codeOf valuesOf resultValues laid answerOf
+unfolding replyRow codeOf valuesOf resultValues laid answerBy
 of-imported-spec =
     tie.close
     (tie.spec

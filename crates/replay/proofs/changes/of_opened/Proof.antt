@@ -1,13 +1,13 @@
 -- `replay::changes::of_opened` meets its contract, arm by arm.
 use borrow.Author.Needs.{needs}
-use Rattle.opening.specs.Opened.{answerOf}
+use Rattle.opening.specs.Opened.{answerBy}
 use Rattle.calls.specs.Numbers.{codeOf, resultValues, valuesOf, laid}
-use Rattle.replay.specs.Numbers.{replyRow}
+use Rattle.replay.specs.ReplyRows.{replyRow}
 use Rattle.replay.proofs.changes.of_opened.Statement.{statement}
 use Rattle.replay.proofs.changes.of_opened.Tie as tie
 
 pub of-opened-spec : {M : Type 1} → statement M
-unfolding replyRow codeOf valuesOf resultValues laid answerOf
+unfolding replyRow codeOf valuesOf resultValues laid answerBy
 of-opened-spec =
     tie.close
     (tie.spec

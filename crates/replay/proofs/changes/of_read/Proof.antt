@@ -1,13 +1,13 @@
 -- `replay::changes::of_read` meets its contract, arm by arm.
 use borrow.Author.Needs.{needs}
-use Rattle.sheet_reading.specs.Answered.{answerOf}
+use Rattle.sheet_reading.specs.Answered.{answerBy}
 use Rattle.calls.specs.Numbers.{codeOf, resultValues, valuesOf, laid}
-use Rattle.replay.specs.Numbers.{replyRow}
+use Rattle.replay.specs.ReplyRows.{replyRow}
 use Rattle.replay.proofs.changes.of_read.Statement.{statement}
 use Rattle.replay.proofs.changes.of_read.Tie as tie
 
 pub of-read-spec : {M : Type 1} → statement M
-unfolding replyRow codeOf valuesOf resultValues laid answerOf
+unfolding replyRow codeOf valuesOf resultValues laid answerBy
 of-read-spec =
     tie.close
     (tie.spec

@@ -6,8 +6,8 @@ use Rattle.dstree.specs.Book.{opening}
 use Rattle.tables.specs.Tables.{Tables, tables}
 use Rattle.calls.specs.Outcome.{Outcome}
 use Rattle.calls.specs.Effects.{outcomeOn}
-use Rattle.replay.specs.Numbers.{replyRow}
-use Rattle.replay.specs.Script.{ownNumber, taken, openings, addings, readings, importings}
+use Rattle.replay.specs.ReplyRows.{replyRow}
+use Rattle.replay.specs.Script.{ownNumber, taken, openingCalls, addingCalls, readingCalls, importingCalls}
 use Rattle.replay.proofs.OfKind.{own-kind, no-other-change, is-openings, is-addings, is-readings, is-importings, opens-it, adds-it}
 use Rattle.replay.proofs.OfKind.{reads-it, imports-it}
 use Rattle.replay.proofs.changes.play.Statement.{statement}
@@ -20,13 +20,13 @@ returns c =
     let row = now (a .row) in
     let t : Tables = tables (now (a .control)) (now (a .samples)) (now (a .nodes)) (now (a .links)) (now (a .work)) in
     let asked : measures (c .before .before .before .before .before .before .before .before .before .before .before .before .before
-    .before .before .before .before .number .result) (c .before .before .before .before .before .before .before .before .before
-    .before .before .before .before .before .before .before .number2 .result) (c .before .before .before .before .before .before
-    .before .before .before .before .before .before .before .before .before .number3 .result)
+    .before .before .before .before .number-at .result) (c .before .before .before .before .before .before .before .before .before
+    .before .before .before .before .before .before .before .number-at2 .result) (c .before .before .before .before .before .before
+    .before .before .before .before .before .before .before .before .before .number-at3 .result)
     ≡ measures (ownNumber row 0) (ownNumber row 1) (ownNumber row 2) = cc in
     let does = c .before .before .before .before .before .before .before .before .before .«open» .ensures
     ∙ ap (λ (m : Measures). outcomeOn (opening m) t) asked in
-    λ trail list. own-kind (a .kind) row (taken (now (a .query)) trail (now (a .sheet)) list) t _ openings (is-openings
+    λ trail list. own-kind (a .kind) row (taken (now (a .query)) trail (now (a .sheet)) list) t _ openingCalls (is-openings
     (c .before .before .before
     .before .before .before .before .before .before .before .before .before .before .before .before .before .before .before .if1
     .taken))
@@ -40,7 +40,7 @@ returns-2 c =
     let row = now (a .row) in
     let t : Tables = tables (now (a .control)) (now (a .samples)) (now (a .nodes)) (now (a .links)) (now (a .work)) in
     let does = c .before .before .before .before .before .before .before .add .ensures in
-    λ trail list. own-kind (a .kind) row (taken (now (a .query)) trail (now (a .sheet)) list) t _ addings (is-addings
+    λ trail list. own-kind (a .kind) row (taken (now (a .query)) trail (now (a .sheet)) list) t _ addingCalls (is-addings
     (c .before .before .before
     .before .before .before .before .before .before .before .before .before .before .if2 .taken))
     (adds-it row (taken (now (a .query)) trail (now (a .sheet)) list) t _ _ (c .of-added .ensures
@@ -53,7 +53,7 @@ returns-3 c =
     let row = now (a .row) in
     let t : Tables = tables (now (a .control)) (now (a .samples)) (now (a .nodes)) (now (a .links)) (now (a .work)) in
     let does = c .before .before .before .before .before .before .before .before .before .read-sheet .ensures in
-    λ trail list. own-kind (a .kind) row (taken (now (a .query)) trail (now (a .sheet)) list) t _ readings (is-readings
+    λ trail list. own-kind (a .kind) row (taken (now (a .query)) trail (now (a .sheet)) list) t _ readingCalls (is-readings
     (c .before .before .before
     .before .before .before .before .before .before .before .before .before .before .before .before .if3 .taken))
     (reads-it row (taken (now (a .query)) trail (now (a .sheet)) list) t _ _ (c .of-read .ensures
@@ -66,7 +66,7 @@ returns-4 c =
     let row = now (a .row) in
     let t : Tables = tables (now (a .control)) (now (a .samples)) (now (a .nodes)) (now (a .links)) (now (a .work)) in
     let does = c .before .before .before .before .before .before .before .import-recording .ensures in
-    λ trail list. own-kind (a .kind) row (taken (now (a .query)) trail (now (a .sheet)) list) t _ importings (is-importings
+    λ trail list. own-kind (a .kind) row (taken (now (a .query)) trail (now (a .sheet)) list) t _ importingCalls (is-importings
     (c .before .before .before .before .before .before .before .before .before .before .before .before .before .if4 .taken))
     (imports-it row (taken (now (a .query)) trail (now (a .sheet)) list) t _ _ (c .of-imported .ensures
     ∙ ap (λ (o : Outcome). replyRow (o .answer)) does) (ap (λ (o : Outcome). o .after) does))

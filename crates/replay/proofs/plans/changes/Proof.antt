@@ -1,5 +1,5 @@
 -- `replay::plans::changes` meets its contract, kind by kind.
-use Rattle.replay.specs.Script.{matchings, writings, listings, exportings, checkings, batchings}
+use Rattle.replay.specs.Script.{matchingCalls, writingCalls, listingCalls, exportingCalls, checkingCalls, batchingCalls}
 use Rattle.replay.proofs.OfKind.{is-matchings, is-writings, is-listings, is-exportings, is-checkings, is-batchings}
 use Rattle.replay.proofs.OfKind.{changes-if, changes-not}
 use Rattle.replay.proofs.plans.changes.Statement.{statement}
@@ -9,12 +9,13 @@ pub changes-spec : {M : Type 1} → statement M
 changes-spec =
     tie.close
     (tie.spec
-    (λ c. λ k e. changes-not (c .before .args .kind) matchings k (is-matchings (c .if1 .taken)) e)
-    (λ c. λ k e. changes-not (c .before .before .args .kind) writings k (is-writings (c .if2 .taken)) e)
-    (λ c. λ k e. changes-not (c .before .before .before .args .kind) listings k (is-listings (c .if3 .taken)) e)
-    (λ c. λ k e. changes-not (c .before .before .before .before .args .kind) exportings k (is-exportings (c .if4 .taken)) e)
-    (λ c. λ k e. changes-not (c .before .before .before .before .before .args .kind) checkings k (is-checkings (c .if5 .taken)) e)
-    (λ c. λ k e. changes-not (c .before .before .before .before .before .before .args .kind) batchings k (is-batchings (c .if6 .taken)) e)
+    (λ c. λ k e. changes-not (c .before .args .kind) matchingCalls k (is-matchings (c .if1 .taken)) e)
+    (λ c. λ k e. changes-not (c .before .before .args .kind) writingCalls k (is-writings (c .if2 .taken)) e)
+    (λ c. λ k e. changes-not (c .before .before .before .args .kind) listingCalls k (is-listings (c .if3 .taken)) e)
+    (λ c. λ k e. changes-not (c .before .before .before .before .args .kind) exportingCalls k (is-exportings (c .if4 .taken)) e)
+    (λ c. λ k e. changes-not (c .before .before .before .before .before .args .kind) checkingCalls k (is-checkings (c .if5 .taken)) e)
+    (λ c. λ k e. changes-not (c .before .before .before .before .before .before .args .kind) batchingCalls k
+    (is-batchings (c .if6 .taken)) e)
     (λ c. λ k e. changes-if (c .before .before .before .before .before .before .args .kind) k
     (c .before .before .before .before .before .if1 .left) (c .before .before .before .before .if2 .left)
     (c .before .before .before .if3 .left) (c .before .before .if4 .left) (c .before .if5 .left) (c .if6 .left) e))

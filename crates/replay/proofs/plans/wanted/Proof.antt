@@ -3,64 +3,64 @@ use Prim.Native.Nat.{ℕ, _*_, _/_}
 use mathlib.Core.Path.{refl, sym, ap, ap₂, _∙_}
 use native.Mathlib.Omega.{arith}
 use denote.Ref.{now}
-use Rattle.replay.specs.Script.{ownNumber, cursor, openings, addings, matchings, listings, checkings, batchings}
+use Rattle.replay.specs.Script.{ownNumber, amounts, openingCalls, addingCalls, matchingCalls, listingCalls, checkingCalls, batchingCalls}
 use Rattle.replay.proofs.OfKind.{is-openings, is-addings, is-matchings, is-listings, is-checkings, wanted-is, wanted-bytes}
 use Rattle.replay.proofs.OfKind.{is-batchings, wanted-not}
 use Rattle.replay.proofs.plans.wanted.Statement.{statement}
 use Rattle.replay.proofs.plans.wanted.Tie as tie
 
 returns : tie.Need-returns
-returns c = wanted-is _ (now (c .before .before .before .before .before .before .before .before .args .row)) _ openings _ (c .size
-    .ensures) (is-openings (sym (c .before .before .before .before .before .before .number .ensures) ∙ c .before .if1 .taken)) refl
+returns c = wanted-is _ (now (c .before .before .before .before .before .before .before .before .args .row)) _ openingCalls _ (c .size
+    .ensures) (is-openings (sym (c .before .before .before .before .before .before .number-at .ensures) ∙ c .before .if1 .taken)) refl
 
 returns-2 : tie.Need-returns-2
 returns-2 c =
     let first = c .before .before .before .before .before .places .ensures
-    ∙ c .before .before .before .before .before .before .number2 .ensures in
-    wanted-is _ (now (c .before .before .before .before .before .before .before .before .before .args .row)) _ addings _ (c .size2
-    .ensures) (is-addings (sym (c .before .before .before .before .before .before .before .number .ensures)
-    ∙ c .before .if2 .taken)) (ap (λ (x : ℕ). cursor x 0 0 0) first)
+    ∙ c .before .before .before .before .before .before .number-at2 .ensures in
+    wanted-is _ (now (c .before .before .before .before .before .before .before .before .before .args .row)) _ addingCalls _ (c .size2
+    .ensures) (is-addings (sym (c .before .before .before .before .before .before .before .number-at .ensures)
+    ∙ c .before .if2 .taken)) (ap (λ (x : ℕ). amounts x 0 0 0) first)
 
 returns-3 : tie.Need-returns-3
 returns-3 c =
     let first = c .before .before .before .before .before .before .places .ensures
-    ∙ c .before .before .before .before .before .before .before .number2 .ensures in
-    let second = c .before .before .before .before .places2 .ensures ∙ c .before .before .before .before .before .number3 .ensures in
-    wanted-is _ (now (c .before .before .before .before .before .before .before .before .before .before .args .row)) _ matchings _
-    (c .size3 .ensures) (is-matchings (sym (c .before .before .before .before .before .before .before .before .number .ensures)
+    ∙ c .before .before .before .before .before .before .before .number-at2 .ensures in
+    let second = c .before .before .before .before .places2 .ensures ∙ c .before .before .before .before .before .number-at3 .ensures in
+    wanted-is _ (now (c .before .before .before .before .before .before .before .before .before .before .args .row)) _ matchingCalls _
+    (c .size3 .ensures) (is-matchings (sym (c .before .before .before .before .before .before .before .before .number-at .ensures)
     ∙ c .before .if3 .taken))
-    (ap₂ (λ (x : ℕ) (y : ℕ). cursor x y 0 0) first second)
+    (ap₂ (λ (x : ℕ) (y : ℕ). amounts x y 0 0) first second)
 
 returns-4 : tie.Need-returns-4
 returns-4 c =
     let row = now (c .before .before .before .before .before .before .before .before .before .before .before .before .before .args .row)
     in
     let first = c .before .before .before .before .before .before .before .before .before .places .ensures ∙
-    c .before .before .before .before .before .before .before .before .before .before .number2 .ensures in
+    c .before .before .before .before .before .before .before .before .before .before .number-at2 .ensures in
     let second = c .before .before .before .before .before .before .before .places2 .ensures ∙
-    c .before .before .before .before .before .before .before .before .number3 .ensures in
-    let third = c .before .places3 .ensures ∙ c .before .before .number4 .ensures in
-    wanted-is _ row _ listings _ (c .size4 .ensures) (is-listings (sym
-    (c .before .before .before .before .before .before .before .before .before .before .before .number .ensures) ∙
+    c .before .before .before .before .before .before .before .before .number-at3 .ensures in
+    let third = c .before .places3 .ensures ∙ c .before .before .number-at4 .ensures in
+    wanted-is _ row _ listingCalls _ (c .size4 .ensures) (is-listings (sym
+    (c .before .before .before .before .before .before .before .before .before .before .before .number-at .ensures) ∙
     c .before .before .before .if4 .taken))
-    (ap₂ (λ (x : ℕ) (y : ℕ). cursor x y 0 (c .before .places3 .result)) first second
-    ∙ ap (λ (z : ℕ). cursor (ownNumber row 0) (ownNumber row 1) 0 z) third)
+    (ap₂ (λ (x : ℕ) (y : ℕ). amounts x y 0 (c .before .places3 .result)) first second
+    ∙ ap (λ (z : ℕ). amounts (ownNumber row 0) (ownNumber row 1) 0 z) third)
 
 returns-5 : tie.Need-returns-5
 returns-5 c =
-    let is = c .before .before .before .before .before .before .before .before .before .before .number .ensures in
+    let is = c .before .before .before .before .before .before .before .before .before .before .number-at .ensures in
     wanted-bytes _ (now (c .before .before .before .before .before .before .before .before .before .before .before .before .args .row)) _
     _ (c .size5 .ensures)
     (c .before .before .before .before .before .before .before .before .places .ensures ∙ c .before .before .before .before .before
-    .before .before .before .before .number2 .ensures)
+    .before .before .before .before .number-at2 .ensures)
     (λ e. c .before .before .before .before .before .if1 .left (is ∙ e)) (λ e. c .before .before .before .before .if2 .left (is ∙ e))
     (λ e. c .before .before .before .if3 .left (is ∙ e)) (λ e. c .before .before .if4 .left (is ∙ e))
     (omega (arith, is, c .before .if5 .taken))
 
 returns-6 : tie.Need-returns-6
 returns-6 c = wanted-is _ (now (c .before .before .before .before .before .before .before .before .before .before .before .before .before
-    .args .row)) _ checkings _ (c .size6 .ensures) (is-checkings (sym
-    (c .before .before .before .before .before .before .before .before .before .before .before .number .ensures)
+    .args .row)) _ checkingCalls _ (c .size6 .ensures) (is-checkings (sym
+    (c .before .before .before .before .before .before .before .before .before .before .before .number-at .ensures)
     ∙ c .before .if6 .taken)) refl
 
 returns-7 : tie.Need-returns-7
@@ -68,20 +68,20 @@ returns-7 c =
     let second-read = c .before .before .before .before .before .before .before .before .before .before .before in
     let first-read = second-read .before .before in
     let row = now (first-read .before .before .before .before .args .row) in
-    let first = first-read .places .ensures ∙ first-read .before .number2 .ensures in
-    let second = second-read .places2 .ensures ∙ second-read .before .number3 .ensures in
+    let first = first-read .places .ensures ∙ first-read .before .number-at2 .ensures in
+    let second = second-read .places2 .ensures ∙ second-read .before .number-at3 .ensures in
     let third = c .before .even .ensures
-    ∙ ap (λ (n : ℕ). 2 * (n / 2)) (c .before .before .places4 .ensures ∙ c .before .before .before .number5 .ensures) in
-    wanted-is _ row _ batchings _ (c .size7 .ensures) (is-batchings (sym (first-read .before .before .number .ensures)
+    ∙ ap (λ (n : ℕ). 2 * (n / 2)) (c .before .before .places4 .ensures ∙ c .before .before .before .number-at5 .ensures) in
+    wanted-is _ row _ batchingCalls _ (c .size7 .ensures) (is-batchings (sym (first-read .before .before .number-at .ensures)
     ∙ c .before .before .before .before .if7 .taken))
-    (ap₂ (λ (x : ℕ) (y : ℕ). cursor x y 0 (c .before .even .result)) first second
-    ∙ ap (λ (z : ℕ). cursor (ownNumber row 0) (ownNumber row 1) 0 z) third)
+    (ap₂ (λ (x : ℕ) (y : ℕ). amounts x y 0 (c .before .even .result)) first second
+    ∙ ap (λ (z : ℕ). amounts (ownNumber row 0) (ownNumber row 1) 0 z) third)
 
 returns-8 : tie.Need-returns-8
 returns-8 c =
     let asked = c .before .before .before .before .before .before .before .before .before .before .before in
     wanted-not (now (asked .before .before .args .row)) _
-    (omega (arith, asked .number .ensures, c .before .before .if5 .left, c .before .if6 .left, c .if7 .left))
+    (omega (arith, asked .number-at .ensures, c .before .before .if5 .left, c .before .if6 .left, c .if7 .left))
 
 pub wanted-spec : {M : Type 1} → statement M
 wanted-spec =

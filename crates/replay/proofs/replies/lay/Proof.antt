@@ -11,13 +11,14 @@ use Rattle.replay.proofs.replies.lay.Statement.{statement}
 use Rattle.replay.proofs.replies.lay.Tie as tie
 
 abbrev Inv-loop : tie.InvT-loop
-Inv-loop replies₀ at told j₀ replies j = (j ≤ length told) × (replies ≡ paste replies₀ at told j) × (length replies ≡ length replies₀)
+Inv-loop replies₀ at numbers j₀ replies j = (j ≤ length numbers) × (replies ≡ paste replies₀ at numbers j)
+    × (length replies ≡ length replies₀)
 
 abbrev μ-loop : tie.MeasureT-loop
-μ-loop replies₀ at told j₀ replies j = length told - j
+μ-loop replies₀ at numbers j₀ replies j = length numbers - j
 
 loop-holds : tie.Need-loop-holds Inv-loop μ-loop
-loop-holds c = (omega arith, paste-zero (now (c .args .replies)) (c .args .at) (now (c .args .told)), refl)
+loop-holds c = (omega arith, paste-zero (now (c .args .replies)) (c .args .at) (now (c .args .numbers)), refl)
 
 mul-replies : tie.Need-mul-replies Inv-loop μ-loop
 mul-replies c = omega arith
@@ -45,8 +46,8 @@ loop-again c =
     let l = c .before .before .loop in
     let a = c .before .before .before .args in
     let h : a .at + l .j < length (now (a .replies)) = omega arith in
-    let k : l .j < length (now (a .told)) = omega arith in
-    (omega arith, rw (l .inv .1, add-one (l .j)) (paste-suc (now (a .replies)) (a .at) (now (a .told)) (l .j) 0 h k), simp length-set (l .inv .2))
+    let k : l .j < length (now (a .numbers)) = omega arith in
+    (omega arith, rw (l .inv .1, add-one (l .j)) (paste-suc (now (a .replies)) (a .at) (now (a .numbers)) (l .j) 0 h k), simp length-set (l .inv .2))
 
 same-length : tie.Need-same-length Inv-loop μ-loop
 same-length c = search needs
@@ -55,8 +56,8 @@ returns : tie.Need-returns Inv-loop μ-loop
 returns c =
     let l = c .before .loop in
     let a = c .before .before .args in
-    let e : l .j ≡ length (now (a .told)) = omega arith in
-    subst (λ (n : ℕ). l .replies ≡ paste (now (a .replies)) (a .at) (now (a .told)) n) e (l .inv .1)
+    let e : l .j ≡ length (now (a .numbers)) = omega arith in
+    subst (λ (n : ℕ). l .replies ≡ paste (now (a .replies)) (a .at) (now (a .numbers)) n) e (l .inv .1)
 
 pub lay-spec : {M : Type 1} → statement M
 lay-spec =

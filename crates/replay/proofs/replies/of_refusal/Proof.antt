@@ -1,7 +1,7 @@
 -- `replay::replies::of_refusal` meets its contract: the number, the place, zeros.
 use borrow.Author.Needs.{needs}
 use Rattle.calls.specs.Numbers.{codeOf, valuesOf, laid}
-use Rattle.replay.specs.Numbers.{replyRow}
+use Rattle.replay.specs.ReplyRows.{replyRow}
 use Rattle.replay.proofs.replies.of_refusal.Statement.{statement}
 use Rattle.replay.proofs.replies.of_refusal.Tie as tie
 

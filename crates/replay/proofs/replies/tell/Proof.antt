@@ -14,7 +14,7 @@ returns-2 : tie.Need-returns-2
 unfolding tellsRow nextRow
 returns-2 c =
     let e = not-false (c .before .before .before .before .before .before .before .before .args .turn .made) (c .before .before .before .before .before .if1 .left) in
-    (rw e (c .before .before .store .ensures), rw e refl)
+    (rw e (c .before .before .store-reply .ensures), rw e refl)
 
 pub tell-spec : {M : Type 1} → statement M
 tell-spec = tie.close (tie.spec returns (λ c κs. search needs) (λ c. search needs) (λ c. search needs) returns-2)

@@ -10,11 +10,11 @@ use borrow.Author.Needs.{needs}
 use borrow.Rule.Slice.PartMut.{post-is}
 use Rattle.dstree.specs.Book.{Lent}
 use Rattle.tables.specs.Tables.{Tables, tables, lentOf}
-use Rattle.tables.specs.Beginning.{firstPlaces, Within}
-use Rattle.replay.specs.declared.Cursor.{Cursor}
-use Rattle.replay.specs.Script.{lentBy, lengthsBy, stateAt, CursorInside, Taken, taken, sizeOf, nextOf, aheadOf, kinds, kindAt, playable}
+use Rattle.tables.specs.Beginning.{firstPlaces, LentWithin}
+use Rattle.replay.specs.declared.Amounts.{Amounts}
+use Rattle.replay.specs.Script.{lentBy, lengthsBy, stateAt, AmountsInside, Taken, taken, amountsOf, nextOf, aheadOf, kinds, callKindAt, playable}
 use Rattle.replay.specs.Script.{called, calledBy}
-use Rattle.replay.proofs.Asking.{Moved, moved-is}
+use Rattle.replay.proofs.Asking.{MovedOn, moved-is}
 use Rattle.replay.proofs.Lending.{back-is-left, lengths-kept}
 use Rattle.replay.proofs.Moves.{is, inside-then, next-is, next-size, played-to}
 use Rattle.replay.proofs.turns.lend.Statement.{statement}
@@ -26,40 +26,41 @@ module _ (s : tie.Start) where
   abbrev t : Tables
   t = tables (now (s .args .control)) (now (s .args .samples)) (now (s .args .nodes)) (now (s .args .links)) (now (s .args .work))
 
-  abbrev at : Cursor
+  abbrev at : Amounts
   at = s .args .at
 
-  abbrev to : Cursor
+  abbrev to : Amounts
   to = s .args .to
 
-  go : Moved (playable (lentOf t) (aheadOf (stateAt t (now (s .args .pool)) (now (s .args .trails)) (now (s .args .sheets))
+  go : MovedOn (playable (lentOf t) (aheadOf (stateAt t (now (s .args .pool)) (now (s .args .trails)) (now (s .args .sheets))
       (now (s .args .lists)) at)) (now (s .args .row))) (now (s .args .row)) at to
   go = moved-is _ (now (s .args .row)) at to (s .pre .1)
 
-  ends : CursorInside to (now (s .args .pool)) (now (s .args .trails)) (now (s .args .sheets)) (now (s .args .lists))
-  ends = subst (λ (z : Cursor). CursorInside z (now (s .args .pool)) (now (s .args .trails)) (now (s .args .sheets)) (now (s .args .lists)))
+  ends : AmountsInside to (now (s .args .pool)) (now (s .args .trails)) (now (s .args .sheets)) (now (s .args .lists))
+  ends = subst (λ (z : Amounts). AmountsInside z (now (s .args .pool)) (now (s .args .trails)) (now (s .args .sheets))
+      (now (s .args .lists)))
       (sym (go .to-is))
       (inside-then t (now (s .args .pool)) (now (s .args .trails)) (now (s .args .sheets)) (now (s .args .lists)) at (s .pre .0)
       (now (s .args .row)) (go .kind) (go .is))
 
   trail-bounds : (at .trails ≤ to .trails) × (to .trails ≤ length (now (s .args .trails)))
-  trail-bounds = (omega (arith, ap (λ (z : Cursor). z .trails) (go .to-is)), ends .trails-inside)
+  trail-bounds = (omega (arith, ap (λ (z : Amounts). z .trails) (go .to-is)), ends .trails-inside)
 
   sheet-bounds : (at .sheets ≤ to .sheets) × (to .sheets ≤ length (now (s .args .sheets)))
-  sheet-bounds = (omega (arith, ap (λ (z : Cursor). z .sheets) (go .to-is)), ends .sheets-inside)
+  sheet-bounds = (omega (arith, ap (λ (z : Amounts). z .sheets) (go .to-is)), ends .sheets-inside)
 
   list-bounds : (at .lists ≤ to .lists) × (to .lists ≤ length (now (s .args .lists)))
-  list-bounds = (omega (arith, ap (λ (z : Cursor). z .lists) (go .to-is)), ends .lists-inside)
+  list-bounds = (omega (arith, ap (λ (z : Amounts). z .lists) (go .to-is)), ends .lists-inside)
 
   sample-bounds : (at .samples ≤ to .samples) × (to .samples ≤ length (now (s .args .pool)))
-  sample-bounds = (omega (arith, ap (λ (z : Cursor). z .samples) (go .to-is)), ends .samples-inside)
+  sample-bounds = (omega (arith, ap (λ (z : Amounts). z .samples) (go .to-is)), ends .samples-inside)
 
 -- the row's lengths are within the tables
-within : (k : tie.After-lengths) → Within (lengthsBy (k .lengths .result))
+within : (k : tie.After-lengths) → LentWithin (lengthsBy (k .lengths .result))
     (lentOf (t (k .before .before .before .before .before .before .before .before .before)))
 within k =
     let s = k .before .before .before .before .before .before .before .before .before in
-    subst (λ (l : Lent). Within l (lentOf (t s))) (sym (k .lengths .ensures))
+    subst (λ (l : Lent). LentWithin l (lentOf (t s))) (sym (k .lengths .ensures))
     (is (t s) (now (s .args .pool)) (now (s .args .trails)) (now (s .args .sheets)) (now (s .args .lists)) (at s) (s .pre .0)
     (now (s .args .row)) (go s .kind) (go s .is) .within)
 
@@ -95,25 +96,25 @@ returns c =
     .before .before .before .before .before .before .before .before .before .before .before .before .before .before)) (call .kept .0)
     (call .kept .1 .0)
     (call .kept .1 .1 .0) (call .kept .1 .1 .1 .0) (call .kept .1 .1 .1 .1 .0) in
-    let number : kindAt kinds (c .before .before .before .before .before .before .before .before .before .before .before .before .before
-    .before .before .before .before .before .before .before .before .before .before .before .before .number .result) ≡ some k =
-    ap (kindAt kinds) (c .before .before .before .before .before .before .before .before .before .before .before .before .before .before
-    .before .before .before .before .before .before .before .before .before .before .before .number .ensures)
+    let number : callKindAt kinds (c .before .before .before .before .before .before .before .before .before .before .before .before .before
+    .before .before .before .before .before .before .before .before .before .before .before .before .number-at .result) ≡ some k =
+    ap (callKindAt kinds) (c .before .before .before .before .before .before .before .before .before .before .before .before .before .before
+    .before .before .before .before .before .before .before .before .before .before .before .number-at .ensures)
     ∙ is m pool trails sheets lists (a .at) (s .pre .0) row k can .is-kind in
-    let does : sizeOf next ≡ k .takes row → called (call .result) after (taken (next .samples) trail sheet list)
+    let does : amountsOf next ≡ k .takes row → called (call .result) after (taken (next .samples) trail sheet list)
     ≡ calledBy (k .ask row next) (firstPlaces (lentBy row) m) =
-    subst (λ (l : Lent). sizeOf next ≡ k .takes row → called (call .result) after (taken (next .samples) trail sheet list)
+    subst (λ (l : Lent). amountsOf next ≡ k .takes row → called (call .result) after (taken (next .samples) trail sheet list)
     ≡ calledBy (k .ask row next) (firstPlaces l m)) is-lent
-    (subst (λ (x : Taken). sizeOf x ≡ k .takes row → called (call .result) after (taken (x .samples) trail sheet list)
+    (subst (λ (x : Taken). amountsOf x ≡ k .takes row → called (call .result) after (taken (x .samples) trail sheet list)
     ≡ calledBy (k .ask row x) (firstPlaces lent m)) is-next
     (call .ensures (k .changes) k number refl)) in
     let size = next-size m pool trails sheets lists (a .at) (s .pre .0) row k can in
     let trail-size = call .kept .1 .1 .1 .1 .1 .0 ∙ (ap (λ (x : Taken). length (x .trail)) is-next
-    ∙ ap (λ (z : Cursor). z .trails) size) in
+    ∙ ap (λ (z : Amounts). z .trails) size) in
     let sheet-size = call .kept .1 .1 .1 .1 .1 .1 .0 ∙ (ap (λ (x : Taken). length (x .sheet)) is-next
-    ∙ ap (λ (z : Cursor). z .sheets) size) in
+    ∙ ap (λ (z : Amounts). z .sheets) size) in
     let list-size = call .kept .1 .1 .1 .1 .1 .1 .1 .0 ∙ (ap (λ (x : Taken). length (x .list)) is-next
-    ∙ ap (λ (z : Cursor). z .lists) size) in
+    ∙ ap (λ (z : Amounts). z .lists) size) in
     rw (
       post-is (a .at .trails) (a .to .trails) trails (trail-bounds s .0),
       post-is (a .at .sheets) (a .to .sheets) sheets (sheet-bounds s .0),

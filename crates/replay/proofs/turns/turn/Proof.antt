@@ -7,9 +7,9 @@ use lib.ListN.{length}
 use borrow.Author.Tests.{not-true, not-false}
 use denote.Ref.{now}
 use Rattle.tables.specs.Tables.{Tables, tables, lentOf}
-use Rattle.replay.specs.declared.Cursor.{Cursor}
+use Rattle.replay.specs.declared.Amounts.{Amounts}
 use Rattle.replay.specs.declared.Turn.{Turn}
-use Rattle.replay.specs.Script.{lentBy, State, stateAt, CursorInside, cursor, aheadOf, playable, movedBy}
+use Rattle.replay.specs.Script.{lentBy, State, stateAt, AmountsInside, amounts, aheadOf, playable, movedBy}
 use Rattle.replay.proofs.Asking.{moved-is, asks-not, planned-some, planned-none}
 use Rattle.replay.proofs.Moves.{none-is, ahead-is, inside-then}
 use Rattle.replay.proofs.turns.turn.Statement.{statement}
@@ -26,13 +26,13 @@ module _ (k : tie.After-plan) where
   abbrev here : State
   here = stateAt memory (now (s .args .pool)) (now (s .args .trails)) (now (s .args .sheets)) (now (s .args .lists)) (s .args .at)
 
-  abbrev ends : Cursor
-  ends = cursor (length (now (s .args .pool)) - s .args .at .samples) (length (now (s .args .trails)) - s .args .at .trails) (length (now
+  abbrev ends : Amounts
+  ends = amounts (length (now (s .args .pool)) - s .args .at .samples) (length (now (s .args .trails)) - s .args .at .trails) (length (now
       (s .args .sheets)) - s .args .at .sheets) (length (now (s .args .lists)) - s .args .at .lists)
 
   plan-ahead : movedBy (playable (lentOf memory) ends (now (s .args .row))) (now (s .args .row)) (s .args .at)
       ≡ movedBy (playable (lentOf memory) (aheadOf here) (now (s .args .row))) (now (s .args .row)) (s .args .at)
-  plan-ahead = ap (λ (z : Cursor). movedBy (playable (lentOf memory) z (now (s .args .row))) (now (s .args .row)) (s .args .at))
+  plan-ahead = ap (λ (z : Amounts). movedBy (playable (lentOf memory) z (now (s .args .row))) (now (s .args .row)) (s .args .at))
       (ahead-is memory (now (s .args .pool)) (now (s .args .trails)) (now (s .args .sheets)) (now (s .args .lists)) (s .args .at))
 
   going : k .plan .result .made ≡ true → some (k .plan .result .to)
@@ -49,7 +49,7 @@ returns c =
       none-is _ (a .at) e (lentBy (now (a .row))) (memory k) (now (a .pool)) (now (a .trails)) (now (a .sheets)) (now (a .lists)) _
           (asks-not (lentOf
           (memory k)) (now (a .row)) (here k) (a .at) nothing),
-      subst (λ (r : Turn). CursorInside (r .at) (now (a .pool)) (now (a .trails)) (now (a .sheets)) (now (a .lists))) (sym e)
+      subst (λ (r : Turn). AmountsInside (r .at) (now (a .pool)) (now (a .trails)) (now (a .sheets)) (now (a .lists))) (sym e)
           (c .before .before .before .before .before .before .before .before .before .before .before .pre),
     )
 
@@ -73,7 +73,7 @@ returns-2 c =
     (c .before .before .before .before .before .before .before .before .before .before .before .before .before .before .before
     .before .before .before .before .before .before .before .before .before .if1 .left))) in (
       c .before .before .before .before .before .before .before .before .before .before .before .before .before .before .lend .ensures,
-      subst (λ (z : Cursor). CursorInside z (now (a .pool)) (now (a .trails)) (now (a .sheets)) (now (a .lists))) (sym (go .to-is))
+      subst (λ (z : Amounts). AmountsInside z (now (a .pool)) (now (a .trails)) (now (a .sheets)) (now (a .lists))) (sym (go .to-is))
           (inside-then (memory k) (now (a .pool)) (now (a .trails)) (now (a .sheets)) (now (a .lists)) (a .at)
           (c .before .before .before .before .before .before .before .before .before .before .before .before .before .before .before
           .before .before .before .before .before .before .before .before .before .before .before .before .before .before .before

@@ -2,7 +2,7 @@
 use native.Mathlib.Omega.{arith}
 use denote.Ref.{now}
 use borrow.Author.Needs.{needs}
-use Rattle.search.specs.Searched.{made}
+use Rattle.search.specs.Searched.{withoutWork}
 use Rattle.search.proofs.One.{one-found}
 use Rattle.search.proofs.searching.search_all.Statement.{statement}
 use Rattle.search.proofs.searching.search_all.Tie as tie
@@ -17,7 +17,7 @@ returns c =
     let q = c .before .before .before .before .before .before in
     let a = q .before .before .before .before .before .before .before .before .args in
     let l = q .search-list in
-    one-found (made (now (a .control)) (now (a .samples)) (now (a .nodes)) (now (a .links))) (now (a .query)) (now (a .work))
+    one-found (withoutWork (now (a .control)) (now (a .samples)) (now (a .nodes)) (now (a .links))) (now (a .query)) (now (a .work))
     (l .last .1 .1 .1 .1 .1 .0) (now (a .trail)) (l .last .1 .1 .1 .1 .1 .1 .0) _ (l .last .1 .1 .1 .1 .1 .1 .1 .0)
     (l .result .listed) (l .result .out) (l .result .traces) (l .ensures)
 

@@ -8,14 +8,14 @@ use lib.Seq.{length-front, length-take-le, drop-at}
 use denote.Ref.{now}
 use Rattle.dstree.specs.Measures.{measures, recordsNeeded, workNeeded}
 use Rattle.tables.specs.Tables.{Tables, measuresOf, nodeCount, field, filled}
-use Rattle.search.specs.Searched.{made}
+use Rattle.search.specs.Searched.{withoutWork}
 use Rattle.search.proofs.Facts.{length-fits, capacity-fits, nodes-needed}
 use Rattle.search.proofs.Cleared.{as-many, cleared}
 use Rattle.search.proofs.searching.search_list.Statement.{statement}
 use Rattle.search.proofs.searching.search_list.Tie as tie
 
 abbrev tablesOf : tie.Start → Tables
-tablesOf s = made (now (s .args .control)) (now (s .args .samples)) (now (s .args .nodes)) (now (s .args .links))
+tablesOf s = withoutWork (now (s .args .control)) (now (s .args .samples)) (now (s .args .nodes)) (now (s .args .links))
 
 prefix-sums-requires : tie.Need-prefix-sums-requires
 prefix-sums-requires c κs =

@@ -1,4 +1,4 @@
--- `search::visiting::visit` meets its contract: `State` is the invariant, and the leaves to come are the measure (`Turns`).
+-- `search::visiting::visit` meets its contract: `SearchState` is the invariant, and the leaves to come are the measure (`Turns`).
 use mathlib.Core.Path.{_≡_, refl, sym, _∙_, subst}
 use mathlib.Core.Bool.{Bool}
 use mathlib.Core.List.{List}
@@ -12,33 +12,33 @@ use denote.Ref.{now}
 use Rattle.dstree.specs.Node.{Tree}
 use Rattle.tables.specs.Tables.{Tables, traceCount, nodeCount}
 use Rattle.reading.specs.Listed.{recordAt}
-use Rattle.reading.proofs.Meaning.{LeafAt}
+use Rattle.reading.proofs.Meaning.{LeafInTables}
 use Rattle.leaf_order.specs.Waits.{shapeIn, Walkable, Begun, remaining}
 use Rattle.leaf_order.specs.Handed.{HandedLeaf, Handed}
 use Rattle.leaf_order.specs.declared.leaves.Next.{Next}
 use Rattle.leaf_order.proofs.Records.{number-fits, leaf-kind, shape-length}
-use Rattle.search.specs.Searched.{made, Ready}
+use Rattle.search.specs.Searched.{withoutWork, Ready}
 use Rattle.search.proofs.Facts.{walkable, leaf-at, leaves-few}
-use Rattle.search.proofs.Turns.{State, state-start, out-most, state-end, stored-as, leaf-room, leaf-less, state-leaf}
+use Rattle.search.proofs.Turns.{SearchState, state-start, out-most, state-end, stored-as, leaf-room, leaf-less, state-leaf}
 use Rattle.search.proofs.visiting.visit.Statement.{statement}
 use Rattle.search.proofs.visiting.visit.Tie as tie
 
 abbrev Inv-loop : tie.InvT-loop
 Inv-loop control samples nodes links query sums squares work₀ trail₀ list₀ k n count waiting₀ out₀ traces₀ listed₀
     work trail list waiting out traces listed =
-    let t = made control samples nodes links in
-    State k t query (shapeIn nodes (nodeCount t)) trail₀ list₀ work trail list waiting out traces listed × (length work ≡ nodeCount t)
+    let t = withoutWork control samples nodes links in
+    SearchState k t query (shapeIn nodes (nodeCount t)) trail₀ list₀ work trail list waiting out traces listed × (length work ≡ nodeCount t)
 
 abbrev μ-loop : tie.MeasureT-loop
 μ-loop control samples nodes links query sums squares work₀ trail₀ list₀ k n count waiting₀ out₀ traces₀ listed₀
     work trail list waiting out traces listed =
-    length (remaining (shapeIn nodes (nodeCount (made control samples nodes links))) query waiting work)
+    length (remaining (shapeIn nodes (nodeCount (withoutWork control samples nodes links))) query waiting work)
 
 -- ---- what the call was given
 
 module _ (s : tie.Start Inv-loop μ-loop) where
   abbrev given : Tables
-  given = made (now (s .args .control)) (now (s .args .samples)) (now (s .args .nodes)) (now (s .args .links))
+  given = withoutWork (now (s .args .control)) (now (s .args .samples)) (now (s .args .nodes)) (now (s .args .links))
 
   abbrev query : List ℤ
   query = now (s .args .query)
@@ -193,7 +193,7 @@ module _ (c : tie.After-known-told Inv-loop μ-loop) where
   fits : number ≤ 8191
   fits = number-fits (lent .nodes) (nodes start) (query start) (walks start) number inside
 
-  at-leaf : LeafAt lent number
+  at-leaf : LeafInTables lent number
   at-leaf =
       leaf-at lent (query start) (length (trail start)) (ready start) number inside
       (leaf-kind (lent .nodes) (nodes start) (query start) (walks start) number inside (leaf .is-leaf))
@@ -239,7 +239,7 @@ module _ (c : tie.After-read-leaf Inv-loop μ-loop) where
   next-state :
       let L = turn (call known) .loop in
       let s = start known in
-      State (k s) (given s) (query s) (shape s) (trail s) (list s) (left-work (call known))
+      SearchState (k s) (given s) (query s) (shape s) (trail s) (list s) (left-work (call known))
       (set (L .trail) (L .out) (number known)) list-after
       (known .before .next .given .0 .1 .1 .0) (L .out + 1) (L .traces + c .read-leaf .result .traces) (c .read-leaf .result .listed)
   next-state =

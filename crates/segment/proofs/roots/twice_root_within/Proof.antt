@@ -50,9 +50,9 @@ module _ (c : tie.Else1) where
   most = rw (same (c .before)) (size (c .before .fits .t))
 
   -- what the squares tell is what is asked
-  told : ltb (c .before .args .v) (beyond (natAbs (read w64 (c .before .args .t))) * beyond (natAbs (read w64 (c .before .args .t))))
+  asked : ltb (c .before .args .v) (beyond (natAbs (read w64 (c .before .args .t))) * beyond (natAbs (read w64 (c .before .args .t))))
       ≡ leZ (pos 2 *ℤ pos (floorRoot (c .before .args .v))) (c .before .args .t)
-  told =
+  asked =
       sym (twice-floor (c .before .args .v) (natAbs (read w64 (c .before .args .t))))
       ∙ ap (leZ (pos 2 *ℤ pos (floorRoot (c .before .args .v)))) (sym (above .1) ∙ same (c .before))
 
@@ -66,13 +66,13 @@ add-beyond : tie.Need-add-beyond
 add-beyond c = omega (arith, most c)
 
 returns-2 : tie.Need-returns-2
-returns-2 c = sym (wide _ _ (c .before .before .fits .v .fits) (c .if2 .taken)) ∙ told (c .before)
+returns-2 c = sym (wide _ _ (c .before .before .fits .v .fits) (c .if2 .taken)) ∙ asked (c .before)
 
 mul-result : tie.Need-mul-result
 mul-result c = narrow _ (c .if2 .left)
 
 returns-3 : tie.Need-returns-3
-returns-3 c = told (c .before)
+returns-3 c = asked (c .before)
 
 pub twice-root-within-spec : {M : Type 1} → statement M
 twice-root-within-spec = tie.close (tie.spec returns cast-beyond add-beyond returns-2 mul-result returns-3)

@@ -8,7 +8,7 @@ use lib.IntN.{ℤ}
 use lib.ListN.{length}
 use lib.Seq.{take-all}
 use Rattle.segment.specs.Figures.{distance}
-use Rattle.segment.specs.Within.{distanceWithin, IsFewest, Says}
+use Rattle.segment.specs.Within.{distanceWithin, IsFewest, DistanceSays}
 use Rattle.segment.specs.declared.within.Distance.the-variants as w
 use Rattle.segment.proofs.Steps.{distanceTo}
 use Rattle.segment.proofs.Fewest.{first-less, is-distance-within}
@@ -24,11 +24,11 @@ abbrev μ-loop : tie.MeasureT-loop
 
 -- the two answers
 beyond : (x y : List ℤ) (limit n : ℕ) → IsFewest limit x y n → w.Beyond n ≡ distanceWithin limit x y
-unfolding Says
+unfolding DistanceSays
 beyond x y limit n f = is-distance-within limit x y .no-other (w.Beyond n) f
 
 exact : (x y : List ℤ) (limit d : ℕ) → d ≡ distance x y → d ≤ limit → w.Exact d ≡ distanceWithin limit x y
-unfolding Says
+unfolding DistanceSays
 exact x y limit d e h = is-distance-within limit x y .no-other (w.Exact d) (e, h)
 
 loop-holds : tie.Need-loop-holds Inv-loop μ-loop
@@ -47,9 +47,9 @@ returns c =
     beyond (s .args .x .now) (s .args .y .now) (s .args .limit) (c .passing .result) (c .passing .ensures)
 
 -- the whole distance
-whole : (c : tie.After-stretch2 Inv-loop μ-loop)
+whole : (c : tie.After-stretch-distance2 Inv-loop μ-loop)
     → let s = c .before .before .before in
-    c .before .before .loop .total + c .stretch2 .result ≡ distance (s .args .x .now) (s .args .y .now)
+    c .before .before .loop .total + c .stretch-distance2 .result ≡ distance (s .args .x .now) (s .args .y .now)
 whole c =
     let s = c .before .before .before in
     let n = length (s .args .x .now) in
@@ -63,7 +63,8 @@ returns-2 c =
 returns-3 : tie.Need-returns-3 Inv-loop μ-loop
 returns-3 c =
     let s = c .before .before .before .before in
-    exact (s .args .x .now) (s .args .y .now) (s .args .limit) (c .before .before .before .loop .total + c .before .stretch2 .result)
+    exact (s .args .x .now) (s .args .y .now) (s .args .limit)
+    (c .before .before .before .loop .total + c .before .stretch-distance2 .result)
     (whole (c .before)) (omega (arith, c .if2 .left))
 
 pub distance-within-spec : {M : Type 1} → statement M

@@ -7,7 +7,7 @@ use native.Mathlib.Omega.{arith}
 use lib.ListN.{length, getD, take, set, length-set}
 use lib.Seq.{take-all}
 use denote.Ref.{now}
-use Rattle.sheet.specs.Columns.{columns, added, mostSum, mostLater}
+use Rattle.sheet.specs.Columns.{columns, addedUp, mostSum, mostLater}
 use Rattle.sheet.proofs.Columns.{added-none, added-at, added-more}
 use Rattle.sheet.proofs.check.add_row.Statement.{statement}
 use Rattle.sheet.proofs.check.add_row.Tie as tie
@@ -15,8 +15,8 @@ use Rattle.sheet.proofs.check.add_row.Tie as tie
 abbrev Inv-loop : tie.InvT-loop
 Inv-loop row sums₀ later₀ j₀ sums later j =
     (j ≤ length row)
-    × (sums ≡ added sums₀ (take j row))
-    × (later ≡ added later₀ (take j sums₀))
+    × (sums ≡ addedUp sums₀ (take j row))
+    × (later ≡ addedUp later₀ (take j sums₀))
     × (length sums ≡ columns)
     × (length later ≡ columns)
 
@@ -95,8 +95,8 @@ returns c =
     let l = c .before in
     let a = l .before .args in
     let e : l .loop .j ≡ length (now (a .row)) = omega (arith, c .loop-test .left, l .loop .inv .0) in (
-      l .loop .inv .1 ∙ ap (added (now (a .sums))) (take-all (l .loop .j) (now (a .row)) (omega (arith, e))),
-      l .loop .inv .2 ∙ ap (λ (k : ℕ). added (now (a .later)) (take k (now (a .sums)))) e,
+      l .loop .inv .1 ∙ ap (addedUp (now (a .sums))) (take-all (l .loop .j) (now (a .row)) (omega (arith, e))),
+      l .loop .inv .2 ∙ ap (λ (k : ℕ). addedUp (now (a .later)) (take k (now (a .sums)))) e,
     )
 
 pub add-row-spec : {M : Type 1} → statement M

@@ -7,13 +7,13 @@ use lib.ListN.{length, take, drop}
 use denote.Ref.{now}
 use Rattle.dstree.specs.Sheet.{part, checkedSize, checkModulus, checkOf}
 use Rattle.dstree.proofs.SheetPieces.{part-length}
-use Rattle.sheet.specs.Columns.{columns, added, AtMost}
-use Rattle.sheet.proofs.Columns.{Rows, rows-first, rows-more, rows-columns, no-columns}
+use Rattle.sheet.specs.Columns.{columns, addedUp, EachAtMost}
+use Rattle.sheet.proofs.Columns.{RowsTaken, rows-first, rows-more, rows-columns, no-columns}
 use Rattle.sheet.proofs.check.check_of.Statement.{statement}
 use Rattle.sheet.proofs.check.check_of.Tie as tie
 
 abbrev Inv-loop : tie.InvT-loop
-Inv-loop block sums₀ later₀ row₀ sums later row = (row ≤ 7) × Rows block row sums later
+Inv-loop block sums₀ later₀ row₀ sums later row = (row ≤ 7) × RowsTaken block row sums later
 
 abbrev μ-loop : tie.MeasureT-loop
 μ-loop block sums₀ later₀ row₀ sums later row = row
@@ -23,7 +23,7 @@ module _ (k : tie.After-shared-slice-known Inv-loop μ-loop) where
   abbrev block : List ℕ
   block = now (k .before .args .block)
 
-  bytes : AtMost 255 block
+  bytes : EachAtMost 255 block
   bytes i = omega (arith, k .shared-slice-known .given i .fits)
 
   long : checkedSize ≤ length block
@@ -39,7 +39,7 @@ loop-holds c =
     let r = c .before .before in
     let k = r .before .before .before .before in
     let first = rows-first (block k) (bytes k) (long k) in
-    (omega arith, subst₂ (Rows (block k) 7) (sym (r .add-row .ensures .0)) (sym (r .add-row .ensures .1)) first)
+    (omega arith, subst₂ (RowsTaken (block k) 7) (sym (r .add-row .ensures .0)) (sym (r .add-row .ensures .1)) first)
 
 -- in a turn
 module _ (l : tie.In-loop Inv-loop μ-loop) where
@@ -79,9 +79,9 @@ loop-again c =
     let b = block (known l) in
     let t = l .before .loop in
     let before = rows-more b (bytes (known l)) (long (known l)) (next l - 1) (next l) (row-before l) (few l) _ _ (t .inv .1) in
-    let sums = r .add-row2 .ensures .0 ∙ ap (added (t .sums)) (row-is l) in
-    let later = r .add-row2 .ensures .1 ∙ ap (λ (x : List ℕ). added (t .later) (take (length x) (t .sums))) (row-is l) in
-    (omega (arith, few l), subst₂ (Rows b (next l - 1)) (sym sums) (sym later) before)
+    let sums = r .add-row2 .ensures .0 ∙ ap (addedUp (t .sums)) (row-is l) in
+    let later = r .add-row2 .ensures .1 ∙ ap (λ (x : List ℕ). addedUp (t .later) (take (length x) (t .sums))) (row-is l) in
+    (omega (arith, few l), subst₂ (RowsTaken b (next l - 1)) (sym sums) (sym later) before)
 
 weigh-requires : tie.Need-weigh-requires Inv-loop μ-loop
 weigh-requires c κs = rows-columns (c .before .before .before .loop .inv .1)
@@ -92,7 +92,7 @@ returns c =
     let l = c .before .before .before .before in
     let b = block (l .before .before .before .before .before .before .before) in
     let e : l .loop .row ≡ 0 = omega (arith, c .before .before .before .loop-test .left) in
-    let all = subst (λ (k : ℕ). Rows b k (l .loop .sums) (l .loop .later)) e (l .loop .inv .1) in
+    let all = subst (λ (k : ℕ). RowsTaken b k (l .loop .sums) (l .loop .later)) e (l .loop .inv .1) in
     ap (λ (t : ℕ). t % checkModulus) (c .weigh .ensures ∙ all .weigh)
 
 pub check-of-spec : {M : Type 1} → statement M

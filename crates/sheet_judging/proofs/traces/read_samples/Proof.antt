@@ -11,7 +11,7 @@ use denote.Ref.{now}
 use borrow.Rule.Slice.PartMut.{postOf, mid-len, same-len-mid}
 use Rattle.dstree.specs.Sheet.{mostBlocks, narrow, part, sampleBytesIn}
 use Rattle.sheet_judging.specs.Blocks.{blockCount, laterBlocks}
-use Rattle.sheet_judging.specs.Traces.{numberAt, IsAt, placeOf, samplesFrom}
+use Rattle.sheet_judging.specs.Traces.{sampleNumber, IsAt, samplePlace, samplesFrom}
 use Rattle.sheet.specs.Codes.{samplesIn}
 use Rattle.sheet.proofs.SamplesIn.{samples-none}
 use Rattle.sheet_judging.proofs.Places.{blocks, block-inside}
@@ -23,8 +23,8 @@ abbrev Inv-loop : tie.InvT-loop
 Inv-loop sheet places₀ n cursor₀ i₀ places cursor i =
     (i ≤ n)
     × (length places ≡ n)
-    × (take i places ≡ samplesFrom sheet (numberAt (cursor₀ .number) (cursor₀ .used)) i)
-    × IsAt (cursor .number) (cursor .used) (numberAt (cursor₀ .number) (cursor₀ .used) + i)
+    × (take i places ≡ samplesFrom sheet (sampleNumber (cursor₀ .number) (cursor₀ .used)) i)
+    × IsAt (cursor .number) (cursor .used) (sampleNumber (cursor₀ .number) (cursor₀ .used) + i)
 
 abbrev μ-loop : tie.MeasureT-loop
 μ-loop sheet places₀ n cursor₀ i₀ places cursor i = n - i
@@ -39,7 +39,7 @@ module _ (s : tie.Start Inv-loop μ-loop) where
 
   -- the first sample
   abbrev first : ℕ
-  first = numberAt (s .args .from .number) (s .args .from .used)
+  first = sampleNumber (s .args .from .number) (s .args .from .used)
 
   block-few : blockCount bytes ≤ mostBlocks
   block-few = blocks bytes (s .pre .0) .few
@@ -124,7 +124,7 @@ module _ (p : tie.After-place Inv-loop μ-loop) where
 
   -- the bytes that are copied
   part-is : take (from + 2 * k here - from) (drop from (bytes (start (turn here))))
-      ≡ part (placeOf (number (turn here)) (used (turn here))) (k here * 2) (bytes (start (turn here)))
+      ≡ part (samplePlace (number (turn here)) (used (turn here))) (k here * 2) (bytes (start (turn here)))
   part-is =
       let e : from + 2 * k here - from ≡ k here * 2 = omega arith in
       ap₂ (λ (a b : ℕ). take a (drop b (bytes (start (turn here))))) e (p .place .ensures)

@@ -9,8 +9,8 @@ use denote.Ref.{now}
 use borrow.Author.Needs.{needs}
 use Rattle.dstree.specs.Sheet.{narrow}
 use Rattle.sheet_judging.specs.Blocks.{blockCount}
-use Rattle.sheet_judging.specs.Traces.{sizeOf, numberAt, IsAt, samplesFrom}
-use Rattle.sheet_judging.proofs.Samples.{Fine, fine, trace-is, trace-inside, number-few, size-few}
+use Rattle.sheet_judging.specs.Traces.{sizeOf, sampleNumber, IsAt, samplesFrom}
+use Rattle.sheet_judging.proofs.Samples.{SoundSheet, fine, trace-is, trace-inside, number-few, size-few}
 use Rattle.sheet_judging.proofs.traces.read_trace.Statement.{statement}
 use Rattle.sheet_judging.proofs.traces.read_trace.Tie as tie
 
@@ -19,7 +19,7 @@ module _ (s : tie.Start) where
   abbrev bytes : List ℕ
   bytes = now (s .args .sheet)
 
-  sound : Fine bytes
+  sound : SoundSheet bytes
   sound = fine bytes (s .pre .0)
 
   abbrev size : ℕ
@@ -54,7 +54,7 @@ module _ (a : tie.After-at-sample) where
   start = a .before .before
 
   abbrev at : ℕ
-  at = numberAt (a .at-sample .result .number) (a .at-sample .result .used)
+  at = sampleNumber (a .at-sample .result .number) (a .at-sample .result .used)
 
   at-is : at ≡ first start
   at-is = a .at-sample .ensures .counted

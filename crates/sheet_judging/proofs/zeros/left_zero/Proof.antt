@@ -12,7 +12,7 @@ use Rattle.dstree.specs.Sheet.{blockSize, checkedSize, carriedSize, mostBlocks,
 use Rattle.dstree.proofs.SheetFormat.{narrow-sound, rounded-room, rounded-tight}
 use Rattle.dstree.proofs.SheetRead.{Blocks}
 use Rattle.sheet_judging.specs.Blocks.{blockCount}
-use Rattle.sheet_judging.specs.Traces.{placeOf}
+use Rattle.sheet_judging.specs.Traces.{samplePlace}
 use Rattle.sheet_judging.proofs.Places.{blocks}
 use Rattle.sheet_judging.proofs.Left.{Needed, left-none, left-last}
 use Rattle.sheet_judging.proofs.zeros.left_zero.Statement.{statement}
@@ -89,9 +89,9 @@ returns-2 c =
     let e = c .before in
     let k = e .before in
     let used : ℕ = samples k - (last k - 1) * narrow .samplesPerBlock in
-    let size : last k * blockSize + checkedSize - placeOf (last k) used ≡ carriedSize - narrow .sampleBytes * used = omega arith in
+    let size : last k * blockSize + checkedSize - samplePlace (last k) used ≡ carriedSize - narrow .sampleBytes * used = omega arith in
     c .zeros .ensures
-    ∙ ap (λ (n : ℕ). areZero (part (placeOf (last k) used) n (bytes k))) size
+    ∙ ap (λ (n : ℕ). areZero (part (samplePlace (last k) used) n (bytes k))) size
     ∙ ap areZero (sym (left-last (bytes k) (k .before .pre .0) (samples k) (last k) (count-is k) (some e) (fit e)))
 
 pub left-zero-spec : {M : Type 1} → statement M

@@ -15,7 +15,7 @@ use Rattle.tables.specs.Tables.{Tables, tables, lentOf}
 use Rattle.tables.specs.Answers.{opened}
 use Rattle.tables.specs.Judge.{LongEnough}
 use Rattle.insertion_memory.proofs.Made.{Holds}
-use Rattle.sheet_judging.specs.Traces.{countOf, tracesOf}
+use Rattle.sheet_judging.specs.Traces.{countOf, sheetTraces}
 use Rattle.sheet_judging.proofs.Places.{first-inside}
 use Rattle.sheet_judging.proofs.Samples.{fine}
 use Rattle.sheet_reading.proofs.Ends.{said}
@@ -101,9 +101,9 @@ module _ (l : tie.After-load) where
   abbrev first : tie.After-shared-slice-known
   first = origin made
 
-  earlier : Holds (tables (l .load .last .0) (l .load .last .1 .0) (l .load .last .1 .1 .0) (l .load .last .1 .1 .1 .0) []) (said (bytes first)) (take (last (head made)) (tracesOf (bytes first)))
+  earlier : Holds (tables (l .load .last .0) (l .load .last .1 .0) (l .load .last .1 .1 .0) (l .load .last .1 .1 .1 .0) []) (said (bytes first)) (take (last (head made)) (sheetTraces (bytes first)))
   earlier =
-      subst (λ (t : Tables). Holds t (said (bytes first)) (take (last (head made)) (tracesOf (bytes first)))) (sym (l .load .ensures []))
+      subst (λ (t : Tables). Holds t (said (bytes first)) (take (last (head made)) (sheetTraces (bytes first)))) (sym (l .load .ensures []))
       (holds-first (bytes first) (sheet-fine first) (known first) (library made) (empty made) (last (head made)))
 
 match-last-requires : tie.Need-match-last-requires

@@ -16,7 +16,7 @@ use Rattle.dstree.specs.Refusals.{firstOf}
 use Rattle.dstree.specs.Sheet.{areBytes, sheetConditions}
 use Rattle.dstree.specs.Program.{lineOf}
 use Rattle.tables.specs.Tables.{Tables, tables}
-use Rattle.sheet_judging.specs.Traces.{countOf, tracesOf}
+use Rattle.sheet_judging.specs.Traces.{countOf, sheetTraces}
 use Rattle.sheet_judging.proofs.Samples.{fine}
 use Rattle.sheet_reading.proofs.Ends.{said}
 use Rattle.dstree.proofs.SheetFields.{known-bytes}
@@ -39,10 +39,10 @@ module _ (k : tie.After-shared-slice-known3) where
   lent = tables (now (start .args .control)) (now (start .args .samples)) (now (start .args .nodes)) (now (start .args .links)) []
 
   abbrev earlier : List Trace
-  earlier = take (start .args .last) (tracesOf bytes)
+  earlier = take (start .args .last) (sheetTraces bytes)
 
   abbrev lastTrace : Trace
-  lastTrace = getD (tracesOf bytes) (start .args .last) []
+  lastTrace = getD (sheetTraces bytes) (start .args .last) []
 
   sheet-fine : firstOf (sheetConditions bytes) ≡ none
   sheet-fine = sound bytes (start .pre .0 .fine)
@@ -60,7 +60,7 @@ module _ (k : tie.After-shared-slice-known3) where
   last-size = trace-size bytes sheet-fine known (start .args .last) inside
 
   earlier-count : length earlier ≡ start .args .last
-  earlier-count = length-take-le (start .args .last) (tracesOf bytes) (omega (arith, inside, traces-count bytes))
+  earlier-count = length-take-le (start .args .last) (sheetTraces bytes) (omega (arith, inside, traces-count bytes))
 
   one : 0 < length earlier
   one = omega (arith, earlier-count, start .pre .0 .before-last, two-traces bytes (start .pre .0 .fine))

@@ -14,7 +14,7 @@ use Rattle.tables.specs.Tables.{Tables, tables}
 use Rattle.insertion_memory.specs.Memory.{addedTo}
 use Rattle.insertion_memory.proofs.Keeps.{one-more}
 use Rattle.adding.specs.Putting.{Takes}
-use Rattle.sheet_judging.specs.Traces.{sizeOf, countOf, tracesOf, numberAt, IsAt, samplesFrom}
+use Rattle.sheet_judging.specs.Traces.{sizeOf, countOf, sheetTraces, sampleNumber, IsAt, samplesFrom}
 use Rattle.sheet_judging.proofs.Samples.{fine, trace-is, trace-inside}
 use Rattle.sheet_reading.proofs.Library.{traces-count, takes-next}
 use Rattle.sheet_reading.proofs.loading.load.Statement.{statement}
@@ -24,7 +24,7 @@ abbrev Inv-loop : tie.InvT-loop
 Inv-loop control₀ samples₀ nodes₀ links₀ sheet n count cursor₀ number₀ control samples nodes links cursor number =
     (number ≤ count)
     × ((work : List ℕ) → tables control samples nodes links work
-    ≡ foldl addedTo (tables control₀ samples₀ nodes₀ links₀ work) (take number (tracesOf sheet)))
+    ≡ foldl addedTo (tables control₀ samples₀ nodes₀ links₀ work) (take number (sheetTraces sheet)))
     × (length control ≡ length control₀)
     × (length samples ≡ length samples₀)
     × (length nodes ≡ length nodes₀)
@@ -87,7 +87,7 @@ module _ (i : tie.In-loop Inv-loop μ-loop) where
 
   -- the number of the next sample, by the cursor
   abbrev first : ℕ
-  first = numberAt (i .before .loop .cursor .number) (i .before .loop .cursor .used)
+  first = sampleNumber (i .before .loop .cursor .number) (i .before .loop .cursor .used)
 
   cursor-at : IsAt (i .before .loop .cursor .number) (i .before .loop .cursor .used) (number * sizeOf (bytes at))
   cursor-at = i .before .loop .inv .6
@@ -95,7 +95,7 @@ module _ (i : tie.In-loop Inv-loop μ-loop) where
   first-is : number * sizeOf (bytes at) ≡ first
   first-is = sym (cursor-at .counted)
 
-  trace-is-next : getD (tracesOf (bytes at)) number [] ≡ samplesFrom (bytes at) first n
+  trace-is-next : getD (sheetTraces (bytes at)) number [] ≡ samplesFrom (bytes at) first n
   trace-is-next =
       trace-is (bytes at) number inside ∙ ap₂ (samplesFrom (bytes at)) first-is (sym (start at .pre .size))
 
@@ -132,7 +132,8 @@ loop-again c =
     let on : first i + n i ≡ (number i + 1) * sizeOf (bytes (at i)) = omega (arith, first-is i, p .size) in (
       omega (arith, i .loop-test .taken),
       (λ work. rw (add-one (number i)) (a .put-one .ensures .0 work ∙ ap₂ addedTo (l .inv .1 work) (sym (trace-is-next i))
-          ∙ sym (one-more (lent (at i) work) (tracesOf (bytes (at i))) (number i) (omega (arith, inside i, traces-count (bytes (at i))))))),
+          ∙ sym (one-more (lent (at i) work) (sheetTraces (bytes (at i))) (number i)
+          (omega (arith, inside i, traces-count (bytes (at i))))))),
       c .before .before .before .before .before .control .given ∙ l .inv .2,
       c .before .before .before .samples .given ∙ l .inv .3,
       c .before .before .nodes .given ∙ l .inv .4,
@@ -157,7 +158,7 @@ returns c = λ work.
     let l = c .before in
     let k = l .before .before .before in
     let all : l .loop .number ≡ start k .args .count = omega (arith, c .loop-test .left, l .loop .inv .0) in
-    l .loop .inv .1 work ∙ ap (λ (i : ℕ). foldl addedTo (lent k work) (take i (tracesOf (bytes k)))) all
+    l .loop .inv .1 work ∙ ap (λ (i : ℕ). foldl addedTo (lent k work) (take i (sheetTraces (bytes k)))) all
 
 pub load-spec : {M : Type 1} → statement M
 load-spec =

@@ -8,7 +8,7 @@ use Rattle.dstree.specs.Measures.{Trace}
 use Rattle.tables.specs.Tables.{tables}
 use Rattle.insertion_memory.specs.Memory.{addedTo}
 use Rattle.adding.specs.Putting.{Takes}
-use Rattle.sheet_judging.specs.Traces.{numberAt, samplesFrom}
+use Rattle.sheet_judging.specs.Traces.{sampleNumber, samplesFrom}
 use Rattle.sheet_judging.proofs.Samples.{fine}
 use Rattle.sheet_reading.proofs.loading.put_next.Statement.{statement}
 use Rattle.sheet_reading.proofs.loading.put_next.Tie as tie
@@ -24,7 +24,7 @@ module _ (r : tie.After-read-samples) where
   start = r .before .before .before .before .before
 
   abbrev first : ℕ
-  first = numberAt (start .args .from .number) (start .args .from .used)
+  first = sampleNumber (start .args .from .number) (start .args .from .used)
 
   trace-is : r .read-samples .last .1 .1 .0 ≡ samplesFrom (now (start .args .sheet)) first (length (now (start .args .trace)))
   trace-is = r .read-samples .ensures .0

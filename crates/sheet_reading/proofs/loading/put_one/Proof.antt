@@ -9,9 +9,9 @@ use denote.Ref.{now}
 use borrow.Author.Needs.{needs}
 use Rattle.tables.specs.Tables.{tables}
 use Rattle.insertion_memory.specs.Memory.{addedTo}
-use Rattle.sheet_judging.specs.Traces.{numberAt, IsAt, samplesFrom}
+use Rattle.sheet_judging.specs.Traces.{sampleNumber, IsAt, samplesFrom}
 use Rattle.sheet_judging.proofs.Samples.{fine, size-few}
-use Rattle.sheet_reading.specs.Loads.{Next}
+use Rattle.sheet_reading.specs.Loads.{NextInSheet}
 use Rattle.sheet_reading.proofs.loading.put_one.Statement.{statement}
 use Rattle.sheet_reading.proofs.loading.put_one.Tie as tie
 
@@ -35,7 +35,7 @@ put-next-requires : tie.Need-put-next-requires
 put-next-requires c κs =
     let a = c .before in
     let g = start a .args in
-    let ready = Next (now (g .control)) (now (g .samples)) (now (g .nodes)) (now (g .links)) (now (g .sheet)) in
+    let ready = NextInSheet (now (g .control)) (now (g .samples)) (now (g .nodes)) (now (g .links)) (now (g .sheet)) in
     subst (λ (k : ℕ). ready k (g .from .number) (g .from .used)) (length-is a) (start a .pre)
 
 returns : tie.Need-returns
@@ -43,7 +43,7 @@ returns c =
     let p = c .before .before .before .before .before .before .before in
     let a = p .before .before in
     let g = start a .args in
-    let first = numberAt (g .from .number) (g .from .used) in
+    let first = sampleNumber (g .from .number) (g .from .used) in
     let e = sym (length-is a) in (
       (λ work.
           let before = tables (now (g .control)) (now (g .samples)) (now (g .nodes)) (now (g .links)) work in

@@ -12,7 +12,7 @@ use Rattle.leaf_figures.specs.Ends.{endsOf}
 use Rattle.leaf_figures.proofs.Placed.{end-at, no-end}
 use Rattle.split_choice.specs.declared.choice.Choice.{Choice}
 use Rattle.split_choice.proofs.Sided.{list-traces}
-use Rattle.split_choice.proofs.Going.{Going, going-start, going-end, Turn, turn}
+use Rattle.split_choice.proofs.Going.{Going, going-start, going-end, SegmentTurn, turn}
 use Rattle.split_choice.proofs.choice.best_along.Statement.{statement}
 use Rattle.split_choice.proofs.choice.best_along.Tie as tie
 
@@ -55,7 +55,7 @@ module _ (c : tie.In-loop Inv-loop μ-loop) where
       let p = s .pre .3 in
       subst (Going (a .n) stored (endsOf (a .e)) numbers (l .found) (l .first)) (end-at (a .e .at) (a .e .count) (omega (arith, p .places, p .few)) (l .i) (c .loop-test .taken)) (l .inv .1)
 
-  turned : let l = c .before .loop in Turn (s .args .n) stored (endsOf (s .args .e)) numbers (l .first) (getD (s .args .e .at) (l .i) 0) (drop (l .i + 1) (endsOf (s .args .e)))
+  turned : let l = c .before .loop in SegmentTurn (s .args .n) stored (endsOf (s .args .e)) numbers (l .first) (getD (s .args .e .at) (l .i) 0) (drop (l .i + 1) (endsOf (s .args .e)))
   turned = turn (s .args .n) stored (endsOf (s .args .e)) numbers going
 
 try-segment-requires : tie.Need-try-segment-requires Inv-loop μ-loop

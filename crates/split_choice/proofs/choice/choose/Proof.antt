@@ -11,8 +11,8 @@ use Rattle.tables.specs.View.{traceIn}
 use Rattle.tables.specs.Walk.{storedIn, numbersOf}
 use Rattle.tables.proofs.Listed.{numbers-below, run-in, stored-at}
 use Rattle.leaf_figures.specs.Ends.{endsOf}
-use Rattle.leaf_figures.specs.Rows.{Listed}
-use Rattle.split_choice.specs.Choosing.{chosenBy, Sound}
+use Rattle.leaf_figures.specs.Rows.{TracesListed}
+use Rattle.split_choice.specs.Choosing.{chosenBy, ChoiceSound}
 use Rattle.split_choice.specs.declared.choice.Choice.{Choice}
 use Rattle.split_choice.proofs.Going.{going-start}
 use Rattle.split_choice.proofs.Unparted.{none-parts}
@@ -38,7 +38,7 @@ module _ (l : tie.After-list-leaf) where
       let p = s .pre .0 in
       numbers-below (s .args .links .now) (s .args .k) (p .rising) (s .args .head) t (p .inside) (subst (In t) (l .list-leaf .ensures .0) i)
 
-  listed : Listed (s .args .samples .now) (s .args .n) list (l .list-leaf .result)
+  listed : TracesListed (s .args .samples .now) (s .args .n) list (l .list-leaf .result)
   listed =
       let p = s .pre .0 in
       record {
@@ -49,13 +49,13 @@ module _ (l : tie.After-list-leaf) where
       }
 
   -- the answer over the listed numbers is that over the leaf's
-  answer : (r : Choice) → chosenBy stored (endsOf (s .args .e)) numbers r ≡ best stored (endsOf (s .args .e)) numbers → Sound (s .args .n) stored (endsOf (s .args .e)) numbers r
+  answer : (r : Choice) → chosenBy stored (endsOf (s .args .e)) numbers r ≡ best stored (endsOf (s .args .e)) numbers → ChoiceSound (s .args .n) stored (endsOf (s .args .e)) numbers r
       → (chosenBy stored (endsOf (s .args .e)) (numbersOf (s .args .links .now) (s .args .k) (s .args .head)) r
       ≡ best stored (endsOf (s .args .e)) (numbersOf (s .args .links .now) (s .args .k) (s .args .head)))
-      × Sound (s .args .n) stored (endsOf (s .args .e)) (numbersOf (s .args .links .now) (s .args .k) (s .args .head)) r
+      × ChoiceSound (s .args .n) stored (endsOf (s .args .e)) (numbersOf (s .args .links .now) (s .args .k) (s .args .head)) r
   answer r is sound =
       let all = endsOf (s .args .e) in
-      subst (λ (m : List ℕ). (chosenBy stored all m r ≡ best stored all m) × Sound (s .args .n) stored all m r) (l .list-leaf .ensures .0) (is, sound)
+      subst (λ (m : List ℕ). (chosenBy stored all m r ≡ best stored all m) × ChoiceSound (s .args .n) stored all m r) (l .list-leaf .ensures .0) (is, sound)
 
 list-leaf-requires : tie.Need-list-leaf-requires
 list-leaf-requires c κs = let p = c .before .before .pre .0 in (p .inside, p .few, p .links-room, p .rising, omega arith)
@@ -77,7 +77,8 @@ returns c =
     λ t i. stored-at (a .samples .now) (a .n) (a .k) t (below l t i) ∙ g .all-same .ensures (c .before .if1 .taken) t i in
     answer l (c .none-found .result)
     (ap (chosenBy (stored l) all (numbers l)) none-is ∙ sym (none-parts (stored l) all (numbers l) (traceIn (a .samples .now) (a .n) (getD (list l) 0 0)) same))
-    (subst (Sound (a .n) (stored l) all (numbers l)) (sym none-is) (going-start (a .n) (stored l) all (numbers l) (s l .pre .2) .sound))
+    (subst (ChoiceSound (a .n) (stored l) all (numbers l)) (sym none-is)
+    (going-start (a .n) (stored l) all (numbers l) (s l .pre .2) .sound))
 
 returns-2 : tie.Need-returns-2
 returns-2 c = answer (c .before .before .before .before .before) (c .best-kept .result) (c .best-kept .ensures .0) (c .best-kept .ensures .1)

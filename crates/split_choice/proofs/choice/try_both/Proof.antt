@@ -13,7 +13,7 @@ use Rattle.dstree.specs.Measures.{Trace}
 use Rattle.dstree.specs.Adding.{Split, byEither, tracesOf}
 use Rattle.tables.specs.Walk.{storedIn}
 use Rattle.leaf_figures.specs.Ends.{endsOf}
-use Rattle.split_choice.specs.Choosing.{trialBy, candidateBy, tried, After, Reached}
+use Rattle.split_choice.specs.Choosing.{trialBy, candidateBy, tried, After, TrialExtremes}
 use Rattle.split_choice.specs.declared.choice.Trial.{Trial}
 use Rattle.split_choice.proofs.choice.try_both.Statement.{statement}
 use Rattle.split_choice.proofs.choice.try_both.Tie as tie
@@ -30,7 +30,7 @@ module _ (g : tie.After-try-sum) where
   numbers = take (s .args .count) (s .args .list .now)
 
   -- the scatters, read back from their fields
-  reached : Reached (tracesOf stored numbers) (trialBy (s .args .first) (s .args .last) (s .args .cut) (s .args .column) true)
+  reached : TrialExtremes (tracesOf stored numbers) (trialBy (s .args .first) (s .args .last) (s .args .cut) (s .args .column) true)
       (read w64 (g .try-sum .result .low)) (read w64 (g .try-sum .result .high))
   reached =
       let r = g .try-sum .ensures .1 .0 in

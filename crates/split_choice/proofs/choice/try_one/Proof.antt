@@ -17,7 +17,7 @@ use Rattle.dstree.specs.Adding.{tracesOf, thresholdOf}
 use Rattle.tables.specs.Walk.{storedIn}
 use Rattle.tables.specs.Runs.{figureBy}
 use Rattle.leaf_figures.specs.Ends.{endsOf}
-use Rattle.split_choice.specs.Choosing.{chosenBy, choiceOf, betterOf, Sound}
+use Rattle.split_choice.specs.Choosing.{chosenBy, choiceOf, betterOf, ChoiceSound}
 use Rattle.split_choice.specs.declared.parting.Look.{Look}
 use Rattle.split_choice.proofs.Seen.{seen-below}
 use Rattle.split_choice.proofs.Threshold.{low-back, high-back, sum-small, sum-fits, sum-back}
@@ -81,7 +81,7 @@ returns c =
     c .better .ensures ∙ ap (λ (z : ℤ). betterOf (a .old) (choiceOf (a .c) t z)) (toZ-ofZ (of-mag {w = w64} (g .result) (g .ok))) in (
       record {
         is = ap (chosenBy stored (endsOf (a .e)) numbers) e ∙ one-chosen stored (endsOf (a .e)) numbers (a .n) (a .old) (s .pre .3) (a .c) t (g .result) above t-is (g .ensures .0) small-t (s .pre .1);
-        sound = subst (Sound (a .n) stored (endsOf (a .e)) numbers) (sym e)
+        sound = subst (ChoiceSound (a .n) stored (endsOf (a .e)) numbers) (sym e)
             (one-sound stored (endsOf (a .e)) numbers (a .n) (a .old) (s .pre .3) (a .c) t (g .result) above t-is (g .ensures .0) small-t (s .pre .1));
       },
       g .ensures .1,

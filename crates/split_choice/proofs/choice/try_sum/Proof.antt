@@ -17,7 +17,7 @@ use Rattle.tables.specs.Walk.{storedIn}
 use Rattle.leaf_figures.specs.Sides.{segmentBy}
 use Rattle.leaf_figures.specs.Ends.{endsOf}
 use Rattle.leaf_figures.proofs.Ranged.{least-sum-is, greatest-sum-is, least-root-is, greatest-root-is}
-use Rattle.split_choice.specs.Choosing.{trialBy, candidateBy, After, Reached}
+use Rattle.split_choice.specs.Choosing.{trialBy, candidateBy, After, TrialExtremes}
 use Rattle.split_choice.specs.declared.choice.Trial.{Trial}
 use Rattle.split_choice.proofs.Sided.{list-traces}
 use Rattle.split_choice.proofs.choice.try_sum.Statement.{statement}
@@ -46,7 +46,7 @@ module _ (g : tie.After-figures-along) where
       ∙ ap (λ (l : List Trace). segmentOf l (run (s .args .first) (s .args .last)))
       (list-traces (s .args .samples .now) (s .args .n) (s .args .k) (take (s .args .count) (s .args .list .now)) (s .pre .0 .below))
 
-  by-sum : Reached traces (trial false) (read w64 (g .figures-along .result .«least_sum»)) (read w64 (g .figures-along .result .«greatest_sum»))
+  by-sum : TrialExtremes traces (trial false) (read w64 (g .figures-along .result .«least_sum»)) (read w64 (g .figures-along .result .«greatest_sum»))
   by-sum =
       let f = g .figures-along .result in
       let m = g .figures-along .ensures .1 in
@@ -62,7 +62,7 @@ module _ (g : tie.After-figures-along) where
 
   by-scatter : (low high : ℤ) → (low ≡ pos (floorRoot (g .figures-along .result .«least_scatter»))) × (natAbs low ≤ 2 ^ 46)
       → (high ≡ pos (floorRoot (g .figures-along .result .«greatest_scatter»))) × (natAbs high ≤ 2 ^ 46)
-      → Reached traces (trial true) low high
+      → TrialExtremes traces (trial true) low high
   by-scatter low high h k =
       let f = g .figures-along .result in
       let on = run (s .args .first) (s .args .last) in

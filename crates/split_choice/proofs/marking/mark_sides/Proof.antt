@@ -14,7 +14,7 @@ use Rattle.dstree.specs.Node.{goesLeft}
 use Rattle.tables.specs.Walk.{storedIn, numbersOf}
 use Rattle.tables.proofs.Listed.{metFrom, met-start, behind-rises, fold-more, fold-end, stored-at, run-in}
 use Rattle.tables.specs.Runs.{testBy}
-use Rattle.split_choice.specs.Marking.{codeOf, marksBy}
+use Rattle.split_choice.specs.Marking.{sideMark, marksBy}
 use Rattle.split_choice.proofs.marking.mark_sides.Statement.{statement}
 use Rattle.split_choice.proofs.marking.mark_sides.Tie as tie
 
@@ -23,7 +23,7 @@ abbrev left : List ℤ → ℕ → ℕ → ℕ → ℕ → Bool → ℤ → ℕ 
 left samples n k first last by-scatter threshold t = goesLeft (testBy first last by-scatter threshold) (getD (storedIn samples n k) t [])
 
 abbrev step : List ℤ → ℕ → ℕ → ℕ → ℕ → Bool → ℤ → List ℕ → ℕ → List ℕ
-step samples n k first last by-scatter threshold m t = set m t (codeOf (left samples n k first last by-scatter threshold t))
+step samples n k first last by-scatter threshold m t = set m t (sideMark (left samples n k first last by-scatter threshold t))
 
 abbrev Inv-loop : tie.InvT-loop
 Inv-loop samples links n k head first last by-scatter threshold marks₀ t₀ marks t =

@@ -15,7 +15,7 @@ use Rattle.dstree.specs.Measures.{Trace}
 use Rattle.dstree.specs.Node.{Test}
 use Rattle.dstree.specs.Adding.{goesBy}
 use Rattle.tables.specs.Walk.{storedIn}
-use Rattle.leaf_figures.proofs.Listing.{all-more}
+use Rattle.leaf_figures.proofs.Listing.{all-taken-more}
 use Rattle.split_choice.specs.Siding.{trialTest}
 use Rattle.split_choice.specs.Parting.{lookOf}
 use Rattle.split_choice.proofs.Seen.{look, differ, alike, seen-none, seen-found}
@@ -69,7 +69,7 @@ loop-holds c =
     let h = c .before .if1 .left in (
       omega arith,
       omega (arith, h),
-      all-more (list s) (λ (t : ℕ). goesBy (stored s) (test s) t ≡ c .goes-listed .result) 0 (omega (arith, room s, h))
+      all-taken-more (list s) (λ (t : ℕ). goesBy (stored s) (test s) t ≡ c .goes-listed .result) 0 (omega (arith, room s, h))
           (λ t i. absurd (in-nil i)) (sym (c .goes-listed .ensures)),
     )
 
@@ -96,7 +96,7 @@ loop-again c =
     let side = g .before .before .before .goes-listed .result in (
       omega arith,
       omega (arith, g .before .loop-test .taken),
-      all-more (list s) (λ (t : ℕ). goesBy (stored s) (test s) t ≡ side) (l .i) (omega (arith, room s, g .before .loop-test .taken))
+      all-taken-more (list s) (λ (t : ℕ). goesBy (stored s) (test s) t ≡ side) (l .i) (omega (arith, room s, g .before .loop-test .taken))
           (l .inv .2) (sym (g .goes-listed2 .ensures) ∙ alike _ _ (c .if2 .left)),
     )
 

@@ -20,8 +20,8 @@ use Rattle.tables.specs.Layout.{recordPlaces}
 use Rattle.tables.specs.Walk.{storedIn, numbersOf}
 use Rattle.leaf_figures.specs.Sides.{marked}
 use Rattle.leaf_figures.proofs.Taken.{least-back, greatest-back}
-use Rattle.leaf_figures.proofs.Totals.{Next, next-at}
-use Rattle.insertion.specs.Heads.{segmentBy}
+use Rattle.leaf_figures.proofs.Totals.{RisesOn, next-at}
+use Rattle.insertion.specs.Heads.{segmentOfParts}
 use Rattle.insertion.specs.Widening.{withSegment}
 use Rattle.splitting.specs.Leaves.{withSegments}
 use Rattle.splitting.proofs.Written.{with-none, with-length, with-more, segments-length, segment-next, passed-more}
@@ -51,7 +51,7 @@ module _ (c : tie.In-loop Inv-loop μ-loop) where
   room : s .args .e .count ≤ length (s .args .e .at)
   room = omega (arith, s .pre .3 .places, s .pre .3 .few)
 
-  next : Next (s .args .n) (c .before .loop .first) (getD (s .args .e .at) (c .before .loop .i) 0) (drop (c .before .loop .i + 1) (take (s .args .e .count) (s .args .e .at)))
+  next : RisesOn (s .args .n) (c .before .loop .first) (getD (s .args .e .at) (c .before .loop .i) 0) (drop (c .before .loop .i + 1) (take (s .args .e .count) (s .args .e .at)))
   next = next-at (s .args .e .at) (s .args .e .count) room (c .before .loop .i) (c .loop-test .taken) (c .before .loop .inv .2)
 
   abbrev traces : List Trace
@@ -130,8 +130,8 @@ loop-again c =
     let p = passed-more (segments k) (l .i) new (segmentsFrom (end + 1) (drop (l .i + 1) (take (g .e .count) (g .e .at))) (traces k))
     (sym (l .inv .3) ∙ segment-next (g .e .at) (g .e .count) (room k) (l .i) (k .loop-test .taken) (l .first) (traces k)) in
     let after : c .before .write-segment .last .0 ≡ withSegment (l .«record») (l .i)
-    (segmentBy end (read w64 (f .«least_sum»)) (read w64 (f .«greatest_sum»)) (f .«least_scatter») (f .«greatest_scatter»)) = c .before .write-segment .ensures in
-    let same : segmentBy end (read w64 (f .«least_sum»)) (read w64 (f .«greatest_sum»)) (f .«least_scatter») (f .«greatest_scatter»)
+    (segmentOfParts end (read w64 (f .«least_sum»)) (read w64 (f .«greatest_sum»)) (f .«least_scatter») (f .«greatest_scatter»)) = c .before .write-segment .ensures in
+    let same : segmentOfParts end (read w64 (f .«least_sum»)) (read w64 (f .«greatest_sum»)) (f .«least_scatter») (f .«greatest_scatter»)
     ≡ new = rw (least-back f m, greatest-back f m) (a .side-figures .ensures .0) in
     let more : withSegment (l .«record») (l .i) new ≡ withSegments r (take (l .i + 1) (segments k)) =
     ap₂ (λ (w : List ℤ) (j : ℕ). withSegment w j new) (l .inv .4) (sym (done-is k))

@@ -5,14 +5,14 @@ use native.Mathlib.Omega.{arith}
 use denote.Ref.{now}
 use borrow.Author.Tests.{not-true, not-false}
 use Rattle.records_fit.proofs.Children.{head-in-use}
-use Rattle.well_formed.specs.Marks.{Grown}
+use Rattle.well_formed.specs.Marks.{MarksGrown}
 use Rattle.well_formed.specs.Tests.{childrenAt, childrenOfFirst}
 use Rattle.well_formed.proofs.Growth.{grown-firsts, again-firsts, took-new, took-old, firsts-none}
 use Rattle.well_formed.proofs.children.mark_all.Statement.{statement}
 use Rattle.well_formed.proofs.children.mark_all.Tie as tie
 
 abbrev Inv-loop : tie.InvT-loop
-Inv-loop nodes m marks₀ j₀ marks j = (j ≤ m) × Grown marks₀ marks (childrenOfFirst nodes j)
+Inv-loop nodes m marks₀ j₀ marks j = (j ≤ m) × MarksGrown marks₀ marks (childrenOfFirst nodes j)
 
 abbrev μ-loop : tie.MeasureT-loop
 μ-loop nodes m marks₀ j₀ marks j = m - j
@@ -46,7 +46,7 @@ returns-2 c =
     let L = c .before .loop in
     let s = c .before .before in
     let e : L .j ≡ s .args .m = omega arith in
-    took-new (subst (λ (x : ℕ). Grown (now (s .args .marks)) (L .marks) (childrenOfFirst (now (s .args .nodes)) x)) e (L .inv .1))
+    took-new (subst (λ (x : ℕ). MarksGrown (now (s .args .marks)) (L .marks) (childrenOfFirst (now (s .args .nodes)) x)) e (L .inv .1))
 
 pub mark-all-spec : {M : Type 1} → statement M
 mark-all-spec =

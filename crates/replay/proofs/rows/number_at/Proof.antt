@@ -1,10 +1,10 @@
--- `replay::rows::number` meets its contract: behind the end a list reads as 0.
+-- `replay::rows::number_at` meets its contract: behind the end a list reads as 0.
 use mathlib.Core.Path.{sym}
 use denote.Ref.{now}
 use lib.ListN.{List·getD-eq-default}
 use borrow.Author.Needs.{needs}
-use Rattle.replay.proofs.rows.number.Statement.{statement}
-use Rattle.replay.proofs.rows.number.Tie as tie
+use Rattle.replay.proofs.rows.number_at.Statement.{statement}
+use Rattle.replay.proofs.rows.number_at.Tie as tie
 
 mul-result : tie.Need-mul-result
 mul-result c = search needs
@@ -18,5 +18,5 @@ returns c = search needs
 returns-2 : tie.Need-returns-2
 returns-2 c = sym (List·getD-eq-default (now (c .before .args .row)) 0 (c .if1 .left))
 
-pub number-spec : {M : Type 1} → statement M
-number-spec = tie.close (tie.spec mul-result shared-slice-read-result returns returns-2)
+pub number-at-spec : {M : Type 1} → statement M
+number-at-spec = tie.close (tie.spec mul-result shared-slice-read-result returns returns-2)

@@ -12,7 +12,7 @@ use Rattle.dstree.proofs.SheetPieces.{pieces-length}
 use Rattle.dstree.proofs.Recordings.{SoundFile, passed-sound}
 use Rattle.sheet.specs.Codes.{samplesIn}
 use Rattle.sheet.proofs.SamplesIn.{samples-first, trace-at}
-use Rattle.recording.specs.Held.{HoldsTrace}
+use Rattle.recording.specs.HoldsTrace.{HoldsTrace}
 
 pub traces-count : (n : ℕ) (bytes : List ℕ) → length (recordedTraces n bytes) ≡ sizeIn bytes / 2 / n
 unfolding recordedTraces
@@ -32,21 +32,21 @@ module _ (n : ℕ) (bytes : List ℕ) (number : ℕ) (h : HoldsTrace n bytes num
   all-cut : count * n ≤ samples
   all-cut = omega (arith, div-add-mod samples n)
 
-  abbrev pub first : ℕ
-  first = headerSize + 2 * (number * n)
+  abbrev pub firstByte : ℕ
+  firstByte = headerSize + 2 * (number * n)
 
   -- its bytes are in the file
-  pub inside : first + 2 * n ≤ length bytes
+  pub inside : firstByte + 2 * n ≤ length bytes
   inside =
       let s : SoundFile n bytes = passed-sound n bytes (h .sound) in
       omega (arith, suc-mul number n, mul-le-mul-right n numbered, all-cut, s .long)
 
   -- and say its samples
-  pub trace-is : samplesIn n (part first (2 * n) bytes) ≡ getD (recordedTraces n bytes) number []
+  pub trace-is : samplesIn n (part firstByte (2 * n) bytes) ≡ getD (recordedTraces n bytes) number []
   unfolding recordedTraces
   trace-is =
       let data-bytes = drop headerSize bytes in
-      let from : headerSize + number * n * 2 ≡ first = omega arith in
+      let from : headerSize + number * n * 2 ≡ firstByte = omega arith in
       let long : n * 2 ≡ 2 * n = omega arith in
       sym (trace-at n count samples number data-bytes numbered all-cut
       ∙ samples-first n (drop (number * n * 2) data-bytes)

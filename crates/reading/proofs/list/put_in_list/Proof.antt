@@ -1,10 +1,10 @@
--- `reading::list::place` meets its contract: there is room, or the trace is no nearer than the last, or the last goes (`Records`).
+-- `reading::list::put_in_list` meets its contract: there is room, or the trace is no nearer than the last, or the last goes (`Records`).
 use mathlib.Core.Path.{refl, sym, _∙_}
 use native.Mathlib.Omega.{arith}
 use borrow.Author.Tests.{not-true, not-false}
 use Rattle.reading.proofs.Records.{placed-more, placed-none, placed-nearer, ordered-ahead}
-use Rattle.reading.proofs.list.place.Statement.{statement}
-use Rattle.reading.proofs.list.place.Tie as tie
+use Rattle.reading.proofs.list.put_in_list.Statement.{statement}
+use Rattle.reading.proofs.list.put_in_list.Tie as tie
 
 returns : tie.Need-returns
 returns c =
@@ -43,8 +43,8 @@ returns-3 c =
     (sym (b .comes-before .ensures) ∙ not-false (b .comes-before .result) (c .before .before .before .before .if2 .left))
     (i .ensures .0) (i .ensures .1)
 
-pub place-spec : {M : Type 1} → statement M
-place-spec =
+pub put-in-list-spec : {M : Type 1} → statement M
+put-in-list-spec =
     tie.close
     (tie.spec
     (λ c κs. let s = c .before .before .before in (omega (arith, s .pre .long, c .before .if1 .taken), s .pre .ordered))

@@ -1,11 +1,11 @@
--- `batching::record_at` meets its contract: past the array's end there is 0.
+-- `batching::answer_at` meets its contract: past the array's end there is 0.
 use mathlib.Core.Path.{_≡_}
 use Prim.Native.Nat.{_+_, _*_}
 use native.Mathlib.Omega.{arith}
 use lib.ListN.{length, List·getD-eq-default}
 use borrow.Author.Needs.{needs}
-use Rattle.batching.proofs.record_at.Statement.{statement}
-use Rattle.batching.proofs.record_at.Tie as tie
+use Rattle.batching.proofs.answer_at.Statement.{statement}
+use Rattle.batching.proofs.answer_at.Tie as tie
 
 returns-2 : tie.Need-returns-2
 returns-2 c =
@@ -17,8 +17,8 @@ returns-2 c =
       List·getD-eq-default (f .bests) 0 {n = 2 * i + 1} (omega (arith, long, c .if1 .left)),
     )
 
-pub record-at-spec : {M : Type 1} → statement M
-record-at-spec =
+pub answer-at-spec : {M : Type 1} → statement M
+answer-at-spec =
     tie.close
     (tie.spec
     (λ c. search needs) (λ c. search needs) (λ c. search needs) (λ c. search needs) (λ c. search needs) (λ c. search needs)

@@ -1,4 +1,4 @@
--- `replay::replies::store` meets its contract: by whether there is such a row.
+-- `replay::replies::store_reply` meets its contract: by whether there is such a row.
 use Prim.Native.Nat.{ℕ, _*_, _/_}
 use mathlib.Core.Path.{_≡_, refl, ap, _∙_}
 use lib.ListN.{length}
@@ -6,9 +6,9 @@ use lib.Seq.{paste}
 use denote.Ref.{now}
 use borrow.Author.Needs.{needs}
 use borrow.Author.Tests.{lt-ltb, le-ltb}
-use Rattle.replay.specs.Numbers.{replyPlaces, withRow}
-use Rattle.replay.proofs.replies.store.Statement.{statement}
-use Rattle.replay.proofs.replies.store.Tie as tie
+use Rattle.replay.specs.ReplyRows.{replyPlaces, withRow}
+use Rattle.replay.proofs.replies.store_reply.Statement.{statement}
+use Rattle.replay.proofs.replies.store_reply.Tie as tie
 
 mul-lay : tie.Need-mul-lay
 mul-lay c = search needs
@@ -36,6 +36,6 @@ returns-2 c =
     let a = c .before .before .args in
     rw (le-ltb (a .k) (length (now (a .replies)) / replyPlaces) (c .if1 .left)) refl
 
-pub store-spec : {M : Type 1} → statement M
-store-spec =
+pub store-reply-spec : {M : Type 1} → statement M
+store-reply-spec =
     tie.close (tie.spec mul-lay slice-aggregate-lay lay-requires same-length returns returns-2)

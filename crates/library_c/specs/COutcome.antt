@@ -20,13 +20,13 @@ returnedOf answer out = returned (codeOf answer) (laid (valuesOf answer) out)
 
 -- ---- .. and what is left in the tables and beside them
 
-pub record Exported : Type 0 where
+pub record COutcome : Type 0 where
   pub answer : Returned
   pub after : Tables
   pub beside : List (List ℕ)
 
-abbrev pub exported : ℕ → List ℕ → Tables → List (List ℕ) → Exported
-exported code out after beside = record { answer = returned code out; after = after; beside = beside }
+abbrev pub cOutcome : ℕ → List ℕ → Tables → List (List ℕ) → COutcome
+cOutcome code out after beside = record { answer = returned code out; after = after; beside = beside }
 
-abbrev pub exportedOf : Outcome → List ℕ → Exported
-exportedOf o out = record { answer = returnedOf (o .answer) out; after = o .after; beside = o .beside }
+abbrev pub cOutcomeOf : Outcome → List ℕ → COutcome
+cOutcomeOf o out = record { answer = returnedOf (o .answer) out; after = o .after; beside = o .beside }

@@ -1,10 +1,10 @@
--- `segment::figures::stretch` meets its contract: the total is what the samples passed add, at most 2^32 each.
+-- `segment::figures::stretch_distance` meets its contract: the total is what the samples passed add, at most 2^32 each.
 use mathlib.Core.Path.{_≡_, ap}
 use Prim.Native.Nat.{_+_, _-_, _*_, _^_, _≤_}
 use native.Mathlib.Omega.{arith}
 use Rattle.segment.proofs.Steps.{distanceTo, distance-grows}
-use Rattle.segment.proofs.figures.stretch.Statement.{statement}
-use Rattle.segment.proofs.figures.stretch.Tie as tie
+use Rattle.segment.proofs.figures.stretch_distance.Statement.{statement}
+use Rattle.segment.proofs.figures.stretch_distance.Tie as tie
 
 abbrev Inv-loop : tie.InvT-loop
 Inv-loop x y from end total₀ i₀ total i =
@@ -37,8 +37,8 @@ returns c =
     let e : c .before .loop .i ≡ s .args .end = omega arith in
     omega (arith, ap (distanceTo (s .args .x .now) (s .args .y .now)) e)
 
-pub stretch-spec : {M : Type 1} → statement M
-stretch-spec =
+pub stretch-distance-spec : {M : Type 1} → statement M
+stretch-distance-spec =
     tie.close
     (tie.spec
     Inv-loop μ-loop (λ c. omega arith) (λ c. omega arith) (λ c. omega arith) (λ c. omega arith)

@@ -8,7 +8,7 @@ ghost use mathlib.Core.Path.{_≡_};
 ghost use mathlib.Core.List.{map};
 ghost use Prim.Native.Nat.{_+_, _*_, _≤_, _<_};
 ghost use lib.ListN.{length};
-ghost use Rattle.dstree.specs.Batch.{readOnce};
+ghost use Rattle.dstree.specs.Batch.{readOnce, mostQueries};
 ghost use Rattle.tables.specs.Layout.{kindPlace};
 ghost use Rattle.tables.specs.Tables.{nodeCount, recordOf};
 ghost use Rattle.tables.specs.View.{smallAt, traceIn};
@@ -29,7 +29,8 @@ fn read_for(
     i: usize,
     seen: usize,
 )
-    requires { ⌜ Stored (now samples) (now links) n count head × (length (now query) ≡ n) × (i < 16) × (2 * i + 2 ≤ length (now bests))
+    requires { ⌜ Stored (now samples) (now links) n count head × (length (now query) ≡ n) × (i < mostQueries)
+        × (2 * i + 2 ≤ length (now bests))
         × (seen ≤ 1) ⌝ }
     ensures { λ _. ⌜ OneRead seen i
         (map (nearOf (now (samples .entry)) n (now (query .entry))) (numbersOf (now (links .entry)) count head))
@@ -56,7 +57,7 @@ fn read_for_all(
     bests: &mut [u64],
     seen: usize,
 )
-    requires { ⌜ Stored (now samples) (now links) n count head × (length (now queries) ≡ n * many) × (many ≤ 16)
+    requires { ⌜ Stored (now samples) (now links) n count head × (length (now queries) ≡ n * many) × (many ≤ mostQueries)
         × (2 * many ≤ length (now bests)) × (seen ≤ 1) ⌝ }
     ensures { λ _. ⌜ AllRead seen many
         (λ i. map (nearOf (now (samples .entry)) n (traceIn (now (queries .entry)) n i)) (numbersOf (now (links .entry)) count head))

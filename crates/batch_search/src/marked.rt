@@ -3,11 +3,14 @@ ghost use mathlib.Core.Path.{_≡_};
 ghost use mathlib.Core.Bool.{true};
 ghost use Prim.Native.Nat.{_≤_, _<_};
 ghost use lib.ListN.{length};
+ghost use Rattle.dstree.specs.Measures.{mostNodes};
+ghost use Rattle.tables.specs.Layout.{nodePlaces};
 ghost use Rattle.batch_search.specs.Batched.{isMarked, markedOf, Noted, TrailBegins};
 
 // Node j's number at a place of the trail, if it has a mark. Answers the place behind what is written.
 fn note(marks: &[u8], j: usize, trail: &mut [u16], out: usize) -> usize
-    requires { ⌜ (j < length (now marks)) × (j ≤ 8191) × (isMarked (now marks) j ≡ true → (out < length (now trail)) × (out ≤ 8191)) ⌝ }
+    requires { ⌜ (j < length (now marks)) × (j ≤ mostNodes)
+        × (isMarked (now marks) j ≡ true → (out < length (now trail)) × (out ≤ mostNodes)) ⌝ }
     ensures { λ r. ⌜ Noted (isMarked (now (marks .entry)) j) j out r (now (trail .entry)) (now (trail .exit)) ⌝ }
 {
     if marks[j] != 0 {
@@ -19,7 +22,7 @@ fn note(marks: &[u8], j: usize, trail: &mut [u16], out: usize) -> usize
 
 // The numbers of marked nodes at the trail's beginning. Answers how many they are; the trail's other places stay.
 pub fn write_trail(marks: &[u8], count: usize, trail: &mut [u16]) -> usize
-    requires { ⌜ (count ≤ 8192) × (count ≤ length (now marks)) × (length (markedOf (now marks) count) ≤ length (now trail)) ⌝ }
+    requires { ⌜ (count ≤ nodePlaces) × (count ≤ length (now marks)) × (length (markedOf (now marks) count) ≤ length (now trail)) ⌝ }
     ensures { λ r. ⌜ TrailBegins (markedOf (now (marks .entry)) count) r (now (trail .entry)) (now (trail .exit)) ⌝ }
 {
     let mut out: usize = 0;

@@ -6,7 +6,7 @@ use tables::places::N;
 ghost use mathlib.Core.Path.{_≡_};
 ghost use Prim.Native.Nat.{_<_, _≤_, _*_, _+_};
 ghost use lib.ListN.{length};
-ghost use Rattle.dstree.specs.Batch.{readFor};
+ghost use Rattle.dstree.specs.Batch.{readFor, mostQueries};
 ghost use Rattle.tables.specs.Tables.{nodeCount};
 ghost use Rattle.tables.specs.View.{treeIn, tracesIn};
 ghost use Rattle.prefixes.specs.Prefixes.{Prefixes};
@@ -16,7 +16,7 @@ ghost use Rattle.batch_search.specs.Batched.{Searchable, queryAt, BatchR
 
 // The distance of query i's nearest trace so far.
 fn distance_at(bests: &[u64], i: usize) -> u64
-    requires { ⌜ (i < 16) × (2 * i + 2 ≤ length (now bests)) ⌝ }
+    requires { ⌜ (i < mostQueries) × (2 * i + 2 ≤ length (now bests)) ⌝ }
     ensures { λ r. ⌜ r ≡ recordAt (now (bests .entry)) i .distance ⌝ }
 {
     bests[2 * i + 1]

@@ -16,7 +16,8 @@ ghost use lib.IntN.{ℤ};
 ghost use lib.ListN.{length};
 ghost use Rattle.dstree.specs.Batch.{isBatch};
 ghost use Rattle.dstree.specs.Refusals.{firstOf};
-ghost use Rattle.tables.specs.Layout.{nPlace, nodeCountPlace, recordPlaces};
+ghost use Rattle.dstree.specs.Measures.{mostSamples};
+ghost use Rattle.tables.specs.Layout.{nPlace, nodeCountPlace, recordPlaces, nodePlaces};
 ghost use Rattle.tables.specs.Tables as t;
 ghost use Rattle.tables.specs.Tables.{tables};
 ghost use Rattle.tables.specs.Answers.{foundBy, madeConditions};
@@ -45,7 +46,7 @@ fn judge_own(
     trail: &[u16],
 ) -> Verdict
     requires { ⌜ (t.field (now control) nodeCountPlace * recordPlaces ≤ length (now nodes))
-        × (t.field (now control) nodeCountPlace ≤ 8192) × (t.field (now control) nPlace ≤ 256) ⌝ }
+        × (t.field (now control) nodeCountPlace ≤ nodePlaces) × (t.field (now control) nPlace ≤ mostSamples) ⌝ }
     ensures { λ r. ⌜ ((samples : List ℤ) (links work : List ℕ) → foundBy r ≡ firstOf (batchConditionsIn
         (tables (now (control .entry)) samples (now (nodes .entry)) links work) many places
         (now (queries .entry)) (now (trail .entry)))) ⌝ }

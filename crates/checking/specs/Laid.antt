@@ -12,7 +12,8 @@ use Rattle.dstree.specs.Node.{Test, inner, Tree, nodeAt, ends}
 use Rattle.dstree.specs.Matching.{hasChild, isLeaf}
 use Rattle.dstree.specs.Formed.{Fits, Shape}
 use Rattle.dstree.specs.Checking.{tracesBelow}
-use Rattle.tables.specs.Layout.{kindPlace, firstPlace, rightPlace, recordPlaces}
+use Rattle.dstree.specs.Measures.{mostNodes, mostSamples, mostTraces}
+use Rattle.tables.specs.Layout.{kindPlace, firstPlace, rightPlace, recordPlaces, nodePlaces}
 use Rattle.tables.specs.Tables.{Tables, tables, recordOf}
 use Rattle.tables.specs.View.{smallAt, segmentsIn, treeIn}
 use Rattle.tables.specs.Walk.{Rising}
@@ -29,15 +30,15 @@ pub record Walks (nodes : List ℤ) (links : List ℕ) (k m : ℕ) : Type 0 wher
   pub n : ℕ
   pub shape : Shape n k (treeBy nodes links k m)
   pub named : (j : ℕ) → j < m → smallAt (recordOf nodes j) kindPlace ≤ 2
-  pub few : k ≤ 4096
-  pub nodes-few : m ≤ 8191
+  pub few : k ≤ mostTraces
+  pub nodes-few : m ≤ mostNodes
   pub nodes-room : m * recordPlaces ≤ length nodes
   pub links-room : k ≤ length links
   pub rising : Rising links k
 
 -- how many traces are below each node, from node `from` on
 pub record SizesLaid (tree : Tree) (sizes : List ℕ) (from : ℕ) : Type 0 where
-  pub places : length sizes ≡ 8192
+  pub places : length sizes ≡ nodePlaces
   pub sized : (j : ℕ) → from ≤ j → j < length tree → getD sizes j 0 ≡ length (tracesBelow tree j)
 
 -- some numbers are written from a place on, and the other places stay
@@ -53,8 +54,8 @@ pub record StartsAt (tree : Tree) (j start : ℕ) : Type 0 where
 
 -- nodes below `to` have been taken: each of their children has its start, and each leaf's numbers stand where they belong
 pub record LaidTo (tree : Tree) (to : ℕ) (starts order : List ℕ) : Type 0 where
-  pub starts-places : length starts ≡ 8192
-  pub order-places : length order ≡ 4096
+  pub starts-places : length starts ≡ nodePlaces
+  pub order-places : length order ≡ mostTraces
   pub started : (j : ℕ) → j < length tree → ((p : ℕ) → T (hasChild j (nodeAt tree p .kind)) → p < to) → StartsAt tree j (getD starts j 0)
   pub placed : (p : ℕ) → p < to → (test : Test) (l r : ℕ) → nodeAt tree p .kind ≡ inner test l r
       → (getD starts l 0 ≡ getD starts p 0) × (getD starts r 0 ≡ getD starts p 0 + length (tracesBelow tree l))
@@ -67,21 +68,21 @@ numbersLaidAt sizes starts order j = take (getD sizes j 0) (drop (getD starts j 
 
 -- every node's numbers are in their places, and are those of the traces below it
 pub record LaidOut (tree : Tree) (sizes starts order : List ℕ) : Type 0 where
-  pub sizes-places : length sizes ≡ 8192
-  pub starts-places : length starts ≡ 8192
-  pub order-places : length order ≡ 4096
-  pub inside : (j : ℕ) → j < length tree → getD starts j 0 + getD sizes j 0 ≤ 4096
+  pub sizes-places : length sizes ≡ nodePlaces
+  pub starts-places : length starts ≡ nodePlaces
+  pub order-places : length order ≡ mostTraces
+  pub inside : (j : ℕ) → j < length tree → getD starts j 0 + getD sizes j 0 ≤ mostTraces
   pub below : (j : ℕ) → j < length tree → numbersLaidAt sizes starts order j ≡ tracesBelow tree j
 
 -- what is told of m nodes and their numbers where figures are compared: an inner node's numbers are those of its children
 pub record ReadyToCompare (samples nodes : List ℤ) (n m : ℕ) (sizes starts order : List ℕ) : Type 0 where
-  pub narrow : n ≤ 256
-  pub nodes-few : m ≤ 8191
+  pub narrow : n ≤ mostSamples
+  pub nodes-few : m ≤ mostNodes
   pub nodes-room : m * recordPlaces ≤ length nodes
-  pub sizes-places : length sizes ≡ 8192
-  pub starts-places : length starts ≡ 8192
-  pub order-places : length order ≡ 4096
-  pub inside : (j : ℕ) → j < m → getD starts j 0 + getD sizes j 0 ≤ 4096
+  pub sizes-places : length sizes ≡ nodePlaces
+  pub starts-places : length starts ≡ nodePlaces
+  pub order-places : length order ≡ mostTraces
+  pub inside : (j : ℕ) → j < m → getD starts j 0 + getD sizes j 0 ≤ mostTraces
   pub stored : (j t : ℕ) → j < m → In t (numbersLaidAt sizes starts order j) → t * n + n ≤ length samples
   pub some : (j : ℕ) → j < m → 0 < length (numbersLaidAt sizes starts order j)
   pub fits : (j : ℕ) → j < m → Fits n (ends (segmentsIn (recordOf nodes j)))

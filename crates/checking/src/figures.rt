@@ -31,6 +31,8 @@ ghost use lib.Dec.{T};
 ghost use Rattle.integer.specs.Lists.{In};
 ghost use Rattle.dstree.specs.Figures.{run};
 ghost use Rattle.dstree.specs.Adding.{segmentOf};
+ghost use Rattle.dstree.specs.Measures.{mostSamples, mostTraces};
+ghost use Rattle.dstree.specs.Node.{mostSegments};
 ghost use Rattle.tables.specs.Layout.{recordPlaces, segmentsPlace};
 ghost use Rattle.tables.specs.View.{smallAt, segmentIn};
 ghost use Rattle.tables.specs.Runs.{Inside};
@@ -40,7 +42,7 @@ ghost use Rattle.checking.specs.Compared.{joinedFigures, firstOn, traces
 
 // Of the traces whose numbers are listed.
 fn listed_figures(samples: &[i16], n: usize, list: &[u16], first: usize, last: usize) -> SideRange
-    requires { ⌜ (n ≤ 256) × Inside n first last × (length (now list) ≤ 4096)
+    requires { ⌜ (n ≤ mostSamples) × Inside n first last × (length (now list) ≤ mostTraces)
         × ((t : ℕ) → In t (now list) → t * n + n ≤ length (now samples)) ⌝ }
     ensures { λ r. ⌜ segmentBy last r ≡ segmentOf (tracesAt (now (samples .entry)) n (now (list .entry))) (run first last) ⌝ }
 {
@@ -98,7 +100,7 @@ fn joined(a: SideRange, b: SideRange) -> SideRange
 
 // What a record has for segment i.
 pub fn recorded(record: &[i64], i: usize) -> SideRange
-    requires { ⌜ (length (now «record») ≡ recordPlaces) × (i < 16) ⌝ }
+    requires { ⌜ (length (now «record») ≡ recordPlaces) × (i < mostSegments) ⌝ }
     ensures { λ r. ⌜ segmentBy (segmentIn (now («record» .entry)) i .end) r ≡ segmentIn (now («record» .entry)) i ⌝ }
 {
     let at = HEAD + i * SEGMENT;
@@ -113,10 +115,10 @@ pub fn recorded(record: &[i64], i: usize) -> SideRange
 
 // The segment of a record that is the samples `first` to `last`; 16 if it has none.
 fn segment_on(record: &[i64], first: usize, last: usize) -> usize
-    requires { ⌜ (length (now «record») ≡ recordPlaces) × (smallAt (now «record») segmentsPlace ≤ 16) ⌝ }
-    ensures inside { λ r. ⌜ (r < 16 → r < smallAt (now («record» .entry)) segmentsPlace) ⌝ }
-    ensures first { λ r. ⌜ (r < 16 → firstOn (now («record» .entry)) r ≡ first) ⌝ }
-    ensures last { λ r. ⌜ (r < 16 → segmentIn (now («record» .entry)) r .end ≡ last) ⌝ }
+    requires { ⌜ (length (now «record») ≡ recordPlaces) × (smallAt (now «record») segmentsPlace ≤ mostSegments) ⌝ }
+    ensures inside { λ r. ⌜ (r < mostSegments → r < smallAt (now («record» .entry)) segmentsPlace) ⌝ }
+    ensures first { λ r. ⌜ (r < mostSegments → firstOn (now («record» .entry)) r ≡ first) ⌝ }
+    ensures last { λ r. ⌜ (r < mostSegments → segmentIn (now («record» .entry)) r .end ≡ last) ⌝ }
 {
     let count = small_at(record, SEGMENTS);
     let mut from: usize = 1;

@@ -10,12 +10,14 @@ ghost use mathlib.Core.Path.{_≡_};
 ghost use Prim.Native.Nat.{_+_, _≤_, _<_};
 ghost use lib.ListN.{length};
 ghost use Rattle.tables.specs.Walk.{Rising, numbersOf};
+ghost use Rattle.tables.specs.Layout.{nodePlaces};
+ghost use Rattle.dstree.specs.Measures.{mostTraces};
 ghost use Rattle.checking.specs.Laid.{treeBy, Walks, SizesLaid, PutFrom, LaidTo, LaidOut};
 
 // Writes the numbers of the list that starts at `head`, from a place on.
 fn put_list(links: &[u16], k: usize, head: usize, order: &mut [u16; 4096], at: usize)
-    requires { ⌜ (head < k) × (k ≤ 4096) × (k ≤ length (now links)) × Rising (now links) k × (length (now order) ≡ 4096)
-        × (at + length (numbersOf (now links) k head) ≤ 4096) ⌝ }
+    requires { ⌜ (head < k) × (k ≤ mostTraces) × (k ≤ length (now links)) × Rising (now links) k × (length (now order) ≡ mostTraces)
+        × (at + length (numbersOf (now links) k head) ≤ mostTraces) ⌝ }
     ensures { λ _. ⌜ PutFrom (now (order .entry)) (now (order .exit)) at (numbersOf (now (links .entry)) k head) ⌝ }
 {
     let mut place = at;
@@ -67,7 +69,7 @@ pub fn lay_out(
     order: &mut [u16; 4096],
 )
     requires { ⌜ Walks (now nodes) (now links) k m × SizesLaid (treeBy (now nodes) (now links) k m) (now sizes) 0
-        × (length (now starts) ≡ 8192) × (length (now order) ≡ 4096) ⌝ }
+        × (length (now starts) ≡ nodePlaces) × (length (now order) ≡ mostTraces) ⌝ }
     ensures { λ _. ⌜ LaidOut (treeBy (now (nodes .entry)) (now (links .entry)) k m) (now (sizes .entry)) (now (starts .exit))
         (now (order .exit)) ⌝ }
 {

@@ -10,12 +10,14 @@ ghost use mathlib.Core.Path.{_≡_};
 ghost use Prim.Native.Nat.{_+_, _≤_, _<_};
 ghost use lib.ListN.{length};
 ghost use Rattle.dstree.specs.Checking.{tracesBelow};
+ghost use Rattle.dstree.specs.Measures.{mostTraces};
 ghost use Rattle.tables.specs.Walk.{Rising, numbersOf};
+ghost use Rattle.tables.specs.Layout.{nodePlaces};
 ghost use Rattle.checking.specs.Laid.{treeBy, Walks, SizesLaid};
 
 // How many numbers the list has that starts at `head`.
 fn list_size(links: &[u16], k: usize, head: usize) -> usize
-    requires { ⌜ (head < k) × (k ≤ 4096) × (k ≤ length (now links)) × Rising (now links) k ⌝ }
+    requires { ⌜ (head < k) × (k ≤ mostTraces) × (k ≤ length (now links)) × Rising (now links) k ⌝ }
     ensures { λ r. ⌜ r ≡ length (numbersOf (now (links .entry)) k head) ⌝ }
 {
     let mut count: usize = 0;
@@ -50,7 +52,7 @@ fn node_size(
 
 // Of every node, the last one first.
 pub fn fill_sizes(nodes: &[i64], links: &[u16], k: usize, m: usize, sizes: &mut [u16; 8192])
-    requires { ⌜ Walks (now nodes) (now links) k m × (length (now sizes) ≡ 8192) ⌝ }
+    requires { ⌜ Walks (now nodes) (now links) k m × (length (now sizes) ≡ nodePlaces) ⌝ }
     ensures { λ _. ⌜ SizesLaid (treeBy (now (nodes .entry)) (now (links .entry)) k m) (now (sizes .exit)) 0 ⌝ }
 {
     let mut j = m;

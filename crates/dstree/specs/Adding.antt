@@ -11,7 +11,7 @@ use Rattle.integer.specs.Words.{if_then_else_, lesser, greater, leastℤ, great
 use Rattle.segment.specs.Terms.{spreadTerm}
 use Rattle.dstree.specs.Measures.{Trace, Measures}
 use Rattle.dstree.specs.Figures.{Run, run, width, sumOn, scatterOn}
-use Rattle.dstree.specs.Node.{Segment, Figure, bySum, byScatter, Test, Kind, leaf, inner, Node, node, Tree, nodeAt, changeAt, figureOf, goesLeft, ends, totalOver, changeAll}
+use Rattle.dstree.specs.Node.{Segment, Figure, bySum, byScatter, Test, Kind, leaf, inner, Node, node, Tree, nodeAt, changeAt, figureOf, goesLeft, ends, totalOver, changeAll, mostSegments}
 
 -- ---- the way down
 
@@ -106,7 +106,7 @@ leftHalfEnd r = r .first + width r / 2 - 1
 unfoldable pub halves : List ℕ → Run → List Candidate
 halves all r =
     let middle = leftHalfEnd r in
-    if ltb (length all) 16 && leb 2 (width r) then byEither (run (r .first) middle) (cutAt middle all) ++ byEither (run (suc middle) (r .last)) (cutAt middle all) else []
+    if ltb (length all) mostSegments && leb 2 (width r) then byEither (run (r .first) middle) (cutAt middle all) ++ byEither (run (suc middle) (r .last)) (cutAt middle all) else []
 
 -- "for each segment, left to right, in this order": the whole segment, then its halves
 unfoldable pub candidatesFrom : List ℕ → ℕ → List ℕ → List Candidate

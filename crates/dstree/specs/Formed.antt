@@ -13,7 +13,7 @@ use Rattle.integer.specs.Lists.{In, Up}
 use Rattle.segment.specs.Limits.{sumLimit, scatterLimit, rootLimit}
 use Rattle.dstree.specs.Measures.{Measures, inRange}
 use Rattle.dstree.specs.Figures.{Run, run, width}
-use Rattle.dstree.specs.Node.{Segment, Figure, bySum, byScatter, Test, leaf, inner, Tree, nodeAt, ends}
+use Rattle.dstree.specs.Node.{Segment, Figure, bySum, byScatter, Test, leaf, inner, Tree, nodeAt, ends, mostSegments}
 use Rattle.dstree.specs.Matching.{hasChild, numbersIn}
 
 -- ---- right ends
@@ -31,7 +31,7 @@ pub data Rises (n : ℕ) : ℕ → List ℕ → Type 0 where
 -- "1 to 16 segments by their right ends", "rising, last n"
 pub record Fits (n : ℕ) (es : List ℕ) : Type 0 where
   pub parted : Parted n 1 es
-  pub few : length es ≤ 16
+  pub few : length es ≤ mostSegments
 
 -- "a run inside 1 to n", of one sample or more
 pub record RunIn (n : ℕ) (r : Run) : Type 0 where

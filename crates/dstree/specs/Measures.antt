@@ -40,6 +40,10 @@ mostTraces = 4096
 abbrev pub mostLeaf : ℕ
 mostLeaf = 64
 
+-- "2c − 1 node records", of the greatest capacity
+abbrev pub mostNodes : ℕ
+mostNodes = 2 * mostTraces - 1
+
 -- "n from 1 to 256. Capacity is 1 to 4,096 traces, leaf size 1 to 64"
 unfoldable pub inRange : Measures → Bool
 inRange m = within 1 (m .n) mostSamples && within 1 (m .capacity) mostTraces && within 1 (m .leafSize) mostLeaf

@@ -10,7 +10,7 @@ use Rattle.integer.specs.Words.{every, counting, isEmpty, isIn, timesIn, lastOf
 use Rattle.segment.specs.Limits.{sumLimit, scatterLimit, rootLimit}
 use Rattle.dstree.specs.Measures.{Measures, inRange}
 use Rattle.dstree.specs.Figures.{run, width}
-use Rattle.dstree.specs.Node.{Segment, Figure, bySum, byScatter, Kind, leaf, inner, Node, Tree, nodeAt, ends}
+use Rattle.dstree.specs.Node.{Segment, Figure, bySum, byScatter, Kind, leaf, inner, Node, Tree, nodeAt, ends, mostSegments}
 use Rattle.dstree.specs.Matching.{numbersIn}
 
 -- every number is above the one before it
@@ -42,7 +42,7 @@ childOnce tree = every (λ number. eqb (timesIn number (flatten (map (λ (a : No
 
 -- "at most 16 ends, rising, last n". The first is at least 1, as samples are numbered from 1
 unfoldable pub endsFit : ℕ → List ℕ → Bool
-endsFit n all = not (isEmpty all) && leb (length all) 16 && rising (0 ∷ all) && eqb (lastOf all) n
+endsFit n all = not (isEmpty all) && leb (length all) mostSegments && rising (0 ∷ all) && eqb (lastOf all) n
 
 -- "a child's ends including its parent's"
 unfoldable pub endsKept : Tree → Node → Bool

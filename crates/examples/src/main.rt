@@ -16,6 +16,7 @@ use sheet::fields::put_bytes;
 ghost use mathlib.Core.Path.{_≡_};
 ghost use Prim.Native.Nat.{_<_, _≤_};
 ghost use lib.ListN.{length};
+ghost use Rattle.dstree.specs.Measures.{mostSamples};
 
 // ---- openings: "n 256, capacity 4,096, leaf size 64 open; 257, 4,097, 65 and 0 do not"
 
@@ -287,7 +288,7 @@ fn run_walks() {
 
 // How far x is from y, in a line that begins with words and the limit.
 fn distance_of(words: &[u8], x: &[i16], y: &[i16], limit: u64)
-    requires { ⌜ (length (now x) ≡ length (now y)) × (length (now x) ≤ 256) ⌝ }
+    requires { ⌜ (length (now x) ≡ length (now y)) × (length (now x) ≤ mostSamples) ⌝ }
 {
     item(words, limit);
     io::write_all(1, b": ");

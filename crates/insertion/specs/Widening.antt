@@ -6,7 +6,7 @@ use lib.IntN.{ℤ}
 use lib.ListN.{length, take, drop, set}
 use Rattle.integer.specs.Words.{lesser, greater}
 use Rattle.segment.specs.Limits.{scatterRoom}
-use Rattle.dstree.specs.Node.{Segment}
+use Rattle.dstree.specs.Node.{Segment, mostSegments}
 use Rattle.tables.specs.Layout.{segmentsPlace, segmentPlaces, segmentAt, recordPlaces}
 use Rattle.tables.specs.View.{valueAt, smallAt, segmentIn}
 use Rattle.tables.specs.Runs.{Inside}
@@ -37,5 +37,5 @@ pub record SegmentReadable (r : List ℤ) (i first n : ℕ) : Type 0 where
 -- a record of at most 16 such segments, each behind the one before it
 pub record Readable (r : List ℤ) (n : ℕ) : Type 0 where
   pub size : length r ≡ recordPlaces
-  pub few : smallAt r segmentsPlace ≤ 16
+  pub few : smallAt r segmentsPlace ≤ mostSegments
   pub segment : (i : ℕ) → i < smallAt r segmentsPlace → SegmentReadable r i (startIn r i) n

@@ -22,6 +22,8 @@ ghost use Prim.Native.Nat.{_+_, _*_, _≤_, _<_};
 ghost use lib.ListN.{length, drop, set};
 ghost use Rattle.segment.specs.Limits.{scatterRoom};
 ghost use Rattle.dstree.specs.Adding.{segmentsOf};
+ghost use Rattle.dstree.specs.Measures.{mostNodes, mostSamples};
+ghost use Rattle.dstree.specs.Node.{mostSegments};
 ghost use Rattle.tables.specs.Layout.{headPlaces, recordPlaces};
 ghost use Rattle.tables.specs.Tables.{withRecord};
 ghost use Rattle.tables.specs.View.{smallMost};
@@ -66,7 +68,7 @@ pub fn become_inner(
     last: usize,
     threshold: i64,
 )
-    requires { ⌜ (j * recordPlaces + recordPlaces ≤ length (now nodes)) × (j ≤ 8191) × (left ≤ smallMost) × (right ≤ smallMost) × (first ≤ smallMost) × (last ≤ smallMost) ⌝ }
+    requires { ⌜ (j * recordPlaces + recordPlaces ≤ length (now nodes)) × (j ≤ mostNodes) × (left ≤ smallMost) × (right ≤ smallMost) × (first ≤ smallMost) × (last ≤ smallMost) ⌝ }
     ensures { λ _. ⌜ now (nodes .exit) ≡ onRecord (innerRecord (testBy first last «by_scatter» threshold) left right) (now (nodes .entry)) j ⌝ }
 {
     let a = record_start(j);
@@ -90,7 +92,7 @@ pub fn write_segment(
     least_scatter: u64,
     greatest_scatter: u64,
 )
-    requires { ⌜ (length (now «record») ≡ recordPlaces) × (i < 16) × (end ≤ smallMost) × («least_scatter» ≤ scatterRoom) × («greatest_scatter» ≤ scatterRoom) ⌝ }
+    requires { ⌜ (length (now «record») ≡ recordPlaces) × (i < mostSegments) × (end ≤ smallMost) × («least_scatter» ≤ scatterRoom) × («greatest_scatter» ≤ scatterRoom) ⌝ }
     ensures { λ _. ⌜ now («record» .exit) ≡ withSegment (now («record» .entry)) i (segmentOfParts end «least_sum» «greatest_sum» «least_scatter» «greatest_scatter») ⌝ }
 {
     let at = HEAD + i * SEGMENT;
@@ -103,7 +105,7 @@ pub fn write_segment(
 
 // The record of a leaf with the first trace alone, and one segment. Least and greatest are that trace's own figures.
 fn first_record(record: &mut [i64], trace: &[i16])
-    requires { ⌜ (length (now «record») ≡ recordPlaces) × (length (now trace) ≤ 256) ⌝ }
+    requires { ⌜ (length (now «record») ≡ recordPlaces) × (length (now trace) ≤ mostSamples) ⌝ }
     ensures { λ _. ⌜ now («record» .exit) ≡ leafRecord (segmentsOf (length (now (trace .entry)) ∷ []) (now (trace .entry) ∷ [])) 0 ⌝ }
 {
     tables::loops::zero_nodes(record, RECORD_PLACES);
@@ -115,7 +117,7 @@ fn first_record(record: &mut [i64], trace: &[i16])
 
 // The first trace makes leaf 0 with one segment, and its list is trace 0 alone.
 pub fn first_leaf(nodes: &mut [i64], links: &mut [u16], trace: &[i16])
-    requires { ⌜ (recordPlaces ≤ length (now nodes)) × (1 ≤ length (now links)) × (length (now trace) ≤ 256) ⌝ }
+    requires { ⌜ (recordPlaces ≤ length (now nodes)) × (1 ≤ length (now links)) × (length (now trace) ≤ mostSamples) ⌝ }
     ensures { λ _. ⌜ now (nodes .exit) ≡ withRecord (now (nodes .entry)) 0 (leafRecord (segmentsOf (length (now (trace .entry)) ∷ []) (now (trace .entry) ∷ [])) 0) ⌝ }
     ensures linked { λ _. ⌜ now (links .exit) ≡ set (now (links .entry)) 0 0 ⌝ }
 {

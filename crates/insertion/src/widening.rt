@@ -13,6 +13,7 @@ ghost use Prim.Native.Nat.{_+_, _<_};
 ghost use lib.ListN.{length};
 ghost use Rattle.dstree.specs.Figures.{run};
 ghost use Rattle.dstree.specs.Adding.{widenSegment};
+ghost use Rattle.dstree.specs.Node.{mostSegments};
 ghost use Rattle.tables.specs.Layout.{recordPlaces};
 ghost use Rattle.tables.specs.View.{segmentIn};
 ghost use Rattle.prefixes.specs.Prefixes.{Prefixes};
@@ -38,7 +39,7 @@ pub fn widen_segment(
     squares: &[u64; 257],
 )
     requires { ⌜ Prefixes (now trace) (now sums) (now squares) ⌝ }
-    requires readable { ⌜ (length (now «record») ≡ recordPlaces) × (i < 16)
+    requires readable { ⌜ (length (now «record») ≡ recordPlaces) × (i < mostSegments)
         × SegmentReadable (now «record») i first (length (now trace)) ⌝ }
     ensures { λ _. ⌜ now («record» .exit)
         ≡ withSegment (now («record» .entry)) i (widenSegment (now (trace .entry)) (run first (endIn (now («record» .entry)) i)) (segmentIn (now («record» .entry)) i)) ⌝ }

@@ -5,6 +5,7 @@ use mathlib.Core.List.{List, [], _∷_}
 use lib.ListN.{length, take}
 use lib.Dec.{ltb}
 use Rattle.integer.specs.Words.{if_then_else_}
+use Rattle.dstree.specs.Node.{mostSegments}
 use Rattle.leaf_figures.specs.declared.ends.Ends.{Ends}
 
 -- the right ends
@@ -13,8 +14,8 @@ endsOf e = take (e .count) (e .at)
 
 -- an array of 16 places, and no more ends than places
 pub record EndsRoom (e : Ends) : Type 0 where
-  pub places : length (e .at) ≡ 16
-  pub few : e .count ≤ 16
+  pub places : length (e .at) ≡ mostSegments
+  pub few : e .count ≤ mostSegments
 
 -- where a new right end goes: behind those that are not above it
 unfoldable pub placeIn : ℕ → List ℕ → ℕ

@@ -7,7 +7,7 @@ use lib.ListN.{getD}
 use lib.Dec.{eqb}
 use Rattle.integer.specs.Words.{if_then_else_, lesser, greater, those}
 use Rattle.segment.specs.Limits.{sumMost, scatterMost}
-use Rattle.dstree.specs.Measures.{Trace}
+use Rattle.dstree.specs.Measures.{Trace, mostSamples}
 use Rattle.dstree.specs.Node.{Segment}
 use Rattle.dstree.specs.Adding.{tracesOf}
 use Rattle.tables.specs.Walk.{storedIn, numbersOf}
@@ -43,10 +43,10 @@ withFigures f s v =
 
 -- figures of at most 256 samples of 16 bits
 pub record SmallFigures (f : SideRange) : Type 0 where
-  pub least-sum : natAbs (f .«least_sum») ≤ sumMost 256
-  pub greatest-sum : natAbs (f .«greatest_sum») ≤ sumMost 256
-  pub least-scatter : f .«least_scatter» ≤ scatterMost 256
-  pub greatest-scatter : f .«greatest_scatter» ≤ scatterMost 256
+  pub least-sum : natAbs (f .«least_sum») ≤ sumMost mostSamples
+  pub greatest-sum : natAbs (f .«greatest_sum») ≤ sumMost mostSamples
+  pub least-scatter : f .«least_scatter» ≤ scatterMost mostSamples
+  pub greatest-scatter : f .«greatest_scatter» ≤ scatterMost mostSamples
 
 -- the figures as a segment of a node's record
 abbrev pub segmentBy : ℕ → SideRange → Segment

@@ -7,7 +7,7 @@ use tables::records::small_at;
 ghost use mathlib.Core.Path.{_≡_};
 ghost use Prim.Native.Nat.{_<_, _≤_};
 ghost use lib.ListN.{length};
-ghost use Rattle.dstree.specs.Node.{ends};
+ghost use Rattle.dstree.specs.Node.{ends, mostSegments};
 ghost use Rattle.dstree.specs.Adding.{cutAt};
 ghost use Rattle.tables.specs.Layout.{recordPlaces, segmentsPlace};
 ghost use Rattle.tables.specs.View.{smallAt, segmentsIn};
@@ -21,7 +21,7 @@ pub struct Ends {
 
 // The right ends of a node's record.
 pub fn ends_of(record: &[i64]) -> Ends
-    requires { ⌜ (length (now «record») ≡ recordPlaces) × (smallAt (now «record») segmentsPlace ≤ 16) ⌝ }
+    requires { ⌜ (length (now «record») ≡ recordPlaces) × (smallAt (now «record») segmentsPlace ≤ mostSegments) ⌝ }
     ensures { λ r. ⌜ endsOf r ≡ ends (segmentsIn (now («record» .entry))) ⌝ }
     ensures room { λ r. ⌜ EndsRoom r ⌝ }
 {
@@ -55,7 +55,7 @@ fn place_of(e: Ends, middle: usize) -> usize
 
 // The ends with one more, in its place: those above it move up by one.
 pub fn with_cut(e: Ends, middle: usize) -> Ends
-    requires { ⌜ EndsRoom e × (e .count < 16) ⌝ }
+    requires { ⌜ EndsRoom e × (e .count < mostSegments) ⌝ }
     ensures { λ r. ⌜ endsOf r ≡ cutAt middle (endsOf e) ⌝ }
     ensures room { λ r. ⌜ EndsRoom r ⌝ }
 {

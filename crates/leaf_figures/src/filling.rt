@@ -10,8 +10,9 @@ ghost use lib.IntN.{pos};
 ghost use lib.ListN.{length, getD};
 ghost use Rattle.tables.specs.Runs.{Inside};
 ghost use Rattle.dstree.specs.Formed.{Rises};
+ghost use Rattle.dstree.specs.Node.{mostSegments};
 ghost use Rattle.leaf_figures.specs.Ends.{endsOf, EndsRoom};
-ghost use Rattle.leaf_figures.specs.Rows.{TracesListed, Column, Columns};
+ghost use Rattle.leaf_figures.specs.Rows.{TracesListed, Column, Columns, columnRows, figurePlaces, mostRuns};
 
 // Column f becomes the figures of the list's traces on a run. Other columns stay.
 fn fill_column(
@@ -25,10 +26,15 @@ fn fill_column(
     sums: &mut [i64; 3120],
     scatters: &mut [u64; 3120],
 )
-    requires { ⌜ TracesListed (now samples) n (now list) count × Inside n first last × (count ≤ 65) × (f < 48) × (length (now sums) ≡ 3120) × (length (now scatters) ≡ 3120) ⌝ }
+    requires { ⌜ TracesListed (now samples) n (now list) count × Inside n first last × (count ≤ columnRows) × (f < mostRuns)
+        × (length (now sums) ≡ figurePlaces) × (length (now scatters) ≡ figurePlaces) ⌝ }
     ensures { λ _. ⌜ Column (now (samples .entry)) n (now (list .entry)) f first last (now (sums .exit)) (now (scatters .exit)) count ⌝ }
-    ensures sums { λ _. ⌜ (length (now (sums .exit)) ≡ 3120) × ((i : ℕ) → (i < f * 65) ⊎ (f * 65 + 65 ≤ i) → getD (now (sums .exit)) i (pos 0) ≡ getD (now (sums .entry)) i (pos 0)) ⌝ }
-    ensures scatters { λ _. ⌜ (length (now (scatters .exit)) ≡ 3120) × ((i : ℕ) → (i < f * 65) ⊎ (f * 65 + 65 ≤ i) → getD (now (scatters .exit)) i 0 ≡ getD (now (scatters .entry)) i 0) ⌝ }
+    ensures sums { λ _. ⌜ (length (now (sums .exit)) ≡ figurePlaces)
+        × ((i : ℕ) → (i < f * columnRows) ⊎ (f * columnRows + columnRows ≤ i)
+        → getD (now (sums .exit)) i (pos 0) ≡ getD (now (sums .entry)) i (pos 0)) ⌝ }
+    ensures scatters { λ _. ⌜ (length (now (scatters .exit)) ≡ figurePlaces)
+        × ((i : ℕ) → (i < f * columnRows) ⊎ (f * columnRows + columnRows ≤ i)
+        → getD (now (scatters .exit)) i 0 ≡ getD (now (scatters .entry)) i 0) ⌝ }
 {
     let mut p: usize = 0;
     while p < count {
@@ -56,7 +62,7 @@ fn fill_run(
     sums: &mut [i64; 3120],
     scatters: &mut [u64; 3120],
 )
-    requires { ⌜ TracesListed (now samples) n (now list) count × Inside n first last × (count ≤ 65) × (f < 48)
+    requires { ⌜ TracesListed (now samples) n (now list) count × Inside n first last × (count ≤ columnRows) × (f < mostRuns)
         × Columns (now samples) n (now list) count (now runs) (now sums) (now scatters) ⌝ }
     ensures { λ _. ⌜ Columns (now (samples .entry)) n (now (list .entry)) count (now (runs .exit)) (now (sums .exit)) (now (scatters .exit)) ⌝ }
 {
@@ -79,7 +85,7 @@ fn fill_segment(
     sums: &mut [i64; 3120],
     scatters: &mut [u64; 3120],
 )
-    requires { ⌜ TracesListed (now samples) n (now list) count × Inside n first last × (count ≤ 65) × (j < 16)
+    requires { ⌜ TracesListed (now samples) n (now list) count × Inside n first last × (count ≤ columnRows) × (j < mostSegments)
         × Columns (now samples) n (now list) count (now runs) (now sums) (now scatters) ⌝ }
     ensures { λ _. ⌜ Columns (now (samples .entry)) n (now (list .entry)) count (now (runs .exit)) (now (sums .exit)) (now (scatters .exit)) ⌝ }
 {

@@ -11,10 +11,10 @@ ghost use Rattle.leaf_figures.specs.Rows.{PlacesInList};
 
 // The numbers of the list that starts at `head`, in its order. The answer is how many there are; places behind them are not looked at.
 pub fn list_leaf(links: &[u16], k: usize, head: usize, list: &mut [u16; 4096]) -> usize
-    requires { ⌜ (head < k) × (k ≤ mostTraces) × (k ≤ length (now links)) × Rising (now links) k × (length (now list) ≡ 4096) ⌝ }
+    requires { ⌜ (head < k) × (k ≤ mostTraces) × (k ≤ length (now links)) × Rising (now links) k × (length (now list) ≡ mostTraces) ⌝ }
     ensures { λ r. ⌜ take r (now (list .exit)) ≡ numbersOf (now (links .entry)) k head ⌝ }
     ensures few { λ r. ⌜ r ≤ mostTraces ⌝ }
-    ensures size { λ _. ⌜ length (now (list .exit)) ≡ 4096 ⌝ }
+    ensures size { λ _. ⌜ length (now (list .exit)) ≡ mostTraces ⌝ }
 {
     let mut count: usize = 0;
     let mut t = head;
@@ -28,7 +28,7 @@ pub fn list_leaf(links: &[u16], k: usize, head: usize, list: &mut [u16; 4096]) -
 
 // Where each number stands in the list.
 pub fn place_list(list: &[u16; 4096], count: usize, place: &mut [u16; 4096])
-    requires { ⌜ (length (now list) ≡ 4096) × (count ≤ mostTraces) × (length (now place) ≡ 4096) × ((t : ℕ) → In t (take count (now list)) → t < 4096) ⌝ }
+    requires { ⌜ (length (now list) ≡ mostTraces) × (count ≤ mostTraces) × (length (now place) ≡ mostTraces) × ((t : ℕ) → In t (take count (now list)) → t < mostTraces) ⌝ }
     ensures { λ _. ⌜ PlacesInList (now (list .entry)) count (now (place .exit)) ⌝ }
 {
     let mut i: usize = 0;

@@ -10,15 +10,16 @@ ghost use lib.IntN.{natAbs};
 ghost use lib.ListN.{length, getD};
 ghost use Rattle.segment.specs.Limits.{sumMost, scatterMost};
 ghost use Rattle.dstree.specs.Figures.{run, sumOn, scatterOn};
+ghost use Rattle.dstree.specs.Measures.{mostSamples};
 ghost use Rattle.tables.specs.View.{traceIn};
 ghost use Rattle.tables.specs.Runs.{RunOfTrace};
-ghost use Rattle.leaf_figures.specs.Rows.{FiguresAt};
+ghost use Rattle.leaf_figures.specs.Rows.{FiguresAt, columnRows, mostRuns, runPlaces};
 
 // The column of a run, if it is the one that the caller thinks of; 48 for none. So a wrong guess costs time and nothing else.
 pub fn column_of(runs: &[usize; 96], guess: usize, first: usize, last: usize) -> usize
-    requires { ⌜ length (now runs) ≡ 96 ⌝ }
-    ensures first { λ r. ⌜ (r < 48 → getD (now (runs .entry)) r 0 ≡ first) ⌝ }
-    ensures last { λ r. ⌜ (r < 48 → getD (now (runs .entry)) (48 + r) 0 ≡ last) ⌝ }
+    requires { ⌜ length (now runs) ≡ runPlaces ⌝ }
+    ensures first { λ r. ⌜ (r < mostRuns → getD (now (runs .entry)) r 0 ≡ first) ⌝ }
+    ensures last { λ r. ⌜ (r < mostRuns → getD (now (runs .entry)) (mostRuns + r) 0 ≡ last) ⌝ }
 {
     if 48 <= guess {
         return 48;
@@ -44,10 +45,11 @@ pub fn figures_at(
     first: usize,
     last: usize,
 ) -> Figures
-    requires { ⌜ RunOfTrace (now samples) n t first last × (column < 48 → t < length (now place))
-        × (column < 48 → FiguresAt (traceIn (now samples) n t) first last (now sums) (now scatters) (column * 65 + getD (now place) t 0)) ⌝ }
-    ensures sum { λ r. ⌜ (r .sum ≡ sumOn (run first last) (traceIn (now (samples .entry)) n t)) × (natAbs (r .sum) ≤ sumMost 256) ⌝ }
-    ensures scatter { λ r. ⌜ (r .scatter ≡ scatterOn (run first last) (traceIn (now (samples .entry)) n t)) × (r .scatter ≤ scatterMost 256) ⌝ }
+    requires { ⌜ RunOfTrace (now samples) n t first last × (column < mostRuns → t < length (now place))
+        × (column < mostRuns → FiguresAt (traceIn (now samples) n t) first last (now sums) (now scatters) (column * columnRows + getD (now place) t 0)) ⌝ }
+    ensures sum { λ r. ⌜ (r .sum ≡ sumOn (run first last) (traceIn (now (samples .entry)) n t))
+        × (natAbs (r .sum) ≤ sumMost mostSamples) ⌝ }
+    ensures scatter { λ r. ⌜ (r .scatter ≡ scatterOn (run first last) (traceIn (now (samples .entry)) n t)) × (r .scatter ≤ scatterMost mostSamples) ⌝ }
 {
     if column < 48 {
         let at = column * 65 + wide(place[t]);

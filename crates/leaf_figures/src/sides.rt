@@ -12,6 +12,7 @@ ghost use lib.ListN.{length};
 ghost use Rattle.integer.specs.Words.{if_then_else_};
 ghost use Rattle.dstree.specs.Figures.{run, sumOn, scatterOn};
 ghost use Rattle.dstree.specs.Adding.{segmentOf};
+ghost use Rattle.dstree.specs.Measures.{mostTraces};
 ghost use Rattle.tables.specs.View.{traceIn};
 ghost use Rattle.tables.specs.Walk.{Stored};
 ghost use Rattle.tables.specs.Runs.{RunOfTrace, Inside};
@@ -84,7 +85,7 @@ pub fn side_figures(
     first: usize,
     last: usize,
 ) -> SideRange
-    requires { ⌜ Stored (now samples) (now links) n k head × Inside n first last × (length (now marks) ≡ 4096) ⌝ }
+    requires { ⌜ Stored (now samples) (now links) n k head × Inside n first last × (length (now marks) ≡ mostTraces) ⌝ }
     ensures { λ r. ⌜ segmentBy last r ≡ segmentOf (sideTraces (now (samples .entry)) (now (links .entry)) n k head (now (marks .entry)) mark) (run first last) ⌝ }
     ensures small { λ r. ⌜ SmallFigures r ⌝ }
 {

@@ -6,6 +6,7 @@ ghost use Rattle.segment.specs.Limits.{termMost, spreadMost};
 ghost use Rattle.dstree.specs.Figures.{run};
 ghost use Rattle.dstree.specs.Adding.{segmentOf, spreadOn, spread};
 ghost use Rattle.dstree.specs.Formed.{Rises};
+ghost use Rattle.dstree.specs.Node.{mostSegments};
 ghost use Rattle.tables.specs.Runs.{Inside};
 ghost use Rattle.leaf_figures.specs.Ends.{endsOf, EndsRoom};
 ghost use Rattle.leaf_figures.specs.Rows.{tracesAt, TracesListed, Rows};
@@ -48,7 +49,7 @@ fn segment_spread(
 
 // The column that segment i may have, among those of segments of which the one at `halved` is cut into its halves; none is from 16 on.
 fn guess_at(i: usize, halved: usize) -> usize
-    requires { ⌜ i < 16 ⌝ }
+    requires { ⌜ i < mostSegments ⌝ }
 {
     if i < halved {
         return i;

@@ -12,7 +12,7 @@ ghost use lib.IntN.{ℤ};
 ghost use lib.ListN.{length};
 ghost use Rattle.dstree.specs.KNearest.{isK};
 ghost use Rattle.dstree.specs.Refusals.{firstOf};
-ghost use Rattle.tables.specs.Layout.{nodeCountPlace, recordPlaces};
+ghost use Rattle.tables.specs.Layout.{nodeCountPlace, recordPlaces, nodePlaces};
 ghost use Rattle.tables.specs.Tables as t;
 ghost use Rattle.tables.specs.Tables.{tables};
 ghost use Rattle.tables.specs.Answers.{foundBy};
@@ -38,7 +38,7 @@ fn judge_own(
     k: u64,
 ) -> Verdict
     requires { ⌜ (t.field (now control) nodeCountPlace * recordPlaces ≤ length (now nodes))
-        × (t.field (now control) nodeCountPlace ≤ 8192) ⌝ }
+        × (t.field (now control) nodeCountPlace ≤ nodePlaces) ⌝ }
     ensures { λ r. ⌜ ((samples : List ℤ) (links work : List ℕ) → foundBy r ≡ firstOf (listConditionsIn
         (tables (now (control .entry)) samples (now (nodes .entry)) links work) k
         (now (query .entry)) (now (trail .entry)) (now (list .entry)))) ⌝ }

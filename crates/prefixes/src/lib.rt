@@ -6,10 +6,10 @@ ghost use lib.IntN.{natAbs, _+ℤ_};
 ghost use lib.ListN.{length};
 ghost use Rattle.integer.specs.Words.{square};
 ghost use Rattle.segment.specs.Limits.{sumLimit, scatterLimit, totalRoom};
-ghost use Rattle.dstree.specs.Measures.{sampleLimit};
+ghost use Rattle.dstree.specs.Measures.{sampleLimit, mostSamples};
 ghost use Rattle.dstree.specs.Figures.{run, width, sumOn, scatterOn};
 ghost use Rattle.tables.specs.Runs.{Inside};
-ghost use Rattle.prefixes.specs.Prefixes.{Prefixes};
+ghost use Rattle.prefixes.specs.Prefixes.{Prefixes, prefixPlaces};
 
 // A sum and one sample more.
 fn with_sample(sum: i64, x: i16) -> i64
@@ -29,7 +29,7 @@ fn with_square(squares: u64, x: i16) -> u64
 
 // The sum and the sum of squares of the first i samples, at place i, from none of them to all. Sums that start at 1 do not meet this.
 pub fn prefix_sums(trace: &[i16], sums: &mut [i64; 257], squares: &mut [u64; 257])
-    requires { ⌜ (length (now trace) ≤ 256) × (length (now sums) ≡ 257) × (length (now squares) ≡ 257) ⌝ }
+    requires { ⌜ (length (now trace) ≤ mostSamples) × (length (now sums) ≡ prefixPlaces) × (length (now squares) ≡ prefixPlaces) ⌝ }
     ensures { λ _. ⌜ Prefixes (now (trace .entry)) (now (sums .exit)) (now (squares .exit)) ⌝ }
 {
     sums[0] = 0;

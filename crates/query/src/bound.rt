@@ -12,10 +12,11 @@ use tables::records::value_at;
 ghost use mathlib.Core.Path.{_≡_};
 ghost use Prim.Native.Nat.{_≤_, _<_};
 ghost use lib.ListN.{length};
-ghost use Rattle.dstree.specs.Measures.{sampleLimit};
+ghost use Rattle.dstree.specs.Measures.{sampleLimit, mostSamples};
 ghost use Rattle.dstree.specs.Figures.{run, width};
 ghost use Rattle.dstree.specs.Formed.{Limited};
 ghost use Rattle.dstree.specs.Matching.{boundOn};
+ghost use Rattle.dstree.specs.Node.{mostSegments};
 ghost use Rattle.tables.specs.Layout.{recordPlaces};
 ghost use Rattle.tables.specs.View.{segmentIn};
 ghost use Rattle.tables.specs.Runs.{Inside};
@@ -33,7 +34,7 @@ fn segment_term(
     last: usize,
 ) -> u64
     requires { ⌜ Prefixes (now query) (now sums) (now squares) × Inside (length (now query)) first last × (length (now «record») ≡ recordPlaces)
-        × (i < 16) × Limited sampleLimit (width (run first last)) (segmentIn (now «record») i) ⌝ }
+        × (i < mostSegments) × Limited sampleLimit (width (run first last)) (segmentIn (now «record») i) ⌝ }
     ensures { λ r. ⌜ r ≡ boundOn (now (query .entry)) (run first last) (segmentIn (now («record» .entry)) i) ⌝ }
     ensures size { λ r. ⌜ r ≤ boundLimit sampleLimit (width (run first last)) ⌝ }
 {
@@ -59,7 +60,7 @@ fn segment_term(
 pub fn own_bound(record: &[i64], query: &[i16], sums: &[i64; 257], squares: &[u64; 257]) -> u64
     requires { ⌜ Prefixes (now query) (now sums) (now squares) × Bounded (now «record») (length (now query)) ⌝ }
     ensures { λ r. ⌜ r ≡ boundBy (now (query .entry)) (now («record» .entry)) ⌝ }
-    ensures size { λ r. ⌜ r ≤ boundLimit sampleLimit 256 ⌝ }
+    ensures size { λ r. ⌜ r ≤ boundLimit sampleLimit mostSamples ⌝ }
 {
     let count = small_at(record, SEGMENTS);
     let mut total: u64 = 0;

@@ -15,7 +15,7 @@ ghost use Prim.Native.Nat.{ℕ, _*_, _≤_};
 ghost use lib.IntN.{ℤ};
 ghost use lib.ListN.{length};
 ghost use Rattle.dstree.specs.Refusals.{firstOf};
-ghost use Rattle.tables.specs.Layout.{nodeCountPlace, recordPlaces};
+ghost use Rattle.tables.specs.Layout.{nodeCountPlace, recordPlaces, nodePlaces};
 ghost use Rattle.tables.specs.Tables as t;
 ghost use Rattle.tables.specs.Tables.{tables};
 ghost use Rattle.tables.specs.Answers.{foundBy};
@@ -25,7 +25,7 @@ ghost use Rattle.calls.specs.Effects.{queryConditionsIn};
 // bear on these.
 pub fn judge_query(control: &[u16], nodes: &[i64], query: &[i16], trail: &[u16]) -> Verdict
     requires { ⌜ (t.field (now control) nodeCountPlace * recordPlaces ≤ length (now nodes))
-        × (t.field (now control) nodeCountPlace ≤ 8192) ⌝ }
+        × (t.field (now control) nodeCountPlace ≤ nodePlaces) ⌝ }
     ensures { λ r. ⌜ ((samples : List ℤ) (links work : List ℕ) → foundBy r ≡ firstOf (queryConditionsIn
         (tables (now (control .entry)) samples (now (nodes .entry)) links work) (now (query .entry)) (now (trail .entry)))) ⌝ }
 {

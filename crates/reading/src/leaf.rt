@@ -9,6 +9,7 @@ ghost use lib.ListN.{length};
 ghost use Rattle.segment.specs.Figures as figure;
 ghost use Rattle.segment.specs.Within.{distanceWithin};
 ghost use Rattle.dstree.specs.KNearest.{listWith};
+ghost use Rattle.dstree.specs.Measures.{mostSamples};
 ghost use Rattle.tables.specs.View.{traceIn};
 ghost use Rattle.tables.specs.Walk.{numbersOf, Stored};
 ghost use Rattle.reading.specs.Nearest.{nearOf};
@@ -16,7 +17,7 @@ ghost use Rattle.reading.specs.Listed.{nearsIn, ListRoom, ListBegins};
 
 // The distance of stored trace t to the query.
 pub fn trace_distance(samples: &[i16], n: usize, t: usize, query: &[i16]) -> u64
-    requires { ⌜ (n ≤ 256) × (t * n + n ≤ length (now samples)) × (length (now query) ≡ n) ⌝ }
+    requires { ⌜ (n ≤ mostSamples) × (t * n + n ≤ length (now samples)) × (length (now query) ≡ n) ⌝ }
     ensures { λ r. ⌜ r ≡ figure.distance (now (query .entry)) (traceIn (now (samples .entry)) n t) ⌝ }
 {
     segment::figures::distance(query, tables::runs::trace_at(samples, n, t))
@@ -24,7 +25,7 @@ pub fn trace_distance(samples: &[i16], n: usize, t: usize, query: &[i16]) -> u64
 
 // The same with a limit.
 fn trace_within(samples: &[i16], n: usize, t: usize, query: &[i16], limit: u64) -> Distance
-    requires { ⌜ (n ≤ 256) × (t * n + n ≤ length (now samples)) × (length (now query) ≡ n) ⌝ }
+    requires { ⌜ (n ≤ mostSamples) × (t * n + n ≤ length (now samples)) × (length (now query) ≡ n) ⌝ }
     ensures { λ r. ⌜ r ≡ distanceWithin limit (now (query .entry)) (traceIn (now (samples .entry)) n t) ⌝ }
 {
     segment::within::distance_within(query, tables::runs::trace_at(samples, n, t), limit)
@@ -42,7 +43,7 @@ fn take_trace(
     t: usize,
     query: &[i16],
 ) -> usize
-    requires { ⌜ (n ≤ 256) × (t * n + n ≤ length (now samples)) × (length (now query) ≡ n) × ListRoom k listed (now list) ⌝ }
+    requires { ⌜ (n ≤ mostSamples) × (t * n + n ≤ length (now samples)) × (length (now query) ≡ n) × ListRoom k listed (now list) ⌝ }
     ensures { λ r. ⌜ ListBegins k r
         (listWith k (nearsIn listed (now (list .entry))) (nearOf (now (samples .entry)) n (now (query .entry)) t))
         (now (list .entry)) (now (list .exit)) ⌝ }

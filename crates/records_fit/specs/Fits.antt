@@ -8,9 +8,9 @@ use lib.ListN.{length}
 use lib.Dec.{leb, ltb, eqb}
 use Rattle.integer.specs.Words.{if_then_else_, every, counting, isIn}
 use Rattle.integer.specs.Lists.{Up}
-use Rattle.dstree.specs.Measures.{sampleLimit, mostSamples}
+use Rattle.dstree.specs.Measures.{sampleLimit, mostSamples, mostNodes}
 use Rattle.dstree.specs.Figures.{run, width}
-use Rattle.dstree.specs.Node.{Segment, Figure, bySum, byScatter, Kind, ends}
+use Rattle.dstree.specs.Node.{Segment, Figure, bySum, byScatter, Kind, ends, mostSegments}
 use Rattle.dstree.specs.WellFormed.{childrenOf, endsFit, segmentFits, segmentsFit, testFits}
 use Rattle.tables.specs.Layout.{kindPlace, recordPlaces}
 use Rattle.tables.specs.Tables.{recordOf}
@@ -92,7 +92,7 @@ allKept m nodes = every (keptAt nodes) (counting m 0)
 
 -- the ends of a record's first segments rise
 pub record EndsRise (r : List ℤ) (count : ℕ) : Type 0 where
-  pub few : count ≤ 16
+  pub few : count ≤ mostSegments
   pub rise : Up 0 (ends (segmentsInFrom r count 0))
   pub low : (i : ℕ) → i < count → segmentIn r i .end ≤ mostSamples
 
@@ -102,7 +102,7 @@ pub record AllFit (m : ℕ) (nodes : List ℤ) : Type 0 where
   pub short : n ≤ mostSamples
   pub fit : recordsFit n m nodes ≡ true
   pub room : m * recordPlaces ≤ length nodes
-  pub low : m ≤ 8191
+  pub low : m ≤ mostNodes
 
 -- node j is one of them
 pub record InUse (j : ℕ) (nodes : List ℤ) : Type 0 where
@@ -116,5 +116,5 @@ pub record HeadFits (j : ℕ) (nodes : List ℤ) : Type 0 where
   pub m : ℕ
   pub fit : headFits n m j (recordOf nodes j) ≡ true
   pub room : m * recordPlaces ≤ length nodes
-  pub low : m ≤ 8191
+  pub low : m ≤ mostNodes
   pub inside : j < m

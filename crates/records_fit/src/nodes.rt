@@ -9,14 +9,14 @@ ghost use mathlib.Core.Path.{_≡_};
 ghost use mathlib.Core.Bool.{true};
 ghost use Prim.Native.Nat.{_+_, _*_, _≤_, _<_};
 ghost use lib.ListN.{length};
-ghost use Rattle.dstree.specs.Measures.{mostSamples};
+ghost use Rattle.dstree.specs.Measures.{mostSamples, mostNodes};
 ghost use Rattle.tables.specs.Layout.{segmentsPlace, recordPlaces};
 ghost use Rattle.tables.specs.Tables.{recordOf};
 ghost use Rattle.tables.specs.View.{smallAt, segmentsIn};
 ghost use Rattle.records_fit.specs.Fits.{headFits, segmentsHold, recordFits, endsIn, keptAt, Under, ChildrenUnder, recordsFit, allKept, EndsRise, AllFit, InUse, HeadFits};
 
 fn node_fits(nodes: &[i64], j: usize, m: usize, n: usize) -> bool
-    requires { ⌜ (j * recordPlaces + recordPlaces ≤ length (now nodes)) × (j ≤ 8191) × (n ≤ mostSamples) ⌝ }
+    requires { ⌜ (j * recordPlaces + recordPlaces ≤ length (now nodes)) × (j ≤ mostNodes) × (n ≤ mostSamples) ⌝ }
     ensures { λ r. ⌜ r ≡ recordFits n m j (recordOf (now (nodes .entry)) j) ⌝ }
 {
     crate::records::record_fits(record_at(nodes, j), j, m, n)
@@ -24,7 +24,7 @@ fn node_fits(nodes: &[i64], j: usize, m: usize, n: usize) -> bool
 
 // Every record in use fits by itself.
 pub fn records_fit(nodes: &[i64], m: usize, n: usize) -> bool
-    requires { ⌜ (m * recordPlaces ≤ length (now nodes)) × (m ≤ 8191) × (n ≤ mostSamples) ⌝ }
+    requires { ⌜ (m * recordPlaces ≤ length (now nodes)) × (m ≤ mostNodes) × (n ≤ mostSamples) ⌝ }
     ensures { λ r. ⌜ r ≡ recordsFit n m (now (nodes .entry)) ⌝ }
 {
     let mut j: usize = 0;
@@ -38,9 +38,9 @@ pub fn records_fit(nodes: &[i64], m: usize, n: usize) -> bool
 }
 
 fn kept(nodes: &[i64], child: usize, parent: usize) -> bool
-    requires { ⌜ (child * recordPlaces + recordPlaces ≤ length (now nodes)) × (child ≤ 8191)
+    requires { ⌜ (child * recordPlaces + recordPlaces ≤ length (now nodes)) × (child ≤ mostNodes)
         × EndsRise (recordOf (now nodes) child) (smallAt (recordOf (now nodes) child) segmentsPlace)
-        × (parent * recordPlaces + recordPlaces ≤ length (now nodes)) × (parent ≤ 8191)
+        × (parent * recordPlaces + recordPlaces ≤ length (now nodes)) × (parent ≤ mostNodes)
         × EndsRise (recordOf (now nodes) parent) (smallAt (recordOf (now nodes) parent) segmentsPlace) ⌝ }
     ensures { λ r. ⌜ r ≡ endsIn (segmentsIn (recordOf (now (nodes .entry)) child)) (segmentsIn (recordOf (now (nodes .entry)) parent)) ⌝ }
 {
@@ -83,7 +83,7 @@ pub fn ends_kept(nodes: &[i64], m: usize) -> bool
 
 // The head of node j, of m.
 pub fn head_fits(nodes: &[i64], j: usize, m: usize, n: usize) -> bool
-    requires { ⌜ (j * recordPlaces + recordPlaces ≤ length (now nodes)) × (j ≤ 8191) × (n ≤ mostSamples) ⌝ }
+    requires { ⌜ (j * recordPlaces + recordPlaces ≤ length (now nodes)) × (j ≤ mostNodes) × (n ≤ mostSamples) ⌝ }
     ensures { λ r. ⌜ r ≡ headFits n m j (recordOf (now (nodes .entry)) j) ⌝ }
 {
     crate::records::head_fits(record_at(nodes, j), j, m, n)
@@ -91,16 +91,16 @@ pub fn head_fits(nodes: &[i64], j: usize, m: usize, n: usize) -> bool
 
 // The segments of node j.
 pub fn segments_fit(nodes: &[i64], j: usize, n: usize) -> bool
-    requires { ⌜ (j * recordPlaces + recordPlaces ≤ length (now nodes)) × (j ≤ 8191) × (n ≤ mostSamples) ⌝ }
+    requires { ⌜ (j * recordPlaces + recordPlaces ≤ length (now nodes)) × (j ≤ mostNodes) × (n ≤ mostSamples) ⌝ }
     ensures { λ r. ⌜ r ≡ segmentsHold n (recordOf (now (nodes .entry)) j) ⌝ }
 {
     crate::records::segments_fit(record_at(nodes, j), n)
 }
 
 fn twins_fit(nodes: &[i64], left: usize, right: usize, parent: usize, n: usize) -> bool
-    requires { ⌜ (left * recordPlaces + recordPlaces ≤ length (now nodes)) × (left ≤ 8191)
-        × (right * recordPlaces + recordPlaces ≤ length (now nodes)) × (right ≤ 8191)
-        × (parent * recordPlaces + recordPlaces ≤ length (now nodes)) × (parent ≤ 8191) ⌝ }
+    requires { ⌜ (left * recordPlaces + recordPlaces ≤ length (now nodes)) × (left ≤ mostNodes)
+        × (right * recordPlaces + recordPlaces ≤ length (now nodes)) × (right ≤ mostNodes)
+        × (parent * recordPlaces + recordPlaces ≤ length (now nodes)) × (parent ≤ mostNodes) ⌝ }
     ensures { λ r. ⌜ (r ≡ true → Under n (recordOf (now (nodes .entry)) left) (recordOf (now (nodes .entry)) parent)
         × Under n (recordOf (now (nodes .entry)) right) (recordOf (now (nodes .entry)) parent)) ⌝ }
 {

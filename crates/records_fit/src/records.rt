@@ -20,7 +20,7 @@ ghost use Prim.Native.Nat.{ℕ, _≤_, _<_};
 ghost use lib.ListN.{length};
 ghost use Rattle.dstree.specs.Measures.{sampleLimit, mostSamples};
 ghost use Rattle.dstree.specs.Figures.{run};
-ghost use Rattle.dstree.specs.Node.{inner};
+ghost use Rattle.dstree.specs.Node.{inner, mostSegments};
 ghost use Rattle.dstree.specs.WellFormed.{segmentFits, testFits};
 ghost use Rattle.tables.specs.Layout.{segmentsPlace, recordPlaces};
 ghost use Rattle.tables.specs.View.{smallMost, smallOf, smallAt, segmentIn, segmentsIn};
@@ -41,7 +41,7 @@ fn between(low: usize, high: usize, v: i64) -> bool
 
 // The right end of segment i, from 0, is behind the end before it, and n at most.
 pub fn end_behind(places: &[i64], i: usize, before: usize, n: usize) -> bool
-    requires { ⌜ (length (now places) ≡ recordPlaces) × (i < 16) × (before ≤ n) × (n ≤ mostSamples) ⌝ }
+    requires { ⌜ (length (now places) ≡ recordPlaces) × (i < mostSegments) × (before ≤ n) × (n ≤ mostSamples) ⌝ }
     ensures { λ r. ⌜ r ≡ between before n (segmentIn (now (places .entry)) i .end) ⌝ }
 {
     between(before, n, value_at(places, HEAD + i * SEGMENT))
@@ -57,7 +57,7 @@ fn known(v: i64) -> usize
 
 // The right end of segment i, which was tested.
 pub fn end_at(places: &[i64], i: usize) -> usize
-    requires { ⌜ (length (now places) ≡ recordPlaces) × (i < 16) × (segmentIn (now places) i .end ≤ mostSamples) ⌝ }
+    requires { ⌜ (length (now places) ≡ recordPlaces) × (i < mostSegments) × (segmentIn (now places) i .end ≤ mostSamples) ⌝ }
     ensures { λ r. ⌜ r ≡ segmentIn (now (places .entry)) i .end ⌝ }
 {
     known(value_at(places, HEAD + i * SEGMENT))
@@ -65,7 +65,7 @@ pub fn end_at(places: &[i64], i: usize) -> usize
 
 // The figures of segment i, which is w samples wide.
 pub fn segment_fits(places: &[i64], i: usize, w: u64) -> bool
-    requires { ⌜ (length (now places) ≡ recordPlaces) × (i < 16) × (w ≤ mostSamples) ⌝ }
+    requires { ⌜ (length (now places) ≡ recordPlaces) × (i < mostSegments) × (w ≤ mostSamples) ⌝ }
     ensures { λ r. ⌜ r ≡ segmentFits sampleLimit w (segmentIn (now (places .entry)) i) ⌝ }
 {
     let at = HEAD + i * SEGMENT;
@@ -78,7 +78,7 @@ pub fn segment_fits(places: &[i64], i: usize, w: u64) -> bool
 
 // The first `count` segments: their ends rise to n, and their figures are in their limits.
 fn segments_run(places: &[i64], count: usize, n: usize) -> bool
-    requires { ⌜ (length (now places) ≡ recordPlaces) × (count ≤ 16) × (n ≤ mostSamples) ⌝ }
+    requires { ⌜ (length (now places) ≡ recordPlaces) × (count ≤ mostSegments) × (n ≤ mostSamples) ⌝ }
     ensures { λ r. ⌜ r ≡ restHolds n 0 (segmentsInFrom (now (places .entry)) count 0) ⌝ }
 {
     let mut before: usize = 0;

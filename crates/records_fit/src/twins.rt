@@ -15,6 +15,7 @@ ghost use mathlib.Core.Logic.{_⊎_};
 ghost use Prim.Native.Nat.{_+_, _≤_, _<_};
 ghost use lib.ListN.{length};
 ghost use Rattle.dstree.specs.Measures.{mostSamples};
+ghost use Rattle.dstree.specs.Node.{mostSegments};
 ghost use Rattle.tables.specs.Layout.{segmentsPlace, recordPlaces};
 ghost use Rattle.tables.specs.View.{smallAt, segmentIn};
 ghost use Rattle.records_fit.specs.Fits.{Behind, Under};
@@ -23,7 +24,7 @@ const LONGEST: usize = 256; // samples of a trace, at most
 
 // The right end of segment i is this one.
 fn ends_at(places: &[i64], i: usize, end: usize) -> bool
-    requires { ⌜ (length (now places) ≡ recordPlaces) × (i < 16) × (end ≤ mostSamples) ⌝ }
+    requires { ⌜ (length (now places) ≡ recordPlaces) × (i < mostSegments) × (end ≤ mostSamples) ⌝ }
     ensures { λ r. ⌜ (r ≡ true → segmentIn (now (places .entry)) i .end ≡ end) ⌝ }
 {
     value_at(places, HEAD + i * SEGMENT) == end as i64
@@ -31,7 +32,7 @@ fn ends_at(places: &[i64], i: usize, end: usize) -> bool
 
 // So many of the parent's ends were met, and one more if its next one is this one.
 fn met(parent: &[i64], p: usize, end: usize) -> usize
-    requires { ⌜ (length (now parent) ≡ recordPlaces) × (p < 16) × (end ≤ mostSamples) ⌝ }
+    requires { ⌜ (length (now parent) ≡ recordPlaces) × (p < mostSegments) × (end ≤ mostSamples) ⌝ }
     ensures { λ r. ⌜ (r ≡ p) ⊎ ((r ≡ p + 1) × (segmentIn (now (parent .entry)) p .end ≡ end)) ⌝ }
 {
     if ends_at(parent, p, end) {
@@ -42,7 +43,7 @@ fn met(parent: &[i64], p: usize, end: usize) -> usize
 
 // Segment i of both, behind the end before it. That no end is above n shows when the last one is n.
 fn segments_fit(left: &[i64], right: &[i64], i: usize, before: usize) -> bool
-    requires { ⌜ (length (now left) ≡ recordPlaces) × (length (now right) ≡ recordPlaces) × (i < 16) × (before ≤ mostSamples) ⌝ }
+    requires { ⌜ (length (now left) ≡ recordPlaces) × (length (now right) ≡ recordPlaces) × (i < mostSegments) × (before ≤ mostSamples) ⌝ }
     ensures { λ r. ⌜ (r ≡ true → Behind before (segmentIn (now (left .entry)) i) × Behind before (segmentIn (now (right .entry)) i)
         × (segmentIn (now (right .entry)) i .end ≡ segmentIn (now (left .entry)) i .end)) ⌝ }
 {
@@ -70,7 +71,7 @@ fn segments_run(
 ) -> bool
     requires { ⌜ (length (now left) ≡ recordPlaces) × (length (now right) ≡ recordPlaces) × (length (now parent) ≡ recordPlaces)
         × (count ≡ smallAt (now left) segmentsPlace) × (count ≡ smallAt (now right) segmentsPlace) × (many ≡ smallAt (now parent) segmentsPlace)
-        × (1 ≤ count) × (count ≤ 16) ⌝ }
+        × (1 ≤ count) × (count ≤ mostSegments) ⌝ }
     ensures { λ r. ⌜ (r ≡ true → Under n (now (left .entry)) (now (parent .entry)) × Under n (now (right .entry)) (now (parent .entry))) ⌝ }
 {
     let mut before: usize = 0;

@@ -11,6 +11,10 @@ use Rattle.segment.specs.Figures.{distance}
 abbrev pub sampleMost : ℕ
 sampleMost = 32768
 
+-- the most samples of a segment: document 01's greatest n
+abbrev pub widthMost : ℕ
+widthMost = 256
+
 -- every sample is from −limit to limit − 1. (`mag` of −1 − m is m)
 abbrev pub SamplesWithin : ℕ → List ℤ → Type 0
 SamplesWithin limit xs = (i : ℕ) → i < length xs → mag (getD xs i (pos 0)) < limit

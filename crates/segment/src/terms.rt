@@ -2,7 +2,7 @@
 ghost use mathlib.Core.Path.{_≡_};
 ghost use Prim.Native.Nat.{_-_, _/_, _<_, _≤_, max};
 ghost use lib.IntN.{natAbs};
-ghost use Rattle.segment.specs.Limits.{sumRoom, scatterRoom, gapRoom, totalRoom, termMost};
+ghost use Rattle.segment.specs.Limits.{sumRoom, scatterRoom, gapRoom, totalRoom, termMost, widthMost};
 ghost use Rattle.segment.specs.Roots.{floorRoot, ceilingRoot};
 ghost use Rattle.segment.specs.Terms.{sumGap, scatterGap, boundTerm, spreadTerm};
 
@@ -68,7 +68,7 @@ fn quotient(v: u64, w: u64) -> u64
 
 // A segment's term of a node's bound, rounded up. Rounded down it does not meet this, nor with one added always.
 pub fn bound_term(w: u64, g: u64, h: u64) -> u64
-    requires { ⌜ (0 < w) × (w ≤ 256) × (g ≤ gapRoom) × (h ≤ gapRoom) ⌝ }
+    requires { ⌜ (0 < w) × (w ≤ widthMost) × (g ≤ gapRoom) × (h ≤ gapRoom) ⌝ }
     ensures { λ r. ⌜ r ≡ boundTerm w g h ⌝ }
 {
     quotient(g * g + h * h + (w - 1), w)
@@ -84,7 +84,7 @@ pub fn segment_bound(
     least_scatter: u64,
     greatest_scatter: u64,
 ) -> u64
-    requires { ⌜ (0 < w) × (w ≤ 256) × (natAbs t ≤ sumRoom) × (natAbs «least_sum» ≤ sumRoom) × (natAbs «greatest_sum» ≤ sumRoom) × (u ≤ scatterRoom) × («least_scatter» ≤ scatterRoom) ⌝ }
+    requires { ⌜ (0 < w) × (w ≤ widthMost) × (natAbs t ≤ sumRoom) × (natAbs «least_sum» ≤ sumRoom) × (natAbs «greatest_sum» ≤ sumRoom) × (u ≤ scatterRoom) × («least_scatter» ≤ scatterRoom) ⌝ }
     ensures { λ r. ⌜ r ≡ boundTerm w (sumGap t «least_sum» «greatest_sum») (scatterGap u «least_scatter» «greatest_scatter») ⌝ }
     ensures size { λ r. ⌜ r ≤ termMost ⌝ }
 {
@@ -95,7 +95,7 @@ pub fn segment_bound(
 
 // A segment's term of a node's spread, rounded down. Rounded up it does not meet this, nor with the least scatter in place of the greatest.
 pub fn spread_term(w: u64, least_sum: i64, greatest_sum: i64, greatest_scatter: u64) -> u64
-    requires { ⌜ (0 < w) × (w ≤ 256) × (natAbs «least_sum» ≤ sumRoom) × (natAbs «greatest_sum» ≤ sumRoom) × («greatest_scatter» ≤ scatterRoom) ⌝ }
+    requires { ⌜ (0 < w) × (w ≤ widthMost) × (natAbs «least_sum» ≤ sumRoom) × (natAbs «greatest_sum» ≤ sumRoom) × («greatest_scatter» ≤ scatterRoom) ⌝ }
     ensures { λ r. ⌜ r ≡ spreadTerm w «least_sum» «greatest_sum» «greatest_scatter» ⌝ }
     ensures size { λ r. ⌜ r ≤ termMost ⌝ }
 {

@@ -11,9 +11,9 @@ use lib.Dec.{eqb}
 use Rattle.integer.specs.Words.{if_then_else_, those, leastℤ, greatestℤ}
 use Rattle.integer.specs.Lists.{In}
 use Rattle.segment.specs.Limits.{scatterMost, spreadMost}
-use Rattle.dstree.specs.Measures.{Trace}
+use Rattle.dstree.specs.Measures.{Trace, mostSamples}
 use Rattle.dstree.specs.Figures.{run}
-use Rattle.dstree.specs.Node.{Test, figureOf, goesLeft}
+use Rattle.dstree.specs.Node.{Test, figureOf, goesLeft, mostSegments}
 use Rattle.dstree.specs.Adding.{Candidate, cutAt, tracesOf, Split, splitBy, parts, gain, spread}
 use Rattle.dstree.specs.Formed.{Rises}
 use Rattle.tables.specs.Walk.{storedIn, numbersOf}
@@ -84,13 +84,13 @@ tried stored all numbers = foldl (tryOne stored all numbers)
 -- a run inside 1 to n, and children's ends that rise and have room
 pub record TrialFits (n : ℕ) (all : List ℕ) (first last cut : ℕ) : Type 0 where
   pub inside : Inside n first last
-  pub room : (cut ≡ 0 → ⊥) → length all < 16
+  pub room : (cut ≡ 0 → ⊥) → length all < mostSegments
   pub rise : Rises n 1 (childEnds cut all)
 
 -- a choice that was found: its gain, its run and its ends
 pub record ChoiceFound (n : ℕ) (stored : List Trace) (all numbers : List ℕ) (r : Choice) : Type 0 where
   pub gain-is : r .gain ≡ gain stored all numbers (splitOf stored all numbers r)
-  pub size : natAbs (r .threshold) ≤ 2 * scatterMost 256
+  pub size : natAbs (r .threshold) ≤ 2 * scatterMost mostSamples
   pub fit : TrialFits n all (r .first) (r .last) (r .cut)
 
 abbrev pub ChoiceSound : ℕ → List Trace → List ℕ → List ℕ → Choice → Type 0
@@ -123,5 +123,5 @@ pub record Leaf (samples : List ℤ) (n k : ℕ) (list : List ℕ) (count : ℕ)
 pub record TrialExtremes (traces : List Trace) (c : Trial) (low high : ℤ) : Type 0 where
   pub low-is : low ≡ leastℤ (map (figureOf (figureBy (c .«by_scatter»)) (run (c .first) (c .last))) traces)
   pub high-is : high ≡ greatestℤ (map (figureOf (figureBy (c .«by_scatter»)) (run (c .first) (c .last))) traces)
-  pub low-size : natAbs low ≤ scatterMost 256
-  pub high-size : natAbs high ≤ scatterMost 256
+  pub low-size : natAbs low ≤ scatterMost mostSamples
+  pub high-size : natAbs high ≤ scatterMost mostSamples

@@ -15,10 +15,11 @@ ghost use lib.ListN.{length, take};
 ghost use Rattle.integer.specs.Lists.{In};
 ghost use Rattle.segment.specs.Roots.{floorRoot};
 ghost use Rattle.segment.specs.Limits.{scatterMost};
-ghost use Rattle.dstree.specs.Measures.{mostTraces};
+ghost use Rattle.dstree.specs.Measures.{mostTraces, mostSamples};
 ghost use Rattle.dstree.specs.Figures.{run};
 ghost use Rattle.dstree.specs.Adding.{tracesOf, byEither, halves, cutAt, best};
 ghost use Rattle.dstree.specs.Formed.{Rises};
+ghost use Rattle.dstree.specs.Node.{mostSegments};
 ghost use Rattle.tables.specs.Walk.{storedIn, numbersOf, Stored};
 ghost use Rattle.tables.specs.Runs.{Inside};
 ghost use Rattle.leaf_figures.specs.Ends.{endsOf, EndsRoom};
@@ -102,9 +103,9 @@ fn try_one(
 ) -> Choice
     requires { ⌜ Leaf (now samples) n k (now list) count (now place) (now runs) (now sums) (now scatters) e whole × TrialFits n (endsOf e) (c .first) (c .last) (c .cut)
         × TrialExtremes (tracesOf (storedIn (now samples) n k) (take count (now list))) c low high
-        × ChoiceSound n (storedIn (now samples) n k) (endsOf e) (take count (now list)) old × (length (now side) ≡ 4096) ⌝ }
+        × ChoiceSound n (storedIn (now samples) n k) (endsOf e) (take count (now list)) old × (length (now side) ≡ mostTraces) ⌝ }
     ensures { λ r. ⌜ After n (storedIn (now (samples .entry)) n k) (endsOf e) (take count (now (list .entry))) old (candidateBy (endsOf e) c ∷ []) r ⌝ }
-    ensures room { λ _. ⌜ length (now (side .exit)) ≡ 4096 ⌝ }
+    ensures room { λ _. ⌜ length (now (side .exit)) ≡ mostTraces ⌝ }
 {
     let seen = crate::parting::look_at(
         samples,
@@ -166,8 +167,8 @@ struct BySum {
 
 // A scatter's floor root, as a figure that a test compares.
 fn root_of(scatter: u64) -> i64
-    requires { ⌜ scatter ≤ scatterMost 256 ⌝ }
-    ensures { λ r. ⌜ (r ≡ pos (floorRoot scatter)) × (natAbs r ≤ scatterMost 256) ⌝ }
+    requires { ⌜ scatter ≤ scatterMost mostSamples ⌝ }
+    ensures { λ r. ⌜ (r ≡ pos (floorRoot scatter)) × (natAbs r ≤ scatterMost mostSamples) ⌝ }
 {
     segment::roots::floor_root(scatter) as i64
 }
@@ -193,12 +194,12 @@ fn try_sum(
     side: &mut [u16; 4096],
 ) -> BySum
     requires { ⌜ Leaf (now samples) n k (now list) count (now place) (now runs) (now sums) (now scatters) e whole × TrialFits n (endsOf e) first last cut
-        × ChoiceSound n (storedIn (now samples) n k) (endsOf e) (take count (now list)) old × (length (now side) ≡ 4096) ⌝ }
+        × ChoiceSound n (storedIn (now samples) n k) (endsOf e) (take count (now list)) old × (length (now side) ≡ mostTraces) ⌝ }
     ensures { λ r. ⌜ After n (storedIn (now (samples .entry)) n k) (endsOf e) (take count (now (list .entry))) old
         (candidateBy (endsOf e) (trialBy first last cut column false) ∷ []) (r .best) ⌝ }
     ensures scatter { λ r. ⌜ TrialExtremes (tracesOf (storedIn (now (samples .entry)) n k) (take count (now (list .entry))))
         (trialBy first last cut column true) (r .low) (r .high) ⌝ }
-    ensures room { λ _. ⌜ length (now (side .exit)) ≡ 4096 ⌝ }
+    ensures room { λ _. ⌜ length (now (side .exit)) ≡ mostTraces ⌝ }
 {
     let f = figures_along(
         samples,
@@ -260,9 +261,9 @@ fn try_both(
     side: &mut [u16; 4096],
 ) -> Choice
     requires { ⌜ Leaf (now samples) n k (now list) count (now place) (now runs) (now sums) (now scatters) e whole × TrialFits n (endsOf e) first last cut
-        × ChoiceSound n (storedIn (now samples) n k) (endsOf e) (take count (now list)) old × (length (now side) ≡ 4096) ⌝ }
+        × ChoiceSound n (storedIn (now samples) n k) (endsOf e) (take count (now list)) old × (length (now side) ≡ mostTraces) ⌝ }
     ensures { λ r. ⌜ After n (storedIn (now (samples .entry)) n k) (endsOf e) (take count (now (list .entry))) old (byEither (run first last) (childEnds cut (endsOf e))) r ⌝ }
-    ensures room { λ _. ⌜ length (now (side .exit)) ≡ 4096 ⌝ }
+    ensures room { λ _. ⌜ length (now (side .exit)) ≡ mostTraces ⌝ }
 {
     let by_sum = try_sum(
         samples,
@@ -325,10 +326,11 @@ fn try_halves(
     side: &mut [u16; 4096],
 ) -> Choice
     requires { ⌜ Leaf (now samples) n k (now list) count (now place) (now runs) (now sums) (now scatters) e whole × Inside n first last
-        × ((m : ℕ) → first ≤ m → m < last → Rises n 1 (cutAt m (endsOf e))) × (i < 16) × (first < last) × (e .count < 16)
-        × ChoiceSound n (storedIn (now samples) n k) (endsOf e) (take count (now list)) old × (length (now side) ≡ 4096) ⌝ }
+        × ((m : ℕ) → first ≤ m → m < last → Rises n 1 (cutAt m (endsOf e))) × (i < mostSegments) × (first < last)
+        × (e .count < mostSegments)
+        × ChoiceSound n (storedIn (now samples) n k) (endsOf e) (take count (now list)) old × (length (now side) ≡ mostTraces) ⌝ }
     ensures { λ r. ⌜ After n (storedIn (now (samples .entry)) n k) (endsOf e) (take count (now (list .entry))) old (halves (endsOf e) (run first last)) r ⌝ }
-    ensures room { λ _. ⌜ length (now (side .exit)) ≡ 4096 ⌝ }
+    ensures room { λ _. ⌜ length (now (side .exit)) ≡ mostTraces ⌝ }
 {
     let mid = first + (last - first + 1) / 2 - 1;
     let next = mid + 1;
@@ -394,10 +396,10 @@ fn try_segment(
     side: &mut [u16; 4096],
 ) -> Choice
     requires { ⌜ Leaf (now samples) n k (now list) count (now place) (now runs) (now sums) (now scatters) e whole × Inside n first last
-        × ((m : ℕ) → first ≤ m → m < last → Rises n 1 (cutAt m (endsOf e))) × (i < 16)
-        × ChoiceSound n (storedIn (now samples) n k) (endsOf e) (take count (now list)) old × (length (now side) ≡ 4096) ⌝ }
+        × ((m : ℕ) → first ≤ m → m < last → Rises n 1 (cutAt m (endsOf e))) × (i < mostSegments)
+        × ChoiceSound n (storedIn (now samples) n k) (endsOf e) (take count (now list)) old × (length (now side) ≡ mostTraces) ⌝ }
     ensures { λ r. ⌜ After n (storedIn (now (samples .entry)) n k) (endsOf e) (take count (now (list .entry))) old (byEither (run first last) (endsOf e) ++ halves (endsOf e) (run first last)) r ⌝ }
-    ensures room { λ _. ⌜ length (now (side .exit)) ≡ 4096 ⌝ }
+    ensures room { λ _. ⌜ length (now (side .exit)) ≡ mostTraces ⌝ }
 {
     let segments = e.count;
     let all = try_both(

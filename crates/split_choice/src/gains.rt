@@ -12,6 +12,8 @@ ghost use Rattle.segment.specs.Limits.{spreadMost};
 ghost use Rattle.dstree.specs.Adding as adding;
 ghost use Rattle.dstree.specs.Adding.{spread};
 ghost use Rattle.dstree.specs.Formed.{Rises};
+ghost use Rattle.dstree.specs.Node.{mostSegments};
+ghost use Rattle.dstree.specs.Measures.{mostTraces};
 ghost use Rattle.tables.specs.Walk.{storedIn};
 ghost use Rattle.tables.specs.Runs.{Inside};
 ghost use Rattle.leaf_figures.specs.Ends.{endsOf, EndsRoom};
@@ -29,7 +31,7 @@ pub fn gain(whole: u64, left: u64, right: u64) -> i64
 
 // The children's right ends: the leaf's own, or with one more. A cut at 0 is none.
 pub fn child_ends(e: Ends, cut: usize) -> Ends
-    requires { ⌜ EndsRoom e × ((cut ≡ 0 → ⊥) → e .count < 16) ⌝ }
+    requires { ⌜ EndsRoom e × ((cut ≡ 0 → ⊥) → e .count < mostSegments) ⌝ }
     ensures { λ r. ⌜ endsOf r ≡ childEnds cut (endsOf e) ⌝ }
     ensures room { λ r. ⌜ EndsRoom r ⌝ }
 {
@@ -56,10 +58,10 @@ fn side_spread(
     side: &mut [u16; 4096],
 ) -> u64
     requires { ⌜ TracesListed (now samples) n (now list) count × Inside n (c .first) (c .last)
-        × Rows (now samples) n (take count (now list)) (now place) (now runs) (now sums) (now scatters) × (length (now side) ≡ 4096) × EndsRoom child × Rises n 1 (endsOf child) ⌝ }
+        × Rows (now samples) n (take count (now list)) (now place) (now runs) (now sums) (now scatters) × (length (now side) ≡ mostTraces) × EndsRoom child × Rises n 1 (endsOf child) ⌝ }
     ensures { λ r. ⌜ r ≡ spread (endsOf child) (tracesAt (now (samples .entry)) n (sideOf (now (samples .entry)) n (trialTest c threshold) left (take count (now (list .entry))))) ⌝ }
     ensures size { λ r. ⌜ r ≤ spreadMost ⌝ }
-    ensures room { λ _. ⌜ length (now (side .exit)) ≡ 4096 ⌝ }
+    ensures room { λ _. ⌜ length (now (side .exit)) ≡ mostTraces ⌝ }
 {
     let many = list_side(
         samples,
@@ -120,10 +122,10 @@ pub fn gain_of(
     side: &mut [u16; 4096],
 ) -> i64
     requires { ⌜ Leaf (now samples) n k (now list) count (now place) (now runs) (now sums) (now scatters) e whole
-        × TrialFits n (endsOf e) (c .first) (c .last) (c .cut) × (length (now side) ≡ 4096) ⌝ }
+        × TrialFits n (endsOf e) (c .first) (c .last) (c .cut) × (length (now side) ≡ mostTraces) ⌝ }
     ensures { λ r. ⌜ r ≡ adding.gain (storedIn (now (samples .entry)) n k) (endsOf e) (take count (now (list .entry)))
         (splitByTest (storedIn (now (samples .entry)) n k) (take count (now (list .entry))) (trialTest c threshold) (childEnds (c .cut) (endsOf e))) ⌝ }
-    ensures room { λ _. ⌜ length (now (side .exit)) ≡ 4096 ⌝ }
+    ensures room { λ _. ⌜ length (now (side .exit)) ≡ mostTraces ⌝ }
 {
     let child = child_ends(e, c.cut);
     let left = side_spread(

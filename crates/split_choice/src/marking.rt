@@ -4,6 +4,7 @@ ghost use mathlib.Core.List.{[]};
 ghost use Prim.Native.Nat.{ℕ};
 ghost use lib.ListN.{length, getD};
 ghost use Rattle.dstree.specs.Node.{goesLeft};
+ghost use Rattle.dstree.specs.Measures.{mostTraces};
 ghost use Rattle.tables.specs.View.{traceIn};
 ghost use Rattle.tables.specs.Walk.{storedIn, numbersOf, Stored};
 ghost use Rattle.tables.specs.Runs.{RunOfTrace, Inside};
@@ -44,10 +45,10 @@ pub fn mark_sides(
     threshold: i64,
     marks: &mut [u8; 4096],
 )
-    requires { ⌜ Stored (now samples) (now links) n k head × Inside n first last × (length (now marks) ≡ 4096) ⌝ }
+    requires { ⌜ Stored (now samples) (now links) n k head × Inside n first last × (length (now marks) ≡ mostTraces) ⌝ }
     ensures { λ _. ⌜ now (marks .exit)
         ≡ marksBy (λ (t : ℕ). goesLeft (testBy first last «by_scatter» threshold) (getD (storedIn (now (samples .entry)) n k) t [])) (now (marks .entry)) (numbersOf (now (links .entry)) k head) ⌝ }
-    ensures size { λ _. ⌜ length (now (marks .exit)) ≡ 4096 ⌝ }
+    ensures size { λ _. ⌜ length (now (marks .exit)) ≡ mostTraces ⌝ }
 {
     let mut t = head;
     while t < k {

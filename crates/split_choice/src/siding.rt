@@ -13,7 +13,7 @@ ghost use Rattle.dstree.specs.Measures.{mostTraces};
 ghost use Rattle.dstree.specs.Node.{goesLeft};
 ghost use Rattle.tables.specs.View.{traceIn};
 ghost use Rattle.tables.specs.Runs.{RunOfTrace, Inside, testBy};
-ghost use Rattle.leaf_figures.specs.Rows.{TracesListed, FiguresAt, Rows};
+ghost use Rattle.leaf_figures.specs.Rows.{TracesListed, FiguresAt, Rows, columnRows, mostRuns};
 ghost use Rattle.split_choice.specs.Siding.{trialTest, onSide, sideOf};
 
 // Whether trace t goes left, by its figures from the table.
@@ -30,8 +30,8 @@ pub fn goes_left_at(
     by_scatter: bool,
     threshold: i64,
 ) -> bool
-    requires { ⌜ RunOfTrace (now samples) n t first last × (column < 48 → t < length (now place))
-        × (column < 48 → FiguresAt (traceIn (now samples) n t) first last (now sums) (now scatters) (column * 65 + getD (now place) t 0)) ⌝ }
+    requires { ⌜ RunOfTrace (now samples) n t first last × (column < mostRuns → t < length (now place))
+        × (column < mostRuns → FiguresAt (traceIn (now samples) n t) first last (now sums) (now scatters) (column * columnRows + getD (now place) t 0)) ⌝ }
     ensures { λ r. ⌜ r ≡ goesLeft (testBy first last «by_scatter» threshold) (traceIn (now (samples .entry)) n t) ⌝ }
 {
     let own = figures_at(samples, n, place, sums, scatters, column, t, first, last);
@@ -65,10 +65,11 @@ pub fn list_side(
     side: &mut [u16; 4096],
 ) -> usize
     requires { ⌜ TracesListed (now samples) n (now list) count × Inside n (c .first) (c .last)
-        × Rows (now samples) n (take count (now list)) (now place) (now runs) (now sums) (now scatters) × (length (now side) ≡ 4096) ⌝ }
+        × Rows (now samples) n (take count (now list)) (now place) (now runs) (now sums) (now scatters)
+        × (length (now side) ≡ mostTraces) ⌝ }
     ensures { λ r. ⌜ take r (now (side .exit)) ≡ sideOf (now (samples .entry)) n (trialTest c threshold) left (take count (now (list .entry))) ⌝ }
     ensures few { λ r. ⌜ r ≤ mostTraces ⌝ }
-    ensures size { λ _. ⌜ length (now (side .exit)) ≡ 4096 ⌝ }
+    ensures size { λ _. ⌜ length (now (side .exit)) ≡ mostTraces ⌝ }
 {
     let first = c.first;
     let last = c.last;

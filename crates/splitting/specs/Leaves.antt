@@ -8,6 +8,7 @@ use Rattle.dstree.specs.Node.{Segment}
 use Rattle.tables.specs.Layout.{headPlaces, segmentPlaces}
 use Rattle.dstree.specs.Adding.{segmentsOf, tracesOf}
 use Rattle.dstree.specs.Formed.{Rises}
+use Rattle.dstree.specs.Measures.{mostTraces}
 use Rattle.tables.specs.Walk.{storedIn, numbersOf, Stored}
 use Rattle.leaf_figures.specs.Sides.{marked}
 use Rattle.leaf_figures.specs.Ends.{endsOf, EndsRoom}
@@ -21,7 +22,7 @@ withSegments r segments = take headPlaces r ++ (fieldsOf segments ++ drop (headP
 -- the traces of a leaf that have a mark, some at least, and the right ends of the new leaf's segments
 pub record Side (samples : List ℤ) (links : List ℕ) (n k head : ℕ) (marks : List ℕ) (mark : ℕ) (e : Ends) : Type 0 where
   pub stored : Stored samples links n k head
-  pub all-marks : length marks ≡ 4096
+  pub all-marks : length marks ≡ mostTraces
   pub room : EndsRoom e
   pub rise : Rises n 1 (endsOf e)
   pub some : 0 < length (marked marks mark (numbersOf links k head))

@@ -6,10 +6,11 @@ use mathlib.Core.List.{List}
 use lib.IntN.{ℤ, natAbs}
 use lib.ListN.{length}
 use Rattle.segment.specs.Limits.{scatterMost}
-use Rattle.dstree.specs.Node.{ends}
+use Rattle.dstree.specs.Node.{ends, mostSegments}
 use Rattle.dstree.specs.Adding.{Split, best}
 use Rattle.dstree.specs.Formed.{Rises}
-use Rattle.tables.specs.Layout.{kindPlace, segmentsPlace, firstPlace, recordPlaces}
+use Rattle.dstree.specs.Measures.{mostSamples}
+use Rattle.tables.specs.Layout.{kindPlace, segmentsPlace, firstPlace, recordPlaces, nodePlaces}
 use Rattle.tables.specs.Tables.{recordOf}
 use Rattle.tables.specs.View.{smallAt, segmentsIn}
 use Rattle.tables.specs.Walk.{storedIn, numbersOf, Stored}
@@ -23,7 +24,7 @@ pub record TwoSides (nodes : List ℤ) (count : ℕ) (cut : Split) : Type 0 wher
   pub left-some : 0 < length (cut .left)
   pub right-some : 0 < length (cut .right)
   pub room : suc (suc count) * recordPlaces ≤ length nodes
-  pub few : suc (suc count) ≤ 8192
+  pub few : suc (suc count) ≤ nodePlaces
 
 -- node `at` is the leaf whose list starts at `head`, with the right ends e, and a choice parts it
 pub record Parts (nodes : List ℤ) (links : List ℕ) (samples : List ℤ) (n k count at head : ℕ) (e : Ends) (c : Choice) : Type 0 where
@@ -31,18 +32,18 @@ pub record Parts (nodes : List ℤ) (links : List ℕ) (samples : List ℤ) (n k
   pub stored : Stored samples links n k head
   pub room : EndsRoom e
   pub fit : TrialFits n (endsOf e) (c .first) (c .last) (c .cut)
-  pub threshold-size : natAbs (c .threshold) ≤ 2 * scatterMost 256
+  pub threshold-size : natAbs (c .threshold) ≤ 2 * scatterMost mostSamples
   pub parted : TwoSides nodes count (splitOf (storedIn samples n k) (endsOf e) (numbersOf links k head) c)
 
 -- node `at`, if it is a leaf: its list, its right ends, and room for two nodes more if a split parts it
 pub record IsLeaf (nodes : List ℤ) (links : List ℕ) (samples : List ℤ) (n k count at : ℕ) : Type 0 where
   pub stored : Stored samples links n k (smallAt (recordOf nodes at) firstPlace)
-  pub few : smallAt (recordOf nodes at) segmentsPlace ≤ 16
+  pub few : smallAt (recordOf nodes at) segmentsPlace ≤ mostSegments
   pub rise : Rises n 1 (ends (segmentsIn (recordOf nodes at)))
   pub parted : (cut : Split) → best (storedIn samples n k) (ends (segmentsIn (recordOf nodes at))) (numbersOf links k (smallAt (recordOf nodes at) firstPlace)) ≡ some cut → TwoSides nodes count cut
 
 pub record Splits (nodes : List ℤ) (links : List ℕ) (samples : List ℤ) (n k count at : ℕ) : Type 0 where
   pub inside : at < count
   pub room : count * recordPlaces ≤ length nodes
-  pub few : count ≤ 8192
+  pub few : count ≤ nodePlaces
   pub is-leaf : smallAt (recordOf nodes at) kindPlace ≡ 0 → IsLeaf nodes links samples n k count at

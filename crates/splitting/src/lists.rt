@@ -46,10 +46,10 @@ pub fn list_side(
     mark: u8,
     order: &mut [u16; 4096],
 ) -> usize
-    requires { ⌜ (head < k) × (k ≤ mostTraces) × (k ≤ length (now links)) × Rising (now links) k × (length (now marks) ≡ 4096) × (length (now order) ≡ 4096) ⌝ }
+    requires { ⌜ (head < k) × (k ≤ mostTraces) × (k ≤ length (now links)) × Rising (now links) k × (length (now marks) ≡ mostTraces) × (length (now order) ≡ mostTraces) ⌝ }
     ensures { λ r. ⌜ take r (now (order .exit)) ≡ marked (now (marks .entry)) mark (numbersOf (now (links .entry)) k head) ⌝ }
     ensures few { λ r. ⌜ r ≤ mostTraces ⌝ }
-    ensures size { λ _. ⌜ length (now (order .exit)) ≡ 4096 ⌝ }
+    ensures size { λ _. ⌜ length (now (order .exit)) ≡ mostTraces ⌝ }
 {
     let mut count: usize = 0;
     let mut t = head;
@@ -63,7 +63,7 @@ pub fn list_side(
 
 // The first trace with a mark, and k if there is none.
 pub fn first_on_side(links: &[u16], k: usize, head: usize, marks: &[u8; 4096], mark: u8) -> usize
-    requires { ⌜ (head < k) × (k ≤ mostTraces) × (k ≤ length (now links)) × Rising (now links) k × (length (now marks) ≡ 4096) ⌝ }
+    requires { ⌜ (head < k) × (k ≤ mostTraces) × (k ≤ length (now links)) × Rising (now links) k × (length (now marks) ≡ mostTraces) ⌝ }
     ensures { λ r. ⌜ r ≡ getD (marked (now (marks .entry)) mark (numbersOf (now (links .entry)) k head)) 0 k ⌝ }
     ensures inside { λ r. ⌜ r ≤ k ⌝ }
 {
@@ -79,7 +79,7 @@ pub fn first_on_side(links: &[u16], k: usize, head: usize, marks: &[u8; 4096], m
 
 // Each trace of a list linked to the next, and the last to 0. A link that stayed as it was does not meet this.
 pub fn lay(links: &mut [u16], order: &[u16; 4096], count: usize)
-    requires { ⌜ (0 < count) × (count ≤ mostTraces) × (length (now order) ≡ 4096) × ((i : ℕ) → i < count → getD (now order) i 0 < length (now links)) ⌝ }
+    requires { ⌜ (0 < count) × (count ≤ mostTraces) × (length (now order) ≡ mostTraces) × ((i : ℕ) → i < count → getD (now order) i 0 < length (now links)) ⌝ }
     ensures { λ _. ⌜ now (links .exit) ≡ linked (take count (now (order .entry))) (now (links .entry)) ⌝ }
 {
     let last = count - 1;
@@ -95,7 +95,7 @@ pub fn lay(links: &mut [u16], order: &[u16; 4096], count: usize)
 
 // The two sides of a leaf laid as lists of their own: mark 1 is the left side, mark 2 the right one. Both are listed before a link is written.
 pub fn relink(links: &mut [u16], k: usize, head: usize, marks: &[u8; 4096])
-    requires { ⌜ (head < k) × (k ≤ mostTraces) × (k ≤ length (now links)) × Rising (now links) k × (length (now marks) ≡ 4096)
+    requires { ⌜ (head < k) × (k ≤ mostTraces) × (k ≤ length (now links)) × Rising (now links) k × (length (now marks) ≡ mostTraces)
         × (0 < length (marked (now marks) 1 (numbersOf (now links) k head))) × (0 < length (marked (now marks) 2 (numbersOf (now links) k head))) ⌝ }
     ensures { λ _. ⌜ now (links .exit) ≡ linked (marked (now (marks .entry)) 2 (numbersOf (now (links .entry)) k head))
         (linked (marked (now (marks .entry)) 1 (numbersOf (now (links .entry)) k head)) (now (links .entry))) ⌝ }

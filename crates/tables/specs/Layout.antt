@@ -1,6 +1,7 @@
 -- The record layout, which document 01 leaves to the team: the places of the control record and of a node's record.
 use Prim.Native.Nat.{ℕ, _+_, _*_}
 use Rattle.dstree.specs.Book.{Layout}
+use Rattle.dstree.specs.Measures.{mostTraces}
 
 -- ---- the control record: "n, capacity, leaf size, counts"
 
@@ -64,6 +65,10 @@ segmentAt i = headPlaces + i * segmentPlaces
 -- 7 + 16 × 5
 abbrev pub recordPlaces : ℕ
 recordPlaces = 87
+
+-- Ours: an array with a place for each node has so many, one more than there are nodes at most
+abbrev pub nodePlaces : ℕ
+nodePlaces = 2 * mostTraces
 
 abbrev pub layout : Layout
 layout = record { controlFields = controlFields; recordPlaces = recordPlaces }

@@ -6,6 +6,7 @@ use lib.IntN.{ℤ}
 use lib.ListN.{length}
 use Rattle.dstree.specs.Figures.{run}
 use Rattle.dstree.specs.Node.{Figure, bySum, byScatter, Test}
+use Rattle.dstree.specs.Measures.{mostSamples}
 
 -- code names a figure by a flag
 abbrev pub figureBy : Bool → Figure
@@ -24,11 +25,11 @@ pub record Inside (n first last : ℕ) : Type 0 where
 
 -- .. of a trace of n samples, at most 256
 pub record RunOf (n first last : ℕ) : Type 0 where
-  pub narrow : n ≤ 256
+  pub narrow : n ≤ mostSamples
   pub inside : Inside n first last
 
 -- trace t of n samples is in the table whole, and the run is inside 1 to n
 pub record RunOfTrace (samples : List ℤ) (n t first last : ℕ) : Type 0 where
-  pub narrow : n ≤ 256
+  pub narrow : n ≤ mostSamples
   pub room : t * n + n ≤ length samples
   pub inside : Inside n first last

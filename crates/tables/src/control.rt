@@ -6,7 +6,7 @@ use crate::places::CONTROL_FIELDS;
 use crate::places::RECORD_PLACES;
 ghost use mathlib.Core.Path.{_≡_};
 ghost use Prim.Native.Nat.{ℕ, _≤_};
-ghost use Rattle.dstree.specs.Measures.{measures, inRange, samplesNeeded, recordsNeeded};
+ghost use Rattle.dstree.specs.Measures.{measures, inRange, samplesNeeded, recordsNeeded, mostSamples, mostTraces};
 ghost use Rattle.dstree.specs.Refusals.{firstOf};
 ghost use Rattle.dstree.specs.Book.{controlShort, tablesShort};
 ghost use Rattle.tables.specs.Layout.{layout};
@@ -49,7 +49,7 @@ pub fn measures_fit(n: u64, capacity: u64, leaf_size: u64) -> bool
 
 // Samples that the measures need: a trace of n for each of the capacity.
 pub fn samples_needed(n: u64, capacity: u64) -> usize
-    requires { ⌜ (n ≤ 256) × (capacity ≤ 4096) ⌝ }
+    requires { ⌜ (n ≤ mostSamples) × (capacity ≤ mostTraces) ⌝ }
     ensures { λ r. ⌜ ((leafSize : ℕ) → r ≡ samplesNeeded (measures n capacity leafSize)) ⌝ }
 {
     (capacity as usize) * (n as usize)
@@ -57,7 +57,7 @@ pub fn samples_needed(n: u64, capacity: u64) -> usize
 
 // Node records that a capacity needs, as many as places of search work: a leaf for each trace, and one inner node fewer. No record for no trace.
 pub fn records_needed(capacity: u64) -> usize
-    requires { ⌜ capacity ≤ 4096 ⌝ }
+    requires { ⌜ capacity ≤ mostTraces ⌝ }
     ensures { λ r. ⌜ ((n leafSize : ℕ) → r ≡ recordsNeeded (measures n capacity leafSize)) ⌝ }
 {
     if capacity < 1 {
@@ -82,7 +82,7 @@ pub fn tables_short(
     n: u64,
     capacity: u64,
 ) -> bool
-    requires { ⌜ (n ≤ 256) × (capacity ≤ 4096) ⌝ }
+    requires { ⌜ (n ≤ mostSamples) × (capacity ≤ mostTraces) ⌝ }
     ensures { λ r. ⌜ ((control leafSize : ℕ) → r ≡ tablesShort layout (lent control samples nodes links work) (measures n capacity leafSize)) ⌝ }
 {
     if samples < samples_needed(n, capacity) {

@@ -4,6 +4,7 @@ use crate::places::RECORD_PLACES;
 ghost use mathlib.Core.Path.{_≡_};
 ghost use Prim.Native.Nat.{_+_, _*_, _≤_, _<_};
 ghost use lib.ListN.{length};
+ghost use Rattle.dstree.specs.Measures.{mostNodes};
 ghost use Rattle.tables.specs.Layout.{recordPlaces};
 ghost use Rattle.tables.specs.Tables.{recordOf};
 ghost use Rattle.tables.specs.View.{smallOf, scatterIn, smallAt, valueAt};
@@ -53,14 +54,14 @@ pub fn small_at(record: &[i64], place: usize) -> usize
 
 // Where node j's record starts, and the place behind it. Nothing else computes where a record lies.
 pub fn record_start(j: usize) -> usize
-    requires { ⌜ j ≤ 8191 ⌝ }
+    requires { ⌜ j ≤ mostNodes ⌝ }
     ensures { λ r. ⌜ r ≡ j * recordPlaces ⌝ }
 {
     j * RECORD_PLACES
 }
 
 pub fn record_end(j: usize) -> usize
-    requires { ⌜ j ≤ 8191 ⌝ }
+    requires { ⌜ j ≤ mostNodes ⌝ }
     ensures { λ r. ⌜ r ≡ j * recordPlaces + recordPlaces ⌝ }
 {
     (j + 1) * RECORD_PLACES
@@ -68,7 +69,7 @@ pub fn record_end(j: usize) -> usize
 
 // Node j's record.
 pub fn record_at(nodes: &[i64], j: usize) -> &[i64]
-    requires { ⌜ (j * recordPlaces + recordPlaces ≤ length (now nodes)) × (j ≤ 8191) ⌝ }
+    requires { ⌜ (j * recordPlaces + recordPlaces ≤ length (now nodes)) × (j ≤ mostNodes) ⌝ }
     ensures { λ r. ⌜ now r ≡ recordOf (now (nodes .entry)) j ⌝ }
 {
     let a = record_start(j);
@@ -78,7 +79,7 @@ pub fn record_at(nodes: &[i64], j: usize) -> &[i64]
 
 // One of its fields, as a small number.
 pub fn node_small(nodes: &[i64], j: usize, place: usize) -> usize
-    requires { ⌜ (j * recordPlaces + recordPlaces ≤ length (now nodes)) × (j ≤ 8191) × (place < recordPlaces) ⌝ }
+    requires { ⌜ (j * recordPlaces + recordPlaces ≤ length (now nodes)) × (j ≤ mostNodes) × (place < recordPlaces) ⌝ }
     ensures { λ r. ⌜ r ≡ smallAt (recordOf (now (nodes .entry)) j) place ⌝ }
 {
     small_at(record_at(nodes, j), place)

@@ -11,6 +11,7 @@ ghost use Rattle.segment.specs.Roots.{floorRoot};
 ghost use Rattle.segment.specs.Limits.{sumMost, scatterMost, sumRoom};
 ghost use Rattle.dstree.specs.Figures.{run, sumOn, scatterOn};
 ghost use Rattle.dstree.specs.Node.{goesLeft};
+ghost use Rattle.dstree.specs.Measures.{mostSamples};
 ghost use Rattle.tables.specs.View.{traceIn};
 ghost use Rattle.tables.specs.Runs.{testBy, RunOf};
 
@@ -27,8 +28,8 @@ pub fn trace_at(samples: &[i16], n: usize, t: usize) -> &[i16]
 // Both figures on the samples `first` to `last`.
 pub fn figures_on(trace: &[i16], first: usize, last: usize) -> segment::figures::Figures
     requires { ⌜ RunOf (length (now trace)) first last ⌝ }
-    ensures sum { λ r. ⌜ (r .sum ≡ sumOn (run first last) (now (trace .entry))) × (natAbs (r .sum) ≤ sumMost 256) ⌝ }
-    ensures scatter { λ r. ⌜ (r .scatter ≡ scatterOn (run first last) (now (trace .entry))) × (r .scatter ≤ scatterMost 256) ⌝ }
+    ensures sum { λ r. ⌜ (r .sum ≡ sumOn (run first last) (now (trace .entry))) × (natAbs (r .sum) ≤ sumMost mostSamples) ⌝ }
+    ensures scatter { λ r. ⌜ (r .scatter ≡ scatterOn (run first last) (now (trace .entry))) × (r .scatter ≤ scatterMost mostSamples) ⌝ }
 {
     let before = first - 1;
     segment::figures::figures_of(&trace[before..last])

@@ -6,7 +6,7 @@ use lib.IntN.{ℤ}
 use lib.ListN.{length, getD}
 use lib.Dec.{leb, ltb, eqb}
 use Rattle.integer.specs.Words.{if_then_else_, every, counting, timesIn}
-use Rattle.dstree.specs.Measures.{mostSamples, mostTraces}
+use Rattle.dstree.specs.Measures.{mostSamples, mostTraces, mostNodes}
 use Rattle.dstree.specs.Node.{Kind}
 use Rattle.dstree.specs.Matching.{numbersIn}
 use Rattle.dstree.specs.WellFormed.{childrenOf, leafFits}
@@ -81,7 +81,7 @@ treeFits n m nodes k links = recordsFit n m nodes && allKept m nodes && children
 -- the tables have the records of m nodes and the links of k traces, and none of the numbers is above its limit
 pub record TreeLent (n m : ℕ) (nodes : List ℤ) (k : ℕ) (links : List ℕ) : Type 0 where
   pub room : m * recordPlaces ≤ length nodes
-  pub low : m ≤ 8191
+  pub low : m ≤ mostNodes
   pub short : n ≤ mostSamples
   pub linked : k ≤ length links
   pub few : k ≤ mostTraces

@@ -7,12 +7,13 @@ use tables::records::node_small;
 ghost use mathlib.Core.Path.{_≡_};
 ghost use lib.ListN.{length};
 ghost use Rattle.records_fit.specs.Fits.{AllFit, HeadFits};
+ghost use Rattle.tables.specs.Layout.{nodePlaces};
 ghost use Rattle.well_formed.specs.Marks.{MarkedOrTwice};
 ghost use Rattle.well_formed.specs.Tests.{childrenAt, childrenOfFirst, childrenOnce};
 
 // Marks the children of node j, if it is an inner node.
 pub fn mark_children(nodes: &[i64], j: usize, marks: &mut [u8; 8192]) -> bool
-    requires { ⌜ HeadFits j (now nodes) × (length (now marks) ≡ 8192) ⌝ }
+    requires { ⌜ HeadFits j (now nodes) × (length (now marks) ≡ nodePlaces) ⌝ }
     ensures { λ r. ⌜ MarkedOrTwice (now (marks .entry)) (now (marks .exit)) (childrenAt (now (nodes .entry)) j) r ⌝ }
 {
     let kind = node_small(nodes, j, KIND);
@@ -29,7 +30,7 @@ pub fn mark_children(nodes: &[i64], j: usize, marks: &mut [u8; 8192]) -> bool
 
 // Marks the children of every node, and stops at one that was met before.
 fn mark_all(nodes: &[i64], m: usize, marks: &mut [u8; 8192]) -> bool
-    requires { ⌜ AllFit m (now nodes) × (length (now marks) ≡ 8192) ⌝ }
+    requires { ⌜ AllFit m (now nodes) × (length (now marks) ≡ nodePlaces) ⌝ }
     ensures { λ r. ⌜ MarkedOrTwice (now (marks .entry)) (now (marks .exit)) (childrenOfFirst (now (nodes .entry)) m) r ⌝ }
 {
     let mut j: usize = 0;

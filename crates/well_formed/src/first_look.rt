@@ -5,8 +5,8 @@ ghost use mathlib.Core.Path.{_≡_};
 ghost use mathlib.Core.Bool.{true};
 ghost use Prim.Native.Nat.{_*_, _≤_, _<_};
 ghost use lib.ListN.{length};
-ghost use Rattle.dstree.specs.Measures.{mostSamples, mostTraces};
-ghost use Rattle.tables.specs.Layout.{recordPlaces};
+ghost use Rattle.dstree.specs.Measures.{mostSamples, mostTraces, mostNodes};
+ghost use Rattle.tables.specs.Layout.{recordPlaces, nodePlaces};
 ghost use Rattle.well_formed.specs.Tests.{treeFits, TreeLent};
 ghost use Rattle.well_formed.specs.Marks.{NodeVisited, VisitedFirst, RecordsPassed};
 
@@ -20,8 +20,8 @@ fn node_passes(
     marks: &mut [u8; 8192],
     named: &mut [u8; 4096],
 ) -> bool
-    requires { ⌜ (m * recordPlaces ≤ length (now nodes)) × (m ≤ 8191) × (j < m) × (n ≤ mostSamples) × (k ≤ mostTraces)
-        × (length (now marks) ≡ 8192) × (length (now named) ≡ 4096) ⌝ }
+    requires { ⌜ (m * recordPlaces ≤ length (now nodes)) × (m ≤ mostNodes) × (j < m) × (n ≤ mostSamples) × (k ≤ mostTraces)
+        × (length (now marks) ≡ nodePlaces) × (length (now named) ≡ mostTraces) ⌝ }
     ensures { λ r. ⌜ (r ≡ true →
         NodeVisited n m k (now (nodes .entry)) j (now (marks .entry)) (now (marks .exit)) (now (named .entry)) (now (named .exit))) ⌝ }
 {
@@ -46,8 +46,8 @@ fn nodes_pass(
     marks: &mut [u8; 8192],
     named: &mut [u8; 4096],
 ) -> bool
-    requires { ⌜ (m * recordPlaces ≤ length (now nodes)) × (m ≤ 8191) × (n ≤ mostSamples) × (k ≤ mostTraces)
-        × (length (now marks) ≡ 8192) × (length (now named) ≡ 4096) ⌝ }
+    requires { ⌜ (m * recordPlaces ≤ length (now nodes)) × (m ≤ mostNodes) × (n ≤ mostSamples) × (k ≤ mostTraces)
+        × (length (now marks) ≡ nodePlaces) × (length (now named) ≡ mostTraces) ⌝ }
     ensures { λ r. ⌜ (r ≡ true →
         VisitedFirst n m k (now (nodes .entry)) m (now (marks .entry)) (now (marks .exit)) (now (named .entry)) (now (named .exit))) ⌝ }
 {
@@ -63,7 +63,7 @@ fn nodes_pass(
 
 // Every record. Node 0 is no child, and each other one is, so that all were read.
 fn records_pass(nodes: &[i64], m: usize, n: usize, k: usize, named: &mut [u8; 4096]) -> bool
-    requires { ⌜ (m * recordPlaces ≤ length (now nodes)) × (m ≤ 8191) × (n ≤ mostSamples) × (k ≤ mostTraces) × (length (now named) ≡ 4096) ⌝ }
+    requires { ⌜ (m * recordPlaces ≤ length (now nodes)) × (m ≤ mostNodes) × (n ≤ mostSamples) × (k ≤ mostTraces) × (length (now named) ≡ mostTraces) ⌝ }
     ensures { λ r. ⌜ (r ≡ true → RecordsPassed n m k (now (nodes .entry)) (now (named .entry)) (now (named .exit))) ⌝ }
 {
     if m == 0 {

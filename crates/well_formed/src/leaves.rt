@@ -9,14 +9,14 @@ ghost use mathlib.Core.Path.{_≡_};
 ghost use mathlib.Core.Bool.{true, false};
 ghost use Prim.Native.Nat.{ℕ, _+_, _≤_, _<_};
 ghost use lib.ListN.{length, getD};
-ghost use Rattle.dstree.specs.Measures.{mostTraces};
+ghost use Rattle.dstree.specs.Measures.{mostTraces, mostNodes};
 ghost use Rattle.records_fit.specs.Fits.{AllFit, HeadFits};
 ghost use Rattle.well_formed.specs.Marks.{Named, LinkRises, LinksRise, LinksMarked, LinksName};
 ghost use Rattle.well_formed.specs.Tests.{childrenOnce, firstAt, firstsOf, notZero, leavesHold};
 
 // Marks the first trace number of node j, if it is a leaf. It has to be the number of one of k traces.
 pub fn mark_first(nodes: &[i64], j: usize, k: usize, marks: &mut [u8; 4096]) -> bool
-    requires { ⌜ HeadFits j (now nodes) × (k ≤ mostTraces) × (length (now marks) ≡ 4096) ⌝ }
+    requires { ⌜ HeadFits j (now nodes) × (k ≤ mostTraces) × (length (now marks) ≡ mostTraces) ⌝ }
     ensures { λ r. ⌜ Named k (now (marks .entry)) (now (marks .exit)) (firstAt (now (nodes .entry)) j) r ⌝ }
 {
     let kind = node_small(nodes, j, KIND);
@@ -32,7 +32,7 @@ pub fn mark_first(nodes: &[i64], j: usize, k: usize, marks: &mut [u8; 4096]) -> 
 
 // Marks the first trace number of every leaf.
 fn mark_firsts(nodes: &[i64], m: usize, k: usize, marks: &mut [u8; 4096]) -> bool
-    requires { ⌜ AllFit m (now nodes) × (k ≤ mostTraces) × (length (now marks) ≡ 4096) ⌝ }
+    requires { ⌜ AllFit m (now nodes) × (k ≤ mostTraces) × (length (now marks) ≡ mostTraces) ⌝ }
     ensures { λ r. ⌜ Named k (now (marks .entry)) (now (marks .exit)) (firstsOf (now (nodes .entry)) m) r ⌝ }
 {
     let mut j: usize = 0;
@@ -69,7 +69,7 @@ fn ended(link: u16) -> u16
 
 // Each of k links is 0 behind the last of a leaf, else the number of a later trace, and as many end a list as there are leaves, of m nodes.
 fn links_rise(links: &[u16], k: usize, m: usize) -> bool
-    requires { ⌜ (k ≤ length (now links)) × (k ≤ mostTraces) × (m ≤ 8191) ⌝ }
+    requires { ⌜ (k ≤ length (now links)) × (k ≤ mostTraces) × (m ≤ mostNodes) ⌝ }
     ensures { λ r. ⌜ (r ≡ true → LinksRise (now (links .entry)) k m) × (r ≡ false → LinksRise (now (links .entry)) k m → ⊥) ⌝ }
 {
     let mut fit: u16 = 0;
@@ -89,7 +89,7 @@ fn links_rise(links: &[u16], k: usize, m: usize) -> bool
 
 // Marks k links, and 0 if one of them ends a list.
 fn mark_links(links: &[u16], k: usize, marks: &mut [u8; 4096])
-    requires { ⌜ (k ≤ length (now links)) × ((i : ℕ) → i < k → getD (now links) i 0 < 4096) × (length (now marks) ≡ 4096) ⌝ }
+    requires { ⌜ (k ≤ length (now links)) × ((i : ℕ) → i < k → getD (now links) i 0 < mostTraces) × (length (now marks) ≡ mostTraces) ⌝ }
     ensures { λ r. ⌜ LinksMarked (now (links .entry)) k (now (marks .entry)) (now (marks .exit)) ⌝ }
 {
     let mut i: usize = 0;
@@ -101,7 +101,7 @@ fn mark_links(links: &[u16], k: usize, marks: &mut [u8; 4096])
 
 // The links of k traces rise, and with what is marked before they name every trace. Trace 0 is behind no other, so that it has to be marked before.
 pub fn links_name(links: &[u16], k: usize, m: usize, marks: &mut [u8; 4096]) -> bool
-    requires { ⌜ (k ≤ length (now links)) × (k ≤ mostTraces) × (length (now marks) ≡ 4096) × (m ≤ 8191) ⌝ }
+    requires { ⌜ (k ≤ length (now links)) × (k ≤ mostTraces) × (length (now marks) ≡ mostTraces) × (m ≤ mostNodes) ⌝ }
     ensures { λ r. ⌜ (r ≡ true → LinksName (now (links .entry)) k m (now (marks .entry)))
         × (r ≡ false → LinksName (now (links .entry)) k m (now (marks .entry)) → ⊥) ⌝ }
 {

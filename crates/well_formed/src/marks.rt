@@ -7,12 +7,14 @@ ghost use Prim.Native.Nat.{_+_, _≤_, _<_};
 ghost use lib.ListN.{length};
 ghost use lib.Dec.{eqb};
 ghost use Rattle.integer.specs.Words.{if_then_else_};
+ghost use Rattle.dstree.specs.Measures.{mostTraces};
+ghost use Rattle.tables.specs.Layout.{nodePlaces};
 ghost use Rattle.well_formed.specs.Marks.{MarkedOrTwice};
 ghost use Rattle.well_formed.specs.Tests.{markedOnce};
 
 // Marks a node's number, if it was not met before.
 pub fn mark(marks: &mut [u8; 8192], number: usize) -> bool
-    requires { ⌜ (number < 8192) × (length (now marks) ≡ 8192) ⌝ }
+    requires { ⌜ (number < nodePlaces) × (length (now marks) ≡ nodePlaces) ⌝ }
     ensures { λ r. ⌜ MarkedOrTwice (now (marks .entry)) (now (marks .exit)) (number ∷ []) r ⌝ }
 {
     if 0 < marks[number] {
@@ -24,7 +26,7 @@ pub fn mark(marks: &mut [u8; 8192], number: usize) -> bool
 
 // Marks a trace's number, if it was not met before.
 pub fn mark_trace(marks: &mut [u8; 4096], number: usize) -> bool
-    requires { ⌜ (number < 4096) × (length (now marks) ≡ 4096) ⌝ }
+    requires { ⌜ (number < mostTraces) × (length (now marks) ≡ mostTraces) ⌝ }
     ensures { λ r. ⌜ MarkedOrTwice (now (marks .entry)) (now (marks .exit)) (number ∷ []) r ⌝ }
 {
     if marks[number] != 0 {
@@ -43,7 +45,7 @@ fn one_of(mark: u8) -> u16
 
 // So many numbers from `first` on are each marked. They are counted, many at a time, and none of them decides alone.
 pub fn all_marked(marks: &[u8], first: usize, count: usize) -> bool
-    requires { ⌜ (first + count ≤ length (now marks)) × (count ≤ 8192) ⌝ }
+    requires { ⌜ (first + count ≤ length (now marks)) × (count ≤ nodePlaces) ⌝ }
     ensures { λ r. ⌜ r ≡ markedOnce (now (marks .entry)) first count ⌝ }
 {
     let mut marked: u16 = 0;

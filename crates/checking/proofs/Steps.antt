@@ -15,8 +15,9 @@ use mir.Facts.{toZ-ofZ}
 use borrow.Author.Tests.{ltb-false}
 use Rattle.integer.specs.Words.{if_then_else_}
 use Rattle.integer.proofs.Tests.{test-true, test-false}
-use Rattle.dstree.specs.Checking.{sameℤ}
-use Rattle.dstree.proofs.Recomputed.{same→ℤ, sameℤ-refl}
+use Rattle.integer.specs.Words.{sameℤ}
+use Rattle.integer.proofs.Ring.{sameℤ-eq}
+use Rattle.dstree.proofs.Recomputed.{sameℤ-refl}
 use Rattle.tables.specs.View.{smallOf}
 
 -- a list from place d on starts with t
@@ -41,7 +42,7 @@ module _ {a b : ℤ} (fa : SFits w64 a) (fb : SFits w64 b) where
   same-yes e = test-true _ (subst (λ (z : ℤ). T (sameℤ a z)) (sym (toZ-ofZ fa) ∙ (ap (toZ w64) e ∙ toZ-ofZ fb)) (sameℤ-refl a))
 
   pub same-no : (ofZ w64 a ≡ ofZ w64 b → ⊥) → sameℤ a b ≡ false
-  same-no f = test-false _ (λ t. f (ap (ofZ w64) (same→ℤ a b t)))
+  same-no f = test-false _ (λ t. f (ap (ofZ w64) (sameℤ-eq a b t)))
 
 -- what a field reads as, at most
 pub small-most : (z : ℤ) → smallOf z ≤ 65536

@@ -34,7 +34,7 @@ use Rattle.dstree.specs.KNearest.{leavesRk, kNearestOf, listOfMatch, inR
 use Rattle.dstree.specs.Batch.{isBatch, wanted, batchOf, bestAmong, readOnce, readFor, batchRead, nearOrZero, batchBySteps}
 use Rattle.dstree.specs.Recording.{header, fieldBytes, recordingOf, rateIn, sizeIn, begins, isRecording, recordedTraces}
 use Rattle.dstree.specs.Recording.{judgeRecording, fileTraces, isBadFile}
-use Rattle.dstree.specs.Checking.{belowFrom, sameℤ, sameFigures, areExact, isExactAt, isExact}
+use Rattle.dstree.specs.Checking.{belowFrom, sameFigures, areExact, isExactAt, isExact}
 
 unfoldable wordsOpen : Unit {0}
 unfolding flatten roundedUp total counting those every chosen isEmpty isIn timesIn same
@@ -107,7 +107,7 @@ unfolding header fieldBytes recordingOf rateIn sizeIn begins isRecording recorde
 recordingsOpen = tt
 
 unfoldable checkingOpen : Unit {0}
-unfolding belowFrom sameℤ sameFigures areExact isExactAt isExact
+unfolding belowFrom sameFigures areExact isExactAt isExact
 checkingOpen = tt
 
 unfoldable booksOpen : Unit {0}

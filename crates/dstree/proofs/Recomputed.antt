@@ -1,13 +1,15 @@
 -- The least and the greatest of some figures are one number each: records whose figures are exactly those of some traces are the segments
 -- that are recomputed from these traces, and the other way round.
 use Prim.Native.Nat.{ℕ, suc, _<_}
-use mathlib.Core.Path.{_≡_, refl, ap, subst}
+use mathlib.Core.Path.{_≡_, refl, subst}
 use mathlib.Core.List.{List, [], _∷_}
 use native.Mathlib.Omega.{arith}
 use lib.ListN.{length, getD}
 use lib.IntN.{ℤ, pos, negsuc}
 use lib.Dec.{T, eqb, eqb→eq, eqb-refl}
+use Rattle.integer.specs.Words.{sameℤ}
 use Rattle.integer.proofs.Tests.{passed, passes}
+use Rattle.integer.proofs.Ring.{sameℤ-eq}
 use Rattle.integer.proofs.Order.{≤ℤ-antisym}
 use Rattle.integer.proofs.Lists.{In, in-map}
 use Rattle.dstree.specs.Measures.{Trace}
@@ -15,7 +17,7 @@ use Rattle.dstree.specs.Figures.{Run, run}
 use Rattle.dstree.specs.Node.{Segment, ends}
 use Rattle.dstree.specs.Adding.{tracesOf, segmentOf, segmentsFrom}
 use Rattle.dstree.specs.Claims.{Extreme, ExactOn, AllExact, exact-none, exact-more}
-use Rattle.dstree.specs.Checking.{sameℤ, sameFigures, areExact}
+use Rattle.dstree.specs.Checking.{sameFigures, areExact}
 use Rattle.dstree.proofs.Ranges.{from-covered}
 use Rattle.dstree.proofs.Exact.{exact, from-reached}
 
@@ -39,15 +41,7 @@ same-segment s t a b c d e =
     ≡ segment (t .end) (t .leastSum) (t .greatestSum) (t .leastScatter) (t .greatestScatter) = rw (a, b, c, d, e) refl in
     fields
 
-pub same→ℤ : (a b : ℤ) → T (sameℤ a b) → a ≡ b
-unfolding sameℤ
-same→ℤ (pos a) (pos b) t = ap pos (eqb→eq a b t)
-same→ℤ (pos a) (negsuc b) t = absurd t
-same→ℤ (negsuc a) (pos b) t = absurd t
-same→ℤ (negsuc a) (negsuc b) t = ap negsuc (eqb→eq a b t)
-
 pub sameℤ-refl : (a : ℤ) → T (sameℤ a a)
-unfolding sameℤ
 sameℤ-refl (pos a) = eqb-refl a
 sameℤ-refl (negsuc a) = eqb-refl a
 
@@ -56,7 +50,8 @@ unfolding sameFigures
 same-figures s t e h =
     let all = passed (sameℤ (s .leastSum) (t .leastSum)) (sameℤ (s .greatestSum) (t .greatestSum)
     ∷ eqb (s .leastScatter) (t .leastScatter) ∷ eqb (s .greatestScatter) (t .greatestScatter) ∷ []) h in
-    same-segment s t e (same→ℤ _ _ (all .0)) (same→ℤ _ _ (all .1 .0)) (eqb→eq _ _ (all .1 .1 .0)) (eqb→eq _ _ (all .1 .1 .1))
+    same-segment s t e (sameℤ-eq (s .leastSum) (t .leastSum) (all .0)) (sameℤ-eq (s .greatestSum) (t .greatestSum) (all .1 .0))
+    (eqb→eq _ _ (all .1 .1 .0)) (eqb→eq _ _ (all .1 .1 .1))
 
 figures-same : (s : Segment) → T (sameFigures s s)
 unfolding sameFigures

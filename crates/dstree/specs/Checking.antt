@@ -1,12 +1,11 @@
 -- Document 02, §6: "A check before trusting tables", as far as it speaks of the tree.
 use Prim.Native.Nat.{ℕ, zero, suc, _<_}
 use mathlib.Core.Path.{_≡_}
-use mathlib.Core.Bool.{Bool, true, false, _&&_}
+use mathlib.Core.Bool.{Bool, true, _&&_}
 use mathlib.Core.List.{List, [], _∷_, _++_}
 use lib.ListN.{length, getD}
-use lib.IntN.{ℤ, pos, negsuc}
 use lib.Dec.{T, eqb}
-use Rattle.integer.specs.Words.{counting, every}
+use Rattle.integer.specs.Words.{counting, every, sameℤ}
 use Rattle.dstree.specs.Measures.{Trace, Measures, isTrace, isLibrary}
 use Rattle.dstree.specs.Figures.{run}
 use Rattle.dstree.specs.Node.{Segment, leaf, inner, Tree, nodeAt}
@@ -27,13 +26,6 @@ belowFrom (suc fuel) tree number =
 
 abbrev pub tracesBelow : Tree → ℕ → List ℕ
 tracesBelow tree = belowFrom (length tree) tree
-
--- two numbers with a sign are the same
-unfoldable pub sameℤ : ℤ → ℤ → Bool
-sameℤ (pos a) (pos b) = eqb a b
-sameℤ (pos a) (negsuc b) = false
-sameℤ (negsuc a) (pos b) = false
-sameℤ (negsuc a) (negsuc b) = eqb a b
 
 -- no recorded figure "isn't exactly the recomputed one"
 unfoldable pub sameFigures : Segment → Segment → Bool

@@ -14,6 +14,7 @@ use native.Mathlib.Nat as NatL
 use native.Mathlib.Numerals.{add-one}
 use lib.Dec.{eqb, eqb→eq, T, isEq}
 use lib.IntN.{ℤ, pos, negsuc, negℤ, _+ℤ_, _*ℤ_, +ℤ-idl, +ℤ-idr, +ℤ-assoc, zero-*ℤ, *ℤ-zero}
+use Rattle.integer.specs.Words.{sameℤ}
 use Rattle.integer.proofs.Order.{+ℤ-swap, +ℤ-swap4, +ℤ-*ℤ, *ℤ-+ℤ, one-*ℤ, *ℤ-pos-one, *ℤ-assoc, *ℤ-swap, *ℤ-swap4, negℤ-is}
 
 -- ---- polynomials: a sum of terms, each a coefficient and the places of the monomial's factors, in order
@@ -162,12 +163,6 @@ norm-sound {ρ} (neg {a = a} r) = val-scale ρ (negsuc 0) [] (norm r) ∙ ap₂ 
 norm-sound {ρ} (nxt {n = n} r) = val-plus ρ (term (pos 1) [] nil) (norm r) ∙ ap (λ z. pos 1 +ℤ z) (norm-sound r) ∙ ap pos (NatL.add-comm 1 n ∙ add-one n)
 
 -- ---- two polynomials are the same: a test, whose proof is `tt`. (`norm r ≡ norm s` by `refl` is slower as they grow: 8 to 9 s against 0.4 to 0.8 s at 330 monomials)
-abbrev pub sameℤ : ℤ → ℤ → Bool
-sameℤ (pos a) (pos b) = eqb a b
-sameℤ (pos a) (negsuc b) = false
-sameℤ (negsuc a) (pos b) = false
-sameℤ (negsuc a) (negsuc b) = eqb a b
-
 abbrev pub both : Bool → Bool → Bool
 both true b = b
 both false b = false
@@ -178,7 +173,7 @@ samePoly nil (term d n q) = false
 samePoly (term c m p) nil = false
 samePoly (term c m p) (term d n q) = both (sameℤ c d) (both (isEq (cmp m n)) (samePoly p q))
 
-sameℤ-eq : (c d : ℤ) → T (sameℤ c d) → c ≡ d
+pub sameℤ-eq : (c d : ℤ) → T (sameℤ c d) → c ≡ d
 sameℤ-eq (pos a) (pos b) t = ap pos (eqb→eq a b t)
 sameℤ-eq (pos a) (negsuc b) t = absurd t
 sameℤ-eq (negsuc a) (pos b) t = absurd t

@@ -2,7 +2,7 @@
 use Prim.Native.Nat.{ℕ, zero, suc, _+_, _*_, _-_, _/_, min, max}
 use mathlib.Core.Bool.{Bool, true, false, _&&_}
 use mathlib.Core.List.{List, [], _∷_, foldl}
-use lib.IntN.{ℤ, pos, natAbs}
+use lib.IntN.{ℤ, pos, negsuc, natAbs}
 use lib.Signed.{ltZ}
 use lib.Dec.{eqb}
 
@@ -17,6 +17,13 @@ if_then_else_ false a b = b
 -- the square of a number with a sign
 abbrev pub square : ℤ → ℕ
 square z = natAbs z * natAbs z
+
+-- two numbers with a sign are the same
+abbrev pub sameℤ : ℤ → ℤ → Bool
+sameℤ (pos a) (pos b) = eqb a b
+sameℤ (pos a) (negsuc b) = false
+sameℤ (negsuc a) (pos b) = false
+sameℤ (negsuc a) (negsuc b) = eqb a b
 
 -- a / w, rounded up
 unfoldable pub roundedUp : ℕ → ℕ → ℕ

@@ -4,7 +4,8 @@ use mathlib.Core.Bool.{true}
 use mir.Syntax.{w64}
 use borrow.Author.Tests.{eq-eqb, ne-eqb}
 use Rattle.integer.proofs.Width.{of-mag}
-use Rattle.dstree.specs.Checking.{sameℤ, sameFigures}
+use Rattle.integer.specs.Words.{sameℤ}
+use Rattle.dstree.specs.Checking.{sameFigures}
 use Rattle.leaf_figures.specs.declared.sides.SideRange.{SideRange}
 use Rattle.checking.proofs.Steps.{same-yes, same-no}
 use Rattle.checking.proofs.nodes.same_figures.Statement.{statement}

@@ -562,10 +562,11 @@ static void exports(void)
  * Nothing is written but `out`. */
 static void checks(void)
 {
-    static struct tables t, before;
+    static struct tables t, u, before;
     const int16_t traces[3][N] = {{0, 0, 0, 0}, {4, 4, 4, 4}, {0, 8, 0, 8}};
     const int16_t query[N] = {1, 1, 1, 1};
     uint16_t trail[TRAIL];
+    uint8_t sheet[SILKENDOZ_SHEET(3, N)];
     uint64_t out[SILKENDOZ_OUT] = {9, 9, 9, 9};
     int node, figure, i;
 
@@ -603,9 +604,14 @@ static void checks(void)
     EXPECT(nearest_in(&t, query, N, trail, TRAIL, out, SILKENDOZ_OUT) == SILKENDOZ_DONE && out[0] == 0 && out[1] == 4 && out[2] == 1);
     t.nodes[6] = 16;
 
-    /* a sample that changed makes figures loose; short tables come before what they hold */
+    /* a sample that changed makes figures loose: written and read back, the traces as they now are make a library that is accepted. Short
+     * tables come before what they hold */
     t.samples[2 * N] = 1;
     EXPECT(check_in(&t, out, SILKENDOZ_OUT) == SILKENDOZ_LOOSE_RECORD);
+    memset(&u, 0x55, sizeof u);
+    EXPECT(write_from(&t, sheet, sizeof sheet, out) == SILKENDOZ_DONE && read_into(&u, sheet, sizeof sheet, out) == SILKENDOZ_DONE);
+    EXPECT(check_in(&u, out, SILKENDOZ_OUT) == SILKENDOZ_DONE && memcmp(u.control, t.control, 4 * sizeof *t.control) == 0);
+    EXPECT(memcmp(u.samples, t.samples, SILKENDOZ_SAMPLES(N, C) * sizeof *t.samples) == 0);
     {
         struct silkendoz_tables less = lent(&t);
         less.work_len = SILKENDOZ_WORK(C) - 1;

@@ -2,7 +2,7 @@
 
 mod common;
 
-use common::{check_add, check_batch, check_checked, check_export, check_import, check_k_nearest, check_nearest, measures};
+use common::{check_add, check_batch, check_checked, check_export, check_import, check_k_nearest, check_nearest, check_read_back, measures};
 use silkendoz::model::recording;
 use silkendoz::model::tables::{Tables, RECORD_PLACES};
 use silkendoz::model::{runs, segments_of, width, Figure, Kind, Library, Node, Segment, Test, Trace};
@@ -147,11 +147,13 @@ fn with_junk(random: &mut Random, library: &Library) -> Tables {
     t
 }
 
-fn follow(random: &mut Random, library: &Library, shape: Shape, queries: usize, more: usize) {
+/// Every call on the tables of a library; whether the check refused them, with 13.
+fn follow(random: &mut Random, library: &Library, shape: Shape, queries: usize, more: usize) -> bool {
     let mut t = with_junk(random, library);
     let l = t.lengths();
     assert_eq!(t.library().as_ref(), Some(library), "the tables made here are well formed");
-    let _ = check_checked(&t, l);
+    let checked = check_checked(&t, l);
+    check_read_back(&t, l);
     let n = library.measures.n as usize;
     for _ in 0..queries {
         let q: Trace = query(random, shape, n, &library.traces);
@@ -181,19 +183,22 @@ fn follow(random: &mut Random, library: &Library, shape: Shape, queries: usize, 
             check_nearest(&mut t, l, &mut trail, &q).expect("nothing is refused");
         }
     }
+    checked == Err((13, 0))
 }
 
 #[test]
 fn altered_trees() {
     let random = &mut Random::seeded(31);
+    let mut loose = 0;
     for _ in 0..400 {
         let shape = *random.pick(&SHAPES);
         let count = 1 + random.below(18);
         let (n, spare, leaf_size) = (1 + random.below(20), random.below(6), 1 + random.below(4));
         let chain = random.once_in(4);
         let made = library(random, shape, n, count, count + spare, leaf_size, chain);
-        follow(random, &made, shape, 4, 5);
+        loose += usize::from(follow(random, &made, shape, 4, 5));
     }
+    assert!(loose > 300, "{loose} loose");
 }
 
 #[test]

@@ -3,7 +3,7 @@
 
 mod common;
 
-use common::{check_add, check_checked, check_import, check_k_nearest, check_list, check_nearest, check_scan, measures};
+use common::{check_add, check_checked, check_import, check_k_nearest, check_list, check_nearest, check_read_back, check_scan, measures};
 use silkendoz::model::recording;
 use silkendoz::model::tables::{segment_place, Tables, RECORD_PLACES};
 use silkendoz::model::{segments_of, Kind, Library, Trace};
@@ -161,6 +161,7 @@ fn accepted_tables_are_searched_exactly() {
         let mut t = Tables::of(&library);
         let l = t.lengths();
         assert_eq!(check_checked(&t, l), Ok(library), "round {round}");
+        check_read_back(&t, l);
         for _ in 0..4 {
             let held = check_checked(&t, l).expect("it goes on accepting");
             let q: Trace = query(random, shape, n, &held.traces);

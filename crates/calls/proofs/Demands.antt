@@ -28,17 +28,18 @@ use Rattle.calls.specs.Trusted.{bookIn, Trusts}
 use Rattle.calls.specs.Effects.{lists, checks, effectOf}
 use Rattle.calls.specs.Follows.{Ran, a-call}
 use Rattle.calls.specs.Demands.{ListedIn, ListsAnywhere, ChecksAnywhere, judgeIn, OfAnyQuery, EmptyIsSix, IsAccepted}
-use Rattle.calls.specs.Demands.{OfAnyBatch, AfterList, AfterCheck, Demands}
+use Rattle.calls.specs.Demands.{OfAnyBatch, AfterList, ReadBack, OfStored, AfterCheck, Demands}
 use Rattle.calls.proofs.Library.{library-holds}
+use Rattle.calls.proofs.Stored.{Stores, kept-stores, trusted-stores, typed-stores}
 use Rattle.calls.proofs.Trusted.{exact-tree, accepted-same, kept-trusts}
 use Rattle.calls.proofs.Agrees.{agrees}
 use Rattle.calls.proofs.Steps.{reply-is, stepped, started, ran}
 use Rattle.calls.proofs.OneCall.{one-call}
 use Rattle.calls.proofs.NeverSpoiled.{spoiled-is-not, loose-is-not, never}
-use Rattle.calls.proofs.RoundTrips.{read-back-in, written-again-from}
+use Rattle.calls.proofs.RoundTrips.{written-is, is-written, read-back-in, written-again-from}
 use Rattle.calls.proofs.OffTrail.{answered, off-trail}
-use Rattle.calls.proofs.Imports.{imports-anywhere, exported-sound}
-use Rattle.calls.proofs.Trusting.{check-stays, part-checked, loose-is, trusted, all-trusting}
+use Rattle.calls.proofs.Imports.{imports-anywhere, exported-sound, exported-and-imported}
+use Rattle.calls.proofs.Trusting.{check-stays, part-checked, loose-is, loose-fine, loose-stores, trusted, all-trusting}
 use Rattle.calls.proofs.Queries.{Judges, of-any-query}
 use Rattle.calls.proofs.Batches.{of-any-batch, batches-anywhere}
 
@@ -102,14 +103,6 @@ lists-anywhere lent k query trail list memory memory′ said f m answers =
       one-call _ memory memory′ said f .works (known .0) .1,
     )
 
--- document 02, §6, on any tables
-checks-anywhere : ChecksAnywhere
-checks-anywhere lent memory memory′ said f = record {
-  stays = check-stays f;
-  accepts = λ a. exact-tree (part-checked f a);
-  refuses-loose = λ a. loose-is f a;
-}
-
 -- ---- a list of calls
 
 -- what holds of a memory that keeps the book after a list of calls, these having been answered as the book says
@@ -120,15 +113,49 @@ after-list {b} {memory} calls said e k = record {
   keeps = k;
   holds = holds-whole (k .needed-places) (library-holds (after layout b calls .measures) (after layout b calls .traces) (k .library));
   replies-are = e;
-  written-and-read = read-back-in k;
+  written-and-read = read-back-in (kept-stores k);
   never-spoiled = λ r i. never layout spoiled spoiled-is-not b calls r (subst (In r) e i);
   never-loose = λ r i. never layout looseRecord loose-is-not b calls r (subst (In r) e i);
   any-query = of-book k;
   any-batch = batch-of-book k;
   empty-is-six = empty-is-six k;
-  exported-sound = exported-sound k;
+  exported-sound = exported-sound (kept-stores k);
   is-accepted = is-accepted (kept-trusts k);
 }
+
+-- ---- what a memory stores
+
+-- a sheet that was read back puts a library, and from then on it is one made by calls
+put-back : {b : Book} {memory : Tables} {said : Reply} → said .answer ≡ answering done → Keeps memory b → ReadBack b said memory
+put-back {b} d k = record {
+  is-done = d;
+  keeps = k;
+  holds = holds-whole (k .needed-places) (library-holds (b .measures) (b .traces) (k .library));
+  is-accepted = is-accepted (kept-trusts k);
+  goes-on = λ calls others memory′ rest. let r = ran k rest in after-list calls others (r .0) (r .1);
+}
+
+of-stored : {memory : Tables} {b : Book} → Stores memory b → OfStored b memory
+of-stored k = record {
+  sheet-is = λ lent sheet said memory′ f blocks bytes a. written-is k f a .0;
+  written-and-read = λ lent sheet said₁ memory₁ f blocks bytes a lent′ memory₂ said₃ memory₃ g short.
+      let r = read-back-in k lent sheet said₁ memory₁ f blocks bytes a lent′ memory₂ said₃ memory₃ g short in
+      put-back (r .0) (r .1);
+  exported-sound = exported-sound k;
+  exported-and-imported = exported-and-imported k;
+}
+
+-- document 02, §6, on any tables
+checks-anywhere : ChecksAnywhere
+checks-anywhere lent memory memory′ said f = record {
+  stays = check-stays f;
+  accepts = λ a. exact-tree (part-checked f a);
+  refuses-loose = λ a. loose-is f a;
+  loose-written = λ a. is-written lent memory (loose-fine f a);
+  loose-stored = λ a. of-stored (loose-stores f a);
+}
+
+-- ---- a list of calls, from its first on
 
 from-first : (first : Call) (calls : List Call) (memory₀ memory : Tables) (said₀ : Reply) (said : List Reply)
     → Ran memory₀ (first ∷ calls) (said₀ ∷ said) memory → said₀ .answer ≡ answering done → AfterList (start layout first) calls said memory
@@ -147,6 +174,7 @@ from-check first calls memory₀ memory said₀ said (a-call f rest) e =
       never-loose = λ r i. t .1 r i looseRecord loose-is-not;
       any-query = λ query some-trace size. of-any-query (t .0) (judgeIn memory) (λ c places typed q. q) query size some-trace;
       any-batch = λ count run some-trace size. of-any-batch (t .0) (judgeIn memory) (λ c places typed q. q) some-trace count run size;
+      of-stored = of-stored (trusted-stores (t .0));
     }
 
 pub demands : Demands
@@ -157,6 +185,7 @@ demands = record {
   imports-anywhere = imports-anywhere;
   checks-anywhere = checks-anywhere;
   batches-anywhere = batches-anywhere;
+  stored-anywhere = λ memory typed. of-stored (typed-stores memory typed);
   after-list = from-first;
   after-check = from-check;
   read-and-written = λ lent bytes memory₀ memory₁ said₁ g d lent′ sheet said₂ memory₂ f blocks again a. written-again-from g d f a;

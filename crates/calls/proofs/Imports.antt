@@ -1,7 +1,7 @@
 -- Document 02, §2, of calls that follow their definitions: an import leaves what adding its traces one after another leaves, and what an
 -- export writes is a sound recording of its trace.
--- The idea: each adding leaves tables that refuse nothing of the next trace, so that all of them together are one fold; and the book says
--- what an export wrote.
+-- The idea: each adding leaves tables that refuse nothing of the next trace, so that all of them together are one fold; and what an export
+-- wrote is a trace of the library that the memory stores, whoever made its tree.
 use Prim.Native.Nat.{ℕ, _<_}
 use mathlib.Core.Path.{_≡_, refl, sym, ap, subst, _∙_}
 use mathlib.Core.Bool.{not, _&&_}
@@ -9,38 +9,36 @@ use mathlib.Core.Option.{Option, none, some}
 use mathlib.Core.List.{List, [], _∷_, map, foldl}
 use native.Mathlib.Omega.{arith}
 use lib.ListN.{length, getD, drop}
-use lib.Dec.{T, ltb, leb, ltb→lt}
+use lib.Dec.{ltb, leb, ltb→lt}
 use borrow.Author.Tests.{not-false, eq-eqb, ne-eqb}
 use mir.Facts.{and-yes}
 use Rattle.integer.specs.Words.{every, counting}
 use Rattle.integer.proofs.Tests.{passed, is-true, test-true}
 use Rattle.integer.proofs.Lists.{in-getD, from-every}
-use Rattle.dstree.specs.Measures.{Trace, sampleLimit, inRange, isTrace, isLibrary}
-use Rattle.dstree.specs.Refusals.{Refusal, Condition, firstOf, _refuses_, spoiled, badRecording}
+use Rattle.dstree.specs.Measures.{Trace, Measures, sampleLimit, inRange, isTrace, isLibrary}
+use Rattle.dstree.specs.Refusals.{firstOf, _refuses_, spoiled, badRecording}
 use Rattle.dstree.specs.Recording.{rateLimit, recordingSize, recordingOf, Recording, recording, judgeRecording, fileTraces, isBadFile}
-use Rattle.dstree.specs.Book.{Lent, exporting, call, Reply, reply, answering, added, imported, over}
-use Rattle.dstree.specs.Book.{Book, shortConditions, exportConditions, exportingEntry, besideOf, entryOf, judge, replyUnless, replyOf}
+use Rattle.dstree.specs.Book.{Lent, Reply, reply, answering, added, imported, exported, over, Book, exportConditions, besideOf}
 use Rattle.dstree.proofs.Conditions.{first-none, none-first, none-both}
 use Rattle.dstree.proofs.Recordings.{recording-length, recording-claims}
 use Rattle.dstree.proofs.Limits.{trace-length}
-use Rattle.tables.specs.Layout.{layout}
 use Rattle.tables.specs.Tables.{Tables, tables, lentOf, measuresOf, traceCount}
-use Rattle.tables.specs.View.{wellFormed}
+use Rattle.tables.specs.View.{tracesIn, wellFormed}
 use Rattle.tables.specs.Judge.{lentConditionsOf}
 use Rattle.tables.specs.Beginning.{firstPlaces, left}
 use Rattle.tables.specs.Answers.{madeConditions}
 use Rattle.tables.proofs.Range.{in-range}
+use Rattle.tables.proofs.Views.{traces-size}
 use Rattle.tables.proofs.Beginning.{extended, restOf, left-same, left-begins, left-extended}
 use Rattle.insertion_memory.specs.Memory.{addedTo}
 use Rattle.insertion_memory.proofs.Keeps.{TakesAll, first-size, takes-first, takes-others, keeps-all}
-use Rattle.calls.specs.Library.{Keeps}
-use Rattle.calls.specs.Effects.{adds, imports, effectOf}
+use Rattle.calls.specs.Effects.{adds, imports, exports, effectOf}
 use Rattle.calls.specs.Follows.{Typed, Ran, no-call, a-call}
-use Rattle.calls.specs.Demands.{addings, ImportedInto, ImportsAnywhere, ExportedSound}
-use Rattle.calls.proofs.Library.{library-range}
+use Rattle.calls.specs.Demands.{addings, ImportedInto, ImportsAnywhere, ExportedSound, ExportedThenImported}
+use Rattle.calls.proofs.Stored.{Stores, lent-measures, lent-traces}
 use Rattle.calls.proofs.OffTrail.{answered}
 use Rattle.calls.proofs.OneCall.{import-takes, one-call}
-use Rattle.calls.proofs.Steps.{reply-is, stepped}
+use Rattle.calls.proofs.Steps.{reply-is}
 
 -- ---- one adding after another
 
@@ -147,45 +145,51 @@ imports-anywhere lent bytes memory memory′ said f count answers = by (judgeRec
 
 -- ---- what an export writes
 
-module _ {memory : Tables} {b : Book} (keeps : Keeps memory b) where
+module _ {memory : Tables} {b : Book} (k : Stores memory b) where
   abbrev n : ℕ
   n = b .measures .n
 
-  stored-one : (number : ℕ) → number < length (b .traces) → T (isTrace sampleLimit n (getD (b .traces) number []))
-  unfolding isLibrary
-  stored-one number h =
-      let p = passed (inRange (b .measures)) (leb (length (b .traces)) (b .measures .capacity) ∷ every (isTrace sampleLimit n) (b .traces) ∷ [])
-      (keeps .library) in
-      from-every (isTrace sampleLimit n) (b .traces) (p .1 .1) (in-getD (b .traces) number [] h)
-
   pub exported-sound : ExportedSound b memory
-  unfolding replyOf replyUnless besideOf entryOf exportingEntry judge
+  unfolding effectOf besideOf exports isLibrary
   exported-sound lent number rate buffer said memory′ f size bytes answers =
-      by (judge layout b (call lent (exporting number rate buffer))) refl (stepped f keeps .0)
-    where
-      trace : Trace
-      trace = getD (b .traces) number []
+      let t = firstPlaces lent memory in
+      let e = exports t number rate buffer in
+      let known = answered (firstOf (e .conditions)) t (buffer ∷ []) e (exported size bytes)
+      (sym (ap (λ (r : Reply). r .answer) (reply-is f)) ∙ answers) in
+      let parts = none-both (madeConditions t) (exportConditions (measuresOf t) (traceCount t) number rate buffer) (known .0) in
+      let one = none-first (not (ltb rate rateLimit && ltb number (traceCount t))) badRecording _ (parts .1) in
+      let both = and-yes (ltb rate rateLimit) (ltb number (traceCount t))
+      (is-true {b = ltb rate rateLimit && ltb number (traceCount t)} (not-false _ (one .0))) in
+      let inside : number < length (b .traces) =
+      omega (arith, ltb→lt number (traceCount t) (both .1), traces-size t, ap length (lent-traces k lent (parts .0))) in
+      let library = passed (inRange (b .measures))
+      (leb (length (b .traces)) (b .measures .capacity) ∷ every (isTrace sampleLimit n) (b .traces) ∷ []) (k .library lent (parts .0)) in
+      let trace : Trace = getD (b .traces) number [] in
+      let is-trace = from-every (isTrace sampleLimit n) (b .traces) (library .1 .1) (in-getD (b .traces) number [] inside) in
+      let range = in-range (b .measures) (test-true (inRange (b .measures)) (library .0)) in
+      let claims = recording-claims n (omega (arith, range .n-low)) in
+      let n-is : measuresOf t .n ≡ n = ap (λ (m : Measures). m .n) (lent-measures k lent (parts .0)) in
+      let trace-is : getD (tracesIn t) number [] ≡ trace = ap (λ (l : List Trace). getD l number []) (lent-traces k lent (parts .0)) in
+      let written-is : recordingOf rate (getD (tracesIn t) number []) ≡ bytes = cc (known .1) in
+      let size-is : recordingSize n ≡ size = ap recordingSize (sym n-is) ∙ cc (known .1) in
+      let bytes-are : recordingOf rate trace ≡ bytes = ap (recordingOf rate) (sym trace-is) ∙ written-is in (
+        ap (λ (r : Reply). r .beside) (one-call _ memory memory′ said f .works (known .0) .0)
+            ∙ ap (λ (l : List ℕ). over l buffer ∷ []) written-is,
+        (
+          omega (arith, size-is, ap length bytes-are, recording-length rate trace, trace-length sampleLimit n trace is-trace),
+          ap (judgeRecording n) (sym bytes-are) ∙ claims .exported rate trace (ltb→lt rate rateLimit (both .0)) (range .n-high) is-trace,
+        ),
+      )
 
-      rest : List Condition
-      rest = exportConditions (b .measures) (length (b .traces)) number rate buffer
-
-      by : (o : Option Refusal) → judge layout b (call lent (exporting number rate buffer)) ≡ o
-          → said ≡ replyUnless o (buffer ∷ []) (exportingEntry layout lent b number rate buffer)
-          → (said .beside ≡ over bytes buffer ∷ []) × ((size ≡ length bytes) × (judgeRecording n bytes ≡ some (recording rate (trace ∷ []))))
-      by (some why) e q = let z : _≡_ {A = ℕ} 0 1 = cc (ap (λ (r : Reply). r .answer) q, answers) in absurd (omega arith)
-      by none e q =
-          let own = none-both (shortConditions layout lent (b .measures)) rest e .1 in
-          let one = none-first (not (ltb rate rateLimit && ltb number (length (b .traces)))) badRecording _ own in
-          let both = and-yes (ltb rate rateLimit) (ltb number (length (b .traces)))
-          (is-true {b = ltb rate rateLimit && ltb number (length (b .traces))} (not-false _ (one .0))) in
-          let is-trace = stored-one number (ltb→lt number (length (b .traces)) (both .1)) in
-          let range = in-range (b .measures) (test-true (inRange (b .measures)) (library-range (b .measures) (b .traces) (keeps .library))) in
-          let bytes-are : recordingOf rate trace ≡ bytes = cc (ap (λ (r : Reply). r .answer) q, answers) in
-          let size-is : recordingSize n ≡ size = cc (ap (λ (r : Reply). r .answer) q, answers) in (
-            ap (λ (r : Reply). r .beside) q ∙ ap (λ (l : List ℕ). over l buffer ∷ []) bytes-are,
-            (
-              omega (arith, size-is, ap length bytes-are, recording-length rate trace, trace-length sampleLimit n trace is-trace),
-              ap (judgeRecording n) (sym bytes-are)
-                  ∙ recording-claims n (omega (arith, range .n-low)) .exported rate trace (ltb→lt rate rateLimit (both .0)) (range .n-high) is-trace,
-            ),
-          )
+  pub exported-and-imported : ExportedThenImported b memory
+  unfolding fileTraces
+  exported-and-imported lent number rate buffer said₁ memory₁ f size bytes a lent′ memory₂ said₃ memory₃ g n-same count c =
+      let i = imports-anywhere lent′ bytes memory₂ memory₃ said₃ g count c in
+      let sound = exported-sound lent number rate buffer said₁ memory₁ f size bytes a .1 .1 in
+      let file-is : some (i .file) ≡ some (recording rate (getD (b .traces) number [] ∷ [])) =
+      sym (i .file-sound) ∙ (ap (λ (w : ℕ). judgeRecording w bytes) n-same ∙ sound) in
+      let traces-are : i .file .traces ≡ getD (b .traces) number [] ∷ [] = ap (λ (o : Option Recording). fileTraces o) file-is in (
+        i .counted ∙ ap length traces-are,
+        λ others memory″ ran. i .as-addings others memory″
+            (subst (λ (l : List Trace). Ran memory₂ (addings lent′ l) others memory″) (sym traces-are) ran) .0,
+      )

@@ -2,14 +2,15 @@
 pub mod Finds
 pub mod Library
 pub mod Kept
+pub mod Stored
 pub mod Trusted
 pub mod Agrees
 pub mod Ends
 pub mod Steps
 pub mod OneCall
 pub mod NeverSpoiled
-pub mod RoundTrips
 pub mod OffTrail
+pub mod RoundTrips
 pub mod Imports
 pub mod Trusting
 pub mod Queries

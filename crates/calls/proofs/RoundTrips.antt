@@ -1,42 +1,67 @@
--- The round trips on memories: a sheet that a kept library was written to holds that library, so that reading it puts the same library; and
--- what was read from a sheet is written as its bytes.
-use Prim.Native.Nat.{ℕ}
-use mathlib.Core.Path.{_≡_, refl, sym, ap, subst, _∙_}
-use mathlib.Core.Option.{Option, none, some}
+-- The round trips on memories: a sheet that was written holds what the memory stores, whoever made its tree, so that reading it puts the
+-- library of these traces; and what was read from a sheet is written as its bytes.
+use Prim.Native.Nat.{ℕ, _*_, _≤_}
+use mathlib.Core.Path.{_≡_, refl, sym, ap, ap₂, subst, _∙_}
+use mathlib.Core.Option.{none}
 use mathlib.Core.List.{List, [], _∷_}
 use native.Mathlib.Omega.{arith}
-use Rattle.dstree.specs.Measures.{Trace, Measures, measures}
-use Rattle.dstree.specs.Refusals.{Refusal, firstOf}
-use Rattle.dstree.specs.Sheet.{sheetOf, Judged, refused, holds, judgeSheet}
+use lib.ListN.{length}
+use lib.Dec.{T}
+use borrow.Author.Tests.{le-ltb}
+use Rattle.dstree.specs.Measures.{Trace, Measures, measures, sampleLimit, isLibrary}
+use Rattle.dstree.specs.Refusals.{firstOf}
+use Rattle.dstree.specs.Sheet.{blockSize, blocksNeeded, sheetOf, Judged, refused, holds, judgeSheet}
 use Rattle.dstree.specs.Book.{Lent, writing, reading, call, besideOf, done, written, refusing, answering, Reply, Book, book, putRead}
-use Rattle.dstree.specs.Book.{shortConditions, readingConditions}
-use Rattle.dstree.specs.Book.{writingEntry, readingEntry, entryOf, judge, replyUnless, replyOf, start}
+use Rattle.dstree.specs.Book.{reply, over, shortConditions, readingConditions, readingEntry, entryOf, start}
+use Rattle.dstree.proofs.Conditions.{first-none, none-both}
 use Rattle.dstree.proofs.RoundTrips.{read-back, written-again}
 use Rattle.tables.specs.Layout.{layout}
-use Rattle.tables.specs.Tables.{Tables, lentOf}
+use Rattle.tables.specs.Tables.{Tables, lentOf, measuresOf, traceCount}
+use Rattle.tables.specs.View.{tracesIn}
 use Rattle.tables.specs.Beginning.{firstPlaces}
+use Rattle.tables.specs.Answers.{madeConditions}
+use Rattle.tables.proofs.Views.{traces-size}
 use Rattle.calls.specs.Library.{Keeps}
-use Rattle.calls.specs.Effects.{reads, effectOf}
+use Rattle.calls.specs.Effects.{writes, reads, effectOf}
 use Rattle.calls.specs.Follows.{Typed, Follows}
-use Rattle.calls.specs.Demands.{WrittenAndRead}
-use Rattle.calls.proofs.Steps.{stepped, started}
+use Rattle.calls.specs.Demands.{WrittenAndRead, IsWritten}
+use Rattle.calls.proofs.Stored.{Fine, measures-stored, traces-stored, Stores, lent-measures, lent-traces, kept-stores}
+use Rattle.calls.proofs.Steps.{reply-is, started}
 use Rattle.calls.proofs.OneCall.{one-call}
+use Rattle.calls.proofs.OffTrail.{answered}
 
 -- ---- a writing
 
--- the bytes that a writing answers are the sheet of the book
-written-is : {memory memory′ : Tables} {b : Book} {lent : Lent} {sheet : List ℕ} {said : Reply} {blocks : ℕ} {bytes : List ℕ}
-    → Keeps memory b
+-- the bytes that a writing answers are the sheet of what the memory stores, and that is a library
+pub written-is : {memory memory′ : Tables} {b : Book} {lent : Lent} {sheet : List ℕ} {said : Reply} {blocks : ℕ} {bytes : List ℕ}
+    → Stores memory b
     → Follows (call lent (writing sheet)) memory said memory′ → said .answer ≡ answering (written blocks bytes)
-    → sheetOf (b .measures) (b .traces) ≡ bytes
-unfolding replyOf replyUnless besideOf entryOf writingEntry
-written-is {b = b} {lent = lent} {sheet = sheet} {blocks = blocks} {bytes = bytes} keeps f e =
-    by (judge layout b (call lent (writing sheet))) (sym (ap (λ (r : Reply). r .answer) (stepped f keeps .0)) ∙ e)
-  where
-    by : (o : Option Refusal) → replyUnless o (sheet ∷ []) (writingEntry layout lent b sheet) .answer ≡ answering (written blocks bytes)
-        → sheetOf (b .measures) (b .traces) ≡ bytes
-    by none q = cc
-    by (some why) q = let z : _≡_ {A = ℕ} 0 1 = cc in absurd (omega arith)
+    → (bytes ≡ sheetOf (b .measures) (b .traces)) × T (isLibrary sampleLimit (b .measures) (b .traces))
+unfolding effectOf besideOf writes
+written-is {memory = memory} {lent = lent} {sheet = sheet} {blocks = blocks} {bytes = bytes} k f e =
+    let t = firstPlaces lent memory in
+    let known = answered (firstOf (writes t sheet .conditions)) t (sheet ∷ []) (writes t sheet) (written blocks bytes)
+    (sym (ap (λ (r : Reply). r .answer) (reply-is f)) ∙ e) in
+    let fine = none-both (madeConditions t) _ (known .0) .0 in
+    let is : bytes ≡ sheetOf (measuresOf t) (tracesIn t) = cc (known .1) in
+    (is ∙ ap₂ sheetOf (lent-measures k lent fine) (lent-traces k lent fine), k .library lent fine)
+
+-- where tables are not refused for what they hold, bytes enough are all that it takes
+pub is-written : (lent : Lent) (memory : Tables) → Fine lent memory → IsWritten lent memory
+unfolding effectOf writes firstOf
+is-written lent memory fine sheet said memory′ f long =
+    let t = firstPlaces lent memory in
+    let m-same = measures-stored lent memory fine in
+    let traces-same = traces-stored lent memory fine in
+    let blocks-same : blocksNeeded (traceCount t) (measuresOf t .n) ≡ blocksNeeded (length (tracesIn memory)) (measuresOf memory .n) =
+    ap₂ blocksNeeded (sym (traces-size t) ∙ ap length traces-same) (ap (λ (m : Measures). m .n) m-same) in
+    let bytes-same : sheetOf (measuresOf t) (tracesIn t) ≡ sheetOf (measuresOf memory) (tracesIn memory) =
+    ap₂ sheetOf m-same traces-same in
+    let enough : blockSize * blocksNeeded (traceCount t) (measuresOf t .n) ≤ length sheet =
+    subst (λ (k : ℕ). blockSize * k ≤ length sheet) (sym blocks-same) long in
+    let nothing : firstOf (writes t sheet .conditions) ≡ none = first-none (madeConditions t) _ fine ∙ rw (le-ltb _ _ enough) in
+    one-call _ memory memory′ said f .works nothing .0
+    ∙ ap₂ (λ (k : ℕ) (bytes : List ℕ). reply (answering (written k bytes)) (over bytes sheet ∷ [])) blocks-same bytes-same
 
 -- ---- a reading
 
@@ -48,12 +73,13 @@ module _ {lent : Lent} {bytes : List ℕ} {memory memory′ : Tables} {said : Re
   unfolding start entryOf readingEntry putRead
   reading-puts d m traces e = subst (λ (j : Judged). Keeps memory′ (putRead (book (measures 0 0 0) []) j)) e (started f d)
 
--- "written to a sheet and read back, is the same library"
-pub read-back-in : {memory : Tables} {b : Book} → Keeps memory b → WrittenAndRead b memory
+-- "written to a sheet and read back, is the same library", whoever made the tree that was written
+pub read-back-in : {memory : Tables} {b : Book} → Stores memory b → WrittenAndRead b memory
 unfolding effectOf reads readingConditions
-read-back-in {memory} {b} keeps lent sheet said₁ memory₁ f blocks bytes a lent′ memory₂ said₃ memory₃ g short =
-    let sheet-holds : judgeSheet bytes ≡ holds (b .measures) (b .traces) = ap judgeSheet (sym (written-is keeps f a))
-    ∙ read-back (b .measures) (b .traces) (keeps .library) in
+read-back-in {memory} {b} k lent sheet said₁ memory₁ f blocks bytes a lent′ memory₂ said₃ memory₃ g short =
+    let is = written-is k f a in
+    let sheet-holds : judgeSheet bytes ≡ holds (b .measures) (b .traces) = ap judgeSheet (is .0)
+    ∙ read-back (b .measures) (b .traces) (is .1) in
     let fine : firstOf (readingConditions layout (lentOf (firstPlaces lent′ memory₂)) (judgeSheet bytes)) ≡ none =
     rw sheet-holds (subst (λ (l : Lent). firstOf (shortConditions layout l (b .measures)) ≡ none) (sym (g .has-places)) short) in
     let is-done : said₃ .answer ≡ answering done = ap (λ (r : Reply). r .answer) (one-call _ memory₂ memory₃ said₃ g .works fine .0) in
@@ -71,4 +97,4 @@ written-again-from {bytes = bytes} {again = again} {memory₀ = memory₀} {memo
     by (refused why) e =
         let q : said₁ .answer ≡ refusing why = one-call _ memory₀ memory₁ said₁ g .refuses why (rw e) in
         let z : _≡_ {A = ℕ} 0 1 = cc in absurd (omega arith)
-    by (holds m traces) e = sym (written-is (reading-puts g is-done m traces e) f a) ∙ written-again bytes m traces (g .typed) e
+    by (holds m traces) e = written-is (kept-stores (reading-puts g is-done m traces e)) f a .0 ∙ written-again bytes m traces (g .typed) e

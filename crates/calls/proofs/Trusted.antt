@@ -7,10 +7,10 @@ use mathlib.Core.Option.{none}
 use mathlib.Core.List.{List, [], _∷_}
 use native.Mathlib.Omega.{arith}
 use lib.ListN.{length, getD}
-use lib.Dec.{T, leb, le→leb}
+use lib.Dec.{T, leb}
 use borrow.Author.Tests.{not-false}
 use Rattle.integer.specs.Words.{every}
-use Rattle.integer.proofs.Tests.{passed, passes, is-true, test-true}
+use Rattle.integer.proofs.Tests.{passed, is-true, test-true}
 use Rattle.integer.proofs.Lists.{in-getD, from-every}
 use Rattle.dstree.specs.Measures.{Trace, Measures, sampleLimit, inRange, areSamples, isTrace, isLibrary}
 use Rattle.dstree.specs.Claims.{ExactTree}
@@ -28,8 +28,7 @@ use Rattle.tables.specs.Judge.{Room}
 use Rattle.tables.specs.Beginning.{Begins, LentWithin}
 use Rattle.tables.specs.Answers.{madeConditions}
 use Rattle.tables.specs.Holds.{Long}
-use Rattle.tables.proofs.Views.{traces-size, tree-passes, tree-formed}
-use Rattle.tables.proofs.Samples.{stored-are}
+use Rattle.tables.proofs.Views.{tree-passes}
 use Rattle.tables.proofs.Judged.{accepted}
 use Rattle.tables.proofs.Beginning.{begins-within}
 use Rattle.insertion_memory.proofs.FromTables.{long-of}
@@ -40,6 +39,7 @@ use Rattle.calls.specs.Trusted.{bookIn, Trusts}
 use Rattle.calls.specs.Effects.{checks}
 use Rattle.calls.proofs.Library.{library-range, library-holds, library-lent, need-room}
 use Rattle.calls.proofs.Kept.{SameRefusal, measures-lent, judged-same}
+use Rattle.calls.proofs.Stored.{stored-library}
 
 -- ---- what such tables hold
 
@@ -135,21 +135,13 @@ module _ {memory : Tables} {b : Book} (k : Trusts memory b) {part : Tables} (beg
 
 -- those on which a check has just accepted
 pub checked-trusts : (t : Tables) → T (areSamples (t .samples)) → firstOf (checks t .conditions) ≡ none → Trusts t (bookIn t)
-unfolding checks isLibrary
+unfolding checks
 checked-trusts t typed e =
     let parts = none-both (madeConditions t) _ e in
     let ok = accepted t (parts .0) in
     let one = none-first (not (isExact (tracesIn t) (treeIn t))) looseRecord [] (parts .1) in
-    let f = tree-formed t (ok .formed) in
-    let m : Measures = measuresOf t in
     record {
-      library = passes (inRange m) (leb (length (tracesIn t)) (m .capacity) ∷ every (isTrace sampleLimit (m .n)) (tracesIn t) ∷ []) (
-        f .measured,
-        (
-          le→leb (length (tracesIn t)) (m .capacity) (omega (arith, traces-size t, f .room)),
-          stored-are t typed (long-of t (ok .room)) (f .room),
-        ),
-      );
+      library = stored-library t ok typed;
       room = ok .room;
       formed = ok .formed;
       measures-are = refl;

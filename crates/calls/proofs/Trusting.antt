@@ -48,6 +48,7 @@ use Rattle.calls.specs.Trusted.{bookIn, Trusts}
 use Rattle.calls.specs.Effects.{opens, adds, resultOf, cleared, matches, writes, reads, lists, imports, exports, checks}
 use Rattle.calls.specs.Effects.{batches, effectOf}
 use Rattle.calls.specs.Follows.{Typed, Follows, Ran, no-call, a-call}
+use Rattle.calls.proofs.Stored.{Fine, Stores, lent-stores}
 use Rattle.calls.proofs.Trusted.{long-in, count-in, each-is, whole-trusts, part-trusts, fine-room}
 use Rattle.calls.proofs.Trusted.{trusted-same, accepted-same, checked-trusts, kept-trusts}
 use Rattle.calls.proofs.Agrees.{Agrees, opening-agrees, reading-agrees, library-grows}
@@ -373,20 +374,37 @@ last-holds t loose q = by (firstOf (madeConditions t)) refl (made-below t)
         let same : why ≡ looseRecord = cc (sym (first-some (madeConditions t) (loose refuses looseRecord ∷ []) why e) ∙ q) in
         absurd (subst (λ (r : Refusal). T (below-13 r)) same below)
 
--- "when well-formed tables hold a figure that isn't exactly the recomputed one"
-pub loose-is : {lent : Lent} {memory memory′ : Tables} {said : Reply} → Follows (call lent checking) memory said memory′
-    → said .answer ≡ refusing looseRecord → let t = firstPlaces lent memory in T (wellFormed t) × (RangesOf (tracesIn t) (treeIn t) → ⊥)
-unfolding effectOf besideOf checks
-loose-is {lent} {memory} f a =
-    let t = firstPlaces lent memory in
-    let q = refused-with (firstOf (checks t .conditions)) t [] (checks t) looseRecord (sym (ap (λ (r : Reply). r .answer) (reply-is f)) ∙ a) in
-    let p = last-holds t (not (isExact (tracesIn t) (treeIn t))) q in
-    let w = judged.accepted t (p .0) .formed in
-    let passes = subst (λ (n : ℕ). T (abstract.wellFormedTree sampleLimit (measuresOf t) n (treeIn t))) (sym (traces-size t)) (tree-passes t w) in (
-      w,
-      λ r. let e = test-true (isExact (tracesIn t) (treeIn t)) (exactness sampleLimit (measuresOf t) (tracesIn t) (treeIn t) passes .ranges-exact r) in
-          let z : _≡_ {A = ℕ} 0 1 = cc (p .1, e) in omega arith,
-    )
+module _ {lent : Lent} {memory memory′ : Tables} {said : Reply} (f : Follows (call lent checking) memory said memory′)
+    (a : said .answer ≡ refusing looseRecord) where
+  abbrev looseTables : Tables
+  looseTables = firstPlaces lent memory
+
+  loose-last : (firstOf (madeConditions looseTables) ≡ none) × (not (isExact (tracesIn looseTables) (treeIn looseTables)) ≡ true)
+  unfolding effectOf besideOf checks
+  loose-last = last-holds looseTables (not (isExact (tracesIn looseTables) (treeIn looseTables)))
+      (refused-with (firstOf (checks looseTables .conditions)) looseTables [] (checks looseTables) looseRecord
+      (sym (ap (λ (r : Reply). r .answer) (reply-is f)) ∙ a))
+
+  -- "when well-formed tables hold a figure that isn't exactly the recomputed one"
+  pub loose-is : T (wellFormed looseTables) × (RangesOf (tracesIn looseTables) (treeIn looseTables) → ⊥)
+  loose-is =
+      let t : Tables = looseTables in
+      let w = judged.accepted t (loose-last .0) .formed in
+      let passes = subst (λ (n : ℕ). T (abstract.wellFormedTree sampleLimit (measuresOf t) n (treeIn t))) (sym (traces-size t))
+      (tree-passes t w) in
+      let exact = exactness sampleLimit (measuresOf t) (tracesIn t) (treeIn t) passes in (
+        w,
+        λ r. let e = test-true (isExact (tracesIn t) (treeIn t)) (exact .ranges-exact r) in
+            let z : _≡_ {A = ℕ} 0 1 = cc (loose-last .1, e) in omega arith,
+      )
+
+  -- so no other call refuses them for what they hold, and the memory stores what it has
+  pub loose-fine : Fine lent memory
+  loose-fine = loose-last .0
+
+  pub loose-stores : Stores memory (bookIn memory)
+  unfolding Typed
+  loose-stores = lent-stores lent memory loose-fine (f .typed)
 
 -- ---- a memory on which a check has just accepted
 

@@ -11,13 +11,14 @@ use lib.Dec.{T}
 use Rattle.integer.specs.Words.{every, isIn, counting}
 use Rattle.integer.specs.Lists.{In, Up}
 use Rattle.segment.specs.Figures.{distance}
-use Rattle.dstree.specs.Measures.{Trace, Measures, sampleLimit}
+use Rattle.dstree.specs.Measures.{Trace, Measures, sampleLimit, areSamples}
 use Rattle.dstree.specs.Node.{Tree}
 use Rattle.dstree.specs.Matching.{bound, leaves, leastDistance, Near, Match, matchOf}
 use Rattle.dstree.specs.KNearest.{isK, ranking, listPlaces, KNearest, kNearestBySteps, kNearestOf, distancesAmong, ListClaims}
 use Rattle.dstree.specs.KNearest.{KNearestClaims, OneIsMatch}
 use Rattle.dstree.specs.Batch.{queriesIn, Batch, answerIn, batchOf, batchBySteps, StepsClaims, BatchClaims, OneClaims}
 use Rattle.dstree.specs.Refusals.{Refusal, spoiled, empty, looseRecord, firstOf}
+use Rattle.dstree.specs.Sheet.{blockSize, blocksNeeded, sheetOf}
 use Rattle.dstree.specs.Recording.{Recording, recording, judgeRecording}
 use Rattle.dstree.specs.Book.{Lent, adding, matching, writing, reading, listing, importing, exporting, checking, batching, Call, call, besideOf}
 use Rattle.dstree.specs.Book.{Result, done, added, matched, written, neighbours, imported, exported, accepted, batched, refusing}
@@ -128,23 +129,6 @@ abbrev pub ImportsAnywhere : Type 0
 ImportsAnywhere = (lent : Lent) (bytes : List ℕ) (memory memory′ : Tables) (said : Reply)
     → Follows (call lent (importing bytes)) memory said memory′
     → (count : ℕ) → said .answer ≡ answering (imported count) → ImportedInto lent bytes memory count memory′
-
--- ---- document 02, §6, on any tables
-
--- a check on some memory, whatever it holds
-pub record CheckedIn (lent : Lent) (memory : Tables) (said : Reply) (memory′ : Tables) : Type 0 where
-  -- it leaves everything as it was, search work too, whatever it answers
-  pub stays : memory′ ≡ memory
-  -- "If it accepts", tables are well formed, and each recorded "least and greatest sum and scatter" is that of "the traces below"
-  pub accepts : let t = firstPlaces lent memory in said .answer ≡ answering accepted
-      → ExactTree sampleLimit (measuresOf t) (tracesIn t) (treeIn t)
-  -- "13 loose record, when well-formed tables hold a figure that isn't exactly the recomputed one"
-  pub refuses-loose : let t = firstPlaces lent memory in said .answer ≡ refusing looseRecord
-      → T (wellFormed t) × (RangesOf (tracesIn t) (treeIn t) → ⊥)
-
-abbrev pub ChecksAnywhere : Type 0
-ChecksAnywhere = (lent : Lent) (memory memory′ : Tables) (said : Reply) → Follows (call lent checking) memory said memory′
-    → CheckedIn lent memory said memory′
 
 -- ---- document 02, §7, on any tables
 
@@ -265,14 +249,19 @@ pub record OfAnyBatch (judges : Call → Option Refusal) (stored : List Trace) (
 
 -- ---- demands 2 and 3
 
--- demand 2: "Such a library, written to a sheet and read back, is the same library": in whatever memory that is long enough, at every
--- needed place
-abbrev pub WrittenAndRead : Book → Tables → Type 0
-WrittenAndRead b memory = (lent : Lent) (sheet : List ℕ) (said₁ : Reply) (memory₁ : Tables)
+-- a writing of some memory that is not refused, and then a reading of its sheet into whatever memory that has the places these measures
+-- need: what holds of the reading's reply and of the memory after it
+abbrev pub WrittenThenRead : (Reply → Tables → Type 0) → Measures → Tables → Type 0
+WrittenThenRead Leaves m memory = (lent : Lent) (sheet : List ℕ) (said₁ : Reply) (memory₁ : Tables)
     → Follows (call lent (writing sheet)) memory said₁ memory₁
     → (blocks : ℕ) (bytes : List ℕ) → said₁ .answer ≡ answering (written blocks bytes)
     → (lent′ : Lent) (memory₂ : Tables) (said₃ : Reply) (memory₃ : Tables) → Follows (call lent′ (reading bytes)) memory₂ said₃ memory₃
-    → firstOf (shortConditions layout lent′ (b .measures)) ≡ none → (said₃ .answer ≡ answering done) × Keeps memory₃ b
+    → firstOf (shortConditions layout lent′ m) ≡ none → Leaves said₃ memory₃
+
+-- demand 2: "Such a library, written to a sheet and read back, is the same library", at every needed place
+abbrev pub WrittenAndRead : Book → Tables → Type 0
+WrittenAndRead b memory =
+    WrittenThenRead (λ (said : Reply) (memory′ : Tables). (said .answer ≡ answering done) × Keeps memory′ b) (b .measures) memory
 
 -- document 02, §1: "an empty one is still 6", for a query of n samples and any k from 1 to 16, whatever trail and list are lent
 abbrev pub EmptyIsSix : Book → Tables → Type 0
@@ -289,6 +278,16 @@ ExportedSound b memory = (lent : Lent) (number rate : ℕ) (buffer : List ℕ) (
     → (size : ℕ) (bytes : List ℕ) → said .answer ≡ answering (exported size bytes)
     → (said .beside ≡ over bytes buffer ∷ []) × ((size ≡ length bytes)
     × (judgeRecording (b .measures .n) bytes ≡ some (recording rate (getD (b .traces) number [] ∷ []))))
+
+-- .. so that an import of it, into whatever memory for traces of as many samples, that is not refused is the adding of that trace
+abbrev pub ExportedThenImported : Book → Tables → Type 0
+ExportedThenImported b memory = (lent : Lent) (number rate : ℕ) (buffer : List ℕ) (said₁ : Reply) (memory₁ : Tables)
+    → Follows (call lent (exporting number rate buffer)) memory said₁ memory₁
+    → (size : ℕ) (bytes : List ℕ) → said₁ .answer ≡ answering (exported size bytes)
+    → (lent′ : Lent) (memory₂ : Tables) (said₃ : Reply) (memory₃ : Tables) → Follows (call lent′ (importing bytes)) memory₂ said₃ memory₃
+    → measuresOf (firstPlaces lent′ memory₂) .n ≡ b .measures .n → (count : ℕ) → said₃ .answer ≡ answering (imported count)
+    → (count ≡ 1) × ((others : List Reply) (memory″ : Tables)
+    → Ran memory₂ (addings lent′ (getD (b .traces) number [] ∷ [])) others memory″ → memory″ ≡ memory₃)
 
 -- document 02, §6: a check that is lent the places that the measures need accepts, and leaves everything as it was
 abbrev pub IsAccepted : Measures → Tables → Type 0
@@ -321,6 +320,41 @@ pub record AfterList (b : Book) (calls : List Call) (said : List Reply) (memory 
   -- document 02, §6: "It accepts every library made by calls"
   pub is-accepted : IsAccepted (after layout b calls .measures) memory
 
+-- ---- what a memory stores, whoever made its tree: document 01's sheets and document 02's recordings of it
+
+-- a sheet of a book's measures and traces that was read: the reading's reply, and the memory after it
+pub record ReadBack (b : Book) (said : Reply) (memory : Tables) : Type 0 where
+  pub is-done : said .answer ≡ answering done
+  -- "Reading opens the library and adds the traces in order": every needed place is as these calls leave it ..
+  pub keeps : Keeps memory b
+  -- .. so that the tables have these measures and these traces, and the tree that adding makes of them
+  pub holds : Holds memory (b .measures) (b .traces)
+  -- a check accepts them
+  pub is-accepted : IsAccepted (b .measures) memory
+  -- all that is claimed of a library made by calls holds of them, and goes on to hold, whatever calls follow
+  pub goes-on : (calls : List Call) (others : List Reply) (memory′ : Tables) → Ran memory calls others memory′
+      → AfterList b calls others memory′
+
+-- a memory with a book's measures and traces. Its tests, its recorded figures and the shape of its tree do not bear on this
+pub record OfStored (b : Book) (memory : Tables) : Type 0 where
+  -- the sheet that a writing leaves is that of these measures and these traces, in order
+  pub sheet-is : (lent : Lent) (sheet : List ℕ) (said : Reply) (memory′ : Tables) → Follows (call lent (writing sheet)) memory said memory′
+      → (blocks : ℕ) (bytes : List ℕ) → said .answer ≡ answering (written blocks bytes) → bytes ≡ sheetOf (b .measures) (b .traces)
+  -- read back, it is the library that opening with these measures and adding these traces makes
+  pub written-and-read : WrittenThenRead (ReadBack b) (b .measures) memory
+  -- what an export leaves is a sound recording of the one of these traces that was asked for; to import it is to add that trace
+  pub exported-sound : ExportedSound b memory
+  pub exported-and-imported : ExportedThenImported b memory
+
+-- a writing that is lent so many places, and bytes enough, is not refused
+abbrev pub IsWritten : Lent → Tables → Type 0
+IsWritten lent memory = (sheet : List ℕ) (said : Reply) (memory′ : Tables) → Follows (call lent (writing sheet)) memory said memory′
+    → let blocks = blocksNeeded (length (tracesIn memory)) (measuresOf memory .n) in
+    let bytes = sheetOf (measuresOf memory) (tracesIn memory) in
+    blockSize * blocks ≤ length sheet → said ≡ reply (answering (written blocks bytes)) (over bytes sheet ∷ [])
+
+-- ---- document 02, §6
+
 -- document 02, §6: what holds after a list of calls that a check started which has just accepted, "whatever made the tables". The book starts
 -- with what these hold
 pub record AfterCheck (b : Book) (calls : List Call) (said : List Reply) (memory : Tables) : Type 0 where
@@ -339,6 +373,26 @@ pub record AfterCheck (b : Book) (calls : List Call) (said : List Reply) (memory
   pub any-batch : (count : ℕ) (run : Trace) → 0 < length (after layout b calls .traces)
       → length run ≡ after layout b calls .measures .n * count
       → OfAnyBatch (judgeIn memory) (after layout b calls .traces) (treeIn memory) (after layout b calls .measures .n) count run memory
+  -- written to a sheet and read back, such tables are the library of the book's traces
+  pub of-stored : OfStored (after layout b calls) memory
+
+-- a check on some memory, whatever it holds
+pub record CheckedIn (lent : Lent) (memory : Tables) (said : Reply) (memory′ : Tables) : Type 0 where
+  -- it leaves everything as it was, search work too, whatever it answers
+  pub stays : memory′ ≡ memory
+  -- "If it accepts", tables are well formed, and each recorded "least and greatest sum and scatter" is that of "the traces below"
+  pub accepts : let t = firstPlaces lent memory in said .answer ≡ answering accepted
+      → ExactTree sampleLimit (measuresOf t) (tracesIn t) (treeIn t)
+  -- "13 loose record, when well-formed tables hold a figure that isn't exactly the recomputed one"
+  pub refuses-loose : let t = firstPlaces lent memory in said .answer ≡ refusing looseRecord
+      → T (wellFormed t) × (RangesOf (tracesIn t) (treeIn t) → ⊥)
+  -- such tables can be written as a sheet; read back, it is the library of the traces as these tables have them
+  pub loose-written : said .answer ≡ refusing looseRecord → IsWritten lent memory
+  pub loose-stored : said .answer ≡ refusing looseRecord → OfStored (bookIn memory) memory
+
+abbrev pub ChecksAnywhere : Type 0
+ChecksAnywhere = (lent : Lent) (memory memory′ : Tables) (said : Reply) → Follows (call lent checking) memory said memory′
+    → CheckedIn lent memory said memory′
 
 -- ---- all of it
 
@@ -349,6 +403,9 @@ pub record Demands : Type 0 where
   pub imports-anywhere : ImportsAnywhere
   pub checks-anywhere : ChecksAnywhere
   pub batches-anywhere : BatchesAnywhere
+  -- of any memory, whatever it holds, with the measures and traces that it has. (That samples are 16-bit numbers, the type of a lent slice
+  -- says; that they make a library, a writing or an export that is not refused has tested)
+  pub stored-anywhere : (memory : Tables) → T (areSamples (memory .samples)) → OfStored (bookIn memory) memory
   -- "An opening or a sheet reading has just succeeded when it starts": the first call is one that answers `done`
   pub after-list : (first : Call) (calls : List Call) (memory₀ memory : Tables) (said₀ : Reply) (said : List Reply)
       → Ran memory₀ (first ∷ calls) (said₀ ∷ said) memory → said₀ .answer ≡ answering done

@@ -3,6 +3,7 @@
 
 use silkendoz::calls::Answer;
 pub use silkendoz::lending::{add, check_tables, export_recording, import_recording, k_nearest, match_batch, nearest, open, read_sheet, write_sheet};
+use silkendoz::model::sheet::blocks_needed;
 use silkendoz::model::tables::{judge_opening, Lengths, Tables};
 use silkendoz::model::{Batch, KNearest, Kind, Library, Match, Measures, Refused};
 use silkendoz::program::repository;
@@ -283,6 +284,18 @@ pub fn check_checked(t: &Tables, l: Lengths) -> Result<Library, Refused> {
     let judged = t.first(l).judge_check();
     assert_eq!(check_tables(t, l), judged.as_ref().map(|_| ()).map_err(|&refused| refused));
     judged
+}
+
+/// Tables that a writing does not refuse, whatever made them: written as a sheet and read into other tables, they are the library that
+/// adding makes of their traces, and the check accepts it.
+pub fn check_read_back(t: &Tables, l: Lengths) {
+    let stored = t.first(l).library().expect("well-formed tables");
+    let mut sheet = vec![1; 512 * blocks_needed(stored.traces.len() as u64, stored.measures.n)];
+    check_write(t, l, &mut sheet).expect("nothing is refused");
+    let mut back = junk(l);
+    let read = check_read(&mut back, l, &sheet).expect("nothing is refused");
+    assert_eq!((read.measures, &read.traces), (stored.measures, &stored.traces));
+    assert_eq!(check_checked(&back, l), Ok(read));
 }
 
 // ---- batches

@@ -1,0 +1,113 @@
+-- What a memory stores, whoever made its tree. Tables lent of it that no call refuses for what they hold have its measures and its traces,
+-- and where samples are 16-bit numbers, these are a library's: nothing of that is read from a node.
+use mathlib.Core.Path.{_≡_, refl, sym, subst, _∙_}
+use mathlib.Core.Option.{none}
+use mathlib.Core.List.{List, [], _∷_}
+use native.Mathlib.Omega.{arith}
+use lib.ListN.{length}
+use lib.Signed.{mag}
+use lib.Dec.{T, leb, ltb, le→leb}
+use Rattle.integer.specs.Words.{every}
+use Rattle.integer.proofs.Tests.{passes}
+use Rattle.integer.proofs.Lists.{every-take}
+use Rattle.dstree.specs.Measures.{Trace, Measures, sampleLimit, inRange, areSamples, isTrace, isLibrary}
+use Rattle.dstree.specs.Refusals.{firstOf}
+use Rattle.dstree.specs.Book.{Lent, Book}
+use Rattle.tables.specs.Tables.{Tables, measuresOf}
+use Rattle.tables.specs.View.{tracesIn}
+use Rattle.tables.specs.Beginning.{firstPlaces}
+use Rattle.tables.specs.Answers.{madeConditions}
+use Rattle.tables.specs.Holds.{Long}
+use Rattle.tables.proofs.Views.{traces-size, tree-formed}
+use Rattle.tables.proofs.Samples.{stored-are}
+use Rattle.tables.proofs.Judged.{Accepted, accepted}
+use Rattle.tables.proofs.Beginning.{first-begins}
+use Rattle.insertion_memory.proofs.FromTables.{long-of}
+use Rattle.insertion_memory.proofs.Beginnings.{Agree, begins-agree, measures-same, traces-same, holds-whole}
+use Rattle.calls.specs.Library.{Keeps}
+use Rattle.calls.specs.Trusted.{bookIn, Trusts}
+use Rattle.calls.proofs.Library.{library-holds}
+
+-- ---- tables that no call refuses for what they hold
+
+-- their measures and traces are a library's, if their samples are 16-bit numbers
+pub stored-library : (t : Tables) → Accepted t → T (areSamples (t .samples)) → T (isLibrary sampleLimit (measuresOf t) (tracesIn t))
+unfolding isLibrary
+stored-library t ok typed =
+    let f = tree-formed t (ok .formed) in
+    let m : Measures = measuresOf t in
+    passes (inRange m) (leb (length (tracesIn t)) (m .capacity) ∷ every (isTrace sampleLimit (m .n)) (tracesIn t) ∷ []) (
+      f .measured,
+      (
+        le→leb (length (tracesIn t)) (m .capacity) (omega (arith, traces-size t, f .room)),
+        stored-are t typed (long-of t (ok .room)) (f .room),
+      ),
+    )
+
+-- the places of a memory that a call is lent are such tables
+abbrev pub Fine : Lent → Tables → Type 0
+Fine lent memory = firstOf (madeConditions (firstPlaces lent memory)) ≡ none
+
+-- they have its measures and its traces
+module _ (lent : Lent) (memory : Tables) (fine : Fine lent memory) where
+  abbrev part : Tables
+  part = firstPlaces lent memory
+
+  long : Long part
+  long = long-of part (accepted part fine .room)
+
+  agree : Agree part memory
+  agree = begins-agree (first-begins lent memory) long
+
+  pub measures-stored : measuresOf part ≡ measuresOf memory
+  measures-stored = sym (measures-same agree)
+
+  pub traces-stored : tracesIn part ≡ tracesIn memory
+  traces-stored = sym (traces-same agree (accepted part fine .formed) long)
+
+  memory-library : T (areSamples (part .samples)) → T (isLibrary sampleLimit (measuresOf memory) (tracesIn memory))
+  memory-library typed =
+      subst (λ (m : Measures). T (isLibrary sampleLimit m (tracesIn memory))) measures-stored
+      (subst (λ (l : List Trace). T (isLibrary sampleLimit (measuresOf part) l)) traces-stored
+      (stored-library part (accepted part fine) typed))
+
+-- ---- a memory with a book's measures and traces
+
+pub record Stores (memory : Tables) (b : Book) : Type 0 where
+  pub measures-are : measuresOf memory ≡ b .measures
+  pub traces-are : tracesIn memory ≡ b .traces
+  -- a library's, where tables lent of it are not refused for what they hold
+  pub library : (lent : Lent) → Fine lent memory → T (isLibrary sampleLimit (b .measures) (b .traces))
+
+-- such tables have these measures and traces
+module _ {memory : Tables} {b : Book} (k : Stores memory b) (lent : Lent) (fine : Fine lent memory) where
+  pub lent-measures : measuresOf (firstPlaces lent memory) ≡ b .measures
+  lent-measures = measures-stored lent memory fine ∙ k .measures-are
+
+  pub lent-traces : tracesIn (firstPlaces lent memory) ≡ b .traces
+  lent-traces = traces-stored lent memory fine ∙ k .traces-are
+
+-- which memories these are: one that keeps the book ..
+pub kept-stores : {memory : Tables} {b : Book} → Keeps memory b → Stores memory b
+kept-stores {b = b} k =
+    let h = holds-whole (k .needed-places) (library-holds (b .measures) (b .traces) (k .library)) in
+    record { measures-are = h .measures-are; traces-are = h .traces-are; library = λ lent fine. k .library }
+
+-- .. one that the check would accept ..
+pub trusted-stores : {memory : Tables} {b : Book} → Trusts memory b → Stores memory b
+trusted-stores k = record { measures-are = k .measures-are; traces-are = k .traces-are; library = λ lent fine. k .library }
+
+-- .. with what it has, one of which tables are lent that are not refused for what they hold, if their samples are 16-bit numbers ..
+pub lent-stores : (lent : Lent) (memory : Tables) → Fine lent memory → T (areSamples (firstPlaces lent memory .samples))
+    → Stores memory (bookIn memory)
+lent-stores lent memory fine typed =
+    record { measures-are = refl; traces-are = refl; library = λ others also. memory-library lent memory fine typed }
+
+-- .. and any whose samples all are
+pub typed-stores : (memory : Tables) → T (areSamples (memory .samples)) → Stores memory (bookIn memory)
+typed-stores memory typed = record {
+  measures-are = refl;
+  traces-are = refl;
+  library = λ lent fine.
+      memory-library lent memory fine (every-take (λ sample. ltb (mag sample) sampleLimit) (lent .samples) (memory .samples) typed);
+}

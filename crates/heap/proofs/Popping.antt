@@ -9,7 +9,8 @@ use lib.ListN.{length, getD, set, take, drop, length-set, length-take}
 use lib.Seq.{getD-set-same, getD-set-other, drop-set-lt, drop-cons, take-set-le, take-set-lt, getD-take}
 use Rattle.heap.specs.Keys.{insertKey, sortedOf}
 use Rattle.heap.specs.Heap.{IsHeap, Least, Sunk, Popped}
-use Rattle.heap.proofs.Sorting.{Above, above-pour, insert-first, pour-nil, pour-cons, insert-nil}
+use Rattle.heap.proofs.Sorting.{Above, SortedKeys, above-pour, sorted-pour, pour-nil, pour-cons}
+use Rattle.heap.proofs.Sorting.{insert-nil, insert-first, insert-comm, insert-cancel}
 use Rattle.heap.proofs.Shape.{least, more-keys, keys-set}
 
 above-of : (m : ℕ) (l : List ℕ) → ((i : ℕ) → i < length l → m ≤ getD l i 0) → Above m l
@@ -34,6 +35,26 @@ least-first (suc m) (x ∷ s) some fits heap =
       others = sortedOf (take m s);
       keys = pour-cons x (take m s) [] ∙ insert-first x (sortedOf (take m s)) (above-pour x (take m s) [] above tt);
     }
+
+-- the least key, by whatever it was found
+module _ (n : ℕ) (s : List ℕ) (some : 0 < n) (fits : n ≤ length s) (heap : IsHeap n s) (x : ℕ) (others : List ℕ)
+    (keys : sortedOf (take n s) ≡ x ∷ others) where
+  pub least-at : getD s 0 0 ≡ x
+  least-at =
+      let l = least-first n s some fits heap in
+      let e : getD s 0 0 ∷ l .others ≡ x ∷ others = sym (l .keys) ∙ keys in
+      cc
+
+  -- a key that sinks in its place is put among the others
+  pub sunk-among : (key : ℕ) (t : List ℕ) → Sunk n key s t → sortedOf (take n t) ≡ insertKey key others
+  sunk-among key t sunk =
+      let all = sortedOf (take n (set s 0 key)) in
+      let sorted : SortedKeys (x ∷ others) = subst SortedKeys keys (sorted-pour (take n s) [] tt) in
+      let bag : insertKey x all ≡ insertKey key (sortedOf (take n s)) =
+      subst (λ (y : ℕ). insertKey y all ≡ insertKey key (sortedOf (take n s))) least-at (keys-set n 0 s some (omega arith) key) in
+      sunk .keys
+      ∙ insert-cancel x all (insertKey key others)
+      (bag ∙ ap (insertKey key) (keys ∙ sym (insert-first x others (sorted .0))) ∙ insert-comm key x others)
 
 module _ (last : ℕ) (s : List ℕ) (room : last < length s) (heap : IsHeap (last + 1) s) where
   heap-left : IsHeap last (set s last 0)

@@ -27,7 +27,13 @@ pub record Popped (n r : ℕ) (s s′ : List ℕ) : Type 0 where
   pub keys : sortedOf (take n s) ≡ r ∷ sortedOf (take (n - 1) s′)
   pub rest : drop (n - 1) s′ ≡ 0 ∷ drop n s
 
--- ---- inside `pop`
+-- a key in the place of the least
+pub record Sunk (n key : ℕ) (s s′ : List ℕ) : Type 0 where
+  pub heap : IsHeap n s′
+  pub keys : sortedOf (take n s′) ≡ sortedOf (take n (set s 0 key))
+  pub rest : drop n s′ ≡ drop n s
+
+-- ---- inside `sink`
 
 -- r is the place of the lesser of the keys at `left` and `left + 1`, those of them that are below n
 pub record Lesser (n left : ℕ) (s : List ℕ) (r : ℕ) : Type 0 where
@@ -36,9 +42,3 @@ pub record Lesser (n left : ℕ) (s : List ℕ) (r : ℕ) : Type 0 where
   pub room : r < n
   pub first : getD s r 0 ≤ getD s left 0
   pub second : left + 1 < n → getD s r 0 ≤ getD s (left + 1) 0
-
--- a key in the place of the least
-pub record Sunk (n key : ℕ) (s s′ : List ℕ) : Type 0 where
-  pub heap : IsHeap n s′
-  pub keys : sortedOf (take n s′) ≡ sortedOf (take n (set s 0 key))
-  pub rest : drop n s′ ≡ drop n s

@@ -1,5 +1,8 @@
 // A binary heap of keys, the least first, in the first n places of a lent slice. A hole is moved, and keys are not swapped: each step stores one key.
+ghost use mathlib.Core.Path.{_≡_};
 ghost use Prim.Native.Nat.{_<_, _≤_};
+ghost use lib.Dec.{ltb};
+ghost use Rattle.integer.specs.Words.{if_then_else_};
 ghost use lib.ListN.{length, getD};
 ghost use Rattle.heap.specs.Heap.{IsHeap, Least, Lesser, Pushed, Sunk, Popped};
 
@@ -22,7 +25,16 @@ pub fn push(s: &mut [u64], n: usize, key: u64)
     s[at] = key;
 }
 
-// The place of the lesser of the keys at `left` and at the place after it, if that is below n.
+// 1 if b is below a, else 0.
+fn below(a: u64, b: u64) -> usize
+    ensures { λ r. ⌜ r ≡ (if ltb b a then 1 else 0) ⌝ }
+    ensures size { λ r. ⌜ r ≤ 1 ⌝ }
+{
+    if b < a { 1 } else { 0 }
+}
+
+// The place of the lesser of the keys at `left` and at the place after it, if that is below n. What the comparison says is added, not
+// branched on: which of two keys is the lesser is guessed wrong as often as not.
 fn lesser(s: &[u64], n: usize, left: usize) -> usize
     requires { ⌜ (left < n) × (n ≤ length (now s)) ⌝ }
     ensures { λ r. ⌜ Lesser n left (now (s .entry)) r ⌝ }
@@ -31,16 +43,12 @@ fn lesser(s: &[u64], n: usize, left: usize) -> usize
     if n <= right {
         return left;
     }
-    let a = s[left];
-    let b = s[right];
-    if b < a {
-        return right;
-    }
-    left
+    left + below(s[left], s[right])
 }
 
-// Puts a key that is not below the least in the place of the least of a heap of n keys.
-fn sink(s: &mut [u64], n: usize, key: u64)
+// Puts a key that is not below the least in the place of the least of a heap of n keys. Where the least is taken and a key near it comes in,
+// this is one short way down in place of a long one down and a long one up.
+pub fn sink(s: &mut [u64], n: usize, key: u64)
     requires { ⌜ (0 < n) × (n ≤ length (now s)) × (IsHeap n (now s)) × (getD (now s) 0 0 ≤ key) ⌝ }
     ensures { λ _. ⌜ Sunk n key (now (s .entry)) (now (s .exit)) ⌝ }
 {

@@ -85,3 +85,7 @@ module _ (nodes : List ℤ) (m : ℕ) where
 
     pub right-in : (j : ℕ) → j < m → 1 ≤ smallAt (recordOf nodes j) kindPlace → smallAt (recordOf nodes j) rightPlace < m
     right-in j h f = omega (arith, right-above (shapeIn nodes m) (w .branching) j (inner-at j h f .is-inner) .1, shape-length)
+
+    -- a child is numbered above its parent
+    pub right-over : (j : ℕ) → j < m → 1 ≤ smallAt (recordOf nodes j) kindPlace → j < smallAt (recordOf nodes j) rightPlace
+    right-over j h f = right-above (shapeIn nodes m) (w .branching) j (inner-at j h f .is-inner) .0

@@ -11,8 +11,9 @@ use borrow.Author.Tests.{ltb-true, lt-ltb}
 use Rattle.integer.proofs.Tests.{is-true}
 use Rattle.integer.proofs.Lists.{All, all-none, all-more}
 use Rattle.heap.specs.Keys.{insertKey}
-use Rattle.heap.specs.Heap.{IsHeap, Least, Pushed, Popped}
+use Rattle.heap.specs.Heap.{Least, Pushed, Popped, Sunk}
 use Rattle.heap.proofs.Sorting.{Above, sorted-pour, pour-nil, insert-nil, length-pour, length-insert}
+use Rattle.heap.proofs.Popping.{sunk-among}
 use Rattle.dstree.specs.Measures.{Trace}
 use Rattle.dstree.specs.Node.{Test, leaf, inner, Tree, nodeAt}
 use Rattle.dstree.specs.Matching.{isLeaf}
@@ -74,6 +75,9 @@ module _ {tree : Tree} {query : Trace} {n : ℕ} {work : List ℕ} (w : Waits tr
   unfolding remaining
   remain = ap (λ (l : List ℕ). map keyLeaf (toCome tree query l)) keys
 
+  pub least-number : Branching tree → length tree ≡ length work → keyNumber x < length work
+  least-number b whole = omega (arith, number-inside tree b query x others front, whole)
+
   -- if its bound is past the limit, so is that of every leaf to come
   pub least-past : Branching tree → (limited : Bool) (limit : ℕ) → isPast limited limit (keyBound x) ≡ true → All (Past limited limit) (remaining tree query n work)
   least-past b limited limit e = rw remain (by (toCome tree query (x ∷ others)) (come-first tree b query x others front))
@@ -82,13 +86,62 @@ module _ {tree : Tree} {query : Trace} {n : ℕ} {work : List ℕ} (w : Waits tr
       by [] a = all-none
       by (y ∷ l) a = all-more (past-more limited limit (keyBound x) (keyBound y) (omega (arith, a .0)) e) (by l (a .1))
 
+  -- ---- its node has two children
+
+  module _ (b : Branching tree) {test : Test} {l r : ℕ} (e : nodeAt tree (keyNumber x) .kind ≡ inner test l r) where
+    after : List ℕ
+    after = inStead tree query x l r others
+
+    after-load : nodesWaiting tree (x ∷ others) ≡ suc (nodesWaiting tree after)
+    unfolding after
+    after-load = load-inner tree b query x others front e
+
+    after-length : length after ≡ n + 1
+    unfolding after
+    after-length =
+        let kr = childKey tree query (keyBound x) r in
+        omega (
+          arith,
+          length-insert (childKey tree query (keyBound x) l) (insertKey kr others),
+          length-insert kr others,
+          sym (ap length keys) ∙ keys-count n work (w .fits),
+        )
+
+    -- there is room for one key more
+    pub inner-room : n < length work
+    inner-room = omega (arith, after-length, length-load tree after, after-load, room)
+
+    module _ (some : 0 < n) (between work′ : List ℕ) (long : length work′ ≡ length work)
+        (q : Sunk n (childKey tree query (keyBound x) r) work between)
+        (t : Pushed n (childKey tree query (keyBound x) l) between work′) where
+      after-keys : keysIn (n + 1) work′ ≡ after
+      unfolding after
+      after-keys =
+          t .keys ∙ ap (insertKey (childKey tree query (keyBound x) l))
+          (sunk-among n work some (w .fits) (w .heap) x others keys (childKey tree query (keyBound x) r) between q)
+
+      pub inner-less : nodesWaiting tree (keysIn (n + 1) work′) < nodesWaiting tree (keysIn n work)
+      inner-less = rw (keys, after-keys) (omega (arith, after-load))
+
+      pub inner-waits : Waits tree query (n + 1) work′
+      unfolding after
+      inner-waits = record {
+        heap = t .heap;
+        keyed = rw after-keys (front-inner tree b query x others front e .keyed);
+        fits = omega (arith, inner-room, long);
+        room = rw after-keys (omega (arith, after-load, room, long));
+      }
+
+      pub inner-same : remaining tree query (n + 1) work′ ≡ remaining tree query n work
+      unfolding remaining after
+      inner-same = sym (remain ∙ ap (map keyLeaf) (come-inner tree b query x others front e)
+          ∙ ap (λ (k : List ℕ). map keyLeaf (toCome tree query k)) (sym after-keys))
+
 -- ---- .. is out
 
 pub record KeyTaken (tree : Tree) (query : Trace) (n : ℕ) (work : List ℕ) (x : ℕ) (left : List ℕ) : Type 0 where
   pub branching : Branching tree
-  pub whole : length tree ≡ length work
   pub waits : Waits tree query n work
-  pub some-key : 0 < n
   pub long : length left ≡ length work
   pub popped : Popped n x work left
 
@@ -106,9 +159,6 @@ module _ {tree : Tree} {query : Trace} {n : ℕ} {work : List ℕ} {x : ℕ} {le
   abbrev ahead : Front tree query (x ∷ others)
   ahead = front (c .waits) (c .popped .keys)
 
-  pub took-number : keyNumber x < length work
-  took-number = omega (arith, number-inside tree (c .branching) query x others ahead, c .whole)
-
   -- its node is a leaf
   module _ {ns : List ℕ} (e : nodeAt tree (keyNumber x) .kind ≡ leaf ns) where
     pub took-leaf : (limited : Bool) (limit : ℕ) → isPast limited limit (keyBound x) ≡ false → HandedLeaf tree query limited limit n work left (keyBound x) (keyNumber x) (n - 1)
@@ -125,47 +175,3 @@ module _ {tree : Tree} {query : Trace} {n : ℕ} {work : List ℕ} {x : ℕ} {le
         room = omega (arith, room (c .waits) (c .popped .keys), c .long, load-leaf tree (c .branching) query x others ahead e);
       };
     }
-
-  -- its node has two children
-  module _ {test : Test} {l r : ℕ} (e : nodeAt tree (keyNumber x) .kind ≡ inner test l r) where
-    after : List ℕ
-    after = inStead tree query x l r others
-
-    after-load : nodesWaiting tree (x ∷ others) ≡ suc (nodesWaiting tree after)
-    unfolding after
-    after-load = load-inner tree (c .branching) query x others ahead e
-
-    after-length : length after ≡ n + 1
-    unfolding after
-    after-length =
-        let kr = childKey tree query (keyBound x) r in
-        omega (arith, c .some-key, length-insert (childKey tree query (keyBound x) l) (insertKey kr others), length-insert kr others, keys-count (n - 1) left (omega (arith, c .waits .fits, c .long)))
-
-    -- there is room for both keys
-    pub took-room : n - 1 + 2 ≤ length work
-    took-room = omega (arith, c .some-key, after-length, length-load tree after, after-load, room (c .waits) (c .popped .keys))
-
-    module _ (between work′ : List ℕ) (long : length work′ ≡ length left) (q : Pushed (n - 1) (childKey tree query (keyBound x) r) left between)
-        (t : Pushed (n - 1 + 1) (childKey tree query (keyBound x) l) between work′) where
-      after-keys : keysIn (n - 1 + 2) work′ ≡ after
-      unfolding after
-      after-keys =
-          let k : n - 1 + 2 ≡ n - 1 + 1 + 1 = omega arith in
-          rw k (t .keys ∙ ap (insertKey (childKey tree query (keyBound x) l)) (q .keys))
-
-      pub took-less : nodesWaiting tree (keysIn (n - 1 + 2) work′) < nodesWaiting tree (keysIn n work)
-      took-less = rw (c .popped .keys, after-keys) (omega (arith, after-load))
-
-      pub took-inner : Waits tree query (n - 1 + 2) work′
-      unfolding after
-      took-inner = record {
-        heap = let k : n - 1 + 1 + 1 ≡ n - 1 + 2 = omega arith in subst (λ (i : ℕ). IsHeap i work′) k (t .heap);
-        keyed = rw after-keys (front-inner tree (c .branching) query x others ahead e .keyed);
-        fits = omega (arith, took-room, long, c .long);
-        room = rw after-keys (omega (arith, after-load, room (c .waits) (c .popped .keys), long, c .long));
-      }
-
-      pub took-same : remaining tree query (n - 1 + 2) work′ ≡ remaining tree query n work
-      unfolding remaining after
-      took-same = sym (remain (c .waits) (c .popped .keys) ∙ ap (map keyLeaf) (come-inner tree (c .branching) query x others ahead e)
-          ∙ ap (λ (k : List ℕ). map keyLeaf (toCome tree query k)) (sym after-keys))

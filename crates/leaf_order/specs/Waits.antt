@@ -6,7 +6,7 @@ use lib.IntN.{ℤ}
 use lib.ListN.{length, take}
 use Rattle.integer.specs.Words.{counting}
 use Rattle.heap.specs.Keys.{sortedOf}
-use Rattle.heap.specs.Heap.{IsHeap, Pushed}
+use Rattle.heap.specs.Heap.{IsHeap, Pushed, Sunk}
 use Rattle.dstree.specs.Measures.{Trace}
 use Rattle.dstree.specs.Node.{Tree}
 use Rattle.dstree.specs.Matching.{LeafBound, readingOrder}
@@ -54,9 +54,9 @@ pub record Begun (tree : Tree) (query : Trace) (work : List ℕ) : Type 0 where
   pub waits : Waits tree query 1 work
   pub all : remaining tree query 1 work ≡ readingOrder tree query
 
--- the right child's key is put in first, then the left one's
+-- the right child's key takes the place of the least, which is its parent's; then the left one's is put in
 pub record ChildrenPushed (tree : Tree) (query : Trace) (n : ℕ) (r : List ℤ) (above : ℕ) (work work′ : List ℕ) : Type 0 where
   pub between : List ℕ
   pub long : length between ≡ length work
-  pub right : Pushed n (childKey tree query above (smallAt r rightPlace)) work between
-  pub left : Pushed (n + 1) (childKey tree query above (smallAt r firstPlace)) between work′
+  pub right : Sunk n (childKey tree query above (smallAt r rightPlace)) work between
+  pub left : Pushed n (childKey tree query above (smallAt r firstPlace)) between work′

@@ -4,14 +4,14 @@ use tables::places::FIRST;
 use tables::places::KIND;
 use tables::places::RIGHT;
 use tables::records::node_small;
-ghost use Prim.Native.Nat.{_+_, _≤_, _<_};
-ghost use lib.ListN.{length};
+ghost use Prim.Native.Nat.{_≤_, _<_};
+ghost use lib.ListN.{length, getD};
 ghost use Rattle.heap.specs.Heap.{IsHeap};
 ghost use Rattle.tables.specs.Layout.{kindPlace};
 ghost use Rattle.tables.specs.Tables.{recordOf};
 ghost use Rattle.tables.specs.View.{smallAt};
 ghost use Rattle.prefixes.specs.Prefixes.{Prefixes};
-ghost use Rattle.best_first.specs.NodeKeys.{boundsBelow};
+ghost use Rattle.best_first.specs.NodeKeys.{keyOf, boundsBelow};
 ghost use Rattle.leaf_order.specs.Waits.{shapeIn, Walkable, Waits, Begun, ChildrenPushed};
 ghost use Rattle.leaf_order.specs.Handed.{Handed};
 
@@ -36,7 +36,8 @@ pub fn begin(
     heap::push(work, 0, root);
 }
 
-// The keys of an inner node's children wait.
+// The keys of an inner node's children wait in the stead of its own, the least: one takes its place, and is not below it, since a child's
+// bound is at least its parent's and its number is higher.
 fn open_node(
     nodes: &[i64],
     query: &[i16],
@@ -47,8 +48,10 @@ fn open_node(
     j: usize,
     above: u64,
 )
-    requires { ⌜ Walkable (now nodes) (length (now work)) (now query) × Prefixes (now query) (now sums) (now squares) × (n + 2 ≤ length (now work)) × IsHeap n (now work) ⌝ }
-    requires inner { ⌜ (j < length (now work)) × (above < boundsBelow) × (1 ≤ smallAt (recordOf (now nodes) j) kindPlace) ⌝ }
+    requires { ⌜ Walkable (now nodes) (length (now work)) (now query) × Prefixes (now query) (now sums) (now squares)
+        × (0 < n) × (n < length (now work)) × IsHeap n (now work) ⌝ }
+    requires inner { ⌜ (j < length (now work)) × (above < boundsBelow) × (1 ≤ smallAt (recordOf (now nodes) j) kindPlace)
+        × (getD (now work) 0 0 ≤ keyOf above j) ⌝ }
     ensures { λ _. ⌜ ChildrenPushed (shapeIn (now (nodes .entry)) (length (now (work .entry)))) (now (query .entry)) n
         (recordOf (now (nodes .entry)) j) above (now (work .entry)) (now (work .exit)) ⌝ }
 {
@@ -56,8 +59,8 @@ fn open_node(
     let second = node_small(nodes, j, RIGHT);
     let right = crate::keys::node_key(nodes, second, above, query, sums, squares);
     let left = crate::keys::node_key(nodes, first, above, query, sums, squares);
-    heap::push(work, n, right);
-    heap::push(work, n + 1, left);
+    heap::sink(work, n, right);
+    heap::push(work, n, left);
 }
 
 // Hands out the next leaf, if its bound is within the limit. A node whose bound is past the limit is not opened.
@@ -85,15 +88,14 @@ pub fn next_leaf(
         if crate::keys::is_past(bound, limited, limit) {
             return Next::End(n);
         }
-        heap::pop(work, n);
-        n -= 1;
         let j = (x % KEY_BASE) as usize;
         let kind = node_small(nodes, j, KIND);
         if kind == 0 {
-            return Next::Leaf(bound, j, n);
+            heap::pop(work, n);
+            return Next::Leaf(bound, j, n - 1);
         }
         open_node(nodes, query, sums, squares, work, n, j, bound);
-        n += 2;
+        n += 1;
     }
     Next::End(n)
 }

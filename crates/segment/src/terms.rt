@@ -1,6 +1,6 @@
 // One segment's part in a node's bound and in a node's spread.
 ghost use mathlib.Core.Path.{_≡_};
-ghost use Prim.Native.Nat.{_-_, _/_, _<_, _≤_, max};
+ghost use Prim.Native.Nat.{_-_, _/_, _<_, _≤_, min, max};
 ghost use lib.IntN.{natAbs};
 ghost use Rattle.segment.specs.Limits.{sumRoom, scatterRoom, gapRoom, totalRoom, termMost, widthMost};
 ghost use Rattle.segment.specs.Roots.{floorRoot, ceilingRoot};
@@ -18,6 +18,13 @@ pub fn larger(a: u64, b: u64) -> u64
     ensures { λ r. ⌜ r ≡ max a b ⌝ }
 {
     if a < b { b } else { a }
+}
+
+// The lesser of two.
+fn lesser(a: u64, b: u64) -> u64
+    ensures { λ r. ⌜ r ≡ min a b ⌝ }
+{
+    if b < a { b } else { a }
 }
 
 // The distance from t to the sums from `least` to `greatest`. The distance to the nearer end does not meet this where t is between them,
@@ -46,11 +53,16 @@ pub fn root_excess(a: u64, b: u64) -> u64
     over(crate::roots::floor_root(a), crate::roots::ceiling_root(b))
 }
 
-// How far a scatter u is from those from `least` to `greatest`, in roots that are rounded so that it is never too much.
+// How far a scatter u is from those from `least` to `greatest`, in roots that are rounded so that it is never too much. Where these two are
+// in order one of the two differences is 0, and the other one's scatters are picked without a branch: on which side u lies is guessed wrong
+// as often as not.
 pub fn scatter_gap(u: u64, least: u64, greatest: u64) -> u64
     ensures { λ r. ⌜ r ≡ scatterGap u least greatest ⌝ }
 {
-    larger(root_excess(least, u), root_excess(u, greatest))
+    if greatest < least {
+        return larger(root_excess(least, u), root_excess(u, greatest));
+    }
+    root_excess(larger(u, least), lesser(u, greatest))
 }
 
 // v / w. Segments that come of halving 256 samples are powers of two wide, and a shift then does the division.

@@ -10,7 +10,7 @@ use Rattle.tables.specs.Tables.{recordOf}
 use Rattle.tables.specs.View.{smallAt}
 use Rattle.best_first.specs.NodeKeys.{childKey}
 use Rattle.leaf_order.specs.Waits.{shapeIn, Walkable}
-use Rattle.leaf_order.proofs.Records.{key-is, number-fits, left-in, right-in}
+use Rattle.leaf_order.proofs.Records.{key-is, number-fits, left-in, right-in, right-over}
 use Rattle.leaf_order.proofs.leaves.open_node.Statement.{statement}
 use Rattle.leaf_order.proofs.leaves.open_node.Tie as tie
 
@@ -53,14 +53,25 @@ node-key-requires-2 c κs =
     let h = left-inside a in
     (walkable s .record-room j h, omega (arith, fits s j h), s .pre .1 .1, s .pre .0 .1, walkable s .bounded j h)
 
-push-requires : tie.Need-push-requires
-push-requires c κs = let s = c .before .before .before .before .before .before in (omega (arith, s .pre .0 .2), s .pre .0 .3)
+-- the right child's key is not below its parent's
+sink-requires : tie.Need-sink-requires
+sink-requires c κs =
+    let k = c .before .before in
+    let s = c .before .before .before .before .before .before in
+    let over =
+    right-over (now (s .args .nodes)) (length (now (s .args .work))) (now (s .args .query)) (walkable s) (s .args .j) (s .pre .1 .0)
+    (s .pre .1 .2) in (
+      s .pre .0 .2,
+      omega (arith, s .pre .0 .3),
+      s .pre .0 .4,
+      omega (arith, s .pre .1 .3, k .node-key .ensures, k .before .node-small2 .ensures, over),
+    )
 
-push-requires-2 : tie.Need-push-requires-2
-push-requires-2 c κs =
+push-requires : tie.Need-push-requires
+push-requires c κs =
     let p = c .before .before .before in
     let s = p .before .before .before .before .before .before .before in
-    (omega (arith, s .pre .0 .2, p .push .kept .0), p .push .ensures .heap)
+    (omega (arith, s .pre .0 .3, p .sink .kept .0), p .sink .ensures .heap)
 
 returns : tie.Need-returns
 returns c =
@@ -78,15 +89,14 @@ returns c =
     let r = k1 .node-key .ensures ∙ (key-is nodes m query (a2 .node-small2 .result) above (right-inside a2) ∙ ap (childKey (shapeIn nodes m) query above) (a2 .node-small2 .ensures)) in
     let l = k2 .node-key2 .ensures ∙ (key-is nodes m query (a1 .node-small .result) above (left-inside a1) ∙ ap (childKey (shapeIn nodes m) query above) (a1 .node-small .ensures)) in
     record {
-      between = p1 .push .last .0;
-      long = p1 .push .kept .0;
-      right = rw (← r) (p1 .push .ensures);
-      left = rw (← l) (p2 .push2 .ensures);
+      between = p1 .sink .last .0;
+      long = p1 .sink .kept .0;
+      right = rw (← r) (p1 .sink .ensures);
+      left = rw (← l) (p2 .push .ensures);
     }
 
 pub open-node-spec : {M : Type 1} → statement M
 open-node-spec =
     tie.close
     (tie.spec
-    node-small-requires node-small-requires-2 node-key-requires node-key-requires-2 push-requires (λ c. search needs)
-    push-requires-2 (λ c. search needs) returns)
+    node-small-requires node-small-requires-2 node-key-requires node-key-requires-2 sink-requires push-requires (λ c. search needs) returns)

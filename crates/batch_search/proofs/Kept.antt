@@ -1,10 +1,11 @@
 -- What is kept of the leaves read, when one more is read for all queries, or passed over.
-use Prim.Native.Nat.{ℕ, _<_}
-use mathlib.Core.Path.{_≡_, sym, _∙_, ap, subst}
+use Prim.Native.Nat.{ℕ, zero, suc, _<_}
+use mathlib.Core.Path.{_≡_, refl, sym, _∙_, ap, subst}
 use mathlib.Core.Logic.{_⊎_, inl, inr}
 use mathlib.Core.Bool.{Bool, true, false}
 use mathlib.Core.Option.{Option, some}
 use mathlib.Core.List.{List, [], _∷_, _++_, map, foldl}
+use native.Mathlib.Omega.{arith}
 use lib.ListN.{length, set}
 use lib.Seq.{getD-set-same, getD-set-other}
 use Rattle.integer.specs.Words.{if_then_else_, isIn}
@@ -23,6 +24,11 @@ use Rattle.reading.specs.Listed.{recordAt}
 use Rattle.reading.proofs.Meaning.{LeafInTables, distances-are}
 use Rattle.batch_search.specs.Batched.{queryAt, bestBy, isMarked, BestsAndMarks, AllRead}
 
+-- once a leaf was read, there is a record
+best-some : (leaves : ℕ) (a : Near) → 0 < leaves → bestBy leaves a ≡ some a
+best-some zero a h = absurd (omega arith)
+best-some (suc more) a h = refl
+
 -- a leaf that was read is passed over, another is read
 once-is : (read : List ℕ) (j : ℕ) (b : Bool) → isIn j read ≡ b → readOnce read j ≡ (if b then read else read ++ (j ∷ []))
 unfolding readOnce
@@ -36,11 +42,11 @@ in-other read j k f = same-in k (read ++ (j ∷ [])) read (λ i. by (in-snoc rea
     by (inl i) = i
     by (inr e) = absurd (f e)
 
-module _ (t : Tables) (run : Trace) (many j : ℕ) (at : LeafInTables t j) {read bests marks : List ℕ} {seen : ℕ}
-    (k : BestsAndMarks t run many read bests marks seen) where
-  pub once-old : isMarked marks j ≡ true → BestsAndMarks t run many (readOnce read j) bests marks seen
+module _ (t : Tables) (run : Trace) (many j : ℕ) (at : LeafInTables t j) {read bests marks : List ℕ} {leaves : ℕ}
+    (k : BestsAndMarks t run many read bests marks leaves) where
+  pub once-old : isMarked marks j ≡ true → BestsAndMarks t run many (readOnce read j) bests marks leaves
   once-old e =
-      subst (λ (l : List ℕ). BestsAndMarks t run many l bests marks seen)
+      subst (λ (l : List ℕ). BestsAndMarks t run many l bests marks leaves)
       (sym (once-is read j true (sym (k .mark-is j (at .inside)) ∙ e))) k
 
   marks-more : j < length marks → (i : ℕ) → i < nodeCount t → isMarked (set marks j 1) i ≡ isIn i (read ++ (j ∷ []))
@@ -58,7 +64,7 @@ module _ (t : Tables) (run : Trace) (many j : ℕ) (at : LeafInTables t j) {read
           rw e (k .mark-is i h ∙ sym (in-other read j i f))
 
   module _ (bests′ : List ℕ)
-      (all : AllRead seen many (λ i. map (nearOf (t .samples) (measuresOf t .n) (queryAt t run i))
+      (all : AllRead leaves many (λ i. map (nearOf (t .samples) (measuresOf t .n) (queryAt t run i))
       (numbersOf (t .links) (traceCount t) (smallAt (recordOf (t .nodes) j) firstPlace))) bests bests′) where
     best-after : (i : ℕ) → i < many
         → some (recordAt bests′ i) ≡ bestAmong (tracesIn t) (treeIn t) (queryAt t run i) (read ++ (j ∷ []))
@@ -66,12 +72,16 @@ module _ (t : Tables) (run : Trace) (many j : ℕ) (at : LeafInTables t j) {read
         let query = queryAt t run i in
         let D = distancesIn (tracesIn t) (treeIn t) query j in
         all i h
-        ∙ ap (λ (l : List Near). foldl bestWith (bestBy seen (recordAt bests i)) l) (sym (distances-are t j at query))
+        ∙ ap (λ (l : List Near). foldl bestWith (bestBy leaves (recordAt bests i)) l) (sym (distances-are t j at query))
         ∙ ap (λ (o : Option Near). foldl bestWith o D) (k .best-is i h)
         ∙ sym (best-more (tracesIn t) (treeIn t) query read j)
 
-    pub once-new : isMarked marks j ≡ false → j < length marks → BestsAndMarks t run many (readOnce read j) bests′ (set marks j 1) 1
-    once-new e room =
-        subst (λ (l : List ℕ). BestsAndMarks t run many l bests′ (set marks j 1) 1)
+    pub once-new : isMarked marks j ≡ false → j < length marks → (leaves′ : ℕ) → 0 < leaves′
+        → BestsAndMarks t run many (readOnce read j) bests′ (set marks j 1) leaves′
+    once-new e room leaves′ some-leaf =
+        subst (λ (l : List ℕ). BestsAndMarks t run many l bests′ (set marks j 1) leaves′)
         (sym (once-is read j false (sym (k .mark-is j (at .inside)) ∙ e)))
-        (record { best-is = best-after; mark-is = marks-more room })
+        (record {
+          best-is = λ i h. best-some leaves′ (recordAt bests′ i) some-leaf ∙ best-after i h;
+          mark-is = marks-more room;
+        })

@@ -1,6 +1,6 @@
--- Marked nodes, written to the trail by rising number.
+-- Marked nodes: how many they are, and how they are written to the trail by rising number.
 use Prim.Native.Nat.{ℕ, suc, _+_, _-_, _≤_, _<_}
-use mathlib.Core.Path.{_≡_, refl, sym, _∙_, ap}
+use mathlib.Core.Path.{_≡_, refl, sym, _∙_, ap, subst}
 use mathlib.Core.Bool.{Bool, true, false, not}
 use mathlib.Core.List.{List, [], _∷_, _++_, append-assoc, append-nil}
 use native.Mathlib.Omega.{arith}
@@ -8,9 +8,10 @@ use native.Mathlib.Numerals.{add-one}
 use lib.ListN.{length, getD, take, drop, set, length-set}
 use lib.Dec.{eqb}
 use borrow.Author.Tests.{eqb-true}
-use lib.Seq.{drop-set-lt, take-suc-set}
+use lib.Seq.{drop-set-lt, take-suc-set, getD-set-same, getD-set-other}
 use Rattle.integer.specs.Words.{if_then_else_, counting, those}
-use Rattle.integer.proofs.Lists.{drop-more}
+use Rattle.integer.proofs.Lists.{drop-more, those-none, those-lengths, in-counting, from-counting, counting-up}
+use Rattle.integer.proofs.Times.{up-once, counting-length, those-more}
 use Rattle.batch_search.specs.Batched.{isMarked, markedOf, Noted, TrailBegins}
 
 -- a mark is any number but 0
@@ -23,6 +24,30 @@ marked-yes marks j f = by (eqb (getD marks j 0) 0) refl
 
 pub marked-no : (marks : List ℕ) (j : ℕ) → getD marks j 0 ≡ 0 → isMarked marks j ≡ false
 marked-no marks j e = rw e
+
+-- ---- how many they are
+
+pub marked-none : (marks : List ℕ) (count : ℕ) → ((j : ℕ) → j < count → getD marks j 0 ≡ 0) → 0 ≡ length (markedOf marks count)
+marked-none marks count h =
+    sym (ap length (those-none (isMarked marks) (counting count 0)
+    (λ j i. marked-no marks j (h j (omega (arith, from-counting count 0 i))))))
+
+pub marked-most : (marks : List ℕ) (count : ℕ) → length (markedOf marks count) ≤ count
+marked-most marks count = omega (arith, those-lengths (isMarked marks) (counting count 0), counting-length count 0)
+
+-- a mark for a node that had none
+pub marked-more : (marks : List ℕ) (count j : ℕ) → j < count → j < length marks → isMarked marks j ≡ false
+    → length (markedOf (set marks j 1) count) ≡ length (markedOf marks count) + 1
+marked-more marks count j h room e =
+    let same = getD-set-same marks j 1 0 room in
+    omega (
+      arith,
+      those-more (isMarked marks) (isMarked (set marks j 1)) j e (rw same) (λ k f. let o = getD-set-other marks j k 1 0 f in rw o)
+          (counting count 0),
+      up-once (counting-up count 0) (in-counting count 0 j (omega arith) (omega arith)),
+    )
+
+-- ---- how they are written
 
 module _ (marks : List ℕ) (count : ℕ) where
   -- the marked ones from node j on
@@ -49,15 +74,17 @@ module _ (marks : List ℕ) (count : ℕ) where
       record { inside = omega arith; few = omega arith; all = e; as-many = omega (arith, ap length e); size = refl; rest = refl }
 
   module _ (trail₀ trail : List ℕ) (out j : ℕ) (m : Marking trail₀ trail out j) where
-    pub marking-end : count ≤ j → TrailBegins (markedOf marks count) out trail₀ trail
+    pub marking-end : count ≤ j → TrailBegins (markedOf marks count) trail₀ trail
     unfolding counting those
     marking-end h =
         let e : count - j ≡ 0 = omega arith in
         let none : still j ≡ [] = rw e in
+        let all : out ≡ length (markedOf marks count) = omega (arith, m .as-many, ap length none) in
         record {
-          are = sym (append-nil (take out trail)) ∙ ap (λ (l : List ℕ). take out trail ++ l) (sym none) ∙ m .all;
-          as-many = omega (arith, m .as-many, ap length none);
-          rest = m .rest;
+          are =
+              subst (λ (k : ℕ). take k trail ≡ markedOf marks count) all
+              (sym (append-nil (take out trail)) ∙ ap (λ (l : List ℕ). take out trail ++ l) (sym none) ∙ m .all);
+          rest = subst (λ (k : ℕ). drop k trail ≡ drop k trail₀) all (m .rest);
         }
 
     module _ (h : j < count) (room : length (markedOf marks count) ≤ length trail₀) where

@@ -6,7 +6,7 @@ use mathlib.Core.List.{List, [], _∷_, map, foldl, flatten}
 use native.Mathlib.Numerals.{add-one}
 use native.Mathlib.Nat.{le-antisymm}
 use native.Mathlib.Omega.{arith}
-use lib.ListN.{length, getD, take, length-map, List·getD-map}
+use lib.ListN.{length, getD, take, drop, length-map, List·getD-map}
 use Rattle.integer.specs.Words.{counting, those, isIn}
 use Rattle.integer.proofs.Lists.{In, in-getD, fold-append, those-agree, those-lengths, from-counting}
 use Rattle.integer.proofs.Rows.{table-is}
@@ -22,8 +22,8 @@ use Rattle.tables.specs.Tables.{Tables, measuresOf, nodeCount, filled}
 use Rattle.tables.specs.View.{treeIn, traceIn, tracesIn}
 use Rattle.tables.proofs.Views.{tree-size, traces-size, tree-formed}
 use Rattle.reading.specs.Listed.{recordAt, nearsIn}
-use Rattle.batch_search.specs.Batched.{Searchable, queryAt, queriesOf, bestBy, isMarked, BatchRoom, BestsAndMarks, Turns, markedOf, TrailBegins, batch}
-use Rattle.batch_search.specs.Batched.{BatchSearched}
+use Rattle.batch_search.specs.Batched.{Searchable, queryAt, queriesOf, isMarked, markedOf, CountedOnce, bestBy, BatchRoom, BestsAndMarks, Turns}
+use Rattle.batch_search.specs.Batched.{TrailBegins, batch, BatchSearched}
 use Rattle.batch_search.proofs.Marks.{marked-no}
 
 module _ (t : Tables) (run : Trace) (many : ℕ) where
@@ -43,12 +43,12 @@ module _ (t : Tables) (run : Trace) (many : ℕ) where
 
   -- ---- the loop over the queries
 
-  pub record Sweeping (bests₀ marks₀ bests marks : List ℕ) (i seen : ℕ) : Type 0 where
+  pub record Sweeping (bests₀ marks₀ bests marks : List ℕ) (i leaves : ℕ) : Type 0 where
     pub inside : i ≤ many
-    pub room : BatchRoom t many bests marks seen
+    pub room : BatchRoom t many bests marks leaves
     pub bests-size : length bests ≡ length bests₀
     pub marks-size : length marks ≡ length marks₀
-    pub keeps : BestsAndMarks t run many [] bests₀ marks₀ 0 → BestsAndMarks t run many (readBy i) bests marks seen
+    pub keeps : BestsAndMarks t run many [] bests₀ marks₀ 0 → BestsAndMarks t run many (readBy i) bests marks leaves
 
   pub sweeping-start : (bests marks : List ℕ) → BatchRoom t many bests marks 0 → Sweeping bests marks bests marks 0 0
   sweeping-start bests marks room = record {
@@ -59,27 +59,28 @@ module _ (t : Tables) (run : Trace) (many : ℕ) where
     keeps = λ k. subst (λ (l : List ℕ). BestsAndMarks t run many l bests marks 0) (sym read-none) k;
   }
 
-  module _ {bests₀ marks₀ bests marks : List ℕ} {i seen : ℕ} (s : Sweeping bests₀ marks₀ bests marks i seen) where
-    pub sweeping-next : i < many → (bests′ marks′ : List ℕ) (seen′ : ℕ)
-        → Turns t run many (λ read. readFor (tracesIn t) (treeIn t) read (queryAt t run i)) bests marks seen bests′ marks′ seen′ → seen′ ≤ 1
-        → length bests′ ≡ length bests → length marks′ ≡ length marks → Sweeping bests₀ marks₀ bests′ marks′ (i + 1) seen′
-    sweeping-next h bests′ marks′ seen′ turn few size-b size-m = record {
+  module _ {bests₀ marks₀ bests marks : List ℕ} {i leaves : ℕ} (s : Sweeping bests₀ marks₀ bests marks i leaves) where
+    pub sweeping-next : i < many → (bests′ marks′ : List ℕ) (leaves′ : ℕ)
+        → Turns t run many (λ read. readFor (tracesIn t) (treeIn t) read (queryAt t run i)) bests marks leaves bests′ marks′ leaves′
+        → CountedOnce t marks′ leaves′ → length bests′ ≡ length bests → length marks′ ≡ length marks
+        → Sweeping bests₀ marks₀ bests′ marks′ (i + 1) leaves′
+    sweeping-next h bests′ marks′ leaves′ turn counted size-b size-m = record {
       inside = omega arith;
       room = record {
         bests-long = omega (arith, s .room .bests-long, size-b);
         marks-long = omega (arith, s .room .marks-long, size-m);
-        seen-few = few;
+        counted = counted;
       };
       bests-size = size-b ∙ s .bests-size;
       marks-size = size-m ∙ s .marks-size;
       keeps = λ k.
-          subst (λ (l : List ℕ). BestsAndMarks t run many l bests′ marks′ seen′) (sym (ap readBy (add-one i) ∙ read-more i))
+          subst (λ (l : List ℕ). BestsAndMarks t run many l bests′ marks′ leaves′) (sym (ap readBy (add-one i) ∙ read-more i))
           (turn (readBy i) (s .keeps k));
     }
 
-    pub sweeping-end : many ≤ i → BestsAndMarks t run many [] bests₀ marks₀ 0 → BestsAndMarks t run many (readBy many) bests marks seen
+    pub sweeping-end : many ≤ i → BestsAndMarks t run many [] bests₀ marks₀ 0 → BestsAndMarks t run many (readBy many) bests marks leaves
     sweeping-end h k =
-        subst (λ (l : List ℕ). BestsAndMarks t run many l bests marks seen) (ap readBy (le-antisymm (s .inside) h)) (s .keeps k)
+        subst (λ (l : List ℕ). BestsAndMarks t run many l bests marks leaves) (ap readBy (le-antisymm (s .inside) h)) (s .keeps k)
 
   -- ---- before the first query
 
@@ -89,7 +90,7 @@ module _ (t : Tables) (run : Trace) (many : ℕ) where
 
   -- ---- in the end
 
-  module _ (s : Searchable t run many) (bests marks : List ℕ) (seen : ℕ) (k : BestsAndMarks t run many (readBy many) bests marks seen) where
+  module _ (s : Searchable t run many) (bests marks : List ℕ) (out : ℕ) (k : BestsAndMarks t run many (readBy many) bests marks out) where
     abbrev read : List ℕ
     read = readBy many
 
@@ -121,7 +122,7 @@ module _ (t : Tables) (run : Trace) (many : ℕ) where
     answer query = nearOrZero (bestAmong (tracesIn t) (treeIn t) query read)
 
     -- a record that is known to hold a best holds it
-    is-best : (seen : ℕ) (a b : Near) → bestBy seen a ≡ some b → a ≡ b
+    is-best : (out : ℕ) (a b : Near) → bestBy out a ≡ some b → a ≡ b
     is-best zero a b e = let z : _≡_ {A = ℕ} 0 1 = cc in absurd (omega arith)
     is-best (suc more) a b e = Option·some-injective a b e
 
@@ -132,7 +133,7 @@ module _ (t : Tables) (run : Trace) (many : ℕ) where
         (queryAt t run j) =
         has-best (measuresOf t .n) (tracesIn t) (treeIn t) shape (omega (arith, traces-size t, s .some-trace)) (queriesOf t run many)
         (queryAt t run j) (in-queries j h) in
-        is-best seen (recordAt bests j) (b .best) (k .best-is j h ∙ b .is) ∙ ap nearOrZero (sym (b .is))
+        is-best out (recordAt bests j) (b .best) (k .best-is j h ∙ b .is) ∙ ap nearOrZero (sym (b .is))
 
     answers-are : nearsIn many bests ≡ map answer (queriesOf t run many)
     unfolding nearsIn
@@ -144,20 +145,20 @@ module _ (t : Tables) (run : Trace) (many : ℕ) where
         let g : j < many = omega (arith, h, long) in
         record-is j g ∙ ap answer (sym (query-at j g)) ∙ sym (List·getD-map answer (queriesOf t run many) j []))
 
-    pub batch-found : (work work′ trail trail′ : List ℕ) (out : ℕ) → TrailBegins (markedOf marks (nodeCount t)) out trail trail′
+    pub batch-found : CountedOnce t marks out → (work work′ trail trail′ : List ℕ) → TrailBegins (markedOf marks (nodeCount t)) trail trail′
         → length (leaves (treeIn t)) ≤ length trail → work′ ≡ filled (workNeeded (measuresOf t)) 0 work
         → BatchSearched t run many work work′ trail trail′ bests out
     unfolding batchBySteps answer
-    batch-found work work′ trail trail′ out w room zeroed =
+    batch-found counted work work′ trail trail′ w room zeroed =
         let T = those (λ number. isIn number read) (leaves (treeIn t)) in
-        let are : take out trail′ ≡ T = w .are ∙ marked-are in
-        let many-are : out ≡ length T = w .as-many ∙ ap length marked-are in
+        let are : take out trail′ ≡ T = ap (λ (m : ℕ). take m trail′) counted ∙ w .are ∙ marked-are in
+        let many-are : out ≡ length T = counted ∙ ap length marked-are in
         record {
           found =
               ap (λ (l : List Near). batch l out (take out trail′)) answers-are
               ∙ ap (λ (m : ℕ). batch (map answer (queriesOf t run many)) m (take out trail′)) many-are
               ∙ ap (batch (map answer (queriesOf t run many)) (length T)) are;
-          within = omega (arith, w .as-many, marked-few, room);
-          trail-rest = w .rest;
+          within = omega (arith, counted, marked-few, room);
+          trail-rest = subst (λ (m : ℕ). drop m trail′ ≡ drop m trail) (sym counted) (w .rest);
           work-zero = zeroed;
         }

@@ -9,7 +9,7 @@ use lib.ListN.{length, getD, take, drop, set}
 use lib.Dec.{T, eqb}
 use Rattle.integer.specs.Words.{counting, those, isIn}
 use Rattle.dstree.specs.Measures.{Trace, samplesNeeded, recordsNeeded, linksNeeded, workNeeded}
-use Rattle.dstree.specs.Matching.{Near, bestWith, leaves}
+use Rattle.dstree.specs.Matching.{Near, bestWith}
 use Rattle.dstree.specs.Batch.{mostQueries, queriesIn, Batch, bestAmong, batchBySteps}
 use Rattle.tables.specs.Layout.{controlFields, recordPlaces}
 use Rattle.tables.specs.Tables.{Tables, measuresOf, traceCount, nodeCount, filled}
@@ -38,6 +38,21 @@ queryAt t run i = traceIn run (measuresOf t .n) i
 abbrev pub queriesOf : Tables → Trace → ℕ → List Trace
 queriesOf t run many = queriesIn (measuresOf t .n) many run
 
+-- ---- marks
+
+-- a node has a mark
+abbrev pub isMarked : List ℕ → ℕ → Bool
+isMarked marks j = not (eqb (getD marks j 0) 0)
+
+-- the marked ones of so many nodes, rising
+abbrev pub markedOf : List ℕ → ℕ → List ℕ
+markedOf marks count = those (isMarked marks) (counting count 0)
+
+-- so many leaves were read, as many as nodes have a mark: each reading is counted, and a leaf that is read again gets no second mark, so
+-- that the count would be above the marks
+abbrev pub CountedOnce : Tables → List ℕ → ℕ → Type 0
+CountedOnce t marks leaves = leaves ≡ length (markedOf marks (nodeCount t))
+
 -- ---- what is kept
 
 -- a query's nearest trace so far: its record, once a leaf was read; before that there is none, whatever the record holds
@@ -45,43 +60,35 @@ abbrev pub bestBy : ℕ → Near → Option Near
 bestBy zero a = none
 bestBy (suc more) a = some a
 
--- room for a record of each query, two places each, and for a mark of each node; `seen` is 1 once a leaf was read, before that 0
-pub record BatchRoom (t : Tables) (many : ℕ) (bests marks : List ℕ) (seen : ℕ) : Type 0 where
+-- room for a record of each query, two places each, and for a mark of each node, with so many leaves read
+pub record BatchRoom (t : Tables) (many : ℕ) (bests marks : List ℕ) (leaves : ℕ) : Type 0 where
   pub bests-long : 2 * many ≤ length bests
   pub marks-long : nodeCount t ≤ length marks
-  pub seen-few : seen ≤ 1
-
--- a node has a mark
-abbrev pub isMarked : List ℕ → ℕ → Bool
-isMarked marks j = not (eqb (getD marks j 0) 0)
+  pub counted : CountedOnce t marks leaves
 
 -- with these leaves read: each query's best of the traces in them, and a mark for each of them
-pub record BestsAndMarks (t : Tables) (run : Trace) (many : ℕ) (read bests marks : List ℕ) (seen : ℕ) : Type 0 where
-  pub best-is : (i : ℕ) → i < many → bestBy seen (recordAt bests i) ≡ bestAmong (tracesIn t) (treeIn t) (queryAt t run i) read
+pub record BestsAndMarks (t : Tables) (run : Trace) (many : ℕ) (read bests marks : List ℕ) (leaves : ℕ) : Type 0 where
+  pub best-is : (i : ℕ) → i < many → bestBy leaves (recordAt bests i) ≡ bestAmong (tracesIn t) (treeIn t) (queryAt t run i) read
   pub mark-is : (j : ℕ) → j < nodeCount t → isMarked marks j ≡ isIn j read
 
 -- a function that makes these leaves of those read before, whatever they were
 abbrev pub Turns : Tables → Trace → ℕ → (List ℕ → List ℕ) → List ℕ → List ℕ → ℕ → List ℕ → List ℕ → ℕ → Type 0
-Turns t run many reads bests marks seen bests′ marks′ seen′ =
-    (read : List ℕ) → BestsAndMarks t run many read bests marks seen → BestsAndMarks t run many (reads read) bests′ marks′ seen′
+Turns t run many reads bests marks leaves bests′ marks′ leaves′ =
+    (read : List ℕ) → BestsAndMarks t run many read bests marks leaves → BestsAndMarks t run many (reads read) bests′ marks′ leaves′
 
 -- ---- a leaf
 
--- record i holds the best of what it held and some more traces; the other records stay
-pub record OneRead (seen i : ℕ) (more : List Near) (bests bests′ : List ℕ) : Type 0 where
-  pub best : some (recordAt bests′ i) ≡ foldl bestWith (bestBy seen (recordAt bests i)) more
+-- record i holds the best of what it held, if a leaf was read before, and some more traces; the other records stay
+pub record OneRead (leaves i : ℕ) (more : List Near) (bests bests′ : List ℕ) : Type 0 where
+  pub best : some (recordAt bests′ i) ≡ foldl bestWith (bestBy leaves (recordAt bests i)) more
   pub others : (j : ℕ) → (j ≡ i → ⊥) → recordAt bests′ j ≡ recordAt bests j
 
 -- .. of each query, the traces with their distances to it
 abbrev pub AllRead : ℕ → ℕ → (ℕ → List Near) → List ℕ → List ℕ → Type 0
-AllRead seen many more bests bests′ =
-    (i : ℕ) → i < many → some (recordAt bests′ i) ≡ foldl bestWith (bestBy seen (recordAt bests i)) (more i)
+AllRead leaves many more bests bests′ =
+    (i : ℕ) → i < many → some (recordAt bests′ i) ≡ foldl bestWith (bestBy leaves (recordAt bests i)) (more i)
 
 -- ---- the trail
-
--- the marked ones of so many nodes, rising
-abbrev pub markedOf : List ℕ → ℕ → List ℕ
-markedOf marks count = those (isMarked marks) (counting count 0)
 
 -- a node's number, written at a place if it has a mark; the place behind what is written
 abbrev pub Noted : Bool → ℕ → ℕ → ℕ → List ℕ → List ℕ → Type 0
@@ -89,10 +96,9 @@ Noted true j out out′ trail trail′ = (out′ ≡ out + 1) × (trail′ ≡ s
 Noted false j out out′ trail trail′ = (out′ ≡ out) × (trail′ ≡ trail)
 
 -- these numbers, written to the trail's beginning; its other places stay
-pub record TrailBegins (numbers : List ℕ) (out : ℕ) (trail trail′ : List ℕ) : Type 0 where
-  pub are : take out trail′ ≡ numbers
-  pub as-many : out ≡ length numbers
-  pub rest : drop out trail′ ≡ drop out trail
+pub record TrailBegins (numbers trail trail′ : List ℕ) : Type 0 where
+  pub are : take (length numbers) trail′ ≡ numbers
+  pub rest : drop (length numbers) trail′ ≡ drop (length numbers) trail
 
 -- ---- what is left
 

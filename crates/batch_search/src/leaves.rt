@@ -1,4 +1,5 @@
-// A leaf read for all queries at once. Each query keeps its nearest trace so far in a record of two places, trace number and distance.
+// A leaf read for all queries at once, and counted. Each query keeps its nearest trace so far in a record of two places, trace number and
+// distance.
 use tables::control::field;
 use tables::numbers::wide;
 use tables::places::FIRST;
@@ -6,18 +7,25 @@ use tables::places::N;
 use tables::places::TRACE_COUNT;
 ghost use mathlib.Core.Path.{_≡_};
 ghost use mathlib.Core.List.{map};
-ghost use Prim.Native.Nat.{_+_, _*_, _≤_, _<_};
+ghost use Prim.Native.Nat.{_+_, _*_, _≤_, _<_, min};
 ghost use lib.ListN.{length};
-ghost use Rattle.dstree.specs.Batch.{readOnce, mostQueries};
+ghost use Rattle.dstree.specs.Batch.{mostQueries, readOnce};
 ghost use Rattle.tables.specs.Layout.{kindPlace};
 ghost use Rattle.tables.specs.Tables.{nodeCount, recordOf};
-ghost use Rattle.tables.specs.View.{smallAt, traceIn};
+ghost use Rattle.tables.specs.View.{smallMost, smallAt, traceIn};
 ghost use Rattle.tables.specs.Walk.{numbersOf, Stored};
 ghost use Rattle.reading.specs.Nearest.{nearOf};
 ghost use Rattle.search.specs.Searched.{withoutWork};
-ghost use Rattle.batch_search.specs.Batched.{Searchable, BatchRoom, Turns, OneRead, AllRead};
+ghost use Rattle.batch_search.specs.Batched.{Searchable, CountedOnce, BatchRoom, Turns, OneRead, AllRead};
 
-// The leaf whose list starts at `head`, for one query, whose record is record i. Nothing was read before where `seen` is 0.
+// How many records a query has: none before a leaf was read.
+fn filled(leaves: usize) -> usize
+    ensures { λ r. ⌜ r ≡ min leaves 1 ⌝ }
+{
+    if leaves == 0 { 0 } else { 1 }
+}
+
+// The leaf whose list starts at `head`, for one query, whose record is record i. So many leaves were read before.
 fn read_for(
     samples: &[i16],
     links: &[u16],
@@ -27,25 +35,25 @@ fn read_for(
     query: &[i16],
     bests: &mut [u64],
     i: usize,
-    seen: usize,
+    leaves: usize,
 )
     requires { ⌜ Stored (now samples) (now links) n count head × (length (now query) ≡ n) × (i < mostQueries)
-        × (2 * i + 2 ≤ length (now bests))
-        × (seen ≤ 1) ⌝ }
-    ensures { λ _. ⌜ OneRead seen i
+        × (2 * i + 2 ≤ length (now bests)) ⌝ }
+    ensures { λ _. ⌜ OneRead leaves i
         (map (nearOf (now (samples .entry)) n (now (query .entry))) (numbersOf (now (links .entry)) count head))
         (now (bests .entry)) (now (bests .exit)) ⌝ }
 {
+    let listed = filled(leaves);
     let at = 2 * i;
     let mut one: [u64; 2] = [0; 2];
     one[0] = bests[at];
     one[1] = bests[at + 1];
-    reading::leaf::read_leaf(samples, links, n, count, head, query, &mut one, seen, 1);
+    reading::leaf::read_leaf(samples, links, n, count, head, query, &mut one, listed, 1);
     bests[at] = one[0];
     bests[at + 1] = one[1];
 }
 
-// .. for all queries of the run.
+// .. for all queries of the run. Answers how many leaves were read, with this one: whoever has a leaf read has it counted.
 fn read_for_all(
     samples: &[i16],
     links: &[u16],
@@ -55,26 +63,28 @@ fn read_for_all(
     queries: &[i16],
     many: usize,
     bests: &mut [u64],
-    seen: usize,
-)
+    leaves: usize,
+) -> usize
     requires { ⌜ Stored (now samples) (now links) n count head × (length (now queries) ≡ n * many) × (many ≤ mostQueries)
-        × (2 * many ≤ length (now bests)) × (seen ≤ 1) ⌝ }
-    ensures { λ _. ⌜ AllRead seen many
+        × (2 * many ≤ length (now bests)) × (leaves ≤ smallMost) ⌝ }
+    ensures { λ _. ⌜ AllRead leaves many
         (λ i. map (nearOf (now (samples .entry)) n (traceIn (now (queries .entry)) n i)) (numbersOf (now (links .entry)) count head))
         (now (bests .entry)) (now (bests .exit)) ⌝ }
+    ensures more { λ r. ⌜ r ≡ leaves + 1 ⌝ }
 {
     let mut i: usize = 0;
     while i < many {
         let query = tables::runs::trace_at(queries, n, i);
-        read_for(samples, links, n, count, head, query, bests, i, seen);
+        read_for(samples, links, n, count, head, query, bests, i, leaves);
         i += 1;
     }
+    leaves + 1
 }
 
-// Leaf j, unless it was read before: then it has a mark. Answers 1 once a leaf was read.
+// Leaf j, unless it was read before: then it has a mark. Answers how many leaves were read so far.
 //
-// Two wrong programs that the contract rules out: one that reads the leaf for the query alone that asks for it, and one that reads it
-// again.
+// Two wrong programs that the contract rules out: one that reads the leaf for the query alone that asks for it, since the others' bests
+// then lack its traces; and one that reads a leaf with a mark again, since one more is then counted and none more marked.
 pub fn read_once(
     control: &[u16],
     samples: &[i16],
@@ -85,24 +95,35 @@ pub fn read_once(
     j: usize,
     bests: &mut [u64],
     marks: &mut [u8],
-    seen: usize,
+    leaves: usize,
 ) -> usize
     requires { ⌜ Searchable (withoutWork (now control) (now samples) (now nodes) (now links)) (now queries) many
-        × BatchRoom (withoutWork (now control) (now samples) (now nodes) (now links)) many (now bests) (now marks) seen ⌝ }
+        × BatchRoom (withoutWork (now control) (now samples) (now nodes) (now links)) many (now bests) (now marks) leaves ⌝ }
     requires leaf { ⌜ (j < nodeCount (withoutWork (now control) (now samples) (now nodes) (now links)))
         × (smallAt (recordOf (now nodes) j) kindPlace ≡ 0) ⌝ }
     ensures { λ r. ⌜ Turns (withoutWork (now (control .entry)) (now (samples .entry)) (now (nodes .entry)) (now (links .entry)))
-        (now (queries .entry)) many (λ read. readOnce read j) (now (bests .entry)) (now (marks .entry)) seen
+        (now (queries .entry)) many (λ read. readOnce read j) (now (bests .entry)) (now (marks .entry)) leaves
         (now (bests .exit)) (now (marks .exit)) r ⌝ }
-    ensures few { λ r. ⌜ r ≤ 1 ⌝ }
+    ensures counted { λ r. ⌜ CountedOnce (withoutWork (now (control .entry)) (now (samples .entry)) (now (nodes .entry))
+        (now (links .entry)))
+        (now (marks .exit)) r ⌝ }
 {
     if marks[j] != 0 {
-        return seen;
+        return leaves;
     }
     marks[j] = 1;
     let n = wide(field(control, N));
     let count = wide(field(control, TRACE_COUNT));
     let first = tables::records::node_small(nodes, j, FIRST);
-    read_for_all(samples, links, n, count, first, queries, many, bests, seen);
-    1
+    read_for_all(
+        samples,
+        links,
+        n,
+        count,
+        first,
+        queries,
+        many,
+        bests,
+        leaves,
+    )
 }

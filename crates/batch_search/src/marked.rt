@@ -20,10 +20,10 @@ fn note(marks: &[u8], j: usize, trail: &mut [u16], out: usize) -> usize
     out
 }
 
-// The numbers of marked nodes at the trail's beginning. Answers how many they are; the trail's other places stay.
-pub fn write_trail(marks: &[u8], count: usize, trail: &mut [u16]) -> usize
+// The numbers of marked nodes at the trail's beginning; the trail's other places stay.
+pub fn write_trail(marks: &[u8], count: usize, trail: &mut [u16])
     requires { ⌜ (count ≤ nodePlaces) × (count ≤ length (now marks)) × (length (markedOf (now marks) count) ≤ length (now trail)) ⌝ }
-    ensures { λ r. ⌜ TrailBegins (markedOf (now (marks .entry)) count) r (now (trail .entry)) (now (trail .exit)) ⌝ }
+    ensures { λ _. ⌜ TrailBegins (markedOf (now (marks .entry)) count) (now (trail .entry)) (now (trail .exit)) ⌝ }
 {
     let mut out: usize = 0;
     let mut j: usize = 0;
@@ -31,5 +31,4 @@ pub fn write_trail(marks: &[u8], count: usize, trail: &mut [u16]) -> usize
         out = note(marks, j, trail, out);
         j += 1;
     }
-    out
 }

@@ -14,9 +14,9 @@ ghost use Rattle.dstree.specs.Batch.{readFor, batchRead};
 ghost use Rattle.tables.specs.Tables.{measuresOf, nodeCount, filled};
 ghost use Rattle.tables.specs.View.{treeIn, tracesIn};
 ghost use Rattle.search.specs.Searched.{withoutWork};
-ghost use Rattle.batch_search.specs.Batched.{Searchable, queryAt, queriesOf, BatchRoom, BestsAndMarks, Turns, BatchSearched};
+ghost use Rattle.batch_search.specs.Batched.{Searchable, queryAt, queriesOf, CountedOnce, BatchRoom, BestsAndMarks, Turns, BatchSearched};
 
-// Query i: its sums, then its leaves.
+// Query i: its sums, then its leaves. Answers how many leaves were read so far.
 fn search_query(
     control: &[u16],
     samples: &[i16],
@@ -28,10 +28,10 @@ fn search_query(
     work: &mut [u64],
     bests: &mut [u64],
     marks: &mut [u8],
-    seen: usize,
+    leaves: usize,
 ) -> usize
     requires { ⌜ Searchable (withoutWork (now control) (now samples) (now nodes) (now links)) (now queries) many
-        × BatchRoom (withoutWork (now control) (now samples) (now nodes) (now links)) many (now bests) (now marks) seen ⌝ }
+        × BatchRoom (withoutWork (now control) (now samples) (now nodes) (now links)) many (now bests) (now marks) leaves ⌝ }
     requires query { ⌜ (i < many) × (length (now work) ≡ nodeCount (withoutWork (now control) (now samples) (now nodes) (now links))) ⌝ }
     ensures { λ r. ⌜ Turns (withoutWork (now (control .entry)) (now (samples .entry)) (now (nodes .entry)) (now (links .entry)))
         (now (queries .entry)) many
@@ -39,8 +39,10 @@ fn search_query(
         (treeIn (withoutWork (now (control .entry)) (now (samples .entry)) (now (nodes .entry)) (now (links .entry)))) read
         (queryAt (withoutWork (now (control .entry)) (now (samples .entry)) (now (nodes .entry)) (now (links .entry)))
         (now (queries .entry)) i))
-        (now (bests .entry)) (now (marks .entry)) seen (now (bests .exit)) (now (marks .exit)) r ⌝ }
-    ensures few { λ r. ⌜ r ≤ 1 ⌝ }
+        (now (bests .entry)) (now (marks .entry)) leaves (now (bests .exit)) (now (marks .exit)) r ⌝ }
+    ensures counted { λ r. ⌜ CountedOnce (withoutWork (now (control .entry)) (now (samples .entry)) (now (nodes .entry))
+        (now (links .entry)))
+        (now (marks .exit)) r ⌝ }
 {
     let n = wide(field(control, N));
     let query = tables::runs::trace_at(queries, n, i);
@@ -60,11 +62,11 @@ fn search_query(
         work,
         bests,
         marks,
-        seen,
+        leaves,
     )
 }
 
-// All queries, one after another. Search work has a place for each node.
+// All queries, one after another. Search work has a place for each node. Answers how many leaves were read.
 //
 // Two wrong programs that the contract rules out: one that leaves out the last query, and one that forgets between two queries what was
 // read.
@@ -88,13 +90,17 @@ fn search_queries(
         (now (queries .entry)) many
         (batchRead (tracesIn (withoutWork (now (control .entry)) (now (samples .entry)) (now (nodes .entry)) (now (links .entry))))
         (treeIn (withoutWork (now (control .entry)) (now (samples .entry)) (now (nodes .entry)) (now (links .entry))))
-        (queriesOf (withoutWork (now (control .entry)) (now (samples .entry)) (now (nodes .entry)) (now (links .entry))) (now (queries .entry)) many))
-        (now (bests .exit)) (now (marks .exit)) r) ⌝ }
+        (queriesOf (withoutWork (now (control .entry)) (now (samples .entry)) (now (nodes .entry)) (now (links .entry)))
+            (now (queries .entry))
+        many)) (now (bests .exit)) (now (marks .exit)) r) ⌝ }
+    ensures counted { λ r. ⌜ CountedOnce (withoutWork (now (control .entry)) (now (samples .entry)) (now (nodes .entry))
+        (now (links .entry)))
+        (now (marks .exit)) r ⌝ }
 {
-    let mut seen: usize = 0;
+    let mut leaves: usize = 0;
     let mut i: usize = 0;
     while i < many {
-        seen = search_query(
+        leaves = search_query(
             control,
             samples,
             nodes,
@@ -105,11 +111,11 @@ fn search_queries(
             work,
             bests,
             marks,
-            seen,
+            leaves,
         );
         i += 1;
     }
-    seen
+    leaves
 }
 
 // .. with the needed places of search work zero when it ends, whatever they held.
@@ -133,14 +139,18 @@ fn search_marks(
         (now (queries .entry)) many
         (batchRead (tracesIn (withoutWork (now (control .entry)) (now (samples .entry)) (now (nodes .entry)) (now (links .entry))))
         (treeIn (withoutWork (now (control .entry)) (now (samples .entry)) (now (nodes .entry)) (now (links .entry))))
-        (queriesOf (withoutWork (now (control .entry)) (now (samples .entry)) (now (nodes .entry)) (now (links .entry))) (now (queries .entry)) many))
-        (now (bests .exit)) (now (marks .exit)) r) ⌝ }
+        (queriesOf (withoutWork (now (control .entry)) (now (samples .entry)) (now (nodes .entry)) (now (links .entry)))
+            (now (queries .entry))
+        many)) (now (bests .exit)) (now (marks .exit)) r) ⌝ }
+    ensures counted { λ r. ⌜ CountedOnce (withoutWork (now (control .entry)) (now (samples .entry)) (now (nodes .entry))
+        (now (links .entry)))
+        (now (marks .exit)) r ⌝ }
     ensures zero { λ _. ⌜ now (work .exit) ≡ filled
         (workNeeded (measuresOf (withoutWork (now (control .entry)) (now (samples .entry)) (now (nodes .entry)) (now (links .entry))))) 0
         (now (work .entry)) ⌝ }
 {
     let count = wide(field(control, NODE_COUNT));
-    let seen = search_queries(
+    let leaves = search_queries(
         control,
         samples,
         nodes,
@@ -154,7 +164,7 @@ fn search_marks(
     let capacity = tables::numbers::wider(field(control, CAPACITY));
     let needed = tables::control::records_needed(capacity);
     tables::loops::zero_work(work, needed);
-    seen
+    leaves
 }
 
 // How many leaves were read, which the trail begins with by rising number, and a record for each query, two places each: trace number
@@ -165,6 +175,9 @@ pub struct BatchRead {
 }
 
 // The whole search for a batch. Search work is left zero.
+//
+// Two wrong programs that the contract rules out: one that counts a leaf anew for each query that asks for it, and one that lists the
+// leaves in the order in which they were read.
 pub fn search_batch(
     control: &[u16],
     samples: &[i16],
@@ -184,7 +197,7 @@ pub fn search_batch(
 {
     let mut bests: [u64; 32] = [0; 32];
     let mut marks: [u8; 8192] = [0; 8192];
-    search_marks(
+    let leaves = search_marks(
         control,
         samples,
         nodes,
@@ -196,6 +209,6 @@ pub fn search_batch(
         &mut marks,
     );
     let count = wide(field(control, NODE_COUNT));
-    let leaves = crate::marked::write_trail(&marks, count, trail);
+    crate::marked::write_trail(&marks, count, trail);
     BatchRead { leaves, bests }
 }

@@ -268,6 +268,12 @@ unfolding those
 those-agree f g [] h = refl
 those-agree f g (a ∷ l) h = rw (h a first, those-agree f g l (λ b i. h b (later i)))
 
+-- a test that no element passes
+pub those-none : {A : Type 0} (f : A → Bool) (l : List A) → ((a : A) → In a l → f a ≡ false) → those f l ≡ []
+unfolding those
+those-none f [] h = refl
+those-none f (a ∷ l) h = rw (h a first, those-none f l (λ b i. h b (later i)))
+
 -- what is in a list passes a test or the opposite one
 pub in-either : {A : Type 0} (passes : A → Bool) {a : A} {l : List A} → In a l → In a (those passes l) ⊎ In a (those (λ b. not (passes b)) l)
 in-either {A} passes {a} {l} i = by (passes a) refl

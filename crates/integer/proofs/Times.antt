@@ -72,6 +72,23 @@ pub up-once : {from k : ℕ} {l : List ℕ} → Up from l → In k l → timesIn
 up-once {from} {k} (u-more {l} h u) first = omega (arith, times-same k l, times-none k l (λ i. omega (arith, up-in u i)))
 up-once {from} {k} (u-more {a} {l} h u) (later i) = omega (arith, times-other k a l (λ e. omega (arith, up-in u i)), up-once u i)
 
+-- a test that one number more passes: as many more pass it as the list has of that number
+module _ (f g : ℕ → Bool) (k : ℕ) (fails : f k ≡ false) (passes : g k ≡ true) (others : (a : ℕ) → (a ≡ k → ⊥) → g a ≡ f a) where
+  pub those-more : (l : List ℕ) → length (those g l) ≡ length (those f l) + timesIn k l
+  unfolding those
+  those-more [] = omega (arith, times-nil k)
+  those-more (a ∷ l) = by (same-or-not a k) (those-more l)
+    where
+      alike : (a ≡ k → ⊥) → length (those g l) ≡ length (those f l) + timesIn k l → (b : Bool)
+          → length (if b then a ∷ those g l else those g l) ≡ length (if b then a ∷ those f l else those f l) + timesIn k (a ∷ l)
+      alike h ih true = omega (arith, times-other k a l (λ e. h (sym e)))
+      alike h ih false = omega (arith, times-other k a l (λ e. h (sym e)))
+
+      by : Dec (a ≡ k) → length (those g l) ≡ length (those f l) + timesIn k l
+          → length (if g a then a ∷ those g l else those g l) ≡ length (if f a then a ∷ those f l else those f l) + timesIn k (a ∷ l)
+      by (yes e) ih = rw (e, fails, passes) (omega (arith, times-same k l))
+      by (no h) ih = rw (others a h) (alike h ih (f a))
+
 -- ---- the parts f a of the elements a of a list: a number is in them once exactly if one place's part has it once and no other place's has it
 
 pub record OnceAt {A : Type 0} (f : A → List ℕ) (d : A) (l : List A) (k : ℕ) : Type 0 where

@@ -23,11 +23,11 @@ abbrev more : List ℤ → List ℕ → ℕ → ℕ → ℕ → List ℤ → ℕ
 more samples links n count head queries i = map (nearOf samples n (traceIn queries n i)) (numbersOf links count head)
 
 abbrev Inv-loop : tie.InvT-loop
-Inv-loop samples links n count head queries many bests₀ seen i₀ bests i =
-    (i ≤ many) × (length bests ≡ length bests₀) × Reading seen i (more samples links n count head queries) bests₀ bests
+Inv-loop samples links n count head queries many bests₀ leaves i₀ bests i =
+    (i ≤ many) × (length bests ≡ length bests₀) × Reading leaves i (more samples links n count head queries) bests₀ bests
 
 abbrev μ-loop : tie.MeasureT-loop
-μ-loop samples links n count head queries many bests₀ seen i₀ bests i = many - i
+μ-loop samples links n count head queries many bests₀ leaves i₀ bests i = many - i
 
 abbrev given : tie.At-loop Inv-loop μ-loop → tie.Start Inv-loop μ-loop
 given l = l .before .before .before
@@ -36,7 +36,7 @@ loop-holds : tie.Need-loop-holds Inv-loop μ-loop
 loop-holds c =
     let a = c .before .before .args in
     let all = more (now (a .samples)) (now (a .links)) (a .n) (a .count) (a .head) (now (a .queries)) in
-    (omega arith, refl, reading-start (a .seen) all (now (a .bests)))
+    (omega arith, refl, reading-start (a .leaves) all (now (a .bests)))
 
 -- a turn
 module _ (c : tie.In-loop Inv-loop μ-loop) where
@@ -62,7 +62,6 @@ read-for-requires c κs =
       long,
       omega (arith, t .loop-test .taken, s .pre .2),
       omega (arith, t .loop-test .taken, s .pre .3, t .before .loop .inv .1),
-      s .pre .4,
     )
 
 add-i : tie.Need-add-i Inv-loop μ-loop
@@ -82,23 +81,26 @@ loop-again c =
     let L = t .before .loop in
     let all = more (now (a .samples)) (now (a .links)) (a .n) (a .count) (a .head) (now (a .queries)) in
     let bests = r .read-for .last .1 .1 .1 .1 .1 .1 .0 in
-    let one : OneRead (a .seen) (L .i) (all (L .i)) (L .bests) bests =
-    subst (λ (query : Trace). OneRead (a .seen) (L .i)
+    let one : OneRead (a .leaves) (L .i) (all (L .i)) (L .bests) bests =
+    subst (λ (query : Trace). OneRead (a .leaves) (L .i)
     (map (nearOf (now (a .samples)) (a .n) query) (numbersOf (now (a .links)) (a .count) (a .head))) (L .bests) bests)
     (q .trace-at .ensures) (r .read-for .ensures) in (
       omega (arith, t .loop-test .taken),
       r .read-for .kept .1 .1 .1 .1 .1 .1 .0 ∙ L .inv .1,
-      reading-next (a .seen) (L .i) all (now (a .bests)) (L .bests) bests (L .inv .2) one,
+      reading-next (a .leaves) (L .i) all (now (a .bests)) (L .bests) bests (L .inv .2) one,
     )
+
+add-result : tie.Need-add-result Inv-loop μ-loop
+add-result c = omega (arith, given (c .before) .pre .4)
 
 same-length : tie.Need-same-length Inv-loop μ-loop
 same-length c = c .before .loop .inv .1
 
 returns : tie.Need-returns Inv-loop μ-loop
-returns c = let L = c .before .loop in λ i h. L .inv .2 .done i (omega (arith, h, c .loop-test .left))
+returns c = let L = c .before .loop in (λ i h. L .inv .2 .done i (omega (arith, h, c .loop-test .left)), refl)
 
 pub read-for-all-spec : {M : Type 1} → statement M
 read-for-all-spec =
     tie.close
     (tie.spec
-    Inv-loop μ-loop loop-holds trace-at-requires read-for-requires add-i loop-less loop-again same-length returns)
+    Inv-loop μ-loop loop-holds trace-at-requires read-for-requires add-i loop-less loop-again add-result same-length returns)

@@ -1,5 +1,7 @@
--- `batch_search::leaves::read_once` meets its contract: a leaf with a mark is passed over, another is read for all queries (`Kept`).
+-- `batch_search::leaves::read_once` meets its contract: a leaf with a mark is passed over, another is read for all queries (`Kept`), and is
+-- then one more of those with a mark (`Marks`).
 use mathlib.Core.Path.{_≡_, _∙_}
+use mathlib.Core.Bool.{true, false}
 use mathlib.Core.List.{map}
 use Prim.Native.Nat.{_<_}
 use native.Mathlib.Omega.{arith}
@@ -18,9 +20,9 @@ use Rattle.leaf_order.proofs.Records.{number-fits}
 use Rattle.search.specs.Searched.{withoutWork, Ready}
 use Rattle.search.proofs.Facts.{walkable, leaf-at}
 use Rattle.search.proofs.Turns.{stored-as}
-use Rattle.batch_search.specs.Batched.{queryAt, AllRead}
-use Rattle.batch_search.proofs.Runs.{ready-for}
-use Rattle.batch_search.proofs.Marks.{marked-yes, marked-no}
+use Rattle.batch_search.specs.Batched.{queryAt, isMarked, AllRead}
+use Rattle.batch_search.proofs.Runs.{ready-for, nodes-few}
+use Rattle.batch_search.proofs.Marks.{marked-yes, marked-no, marked-most, marked-more}
 use Rattle.batch_search.proofs.Kept.{once-old, once-new}
 use Rattle.batch_search.proofs.leaves.read_once.Statement.{statement}
 use Rattle.batch_search.proofs.leaves.read_once.Tie as tie
@@ -54,10 +56,9 @@ slice-read-if1 c = omega (arith, mark-room (c .before .before .before .before .b
 returns : tie.Need-returns
 returns c =
     let s = passing c in
-    let a = s .args in (
-      λ read k. once-old (given s) (now (a .queries)) (a .many) (a .j) (at-leaf s) k (marked-yes (now (a .marks)) (a .j) (c .if1 .taken)),
-      s .pre .0 .1 .seen-few,
-    )
+    let a = s .args in
+    let marked : isMarked (now (a .marks)) (a .j) ≡ true = marked-yes (now (a .marks)) (a .j) (λ e. omega (arith, c .if1 .taken, e)) in
+    (λ read k. once-old (given s) (now (a .queries)) (a .many) (a .j) (at-leaf s) k marked, s .pre .0 .1 .counted)
 
 slice-write-marks : tie.Need-slice-write-marks
 slice-write-marks c = omega (arith, mark-room (start c))
@@ -89,7 +90,12 @@ read-for-all-requires c κs =
       rw (n-is d) (s .pre .0 .0 .run-long),
       s .pre .0 .0 .few,
       s .pre .0 .1 .bests-long,
-      s .pre .0 .1 .seen-few,
+      omega (
+        arith,
+        s .pre .0 .1 .counted,
+        marked-most (now (s .args .marks)) (nodeCount (given s)),
+        nodes-few (given s) (now (s .args .queries)) (s .args .many) (s .pre .0 .0),
+      ),
     )
 
 returns-2 : tie.Need-returns-2
@@ -100,14 +106,20 @@ returns-2 c =
     let a = s .args in
     let t = given s in
     let bests = r .read-for-all .last .1 .1 .1 .1 .1 .1 .1 .0 in
-    let all : AllRead (a .seen) (a .many)
+    let all : AllRead (a .leaves) (a .many)
     (λ i. map (nearOf (t .samples) (measuresOf t .n) (queryAt t (now (a .queries)) i))
     (numbersOf (t .links) (traceCount t) (smallAt (recordOf (t .nodes) (a .j)) firstPlace))) (now (a .bests)) bests =
-    rw (← n-is d, ← count-is d, ← d .node-small .ensures) (r .read-for-all .ensures) in (
-      λ read k. once-new t (now (a .queries)) (a .many) (a .j) (at-leaf s) k bests all
-          (marked-no (now (a .marks)) (a .j) (else d .if1 .left))
-          (mark-room s),
-      omega arith,
+    rw (← n-is d, ← count-is d, ← d .node-small .ensures) (r .read-for-all .ensures .0) in
+    -- the leaf had no mark, or it would be counted twice
+    let unmarked : isMarked (now (a .marks)) (a .j) ≡ false = marked-no (now (a .marks)) (a .j) (omega (arith, else d .if1 .left)) in (
+      λ read k. once-new t (now (a .queries)) (a .many) (a .j) (at-leaf s) k bests all unmarked (mark-room s) (r .read-for-all .result)
+          (omega (arith, r .read-for-all .ensures .1)),
+      omega (
+        arith,
+        r .read-for-all .ensures .1,
+        s .pre .0 .1 .counted,
+        marked-more (now (a .marks)) (nodeCount t) (a .j) (s .pre .1 .0) (mark-room s) unmarked,
+      ),
     )
 
 pub read-once-spec : {M : Type 1} → statement M

@@ -2,10 +2,10 @@
 -- give (`Sweeps`).
 use mathlib.Core.Path.{_≡_, _∙_, subst, sym}
 use mathlib.Core.List.{List}
-use Prim.Native.Nat.{ℕ, _≤_}
+use Prim.Native.Nat.{ℕ, _≤_, _<_}
 use native.Mathlib.Omega.{arith}
 use borrow.Author.Needs.{needs}
-use lib.ListN.{length, replicate, length-replicate, getD-replicate}
+use lib.ListN.{length, getD, replicate, length-replicate, getD-replicate}
 use denote.Ref.{now}
 use Rattle.dstree.specs.Matching.{leaves}
 use Rattle.dstree.specs.Batch.{batchRead}
@@ -14,6 +14,7 @@ use Rattle.tables.specs.View.{treeIn, tracesIn}
 use Rattle.search.specs.Searched.{withoutWork}
 use Rattle.batch_search.specs.Batched.{queriesOf, BestsAndMarks, markedOf, TrailBegins}
 use Rattle.batch_search.proofs.Runs.{nodes-few}
+use Rattle.batch_search.proofs.Marks.{marked-none}
 use Rattle.batch_search.proofs.Sweeps.{keeps-none, marked-few, batch-found}
 use Rattle.batch_search.proofs.searching.search_batch.Statement.{statement}
 use Rattle.batch_search.proofs.searching.search_batch.Tie as tie
@@ -31,6 +32,9 @@ blank = replicate 8192 0
 few : (s : tie.Start) → nodeCount (given s) ≤ 8191
 few s = nodes-few (given s) (now (s .args .queries)) (s .args .many) (s .pre .0)
 
+no-mark : (s : tie.Start) (j : ℕ) → j < nodeCount (given s) → getD blank j 0 ≡ 0
+no-mark s j h = getD-replicate 8192 j 0 0 (omega (arith, h, few s))
+
 search-marks-requires : tie.Need-search-marks-requires
 search-marks-requires c κs =
     let s = start c in (
@@ -38,7 +42,7 @@ search-marks-requires c κs =
       record {
         bests-long = omega (arith, s .pre .0 .few, length-replicate {A = ℕ} 32 0);
         marks-long = omega (arith, few s, length-replicate {A = ℕ} 8192 0);
-        seen-few = omega arith;
+        counted = marked-none blank (nodeCount (given s)) (no-mark s);
       },
       s .pre .1,
     )
@@ -59,8 +63,7 @@ module _ (m : tie.After-search-marks) where
       (m .search-marks .result)
   keeps =
       m .search-marks .ensures .0
-      (keeps-none (given s) (now (s .args .queries)) (s .args .many) (replicate 32 0) blank
-      (λ j h. getD-replicate 8192 j 0 0 (omega (arith, h, few s))))
+      (keeps-none (given s) (now (s .args .queries)) (s .args .many) (replicate 32 0) blank (no-mark s))
 
   marks-long : length marks ≡ 8192
   marks-long = m .search-marks .kept .1 .1 .1 .1 .1 .1 .1 .1 .0 ∙ length-replicate {A = ℕ} 8192 0
@@ -90,13 +93,12 @@ returns c =
     let w = r .before .before .before in
     let m = searched w in
     let a = s m .args in
-    let written : TrailBegins (markedOf (marks m) (nodeCount (given (s m)))) (r .write-trail .result) (now (a .trail))
-    (r .write-trail .last .1 .1 .0) =
-    subst (λ (k : ℕ). TrailBegins (markedOf (marks m) k) (r .write-trail .result) (now (a .trail)) (r .write-trail .last .1 .1 .0))
-    (count-is w) (r .write-trail .ensures) in
+    let written : TrailBegins (markedOf (marks m) (nodeCount (given (s m)))) (now (a .trail)) (r .write-trail .last .1 .1 .0) =
+    subst (λ (k : ℕ). TrailBegins (markedOf (marks m) k) (now (a .trail)) (r .write-trail .last .1 .1 .0)) (count-is w)
+    (r .write-trail .ensures) in
     batch-found (given (s m)) (now (a .queries)) (a .many) (s m .pre .0) (bests m) (marks m) (m .search-marks .result) (keeps m)
-    (now (a .work)) (m .search-marks .last .1 .1 .1 .1 .1 .1 .0) (now (a .trail)) (r .write-trail .last .1 .1 .0) (r .write-trail .result)
-    written (s m .pre .2) (m .search-marks .ensures .1)
+    (m .search-marks .ensures .1 .0) (now (a .work)) (m .search-marks .last .1 .1 .1 .1 .1 .1 .0) (now (a .trail))
+    (r .write-trail .last .1 .1 .0) written (s m .pre .2) (m .search-marks .ensures .1 .1)
 
 pub search-batch-spec : {M : Type 1} → statement M
 search-batch-spec =

@@ -128,9 +128,12 @@ returns c =
     let z = c .before .before in
     let v = done z in
     let s = start v in (
-      v .search-queries .ensures,
-      zeroed (given s) _ (leafs s) (ready s) (now (s .args .work)) (whole v) (z .zero-work .last .0) (behind v)
-          (z .zero-work .ensures ∙ ap (λ (i : ℕ). filled i 0 (whole v)) (needed-is (z .before .before))),
+      v .search-queries .ensures .0,
+      (
+        v .search-queries .ensures .1,
+        zeroed (given s) _ (leafs s) (ready s) (now (s .args .work)) (whole v) (z .zero-work .last .0) (behind v)
+            (z .zero-work .ensures ∙ ap (λ (i : ℕ). filled i 0 (whole v)) (needed-is (z .before .before))),
+      ),
     )
 
 pub search-marks-spec : {M : Type 1} → statement M

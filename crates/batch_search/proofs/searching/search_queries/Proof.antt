@@ -11,12 +11,12 @@ use Rattle.batch_search.proofs.searching.search_queries.Statement.{stat
 use Rattle.batch_search.proofs.searching.search_queries.Tie as tie
 
 abbrev Inv-loop : tie.InvT-loop
-Inv-loop control samples nodes links queries many work₀ bests₀ marks₀ seen₀ i₀ work bests marks seen i =
+Inv-loop control samples nodes links queries many work₀ bests₀ marks₀ leaves₀ i₀ work bests marks leaves i =
     let t = withoutWork control samples nodes links in
-    Sweeping t queries many bests₀ marks₀ bests marks i seen × (length work ≡ nodeCount t)
+    Sweeping t queries many bests₀ marks₀ bests marks i leaves × (length work ≡ nodeCount t)
 
 abbrev μ-loop : tie.MeasureT-loop
-μ-loop control samples nodes links queries many work₀ bests₀ marks₀ seen₀ i₀ work bests marks seen i = many - i
+μ-loop control samples nodes links queries many work₀ bests₀ marks₀ leaves₀ i₀ work bests marks leaves i = many - i
 
 abbrev start : tie.At-loop Inv-loop μ-loop → tie.Start Inv-loop μ-loop
 start l = l .before .before .before .before .before .before
@@ -64,8 +64,10 @@ returns : tie.Need-returns Inv-loop μ-loop
 returns c =
     let l = c .before in
     let s = start l in
-    let a = s .args in
-    sweeping-end (given s) (now (a .queries)) (a .many) (l .loop .inv .0) (omega (arith, c .loop-test .left))
+    let a = s .args in (
+      sweeping-end (given s) (now (a .queries)) (a .many) (l .loop .inv .0) (omega (arith, c .loop-test .left)),
+      l .loop .inv .0 .room .counted,
+    )
 
 pub search-queries-spec : {M : Type 1} → statement M
 search-queries-spec =

@@ -6,7 +6,7 @@ use Prim.Native.Nat.{ℕ, _<_}
 use native.Mathlib.Omega.{arith}
 use borrow.Author.Needs.{needs}
 use lib.ListN.{length}
-use lib.Dec.{eqb}
+use lib.Dec.{ltb}
 use denote.Ref.{now}
 use Rattle.dstree.specs.Measures.{Trace}
 use Rattle.dstree.specs.Node.{Tree}
@@ -27,12 +27,13 @@ use Rattle.batch_search.proofs.visiting.visit.Statement.{statement}
 use Rattle.batch_search.proofs.visiting.visit.Tie as tie
 
 abbrev Inv-loop : tie.InvT-loop
-Inv-loop control samples nodes links queries many i sums squares work₀ bests₀ marks₀ seen n query waiting₀ some₀ work bests marks waiting some =
+Inv-loop control samples nodes links queries many i sums squares work₀ bests₀ marks₀ leaves₀ n query w₀ r₀ work bests marks waiting read =
     let t = withoutWork control samples nodes links in
-    BatchState t queries many i (shapeIn nodes (nodeCount t)) bests₀ marks₀ seen work bests marks waiting some × (length work ≡ nodeCount t)
+    BatchState t queries many i (shapeIn nodes (nodeCount t)) bests₀ marks₀ leaves₀ work bests marks waiting read
+        × (length work ≡ nodeCount t)
 
 abbrev μ-loop : tie.MeasureT-loop
-μ-loop control samples nodes links queries many i sums squares work₀ bests₀ marks₀ seen n query waiting₀ some₀ work bests marks waiting some =
+μ-loop control samples nodes links queries many i sums squares work₀ bests₀ marks₀ leaves₀ n query w₀ r₀ work bests marks waiting read =
     let t = withoutWork control samples nodes links in
     length (remaining (shapeIn nodes (nodeCount t)) (queryAt t queries i) waiting work)
 
@@ -99,7 +100,7 @@ loop-holds c =
     let begun : Begun (shape s) (query s) work =
     subst (λ (x : Trace). Begun (shape s) x work) (query-is q)
     (subst (λ (m : ℕ). Begun (shapeIn (given s .nodes) m) (now (q .trace-at .result)) work) (s .pre .1 .2) (b .begin .ensures)) in (
-      state-start (given s) (run s) (a .many) (a .i) (nodes s) refl work (now (a .bests)) (now (a .marks)) (a .seen) begun (s .pre .0 .1),
+      state-start (given s) (run s) (a .many) (a .i) (nodes s) refl work (now (a .bests)) (now (a .marks)) (a .leaves) begun (s .pre .0 .1),
       b .begin .kept .1 .1 .1 .1 .0 ∙ s .pre .1 .2,
     )
 
@@ -139,7 +140,7 @@ module _ (a : tie.After-next-leaf Inv-loop μ-loop) where
 
   -- the limit: the query's best, once there is one
   abbrev limited : Bool
-  limited = eqb (turn .loop .some) 1
+  limited = ltb 0 (turn .loop .read)
 
   abbrev limit : ℕ
   limit = recordAt (turn .loop .bests) (from .args .i) .distance
@@ -177,7 +178,7 @@ returns c =
     let s = from a in
     let none = subst (Answers a) (c .enum-told .given .1) (handed a) in (
       state-end (given s) (run s) (s .args .many) (s .args .i) (s .pre .1 .0) (turn a .loop .inv .0) (none .past),
-      turn a .loop .inv .0 .room .seen-few,
+      turn a .loop .inv .0 .room .counted,
     )
 
 -- ---- a leaf

@@ -90,18 +90,18 @@ module _ (t : Tables) (w : T (wellFormed t)) (long : Long t) (some : 0 < length 
   passes j size (m-leaf e q l) is h = absurd (omega (arith, e, h))
   passes j size (m-inner {test} {left} {right} e q p s) is h =
       let ok : TestIn sampleLimit n test = facts t w .limits .tests j test left right is in
-      let l : (j < left) × (left < length tree) = facts t w .shape .child j left (subst (λ (kind : Kind). T (hasChild left kind)) (sym is) (in-child left (inner test left right) first)) in
+      let l : (j < left) × (left < length tree) = facts t w .shape .children .child j left (subst (λ (kind : Kind). T (hasChild left kind)) (sym is) (in-child left (inner test left right) first)) in
       let g : (j < right) × (right < length tree) =
-      facts t w .shape .child j right (subst (λ (kind : Kind). T (hasChild right kind)) (sym is) (in-child right (inner test left right) (later first))) in
+      facts t w .shape .children .child j right (subst (λ (kind : Kind). T (hasChild right kind)) (sym is) (in-child right (inner test left right) (later first))) in
       let from : smallAt (recordOf (t .nodes) j) runFirstPlace ≡ test .on .first = ap (λ (u : Test). u .on .first) q in
       let to : smallAt (recordOf (t .nodes) j) runLastPlace ≡ test .on .last = ap (λ (u : Test). u .on .last) q in
       record {
         test = record {
           size = size;
           on = record {
-            from-1 = omega (arith, from, ok .from-1);
-            rises = omega (arith, from, to, ok .run-rises);
-            to-n = omega (arith, to, ok .to-n);
+            from-1 = omega (arith, from, ok .run-in .from-1);
+            rises = omega (arith, from, to, ok .run-in .rises);
+            to-n = omega (arith, to, ok .run-in .to-n);
           };
         };
         left-above = omega (arith, p, l);

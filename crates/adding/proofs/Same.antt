@@ -78,7 +78,7 @@ module _ (t : Tables) (x : Trace) (w : T (wellFormed t)) (long : Long t) (size :
     way-is = way-same t x (descendable t w long some)
 
     end : LeafAt (treeIn t) at
-    end = way-leaf (treeIn t) x (facts t w .shape .child) some
+    end = way-leaf (treeIn t) x (facts t w .shape .children .child) some
 
     abbrev wide : Tree
     wide = widenAll x met (treeIn t)
@@ -87,7 +87,7 @@ module _ (t : Tables) (x : Trace) (w : T (wellFormed t)) (long : Long t) (size :
     W = foldl (onRecord (widenRecord x)) (t .nodes) met
 
     widened : Represents n c (t .nodes) (t .links) k (treeTables W (t .links) m) wide
-    widened = widen-represents (space t w long) x met (way-inside (treeIn t) x (facts t w .shape .child) some) (represents t w long some)
+    widened = widen-represents (space t w long) x met (way-inside (treeIn t) x (facts t w .shape .children .child) some) (represents t w long some)
 
     inside : at < length wide
     inside = omega (arith, widen-length x met (treeIn t), end .inside)

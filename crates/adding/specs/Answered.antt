@@ -4,7 +4,7 @@ use Rattle.tables.specs.Answers.{wordOf}
 use Rattle.adding.specs.declared.Added.{Added}
 use Rattle.adding.specs.declared.Added.the-variants as a
 
--- "Adding .. answers the trace's number"
+-- adding answers "the new trace's number"
 unfoldable pub answerBy : Added → Answer
 answerBy (a.At number) = answering (added number)
 answerBy (a.Refused why) = refusing (wordOf why)

@@ -91,7 +91,7 @@ fn search_queries(
         (batchRead (tracesIn (withoutWork (now (control .entry)) (now (samples .entry)) (now (nodes .entry)) (now (links .entry))))
         (treeIn (withoutWork (now (control .entry)) (now (samples .entry)) (now (nodes .entry)) (now (links .entry))))
         (queriesOf (withoutWork (now (control .entry)) (now (samples .entry)) (now (nodes .entry)) (now (links .entry)))
-            (now (queries .entry))
+        (now (queries .entry))
         many)) (now (bests .exit)) (now (marks .exit)) r) ⌝ }
     ensures counted { λ r. ⌜ CountedOnce (withoutWork (now (control .entry)) (now (samples .entry)) (now (nodes .entry))
         (now (links .entry)))
@@ -140,7 +140,7 @@ fn search_marks(
         (batchRead (tracesIn (withoutWork (now (control .entry)) (now (samples .entry)) (now (nodes .entry)) (now (links .entry))))
         (treeIn (withoutWork (now (control .entry)) (now (samples .entry)) (now (nodes .entry)) (now (links .entry))))
         (queriesOf (withoutWork (now (control .entry)) (now (samples .entry)) (now (nodes .entry)) (now (links .entry)))
-            (now (queries .entry))
+        (now (queries .entry))
         many)) (now (bests .exit)) (now (marks .exit)) r) ⌝ }
     ensures counted { λ r. ⌜ CountedOnce (withoutWork (now (control .entry)) (now (samples .entry)) (now (nodes .entry))
         (now (links .entry)))

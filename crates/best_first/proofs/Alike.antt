@@ -88,10 +88,12 @@ module _ {t u : Tree} (h : Alike t u) where
   branching-alike b = record {
     some-node = rw (alike-length h) (b .some-node);
     few = rw (alike-length h) (b .few);
-    child = λ p c g. rw (alike-length h) (b .child p c (to p c g));
-    parented = λ k low high. parent k (b .parented k low (rw (alike-length h) at high));
-    one-parent = λ p q c f g. b .one-parent p q c (to p c f) (to q c g);
-    children-differ = λ p test l r e. b .children-differ p test l r (inner-alike (swap (alike-kind h p)) e);
+    children = record {
+      child = λ p c g. rw (alike-length h) (b .children .child p c (to p c g));
+      parented = λ k low high. parent k (b .children .parented k low (rw (alike-length h) at high));
+      one-parent = λ p q c f g. b .children .one-parent p q c (to p c f) (to q c g);
+      children-differ = λ p test l r e. b .children .children-differ p test l r (inner-alike (swap (alike-kind h p)) e);
+    };
   }
     where
       to : (p c : ℕ) → T (hasChild c (nodeAt t p .kind)) → T (hasChild c (nodeAt u p .kind))

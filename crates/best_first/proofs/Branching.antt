@@ -32,10 +32,7 @@ pub branching : {limit : ℕ} {m : Measures} {count : ℕ} {tree : Tree} → For
 branching {limit} {m} {count} {tree} f h = record {
   some-node = h;
   few = omega (arith, nodes-at-most limit m count tree (well-formed f), f .room, capacity-most m (f .measured));
-  child = f .shape .child;
-  parented = f .shape .parented;
-  one-parent = f .shape .one-parent;
-  children-differ = f .shape .children-differ;
+  children = f .shape .children;
 }
 
 -- ---- children
@@ -76,7 +73,7 @@ module _ (tree : Tree) (b : Branching tree) where
   at-place j h = counting-at (length tree) 0 j h ∙ omega arith
 
   pub kids-once : (c : ℕ) → 0 < c → c < length tree → timesIn c (allKids tree) ≡ 1
-  kids-once c low high = by (b .parented c low high)
+  kids-once c low high = by (b .children .parented c low high)
     where
       by : Parent tree c → timesIn c (allKids tree) ≡ 1
       by p =
@@ -85,29 +82,29 @@ module _ (tree : Tree) (b : Branching tree) where
             place = p .parent;
             inside = rw (counting-length (length tree) 0) inside;
             once = subst (λ (j : ℕ). timesIn c (kids tree j) ≡ 1) (sym (at-place (p .parent) inside))
-                (kid-once c (nodeAt tree (p .parent) .kind) (b .children-differ (p .parent)) (child-in c (nodeAt tree (p .parent) .kind) (p .has)));
+                (kid-once c (nodeAt tree (p .parent) .kind) (b .children .children-differ (p .parent)) (child-in c (nodeAt tree (p .parent) .kind) (p .has)));
             only = λ j h i.
                 let g : j < length tree = rw (counting-length (length tree) 0) at h in
-                b .one-parent j (p .parent) c (in-child c (nodeAt tree j .kind) (subst (λ (k : ℕ). In c (kids tree k)) (at-place j g) i)) (p .has);
+                b .children .one-parent j (p .parent) c (in-child c (nodeAt tree j .kind) (subst (λ (k : ℕ). In c (kids tree k)) (at-place j g) i)) (p .has);
           })
 
   pub kids-inside : (c : ℕ) → In c (allKids tree) → (0 < c) × (c < length tree)
   kids-inside c i = by (from-flat (kids tree) (counting (length tree) 0) i)
     where
       by : InFlat (kids tree) c (counting (length tree) 0) → (0 < c) × (c < length tree)
-      by (flat p j k) = let h = b .child p c (in-child c (nodeAt tree p .kind) k) in (omega (arith, h .0), h .1)
+      by (flat p j k) = let h = b .children .child p c (in-child c (nodeAt tree p .kind) k) in (omega (arith, h .0), h .1)
 
   module _ (i : ℕ) {test : Test} {l r : ℕ} (e : nodeAt tree i .kind ≡ inner test l r) where
     pub left-above : (i < l) × (l < length tree)
-    left-above = b .child i l (has-left (nodeAt tree i .kind) e)
+    left-above = b .children .child i l (has-left (nodeAt tree i .kind) e)
 
     pub right-above : (i < r) × (r < length tree)
-    right-above = b .child i r (has-right (nodeAt tree i .kind) e)
+    right-above = b .children .child i r (has-right (nodeAt tree i .kind) e)
 
     -- ---- bounds
 
     pub left-bound : (query : Trace) → bound tree query l ≡ max (ownBound query (nodeAt tree l)) (bound tree query i)
-    left-bound query = child-bound tree (b .child) (b .one-parent) query i l (has-left (nodeAt tree i .kind) e)
+    left-bound query = child-bound tree (b .children .child) (b .children .one-parent) query i l (has-left (nodeAt tree i .kind) e)
 
     pub right-bound : (query : Trace) → bound tree query r ≡ max (ownBound query (nodeAt tree r)) (bound tree query i)
-    right-bound query = child-bound tree (b .child) (b .one-parent) query i r (has-right (nodeAt tree i .kind) e)
+    right-bound query = child-bound tree (b .children .child) (b .children .one-parent) query i r (has-right (nodeAt tree i .kind) e)

@@ -164,7 +164,7 @@ module _ (tree : Tree) (b : Branching tree) (query : Trace) where
   -- ---- where the search begins: node 0 waits
 
   first-is : firstKey tree query ≡ nodeKey tree query 0
-  first-is = let e = root-bound tree (b .child) (b .one-parent) query (b .some-node) in omega (arith, e)
+  first-is = let e = root-bound tree (b .children .child) (b .children .one-parent) query (b .some-node) in omega (arith, e)
 
   number-first : keyNumber (firstKey tree query) ≡ 0
   number-first = omega arith

@@ -9,7 +9,7 @@ use lib.ListN.{length}
 use borrow.Author.Tests.{lt-ltb, le-ltb, eq-eqb, ne-eqb}
 use Rattle.integer.specs.Words.{if_then_else_}
 use Rattle.integer.proofs.Lists.{All, all-none, all-more, all-in, all-map}
-use Rattle.integer.specs.Sorting.{sortedWith, sortedBy}
+use Rattle.integer.specs.Sorting.{sortedWith, pouredBy, sortedBy}
 use Rattle.heap.specs.Keys.{insertKey, sortedOf}
 use Rattle.heap.proofs.Sorting.{SortedKeys, sorted-pour, le-or-lt, insert-nil, insert-here, insert-past, insert-first, pour-nil, pour-cons}
 use Rattle.dstree.specs.Measures.{Trace}
@@ -59,7 +59,7 @@ small-placed a h (all-more {a = b} {rest} g gs) = by (before a b) (small-placed 
     by false ih = all-more g ih
 
 small-sorted : {l : List LeafBound} → All Small l → All Small (sortedBy before l)
-unfolding sortedBy
+unfolding pouredBy
 small-sorted all-none = all-none
 small-sorted (all-more {a} h hs) = small-placed a h (small-sorted hs)
 
@@ -81,7 +81,7 @@ inserted-keys a h (all-more {a = b} {rest = l} g gs) o =
     (le-or-lt (keyIn b) (keyIn a))
 
 sorted-keys : {l : List LeafBound} → All Small l → map keyIn (sortedBy before l) ≡ sortedOf (map keyIn l)
-unfolding sortedBy
+unfolding pouredBy
 sorted-keys all-none = sym (pour-nil [])
 sorted-keys (all-more {a} {rest = l} h hs) =
     let ih = sorted-keys hs in

@@ -9,23 +9,22 @@ use native.Mathlib.Omega.{arith}
 use lib.ListN.{length, getD, drop, replicate, length-append}
 use lib.Seq.{take-append-seam}
 use lib.Dec.{T, leb, ltb, eqb, le→leb, leb→le}
-use borrow.Author.Tests.{not-false, ne-eqb, eqb-true, eqb-false, ltb-false}
-use Rattle.integer.specs.Words.{every, isEmpty}
+use borrow.Author.Tests.{not-false, eqb-true, eqb-false, ltb-false}
+use Rattle.integer.specs.Words.{every}
 use Rattle.integer.proofs.Tests.{passed, passes, is-true, eq→eqb}
 use Rattle.integer.proofs.Lists.{all-append, every-all, all-every, strict}
 use Rattle.dstree.specs.Measures.{Trace, Measures, sampleLimit, inRange, areSamples, isTrace, isLibrary, workNeeded}
 use Rattle.dstree.specs.Matching.{leaves, Near, matchBySteps, matchOf}
 use Rattle.dstree.specs.KNearest.{isK, kNearestBySteps, kNearestOf}
 use Rattle.dstree.specs.Batch.{isBatch, queriesIn, batchConditions, batchOf, batchBySteps}
-use Rattle.dstree.specs.Refusals.{Condition, _refuses_, firstOf, measure, wrongTrace, full, empty, sheetLength, badK, badRecording}
-use Rattle.dstree.specs.Refusals.{badBatch}
-use Rattle.dstree.specs.Sheet.{areBytes, blockSize, blocksNeeded, sheetOf, Judged, refused, holds, judgeSheet}
+use Rattle.dstree.specs.Refusals.{Condition, firstOf, measure, wrongTrace, full, empty, badK, badRecording, badBatch}
+use Rattle.dstree.specs.Sheet.{areBytes, blocksNeeded, sheetOf, Judged, refused, holds, judgeSheet}
 use Rattle.dstree.specs.Recording.{recordingSize, recordingOf, Recording, judgeRecording, fileTraces, isBadFile}
 use Rattle.dstree.specs.Book.{Ask, opening, adding, matching, writing, reading, listing, importing, exporting, checking, batching, Book, book}
 use Rattle.dstree.specs.Book.{bookTree, Entry, added, written, imported, exported, over, importConditions, exportConditions}
-use Rattle.dstree.specs.Book.{shortConditions, queryConditions, listConditions, readingConditions, putRead, openingEntry, addingEntry}
-use Rattle.dstree.specs.Book.{matchingEntry, writingEntry, readingEntry, listingEntry, importingEntry, exportingEntry, checkingEntry}
-use Rattle.dstree.specs.Book.{batchingEntry, entryOf}
+use Rattle.dstree.specs.Book.{shortConditions, addConditions, queryConditions, writeConditions, listConditions, readingConditions, putRead}
+use Rattle.dstree.specs.Book.{openingEntry, addingEntry, matchingEntry, writingEntry, readingEntry, listingEntry, importingEntry}
+use Rattle.dstree.specs.Book.{exportingEntry, checkingEntry, batchingEntry, entryOf}
 use Rattle.dstree.proofs.Conditions.{none-first, none-both}
 use Rattle.dstree.proofs.Laws.{claims}
 use Rattle.dstree.proofs.KLaws.{k-nearest}
@@ -122,15 +121,8 @@ unfolding isTrace every
 one-trace m x samples size = passes (isTrace sampleLimit (m .n) x) (true ∷ [])
     (passes (eqb (length x) (m .n)) (areSamples x ∷ []) (eq→eqb size, samples), tt)
 
-empty-is : (l : List Trace) → eqb (length l) 0 ≡ isEmpty l
-unfolding isEmpty
-empty-is [] = refl
-empty-is (x ∷ l) = ne-eqb (length (x ∷ l)) 0 (λ e. omega (arith, e))
-
-some-of : (l : List Trace) → isEmpty l ≡ false → 0 < length l
-unfolding isEmpty
-some-of [] e = let z : _≡_ {A = ℕ} 0 1 = cc in absurd (omega arith)
-some-of (x ∷ l) e = omega arith
+some-of : (k : ℕ) → eqb k 0 ≡ false → 0 < k
+some-of k e = strict (omega arith) (λ q. eqb-false k 0 e (sym q))
 
 module _ (memory part : Tables) (begins : Begins part memory) (b : Book) (keeps : Keeps memory b) where
   abbrev m : Measures
@@ -152,7 +144,7 @@ module _ (memory part : Tables) (begins : Begins part memory) (b : Book) (keeps 
   }
 
   abbrev addingRest : Trace → List Condition
-  addingRest x = not (eqb (length x) (m .n)) refuses wrongTrace ∷ eqb (length (b .traces)) (m .capacity) refuses full ∷ []
+  addingRest x = addConditions m (length (b .traces)) x
 
   adding-puts : (x : Trace) → T (areSamples x) → firstOf (shortConditions layout (lentOf part) m ++ addingRest x) ≡ none
       → Keeps (left (addedTo part x) memory) (book m (b .traces ++ (x ∷ [])))
@@ -206,20 +198,20 @@ module _ (memory part : Tables) (begins : Begins part memory) (b : Book) (keeps 
 
   module _ (query : Trace) (trail : List ℕ) where
     abbrev matchingRest : List Condition
-    matchingRest = queryConditions b query trail
+    matchingRest = queryConditions m (length (b .traces)) (bookTree b) query trail
 
     matching-judged : firstOf (matches part query trail .conditions) ≡ firstOf (shortConditions layout (lentOf part) m ++ matchingRest)
     matching-judged = last-never part query trail ∙ made-same keeps part begins _ matchingRest
-        (λ h. rw (ap (λ (k : Measures). k .n) (h .measures-are), counted keeps part begins h, empty-is (b .traces), h .tree-is))
+        (λ h. rw (ap (λ (k : Measures). k .n) (h .measures-are), counted keeps part begins h, h .tree-is))
 
     steps-give : firstOf (shortConditions layout (lentOf part) m ++ matchingRest) ≡ none
         → matchBySteps (tracesIn part) (treeIn part) query ≡ some (matchOf (b .traces) (bookTree b) query)
     steps-give e =
         let parts = none-both (shortConditions layout (lentOf part) m) matchingRest e in
         let one = none-first (not (eqb (length query) (m .n))) wrongTrace _ (parts .1) in
-        let two = none-first (isEmpty (b .traces)) empty _ (one .1) in
+        let two = none-first (eqb (length (b .traces)) 0) empty _ (one .1) in
         let h = holds-it matchingRest e in
-        let c = claims sampleLimit m (b .traces) (keeps .library) query (some-of (b .traces) (two .0))
+        let c = claims sampleLimit m (b .traces) (keeps .library) query (some-of (length (b .traces)) (two .0))
         (eqb-true (length query) (m .n) (not-false _ (one .0))) in
         rw (h .traces-are, h .tree-is) (c .steps-give-it)
 
@@ -234,12 +226,12 @@ module _ (memory part : Tables) (begins : Begins part memory) (b : Book) (keeps 
 
     module _ (k : ℕ) (list : List ℕ) where
       abbrev listingRest : List Condition
-      listingRest = listConditions b k query trail list
+      listingRest = listConditions m (length (b .traces)) (bookTree b) k query trail list
 
       listing-judged : firstOf (lists part k query trail list .conditions) ≡ firstOf (shortConditions layout (lentOf part) m ++ listingRest)
       unfolding lists
       listing-judged = made-same keeps part begins _ listingRest
-          (λ h. rw (ap (λ (k : Measures). k .n) (h .measures-are), counted keeps part begins h, empty-is (b .traces), h .tree-is))
+          (λ h. rw (ap (λ (k : Measures). k .n) (h .measures-are), counted keeps part begins h, h .tree-is))
 
       list-steps-give : firstOf (shortConditions layout (lentOf part) m ++ listingRest) ≡ none
           → kNearestBySteps k (tracesIn part) (treeIn part) query ≡ kNearestOf k (b .traces) (bookTree b) query
@@ -272,7 +264,7 @@ module _ (memory part : Tables) (begins : Begins part memory) (b : Book) (keeps 
   }
     where
       rest : List Condition
-      rest = ltb (length sheet) (blockSize * blocksNeeded (length (b .traces)) (m .n)) refuses sheetLength ∷ []
+      rest = writeConditions m (length (b .traces)) sheet
 
   -- document 02, §2
   module _ (bytes : List ℕ) (typed : T (areBytes bytes)) where
@@ -358,8 +350,7 @@ module _ (memory part : Tables) (begins : Begins part memory) (b : Book) (keeps 
         let two = none-first (not (eqb (length run) (m .n * count))) wrongTrace _ (one .1) in
         let three = none-first (eqb (length (b .traces)) 0) empty _ (two .1) in
         let h = holds-it batchingRest e in
-        let some-trace : 0 < length (b .traces) = strict (omega arith) (λ q. eqb-false (length (b .traces)) 0 (three .0) (sym q)) in
-        let c = batch sampleLimit m (b .traces) (keeps .library) some-trace (queriesIn (m .n) count run)
+        let c = batch sampleLimit m (b .traces) (keeps .library) (some-of (length (b .traces)) (three .0)) (queriesIn (m .n) count run)
         (query-size (m .n) count run (eqb-true (length run) (m .n * count) (not-false _ (two .0)))) in
         rw (ap (λ (k : Measures). k .n) (h .measures-are), h .traces-are, h .tree-is) (c .steps-give-it)
 

@@ -7,7 +7,6 @@ use mathlib.Core.Option.{none, some}
 use mathlib.Core.List.{List, [], _∷_}
 use lib.ListN.{length}
 use borrow.Author.Tests.{eq-eqb}
-use Rattle.integer.specs.Words.{isEmpty}
 use Rattle.integer.specs.Lists.{In}
 use Rattle.dstree.specs.Measures.{Trace}
 use Rattle.dstree.specs.Node.{Tree}
@@ -81,10 +80,11 @@ module _ {memory : Tables} {b : Book} (keeps : Keeps memory b) where
 
   -- "an empty one is still 6"
   empty-is-six : EmptyIsSix b memory
-  unfolding replyOf replyUnless judge entryOf listingEntry firstOf isEmpty
+  unfolding replyOf replyUnless judge entryOf listingEntry firstOf
   empty-is-six lent k query trail list said memory′ f long ok size none-stored =
       let judged : judge layout b (call lent (listing k query trail list)) ≡ some empty =
-      first-none (shortConditions layout lent (b .measures)) (listConditions b k query trail list) long
+      first-none (shortConditions layout lent (b .measures))
+      (listConditions (b .measures) (length (b .traces)) (bookTree b) k query trail list) long
       ∙ rw (ok, eq-eqb (length query) (b .measures .n) size, none-stored) in
       ap (λ (r : Reply). r .answer) (stepped f keeps .0) ∙ rw judged
 

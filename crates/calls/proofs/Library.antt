@@ -37,10 +37,12 @@ blank-lent m = simp length-replicate
 
 pub need-room : (m : Measures) → Room (need m) m
 need-room m = record {
-  control-room = omega arith;
-  samples-room = omega arith;
-  nodes-room = omega arith;
-  links-room = omega arith;
+  long = record {
+    control-long = omega arith;
+    samples-long = omega arith;
+    nodes-long = omega arith;
+    links-long = omega arith;
+  };
   work-room = omega arith;
 }
 
@@ -50,10 +52,10 @@ blank-room m = subst (λ (l : Lent). Room l m) (sym (blank-lent m)) (need-room m
 -- long enough for the measures is as long as the need
 pub room-within : {lengths : Lent} {m : Measures} → Room lengths m → LentWithin (need m) lengths
 room-within r = record {
-  control-within = r .control-room;
-  samples-within = r .samples-room;
-  nodes-within = r .nodes-room;
-  links-within = r .links-room;
+  control-within = r .long .control-long;
+  samples-within = r .long .samples-long;
+  nodes-within = r .long .nodes-long;
+  links-within = r .long .links-long;
   work-within = r .work-room;
 }
 

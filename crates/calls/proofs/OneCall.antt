@@ -160,14 +160,14 @@ module _ (t more : Tables) (m : Measures) (room : Room (lentOf t) m) where
   extended-measures = rw (of nPlace (omega arith), of capacityPlace (omega arith), of leafSizePlace (omega arith))
     where
       of : (i : ℕ) → i < controlFields → field (t .control ++ more .control) i ≡ field (t .control) i
-      of i h = List·getD-append (t .control) (more .control) 0 i (omega (arith, room .control-room))
+      of i h = List·getD-append (t .control) (more .control) 0 i (omega (arith, room .long .control-long))
 
   extended-beyond : beyond m (extended t more) ≡ extended (beyond m t) more
   extended-beyond = tables-same
-      (drop-append-le controlFields (t .control) (more .control) (room .control-room))
-      (drop-append-le (samplesNeeded m) (t .samples) (more .samples) (room .samples-room))
-      (drop-append-le (recordsNeeded m * recordPlaces) (t .nodes) (more .nodes) (room .nodes-room))
-      (drop-append-le (linksNeeded m) (t .links) (more .links) (room .links-room))
+      (drop-append-le controlFields (t .control) (more .control) (room .long .control-long))
+      (drop-append-le (samplesNeeded m) (t .samples) (more .samples) (room .long .samples-long))
+      (drop-append-le (recordsNeeded m * recordPlaces) (t .nodes) (more .nodes) (room .long .nodes-long))
+      (drop-append-le (linksNeeded m) (t .links) (more .links) (room .long .links-long))
       (drop-append-le (workNeeded m) (t .work) (more .work) (room .work-room))
 
 abbrev Whole : Tables → Tables → Type 0

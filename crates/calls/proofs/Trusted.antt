@@ -87,10 +87,12 @@ agree-trusts a room k =
 
 room-more : {short long : Lent} {m : Measures} → LentWithin short long → Room short m → Room long m
 room-more h r = record {
-  control-room = omega (arith, h .control-within, r .control-room);
-  samples-room = omega (arith, h .samples-within, r .samples-room);
-  nodes-room = omega (arith, h .nodes-within, r .nodes-room);
-  links-room = omega (arith, h .links-within, r .links-room);
+  long = record {
+    control-long = omega (arith, h .control-within, r .long .control-long);
+    samples-long = omega (arith, h .samples-within, r .long .samples-long);
+    nodes-long = omega (arith, h .nodes-within, r .long .nodes-long);
+    links-long = omega (arith, h .links-within, r .long .links-long);
+  };
   work-room = omega (arith, h .work-within, r .work-room);
 }
 
@@ -104,7 +106,7 @@ module _ {memory : Tables} {b : Book} (k : Trusts memory b) {part : Tables} (beg
   module _ (room : Room (lentOf part) (b .measures)) where
     back : Agree memory part
     back = agree-back (begins-agree begins
-        (long-of part (subst (Room (lentOf part)) (sym (measures-lent memory part begins (b .measures) (k .measures-are) (room .control-room))) room)))
+        (long-of part (subst (Room (lentOf part)) (sym (measures-lent memory part begins (b .measures) (k .measures-are) (room .long .control-long))) room)))
 
     pub part-trusts : Trusts part b
     part-trusts = agree-trusts back room k
@@ -116,7 +118,7 @@ module _ {memory : Tables} {b : Book} (k : Trusts memory b) {part : Tables} (beg
   pub fine-room : firstOf (madeConditions part) ≡ none → Room (lentOf part) (b .measures)
   fine-room e =
       let r = accepted part e .room in
-      subst (Room (lentOf part)) (measures-lent memory part begins (b .measures) (k .measures-are) (r .control-room)) r
+      subst (Room (lentOf part)) (measures-lent memory part begins (b .measures) (k .measures-are) (r .long .control-long)) r
 
   -- what is refused before a call's own conditions is what lengths refuse, where those then refuse the same
   pub trusted-same : (rest others : List Condition) → (Trusts part b → firstOf rest ≡ firstOf others)

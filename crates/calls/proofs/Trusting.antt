@@ -24,9 +24,9 @@ use Rattle.dstree.specs.WellFormed as abstract
 use Rattle.dstree.specs.Recording.{Recording, judgeRecording, fileTraces, isBadFile}
 use Rattle.dstree.specs.Sheet.{areBytes}
 use Rattle.dstree.specs.Book.{Lent, Ask, opening, adding, matching, writing, reading, listing, importing, exporting, checking, Call, call}
-use Rattle.dstree.specs.Book.{besideOf, accepted, refusing, answering, Reply, Book, book, Entry, importConditions, shortConditions}
-use Rattle.dstree.specs.Book.{addingEntry, matchingEntry, writingEntry, listingEntry, importingEntry, exportingEntry, checkingEntry}
-use Rattle.dstree.specs.Book.{batching, batchingEntry, entryOf, judge, putUnless, turn, after}
+use Rattle.dstree.specs.Book.{besideOf, accepted, refusing, answering, Reply, Book, book, Entry, shortConditions, addConditions}
+use Rattle.dstree.specs.Book.{importConditions, addingEntry, matchingEntry, writingEntry, listingEntry, importingEntry, exportingEntry}
+use Rattle.dstree.specs.Book.{batching, checkingEntry, batchingEntry, entryOf, judge, putUnless, turn, after}
 use Rattle.dstree.proofs.Conditions.{none-first, none-both, first-some, first-none}
 use Rattle.dstree.proofs.Limits.{trace-length}
 use Rattle.dstree.proofs.Recordings.{file-traces}
@@ -175,7 +175,7 @@ module _ (memory part : Tables) (begins : Begins part memory) (b : Book) (k : Tr
   }
     where
       rest : List Condition
-      rest = not (eqb (length x) (m .n)) refuses wrongTrace ∷ eqb (length (b .traces)) (m .capacity) refuses full ∷ []
+      rest = addConditions m (length (b .traces)) x
 
       judged : firstOf (adds part x .conditions) ≡ firstOf (shortConditions layout (lentOf part) m ++ rest)
       judged = trusted-same k begins _ rest (λ t. rw (

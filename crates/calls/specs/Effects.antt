@@ -1,22 +1,22 @@
 -- The calls, one by one, on tables that hold anything. A contract says that a call's answer, and all that it leaves, is `outcomeOn` what it
 -- asked.
-use Prim.Native.Nat.{ℕ, _*_}
+use Prim.Native.Nat.{ℕ}
 use mathlib.Core.Bool.{Bool, true, false, not}
 use mathlib.Core.Option.{Option, none, some}
 use mathlib.Core.List.{List, [], _∷_, _++_, foldl}
 use lib.ListN.{length, getD}
-use lib.Dec.{eqb, ltb}
 use Rattle.dstree.specs.Measures.{Trace, Measures, workNeeded}
 use Rattle.dstree.specs.Matching.{leaves, Near, Match, matchBySteps}
-use Rattle.dstree.specs.KNearest.{isK, listPlaces, kNearestBySteps}
+use Rattle.dstree.specs.KNearest.{listPlaces, kNearestBySteps}
 use Rattle.dstree.specs.Batch.{queriesIn, batchConditions, batchBySteps}
-use Rattle.dstree.specs.Refusals.{Condition, _refuses_, wrongTrace, full, empty, shortTrail, sheetLength, badK, looseRecord}
+use Rattle.dstree.specs.Refusals.{Condition, _refuses_, empty, looseRecord}
 use Rattle.dstree.specs.Checking.{isExact}
-use Rattle.dstree.specs.Sheet.{blockSize, blocksNeeded, sheetOf, Judged, refused, holds, judgeSheet}
+use Rattle.dstree.specs.Sheet.{blocksNeeded, sheetOf, Judged, refused, holds, judgeSheet}
 use Rattle.dstree.specs.Recording.{recordingSize, recordingOf, judgeRecording, fileTraces}
 use Rattle.dstree.specs.Book.{Ask, opening, adding, matching, writing, reading, listing, importing, exporting, checking, batching, besideOf}
 use Rattle.dstree.specs.Book.{Result, done, added, matched, written, neighbours, imported, exported, accepted, batched, over}
-use Rattle.dstree.specs.Book.{readingConditions, importConditions, exportConditions}
+use Rattle.dstree.specs.Book.{addConditions, queryConditions, writeConditions, readingConditions, listConditions, importConditions}
+use Rattle.dstree.specs.Book.{exportConditions}
 use Rattle.tables.specs.Layout.{layout}
 use Rattle.tables.specs.Tables.{Tables, tables, lentOf, measuresOf, traceCount, filled}
 use Rattle.tables.specs.View.{treeIn, tracesIn}
@@ -34,11 +34,7 @@ opens t m = record { conditions = openingConditions t m; result = done; after = 
 
 unfoldable pub adds : Tables → Trace → Effect
 adds t x = record {
-  conditions =
-      madeConditions t
-      ++ not (eqb (length x) (measuresOf t .n)) refuses wrongTrace
-      ∷ eqb (traceCount t) (measuresOf t .capacity) refuses full
-      ∷ [];
+  conditions = madeConditions t ++ addConditions (measuresOf t) (traceCount t) x;
   result = added (traceCount t);
   after = addedTo t x;
   beside = [];
@@ -48,11 +44,7 @@ adds t x = record {
 
 -- what a search refuses of its query and its trail
 abbrev pub queryConditionsIn : Tables → Trace → List ℕ → List Condition
-queryConditionsIn t query trail =
-    not (eqb (length query) (measuresOf t .n)) refuses wrongTrace
-    ∷ eqb (traceCount t) 0 refuses empty
-    ∷ ltb (length trail) (length (leaves (treeIn t))) refuses shortTrail
-    ∷ []
+queryConditionsIn t query trail = queryConditions (measuresOf t) (traceCount t) (treeIn t) query trail
 
 -- the match that a search found, and its trail. A search that finds none is refused before (below), so that its answer here does not matter
 unfoldable pub resultOf : Option Match → Result
@@ -87,11 +79,10 @@ matches t query trail =
 
 unfoldable pub writes : Tables → List ℕ → Effect
 writes t sheet =
-    let blocks = blocksNeeded (traceCount t) (measuresOf t .n) in
     let bytes = sheetOf (measuresOf t) (tracesIn t) in
     record {
-      conditions = madeConditions t ++ ltb (length sheet) (blockSize * blocks) refuses sheetLength ∷ [];
-      result = written blocks bytes;
+      conditions = madeConditions t ++ writeConditions (measuresOf t) (traceCount t) sheet;
+      result = written (blocksNeeded (traceCount t) (measuresOf t .n)) bytes;
       after = t;
       beside = over bytes sheet ∷ [];
     }
@@ -115,8 +106,7 @@ reads t bytes = record {
 
 -- what it refuses of its own
 abbrev pub listConditionsIn : Tables → ℕ → Trace → List ℕ → List ℕ → List Condition
-listConditionsIn t k query trail list =
-    not (isK k) refuses badK ∷ (queryConditionsIn t query trail ++ (ltb (length list) (2 * k) refuses shortTrail ∷ []))
+listConditionsIn t k query trail list = listConditions (measuresOf t) (traceCount t) (treeIn t) k query trail list
 
 unfoldable pub lists : Tables → ℕ → Trace → List ℕ → List ℕ → Effect
 lists t k query trail list =

@@ -76,14 +76,14 @@ module _ {nodes : List ℤ} {links : List ℕ} {k m : ℕ} (w : Walks nodes link
       pub left-above : (j < smallAt (recordOf nodes j) firstPlace) × (smallAt (recordOf nodes j) firstPlace < m)
       left-above =
           let b = inner-is in
-          let c = w .shape .child j (smallAt r firstPlace) (rw (b .is)
+          let c = w .shape .children .child j (smallAt r firstPlace) (rw (b .is)
           (has-left (b .test) (smallAt r firstPlace) (smallAt r rightPlace))) in
           (c .0, omega (arith, c .1, size-is))
 
       pub right-above : (j < smallAt (recordOf nodes j) rightPlace) × (smallAt (recordOf nodes j) rightPlace < m)
       right-above =
           let b = inner-is in
-          let c = w .shape .child j (smallAt r rightPlace) (rw (b .is)
+          let c = w .shape .children .child j (smallAt r rightPlace) (rw (b .is)
           (has-right (b .test) (smallAt r firstPlace) (smallAt r rightPlace))) in
           (c .0, omega (arith, c .1, size-is))
 

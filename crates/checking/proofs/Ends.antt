@@ -33,16 +33,7 @@ module _ (control : List ℕ) (samples nodes : List ℤ) (links work : List ℕ)
   unfolding wellFormed kindsNamed treeIn
   sound e =
       let ok = judged.accepted t e in
-      let room = ok .room in (
-        ok .formed,
-        record {
-          control-long = room .control-room;
-          samples-long = room .samples-room;
-          nodes-long = room .nodes-room;
-          links-long = room
-              .links-room;
-        },
-      )
+      (ok .formed, ok .room .long)
 
   -- the condition that is left
   pub last-condition : (b : Bool) → firstOf (madeConditions (tables control samples nodes links work)) ≡ none

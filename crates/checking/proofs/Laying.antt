@@ -37,7 +37,7 @@ module _ {n count : ℕ} {tree : Tree} (s : Shape n count tree) where
       root : (j : ℕ) → j < length tree → ((p : ℕ) → T (hasChild j (nodeAt tree p .kind)) → p < 0) → StartsAt tree j
           (getD (set starts 0 0) j 0)
       root zero h none = rw (getD-set-same starts 0 0 0 (omega arith)) (root-starts tree)
-      root (suc j) h none = let p : Parent tree (suc j) = s .parented (suc j) (omega arith) h in absurd
+      root (suc j) h none = let p : Parent tree (suc j) = s .children .parented (suc j) (omega arith) h in absurd
           (omega (arith, none (p .parent) (p .has)))
 
   -- ---- one node more
@@ -45,7 +45,7 @@ module _ {n count : ℕ} {tree : Tree} (s : Shape n count tree) where
   module _ {j : ℕ} (inside : j < length tree) {starts order : List ℕ} (old : LaidTo tree j starts order) where
     -- it has its place
     pub here : StartsAt tree j (getD starts j 0)
-    here = old .started j inside (λ p h. s .child p j h .0)
+    here = old .started j inside (λ p h. s .children .child p j h .0)
 
     -- a leaf
     pub laid-leaf : {ns : List ℕ} → nodeAt tree j .kind ≡ leaf ns → {after : List ℕ} → PutFrom order after (getD starts j 0)
@@ -92,7 +92,7 @@ module _ {n count : ℕ} {tree : Tree} (s : Shape n count tree) where
       has-r = rw e (has-right test l r)
 
       differ : r ≡ l → ⊥
-      differ q = s .children-differ j test l r e (sym q)
+      differ q = s .children .children-differ j test l r e (sym q)
 
       -- the places of both children, and of others
       module _ (room-l : l < length starts) (room-r : r < length starts) where
@@ -106,7 +106,7 @@ module _ {n count : ℕ} {tree : Tree} (s : Shape n count tree) where
         at-other i f g = getD-set-other (set starts l start) r i second 0 g ∙ getD-set-other starts l i start 0 f
 
         low : (i : ℕ) → i ≤ j → getD after i 0 ≡ getD starts i 0
-        low i h = at-other i (λ q. omega (arith, s .child j l has-l)) (λ q. omega (arith, s .child j r has-r))
+        low i h = at-other i (λ q. omega (arith, s .children .child j l has-l)) (λ q. omega (arith, s .children .child j r has-r))
 
         both : tracesBelow tree j ≡ tracesBelow tree l ++ tracesBelow tree r
         both = below-of-inner s inside e
@@ -152,7 +152,7 @@ module _ {n count : ℕ} {tree : Tree} (s : Shape n count tree) where
                 let d : p < j = strict (omega arith) f in
                 let o = old .placed p d t a b q in
                 let not-a : (x : ℕ) → T (hasChild x (nodeAt tree p .kind)) → (c : ℕ) → T (hasChild c (nodeAt tree j .kind)) → x ≡ c → ⊥ =
-                λ x u c v w. f (s .one-parent p j c (subst (λ (y : ℕ). T (hasChild y (nodeAt tree p .kind))) w u) v) in
+                λ x u c v w. f (s .children .one-parent p j c (subst (λ (y : ℕ). T (hasChild y (nodeAt tree p .kind))) w u) v) in
                 rw (
                   at-other a (not-a a (rw q (has-left t a b)) l has-l) (not-a a (rw q (has-left t a b)) r has-r),
                   at-other b (not-a b (rw q (has-right t a b)) l has-l) (not-a b (rw q (has-right t a b)) r has-r),
@@ -179,10 +179,10 @@ module _ {n count : ℕ} {tree : Tree} (s : Shape n count tree) where
         by (inner test l r) e ih = half (decLe (length (tracesBelow tree l)) x)
           where
             cl : (j < l) × (l < length tree)
-            cl = s .child j l (rw e (has-left test l r))
+            cl = s .children .child j l (rw e (has-left test l r))
 
             cr : (j < r) × (r < length tree)
-            cr = s .child j r (rw e (has-right test l r))
+            cr = s .children .child j r (rw e (has-right test l r))
 
             o : (getD starts l 0 ≡ getD starts j 0) × (getD starts r 0 ≡ getD starts j 0 + length (tracesBelow tree l))
             o = laid .placed j g test l r e

@@ -60,7 +60,8 @@ use Rattle.batch_answers.proofs.match_batch as batch
 
 -- ---- slices
 
--- every call is lent the five tables first, to write or to read, and then what is its own. The same stands at its end
+-- every call is lent the five tables first, to write or to read, and then what is its own, in the order of its parameters. The same stands
+-- at its end; what it left there has a ′ below
 abbrev pub WithTables : Type 0 → Type 0
 WithTables Own = RefT (List ℕ) × (RefT (List ℤ) × (RefT (List ℤ) × (RefT (List ℕ) × (RefT (List ℕ) × Own))))
 
@@ -108,7 +109,10 @@ pub record Opens (c : Call) (memory : Tables) (said : Reply) (memory′ : Tables
   pub exits : AtExit (endedOf 5 open-kinds.ps open-kinds.r) κs
   pub result : Opened
   pub claim : open-reads.Learnt κs args result exits
-  pub made : CallMade (opening (measures (own args .0) (own args .1 .0) (own args .1 .1 .0))) (tablesOf args)
+  pub made : let n = own args .0 in
+      let capacity = own args .1 .0 in
+      let leafSize = own args .1 .1 .0 in
+      CallMade (opening (measures n capacity leafSize)) (tablesOf args)
       (opening-answer.answerBy result) (tablesOf exits) [] c memory said memory′
 
 -- adding is lent the search work to read, and leaves it
@@ -118,7 +122,8 @@ pub record Adds (c : Call) (memory : Tables) (said : Reply) (memory′ : Tables)
   pub exits : AtExit (endedOf 6 add-kinds.ps add-kinds.r) κs
   pub result : Added
   pub claim : add-reads.Learnt κs args result exits
-  pub made : CallMade (adding (now (own args .0))) (tablesOf args)
+  pub made : let trace = now (own args .0) in
+      CallMade (adding trace) (tablesOf args)
       (adding-answer.answerBy result) (tables (control exits) (samples exits) (nodes exits) (links exits)
       (work args)) [] c memory said memory′
 
@@ -129,10 +134,12 @@ pub record Matches (c : Call) (memory : Tables) (said : Reply) (memory′ : Tabl
   pub exits : AtExit (endedOf 7 nearest-kinds.ps nearest-kinds.r) κs
   pub result : Found
   pub claim : nearest-reads.Learnt κs args result exits
-  pub made : let trail = now (own exits .0) in
-      CallMade (matching (now (own args .1 .0)) (now (own args .0))) (tablesOf args)
-      (matching-answer.answerBy result trail) (tables (control args) (samples args) (nodes args) (links args) (work exits))
-      (trail ∷ []) c memory said memory′
+  pub made : let trail = now (own args .0) in
+      let query = now (own args .1 .0) in
+      let trail′ = now (own exits .0) in
+      CallMade (matching query trail) (tablesOf args)
+      (matching-answer.answerBy result trail′) (tables (control args) (samples args) (nodes args) (links args) (work exits))
+      (trail′ ∷ []) c memory said memory′
 
 -- a writing is lent all tables to read, and leaves them
 pub record Writes (c : Call) (memory : Tables) (said : Reply) (memory′ : Tables) : Type 0 where
@@ -141,9 +148,9 @@ pub record Writes (c : Call) (memory : Tables) (said : Reply) (memory′ : Table
   pub exits : AtExit (endedOf 6 write-kinds.ps write-kinds.r) κs
   pub result : Written
   pub claim : write-reads.Learnt κs args result exits
-  pub made : let sheet = now (own exits .0) in
-      CallMade (writing (now (own args .0))) (tablesOf args) (writing-answer.answerBy result sheet) (tablesOf args)
-      (sheet ∷ []) c memory said memory′
+  pub made : let sheet = now (own args .0) in
+      let sheet′ = now (own exits .0) in
+      CallMade (writing sheet) (tablesOf args) (writing-answer.answerBy result sheet′) (tablesOf args) (sheet′ ∷ []) c memory said memory′
 
 -- a reading is lent its sheet to read
 pub record Reads (c : Call) (memory : Tables) (said : Reply) (memory′ : Tables) : Type 0 where
@@ -152,8 +159,8 @@ pub record Reads (c : Call) (memory : Tables) (said : Reply) (memory′ : Tables
   pub exits : AtExit (endedOf 6 read-kinds.ps read-kinds.r) κs
   pub result : Read
   pub claim : read-reads.Learnt κs args result exits
-  pub made : CallMade (reading (now (own args .0))) (tablesOf args) (reading-answer.answerBy result)
-      (tablesOf exits) [] c memory said memory′
+  pub made : let sheet = now (own args .0) in
+      CallMade (reading sheet) (tablesOf args) (reading-answer.answerBy result) (tablesOf exits) [] c memory said memory′
 
 -- a listing is lent all but search work, trail and list to read
 pub record Lists (c : Call) (memory : Tables) (said : Reply) (memory′ : Tables) : Type 0 where
@@ -162,11 +169,15 @@ pub record Lists (c : Call) (memory : Tables) (said : Reply) (memory′ : Tables
   pub exits : AtExit (endedOf 8 list-kinds.ps list-kinds.r) κs
   pub result : Listed
   pub claim : list-reads.Learnt κs args result exits
-  pub made : let trail = now (own exits .0) in
-      let list = now (own exits .1 .0) in
-      CallMade (listing (own args .1 .1 .1 .0) (now (own args .1 .1 .0)) (now (own args .0)) (now (own args .1 .0))) (tablesOf args)
-      (listing-answer.answerBy result trail list) (tables (control args) (samples args) (nodes args) (links args) (work exits))
-      (trail ∷ list ∷ []) c memory said memory′
+  pub made : let trail = now (own args .0) in
+      let list = now (own args .1 .0) in
+      let query = now (own args .1 .1 .0) in
+      let k = own args .1 .1 .1 .0 in
+      let trail′ = now (own exits .0) in
+      let list′ = now (own exits .1 .0) in
+      CallMade (listing k query trail list) (tablesOf args)
+      (listing-answer.answerBy result trail′ list′) (tables (control args) (samples args) (nodes args) (links args) (work exits))
+      (trail′ ∷ list′ ∷ []) c memory said memory′
 
 -- an import is lent the search work and its file to read, and leaves them
 pub record Imports (c : Call) (memory : Tables) (said : Reply) (memory′ : Tables) : Type 0 where
@@ -175,7 +186,8 @@ pub record Imports (c : Call) (memory : Tables) (said : Reply) (memory′ : Tabl
   pub exits : AtExit (endedOf 6 import-kinds.ps import-kinds.r) κs
   pub result : Imported
   pub claim : import-reads.Learnt κs args result exits
-  pub made : CallMade (importing (now (own args .0))) (tablesOf args)
+  pub made : let file = now (own args .0) in
+      CallMade (importing file) (tablesOf args)
       (importing-answer.answerBy result) (tables (control exits) (samples exits) (nodes exits) (links exits)
       (work args)) [] c memory said memory′
 
@@ -186,9 +198,12 @@ pub record Exports (c : Call) (memory : Tables) (said : Reply) (memory′ : Tabl
   pub exits : AtExit (endedOf 6 export-kinds.ps export-kinds.r) κs
   pub result : Exported
   pub claim : export-reads.Learnt κs args result exits
-  pub made : let buffer = now (own exits .0) in
-      CallMade (exporting (own args .1 .0) (own args .1 .1 .0) (now (own args .0))) (tablesOf args)
-      (exporting-answer.answerBy result buffer) (tablesOf args) (buffer ∷ []) c memory said memory′
+  pub made : let buffer = now (own args .0) in
+      let number = own args .1 .0 in
+      let rate = own args .1 .1 .0 in
+      let buffer′ = now (own exits .0) in
+      CallMade (exporting number rate buffer) (tablesOf args)
+      (exporting-answer.answerBy result buffer′) (tablesOf args) (buffer′ ∷ []) c memory said memory′
 
 -- a check is lent all tables to read, and leaves them
 pub record Checks (c : Call) (memory : Tables) (said : Reply) (memory′ : Tables) : Type 0 where
@@ -199,15 +214,24 @@ pub record Checks (c : Call) (memory : Tables) (said : Reply) (memory′ : Table
   pub claim : check-reads.Learnt κs args result exits
   pub made : CallMade checking (tablesOf args) (checking-answer.answerBy result) (tablesOf args) [] c memory said memory′
 
+-- what a batch asks
+abbrev pub batchAsk : (κs : Lfts 8) → Args batch.signature κs → Ask
+batchAsk κs args =
+    let trail = now (own args .0) in
+    let run = now (own args .1 .0) in
+    let count = own args .1 .1 .0 in
+    let list = nearsOf (now (own args .1 .1 .1 .0)) in
+    batching count run trail list
+
 -- what a batch's contract says. It is lent a list of structs, so that it is proved by a walk of its code, and no `Learnt` is generated: the
 -- claim is written here, and it is the clause of the contract (`Theorem`: `batch-clause`)
 abbrev pub BatchLearnt : (κs : Lfts 8) → Args batch.signature κs → Batched → AtExit batch.ended κs → Type 0
 BatchLearnt κs args r exits =
-    let trail = now (own exits .0) in
-    let list = nearsOf (now (own exits .1 .1 .1 .0)) in
-    outcome (batching-answer.answerBy r list trail) (tables (control args) (samples args) (nodes args) (links args) (work exits))
-    (trail ∷ listPlaces list ∷ [])
-    ≡ outcomeOn (batching (own args .1 .1 .0) (now (own args .1 .0)) (now (own args .0)) (nearsOf (now (own args .1 .1 .1 .0)))) (tablesOf args)
+    let trail′ = now (own exits .0) in
+    let list′ = nearsOf (now (own exits .1 .1 .1 .0)) in
+    outcome (batching-answer.answerBy r list′ trail′) (tables (control args) (samples args) (nodes args) (links args) (work exits))
+    (trail′ ∷ listPlaces list′ ∷ [])
+    ≡ outcomeOn (batchAsk κs args) (tablesOf args)
 
 -- a batch is lent all but search work, trail and its list of records to read
 pub record Batches (c : Call) (memory : Tables) (said : Reply) (memory′ : Tables) : Type 0 where
@@ -216,12 +240,11 @@ pub record Batches (c : Call) (memory : Tables) (said : Reply) (memory′ : Tabl
   pub exits : AtExit batch.ended κs
   pub result : Batched
   pub claim : BatchLearnt κs args result exits
-  pub made : let trail = now (own exits .0) in
-      let list = nearsOf (now (own exits .1 .1 .1 .0)) in
-      CallMade (batching (own args .1 .1 .0) (now (own args .1 .0)) (now (own args .0)) (nearsOf (now (own args .1 .1 .1 .0))))
-      (tablesOf args)
-      (batching-answer.answerBy result list trail) (tables (control args) (samples args) (nodes args) (links args) (work exits))
-      (trail ∷ listPlaces list ∷ []) c memory said memory′
+  pub made : let trail′ = now (own exits .0) in
+      let list′ = nearsOf (now (own exits .1 .1 .1 .0)) in
+      CallMade (batchAsk κs args) (tablesOf args)
+      (batching-answer.answerBy result list′ trail′) (tables (control args) (samples args) (nodes args) (links args) (work exits))
+      (trail′ ∷ listPlaces list′ ∷ []) c memory said memory′
 
 -- a call on a memory, what it answered, and the memory after it
 pub data Did (c : Call) (memory : Tables) (said : Reply) (memory′ : Tables) : Type 0 where

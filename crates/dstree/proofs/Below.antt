@@ -21,15 +21,15 @@ module _ {n count : ℕ} {tree : Tree} (s : Shape n count tree) where
 
   pub below-inside : {t k : ℕ} → Below tree t k → k < length tree
   below-inside {t} (of-leaf {number} h) = number-node tree t number h
-  below-inside (of-child {parent} {child} h b) = omega (arith, s .child parent child h)
+  below-inside (of-child {parent} {child} h b) = omega (arith, s .children .child parent child h)
 
   -- what is below a node is below its parents, up to node 0
   to-root : (fuel : ℕ) {t k : ℕ} → k < fuel → Below tree t k → Below tree t 0
   to-root zero h b = absurd (omega arith)
   to-root (suc fuel) {k = zero} h b = b
   to-root (suc fuel) {k = suc k} h b =
-      let p : Parent tree (suc k) = s .parented (suc k) (omega arith) (below-inside b) in
-      to-root fuel {k = p .parent} (omega (arith, s .child (p .parent) (suc k) (p .has))) (of-child (p .has) b)
+      let p : Parent tree (suc k) = s .children .parented (suc k) (omega arith) (below-inside b) in
+      to-root fuel {k = p .parent} (omega (arith, s .children .child (p .parent) (suc k) (p .has))) (of-child (p .has) b)
 
   -- every stored trace is below node 0
   pub below-root : (t : ℕ) → t < count → Below tree t 0

@@ -23,7 +23,7 @@ module _ {n count : ℕ} {tree : Tree} (s : Shape n count tree) where
   -- the leaf of a trace has the greatest number of all nodes that it is below
   low : {t a b : ℕ} → T (isIn t (numbersIn (nodeAt tree a .kind))) → Below tree t b → b ≤ a
   low {t} {a} {b} h (of-leaf g) = omega (arith, s .one-leaf t b a g h)
-  low h (of-child {parent} {child} g b) = omega (arith, s .child parent child g, low h b)
+  low h (of-child {parent} {child} g b) = omega (arith, s .children .child parent child g, low h b)
 
   -- b, numbered above a, has a parent that is a or above it too
   record Under (t a b : ℕ) : Type 0 where
@@ -39,12 +39,12 @@ module _ {n count : ℕ} {tree : Tree} (s : Shape n count tree) where
       by (decLe child c) (same-or-not child c) (λ r e. between {b = child} h below r e on d)
     where
       by : Dec (child ≤ c) → Dec (child ≡ c) → (a < child → child < c → ⊥) → ⊥
-      by (yes r) (yes e) ih = omega (arith, s .one-parent a b c h (subst (λ (k : ℕ). T (hasChild k (nodeAt tree b .kind))) e g))
-      by (yes r) (no f) ih = ih (omega (arith, s .child b child g)) (strict r f)
+      by (yes r) (yes e) ih = omega (arith, s .children .one-parent a b c h (subst (λ (k : ℕ). T (hasChild k (nodeAt tree b .kind))) e g))
+      by (yes r) (no f) ih = ih (omega (arith, s .children .child b child g)) (strict r f)
       by (no r) e ih = past (on child d (lt-of-not-le r))
         where
           past : Under t c child → ⊥
-          past u = omega (arith, u .above, s .one-parent b (u .parent) child g (u .has))
+          past u = omega (arith, u .above, s .children .one-parent b (u .parent) child g (u .has))
 
   under : {t a b : ℕ} → Below tree t a → Below tree t b → a < b → Under t a b
   under (of-leaf h) below p = absurd (omega (arith, low h below))
@@ -55,7 +55,7 @@ module _ {n count : ℕ} {tree : Tree} (s : Shape n count tree) where
       by (yes q) (yes e) ih = record { parent = a; has = rw e h; above = omega arith }
       by (yes q) (no f) ih =
           let u : Under t child b = ih b below (strict q (λ e. f (sym e))) in
-          record { parent = u .parent; has = u .has; above = omega (arith, u .above, s .child a child h) }
+          record { parent = u .parent; has = u .has; above = omega (arith, u .above, s .children .child a child h) }
       by (no q) e ih = absurd (between h c p (lt-of-not-le q) ih below)
 
   -- no trace is below both children of a node
@@ -63,7 +63,7 @@ module _ {n count : ℕ} {tree : Tree} (s : Shape n count tree) where
       → Below tree t r → ⊥
   apart p {t} {l} {r} h g q a b =
       let u : Under t l r = under a b q in
-      omega (arith, u .above, s .one-parent p (u .parent) r g (u .has), s .child p l h)
+      omega (arith, u .above, s .children .one-parent p (u .parent) r g (u .has), s .children .child p l h)
 
   once : (fuel k : ℕ) → Apart (λ (j : ℕ). j) (belowFrom fuel tree k)
   unfolding belowFrom
@@ -88,7 +88,7 @@ module _ {n count : ℕ} {tree : Tree} (s : Shape n count tree) where
           both t a b = sides (decLe l r) (same-or-not l r)
             where
               sides : Dec (l ≤ r) → Dec (l ≡ r) → ⊥
-              sides (yes h) (yes q) = s .children-differ k test l r e q
+              sides (yes h) (yes q) = s .children .children-differ k test l r e q
               sides (yes h) (no f) = apart k left right (strict h f) a b
               sides (no h) f = apart k right left (lt-of-not-le h) b a
 

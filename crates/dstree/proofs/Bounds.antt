@@ -49,14 +49,14 @@ samples-are f e x = let z : suc f - 1 ≡ f = omega arith in rw z
 -- a trace of n samples has as many on a run inside 1 to n as the run is wide
 pub samples-length : {n : ℕ} (on : Run) (x : Trace) → RunIn n on → length x ≡ n → length (samplesOn on x) ≡ width on
 unfolding samplesOn
-samples-length on x r l = simp (length-take, length-drop) (omega (arith, r .from-one, r .some-sample, r .to-n))
+samples-length on x r l = simp (length-take, length-drop) (omega (arith, r .from-1, r .rises, r .to-n))
 
 module _ (n : ℕ) (query y : Trace) (lq : length query ≡ n) (ly : length y ≡ n) where
   parts-at-most : (f : ℕ) {l : List Segment} → Covered y (suc f) l → Rises n (suc f) (ends l) → totalOver (boundOn query) (suc f) l ≤ distance (drop f query) (drop f y)
   unfolding totalOver
   parts-at-most f covered-none rises-none = omega arith
   parts-at-most f (covered-more {s} {rest} h w) (rises-more a b r) =
-      let i : RunIn n (run (suc f) (s .end)) = record { from-one = omega arith; some-sample = a; to-n = b } in
+      let i : RunIn n (run (suc f) (s .end)) = record { from-1 = omega arith; rises = a; to-n = b } in
       let e : f + (suc (s .end) - suc f) ≡ s .end = omega arith in
       let d : ℕ = suc (s .end) - suc f in
       let t : boundOn query (run (suc f) (s .end)) s ≤ distance (take d (drop f query)) (take d (drop f y)) =

@@ -117,8 +117,8 @@ module _ (n : ℕ) (all : List ℕ) (fits : Fits n all) where
           let k : (from ≤ middle) × (middle < e) = middle-in from e (leb-true 2 (suc e - from) q) in
           let f : Fits n (cutAt middle all) = record { parted = cut-parted (fits .parted) (inside middle (k .0) (k .1)); few = rw (cut-length middle all) (ltb-true (length all) 16 p) } in
           all-append
-          (either-fits _ _ f (λ e i. cut-keeps middle i) (record { from-one = one; some-sample = k .0; to-n = omega (arith, k .1) }))
-          (either-fits _ _ f (λ e i. cut-keeps middle i) (record { from-one = omega (arith, k .0); some-sample = k .1; to-n = low }))
+          (either-fits _ _ f (λ e i. cut-keeps middle i) (record { from-1 = one; rises = k .0; to-n = omega (arith, k .1) }))
+          (either-fits _ _ f (λ e i. cut-keeps middle i) (record { from-1 = omega (arith, k .0); rises = k .1; to-n = low }))
       by true false p q = all-none
       by false c p q = all-none
 
@@ -127,7 +127,7 @@ module _ (n : ℕ) (all : List ℕ) (fits : Fits n all) where
   from-fits from [] one rises-none inside = all-none
   from-fits from (e ∷ rest) one (rises-more h k r) inside =
       all-append
-      (all-append (either-fits (run from e) all fits (λ e i. i) (record { from-one = one; some-sample = h; to-n = k })) (halves-fit from e one k (λ m h k. inside m (in-this h k))))
+      (all-append (either-fits (run from e) all fits (λ e i. i) (record { from-1 = one; rises = h; to-n = k })) (halves-fit from e one k (λ m h k. inside m (in-this h k))))
       (from-fits (suc e) rest (omega arith) r (λ m i. inside m (in-later i)))
 
   pub candidates-fit : All (FitsAs n all) (candidates all)

@@ -1,7 +1,7 @@
 -- Every definition opened at once, for proofs by computation alone: `unfolding everything`.
 use mathlib.Core.List.{flatten}
 use Rattle.integer.specs.Words.{roundedUp, total, counting, those, every, chosen, isEmpty, isIn, timesIn, same}
-use Rattle.integer.specs.Sorting.{sortedWith, sortedBy, atPlace}
+use Rattle.integer.specs.Sorting.{sortedWith, pouredBy, atPlace}
 use Rattle.segment.specs.Figures.{sum, sumOfSquares, scatter, distance}
 use Rattle.segment.specs.Roots.{fallingFrom, floorRoot, ceilingRoot}
 use Rattle.segment.specs.Terms.{sumGap, scatterGap, boundTerm, spreadTerm}
@@ -66,7 +66,7 @@ unfolding candidatesFrom spreadOn spread thresholdOf testOf splitBy parts showSi
 addingOpen2 = tt
 
 unfoldable matchingOpen : Unit {0}
-unfolding boundOn ownBound hasChild parentFrom boundFrom isLeaf numbersIn leaves before sortedWith sortedBy readingOrder readOn isNearer nearer bestWith
+unfolding boundOn ownBound hasChild parentFrom boundFrom isLeaf numbersIn leaves before sortedWith pouredBy readingOrder readOn isNearer nearer bestWith
 matchingOpen = tt
 
 unfoldable matchingOpen2 : Unit {0}

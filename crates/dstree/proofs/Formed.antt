@@ -227,18 +227,25 @@ module _ (limit n : ℕ) (test : Test) where
   test-of left right t =
       let p = passed (leb 1 (test .on .first)) testTests t in
       record {
-        from-1 = leb→le 1 (test .on .first) (p .0);
-        run-rises = leb→le (test .on .first) (test .on .last) (p .1 .0);
-        to-n = leb→le (test .on .last) n (p .1 .1 .0);
+        run-in = record {
+          from-1 = leb→le 1 (test .on .first) (p .0);
+          rises = leb→le (test .on .first) (test .on .last) (p .1 .0);
+          to-n = leb→le (test .on .last) n (p .1 .1 .0);
+        };
         threshold-in = between-of limit (test .figure) (width (test .on)) (test .threshold) (p .1 .1 .1);
       }
 
   of-test : (left right : ℕ) → TestIn limit n test → T (testFits limit n (inner test left right))
   unfolding testFits
-  of-test left right t = passes (leb 1 (test .on .first)) testTests (
-    le→leb 1 (test .on .first) (t .from-1),
-    (le→leb (test .on .first) (test .on .last) (t .run-rises), (le→leb (test .on .last) n (t .to-n), of-between limit (test .figure) (width (test .on)) (test .threshold) (t .threshold-in))),
-  )
+  of-test left right t =
+      let on = t .run-in in
+      passes (leb 1 (test .on .first)) testTests (
+        le→leb 1 (test .on .first) (on .from-1),
+        (
+          le→leb (test .on .first) (test .on .last) (on .rises),
+          (le→leb (test .on .last) n (on .to-n), of-between limit (test .figure) (width (test .on)) (test .threshold) (t .threshold-in)),
+        ),
+      )
 
 -- ---- a node, by its kind
 
@@ -308,14 +315,14 @@ nodeNumbers a = numbersIn (a .kind)
 
 module _ {n count : ℕ} {tree : Tree} (s : Shape n count tree) where
   pub child-times : (k : ℕ) → 0 < k → k < length tree → timesIn k (flatten (map nodeChildren tree)) ≡ 1
-  child-times k low high = times-once nodeChildren emptyLeaf k tree (place (s .parented k low high))
+  child-times k low high = times-once nodeChildren emptyLeaf k tree (place (s .children .parented k low high))
     where
       place : Parent tree k → OnceAt nodeChildren emptyLeaf tree k
       place p = record {
         place = p .parent;
         inside = child-node tree (p .parent) k (p .has);
-        once = children-once k (nodeAt tree (p .parent) .kind) (s .children-differ (p .parent)) (child-in k (nodeAt tree (p .parent) .kind) (p .has));
-        only = λ j h i. s .one-parent j (p .parent) k (in-child k (nodeAt tree j .kind) i) (p .has);
+        once = children-once k (nodeAt tree (p .parent) .kind) (s .children .children-differ (p .parent)) (child-in k (nodeAt tree (p .parent) .kind) (p .has));
+        only = λ j h i. s .children .one-parent j (p .parent) k (in-child k (nodeAt tree j .kind) i) (p .has);
       }
 
   pub number-times : (t : ℕ) → t < count → timesIn t (flatten (map nodeNumbers tree)) ≡ 1
@@ -341,7 +348,7 @@ module _ {n count : ℕ} {tree : Tree} (s : Shape n count tree) where
       by : InFlat nodeChildren c tree → (0 < c) × (c < length tree)
       by (flat a i j) =
           let p = place-of emptyLeaf i in
-          let h = s .child (p .place) c (in-child c (nodeAt tree (p .place) .kind) (subst (λ (b : Node). In c (nodeChildren b)) (sym (p .is-it)) j)) in
+          let h = s .children .child (p .place) c (in-child c (nodeAt tree (p .place) .kind) (subst (λ (b : Node). In c (nodeChildren b)) (sym (p .is-it)) j)) in
           (omega (arith, h .0), h .1)
 
 -- ---- both directions
@@ -441,10 +448,12 @@ module _ (limit : ℕ) (m : Measures) (count : ℕ) (tree : Tree) where
     shape = record {
       no-trace = same-empty (length tree) count (rules .1 .1 .0) .0;
       no-node = same-empty (length tree) count (rules .1 .1 .0) .1;
-      child = child-above;
-      parented = λ k low high. parent-of k (child-once k low high);
-      one-parent = parent-only;
-      children-differ = two-children;
+      children = record {
+        child = child-above;
+        parented = λ k low high. parent-of k (child-once k low high);
+        one-parent = parent-only;
+        children-differ = two-children;
+      };
       fits = λ k h. fits-of (m .n) (ends (nodeAt tree k .segments)) (at-node k h .1 .0);
       ends-kept = ends-of-child;
       kept = λ t h. leaf-holding t (number-once t h);
@@ -471,7 +480,7 @@ module _ (limit : ℕ) (m : Measures) (count : ℕ) (tree : Tree) where
 
     of-above : (k : ℕ) → T (childrenAbove tree k (nodeAt tree k))
     unfolding childrenAbove
-    of-above k = every-of (λ child. ltb k child && ltb child (length tree)) (childrenOf (nodeAt tree k .kind)) (λ c i. above c (s .child k c (in-child c (nodeAt tree k .kind) i)))
+    of-above k = every-of (λ child. ltb k child && ltb child (length tree)) (childrenOf (nodeAt tree k .kind)) (λ c i. above c (s .children .child k c (in-child c (nodeAt tree k .kind) i)))
       where
         above : (c : ℕ) → (k < c) × (c < length tree) → T (ltb k c && ltb c (length tree))
         above c h = yes-and (ltb k c) (ltb c (length tree)) (lt→ltb k c (h .0)) (lt→ltb c (length tree) (h .1))

@@ -202,7 +202,7 @@ module _ (m : Measures) (stored : List Trace) (root : Node) (rest : Tree) (x : T
   with-x = join (length stored) at (widenAll x met (root ∷ rest))
 
   ending : LeafAt (root ∷ rest) at
-  ending = way-leaf (root ∷ rest) x (s .child) (omega arith)
+  ending = way-leaf (root ∷ rest) x (s .children .child) (omega arith)
 
   after-split : Shape (m .n) (length all) (split (m .leafSize) all with-x at)
   after-split =

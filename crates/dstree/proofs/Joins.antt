@@ -35,10 +35,12 @@ pub same-shape : {n count : ℕ} {tree other : Tree} → length other ≡ length
 same-shape {n} {count} {tree} {other} size kinds same s = record {
   no-trace = λ e. s .no-trace (sym size ∙ e);
   no-node = λ e. size ∙ s .no-node e;
-  child = λ p c. rw (kinds p, size) (s .child p c);
-  parented = λ k h g. let p : Parent tree k = s .parented k h (omega arith) in record { parent = p .parent; has = rw (kinds (p .parent)) (p .has) };
-  one-parent = λ p q c. rw (kinds p, kinds q) (s .one-parent p q c);
-  children-differ = λ p test l r. rw (kinds p) (s .children-differ p test l r);
+  children = record {
+    child = λ p c. rw (kinds p, size) (s .children .child p c);
+    parented = λ k h g. let p : Parent tree k = s .children .parented k h (omega arith) in record { parent = p .parent; has = rw (kinds (p .parent)) (p .has) };
+    one-parent = λ p q c. rw (kinds p, kinds q) (s .children .one-parent p q c);
+    children-differ = λ p test l r. rw (kinds p) (s .children .children-differ p test l r);
+  };
   fits = λ k h. rw (same k) (s .fits k (omega arith));
   ends-kept = λ p c. rw (kinds p, same p, same c) (s .ends-kept p c);
   kept = λ t h. let o : Kept tree t = s .kept t h in record { at = o .at; holds = rw (kinds (o .at)) (o .holds) };
@@ -120,10 +122,12 @@ module _ {n count : ℕ} {tree : Tree} (s : Shape n count tree) (x : Trace) (met
   join-shape = record {
     no-trace = λ e. absurd (omega (arith, joined-length));
     no-node = λ e. absurd (omega arith);
-    child = λ p c h. let k : (p < c) × (c < length tree) = s .child p c (child-back c p h) in (k .0, rw joined-length (k .1));
-    parented = λ k h g. let p : Parent tree k = s .parented k h (rw joined-length at g) in record { parent = p .parent; has = child-on k (p .parent) (p .has) };
-    one-parent = λ p q c h k. s .one-parent p q c (child-back c p h) (child-back c q k);
-    children-differ = λ p test l r e. s .children-differ p test l r (inner-back p test l r e);
+    children = record {
+      child = λ p c h. let k : (p < c) × (c < length tree) = s .children .child p c (child-back c p h) in (k .0, rw joined-length (k .1));
+      parented = λ k h g. let p : Parent tree k = s .children .parented k h (rw joined-length at g) in record { parent = p .parent; has = child-on k (p .parent) (p .has) };
+      one-parent = λ p q c h k. s .children .one-parent p q c (child-back c p h) (child-back c q k);
+      children-differ = λ p test l r e. s .children .children-differ p test l r (inner-back p test l r e);
+    };
     fits = λ k h. rw (joined-ends k) (s .fits k (rw joined-length at h));
     ends-kept = λ p c h. rw (joined-ends p, joined-ends c) (s .ends-kept p c (child-back c p h));
     kept = λ t h. keep t (decLe (suc t) count) h;
@@ -160,7 +164,7 @@ module _ {n : ℕ} (stored : List Trace) {root : Node} {rest : Tree} (x : Trace)
   at = lastOf met
 
   ending : LeafAt tree at
-  ending = way-leaf tree x (s .child) (omega arith)
+  ending = way-leaf tree x (s .children .child) (omega arith)
 
   abbrev new : Tree
   new = join (length stored) at (widenAll x met tree)
@@ -173,9 +177,9 @@ module _ {n : ℕ} (stored : List Trace) {root : Node} {rest : Tree} (x : Trace)
   came-from c p i h = by (way-closed (length tree) tree x 0 i)
     where
       by : (c ≡ 0) ⊎ ParentIn tree x c met → In p met × (nextNode (nodeAt tree p .kind) x ≡ some c)
-      by (inl e) = absurd (omega (arith, s .child p c h .0))
+      by (inl e) = absurd (omega (arith, s .children .child p c h .0))
       by (inr q) =
-          let e : q .parent ≡ p = s .one-parent (q .parent) p c (next-child x c (nodeAt tree (q .parent) .kind) (q .next)) h in
+          let e : q .parent ≡ p = s .children .one-parent (q .parent) p c (next-child x c (nodeAt tree (q .parent) .kind) (q .next)) h in
           (subst (λ (j : ℕ). In j met) e (q .met), subst (λ (j : ℕ). nextNode (nodeAt tree j .kind) x ≡ some c) e (q .next))
 
   below-back : {t k : ℕ} → Below new t k → Below tree t k ⊎ ((t ≡ length stored) × In k met)
@@ -240,7 +244,7 @@ module _ {n : ℕ} (stored : List Trace) {root : Node} {rest : Tree} (x : Trace)
       is-inner = inner-back s x met at (ending .numbers) (ending .inside) (ending .is) p test l r q
 
       differ : l ≡ r → ⊥
-      differ = s .children-differ p test l r is-inner
+      differ = s .children .children-differ p test l r is-inner
 
       to-left : (b : Bool) → l ≡ (if b then l else r) → b ≡ true
       to-left true e = refl

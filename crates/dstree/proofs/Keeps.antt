@@ -56,10 +56,12 @@ module _ (n : ℕ) (x : Trace) (wide : 1 ≤ n) where
   first-shape = record {
     no-trace = λ e. absurd (omega arith);
     no-node = λ e. absurd (omega arith);
-    child = λ p c. no-child p c;
-    parented = λ k h g. absurd (omega arith);
-    one-parent = λ p q c h. absurd (no-child p c h);
-    children-differ = λ p test l r e. no-inner p test l r e;
+    children = record {
+      child = λ p c. no-child p c;
+      parented = λ k h g. absurd (omega arith);
+      one-parent = λ p q c h. absurd (no-child p c h);
+      children-differ = λ p test l r e. no-inner p test l r e;
+    };
     fits = fit;
     ends-kept = λ p c h. no-child p c h;
     kept = λ t h. record { at = 0; holds = alone t h };
@@ -155,10 +157,12 @@ none-inv limit m measured = record {
     shape = record {
       no-trace = λ e. refl;
       no-node = λ e. refl;
-      child = λ p c h. absurd h;
-      parented = λ k h g. absurd (omega arith);
-      one-parent = λ p q c h. absurd h;
-      children-differ = λ p test l r e. no-inner e;
+      children = record {
+        child = λ p c h. absurd h;
+        parented = λ k h g. absurd (omega arith);
+        one-parent = λ p q c h. absurd h;
+        children-differ = λ p test l r e. no-inner e;
+      };
       fits = λ k h. absurd (omega arith);
       ends-kept = λ p c h. absurd h;
       kept = λ t h. absurd (omega arith);
@@ -200,7 +204,7 @@ module _ (limit : ℕ) (m : Measures) where
   join-formed stored root rest x f room is-trace =
       let tree : Tree = root ∷ rest in
       let met : List ℕ = way tree x in
-      let end : LeafAt tree (lastOf met) = way-leaf tree x (f .shape .child) (omega arith) in
+      let end : LeafAt tree (lastOf met) = way-leaf tree x (f .shape .children .child) (omega arith) in
       let size : suc (length stored) ≡ length (stored ++ (x ∷ [])) = omega (arith, length-append stored (x ∷ [])) in
       subst (λ (k : ℕ). Formed limit m k (join (length stored) (lastOf met) (widenAll x met tree))) size
       (grow f room (join-shape (f .shape) x met (lastOf met) (end .numbers) (end .inside) (end .is))

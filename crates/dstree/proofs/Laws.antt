@@ -83,10 +83,10 @@ module _ (limit : ℕ) (m : Measures) (traces : List Trace) (library : T (isLibr
 
   -- "A node's bound is the greatest own bound from node 0 down to it": a child's is its own or its parent's, node 0's its own
   pub bound-of-child : (query : Trace) (parent child : ℕ) → T (hasChild child (nodeAt tree parent .kind)) → bound tree query child ≡ max (ownBound query (nodeAt tree child)) (bound tree query parent)
-  bound-of-child query = child-bound tree (formed .shape .child) (formed .shape .one-parent) query
+  bound-of-child query = child-bound tree (formed .shape .children .child) (formed .shape .children .one-parent) query
 
   pub bound-of-root : (query : Trace) → 0 < length traces → bound tree query 0 ≡ ownBound query (nodeAt tree 0)
-  bound-of-root query one = root-bound tree (formed .shape .child) (formed .shape .one-parent) query (below-inside (formed .shape) (below-root (formed .shape) 0 one))
+  bound-of-root query one = root-bound tree (formed .shape .children .child) (formed .shape .children .one-parent) query (below-inside (formed .shape) (below-root (formed .shape) 0 one))
 
   -- "After the list, if the book has a trace, take any query of n samples"
   pub claims : (query : Trace) → 0 < length traces → length query ≡ m .n → ClaimsOf traces tree query

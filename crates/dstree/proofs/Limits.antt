@@ -80,7 +80,7 @@ module _ (limit n : ℕ) (x : Trace) (is-one : T (isTrace limit n x)) where
   unfolding changeAll widenSegment
   changed-limited one l-none rises-none = l-none
   changed-limited {from} one (l-more {s} h a) (rises-more p q r) =
-      l-more (wider-limited (run from (s .end)) (record { from-one = one; some-sample = p; to-n = q }) s h)
+      l-more (wider-limited (run from (s .end)) (record { from-1 = one; rises = p; to-n = q }) s h)
       (changed-limited (omega arith) a r)
 
   widen-limited : (met : List ℕ) (tree : Tree) (k : ℕ) → AllLimited limit 1 (nodeAt tree k .segments)
@@ -133,7 +133,7 @@ module _ (limit n : ℕ) (stored : List Trace) (each : (t : ℕ) → t < length 
     all-limited : {from : ℕ} {l : List Segment} → 1 ≤ from → AllExact stored P from l → Rises n from (ends l) → AllLimited limit from l
     all-limited one exact-none rises-none = l-none
     all-limited {from} one (exact-more {s} e w) (rises-more h k r) = l-more
-        (limited (run from (s .end)) (record { from-one = one; some-sample = h; to-n = k }) s e) (all-limited (omega arith) w r)
+        (limited (run from (s .end)) (record { from-1 = one; rises = h; to-n = k }) s e) (all-limited (omega arith) w r)
 
     between : (figure : Figure) (on : Run) → RunIn n on → (t u : ℕ) → P t → P u
         → Between limit figure (width on) (figureOf figure on (getD stored t []) +ℤ figureOf figure on (getD stored u []))
@@ -155,9 +155,7 @@ module _ (limit n : ℕ) (stored : List Trace) (each : (t : ℕ) → t < length 
       (low : (t : ℕ) → In t ns → t < length stored) (s : Split) (good : GoodSplit n stored (ends (nodeAt tree at .segments)) ns s) where
     new-test : TestIn limit n (s .test)
     new-test = record {
-      from-1 = good .run-in .from-one;
-      run-rises = good .run-in .some-sample;
-      to-n = good .run-in .to-n;
+      run-in = good .run-in;
       threshold-in =
           let a = good .threshold-is .least-of in
           let b = good .threshold-is .greatest-of in

@@ -8,7 +8,7 @@ use native.Mathlib.Omega.{arith}
 use lib.ListN.{length, length-map}
 use lib.Dec.{T, ltb, eqb}
 use Rattle.integer.specs.Words.{if_then_else_, counting}
-use Rattle.integer.specs.Sorting.{sortedWith, sortedBy}
+use Rattle.integer.specs.Sorting.{sortedWith, pouredBy, sortedBy}
 use borrow.Author.Tests.{ltb-true, ltb-false, eqb-true}
 use Rattle.integer.proofs.Tests.{is-true}
 use Rattle.integer.proofs.Lists.{In, first, later, in-map, InMap, of, from-map, from-those, in-those, in-counting}
@@ -52,7 +52,7 @@ inserted-apart a h (apart-more {a = c} {l} g p) = by (before a c) (inserted-apar
     by false ih = apart-more (λ b i. at b (from-inserted before a l i)) ih
 
 sorted-apart : {l : List LeafBound} → ApartLeaves l → ApartLeaves (sortedBy before l)
-unfolding sortedBy
+unfolding pouredBy
 sorted-apart apart-none = apart-none
 sorted-apart (apart-more {a} {l} h p) = inserted-apart a (λ b i. h b (from-sorted before l i)) (sorted-apart p)
 
@@ -104,7 +104,7 @@ inserted-in-order a (order-more {a = b} {rest} o os) = by (before a b) refl (ins
     by false p ih = order-more (inserted-all (b .bound) a (before-not a b p) o) ih
 
 sorted-in-order : (l : List LeafBound) → InOrder (sortedBy before l)
-unfolding sortedBy
+unfolding pouredBy
 sorted-in-order [] = order-none
 sorted-in-order (a ∷ rest) = inserted-in-order a (sorted-in-order rest)
 

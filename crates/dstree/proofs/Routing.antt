@@ -45,7 +45,7 @@ module _ {n : ℕ} {stored : List Trace} {tree : Tree} (s : Shape n (length stor
 
   pub leads-to : t < length stored → T (isIn t (numbersIn (nodeAt tree (lastOf (way tree x)) .kind)))
   unfolding numbersIn
-  leads-to h = by (way-ends tree x (Below tree t) (s .child) step (length tree) 0 (below-inside s (below-root s t h)) (omega arith) (below-root s t h))
+  leads-to h = by (way-ends tree x (Below tree t) (s .children .child) step (length tree) 0 (below-inside s (below-root s t h)) (omega arith) (below-root s t h))
     where
       by : {k : ℕ} → LeafAt tree k × Below tree t k → T (isIn t (numbersIn (nodeAt tree k .kind)))
       by (l, b) = subst (λ (a : Kind). T (isIn t (numbersIn a))) (sym (l .is)) (below-leaf (l .is) b)

@@ -164,10 +164,10 @@ module _ {n count : ℕ} {tree : Tree} (shape : Shape n count tree) (stored : Li
     where
       by : ChildWas c p → Was t c → Was t p
       by (was i) w = record {
-        old = λ g. of-child i (w .old (shape .child p c i .1));
+        old = λ g. of-child i (w .old (shape .children .child p c i .1));
         in-left = λ e. absurd
-            (omega (arith, shape .child p c i));
-        in-right = λ e. absurd (omega (arith, shape .child p c i));
+            (omega (arith, shape .children .child p c i));
+        in-right = λ e. absurd (omega (arith, shape .children .child p c i));
       }
       by (fresh e g (inl i)) w = record { old = λ g. there t p e (good .left-in t (w .in-left i)); in-left = λ e. absurd (omega arith); in-right = λ e. absurd (omega arith) }
       by (fresh e g (inr i)) w = record { old = λ g. there t p e (good .right-in t (w .in-right i)); in-left = λ e. absurd (omega arith); in-right = λ e. absurd (omega arith) }
@@ -195,7 +195,7 @@ module _ {n count : ℕ} {tree : Tree} (shape : Shape n count tree) (stored : Li
 
   split-on : {t k : ℕ} → Below tree t k → Below new t k
   split-on {t} (of-leaf {number} i) = leaf-on t number i
-  split-on (of-child {parent = p} {child = c} h b) = of-child {parent = p} {child = c} (rw (at-same p (omega (arith, shape .child p c h)) (inner-not c p h)) h) (split-on b)
+  split-on (of-child {parent = p} {child = c} h b) = of-child {parent = p} {child = c} (rw (at-same p (omega (arith, shape .children .child p c h)) (inner-not c p h)) h) (split-on b)
 
   -- ---- leaves
 
@@ -242,7 +242,7 @@ module _ {n count : ℕ} {tree : Tree} (shape : Shape n count tree) (stored : Li
       by (no f) = record { at = o .at; holds = rw (at-same (o .at) (number-node tree t (o .at) (o .holds)) f) (o .holds) }
 
   split-ends : (p c : ℕ) → ChildWas c p → (e : ℕ) → In e (ends (nodeAt new p .segments)) → In e (ends (nodeAt new c .segments))
-  split-ends p c (was h) = rw (old-segments p (omega (arith, shape .child p c h)), old-segments c (shape .child p c h .1)) (shape .ends-kept p c h)
+  split-ends p c (was h) = rw (old-segments p (omega (arith, shape .children .child p c h)), old-segments c (shape .children .child p c h .1)) (shape .ends-kept p c h)
   split-ends p c (fresh e g (inl q)) = rw (e, at-turned, q, at-left, new-ends stored (s .childEnds) (s .left)) (good .ends-kept)
   split-ends p c (fresh e g (inr q)) = rw (e, at-turned, q, at-right, new-ends stored (s .childEnds) (s .right)) (good .ends-kept)
 
@@ -250,7 +250,7 @@ module _ {n count : ℕ} {tree : Tree} (shape : Shape n count tree) (stored : Li
   split-parented k h g = by (decLe (suc k) (length tree)) (decLe k (length tree))
     where
       old : Parent tree k → Parent new k
-      old p = record { parent = p .parent; has = rw (at-same (p .parent) (omega (arith, shape .child (p .parent) k (p .has))) (inner-not k (p .parent) (p .has))) (p .has) }
+      old p = record { parent = p .parent; has = rw (at-same (p .parent) (omega (arith, shape .children .child (p .parent) k (p .has))) (inner-not k (p .parent) (p .has))) (p .has) }
 
       left-one : k ≡ length tree → Parent new k
       left-one e = record { parent = at; has = rw (at-turned, e) (has-left (s .test) (length tree) (suc (length tree))) }
@@ -259,7 +259,7 @@ module _ {n count : ℕ} {tree : Tree} (shape : Shape n count tree) (stored : Li
       right-one e = record { parent = at; has = rw (at-turned, e) (has-right (s .test) (length tree) (suc (length tree))) }
 
       by : Dec (suc k ≤ length tree) → Dec (k ≤ length tree) → Parent new k
-      by (yes a) b = old (shape .parented k h a)
+      by (yes a) b = old (shape .children .parented k h a)
       by (no a) (yes b) = left-one (omega (arith, lt-of-not-le a))
       by (no a) (no b) = right-one (omega (arith, lt-of-not-le b, new-length))
 
@@ -267,7 +267,7 @@ module _ {n count : ℕ} {tree : Tree} (shape : Shape n count tree) (stored : Li
   unfolding newLeaf
   split-differ p test a b =
       new-cases (λ (o : Node). o .kind ≡ inner test a b → a ≡ b → ⊥) p
-      (λ e h q d. let u : length tree ≡ a = cc in let v : suc (length tree) ≡ b = cc in omega arith) (λ f h. shape .children-differ p test a b)
+      (λ e h q d. let u : length tree ≡ a = cc in let v : suc (length tree) ≡ b = cc in omega arith) (λ f h. shape .children .children-differ p test a b)
       (λ e q. let z : _≡_ {A = ℕ} 0 1 = cc in absurd (omega arith)) (λ e q. let z : _≡_ {A = ℕ} 0 1 = cc in absurd (omega arith)) (λ g q. let z : _≡_ {A = ℕ} 0 1 = cc in absurd (omega arith))
 
   pub split-shape : Shape n count (splitInto stored tree at (some s))
@@ -275,10 +275,12 @@ module _ {n count : ℕ} {tree : Tree} (shape : Shape n count tree) (stored : Li
   split-shape = record {
     no-trace = λ e. absurd (omega (arith, new-length));
     no-node = λ e. absurd (omega (arith, shape .no-node e, here-in));
-    child = λ p c h. rw new-length (above p c (child-was c p h));
-    parented = split-parented;
-    one-parent = λ p q c h k. one p q c (child-was c p h) (child-was c q k);
-    children-differ = split-differ;
+    children = record {
+      child = λ p c h. rw new-length (above p c (child-was c p h));
+      parented = split-parented;
+      one-parent = λ p q c h k. one p q c (child-was c p h) (child-was c q k);
+      children-differ = split-differ;
+    };
     numbers = λ t k.
         new-cases (λ (a : Node). T (isIn t (numbersIn (a .kind))) → t < count) k
         (λ e h i. absurd i) (λ f h i. shape .numbers t k i) (λ e i. stored-there t (good .left-in t i)) (λ e i. stored-there t (good .right-in t i)) (λ g i. absurd i);
@@ -303,16 +305,16 @@ module _ {n count : ℕ} {tree : Tree} (shape : Shape n count tree) (stored : Li
   }
     where
       above : (p c : ℕ) → ChildWas c p → (p < c) × (c < suc (suc (length tree)))
-      above p c (was h) = (shape .child p c h .0, omega (arith, shape .child p c h .1))
+      above p c (was h) = (shape .children .child p c h .0, omega (arith, shape .children .child p c h .1))
       above p c (fresh e g (inl h)) = (omega arith, omega arith)
       above p c (fresh e g (inr h)) = (omega arith, omega arith)
 
       one : (p q c : ℕ) → ChildWas c p → ChildWas c q → p ≡ q
-      one p q c (was h) (was k) = shape .one-parent p q c h k
-      one p q c (was h) (fresh e g (inl i)) = absurd (omega (arith, shape .child p c h .1))
-      one p q c (was h) (fresh e g (inr i)) = absurd (omega (arith, shape .child p c h .1))
-      one p q c (fresh e g (inl i)) (was h) = absurd (omega (arith, shape .child q c h .1))
-      one p q c (fresh e g (inr i)) (was h) = absurd (omega (arith, shape .child q c h .1))
+      one p q c (was h) (was k) = shape .children .one-parent p q c h k
+      one p q c (was h) (fresh e g (inl i)) = absurd (omega (arith, shape .children .child p c h .1))
+      one p q c (was h) (fresh e g (inr i)) = absurd (omega (arith, shape .children .child p c h .1))
+      one p q c (fresh e g (inl i)) (was h) = absurd (omega (arith, shape .children .child q c h .1))
+      one p q c (fresh e g (inr i)) (was h) = absurd (omega (arith, shape .children .child q c h .1))
       one p q c (fresh e g i) (fresh f h j) = e ∙ sym f
 
   -- ---- records and tests
@@ -354,8 +356,8 @@ module _ {n count : ℕ} {tree : Tree} (shape : Shape n count tree) (stored : Li
     old-sends p (inner test l r) e =
         let fit : Sends stored tree test l r = exact .sends p test l r e in
         record {
-          goes-left = λ t b. fit .goes-left t (below-was b .old (shape .child p l (rw e (has-left test l r)) .1));
-          goes-right = λ t b. fit .goes-right t (below-was b .old (shape .child p r (rw e (has-right test l r)) .1));
+          goes-left = λ t b. fit .goes-left t (below-was b .old (shape .children .child p l (rw e (has-left test l r)) .1));
+          goes-right = λ t b. fit .goes-right t (below-was b .old (shape .children .child p r (rw e (has-right test l r)) .1));
         }
 
     split-sends : (p : ℕ) (a : Kind) → nodeAt new p .kind ≡ a → SendsBy a

@@ -41,10 +41,10 @@ from-below (suc fuel) tree {t} k i = by (nodeAt tree k .kind) refl (λ c j. from
 
 module _ {n count : ℕ} {tree : Tree} (s : Shape n count tree) where
   left-above : {k : ℕ} {test : Test} {l r : ℕ} → nodeAt tree k .kind ≡ inner test l r → (k < l) × (l < length tree)
-  left-above {k} {test} {l} {r} e = s .child k l (rw e (has-left test l r))
+  left-above {k} {test} {l} {r} e = s .children .child k l (rw e (has-left test l r))
 
   right-above : {k : ℕ} {test : Test} {l r : ℕ} → nodeAt tree k .kind ≡ inner test l r → (k < r) × (r < length tree)
-  right-above {k} {test} {l} {r} e = s .child k r (rw e (has-right test l r))
+  right-above {k} {test} {l} {r} e = s .children .child k r (rw e (has-right test l r))
 
   -- what is below is listed
   to-below : (fuel : ℕ) {t : ℕ} (k : ℕ) → length tree ≤ k + fuel → Below tree t k → In t (belowFrom fuel tree k)

@@ -33,7 +33,7 @@ module _ (first : List ℕ) (l : length first ≡ blockSize) (h : Bytes first) w
   unfolding headOf measuresIn countIn
   head-is e =
       rw (← e, field-back 8 (omega arith), field-back 10 (omega arith), field-back 12 (omega arith), field-back 14 (omega arith))
-      (rw (part-join 4 4 2 first, part-join 4 6 2 first, part-join 4 8 2 first, part-join 4 10 2 first) refl)
+      (rw (part-join 8 2 2 first, part-join 8 4 2 first, part-join 8 6 2 first, part-join 4 4 8 first) refl)
 
   carried-length : length (carriedIn first) ≡ carriedSize
   carried-length = part-length 4 carriedSize first (rw l (omega arith))

@@ -142,15 +142,17 @@ pub record Split : Type 0 where
   pub left : List ℕ
   pub right : List ℕ
 
+-- what a test makes of a leaf, with these right ends for its children
+abbrev pub splitByTest : List Trace → List ℕ → Test → List ℕ → Split
+splitByTest stored numbers test ends = record {
+  test = test;
+  childEnds = ends;
+  left = those (λ number. goesLeft test (getD stored number [])) numbers;
+  right = those (λ number. not (goesLeft test (getD stored number []))) numbers;
+}
+
 unfoldable pub splitBy : List Trace → List ℕ → Candidate → Split
-splitBy stored numbers c =
-    let test = testOf c (tracesOf stored numbers) in
-    record {
-      test = test;
-      childEnds = c .childEnds;
-      left = those (λ number. goesLeft test (getD stored number [])) numbers;
-      right = those (λ number. not (goesLeft test (getD stored number []))) numbers;
-    }
+splitBy stored numbers c = splitByTest stored numbers (testOf c (tracesOf stored numbers)) (c .childEnds)
 
 -- "A candidate parts the leaf if both sides receive a trace"
 unfoldable pub parts : Split → Bool

@@ -5,7 +5,7 @@ use mathlib.Core.Bool.{Bool, false, not, _&&_}
 use mathlib.Core.Option.{Option, none, some}
 use mathlib.Core.List.{List, [], _∷_, _++_, map, foldl, flatten}
 use lib.ListN.{length}
-use lib.Dec.{T, eqb, ltb}
+use lib.Dec.{T, eqb}
 use Rattle.integer.specs.Words.{if_then_else_, those, isIn, timesIn}
 use Rattle.integer.specs.Lists.{In, Up}
 use Rattle.dstree.specs.Measures.{Trace, Measures, within}
@@ -14,7 +14,7 @@ use Rattle.dstree.specs.Matching.{leaves, readingOrder, readOn, Near, is
 use Rattle.dstree.specs.WellFormed.{wellFormedTree}
 use Rattle.dstree.specs.Claims.{ExactTree}
 use Rattle.dstree.specs.KNearest.{distancesAmong, SameIn}
-use Rattle.dstree.specs.Refusals.{Condition, _refuses_, wrongTrace, empty, shortTrail, badBatch}
+use Rattle.dstree.specs.Refusals.{Condition, _refuses_, badBatch, runConditions}
 use Rattle.dstree.specs.Sheet.{pieces}
 
 -- ---- the queries
@@ -23,7 +23,7 @@ use Rattle.dstree.specs.Sheet.{pieces}
 abbrev pub mostQueries : ℕ
 mostQueries = 16
 
--- "14 bad batch, for 0 or more than 16 queries, or an answer list of another length than the batch"
+-- 1 to 16 queries, with an answer list of as many places
 unfoldable pub isBatch : ℕ → ℕ → Bool
 isBatch count places = within 1 count mostQueries && eqb places count
 
@@ -31,15 +31,11 @@ isBatch count places = within 1 count mostQueries && eqb places count
 abbrev pub queriesIn : ℕ → ℕ → Trace → List Trace
 queriesIn n count run = pieces n count run
 
--- 14, "after 3"; ".. and a run not n times their number long is 4"; then 6 and 7 as a match. Of a library for traces of n samples with so
--- many traces and leaves
+-- "14 bad batch, for 0 or more than 16 queries, or an answer list of another length than the batch, after 3; .. and a run not n times their
+-- number long is 4"; then 6 and 7 as a match. Of a library for traces of n samples with so many traces and leaves
 abbrev pub batchConditions : ℕ → ℕ → ℕ → ℕ → ℕ → Trace → List ℕ → List Condition
 batchConditions n traces leaves count places run trail =
-    not (isBatch count places) refuses badBatch
-    ∷ not (eqb (length run) (n * count)) refuses wrongTrace
-    ∷ eqb traces 0 refuses empty
-    ∷ ltb (length trail) leaves refuses shortTrail
-    ∷ []
+    not (isBatch count places) refuses badBatch ∷ runConditions (n * count) traces leaves run trail
 
 -- ---- what a batch answers
 

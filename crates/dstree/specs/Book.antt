@@ -6,15 +6,14 @@ use mathlib.Core.Option.{Option, none, some}
 use mathlib.Core.List.{List, [], _∷_, _++_}
 use lib.ListN.{length, getD, drop}
 use lib.Dec.{ltb, eqb}
-use Rattle.integer.specs.Words.{isEmpty}
 use Rattle.dstree.specs.Measures.{Trace, Measures, measures, inRange, samplesNeeded, recordsNeeded, linksNeeded, workNeeded}
 use Rattle.dstree.specs.Node.{Tree}
 use Rattle.dstree.specs.Adding.{treeOf}
 use Rattle.dstree.specs.Matching.{leaves, Near, Match, matchOf}
 use Rattle.dstree.specs.KNearest.{isK, listPlaces, KNearest, kNearestOf}
 use Rattle.dstree.specs.Batch.{queriesIn, batchConditions, Batch, batchOf}
-use Rattle.dstree.specs.Refusals.{Refusal, measure, shortTable, wrongTrace, full, empty, shortTrail, sheetLength, badK, badRecording}
-use Rattle.dstree.specs.Refusals.{Condition, _refuses_, firstOf}
+use Rattle.dstree.specs.Refusals.{Refusal, measure, shortTable, wrongTrace, full, shortTrail, sheetLength, badK, badRecording}
+use Rattle.dstree.specs.Refusals.{Condition, _refuses_, firstOf, runConditions}
 use Rattle.dstree.specs.Recording.{rateLimit, recordingSize, recordingOf, Recording, judgeRecording, isBadFile, fileTraces}
 use Rattle.dstree.specs.Sheet.{blockSize, blocksNeeded, sheetOf, Judged, refused, holds, judgeSheet}
 
@@ -144,20 +143,27 @@ tablesShort layout lent m =
 abbrev pub shortConditions : Layout → Lent → Measures → List Condition
 shortConditions layout lent m = controlShort layout lent refuses shortTable ∷ tablesShort layout lent m refuses shortTable ∷ []
 
--- what a search refuses of its query and its trail: 4, 6, 7
-abbrev pub queryConditions : Book → Trace → List ℕ → List Condition
-queryConditions b query trail =
-    not (eqb (length query) (b .measures .n)) refuses wrongTrace
-    ∷ isEmpty (b .traces) refuses empty
-    ∷ ltb (length trail) (length (leaves (bookTree b))) refuses shortTrail
-    ∷ []
+-- What each call refuses behind 2 and 3, of a library of these measures, with so many traces and this tree: the book's here, and what the
+-- tables hold where a call is lent some (`calls/specs/Effects`).
+
+-- adding, of its trace: 4, 5
+abbrev pub addConditions : Measures → ℕ → Trace → List Condition
+addConditions m count x = not (eqb (length x) (m .n)) refuses wrongTrace ∷ eqb count (m .capacity) refuses full ∷ []
+
+-- a search, of its query and its trail
+abbrev pub queryConditions : Measures → ℕ → Tree → Trace → List ℕ → List Condition
+queryConditions m count tree query trail = runConditions (m .n) count (length (leaves tree)) query trail
+
+-- writing, of its sheet: 8
+abbrev pub writeConditions : Measures → ℕ → List ℕ → List Condition
+writeConditions m count sheet = ltb (length sheet) (blockSize * blocksNeeded count (m .n)) refuses sheetLength ∷ []
 
 -- document 02, §1: "11 bad k, outside 1 to 16, after 3; a list shorter than k is refused as 7", k traces taking two places each
-abbrev pub listConditions : Book → ℕ → Trace → List ℕ → List ℕ → List Condition
-listConditions b k query trail list =
-    not (isK k) refuses badK ∷ (queryConditions b query trail ++ (ltb (length list) (2 * k) refuses shortTrail ∷ []))
+abbrev pub listConditions : Measures → ℕ → Tree → ℕ → Trace → List ℕ → List ℕ → List Condition
+listConditions m count tree k query trail list =
+    not (isK k) refuses badK ∷ (queryConditions m count tree query trail ++ (ltb (length list) (2 * k) refuses shortTrail ∷ []))
 
--- document 02, §2: "12 bad recording, for a file of any other form ..; 5 if not all traces fit", of a file for a library of so many traces
+-- document 02, §2: "12 bad recording, for a file of any other form ..; 5 if not all traces fit"
 abbrev pub importConditions : Measures → ℕ → Option Recording → List Condition
 importConditions m count file = isBadFile file refuses badRecording ∷ ltb (m .capacity) (count + length (fileTraces file)) refuses full ∷ []
 
@@ -188,11 +194,7 @@ module _ (layout : Layout) (lent : Lent) (b : Book) where
   -- "Adding appends its trace"
   unfoldable pub addingEntry : Trace → Entry
   addingEntry x = record {
-    conditions =
-        shortConditions layout lent (b .measures)
-        ++ not (eqb (length x) (b .measures .n)) refuses wrongTrace
-        ∷ eqb (length (b .traces)) (b .measures .capacity) refuses full
-        ∷ [];
+    conditions = shortConditions layout lent (b .measures) ++ addConditions (b .measures) (length (b .traces)) x;
     puts = book (b .measures) (b .traces ++ (x ∷ []));
     result = added (length (b .traces));
     beside = [];
@@ -203,7 +205,8 @@ module _ (layout : Layout) (lent : Lent) (b : Book) where
   matchingEntry query trail =
       let found = matchOf (b .traces) (bookTree b) query in
       record {
-        conditions = shortConditions layout lent (b .measures) ++ queryConditions b query trail;
+        conditions =
+            shortConditions layout lent (b .measures) ++ queryConditions (b .measures) (length (b .traces)) (bookTree b) query trail;
         puts = b;
         result = matched found;
         beside = over (found .trail) trail ∷ [];
@@ -211,12 +214,11 @@ module _ (layout : Layout) (lent : Lent) (b : Book) where
 
   unfoldable pub writingEntry : List ℕ → Entry
   writingEntry sheet =
-      let blocks = blocksNeeded (length (b .traces)) (b .measures .n) in
       let bytes = sheetOf (b .measures) (b .traces) in
       record {
-        conditions = shortConditions layout lent (b .measures) ++ ltb (length sheet) (blockSize * blocks) refuses sheetLength ∷ [];
+        conditions = shortConditions layout lent (b .measures) ++ writeConditions (b .measures) (length (b .traces)) sheet;
         puts = b;
-        result = written blocks bytes;
+        result = written (blocksNeeded (length (b .traces)) (b .measures .n)) bytes;
         beside = over bytes sheet ∷ [];
       }
 
@@ -228,7 +230,8 @@ module _ (layout : Layout) (lent : Lent) (b : Book) where
   listingEntry k query trail list =
       let found = kNearestOf k (b .traces) (bookTree b) query in
       record {
-        conditions = shortConditions layout lent (b .measures) ++ listConditions b k query trail list;
+        conditions =
+            shortConditions layout lent (b .measures) ++ listConditions (b .measures) (length (b .traces)) (bookTree b) k query trail list;
         puts = b;
         result = neighbours found;
         beside = over (found .trail) trail ∷ over (listPlaces (found .list)) list ∷ [];

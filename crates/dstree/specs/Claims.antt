@@ -1,5 +1,6 @@
--- What is claimed of the tree that insertion makes of a list of traces, as statements: the laws behind document 01's sections "A node's record",
--- "Adding", "Matching", "Well-formed tables" and "Demand 3, over a list of calls". `proofs/Laws` proves them for every library.
+-- What is claimed of a tree over a list of traces, as statements: the laws behind document 01's sections "A node's record", "Adding",
+-- "Matching", "Well-formed tables" and "Demand 3, over a list of calls". What is claimed of a query holds of every well-formed tree with
+-- exact ranges, whoever made it (`ClaimsOfExact`); all of it holds of the tree that insertion makes, for every library (`proofs/Laws`).
 use Prim.Native.Nat.{ℕ, suc, _+_, _*_, _-_, _≤_, _<_}
 use mathlib.Core.Path.{_≡_}
 use mathlib.Core.Bool.{Bool, true, false, not}

@@ -35,8 +35,8 @@ pub record Fits (n : ℕ) (es : List ℕ) : Type 0 where
 
 -- "a run inside 1 to n", of one sample or more
 pub record RunIn (n : ℕ) (r : Run) : Type 0 where
-  pub from-one : 1 ≤ r .first
-  pub some-sample : r .first ≤ r .last
+  pub from-1 : 1 ≤ r .first
+  pub rises : r .first ≤ r .last
   pub to-n : r .last ≤ n
 
 -- ---- where nodes and traces stand
@@ -51,17 +51,21 @@ pub record Kept (tree : Tree) (t : ℕ) : Type 0 where
   pub at : ℕ
   pub holds : T (isIn t (numbersIn (nodeAt tree at .kind)))
 
--- a tree over `count` traces of n samples
-pub record Shape (n count : ℕ) (tree : Tree) : Type 0 where
-  -- "no node exactly when no trace"
-  pub no-trace : length tree ≡ 0 → count ≡ 0
-  pub no-node : count ≡ 0 → length tree ≡ 0
+-- where children stand
+pub record Children (tree : Tree) : Type 0 where
   -- "inner children numbered above their parent", and nodes
   pub child : (p c : ℕ) → T (hasChild c (nodeAt tree p .kind)) → (p < c) × (c < length tree)
   -- "every node but 0 a child once": of some node, of no two, and not both children of one
   pub parented : (k : ℕ) → 0 < k → k < length tree → Parent tree k
   pub one-parent : (p q c : ℕ) → T (hasChild c (nodeAt tree p .kind)) → T (hasChild c (nodeAt tree q .kind)) → p ≡ q
   pub children-differ : (p : ℕ) (test : Test) (left right : ℕ) → nodeAt tree p .kind ≡ inner test left right → left ≡ right → ⊥
+
+-- a tree over `count` traces of n samples
+pub record Shape (n count : ℕ) (tree : Tree) : Type 0 where
+  -- "no node exactly when no trace"
+  pub no-trace : length tree ≡ 0 → count ≡ 0
+  pub no-node : count ≡ 0 → length tree ≡ 0
+  pub children : Children tree
   -- "at most 16 ends, rising, last n"
   pub fits : (k : ℕ) → k < length tree → Fits n (ends (nodeAt tree k .segments))
   -- "a child's ends including its parent's"
@@ -101,10 +105,7 @@ Between limit bySum w t = natAbs t ≤ 2 * sumLimit limit w
 Between limit byScatter w t = (pos 0 ≤ℤ t) × (t ≤ℤ pos (2 * rootLimit limit w))
 
 pub record TestIn (limit n : ℕ) (test : Test) : Type 0 where
-  -- "on a run inside 1 to n"
-  pub from-1 : 1 ≤ test .on .first
-  pub run-rises : test .on .first ≤ test .on .last
-  pub to-n : test .on .last ≤ n
+  pub run-in : RunIn n (test .on)
   pub threshold-in : Between limit (test .figure) (width (test .on)) (test .threshold)
 
 -- the figures that a tree records, and its tests

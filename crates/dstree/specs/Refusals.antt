@@ -1,9 +1,12 @@
 -- Document 01, the table of refusals, and what document 02 adds to it.
 use Prim.Native.Nat.{ℕ}
-use mathlib.Core.Bool.{Bool}
+use mathlib.Core.Bool.{Bool, not}
 use mathlib.Core.Option.{Option, none, some}
 use mathlib.Core.List.{List, [], _∷_}
+use lib.ListN.{length}
+use lib.Dec.{eqb, ltb}
 use Rattle.integer.specs.Words.{if_then_else_}
+use Rattle.dstree.specs.Measures.{Trace}
 
 -- the table's words. A torn block has a place: "the first block at fault"
 pub data Refusal : Type 0 where
@@ -66,3 +69,12 @@ holds refuses refusal = record { holds = holds; refusal = refusal }
 unfoldable pub firstOf : List Condition → Option Refusal
 firstOf [] = none
 firstOf (c ∷ rest) = let later = firstOf rest in if c .holds then some (c .refusal) else later
+
+-- what every search refuses of its run of samples, which is to be so long, and of its trail, in a library with so many traces and leaves:
+-- 4, 6, 7
+abbrev pub runConditions : ℕ → ℕ → ℕ → Trace → List ℕ → List Condition
+runConditions size traces leaves run trail =
+    not (eqb (length run) size) refuses wrongTrace
+    ∷ eqb traces 0 refuses empty
+    ∷ ltb (length trail) leaves refuses shortTrail
+    ∷ []

@@ -110,8 +110,11 @@ unfoldable pub letters : List ℕ
 letters = 84 ∷ 82 ∷ 67 ∷ 76 ∷ []
 
 -- "In block 0 bytes 4 to 7 hold the letters .., then two bytes each for n, capacity, leaf size, trace count"
+abbrev pub measureBytes : Measures → ℕ → List ℕ
+measureBytes m count = bytesOf 2 (m .n) ++ bytesOf 2 (m .capacity) ++ bytesOf 2 (m .leafSize) ++ bytesOf 2 count
+
 unfoldable pub headOf : Measures → ℕ → List ℕ
-headOf m count = letters ++ bytesOf 2 (m .n) ++ bytesOf 2 (m .capacity) ++ bytesOf 2 (m .leafSize) ++ bytesOf 2 count
+headOf m count = letters ++ measureBytes m count
 
 module _ (f : Format) where
   -- "two's complement"

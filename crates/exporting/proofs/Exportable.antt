@@ -45,6 +45,6 @@ exportable t number rate buffer e =
       low = ltb→lt rate rateLimit (both .0);
       numbered = less;
       few = ok .range .n-high;
-      inside = omega (arith, mul-le-mul-right n less, mul-le-mul-right n most, ok .room .samples-room);
+      inside = omega (arith, mul-le-mul-right n less, mul-le-mul-right n most, ok .room .long .samples-long);
       long = ltb-false (length buffer) (recordingSize n) (two .0);
     }

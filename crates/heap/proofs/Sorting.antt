@@ -11,6 +11,7 @@ use lib.Dec.{leb, eqb}
 use lib.ListN.{length, getD, set}
 use borrow.Author.Tests.{le-leb, lt-leb, leb-true, leb-false, eqb-true, eqb-false}
 use Rattle.integer.specs.Words.{if_then_else_}
+use Rattle.integer.specs.Sorting.{sortedWith, pouredBy}
 use Rattle.heap.specs.Keys.{insertKey, pour, sortedOf}
 
 -- no key of a list is below m
@@ -38,15 +39,15 @@ equal-or-not a b = go (eqb a b) refl where
 -- ---- one key put in
 
 pub insert-nil : (a : ℕ) → insertKey a [] ≡ a ∷ []
-unfolding insertKey
+unfolding sortedWith
 insert-nil a = refl
 
 pub insert-here : (a x : ℕ) (xs : List ℕ) → a ≤ x → insertKey a (x ∷ xs) ≡ a ∷ x ∷ xs
-unfolding insertKey
+unfolding sortedWith
 insert-here a x xs h = rw (le-leb a x h)
 
 pub insert-past : (a x : ℕ) (xs : List ℕ) → x < a → insertKey a (x ∷ xs) ≡ x ∷ insertKey a xs
-unfolding insertKey
+unfolding sortedWith
 insert-past a x xs h = rw (lt-leb a x h)
 
 insert-comm-lt : (a b : ℕ) → a < b → (l : List ℕ) → insertKey a (insertKey b l) ≡ insertKey b (insertKey a l)
@@ -130,45 +131,45 @@ sorted-insert a (x ∷ xs) s =
 -- ---- keys put in one by one
 
 pub pour-nil : (l : List ℕ) → pour [] l ≡ l
-unfolding pour
+unfolding pouredBy
 pour-nil l = refl
 
 pub pour-cons : (x : ℕ) (xs l : List ℕ) → pour (x ∷ xs) l ≡ insertKey x (pour xs l)
-unfolding pour
+unfolding pouredBy
 pour-cons x xs l = refl
 
 pub pour-insert : (xs : List ℕ) (a : ℕ) (l : List ℕ) → pour xs (insertKey a l) ≡ insertKey a (pour xs l)
-unfolding pour
+unfolding pouredBy
 pour-insert [] a l = refl
 pour-insert (x ∷ xs) a l = rw (pour-insert xs a l) (insert-comm x a (pour xs l))
 
 pub pour-pour : (xs ys l : List ℕ) → pour xs (pour ys l) ≡ pour ys (pour xs l)
-unfolding pour
+unfolding pouredBy
 pour-pour [] ys l = refl
 pour-pour (x ∷ xs) ys l = rw (pour-pour xs ys l) (sym (pour-insert ys x (pour xs l)))
 
 pub pour-append : (xs ys l : List ℕ) → pour (xs ++ ys) l ≡ pour xs (pour ys l)
-unfolding pour
+unfolding pouredBy
 pour-append [] ys l = refl
 pour-append (x ∷ xs) ys l = ap (insertKey x) (pour-append xs ys l)
 
 pub pour-cancel : (xs p q : List ℕ) → pour xs p ≡ pour xs q → p ≡ q
-unfolding pour
+unfolding pouredBy
 pour-cancel [] p q e = e
 pour-cancel (x ∷ xs) p q e = pour-cancel xs p q (insert-cancel x (pour xs p) (pour xs q) e)
 
 pub above-pour : (m : ℕ) (xs l : List ℕ) → Above m xs → Above m l → Above m (pour xs l)
-unfolding pour
+unfolding pouredBy
 above-pour m [] l h k = k
 above-pour m (x ∷ xs) l h k = above-insert m x (pour xs l) (h .0) (above-pour m xs l (h .1) k)
 
 pub sorted-pour : (xs l : List ℕ) → SortedKeys l → SortedKeys (pour xs l)
-unfolding pour
+unfolding pouredBy
 sorted-pour [] l s = s
 sorted-pour (x ∷ xs) l s = sorted-insert x (pour xs l) (sorted-pour xs l s)
 
 pub length-pour : (xs l : List ℕ) → length (pour xs l) ≡ length xs + length l
-unfolding pour
+unfolding pouredBy
 length-pour [] l = omega arith
 length-pour (x ∷ xs) l = omega (arith, length-insert x (pour xs l), length-pour xs l)
 
@@ -180,7 +181,7 @@ sorted-same (x ∷ xs) s = rw (pour-cons x xs [], sorted-same xs (s .1)) (insert
 -- ---- a place of a list written anew: the old key went and the new one came
 
 pub set-pour : (l : List ℕ) (i a : ℕ) (r : List ℕ) → i < length l → insertKey (getD l i 0) (pour (set l i a) r) ≡ insertKey a (pour l r)
-unfolding pour
+unfolding pouredBy
 set-pour [] i a r h = absurd (not-suc-le-zero h)
 set-pour (x ∷ xs) zero a r h = insert-comm x a (pour xs r)
 set-pour (x ∷ xs) (suc i) a r h =

@@ -61,15 +61,9 @@ without-work : (t : Tables) (more : List Trace) → TakesAll t more
     → TakesAll (tables (t .control) (t .samples) (t .nodes) (t .links) []) more
 unfolding wellFormed kindsNamed treeIn tracesIn
 without-work t more k =
-    let long = k .long in
     record {
       formed = k .formed;
-      long = record {
-        control-long = long .control-long;
-        samples-long = long .samples-long;
-        nodes-long = long .nodes-long;
-        links-long = long .links-long;
-      };
+      long = k .long;
       room = k .room;
       stored = k .stored;
       each = k .each;

@@ -78,7 +78,7 @@ module _ (part more : Tables) (x : Trace) (w : T (wellFormed part)) (long : Long
     at = lastOf (way tree x)
 
     end : LeafAt tree at
-    end = way-leaf tree x (facts part w .shape .child) some
+    end = way-leaf tree x (facts part w .shape .children .child) some
 
     abbrev numbers : List ℕ
     numbers = numbersIn (nodeAt tree at .kind)
@@ -99,7 +99,7 @@ module _ (part more : Tables) (x : Trace) (w : T (wellFormed part)) (long : Long
         ∙ ap (λ (j : ℕ). joinedBy x tree j (nodeCount whole) (whole .nodes) (whole .links)) (traces-counted same)
         ∙ ap (λ (count : ℕ). joinedBy x tree k count (whole .nodes) (whole .links)) (nodes-counted same)
         ∙ ap₂ (λ (a : List ℤ) (b : List ℕ). treeTables a b (nodeCount part))
-        (widen-more room (more .nodes) (more .links) x (way tree x) (way-inside tree x (facts part w .shape .child) some) (tables-stand part w long))
+        (widen-more room (more .nodes) (more .links) x (way tree x) (way-inside tree x (facts part w .shape .children .child) some) (tables-stand part w long))
         (joined-more (part .links) (more .links) numbers k last-inside (omega (arith, less, room .links-room)))
 
     abbrev stored : List Trace

@@ -165,9 +165,9 @@ module _ (part more : Tables) (long : Long part) where
 pub begins-agree : {part memory : Tables} → Begins part memory → Long part → Agree part memory
 begins-agree {part} {memory} b long = subst (λ (t : Tables). Agree part t) (sym (begins-is part memory b)) (extended-agree part (restOf part memory) long)
 
-pub begins-long : {part memory : Tables} → Begins part memory → Long part → Long memory
-begins-long {part} {memory} b long = subst Long (sym (begins-is part memory b)) (extended-long part (restOf part memory) long)
+pub begins-long : (part memory : Tables) → Begins part memory → Long part → Long memory
+begins-long part memory b long = subst Long (sym (begins-is part memory b)) (extended-long part (restOf part memory) long)
 
 -- the memory holds what its first places do
 pub holds-whole : {part memory : Tables} {m : Measures} {traces : List Trace} → Begins part memory → Holds part m traces → Holds memory m traces
-holds-whole b h = holds-same (begins-agree b (h .long)) (begins-long b (h .long)) h
+holds-whole {part} {memory} b h = holds-same (begins-agree b (h .long)) (begins-long part memory b (h .long)) h

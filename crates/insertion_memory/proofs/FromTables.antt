@@ -24,7 +24,7 @@ use Rattle.insertion_memory.proofs.Represents.{kind-means, ReadsAs, Rep
 
 -- tables are long enough by what a call finds that refuses short ones
 pub long-of : (t : Tables) → Room (lentOf t) (measuresOf t) → Long t
-long-of t room = record { control-long = room .control-room; samples-long = room .samples-room; nodes-long = room .nodes-room; links-long = room .links-room }
+long-of t room = room .long
 
 module _ (t : Tables) (w : T (wellFormed t)) where
   pub facts : Formed sampleLimit (measuresOf t) (traceCount t) (treeIn t)

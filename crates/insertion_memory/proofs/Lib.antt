@@ -1,3 +1,5 @@
+-- Nodes and links that stand for a tree, through each step of adding; what adding means, that it keeps tables well formed, and that it
+-- does the same in a longer memory.
 pub mod ReadBack
 pub mod Following
 pub mod Placing

@@ -143,10 +143,11 @@ module _ (t : Tables) (m : Measures) (range : T (inRange m)) (enough : Room (len
   holds-none = record {
     formed = passes (inRange m) (leb 0 (m .capacity) ∷ true ∷ true ∷ true ∷ true ∷ []) (range, (le→leb 0 (m .capacity) (omega arith), (tt, (tt, (tt, tt)))));
     long = record {
-      control-long = omega (arith, enough .control-room);
-      samples-long = subst (λ (k : ℕ). m .capacity * m .n ≤ k) (sym (fill-length (m .capacity * m .n) (pos 0) (t .samples) (enough .samples-room))) (enough .samples-room);
-      nodes-long = subst (λ (k : ℕ). (2 * m .capacity - 1) * recordPlaces ≤ k) (sym (fill-length ((2 * m .capacity - 1) * recordPlaces) (pos 0) (t .nodes) (enough .nodes-room))) (enough .nodes-room);
-      links-long = subst (λ (k : ℕ). m .capacity ≤ k) (sym (fill-length {A = ℕ} (m .capacity) 0 (t .links) (enough .links-room))) (enough .links-room);
+      control-long = omega (arith, enough .long .control-long);
+      samples-long = subst (λ (k : ℕ). m .capacity * m .n ≤ k) (sym (fill-length (m .capacity * m .n) (pos 0) (t .samples) (enough .long .samples-long))) (enough .long .samples-long);
+      nodes-long = subst (λ (k : ℕ). (2 * m .capacity - 1) * recordPlaces ≤ k)
+          (sym (fill-length ((2 * m .capacity - 1) * recordPlaces) (pos 0) (t .nodes) (enough .long .nodes-long))) (enough .long .nodes-long);
+      links-long = subst (λ (k : ℕ). m .capacity ≤ k) (sym (fill-length {A = ℕ} (m .capacity) 0 (t .links) (enough .long .links-long))) (enough .long .links-long);
     };
     measures-are = refl;
     traces-are = refl;

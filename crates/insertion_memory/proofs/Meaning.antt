@@ -113,7 +113,7 @@ module _ (t : Tables) (x : Trace) (w : T (wellFormed t)) (long : Long t) (size :
     wide = widenAll x met (treeIn t)
 
     end : LeafAt (treeIn t) at
-    end = way-leaf (treeIn t) x (facts t w .shape .child) some
+    end = way-leaf (treeIn t) x (facts t w .shape .children .child) some
 
     inside : at < length wide
     inside = omega (arith, widen-length x met (treeIn t), end .inside)
@@ -124,7 +124,7 @@ module _ (t : Tables) (x : Trace) (w : T (wellFormed t)) (long : Long t) (size :
     pub joined-tables : Represents n c (t .nodes) (t .links) (suc k) (joinedTables t x) (join k at wide)
     unfolding joinedTables
     joined-tables = join-represents space-of at (numbersIn (nodeAt (treeIn t) at .kind)) inside is-leaf less
-        (widen-represents space-of x met (way-inside (treeIn t) x (facts t w .shape .child) some) (tables-stand t w long))
+        (widen-represents space-of x met (way-inside (treeIn t) x (facts t w .shape .children .child) some) (tables-stand t w long))
 
     abbrev stored : List Trace
     stored = tracesIn t ++ (x ∷ [])

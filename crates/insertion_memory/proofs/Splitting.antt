@@ -134,7 +134,7 @@ module _ {n c : ℕ} {nodes : List ℤ} {links : List ℕ} (space : Space n c no
     rightRecord = leafRecord (segmentsOf (cut .childEnds) (tracesOf traces (cut .right))) (getD (cut .right) 0 0)
 
     reads-parent : ReadsAs L₂ parentRecord (node (nodeAt tree at .segments) (inner (cut .test) m (suc m)))
-    reads-parent = reads-inner (cut .test) m (suc m) (omega (arith, good .run-in .some-sample, good .run-in .to-n, space .narrow))
+    reads-parent = reads-inner (cut .test) m (suc m) (omega (arith, good .run-in .rises, good .run-in .to-n, space .narrow))
         (omega (arith, good .run-in .to-n, space .narrow)) (omega (arith, two-more, space .small)) (omega (arith, two-more, space .small)) (s .reads at inside)
 
     reads-left : ReadsAs L₂ leftRecord (newLeaf traces (cut .childEnds) (cut .left))

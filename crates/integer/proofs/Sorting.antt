@@ -12,7 +12,7 @@ use native.Mathlib.Omega.{arith}
 use lib.ListN.{length, getD, take, drop, length-take}
 use lib.Dec.{T}
 use Rattle.integer.specs.Words.{if_then_else_}
-use Rattle.integer.specs.Sorting.{sortedWith, sortedBy, atPlace, Ordered, ordered-none, ordered-more}
+use Rattle.integer.specs.Sorting.{sortedWith, pouredBy, sortedBy, atPlace, Ordered, ordered-none, ordered-more}
 use Rattle.integer.proofs.Lists.{In, first, later, in-nil, in-cons, in-front, in-getD, All, all-none, all-more, all-at, all-in}
 use Rattle.integer.proofs.Lists.{all-mono}
 use Rattle.integer.proofs.Lists.{all-take, Apart, apart-none, apart-more}
@@ -116,7 +116,7 @@ module _ {A : Type 0} (before : A → A → Bool) where
       by false ih = later ih
 
   pub from-sorted : {b : A} (l : List A) → In b (sortedBy before l) → In b l
-  unfolding sortedBy
+  unfolding pouredBy
   from-sorted [] i = i
   from-sorted {b} (a ∷ l) i = by (from-inserted a (sortedBy before l) i) (from-sorted l)
     where
@@ -125,7 +125,7 @@ module _ {A : Type 0} (before : A → A → Bool) where
       by (inr j) ih = later (ih j)
 
   pub in-sorted : {b : A} {l : List A} → In b l → In b (sortedBy before l)
-  unfolding sortedBy
+  unfolding pouredBy
   in-sorted {b} (first {rest}) = inserted-here b (sortedBy before rest)
   in-sorted (later {b = a} i) = inserted-other a (in-sorted i)
 
@@ -140,7 +140,7 @@ module _ {A : Type 0} (before : A → A → Bool) where
       by false e = ap suc e
 
   pub sorted-length : (l : List A) → length (sortedBy before l) ≡ length l
-  unfolding sortedBy
+  unfolding pouredBy
   sorted-length [] = refl
   sorted-length (a ∷ l) = inserted-length a (sortedBy before l) ∙ ap suc (sorted-length l)
 
@@ -217,30 +217,20 @@ module _ {A : Type 0} {before : A → A → Bool} (linear : LinearOrder before) 
   abbrev pub keep : ℕ → List A → A → List A
   keep k l a = take k (sortedWith before a l)
 
-  -- elements put into a list, from the right on
-  poured : List A → List A → List A
-  poured [] l = l
-  poured (a ∷ more) l = sortedWith before a (poured more l)
-
-  poured-past : (a : A) (more l : List A) → poured more (sortedWith before a l) ≡ sortedWith before a (poured more l)
-  unfolding poured
+  poured-past : (a : A) (more l : List A) → pouredBy before more (sortedWith before a l) ≡ sortedWith before a (pouredBy before more l)
+  unfolding pouredBy
   poured-past a [] l = refl
-  poured-past a (b ∷ more) l = ap (sortedWith before b) (poured-past a more l) ∙ inserted-two b a (poured more l)
+  poured-past a (b ∷ more) l = ap (sortedWith before b) (poured-past a more l) ∙ inserted-two b a (pouredBy before more l)
 
-  poured-nil : (more : List A) → poured more [] ≡ sortedBy before more
-  unfolding poured sortedBy
-  poured-nil [] = refl
-  poured-nil (a ∷ more) = ap (sortedWith before a) (poured-nil more)
-
-  keep-poured : (k : ℕ) (more l : List A) → foldl (keep k) (take k l) more ≡ take k (poured more l)
-  unfolding poured
+  keep-poured : (k : ℕ) (more l : List A) → foldl (keep k) (take k l) more ≡ take k (pouredBy before more l)
+  unfolding pouredBy
   keep-poured k [] l = refl
   keep-poured k (a ∷ more) l =
       ap (λ (m : List A). foldl (keep k) m more) (take-inserted before k a l) ∙ keep-poured k more (sortedWith before a l)
       ∙ ap (take k) (poured-past a more l)
 
   pub keep-sorted : (k : ℕ) (more : List A) → foldl (keep k) [] more ≡ take k (sortedBy before more)
-  keep-sorted k more = by k ∙ keep-poured k more [] ∙ ap (take k) (poured-nil more)
+  keep-sorted k more = by k ∙ keep-poured k more []
     where
       by : (k : ℕ) → foldl (keep k) [] more ≡ foldl (keep k) (take k []) more
       by zero = refl
@@ -278,7 +268,7 @@ module _ {A : Type 0} {before : A → A → Bool} (linear : LinearOrder before) 
 
   -- of elements that differ in a key
   pub sorted-sorted : (key : A → ℕ) {l : List A} → Apart key l → Sorted before (sortedBy before l)
-  unfolding sortedBy
+  unfolding pouredBy
   sorted-sorted key apart-none = sorted-none
   sorted-sorted key (apart-more {a} {l} h p) = inserted-sorted a (sorted-sorted key p) (λ i. h a (from-sorted before l i) refl)
 

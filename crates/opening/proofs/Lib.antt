@@ -1,1 +1,2 @@
+-- What is known of an opening that nothing refuses, and what it leaves.
 pub mod Answered

@@ -1,1 +1,2 @@
+-- What the call that opens a library answers.
 pub mod Opened

@@ -28,7 +28,7 @@ pub records-fit : (t : Tables) → firstOf (madeConditions t) ≡ none
 unfolding recordsNeeded
 records-fit t fine =
     let ok = accepted t fine in
-    (records-room t (ok .formed) (ok .room .nodes-room), records-few t (ok .formed) (ok .room .nodes-room))
+    (records-room t (ok .formed) (ok .room .long .nodes-long), records-few t (ok .formed) (ok .room .long .nodes-long))
 
 some-of : (k : ℕ) → (k ≡ 0 → ⊥) → 0 < k
 some-of k f = omega (arith, f)
@@ -50,10 +50,7 @@ taken t query trail tables-fine query-fine =
       work-room = ok .room .work-room;
       ready = record {
         formed = ok .formed;
-        control-long = ok .room .control-room;
-        samples-long = ok .room .samples-room;
-        nodes-long = ok .room .nodes-room;
-        links-long = ok .room .links-room;
+        long = ok .room .long;
         some-trace = some-of (traceCount t) (λ q. eqb-false (traceCount t) 0 (two .0) q);
         same-length = eqb-true (length query) (measuresOf t .n) (not-false _ (one .0));
         trail-long = ltb-false (length trail) (length (leaves (treeIn t))) (three .0);

@@ -1,3 +1,4 @@
+-- The rules for records as loops test them: figures, segments, ends, heads, a node and its children.
 pub mod Limits
 pub mod Merging
 pub mod Segments

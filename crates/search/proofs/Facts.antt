@@ -89,7 +89,7 @@ module _ (t : Tables) (query : Trace) (trail : ℕ) (r : Ready t query trail) wh
   record-room j h =
       let room : suc j * recordPlaces ≤ recordsNeeded (measuresOf t) * recordPlaces =
       mul-le-mul-right recordPlaces (omega (arith, h, nodes-needed)) in
-      omega (arith, room, r .nodes-long)
+      omega (arith, room, r .long .nodes-long)
 
   -- the records may be gone through
   pub walkable : Walkable (t .nodes) (nodeCount t) query
@@ -118,8 +118,8 @@ module _ (t : Tables) (query : Trace) (trail : ℕ) (r : Ready t query trail) wh
       wide = in-range .n-low;
       narrow = in-range .n-high;
       few = omega (arith, rules .room, in-range .capacity-high);
-      samples-room = omega (arith, r .samples-long, mul-le-mul-right (measuresOf t .n) (rules .room));
-      links-room = omega (arith, r .links-long, rules .room);
+      samples-room = omega (arith, r .long .samples-long, mul-le-mul-right (measuresOf t .n) (rules .room));
+      links-room = omega (arith, r .long .links-long, rules .room);
       rising = tables-rise t (r .formed);
       inside = rules .shape .numbers head j (in-is (subst (In head) (sym (tree-numbers t j h e)) head-first));
     }

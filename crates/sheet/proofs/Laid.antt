@@ -9,9 +9,8 @@ use lib.ListN.{length, getD, take, drop, set, replicate, length-append, length-r
 use lib.Seq.{sets, sets-eq, take-at, take-suc, take-suc-set, take-take, drop-append-add, length-take-le}
 use Rattle.dstree.proofs.SheetFields.{bytes-length}
 use Rattle.dstree.proofs.SheetBlocks.{check-front}
-use Rattle.dstree.specs.Sheet.{bytesOf, filledTo, blockSize, checkedSize, carriedSize, checkOf, sealed, block, letters, headOf}
+use Rattle.dstree.specs.Sheet.{bytesOf, filledTo, blockSize, checkedSize, carriedSize, checkOf, sealed, block, letters, measureBytes, headOf}
 use Rattle.dstree.specs.Measures.{Measures}
-use Rattle.sheet.specs.Codes.{measureBytes}
 
 -- ---- stores
 

@@ -1,3 +1,4 @@
+-- A block's bytes as code puts, adds up and reads them.
 pub mod Numbers
 pub mod Laid
 pub mod Coded

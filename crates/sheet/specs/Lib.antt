@@ -1,3 +1,3 @@
--- What the writers of a block put, piece by piece.
+-- The samples that bytes are, and how bytes are added up for the check.
 pub mod Codes
 pub mod Columns

@@ -11,8 +11,7 @@ ghost use Prim.Native.Nat.{_≤_};
 ghost use lib.ListN.{length, take, replicate};
 ghost use lib.Seq.{sets};
 ghost use Rattle.dstree.specs.Measures.{measures};
-ghost use Rattle.dstree.specs.Sheet.{bytesOf, filledTo, blockSize, checkedSize, narrow, sealed, block, headOf, codedAll};
-ghost use Rattle.sheet.specs.Codes.{measureBytes};
+ghost use Rattle.dstree.specs.Sheet.{bytesOf, filledTo, blockSize, checkedSize, narrow, sealed, block, measureBytes, headOf, codedAll};
 
 // "All else is 0": before a block's fields are put, every byte is 0.
 fn zero(part: &mut [u8])

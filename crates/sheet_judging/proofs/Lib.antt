@@ -1,3 +1,4 @@
+-- The conditions of a sheet, block by block, and where its samples stand.
 pub mod Places
 pub mod Torn
 pub mod AllZero

@@ -131,10 +131,12 @@ roomy lengths bytes r =
     record {
       range = range bytes (good bytes (sound bytes (r .fine)));
       room = record {
-        control-room = r .room .control-room;
-        samples-room = omega (arith, product, r .room .samples-room);
-        nodes-room = omega (arith, c, r .room .nodes-room);
-        links-room = omega (arith, c, r .room .links-room);
+        long = record {
+          control-long = r .room .long .control-long;
+          samples-long = omega (arith, product, r .room .long .samples-long);
+          nodes-long = omega (arith, c, r .room .long .nodes-long);
+          links-long = omega (arith, c, r .room .long .links-long);
+        };
         work-room = omega (arith, c, r .room .work-room);
       };
     }

@@ -37,10 +37,7 @@ module _ (t : Tables) (m : Measures) (earlier : List Trace) (query : Trace) (h :
   pub ready : (trail : ℕ) → 2 * length earlier - 1 ≤ trail → Ready t query trail
   ready trail room = record {
     formed = h .formed;
-    control-long = h .long .control-long;
-    samples-long = h .long .samples-long;
-    nodes-long = h .long .nodes-long;
-    links-long = h .long .links-long;
+    long = h .long;
     some-trace = omega (arith, count-is t, ap length (h .traces-are), one);
     same-length = size ∙ ap (λ (k : Measures). k .n) (sym (h .measures-are));
     trail-long = omega (arith, leaves-most (treeIn t), ap length (h .tree-is), node-count sampleLimit m earlier library, room);

@@ -16,7 +16,7 @@ without-work : (control : List ℕ) (samples nodes : List ℤ) (links work : Lis
 unfolding wellFormed kindsNamed treeIn tracesIn
 without-work control samples nodes links work m h = record {
   formed = h .formed;
-  long = record { control-long = h .long .control-long; samples-long = h .long .samples-long; nodes-long = h .long .nodes-long; links-long = h .long .links-long };
+  long = h .long;
   measures-are = h .measures-are;
   traces-are = h .traces-are;
   tree-is = h .tree-is;

@@ -32,6 +32,6 @@ fillable t sheet e =
     record {
       count-few = omega (arith, most, ok .range .capacity-high);
       n-few = ok .range .n-high;
-      samples-long = omega (arith, mul-le-mul-right (measuresOf t .n) most, ok .room .samples-room);
+      samples-long = omega (arith, mul-le-mul-right (measuresOf t .n) most, ok .room .long .samples-long);
       sheet-long = ltb-false (length sheet) need (long .0);
     }

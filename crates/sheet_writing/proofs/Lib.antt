@@ -1,3 +1,4 @@
+-- A sheet as it is filled block by block, and how writing ends.
 pub mod Runs
 pub mod BlockByBlock
 pub mod Stored

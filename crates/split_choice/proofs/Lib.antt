@@ -1,3 +1,4 @@
+-- A leaf's candidates as code tries them: sides, thresholds, cuts, and the best of those tried.
 pub mod Marked
 pub mod Sided
 pub mod Seen

@@ -12,11 +12,11 @@ use Rattle.integer.proofs.Lists.{fold-append}
 use Rattle.dstree.specs.Measures.{Trace}
 use Rattle.dstree.specs.Figures.{run}
 use Rattle.dstree.specs.Node.{figureOf}
-use Rattle.dstree.specs.Adding.{Candidate, candidates, candidatesFrom, byEither, halves, Split, thresholdOf, testOf, splitBy, parts, gain, bestOf, best, tracesOf}
+use Rattle.dstree.specs.Adding.{Candidate, candidates, candidatesFrom, byEither, halves, Split, thresholdOf, testOf, splitByTest, splitBy, parts, gain, bestOf, best, tracesOf}
 use Rattle.dstree.proofs.Parting.{parting}
 use Rattle.tables.specs.Runs.{figureBy}
 use Rattle.tables.specs.Runs.{testBy}
-use Rattle.split_choice.specs.Choosing.{childEnds, candidateBy, splitByTest, splitOf, chosenBy, choiceOf, betterOf, betterSplit, tryOne, tried, TrialFits, ChoiceFound, ChoiceSound}
+use Rattle.split_choice.specs.Choosing.{childEnds, candidateBy, splitOf, chosenBy, choiceOf, betterOf, betterSplit, tryOne, tried, TrialFits, ChoiceFound, ChoiceSound}
 use Rattle.split_choice.specs.declared.choice.Trial.{Trial}
 use Rattle.split_choice.specs.declared.choice.Choice.{Choice}
 

@@ -1,20 +1,20 @@
 -- The best candidate so far, as code keeps it, and what one candidate more makes of it.
 use Prim.Native.Nat.{ℕ, _*_, _≤_, _<_}
 use mathlib.Core.Path.{_≡_}
-use mathlib.Core.Bool.{Bool, true, false, not}
+use mathlib.Core.Bool.{Bool, true, false}
 use mathlib.Core.Option.{Option, none, some}
-use mathlib.Core.List.{List, [], foldl, map}
+use mathlib.Core.List.{List, foldl, map}
 use lib.IntN.{ℤ, pos, natAbs}
-use lib.ListN.{length, getD, take}
+use lib.ListN.{length, take}
 use lib.Signed.{ltZ}
 use lib.Dec.{eqb}
-use Rattle.integer.specs.Words.{if_then_else_, those, leastℤ, greatestℤ}
+use Rattle.integer.specs.Words.{if_then_else_, leastℤ, greatestℤ}
 use Rattle.integer.specs.Lists.{In}
 use Rattle.segment.specs.Limits.{scatterMost, spreadMost}
 use Rattle.dstree.specs.Measures.{Trace, mostSamples}
 use Rattle.dstree.specs.Figures.{run}
-use Rattle.dstree.specs.Node.{Test, figureOf, goesLeft, mostSegments}
-use Rattle.dstree.specs.Adding.{Candidate, cutAt, tracesOf, Split, splitBy, parts, gain, spread}
+use Rattle.dstree.specs.Node.{figureOf, mostSegments}
+use Rattle.dstree.specs.Adding.{Candidate, cutAt, tracesOf, Split, splitByTest, splitBy, parts, gain, spread}
 use Rattle.dstree.specs.Formed.{Rises}
 use Rattle.tables.specs.Walk.{storedIn, numbersOf}
 use Rattle.tables.specs.Runs.{figureBy, Inside}
@@ -36,15 +36,6 @@ trialBy first last cut column flag = record { first = first; last = last; «by_s
 -- a trial as a candidate of a node with these right ends
 abbrev pub candidateBy : List ℕ → Trial → Candidate
 candidateBy all c = record { on = run (c .first) (c .last); figure = figureBy (c .«by_scatter»); childEnds = childEnds (c .cut) all }
-
--- what a test makes of a leaf
-abbrev pub splitByTest : List Trace → List ℕ → Test → List ℕ → Split
-splitByTest stored numbers test ends = record {
-  test = test;
-  childEnds = ends;
-  left = those (λ (number : ℕ). goesLeft test (getD stored number [])) numbers;
-  right = those (λ (number : ℕ). not (goesLeft test (getD stored number []))) numbers;
-}
 
 -- the split of a choice that was found
 abbrev pub splitOf : List Trace → List ℕ → List ℕ → Choice → Split

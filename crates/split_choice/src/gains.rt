@@ -10,7 +10,7 @@ ghost use lib.IntN.{pos, _-ℤ_};
 ghost use lib.ListN.{length, take};
 ghost use Rattle.segment.specs.Limits.{spreadMost};
 ghost use Rattle.dstree.specs.Adding as adding;
-ghost use Rattle.dstree.specs.Adding.{spread};
+ghost use Rattle.dstree.specs.Adding.{splitByTest, spread};
 ghost use Rattle.dstree.specs.Formed.{Rises};
 ghost use Rattle.dstree.specs.Node.{mostSegments};
 ghost use Rattle.dstree.specs.Measures.{mostTraces};
@@ -19,7 +19,7 @@ ghost use Rattle.tables.specs.Runs.{Inside};
 ghost use Rattle.leaf_figures.specs.Ends.{endsOf, EndsRoom};
 ghost use Rattle.leaf_figures.specs.Rows.{tracesAt, TracesListed, Rows};
 ghost use Rattle.split_choice.specs.Siding.{trialTest, sideOf};
-ghost use Rattle.split_choice.specs.Choosing.{childEnds, TrialFits, Leaf, splitByTest};
+ghost use Rattle.split_choice.specs.Choosing.{childEnds, TrialFits, Leaf};
 
 // Twice the leaf's spread less both children's. It is a number with a sign: children's spreads can be the larger ones.
 pub fn gain(whole: u64, left: u64, right: u64) -> i64

@@ -162,11 +162,11 @@ module _ (part : Tables) (m : Measures) (room : Room (lentOf part) m) where
   pub opened-lent : lentOf (opened part m) ≡ lentOf part
   unfolding opened
   opened-lent =
-      let e : suc (suc (suc (suc (suc (length (drop controlFields (part .control))))))) ≡ length (part .control) = omega (arith, length-drop controlFields (part .control), room .control-room) in
+      let e : suc (suc (suc (suc (suc (length (drop controlFields (part .control))))))) ≡ length (part .control) = omega (arith, length-drop controlFields (part .control), room .long .control-long) in
       rw (
         e,
-        fill-length (samplesNeeded m) (pos 0) (part .samples) (room .samples-room),
-        fill-length (recordsNeeded m * recordPlaces) (pos 0) (part .nodes) (room .nodes-room),
-        fill-length {A = ℕ} (linksNeeded m) 0 (part .links) (room .links-room),
+        fill-length (samplesNeeded m) (pos 0) (part .samples) (room .long .samples-long),
+        fill-length (recordsNeeded m * recordPlaces) (pos 0) (part .nodes) (room .long .nodes-long),
+        fill-length {A = ℕ} (linksNeeded m) 0 (part .links) (room .long .links-long),
         fill-length {A = ℕ} (workNeeded m) 0 (part .work) (room .work-room),
       )

@@ -25,10 +25,12 @@ room-of lengths m control others =
     let two = neither (ltb (lengths .samples) (samplesNeeded m) || ltb (lengths .nodes) (recordsNeeded m * recordPlaces)) _ (three .0) in
     let one = neither (ltb (lengths .samples) (samplesNeeded m)) _ (two .0) in
     record {
-      control-room = ltb-false _ _ control;
-      samples-room = ltb-false _ _ (one .0);
-      nodes-room = ltb-false _ _ (one .1);
-      links-room = ltb-false _ _ (two .1);
+      long = record {
+        control-long = ltb-false _ _ control;
+        samples-long = ltb-false _ _ (one .0);
+        nodes-long = ltb-false _ _ (one .1);
+        links-long = ltb-false _ _ (two .1);
+      };
       work-room = ltb-false _ _ (three .1);
     }
 
@@ -47,7 +49,8 @@ lends t e =
     let one = none-first (controlShort layout (lentOf t)) _ _ e in
     let two = none-first (not (inRange (measuresOf t))) _ _ (one .1) in
     let ok = lent-long-enough (lentOf t) (measuresOf t) e in
-    record { control-long = ok .room .control-room; measured = not-false _ (two .0); nodes-long = ok .room .nodes-room; links-long = ok .room .links-room }
+    let long = ok .room .long in
+    record { control-long = long .control-long; measured = not-false _ (two .0); nodes-long = long .nodes-long; links-long = long .links-long }
 
 -- what holds of tables that every call takes: well formed, with measures in range that they are long enough for
 pub record Accepted (t : Tables) : Type 0 where

@@ -1,3 +1,4 @@
+-- What holds of lent tables, whatever call works on them: fields and records, lists by links, what they stand for, their first places.
 pub mod Fill
 pub mod Frame
 pub mod Small

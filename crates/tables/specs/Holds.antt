@@ -1,21 +1,17 @@
 -- Tables that hold a library: made tables, with the tree that document 01's steps make of their traces.
-use Prim.Native.Nat.{_*_, _≤_}
 use mathlib.Core.Path.{_≡_}
 use mathlib.Core.List.{List}
 use lib.ListN.{length}
 use lib.Dec.{T}
-use Rattle.dstree.specs.Measures.{Trace, Measures, samplesNeeded, recordsNeeded, linksNeeded}
+use Rattle.dstree.specs.Measures.{Trace, Measures}
 use Rattle.dstree.specs.Adding.{treeOf}
-use Rattle.tables.specs.Layout.{controlFields, recordPlaces}
 use Rattle.tables.specs.Tables.{Tables, measuresOf}
 use Rattle.tables.specs.View.{treeIn, tracesIn, wellFormed}
+use Rattle.tables.specs.Judge.{LongFor}
 
--- tables with the places that their measures need. (Search work holds nothing of a library)
-pub record Long (t : Tables) : Type 0 where
-  pub control-long : controlFields ≤ length (t .control)
-  pub samples-long : samplesNeeded (measuresOf t) ≤ length (t .samples)
-  pub nodes-long : recordsNeeded (measuresOf t) * recordPlaces ≤ length (t .nodes)
-  pub links-long : linksNeeded (measuresOf t) ≤ length (t .links)
+-- tables with the places that their measures need, whatever the search work
+abbrev pub Long : Tables → Type 0
+Long t = LongFor (measuresOf t) (length (t .control)) (length (t .samples)) (length (t .nodes)) (length (t .links))
 
 -- tables that hold these measures and traces, and nothing is spoiled
 pub record Holds (t : Tables) (m : Measures) (traces : List Trace) : Type 0 where

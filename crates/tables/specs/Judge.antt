@@ -30,7 +30,7 @@ lentConditionsOf lengths m =
 
 -- ---- what holds where nothing of that refuses
 
--- "n 1 to 256, capacity 1 to 4,096, leaf size 1 to 64"
+-- "n from 1 to 256. Capacity is 1 to 4,096 traces, leaf size 1 to 64"
 pub record InRange (m : Measures) : Type 0 where
   pub n-low : 1 ≤ m .n
   pub n-high : m .n ≤ mostSamples
@@ -39,12 +39,17 @@ pub record InRange (m : Measures) : Type 0 where
   pub leaf-low : 1 ≤ m .leafSize
   pub leaf-high : m .leafSize ≤ mostLeaf
 
--- every table has the places that the measures need
+-- control record, samples, nodes and links, of these lengths, have the places that the measures need. (Search work holds nothing of a
+-- library)
+pub record LongFor (m : Measures) (control samples nodes links : ℕ) : Type 0 where
+  pub control-long : controlFields ≤ control
+  pub samples-long : samplesNeeded m ≤ samples
+  pub nodes-long : recordsNeeded m * recordPlaces ≤ nodes
+  pub links-long : linksNeeded m ≤ links
+
+-- .. and search work, too
 pub record Room (lengths : Lent) (m : Measures) : Type 0 where
-  pub control-room : controlFields ≤ lengths .control
-  pub samples-room : samplesNeeded m ≤ lengths .samples
-  pub nodes-room : recordsNeeded m * recordPlaces ≤ lengths .nodes
-  pub links-room : linksNeeded m ≤ lengths .links
+  pub long : LongFor m (lengths .control) (lengths .samples) (lengths .nodes) (lengths .links)
   pub work-room : workNeeded m ≤ lengths .work
 
 pub record LongEnough (lengths : Lent) (m : Measures) : Type 0 where

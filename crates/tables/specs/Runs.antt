@@ -6,6 +6,7 @@ use lib.IntN.{ℤ}
 use lib.ListN.{length}
 use Rattle.dstree.specs.Figures.{run}
 use Rattle.dstree.specs.Node.{Figure, bySum, byScatter, Test}
+use Rattle.dstree.specs.Formed as formed
 use Rattle.dstree.specs.Measures.{mostSamples}
 
 -- code names a figure by a flag
@@ -17,11 +18,9 @@ figureBy true = byScatter
 abbrev pub testBy : ℕ → ℕ → Bool → ℤ → Test
 testBy first last flag threshold = record { on = run first last; figure = figureBy flag; threshold = threshold }
 
--- a run inside 1 to n
-pub record Inside (n first last : ℕ) : Type 0 where
-  pub from-1 : 1 ≤ first
-  pub rises : first ≤ last
-  pub to-n : last ≤ n
+-- a run inside 1 to n, by its two samples
+abbrev pub Inside : ℕ → ℕ → ℕ → Type 0
+Inside n first last = formed.RunIn n (run first last)
 
 -- .. of a trace of n samples, at most 256
 pub record RunOf (n first last : ℕ) : Type 0 where

@@ -1,3 +1,4 @@
+-- Why the test by marks is the definition of well-formed tables.
 pub mod Growth
 pub mod Chains
 pub mod ByKind

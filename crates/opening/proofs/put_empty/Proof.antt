@@ -39,7 +39,7 @@ module _ (c : tie.After-samples-needed) where
   samples-are = c .samples-needed .ensures (start (c .before .before) .args .leaf-size)
 
 zero-samples-requires : tie.Need-zero-samples-requires
-zero-samples-requires c κs = rw (samples-are c) (start (c .before .before) .pre .room .samples-room)
+zero-samples-requires c κs = rw (samples-are c) (start (c .before .before) .pre .room .long .samples-long)
 
 -- once the samples are zeroed
 abbrev recordsAt : tie.After-zero-nodes-arg → tie.After-records-needed
@@ -58,7 +58,7 @@ afterNodes c = c .before .before .before
 
 zero-links-requires : tie.Need-zero-links-requires
 unfolding linksNeeded
-zero-links-requires c κs = start (recordsAt (afterNodes c)) .pre .room .links-room
+zero-links-requires c κs = start (recordsAt (afterNodes c)) .pre .room .long .links-long
 
 -- once the links are zeroed
 abbrev afterLinks : tie.After-zero-work-arg → tie.After-zero-links-arg
@@ -87,7 +87,7 @@ cast-write-control-3 : tie.Need-cast-write-control-3
 cast-write-control-3 c = let r = start (recordsLast c) .pre .range in omega arith
 
 write-control-requires : tie.Need-write-control-requires
-write-control-requires c κs = start (recordsLast c) .pre .room .control-room
+write-control-requires c κs = start (recordsLast c) .pre .room .long .control-long
 
 returns : tie.Need-returns
 unfolding linksNeeded recordsNeeded workNeeded

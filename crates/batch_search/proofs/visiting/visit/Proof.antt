@@ -30,7 +30,7 @@ abbrev Inv-loop : tie.InvT-loop
 Inv-loop control samples nodes links queries many i sums squares work₀ bests₀ marks₀ leaves₀ n query w₀ r₀ work bests marks waiting read =
     let t = withoutWork control samples nodes links in
     BatchState t queries many i (shapeIn nodes (nodeCount t)) bests₀ marks₀ leaves₀ work bests marks waiting read
-        × (length work ≡ nodeCount t)
+    × (length work ≡ nodeCount t)
 
 abbrev μ-loop : tie.MeasureT-loop
 μ-loop control samples nodes links queries many i sums squares work₀ bests₀ marks₀ leaves₀ n query w₀ r₀ work bests marks waiting read =

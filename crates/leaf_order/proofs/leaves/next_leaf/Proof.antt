@@ -205,7 +205,7 @@ module _ (o : tie.After-open-node Inv-loop μ-loop) where
       let s = from a in
       subst
       (λ (m : ℕ). ChildrenPushed (shapeIn (nodes s) m) (query s) (turn a .loop .n) (recordOf (nodes s) (keyNumber (key a)))
-          (keyBound (key a))
+      (keyBound (key a))
       (turn a .loop .work) work′)
       (long a) (o .open-node .ensures)
 

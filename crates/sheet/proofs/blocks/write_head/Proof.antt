@@ -6,8 +6,7 @@ use native.Mathlib.Omega.{arith}
 use lib.ListN.{take}
 use lib.Seq.{sets}
 use Rattle.dstree.specs.Measures.{measures}
-use Rattle.dstree.specs.Sheet.{checkedSize, narrow, letters, headOf, sealed}
-use Rattle.sheet.specs.Codes.{measureBytes}
+use Rattle.dstree.specs.Sheet.{checkedSize, narrow, letters, measureBytes, headOf, sealed}
 use Rattle.dstree.proofs.SheetWritten.{head-length}
 use Rattle.sheet.proofs.Laid.{block-is, head-put}
 use borrow.Author.Needs.{needs}

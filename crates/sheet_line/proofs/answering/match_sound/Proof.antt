@@ -10,10 +10,12 @@ unfolding samplesNeeded recordsNeeded linksNeeded workNeeded
 match-in-requires c κs = record {
   fine = c .before .before .before .before .before .before .pre;
   room = record {
-    control-room = omega arith;
-    samples-room = omega arith;
-    nodes-room = omega arith;
-    links-room = omega arith;
+    long = record {
+      control-long = omega arith;
+      samples-long = omega arith;
+      nodes-long = omega arith;
+      links-long = omega arith;
+    };
     work-room = omega arith;
   };
 }

@@ -1,3 +1,3 @@
 pub mod Conditions
 pub mod Ready
-pub mod Same
+pub mod Joins

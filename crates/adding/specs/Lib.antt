@@ -1,4 +1,3 @@
--- What adding answers, what a stored trace does to nodes and links, and tables that take a trace.
+-- What adding answers, and tables that take a trace.
 pub mod Answered
-pub mod Inserting
 pub mod Putting

@@ -1,62 +1,66 @@
 // A stored trace joins the tree: the first one makes leaf 0, a later one goes down, joins a leaf, and leaves above the leaf size split.
+// Its samples stand behind those of the traces before it.
 
+use tables::control::field;
+use tables::numbers::wide;
 use tables::places::FIRST;
+use tables::places::LEAF_SIZE;
 use tables::places::NODE_COUNT;
 use tables::places::TRACE_COUNT;
 ghost use mathlib.Core.Path.{_≡_};
-ghost use Prim.Native.Nat.{suc, _≤_};
+ghost use mathlib.Core.List.{[]};
+ghost use Prim.Native.Nat.{_≤_, _<_};
 ghost use lib.ListN.{length, set};
 ghost use Rattle.tables.specs.Layout.{controlFields, traceCountPlace, nodeCountPlace};
-ghost use Rattle.tables.specs.View.{smallMost};
-ghost use Rattle.tables.specs.Walk.{storedIn};
-ghost use Rattle.insertion_memory.specs.Memory.{treeTables, splitAllOf};
-ghost use Rattle.insertion.specs.Way.{leafBy};
-ghost use Rattle.adding.specs.Inserting.{joinedBy, insertedBy, Joins, Inserts};
+ghost use Rattle.tables.specs.Tables as t;
+ghost use Rattle.tables.specs.Tables.{tables};
+ghost use Rattle.tables.specs.View.{smallMost, traceIn};
+ghost use Rattle.insertion_memory.specs.Memory.{treeTables, treeTablesAfter};
+ghost use Rattle.adding.specs.Putting.{Takes};
 
-// A later trace. Its number is k, the number of traces before it, and its samples are stored. The answer is how many nodes there are then.
+// A later trace. The answer is how many nodes there are then.
 pub fn insert_more(
+    control: &[u16],
+    samples: &[i16],
     nodes: &mut [i64],
     links: &mut [u16],
-    samples: &[i16],
     trace: &[i16],
-    n: usize,
-    k: usize,
-    leaf_size: usize,
-    count: usize,
 ) -> usize
-    requires { ⌜ Joins (now nodes) (now links) (now samples) n k (now trace) count ⌝ }
-    ensures { λ r. ⌜ treeTables (now (nodes .exit)) (now (links .exit)) r
-        ≡ splitAllOf «leaf_size» (storedIn (now (samples .entry)) n (suc k))
-        (joinedBy (now (nodes .entry)) (now (links .entry)) k (now (trace .entry)) count)
-        (leafBy (now (nodes .entry)) (now (trace .entry)) count) ⌝ }
+    requires { ⌜ Takes (now control) (now samples) (now nodes) (now links) (now trace)
+        × (traceIn (now samples) (length (now trace)) (t.field (now control) traceCountPlace) ≡ now trace)
+        × (0 < t.field (now control) nodeCountPlace) ⌝ }
+    ensures { λ r. ⌜ treeTables (now (nodes .exit)) (now (links .exit)) r ≡ treeTablesAfter
+        (tables (now (control .entry)) (now (samples .entry)) (now (nodes .entry)) (now (links .entry)) []) (now (trace .entry)) ⌝ }
 {
+    let k = wide(field(control, TRACE_COUNT));
+    let leaf_size = wide(field(control, LEAF_SIZE));
+    let count = wide(field(control, NODE_COUNT));
     let leaf = insertion::way::descend(nodes, count, trace);
     let head = tables::records::node_small(nodes, leaf, FIRST);
     insertion::lists::join(links, k, head);
+    let n = trace.len();
     let more = k + 1;
     splitting::pass::split_all(nodes, links, samples, n, more, leaf_size, count, leaf)
 }
 
 // Any trace: with no node yet, it makes leaf 0.
 pub fn insert(
+    control: &[u16],
+    samples: &[i16],
     nodes: &mut [i64],
     links: &mut [u16],
-    samples: &[i16],
     trace: &[i16],
-    n: usize,
-    k: usize,
-    leaf_size: usize,
-    count: usize,
 ) -> usize
-    requires { ⌜ Inserts (now nodes) (now links) (now samples) n k (now trace) count ⌝ }
-    ensures { λ r. ⌜ treeTables (now (nodes .exit)) (now (links .exit)) r
-        ≡ insertedBy (now (nodes .entry)) (now (links .entry)) (now (samples .entry)) n k «leaf_size» (now (trace .entry)) count ⌝ }
+    requires { ⌜ Takes (now control) (now samples) (now nodes) (now links) (now trace)
+        × (traceIn (now samples) (length (now trace)) (t.field (now control) traceCountPlace) ≡ now trace) ⌝ }
+    ensures { λ r. ⌜ treeTables (now (nodes .exit)) (now (links .exit)) r ≡ treeTablesAfter
+        (tables (now (control .entry)) (now (samples .entry)) (now (nodes .entry)) (now (links .entry)) []) (now (trace .entry)) ⌝ }
 {
-    if count == 0 {
+    if field(control, NODE_COUNT) == 0 {
         insertion::heads::first_leaf(nodes, links, trace);
         return 1;
     }
-    insert_more(nodes, links, samples, trace, n, k, leaf_size, count)
+    insert_more(control, samples, nodes, links, trace)
 }
 
 // The counts of traces and nodes in the control record.

@@ -2,9 +2,6 @@
 
 use tables::control::field;
 use tables::numbers::wide;
-use tables::places::LEAF_SIZE;
-use tables::places::N;
-use tables::places::NODE_COUNT;
 use tables::places::TRACE_COUNT;
 ghost use mathlib.Core.Path.{_≡_};
 ghost use mathlib.Core.List.{List};
@@ -26,13 +23,11 @@ pub fn put(
         tables (now (control .exit)) (now (samples .exit)) (now (nodes .exit)) (now (links .exit)) work
         ≡ addedTo (tables (now (control .entry)) (now (samples .entry)) (now (nodes .entry)) (now (links .entry)) work) (now (trace .entry))) ⌝ }
 {
-    let n = wide(field(control, N));
-    let leaf_size = wide(field(control, LEAF_SIZE));
     let k = wide(field(control, TRACE_COUNT));
-    let count = wide(field(control, NODE_COUNT));
+    let n = trace.len();
     let at = k * n;
     tables::loops::copy_trace(samples, at, trace);
-    let more = crate::inserting::insert(nodes, links, samples, trace, n, k, leaf_size, count);
+    let more = crate::inserting::insert(control, samples, nodes, links, trace);
     let next = k + 1;
     crate::inserting::write_counts(control, next, more);
 }

@@ -1,5 +1,5 @@
 -- What the steps of adding do to a tree, node by node: children, the way down, widening, joining. Each step is told by cases on the node's number.
-use Prim.Native.Nat.{ℕ, zero, suc, _+_, _≤_, _<_}
+use Prim.Native.Nat.{ℕ, zero, suc, _+_, _-_, _≤_, _<_}
 use mathlib.Core.Path.{_≡_, refl, sym, _∙_, ap, subst}
 use mathlib.Core.Logic.{_⊎_, inl, inr}
 use mathlib.Core.Bool.{Bool, true, false}
@@ -61,6 +61,36 @@ pub record ParentIn (tree : Tree) (x : Trace) (c : ℕ) (l : List ℕ) : Type 0 
   pub parent : ℕ
   pub met : In parent l
   pub next : nextNode (nodeAt tree parent .kind) x ≡ some c
+
+module _ (tree : Tree) (x : Trace) where
+  -- it ends at a leaf, and goes on at an inner node
+  pub way-stops : (fuel at : ℕ) → 0 < fuel → nextNode (nodeAt tree at .kind) x ≡ none → wayFrom fuel tree x at ≡ at ∷ []
+  unfolding wayFrom
+  way-stops zero at h e = absurd (omega arith)
+  way-stops (suc fuel) at h e = rw e
+
+  pub way-goes : (fuel at c : ℕ) → 0 < fuel → nextNode (nodeAt tree at .kind) x ≡ some c
+      → wayFrom fuel tree x at ≡ at ∷ wayFrom (fuel - 1) tree x c
+  unfolding wayFrom
+  way-goes zero at c h e = absurd (omega arith)
+  way-goes (suc fuel) at c h e = rw e (ap (λ (j : ℕ). at ∷ wayFrom j tree x c) (let z : fuel ≡ suc fuel - 1 = omega arith in z))
+
+  pub last-behind : (fuel at c : ℕ) → 0 < fuel → lastOf (at ∷ wayFrom fuel tree x c) ≡ lastOf (wayFrom fuel tree x c)
+  unfolding wayFrom
+  last-behind zero at c h = absurd (omega arith)
+  last-behind (suc fuel) at c h = refl
+
+-- trees in which a trace goes on alike at every node have the same way
+pub way-alike : (a b : Tree) (x : Trace) → ((j : ℕ) → nextNode (nodeAt a j .kind) x ≡ nextNode (nodeAt b j .kind) x)
+    → (fuel at : ℕ) → wayFrom fuel a x at ≡ wayFrom fuel b x at
+unfolding wayFrom
+way-alike a b x h zero at = refl
+way-alike a b x h (suc fuel) at = rw (h at) (by (nextNode (nodeAt b at .kind) x) (λ (c : ℕ). way-alike a b x h fuel c))
+  where
+    by : (o : Option ℕ) → ((c : ℕ) → wayFrom fuel a x c ≡ wayFrom fuel b x c)
+        → at ∷ elim o [ none ↦ [] | some child ↦ wayFrom fuel a x child ] ≡ at ∷ elim o [ none ↦ [] | some child ↦ wayFrom fuel b x child ]
+    by none ih = refl
+    by (some c) ih = ap (λ (l : List ℕ). at ∷ l) (ih c)
 
 -- to each node met on the way but the first the trace goes from a node met on the way
 pub way-closed : (fuel : ℕ) (tree : Tree) (x : Trace) (at : ℕ) {c : ℕ} → In c (wayFrom fuel tree x at) → (c ≡ at) ⊎ ParentIn tree x c (wayFrom fuel tree x at)

@@ -40,7 +40,7 @@ mostTraces = 4096
 abbrev pub mostLeaf : ℕ
 mostLeaf = 64
 
--- "2c − 1 node records", of the greatest capacity
+-- no library has more nodes: "2c − 1 node records", of the greatest capacity
 abbrev pub mostNodes : ℕ
 mostNodes = 2 * mostTraces - 1
 

@@ -21,8 +21,8 @@ ghost use mathlib.Core.List.{_∷_, [], _++_};
 ghost use Prim.Native.Nat.{_+_, _*_, _≤_, _<_};
 ghost use lib.ListN.{length, drop, set};
 ghost use Rattle.segment.specs.Limits.{scatterRoom};
+ghost use Rattle.dstree.specs.Measures.{mostSamples, mostNodes};
 ghost use Rattle.dstree.specs.Adding.{segmentsOf};
-ghost use Rattle.dstree.specs.Measures.{mostNodes, mostSamples};
 ghost use Rattle.dstree.specs.Node.{mostSegments};
 ghost use Rattle.tables.specs.Layout.{headPlaces, recordPlaces};
 ghost use Rattle.tables.specs.Tables.{withRecord};
@@ -68,7 +68,8 @@ pub fn become_inner(
     last: usize,
     threshold: i64,
 )
-    requires { ⌜ (j * recordPlaces + recordPlaces ≤ length (now nodes)) × (j ≤ mostNodes) × (left ≤ smallMost) × (right ≤ smallMost) × (first ≤ smallMost) × (last ≤ smallMost) ⌝ }
+    requires { ⌜ (j * recordPlaces + recordPlaces ≤ length (now nodes)) × (j ≤ mostNodes)
+        × (left ≤ smallMost) × (right ≤ smallMost) × (first ≤ smallMost) × (last ≤ smallMost) ⌝ }
     ensures { λ _. ⌜ now (nodes .exit) ≡ onRecord (innerRecord (testBy first last «by_scatter» threshold) left right) (now (nodes .entry)) j ⌝ }
 {
     let a = record_start(j);

@@ -5,8 +5,8 @@ ghost use mathlib.Core.Path.{_≡_};
 ghost use Prim.Native.Nat.{_≤_, _<_};
 ghost use lib.ListN.{length};
 ghost use Rattle.integer.specs.Words.{lastOf};
-ghost use Rattle.tables.specs.Walk.{Rising, numbersOf};
 ghost use Rattle.dstree.specs.Measures.{mostTraces};
+ghost use Rattle.tables.specs.Walk.{Rising, numbersOf};
 ghost use Rattle.insertion_memory.specs.Links.{joined};
 
 // The last trace of the list that starts at `head`, k traces being stored.

@@ -16,12 +16,13 @@ use tables::runs::is_left;
 ghost use mathlib.Core.Path.{_≡_};
 ghost use Prim.Native.Nat.{_≤_};
 ghost use lib.ListN.{length};
-ghost use Rattle.integer.specs.Words.{if_then_else_};
+ghost use Rattle.integer.specs.Words.{if_then_else_, lastOf};
 ghost use Rattle.dstree.specs.Node.{goesLeft};
 ghost use Rattle.tables.specs.Layout.{kindPlace, recordPlaces};
 ghost use Rattle.tables.specs.View.{smallAt, testIn};
 ghost use Rattle.prefixes.specs.Prefixes.{Prefixes};
-ghost use Rattle.insertion.specs.Way.{figureIn, nextIn, orZero, leafBy, widenedBy, TestReadable, Descendable};
+ghost use Rattle.insertion_memory.specs.Memory.{widenedOn};
+ghost use Rattle.insertion.specs.Way.{figureIn, nextIn, orZero, wayIn, TestReadable, Descendable};
 
 // Whether a trace goes left at an inner node's record.
 pub fn goes_left(record: &[i64], trace: &[i16], sums: &[i64; 257], squares: &[u64; 257]) -> bool
@@ -72,8 +73,9 @@ fn descend_by(
     squares: &[u64; 257],
 ) -> usize
     requires { ⌜ Descendable (now nodes) count (length (now trace)) × Prefixes (now trace) (now sums) (now squares) ⌝ }
-    ensures { λ r. ⌜ r ≡ leafBy (now (nodes .entry)) (now (trace .entry)) count ⌝ }
-    ensures widened { λ _. ⌜ now (nodes .exit) ≡ widenedBy (now (nodes .entry)) (now (trace .entry)) count ⌝ }
+    ensures { λ r. ⌜ r ≡ lastOf (wayIn (now (nodes .entry)) count (now (trace .entry))) ⌝ }
+    ensures widened { λ _. ⌜ now (nodes .exit)
+        ≡ widenedOn (now (trace .entry)) (now (nodes .entry)) (wayIn (now (nodes .entry)) count (now (trace .entry))) ⌝ }
 {
     let mut at: usize = 0;
     loop {
@@ -92,8 +94,9 @@ fn descend_by(
 // once, whatever the number of nodes.
 pub fn descend(nodes: &mut [i64], count: usize, trace: &[i16]) -> usize
     requires { ⌜ Descendable (now nodes) count (length (now trace)) ⌝ }
-    ensures { λ r. ⌜ r ≡ leafBy (now (nodes .entry)) (now (trace .entry)) count ⌝ }
-    ensures widened { λ _. ⌜ now (nodes .exit) ≡ widenedBy (now (nodes .entry)) (now (trace .entry)) count ⌝ }
+    ensures { λ r. ⌜ r ≡ lastOf (wayIn (now (nodes .entry)) count (now (trace .entry))) ⌝ }
+    ensures widened { λ _. ⌜ now (nodes .exit)
+        ≡ widenedOn (now (trace .entry)) (now (nodes .entry)) (wayIn (now (nodes .entry)) count (now (trace .entry))) ⌝ }
 {
     let mut sums: [i64; 257] = [0; 257];
     let mut squares: [u64; 257] = [0; 257];

@@ -1,7 +1,7 @@
 -- Adding to a memory is adding to its first places, where they are long enough: what is behind them stays.
 use Prim.Native.Nat.{ℕ, zero, suc, _+_, _*_, _-_, _≤_, _<_}
 use mathlib.Core.Path.{_≡_, refl, sym, _∙_, ap, ap₂, subst}
-use mathlib.Core.List.{List, [], _∷_, _++_, foldl}
+use mathlib.Core.List.{List, [], _∷_, _++_}
 use native.Mathlib.Nat.{mul-le-mul-right}
 use native.Mathlib.Omega.{arith}
 use lib.IntN.{ℤ}
@@ -15,27 +15,22 @@ use Rattle.dstree.specs.Node.{Tree, nodeAt}
 use Rattle.dstree.specs.Adding.{way, widenAll, join, segmentsOf}
 use Rattle.dstree.specs.Matching.{numbersIn}
 use Rattle.tables.specs.Layout.{traceCountPlace, nodeCountPlace}
-use Rattle.tables.specs.Tables.{Tables, measuresOf, traceCount, nodeCount, withRecord}
+use Rattle.tables.specs.Tables.{Tables, measuresOf, traceCount, nodeCount}
 use Rattle.tables.specs.View.{treeIn, tracesIn, wellFormed}
+use Rattle.tables.proofs.Views.{traces-size}
 use Rattle.tables.specs.Beginning.{left, Begins}
 use Rattle.tables.proofs.Beginning.{extended, restOf, begins-is, tables-same, left-begins, left-extended}
-use Rattle.insertion_memory.specs.Records.{leafRecord, widenRecord}
-use Rattle.insertion_memory.specs.Links.{joined}
-use Rattle.insertion_memory.specs.Memory.{TreeTables, treeTables, onRecord, splitAllOf, firstTables, joinedTables, treeTablesAfter, addedTo}
+use Rattle.insertion_memory.specs.Records.{leafRecord}
+use Rattle.insertion_memory.specs.Memory.{TreeTables, treeTables, splitAllOf, firstTables, joinedTables}
+use Rattle.insertion_memory.specs.Memory.{insertedTables, treeTablesIn, treeTablesAfter, addedTo}
 use Rattle.insertion_memory.proofs.Placing.{record-inside}
 use Rattle.insertion_memory.specs.Represents.{Space}
 use Rattle.dstree.proofs.Change.{LeafAt, way-inside, way-leaf, widen-length, join-length}
 use Rattle.insertion_memory.proofs.Joining.{last-low}
-use Rattle.insertion_memory.proofs.FromTables.{Long, facts, node-count, space, tables-stand}
-use Rattle.insertion_memory.proofs.Meaning.{joined-tables, meaning}
-use Rattle.insertion_memory.proofs.Made.{count-is}
+use Rattle.insertion_memory.proofs.FromTables.{Long, facts, space, tables-stand}
+use Rattle.insertion_memory.proofs.Meaning.{inserted-first, inserted-more, joined-tables, meaning}
 use Rattle.insertion_memory.proofs.Beginnings.{Agree, measures-same, traces-counted, nodes-counted, tree-same, traces-same, extended-agree}
 use Rattle.insertion_memory.proofs.Longer.{with-more, paste-more, joined-more, longer, widen-more, split-all-more}
-
--- what the joined nodes and links are, by what the tables are read as
-abbrev joinedBy : Trace → Tree → ℕ → ℕ → List ℤ → List ℕ → TreeTables
-joinedBy x tree k count nodes links =
-    treeTables (foldl (onRecord (widenRecord x)) nodes (way tree x)) (joined links (numbersIn (nodeAt tree (lastOf (way tree x)) .kind)) k) count
 
 module _ (part more : Tables) (x : Trace) (w : T (wellFormed part)) (long : Long part) (size : length x ≡ measuresOf part .n) (less : traceCount part < measuresOf part .capacity) where
   abbrev n : ℕ
@@ -62,11 +57,13 @@ module _ (part more : Tables) (x : Trace) (w : T (wellFormed part)) (long : Long
 
   -- ---- nodes and links
 
-  first-more : firstTables whole x ≡ wide (firstTables part x)
+  -- before it
+  before : treeTablesIn whole ≡ wide (treeTablesIn part)
+  before = ap (treeTables (whole .nodes) (whole .links)) (nodes-counted same)
+
+  first-more : firstTables (measuresOf part) x (wide (treeTablesIn part)) ≡ wide (firstTables (measuresOf part) x (treeTablesIn part))
   unfolding firstTables
-  first-more =
-      ap (λ (m : Measures). treeTables (withRecord (part .nodes ++ more .nodes) 0 (leafRecord (segmentsOf (m .n ∷ []) (x ∷ [])) 0)) (set (part .links ++ more .links) 0 0) 1) (measures-same same)
-      ∙ ap₂ (λ (a : List ℤ) (b : List ℕ). treeTables a b 1)
+  first-more = ap₂ (λ (a : List ℤ) (b : List ℕ). treeTables a b 1)
       (with-more (part .nodes) (more .nodes) 0 (leafRecord (segmentsOf (n ∷ []) (x ∷ [])) 0) (record-inside (2 * c - 1) 0 (part .nodes) (room .nodes-room) (omega (arith, less))))
       (set-append-left (part .links) (more .links) 0 0 (omega (arith, less, room .links-room)))
 
@@ -92,39 +89,44 @@ module _ (part more : Tables) (x : Trace) (w : T (wellFormed part)) (long : Long
         let g : lastOf numbers < k = last-low k numbers numbers-some (λ t i. tables-stand part w long .shape .numbers t at (in-is i)) in
         omega (arith, g, less, room .links-room)
 
-    joined-more-tables : joinedTables whole x ≡ wide (joinedTables part x)
+    joined-more-tables : joinedTables (tracesIn part) tree x (wide (treeTablesIn part))
+        ≡ wide (joinedTables (tracesIn part) tree x (treeTablesIn part))
     unfolding joinedTables
-    joined-more-tables =
-        ap (λ (tree : Tree). joinedBy x tree (traceCount whole) (nodeCount whole) (whole .nodes) (whole .links)) (tree-same same w long)
-        ∙ ap (λ (j : ℕ). joinedBy x tree j (nodeCount whole) (whole .nodes) (whole .links)) (traces-counted same)
-        ∙ ap (λ (count : ℕ). joinedBy x tree k count (whole .nodes) (whole .links)) (nodes-counted same)
-        ∙ ap₂ (λ (a : List ℤ) (b : List ℕ). treeTables a b (nodeCount part))
+    joined-more-tables = ap₂ (λ (a : List ℤ) (b : List ℕ). treeTables a b (nodeCount part))
         (widen-more room (more .nodes) (more .links) x (way tree x) (way-inside tree x (facts part w .shape .children .child) some) (tables-stand part w long))
-        (joined-more (part .links) (more .links) numbers k last-inside (omega (arith, less, room .links-room)))
+        (joined-more (part .links) (more .links) numbers (length (tracesIn part)) last-inside
+        (omega (arith, traces-size part, less, room .links-room)))
 
     abbrev stored : List Trace
     stored = tracesIn part ++ (x ∷ [])
 
-    stored-size : length stored ≡ suc k
-    stored-size = length-append (tracesIn part) (x ∷ []) ∙ (let e : length (tracesIn part) + 1 ≡ suc k = omega (arith, count-is part) in e)
-
-    split-more-tables : splitAllOf (measuresOf whole .leafSize) (tracesIn whole ++ (x ∷ [])) (joinedTables whole x) (lastOf (way
-        (treeIn whole) x)) ≡ wide (splitAllOf (measuresOf part .leafSize) stored (joinedTables part x) at)
+    split-more-tables : splitAllOf (measuresOf part .leafSize) stored (joinedTables (tracesIn part) tree x (wide (treeTablesIn part))) at
+        ≡ wide (splitAllOf (measuresOf part .leafSize) stored (joinedTables (tracesIn part) tree x (treeTablesIn part)) at)
     split-more-tables =
         let there : at < length (join k at (widenAll x (way tree x) tree)) = omega (arith, end .inside, widen-length x (way tree x) tree, join-length k at (widenAll x (way tree x) tree)) in
-        ap (λ (m : Measures). splitAllOf (m .leafSize) (tracesIn whole ++ (x ∷ [])) (joinedTables whole x) (lastOf (way (treeIn whole) x))) (measures-same same)
-        ∙ ap (λ (l : List Trace). splitAllOf (measuresOf part .leafSize) (l ++ (x ∷ [])) (joinedTables whole x) (lastOf (way (treeIn whole) x))) (traces-same same w long)
-        ∙ ap (λ (t : Tree). splitAllOf (measuresOf part .leafSize) stored (joinedTables whole x) (lastOf (way t x))) (tree-same same w long)
-        ∙ ap (λ (h : TreeTables). splitAllOf (measuresOf part .leafSize) stored h at) joined-more-tables
-        ∙ split-all-more room (more .nodes) (more .links) stored (measuresOf part .leafSize) stored-size (joined-tables part x w long size less some) at there
+        let one : length (tracesIn part) + 1 ≡ suc k = omega (arith, traces-size part) in
+        ap (λ (h : TreeTables). splitAllOf (measuresOf part .leafSize) stored h at) joined-more-tables
+        ∙ split-all-more room (more .nodes) (more .links) stored (measuresOf part .leafSize) (length-append (tracesIn part) (x ∷ []) ∙ one)
+        (joined-tables (measuresOf part) (tracesIn part) x room (traces-size part) less (tables-stand part w long) some) at there
 
-  tree-tables-more : treeTablesAfter whole x (nodeCount whole) ≡ wide (treeTablesAfter part x (nodeCount part))
-  unfolding treeTablesAfter
-  tree-tables-more = ap (λ (m : ℕ). treeTablesAfter whole x m) (nodes-counted same) ∙ by (nodeCount part) (node-count part w)
+  abbrev inserted : TreeTables → TreeTables
+  inserted = insertedTables (measuresOf part) (tracesIn part) (treeIn part) x
+
+  tree-tables-more : treeTablesAfter whole x ≡ wide (treeTablesAfter part x)
+  tree-tables-more =
+      ap (λ (m : Measures). insertedTables m (tracesIn whole) (treeIn whole) x (treeTablesIn whole)) (measures-same same)
+      ∙ ap (λ (l : List Trace). insertedTables (measuresOf part) l (treeIn whole) x (treeTablesIn whole)) (traces-same same w long)
+      ∙ ap (λ (tree : Tree). insertedTables (measuresOf part) (tracesIn part) tree x (treeTablesIn whole)) (tree-same same w long)
+      ∙ ap inserted before
+      ∙ by (length (treeIn part)) refl
     where
-      by : (m : ℕ) → m ≡ length (treeIn part) → treeTablesAfter whole x m ≡ wide (treeTablesAfter part x m)
-      by zero e = first-more
-      by (suc m) e = split-more-tables (omega arith)
+      by : (m : ℕ) → length (treeIn part) ≡ m → inserted (wide (treeTablesIn part)) ≡ wide (inserted (treeTablesIn part))
+      by zero e = inserted-first (measuresOf part) (tracesIn part) (treeIn part) x (wide (treeTablesIn part)) e
+          ∙ first-more ∙ ap wide (sym (inserted-first (measuresOf part) (tracesIn part) (treeIn part) x (treeTablesIn part) e))
+      by (suc m) e = let some : 0 < length (treeIn part) = omega arith in
+          inserted-more (measuresOf part) (tracesIn part) (treeIn part) x (wide (treeTablesIn part)) some
+          ∙ split-more-tables some
+          ∙ ap wide (sym (inserted-more (measuresOf part) (tracesIn part) (treeIn part) x (treeTablesIn part) some))
 
   -- ---- the other tables
 
@@ -144,9 +146,10 @@ module _ (part more : Tables) (x : Trace) (w : T (wellFormed part)) (long : Long
   pub added-extended : addedTo (extended part more) x ≡ extended (addedTo part x) more
   unfolding addedTo
   added-extended = tables-same
-      (ap (λ (j : ℕ). set (set (whole .control) traceCountPlace (suc j)) nodeCountPlace (treeTablesAfter whole x (nodeCount whole) .count)) (traces-counted same)
+      (ap (λ (j : ℕ). set (set (whole .control) traceCountPlace (suc j)) nodeCountPlace (treeTablesAfter whole x .count))
+      (traces-counted same)
       ∙ ap (λ (h : TreeTables). set (set (whole .control) traceCountPlace (suc k)) nodeCountPlace (h .count)) tree-tables-more
-      ∙ control-more (treeTablesAfter part x (nodeCount part) .count))
+      ∙ control-more (treeTablesAfter part x .count))
       samples-more
       (ap (λ (h : TreeTables). h .nodes) tree-tables-more)
       (ap (λ (h : TreeTables). h .links) tree-tables-more)

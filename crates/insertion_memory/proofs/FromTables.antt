@@ -17,7 +17,7 @@ use Rattle.tables.proofs.Frame.{record-length}
 use Rattle.tables.specs.Judge.{InRange, Room}
 pub use Rattle.tables.specs.Holds.{Long}
 use Rattle.tables.proofs.Views.{tree-size, tree-node, tree-kind, tree-formed, measures-fit, kind-named}
-use Rattle.insertion_memory.specs.Memory.{treeTables}
+use Rattle.insertion_memory.specs.Memory.{treeTablesIn}
 use Rattle.insertion_memory.proofs.Placing.{record-inside}
 use Rattle.insertion_memory.specs.Represents.{Space}
 use Rattle.insertion_memory.proofs.Represents.{kind-means, ReadsAs, Represents}
@@ -54,7 +54,8 @@ module _ (t : Tables) (w : T (wellFormed t)) where
               (λ s i. facts .shape .numbers s j (in-is (subst (λ (a : Kind). In s (numbersIn a)) (sym kind) i)));
         })
 
-    pub tables-stand : Represents (measuresOf t .n) (measuresOf t .capacity) (t .nodes) (t .links) (traceCount t) (treeTables (t .nodes) (t .links) (nodeCount t)) (treeIn t)
+    pub tables-stand : Represents (measuresOf t .n) (measuresOf t .capacity) (t .nodes) (t .links) (traceCount t)
+        (treeTablesIn t) (treeIn t)
     tables-stand = record {
       few = facts .room;
       count = node-count;

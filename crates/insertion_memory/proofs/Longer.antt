@@ -5,7 +5,7 @@ use Prim.Native.Nat.{ℕ, zero, suc, _+_, _*_, _-_, _≤_, _<_}
 use mathlib.Core.Path.{_≡_, refl, sym, _∙_, ap, ap₂, subst}
 use mathlib.Core.Bool.{Bool, true, false}
 use mathlib.Core.Option.{Option, none, some}
-use mathlib.Core.List.{List, [], _∷_, _++_, foldl, append-assoc}
+use mathlib.Core.List.{List, [], _∷_, _++_, append-assoc}
 use native.Mathlib.Omega.{arith}
 use lib.IntN.{ℤ}
 use lib.ListN.{length, getD, take, drop, set, length-map, length-set, List·getD-append}
@@ -28,7 +28,8 @@ use Rattle.tables.specs.View.{smallAt, segmentsIn, kindIn}
 use Rattle.tables.proofs.Frame.{with-length}
 use Rattle.insertion_memory.specs.Records.{leafRecord, widenRecord, innerRecord}
 use Rattle.insertion_memory.specs.Links.{joined, linked}
-use Rattle.insertion_memory.specs.Memory.{TreeTables, treeTables, onRecord, splitTo, splitLeaf, splitAt, splitOn, splitAllOf}
+use Rattle.insertion_memory.specs.Memory.{TreeTables, treeTables, onRecord, widenedOn}
+use Rattle.insertion_memory.specs.Memory.{splitTo, splitLeaf, splitAt, splitOn, splitAllOf}
 use Rattle.insertion_memory.proofs.ReadBack.{leaf-length, inner-length}
 use Rattle.insertion_memory.proofs.Following.{laid-length}
 use Rattle.insertion_memory.proofs.Placing.{record-inside}
@@ -92,10 +93,11 @@ module _ {n c : ℕ} {nodes : List ℤ} {links : List ℕ} (space : Space n c no
       (λ t g. List·getD-append (h .links) ls 0 t (omega (arith, g, space .links-room, s .links-size)))
 
   pub widen-more : {k : ℕ} {h : TreeTables} {tree : Tree} (x : Trace) (met : List ℕ) → ((j : ℕ) → In j met → j < length tree) → Represents n c nodes links k h tree
-      → foldl (onRecord (widenRecord x)) (h .nodes ++ ns) met ≡ foldl (onRecord (widenRecord x)) (h .nodes) met ++ ns
+      → widenedOn x (h .nodes ++ ns) met ≡ widenedOn x (h .nodes) met ++ ns
   widen-more x [] inside s = refl
   widen-more {k} {h} {tree} x (at ∷ met) inside s =
-      ap (λ (l : List ℤ). foldl (onRecord (widenRecord x)) l met) (on-more (widenRecord x) (h .nodes) ns at (node-inside s at (few-nodes s at (inside at first))))
+      ap (λ (l : List ℤ). widenedOn x l met)
+      (on-more (widenRecord x) (h .nodes) ns at (node-inside s at (few-nodes s at (inside at first))))
       ∙ widen-more x met (λ j i. let g : j < length tree = inside j (later i) in omega (arith, length-set tree at (widen x (nodeAt tree at)))) (widen-one space x at (inside at first) s)
 
   module _ (traces : List Trace) where

@@ -1,11 +1,12 @@
 -- What adding does to the tables means document 01's adding: after it they store one trace more, stand for the tree that the steps make, and all
 -- that adding does not speak of is as it was.
 -- The idea: each step on nodes and links stands for the step on the tree, so that what they are read as in the end is the tree in the end.
-use Prim.Native.Nat.{ℕ, zero, suc, _+_, _*_, _<_}
+use Prim.Native.Nat.{ℕ, suc, _+_, _*_, _<_}
 use mathlib.Core.Path.{_≡_, refl, sym, _∙_, ap, subst}
 use mathlib.Core.Bool.{true}
 use mathlib.Core.List.{List, [], _∷_, _++_, map}
 use native.Mathlib.Omega.{arith}
+use lib.IntN.{ℤ}
 use lib.ListN.{length, set, drop, length-append, length-set}
 use lib.Seq.{getD-set-same, getD-set-other, drop-set-lt}
 use lib.Dec.{T, leb, le→leb}
@@ -15,7 +16,7 @@ use Rattle.integer.proofs.Lists.{every-of, from-counting}
 use Rattle.integer.proofs.Tests.{test-true}
 use Rattle.dstree.specs.Measures.{Trace, Measures, sampleLimit, samplesNeeded, recordsNeeded, linksNeeded}
 use Rattle.dstree.specs.Node.{Kind, leaf, Tree, nodeAt}
-use Rattle.dstree.specs.Adding.{way, widenAll, join, newLeaf, splitAll, insertion}
+use Rattle.dstree.specs.Adding.{way, widenAll, join, splitAll, insertion}
 use Rattle.dstree.specs.Matching.{numbersIn}
 use Rattle.dstree.specs.WellFormed as abstract
 use Rattle.tables.specs.Layout.{nPlace, capacityPlace, leafSizePlace, traceCountPlace, nodeCountPlace, controlFields, kindPlace, recordPlaces}
@@ -23,7 +24,8 @@ use Rattle.tables.specs.Tables.{Tables, lentOf, field, measuresOf, traceCount, 
 use Rattle.tables.specs.View.{smallAt, nodeIn, treeIn, traceIn, tracesIn, kindsNamed, wellFormed}
 use Rattle.tables.specs.Walk.{Rising}
 use Rattle.tables.proofs.Views.{traces-size}
-use Rattle.insertion_memory.specs.Memory.{TreeTables, splitAllOf, firstTables, joinedTables, treeTablesAfter, addedTo}
+use Rattle.insertion_memory.specs.Memory.{TreeTables, treeTables, splitAllOf, widenedOn, firstTables, joinedTables}
+use Rattle.insertion_memory.specs.Memory.{insertedTables, treeTablesAfter, addedTo}
 use Rattle.insertion_memory.proofs.Storing.{stored-more, stored-length, stored-behind}
 use Rattle.dstree.proofs.Change.{LeafAt, way-inside, way-leaf, widen-length, widen-kind, join-length}
 use Rattle.insertion_memory.specs.Represents.{Space}
@@ -31,24 +33,74 @@ use Rattle.insertion_memory.proofs.Represents.{kind-named, Represents, 
 use Rattle.insertion_memory.proofs.Widening.{widen-represents}
 use Rattle.insertion_memory.proofs.Joining.{join-represents}
 use Rattle.insertion_memory.proofs.Splitting.{split-all}
-use Rattle.insertion_memory.proofs.FromTables.{Long, facts, range, node-count, space, tables-stand}
+use Rattle.insertion_memory.proofs.FromTables.{Long, space, tables-stand}
 use Rattle.insertion_memory.proofs.First.{first-represents}
 
--- the tree after a trace was added to a tree with a node
-insertion-on : (m : Measures) (stored : List Trace) (tree : Tree) (x : Trace) → 0 < length tree
-    → insertion m stored tree x ≡ splitAll (m .leafSize) (stored ++ (x ∷ [])) (join (length stored) (lastOf (way tree x)) (widenAll x (way tree x) tree)) (lastOf (way tree x))
-unfolding insertion
-insertion-on m stored [] x h = absurd (omega arith)
-insertion-on m stored (root ∷ rest) x h = refl
+-- ---- nodes and links: each case of the definition stands for the same case of document 01's
 
-insertion-first : (m : Measures) (stored : List Trace) (tree : Tree) (x : Trace) → length tree ≡ 0 → insertion m stored tree x ≡ newLeaf (x ∷ []) (m .n ∷ []) (0 ∷ []) ∷ []
-unfolding insertion
-insertion-first m stored [] x e = refl
-insertion-first m stored (root ∷ rest) x e = absurd (omega arith)
+-- with no node, and with one
+pub inserted-first : (m : Measures) (stored : List Trace) (tree : Tree) (x : Trace) (h : TreeTables) → length tree ≡ 0
+    → insertedTables m stored tree x h ≡ firstTables m x h
+unfolding insertedTables
+inserted-first m stored [] x h e = refl
+inserted-first m stored (root ∷ rest) x h e = absurd (omega arith)
+
+pub inserted-more : (m : Measures) (stored : List Trace) (tree : Tree) (x : Trace) (h : TreeTables) → 0 < length tree
+    → insertedTables m stored tree x h ≡ splitAllOf (m .leafSize) (stored ++ (x ∷ [])) (joinedTables stored tree x h) (lastOf (way tree x))
+unfolding insertedTables
+inserted-more m stored [] x h e = absurd (omega arith)
+inserted-more m stored (root ∷ rest) x h e = refl
 
 leaf-is : (kind : Kind) (ns : List ℕ) → kind ≡ leaf ns → kind ≡ leaf (numbersIn kind)
 unfolding numbersIn
 leaf-is kind ns e = e ∙ ap leaf (sym (ap numbersIn e))
+
+module _ {c k count : ℕ} {nodes : List ℤ} {links : List ℕ} (m : Measures) (stored : List Trace) (x : Trace)
+    (space : Space (m .n) c nodes links) (size : length stored ≡ k) (less : k < c) where
+  module _ {tree : Tree} (s : Represents (m .n) c nodes links k (treeTables nodes links count) tree) (some : 0 < length tree) where
+    abbrev met : List ℕ
+    met = way tree x
+
+    abbrev at : ℕ
+    at = lastOf met
+
+    abbrev wide : Tree
+    wide = widenAll x met tree
+
+    end : LeafAt tree at
+    end = way-leaf tree x (s .shape .children .child) some
+
+    pub leaf-inside : at < length wide
+    leaf-inside = omega (arith, widen-length x met tree, end .inside)
+
+    pub is-leaf : nodeAt wide at .kind ≡ leaf (numbersIn (nodeAt tree at .kind))
+    is-leaf = widen-kind x met tree at ∙ leaf-is (nodeAt tree at .kind) (end .numbers) (end .is)
+
+    -- it has gone down
+    pub widened : Represents (m .n) c nodes links k (treeTables (widenedOn x nodes met) links count) wide
+    widened = widen-represents space x met (way-inside tree x (s .shape .children .child) some) s
+
+    -- .. and joined a leaf
+    pub joined-tables : Represents (m .n) c nodes links (suc k) (joinedTables stored tree x (treeTables nodes links count))
+        (join k at wide)
+    unfolding joinedTables
+    joined-tables = rw size (join-represents space at (numbersIn (nodeAt tree at .kind)) leaf-inside is-leaf less widened)
+
+    split-tables : Represents (m .n) c nodes links (suc k)
+        (splitAllOf (m .leafSize) (stored ++ (x ∷ [])) (joinedTables stored tree x (treeTables nodes links count)) at)
+        (splitAll (m .leafSize) (stored ++ (x ∷ [])) (join k at wide) at)
+    split-tables =
+        let more : length stored + 1 ≡ suc k = omega arith in
+        split-all space (stored ++ (x ∷ [])) (m .leafSize) (length-append stored (x ∷ []) ∙ more) joined-tables at
+        (omega (arith, leaf-inside, join-length k at wide))
+
+  pub inserted-represents : (tree : Tree) → Represents (m .n) c nodes links k (treeTables nodes links count) tree
+      → Represents (m .n) c nodes links (suc k) (insertedTables m stored tree x (treeTables nodes links count)) (insertion m stored tree x)
+  unfolding insertedTables firstTables insertion
+  inserted-represents [] s = rw (s .shape .no-trace refl) (first-represents (m .n) x (space .wide) nodes links space (omega arith))
+  inserted-represents (root ∷ rest) s = rw size (split-tables s (omega arith))
+
+-- ---- tables
 
 -- what adding leaves, of tables t and a trace x
 pub record AfterAdding (t : Tables) (x : Trace) : Type 0 where
@@ -85,72 +137,14 @@ module _ (t : Tables) (x : Trace) (w : T (wellFormed t)) (long : Long t) (size :
   abbrev result : Tree
   result = insertion (measuresOf t) (tracesIn t) (treeIn t) x
 
-  traces-length : length (tracesIn t) ≡ k
-  traces-length = traces-size t
-
-  space-of : Space n c (t .nodes) (t .links)
-  space-of = space t w long
-
-  -- ---- nodes and links
-
-  pub first-tables : length (treeIn t) ≡ 0 → Represents n c (t .nodes) (t .links) (suc k) (firstTables t x) result
-  unfolding firstTables
-  first-tables e =
-      let none : k ≡ 0 = facts t w .shape .no-trace e in
-      let s : Represents n c (t .nodes) (t .links) 1 (firstTables t x) (newLeaf (x ∷ []) (n ∷ []) (0 ∷ []) ∷ []) = first-represents n x
-      (range t w .n-low) (t .nodes) (t .links) space-of (range t w .capacity-low) in
-      subst (λ (j : ℕ). Represents n c (t .nodes) (t .links) (suc j) (firstTables t x) result) (sym none)
-      (subst (λ (tree : Tree). Represents n c (t .nodes) (t .links) 1 (firstTables t x) tree) (sym (insertion-first (measuresOf t) (tracesIn t) (treeIn t) x e)) s)
-
-  module _ (some : 0 < length (treeIn t)) where
-    abbrev met : List ℕ
-    met = way (treeIn t) x
-
-    abbrev at : ℕ
-    at = lastOf met
-
-    abbrev wide : Tree
-    wide = widenAll x met (treeIn t)
-
-    end : LeafAt (treeIn t) at
-    end = way-leaf (treeIn t) x (facts t w .shape .children .child) some
-
-    inside : at < length wide
-    inside = omega (arith, widen-length x met (treeIn t), end .inside)
-
-    is-leaf : nodeAt wide at .kind ≡ leaf (numbersIn (nodeAt (treeIn t) at .kind))
-    is-leaf = widen-kind x met (treeIn t) at ∙ leaf-is (nodeAt (treeIn t) at .kind) (end .numbers) (end .is)
-
-    pub joined-tables : Represents n c (t .nodes) (t .links) (suc k) (joinedTables t x) (join k at wide)
-    unfolding joinedTables
-    joined-tables = join-represents space-of at (numbersIn (nodeAt (treeIn t) at .kind)) inside is-leaf less
-        (widen-represents space-of x met (way-inside (treeIn t) x (facts t w .shape .children .child) some) (tables-stand t w long))
-
-    abbrev stored : List Trace
-    stored = tracesIn t ++ (x ∷ [])
-
-    stored-length′ : length stored ≡ suc k
-    stored-length′ = length-append (tracesIn t) (x ∷ []) ∙ (let e : length (tracesIn t) + 1 ≡ suc k = omega (arith, traces-length) in e)
-
-    split-tables : Represents n c (t .nodes) (t .links) (suc k) (splitAllOf (measuresOf t .leafSize) stored (joinedTables t x) at) result
-    split-tables =
-        let there : at < length (join k at wide) = omega (arith, inside, join-length k at wide) in
-        subst (λ (tree : Tree). Represents n c (t .nodes) (t .links) (suc k) (splitAllOf (measuresOf t .leafSize) stored (joinedTables t x) at) tree)
-        (sym (insertion-on (measuresOf t) (tracesIn t) (treeIn t) x some ∙ ap (λ (j : ℕ). splitAll (measuresOf t .leafSize) stored (join j at wide) at) traces-length))
-        (split-all space-of stored (measuresOf t .leafSize) stored-length′ joined-tables at there)
-
-  pub after-represents : Represents n c (t .nodes) (t .links) (suc k) (treeTablesAfter t x (nodeCount t)) result
-  unfolding treeTablesAfter
-  after-represents = by (nodeCount t) (node-count t w)
-    where
-      by : (m : ℕ) → m ≡ length (treeIn t) → Represents n c (t .nodes) (t .links) (suc k) (treeTablesAfter t x m) result
-      by zero e = first-tables (sym e)
-      by (suc m) e = split-tables (omega arith)
+  pub after-represents : Represents n c (t .nodes) (t .links) (suc k) (treeTablesAfter t x) result
+  after-represents =
+      inserted-represents (measuresOf t) (tracesIn t) x (space t w long) (traces-size t) less (treeIn t) (tables-stand t w long)
 
   -- ---- the control record
 
   abbrev after : TreeTables
-  after = treeTablesAfter t x (nodeCount t)
+  after = treeTablesAfter t x
 
   abbrev control₁ : List ℕ
   control₁ = set (t .control) traceCountPlace (suc k)

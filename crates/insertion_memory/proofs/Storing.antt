@@ -15,6 +15,14 @@ use Rattle.tables.specs.View.{traceIn}
 use Rattle.tables.proofs.Frame.{withPart, part-same, part-other}
 use Rattle.tables.specs.Walk.{storedIn}
 
+-- trace k is the last of k + 1 stored ones
+pub stored-last : (samples : List ℤ) (n k : ℕ) (x : Trace) → traceIn samples n k ≡ x
+    → storedIn samples n (suc k) ≡ storedIn samples n k ++ (x ∷ [])
+stored-last samples n k x e =
+    let last : traceIn samples n (0 + k) ≡ x = ap (λ (i : ℕ). traceIn samples n i) (let z : 0 + k ≡ k = omega arith in z) ∙ e in
+    ap (map (traceIn samples n)) (counting-more k 0)
+    ∙ map-append (traceIn samples n) (counting k 0) ((0 + k) ∷ []) ∙ ap (λ (y : Trace). storedIn samples n k ++ (y ∷ [])) last
+
 module _ (samples : List ℤ) (n k c : ℕ) (x : Trace) (size : length x ≡ n) (less : k < c) (room : c * n ≤ length samples) where
   abbrev after : List ℤ
   after = paste samples (k * n) x n
@@ -25,7 +33,7 @@ module _ (samples : List ℤ) (n k c : ℕ) (x : Trace) (size : length x ≡ n) 
   paste-part : after ≡ withPart n samples k x
   paste-part = rw (take-all n x (omega arith)) (append-assoc (take (k * n) samples) x (drop (k * n + n) samples))
 
-  trace-new : traceIn after n k ≡ x
+  pub trace-new : traceIn after n k ≡ x
   unfolding traceIn
   trace-new = ap (λ (l : List ℤ). take n (drop (k * n) l)) paste-part ∙ part-same (pos 0) n samples k x (fits k less) size
 
@@ -33,12 +41,11 @@ module _ (samples : List ℤ) (n k c : ℕ) (x : Trace) (size : length x ≡ n) 
   unfolding traceIn
   trace-old i h = ap (λ (l : List ℤ). take n (drop (i * n) l)) paste-part ∙ part-other (pos 0) n samples k x (fits k less) size i (λ e. omega (arith, h, e)) (fits i (omega arith))
 
+  pub stored-same : storedIn after n k ≡ storedIn samples n k
+  stored-same = map-agree (traceIn after n) (traceIn samples n) (counting k 0) (λ i j. trace-old i (omega (arith, from-counting k 0 j .1)))
+
   pub stored-more : storedIn after n (suc k) ≡ storedIn samples n k ++ (x ∷ [])
-  stored-more =
-      let last : traceIn after n (0 + k) ≡ x = ap (λ (i : ℕ). traceIn after n i) (let z : 0 + k ≡ k = omega arith in z) ∙ trace-new in
-      ap (λ (l : List ℕ). map (traceIn after n) l) (counting-more k 0)
-      ∙ map-append (traceIn after n) (counting k 0) ((0 + k) ∷ [])
-      ∙ rw (map-agree (traceIn after n) (traceIn samples n) (counting k 0) (λ i j. trace-old i (omega (arith, from-counting k 0 j .1))), last)
+  stored-more = stored-last after n k x trace-new ∙ ap (λ (l : List Trace). l ++ (x ∷ [])) stored-same
 
   pub stored-length : length after ≡ length samples
   stored-length = length-paste samples (k * n) x n (fits k less) (omega arith)

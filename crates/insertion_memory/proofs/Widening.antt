@@ -1,7 +1,7 @@
 -- Widening the records of some nodes, one after another, is widening the nodes.
 use Prim.Native.Nat.{ℕ, _*_, _-_, _≤_, _<_}
 use mathlib.Core.Path.{sym, _∙_, ap, subst}
-use mathlib.Core.List.{List, [], _∷_, foldl}
+use mathlib.Core.List.{List, [], _∷_}
 use native.Mathlib.Omega.{arith}
 use lib.ListN.{length, length-set}
 use lib.IntN.{ℤ}
@@ -11,7 +11,7 @@ use Rattle.dstree.specs.Node.{leaf, Node, node, Tree, nodeAt, changeAt}
 use Rattle.dstree.specs.Adding.{widen, widenAll}
 use Rattle.tables.specs.Tables.{recordOf}
 use Rattle.insertion_memory.specs.Records.{widenRecord}
-use Rattle.insertion_memory.specs.Memory.{TreeTables, treeTables, onRecord}
+use Rattle.insertion_memory.specs.Memory.{TreeTables, treeTables, onRecord, widenedOn}
 use Rattle.dstree.proofs.Nodes.{nodes-most}
 use Rattle.dstree.proofs.Joins.{widen-shape}
 use Rattle.insertion_memory.proofs.Placing.{RecordPlaced, placed}
@@ -45,7 +45,7 @@ module _ {n c : ℕ} {nodes : List ℤ} {links : List ℕ} (space : Space n c no
       }
 
   pub widen-represents : {k : ℕ} {h : TreeTables} {tree : Tree} (met : List ℕ) → ((j : ℕ) → In j met → j < length tree) → Represents n c nodes links k h tree
-      → Represents n c nodes links k (treeTables (foldl (onRecord (widenRecord x)) (h .nodes) met) (h .links) (h .count)) (widenAll x met tree)
+      → Represents n c nodes links k (treeTables (widenedOn x (h .nodes) met) (h .links) (h .count)) (widenAll x met tree)
   unfolding widenAll
   widen-represents [] inside s = s
   widen-represents {k} {h} {tree} (at ∷ met) inside s =

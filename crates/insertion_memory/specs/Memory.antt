@@ -7,8 +7,8 @@ use lib.ListN.{length, getD, set}
 use lib.Seq.{paste}
 use lib.Dec.{ltb}
 use Rattle.integer.specs.Words.{if_then_else_, lastOf}
-use Rattle.dstree.specs.Measures.{Trace}
-use Rattle.dstree.specs.Node.{Kind, leaf, inner, nodeAt, ends}
+use Rattle.dstree.specs.Measures.{Trace, Measures}
+use Rattle.dstree.specs.Node.{Kind, leaf, inner, Tree, nodeAt, ends}
 use Rattle.dstree.specs.Adding.{way, segmentsOf, tracesOf, Split, best}
 use Rattle.dstree.specs.Matching.{numbersIn}
 use Rattle.tables.specs.Layout.{traceCountPlace, nodeCountPlace, kindPlace}
@@ -67,26 +67,38 @@ splitOn (suc fuel) leafSize traces h at =
 unfoldable pub splitAllOf : ℕ → List Trace → TreeTables → ℕ → TreeTables
 splitAllOf leafSize traces h at = splitOn (2 * length traces) leafSize traces (splitAt leafSize traces h at) (h .count)
 
--- ---- adding
+-- ---- adding, by what document 01's `insertion` goes by: measures, the traces so far, and the tree that nodes and links stand for
+
+-- "widening least and greatest at every node it meets": the records of these nodes, one after another
+abbrev pub widenedOn : Trace → List ℤ → List ℕ → List ℤ
+widenedOn x = foldl (onRecord (widenRecord x))
 
 -- "its first trace makes leaf 0 with one segment"
-unfoldable pub firstTables : Tables → Trace → TreeTables
-firstTables t x = treeTables (withRecord (t .nodes) 0 (leafRecord (segmentsOf (measuresOf t .n ∷ []) (x ∷ [])) 0)) (set (t .links) 0 0) 1
+unfoldable pub firstTables : Measures → Trace → TreeTables → TreeTables
+firstTables m x h = treeTables (withRecord (h .nodes) 0 (leafRecord (segmentsOf (m .n ∷ []) (x ∷ [])) 0)) (set (h .links) 0 0) 1
 
 -- "Otherwise the trace goes down by the tests, widening least and greatest at every node it meets, the leaf too, .. and joins a leaf"
-unfoldable pub joinedTables : Tables → Trace → TreeTables
-joinedTables t x =
-    let met = way (treeIn t) x in
-    treeTables (foldl (onRecord (widenRecord x)) (t .nodes) met) (joined (t .links) (numbersIn (nodeAt (treeIn t) (lastOf met) .kind)) (traceCount t)) (nodeCount t)
+unfoldable pub joinedTables : List Trace → Tree → Trace → TreeTables → TreeTables
+joinedTables stored tree x h =
+    let met = way tree x in
+    treeTables (widenedOn x (h .nodes) met) (joined (h .links) (numbersIn (nodeAt tree (lastOf met) .kind)) (length stored)) (h .count)
 
-unfoldable pub treeTablesAfter : Tables → Trace → ℕ → TreeTables
-treeTablesAfter t x zero = firstTables t x
-treeTablesAfter t x (suc nodes) = splitAllOf (measuresOf t .leafSize) (tracesIn t ++ (x ∷ [])) (joinedTables t x) (lastOf (way (treeIn t) x))
+unfoldable pub insertedTables : Measures → List Trace → Tree → Trace → TreeTables → TreeTables
+insertedTables m stored [] x h = firstTables m x h
+insertedTables m stored (root ∷ rest) x h =
+    splitAllOf (m .leafSize) (stored ++ (x ∷ [])) (joinedTables stored (root ∷ rest) x h) (lastOf (way (root ∷ rest) x))
+
+-- nodes and links of tables, and with a trace more
+abbrev pub treeTablesIn : Tables → TreeTables
+treeTablesIn t = treeTables (t .nodes) (t .links) (nodeCount t)
+
+abbrev pub treeTablesAfter : Tables → Trace → TreeTables
+treeTablesAfter t x = insertedTables (measuresOf t) (tracesIn t) (treeIn t) x (treeTablesIn t)
 
 -- the tables after an accepted adding. "Adding .. leave[s] search work as it was"
 unfoldable pub addedTo : Tables → Trace → Tables
 addedTo t x =
-    let h = treeTablesAfter t x (nodeCount t) in
+    let h = treeTablesAfter t x in
     tables (set (set (t .control) traceCountPlace (suc (traceCount t))) nodeCountPlace (h .count))
     (paste (t .samples) (traceCount t * measuresOf t .n) x (measuresOf t .n))
     (h .nodes) (h .links) (t .work)

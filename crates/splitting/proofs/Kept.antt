@@ -26,7 +26,9 @@ use Rattle.insertion_memory.proofs.ReadBack.{kindNumber}
 use Rattle.dstree.proofs.Cuts.{parted-rises}
 use Rattle.dstree.proofs.Nodes.{nodes-most}
 use Rattle.dstree.proofs.Splits.{best-is-good}
+use Rattle.insertion_memory.specs.Represents.{Space}
 use Rattle.insertion_memory.proofs.Represents.{Means, m-leaf, m-inner, AllBelow, Represents, links-rise}
+use Rattle.insertion_memory.proofs.Beginnings.{represents-like}
 use Rattle.insertion_memory.proofs.Splitting.{split-at}
 use Rattle.splitting.specs.Splits as needs
 use Rattle.splitting.specs.Splits.{IsLeaf, Splits}
@@ -49,6 +51,23 @@ leaf-first {links} {r} k e (m-inner {test} q f p s) low = by (test .figure) q
 numbers-some : (links : List ℕ) (k x : ℕ) → 0 < length (numbersOf links k x)
 unfolding numbersFrom
 numbers-some links k x = omega arith
+
+-- what stands for a tree, with room for the traces, does so by itself
+pub represented-by : {n c k : ℕ} {nodes : List ℤ} {links : List ℕ} {h : TreeTables} {tree : Tree} (samples : List ℤ)
+    → Space n c nodes links → Represents n c nodes links k h tree → k * n ≤ length samples → Represented (h .nodes) (h .links) samples n k (h .count)
+represented-by {c} {h} {tree} samples space s room = record {
+  capacity = c;
+  tree = tree;
+  space = record {
+    wide = space .wide;
+    narrow = space .narrow;
+    small = space .small;
+    nodes-room = omega (arith, space .nodes-room, s .nodes-size);
+    links-room = omega (arith, space .links-room, s .links-size);
+  };
+  represents = represents-like h s refl (λ j g. refl) (λ t g. refl);
+  samples-room = room;
+}
 
 -- ---- one node
 
@@ -131,25 +150,4 @@ module _ {nodes : List ℤ} {links : List ℕ} {samples : List ℤ} {n k count :
       links-stay = represents′ .links-size
 
       pub represents-on : Represented nodes′ links′ samples n k count′
-      represents-on = record {
-        capacity = c;
-        tree = split leafSize traces tree at;
-        space = record {
-          wide = s .space .wide;
-          narrow = s .space .narrow;
-          small = s .space .small;
-          nodes-room = omega (arith, s .space .nodes-room, nodes-stay);
-          links-room = omega (arith, s .space .links-room, links-stay);
-        };
-        represents = record {
-          few = represents′ .few;
-          count = represents′ .count;
-          reads = represents′ .reads;
-          shape = represents′ .shape;
-          nodes-size = refl;
-          nodes-behind = refl;
-          links-size = refl;
-          links-behind = refl;
-        };
-        samples-room = s .samples-room;
-      }
+      represents-on = represented-by samples (s .space) represents′ (s .samples-room)

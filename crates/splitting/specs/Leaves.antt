@@ -4,11 +4,11 @@ use mathlib.Core.Path.{_≡_}
 use mathlib.Core.List.{List, _++_}
 use lib.IntN.{ℤ}
 use lib.ListN.{length, getD, take, drop}
+use Rattle.dstree.specs.Measures.{mostTraces}
 use Rattle.dstree.specs.Node.{Segment}
 use Rattle.tables.specs.Layout.{headPlaces, segmentPlaces}
 use Rattle.dstree.specs.Adding.{segmentsOf, tracesOf}
 use Rattle.dstree.specs.Formed.{Rises}
-use Rattle.dstree.specs.Measures.{mostTraces}
 use Rattle.tables.specs.Walk.{storedIn, numbersOf, Stored}
 use Rattle.leaf_figures.specs.Sides.{marked}
 use Rattle.leaf_figures.specs.Ends.{endsOf, EndsRoom}

@@ -6,11 +6,11 @@ use mathlib.Core.List.{List}
 use lib.IntN.{ℤ, natAbs}
 use lib.ListN.{length}
 use Rattle.segment.specs.Limits.{scatterMost}
+use Rattle.dstree.specs.Measures.{mostSamples, mostNodes}
 use Rattle.dstree.specs.Node.{ends, mostSegments}
 use Rattle.dstree.specs.Adding.{Split, best}
 use Rattle.dstree.specs.Formed.{Rises}
-use Rattle.dstree.specs.Measures.{mostSamples}
-use Rattle.tables.specs.Layout.{kindPlace, segmentsPlace, firstPlace, recordPlaces, nodePlaces}
+use Rattle.tables.specs.Layout.{kindPlace, segmentsPlace, firstPlace, recordPlaces}
 use Rattle.tables.specs.Tables.{recordOf}
 use Rattle.tables.specs.View.{smallAt, segmentsIn}
 use Rattle.tables.specs.Walk.{storedIn, numbersOf, Stored}
@@ -24,7 +24,7 @@ pub record TwoSides (nodes : List ℤ) (count : ℕ) (cut : Split) : Type 0 wher
   pub left-some : 0 < length (cut .left)
   pub right-some : 0 < length (cut .right)
   pub room : suc (suc count) * recordPlaces ≤ length nodes
-  pub few : suc (suc count) ≤ nodePlaces
+  pub few : suc count ≤ mostNodes
 
 -- node `at` is the leaf whose list starts at `head`, with the right ends e, and a choice parts it
 pub record Parts (nodes : List ℤ) (links : List ℕ) (samples : List ℤ) (n k count at head : ℕ) (e : Ends) (c : Choice) : Type 0 where
@@ -45,5 +45,5 @@ pub record IsLeaf (nodes : List ℤ) (links : List ℕ) (samples : List ℤ) (n 
 pub record Splits (nodes : List ℤ) (links : List ℕ) (samples : List ℤ) (n k count at : ℕ) : Type 0 where
   pub inside : at < count
   pub room : count * recordPlaces ≤ length nodes
-  pub few : count ≤ nodePlaces
+  pub few : count ≤ suc mostNodes
   pub is-leaf : smallAt (recordOf nodes at) kindPlace ≡ 0 → IsLeaf nodes links samples n k count at

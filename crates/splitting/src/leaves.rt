@@ -9,9 +9,9 @@ use tables::records::record_start;
 ghost use mathlib.Core.Path.{_≡_};
 ghost use Prim.Native.Nat.{_+_, _*_, _≤_};
 ghost use lib.ListN.{length};
+ghost use Rattle.dstree.specs.Measures.{mostTraces, mostNodes};
 ghost use Rattle.dstree.specs.Adding.{segmentsOf, tracesOf};
 ghost use Rattle.dstree.specs.Formed.{Rises};
-ghost use Rattle.dstree.specs.Measures.{mostNodes, mostTraces};
 ghost use Rattle.tables.specs.Layout.{recordPlaces};
 ghost use Rattle.tables.specs.Tables.{withRecord};
 ghost use Rattle.tables.specs.Walk.{storedIn, numbersOf, Stored};
@@ -31,7 +31,8 @@ pub fn write_segments(
     mark: u8,
     e: leaf_figures::ends::Ends,
 )
-    requires { ⌜ (length (now «record») ≡ recordPlaces) × Stored (now samples) (now links) n k head × (length (now marks) ≡ mostTraces) × EndsRoom e × Rises n 1 (endsOf e) ⌝ }
+    requires { ⌜ (length (now «record») ≡ recordPlaces) × Stored (now samples) (now links) n k head
+        × (length (now marks) ≡ mostTraces) × EndsRoom e × Rises n 1 (endsOf e) ⌝ }
     ensures { λ _. ⌜ now («record» .exit) ≡ withSegments (now («record» .entry))
         (segmentsOf (endsOf e) (tracesOf (storedIn (now (samples .entry)) n k) (marked (now (marks .entry)) mark (numbersOf (now (links .entry)) k head)))) ⌝ }
 {
@@ -79,7 +80,8 @@ pub fn write_leaf(
     mark: u8,
     e: leaf_figures::ends::Ends,
 )
-    requires { ⌜ (j * recordPlaces + recordPlaces ≤ length (now nodes)) × (j ≤ mostNodes) × Side (now samples) (now links) n k head (now marks) mark e ⌝ }
+    requires { ⌜ (j * recordPlaces + recordPlaces ≤ length (now nodes)) × (j ≤ mostNodes)
+        × Side (now samples) (now links) n k head (now marks) mark e ⌝ }
     ensures { λ _. ⌜ now (nodes .exit) ≡ withRecord (now (nodes .entry)) j (sideRecord (now (samples .entry)) (now (links .entry)) n k head (now (marks .entry)) mark (endsOf e)) ⌝ }
 {
     let first = crate::lists::first_on_side(links, k, head, marks, mark);

@@ -46,7 +46,8 @@ pub fn list_side(
     mark: u8,
     order: &mut [u16; 4096],
 ) -> usize
-    requires { ⌜ (head < k) × (k ≤ mostTraces) × (k ≤ length (now links)) × Rising (now links) k × (length (now marks) ≡ mostTraces) × (length (now order) ≡ mostTraces) ⌝ }
+    requires { ⌜ (head < k) × (k ≤ mostTraces) × (k ≤ length (now links)) × Rising (now links) k
+        × (length (now marks) ≡ mostTraces) × (length (now order) ≡ mostTraces) ⌝ }
     ensures { λ r. ⌜ take r (now (order .exit)) ≡ marked (now (marks .entry)) mark (numbersOf (now (links .entry)) k head) ⌝ }
     ensures few { λ r. ⌜ r ≤ mostTraces ⌝ }
     ensures size { λ _. ⌜ length (now (order .exit)) ≡ mostTraces ⌝ }
@@ -79,7 +80,8 @@ pub fn first_on_side(links: &[u16], k: usize, head: usize, marks: &[u8; 4096], m
 
 // Each trace of a list linked to the next, and the last to 0. A link that stayed as it was does not meet this.
 pub fn lay(links: &mut [u16], order: &[u16; 4096], count: usize)
-    requires { ⌜ (0 < count) × (count ≤ mostTraces) × (length (now order) ≡ mostTraces) × ((i : ℕ) → i < count → getD (now order) i 0 < length (now links)) ⌝ }
+    requires { ⌜ (0 < count) × (count ≤ mostTraces) × (length (now order) ≡ mostTraces)
+        × ((i : ℕ) → i < count → getD (now order) i 0 < length (now links)) ⌝ }
     ensures { λ _. ⌜ now (links .exit) ≡ linked (take count (now (order .entry))) (now (links .entry)) ⌝ }
 {
     let last = count - 1;

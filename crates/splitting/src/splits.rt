@@ -7,15 +7,15 @@ use tables::records::node_small;
 use tables::records::record_at;
 ghost use mathlib.Core.Path.{_≡_};
 ghost use mathlib.Core.Option.{some};
-ghost use Prim.Native.Nat.{suc, _*_, _≤_, _<_};
+ghost use Prim.Native.Nat.{suc, _*_, _≤_};
 ghost use lib.ListN.{length};
+ghost use Rattle.dstree.specs.Measures.{mostNodes};
 ghost use Rattle.tables.specs.Layout.{recordPlaces};
 ghost use Rattle.tables.specs.Tables.{withRecord};
 ghost use Rattle.tables.specs.Walk.{storedIn, numbersOf};
 ghost use Rattle.leaf_figures.specs.Ends.{endsOf};
 ghost use Rattle.insertion_memory.specs.Memory.{treeTables, splitTo, splitAt};
 ghost use Rattle.split_choice.specs.Choosing.{splitOf};
-ghost use Rattle.dstree.specs.Measures.{mostNodes};
 ghost use Rattle.splitting.specs.Leaves.{Side, sideRecord};
 ghost use Rattle.splitting.specs.Splits.{Parts, Splits};
 
@@ -31,7 +31,7 @@ fn write_sides(
     marks: &[u8; 4096],
     e: leaf_figures::ends::Ends,
 )
-    requires { ⌜ (suc (suc count) * recordPlaces ≤ length (now nodes)) × (count < mostNodes)
+    requires { ⌜ (suc (suc count) * recordPlaces ≤ length (now nodes)) × (suc count ≤ mostNodes)
         × Side (now samples) (now links) n k head (now marks) 1 e × Side (now samples) (now links) n k head (now marks) 2 e ⌝ }
     ensures { λ _. ⌜ now (nodes .exit)
         ≡ withRecord

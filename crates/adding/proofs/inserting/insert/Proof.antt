@@ -6,14 +6,14 @@ use native.Mathlib.Omega.{arith}
 use lib.IntN.{ℤ}
 use denote.Ref.{now}
 use borrow.Author.Needs.{needs}
-use Rattle.dstree.specs.Measures.{Trace}
 use Rattle.dstree.specs.Adding.{segmentsOf}
-use Rattle.tables.specs.Tables.{withRecord}
-use Rattle.tables.specs.Walk.{storedIn}
+use Rattle.tables.specs.Tables.{Tables, tables, measuresOf, nodeCount, withRecord}
+use Rattle.tables.specs.View.{treeIn, tracesIn}
+use Rattle.tables.proofs.Views.{tree-size}
 use Rattle.insertion_memory.specs.Records.{leafRecord}
-use Rattle.insertion_memory.specs.Memory.{treeTables, splitAllOf}
-use Rattle.insertion.specs.Way.{leafBy}
-use Rattle.adding.specs.Inserting.{joinedBy, insertedBy}
+use Rattle.insertion_memory.specs.Memory.{treeTables, firstTables, treeTablesIn}
+use Rattle.insertion_memory.proofs.FromTables.{space}
+use Rattle.insertion_memory.proofs.Meaning.{inserted-first}
 use Rattle.adding.proofs.inserting.insert.Statement.{statement}
 use Rattle.adding.proofs.inserting.insert.Tie as tie
 
@@ -21,40 +21,39 @@ some-of : (m : ℕ) → (m ≡ 0 → ⊥) → 0 < m
 some-of zero f = absurd (f refl)
 some-of (suc m) f = omega arith
 
-inserted-more : (nodes : List ℤ) (links : List ℕ) (samples : List ℤ) (n k leafSize : ℕ) (x : Trace) (count : ℕ) → 0 < count
-    → insertedBy nodes links samples n k leafSize x count ≡ splitAllOf leafSize (storedIn samples n (suc k)) (joinedBy nodes links k x count) (leafBy nodes x count)
-unfolding insertedBy
-inserted-more nodes links samples n k leafSize x zero h = absurd (omega arith)
-inserted-more nodes links samples n k leafSize x (suc count) h = refl
+abbrev lent : tie.Start → Tables
+lent s = tables (now (s .args .control)) (now (s .args .samples)) (now (s .args .nodes)) (now (s .args .links)) []
+
+first-leaf-requires : tie.Need-first-leaf-requires
+first-leaf-requires c κs =
+    let s = c .before .before .before .before .before .before in
+    let p = s .pre .0 in
+    let room = space (lent s) (p .formed) (p .long) in
+    (omega (arith, room .nodes-room, p .less), omega (arith, room .links-room, p .less), omega (arith, room .narrow, p .size))
 
 returns : tie.Need-returns
-unfolding insertedBy
+unfolding firstTables
 returns c =
     let f = c .before .before .before in
-    let t = f .before .before .before in
-    let s = t .before .before in
-    let g = s .args in
-    let N = now (g .nodes) in
-    let L = now (g .links) in
-    let x = now (g .trace) in
-    let made : f .first-leaf .last .0 ≡ withRecord N 0 (leafRecord (segmentsOf (g .n ∷ []) (x ∷ [])) 0) =
-    f .first-leaf .ensures .0 ∙ ap (λ (m : ℕ). withRecord N 0 (leafRecord (segmentsOf (m ∷ []) (x ∷ [])) 0)) (s .pre .size) in
+    let e = f .before .before .before in
+    let s = e .before .before .before .before in
+    let t = lent s in
+    let x = now (s .args .trace) in
+    let made : f .first-leaf .last .0 ≡ withRecord (t .nodes) 0 (leafRecord (segmentsOf (measuresOf t .n ∷ []) (x ∷ [])) 0) =
+    f .first-leaf .ensures .0 ∙ ap (λ (m : ℕ). withRecord (t .nodes) 0 (leafRecord (segmentsOf (m ∷ []) (x ∷ [])) 0)) (s .pre .0 .size) in
+    let none-yet : nodeCount t ≡ 0 = sym (e .before .field .ensures) ∙ e .if1 .taken in
     ap₂ (λ (u : List ℤ) (v : List ℕ). treeTables u v 1) made (f .first-leaf .ensures .1)
-    ∙ ap (λ (m : ℕ). insertedBy N L (now (g .samples)) (g .n) (g .k) (g .leaf-size) x m) (sym (t .if1 .taken))
+    ∙ sym (inserted-first (measuresOf t) (tracesIn t) (treeIn t) x (treeTablesIn t) (tree-size t ∙ none-yet))
 
 insert-more-requires : tie.Need-insert-more-requires
-insert-more-requires c κs = let e = c .before .before in e .before .before .pre .joins (some-of (e .before .before .args .count) (e .if1 .left))
-
-returns-2 : tie.Need-returns-2
-returns-2 c =
-    let m = c .before .before .before in
-    let e = m .before .before .before in
-    let g = e .before .before .args in
-    m .insert-more .ensures ∙ sym (inserted-more (now (g .nodes)) (now (g .links)) (now (g .samples)) (g .n) (g .k) (g .leaf-size) (now (g .trace)) (g .count) (some-of (g .count) (e .if1 .left)))
+insert-more-requires c κs =
+    let e = c .before .before in
+    let s = e .before .before .before .before in
+    (s .pre .0, s .pre .1, some-of (nodeCount (lent s)) (λ z. e .if1 .left (e .before .field .ensures ∙ z)))
 
 pub insert-spec : {M : Type 1} → statement M
 insert-spec =
     tie.close
     (tie.spec
-    (λ c κs. search needs) (λ c. search needs) (λ c. search needs) returns insert-more-requires (λ c. search needs)
-    (λ c. search needs) returns-2)
+    (λ c κs. search needs) first-leaf-requires (λ c. search needs) (λ c. search needs) returns insert-more-requires (λ c. search needs)
+    (λ c. search needs) (λ c. c .before .before .before .insert-more .ensures))

@@ -8,7 +8,7 @@ use lib.IntN.{ℤ}
 use lib.ListN.{length}
 use denote.Ref.{now}
 use borrow.Rule.Slice.PartMut.{putMid}
-use Rattle.dstree.specs.Measures.{Trace}
+use Rattle.dstree.specs.Measures.{Trace, mostNodes}
 use Rattle.tables.specs.Layout.{kindPlace, recordPlaces}
 use Rattle.tables.specs.Tables.{recordOf, withRecord}
 use Rattle.tables.specs.View.{smallAt}
@@ -44,7 +44,7 @@ module _ (l : tie.At-loop Inv-loop μ-loop) where
   inside : at * recordPlaces + recordPlaces ≤ length nodes
   inside = fits ok x (l .loop .inv)
 
-  low : at ≤ 8191
+  low : at ≤ mostNodes
   low = omega (arith, ok .few, l .loop .inv .inside)
 
   same : recordOf nodes at ≡ recordOf (now (l .before .args .nodes)) at
@@ -90,7 +90,7 @@ next-of-requires c κs =
     let n = length (x l) in
     let P : List ℤ → Type 0 = λ r. (length r ≡ recordPlaces) × (smallAt r kindPlace ≤ 2) × (1 ≤ smallAt r kindPlace → TestReadable r n) in
     let there : P (recordOf (now (l .before .args .nodes)) (at l)) =
-    (ok l .readable (at l) i .size, ok l .kind (at l) i, λ h. ok l .passable (at l) i h .test) in
+    (ok l .readable (at l) i .size, ok l .kind (at l) i, ok l .test (at l) i) in
     (l .before .pre .1, subst P (sym (read-is c ∙ same l)) there)
 
 widen-record-requires : tie.Need-widen-record-requires Inv-loop μ-loop

@@ -2,13 +2,13 @@
 use Prim.Native.Nat.{ℕ, zero, suc, _+_, _≤_, _<_}
 use mathlib.Core.Path.{_≡_, refl, sym, _∙_, ap, subst}
 use mathlib.Core.Option.{some, Option·some-injective}
-use mathlib.Core.List.{List, [], _∷_, map, foldl, flatten}
+use mathlib.Core.List.{List, [], _∷_, map, foldl, flatten, foldl-append}
 use native.Mathlib.Numerals.{add-one}
 use native.Mathlib.Nat.{le-antisymm}
 use native.Mathlib.Omega.{arith}
 use lib.ListN.{length, getD, take, drop, length-map, List·getD-map}
 use Rattle.integer.specs.Words.{counting, those, isIn}
-use Rattle.integer.proofs.Lists.{In, in-getD, fold-append, those-agree, those-lengths, from-counting}
+use Rattle.integer.proofs.Lists.{In, in-getD, those-agree, those-lengths, from-counting}
 use Rattle.integer.proofs.Rows.{table-is}
 use Rattle.dstree.specs.Measures.{Trace, workNeeded}
 use Rattle.dstree.specs.Formed.{Shape}
@@ -39,7 +39,7 @@ module _ (t : Tables) (run : Trace) (many : ℕ) where
   unfolding batchRead traceIn
   read-more i =
       ap (foldl (readFor (tracesIn t) (treeIn t)) []) (pieces-more (measuresOf t .n) i run)
-      ∙ fold-append (readFor (tracesIn t) (treeIn t)) [] (queriesOf t run i) (queryAt t run i ∷ [])
+      ∙ foldl-append (readFor (tracesIn t) (treeIn t)) [] (queriesOf t run i) (queryAt t run i ∷ [])
 
   -- ---- the loop over the queries
 

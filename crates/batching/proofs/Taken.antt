@@ -1,29 +1,29 @@
 -- Tables and a batch of which nothing is refused may be searched, and the list has as many records as there are queries.
-use Prim.Native.Nat.{ℕ, _*_, _≤_, _<_}
+use Prim.Native.Nat.{ℕ, _*_, _≤_}
 use mathlib.Core.Path.{_≡_}
 use mathlib.Core.Bool.{true, not}
 use mathlib.Core.Option.{none}
 use mathlib.Core.List.{List, [], _∷_, _++_}
-use native.Mathlib.Omega.{arith}
-use borrow.Author.Tests.{not-false, eqb-true, eqb-false, ltb-false}
+use borrow.Author.Tests.{not-false}
 use lib.ListN.{length}
-use lib.Dec.{eqb, ltb, leb, leb→le, eqb→eq}
+use lib.Dec.{eqb, leb, leb→le, eqb→eq}
 use Rattle.integer.proofs.Tests.{passed, is-true}
 use Rattle.dstree.specs.Measures.{Trace, workNeeded, within}
 use Rattle.dstree.specs.Matching.{leaves}
-use Rattle.dstree.specs.Refusals.{firstOf, wrongTrace, empty, shortTrail, badBatch}
+use Rattle.dstree.specs.Refusals.{firstOf, badBatch}
 use Rattle.dstree.specs.Batch.{mostQueries, isBatch}
 use Rattle.dstree.proofs.Conditions.{none-first, none-both}
 use Rattle.tables.specs.Layout.{nPlace, recordPlaces}
-use Rattle.tables.specs.Tables.{Tables, field, measuresOf, traceCount, nodeCount}
+use Rattle.tables.specs.Tables.{Tables, field, measuresOf, nodeCount}
 use Rattle.tables.specs.View.{treeIn, kindsNamed, wellFormed}
 use Rattle.tables.specs.Answers.{madeConditions}
 use Rattle.tables.proofs.Judged.{accepted}
 use Rattle.tables.proofs.Views.{measures-fit}
-use Rattle.query_judging.proofs.Taken.{records-fit}
+use Rattle.calls.specs.Effects.{batchConditionsIn}
+use Rattle.calls.proofs.Finds.{run-fits}
 use Rattle.search.specs.Searched.{withoutWork}
 use Rattle.batch_search.specs.Batched.{Searchable}
-use Rattle.calls.specs.Effects.{batchConditionsIn}
+use Rattle.query_judging.proofs.Taken.{records-fit}
 
 pub batch-range : (many places : ℕ) → isBatch many places ≡ true → (1 ≤ many) × (many ≤ mostQueries)
 unfolding isBatch
@@ -43,9 +43,6 @@ own-fits t fine =
     let r = records-fit t fine in
     (r .0, r .1, measures-fit t (accepted t fine .formed) .n-high)
 
-some-of : (k : ℕ) → (k ≡ 0 → ⊥) → 0 < k
-some-of k f = omega (arith, f)
-
 pub record BatchAccepted (t : Tables) (run : Trace) (many : ℕ) (trail : List ℕ) : Type 0 where
   pub work-room : workNeeded (measuresOf t) ≤ length (t .work)
   pub trail-room : length (leaves (treeIn (withoutWork (t .control) (t .samples) (t .nodes) (t .links)))) ≤ length trail
@@ -58,22 +55,20 @@ taken t many places run trail e =
     let parts = none-both (madeConditions t) (batchConditionsIn t many places run trail) e in
     let ok = accepted t (parts .0) in
     let zero = none-first (not (isBatch many places)) badBatch _ (parts .1) in
-    let one = none-first (not (eqb (length run) (measuresOf t .n * many))) wrongTrace _ (zero .1) in
-    let two = none-first (eqb (traceCount t) 0) empty _ (one .1) in
-    let three = none-first (ltb (length trail) (length (leaves (treeIn t)))) shortTrail _ (two .1) in
+    let asked = run-fits t (measuresOf t .n * many) run trail (zero .1) in
     let is-batch = not-false (isBatch many places) (zero .0) in
     let range = batch-range many places is-batch in (
       record {
         work-room = ok .room .work-room;
-        trail-room = ltb-false (length trail) (length (leaves (treeIn t))) (three .0);
+        trail-room = asked .trail-long;
         searchable = record {
           formed = ok .formed;
           control-long = ok .room .long .control-long;
           samples-long = ok .room .long .samples-long;
           nodes-long = ok .room .long .nodes-long;
           links-long = ok .room .long .links-long;
-          some-trace = some-of (traceCount t) (λ q. eqb-false (traceCount t) 0 (two .0) q);
-          run-long = eqb-true (length run) (measuresOf t .n * many) (not-false _ (one .0));
+          some-trace = asked .some-trace;
+          run-long = asked .as-long;
           some-query = range .0;
           few = range .1;
         };

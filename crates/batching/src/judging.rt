@@ -1,13 +1,12 @@
 // What a batch refuses: what every call on made tables does, then another number of queries than 1 to 16 or a list of another length
 // (14), then a run of another length (4), no trace stored (6), and a trail with fewer places than leaves (7).
 
+use query_judging::judge_run;
 use tables::Refusal;
 use tables::Verdict;
 use tables::control::field;
 use tables::numbers::wide;
 use tables::places::N;
-use tables::places::NODE_COUNT;
-use tables::places::TRACE_COUNT;
 use well_formed::judging::judge_tables;
 ghost use mathlib.Core.Path.{_≡_};
 ghost use mathlib.Core.List.{List, _++_};
@@ -55,18 +54,7 @@ fn judge_own(
         return Verdict::Refused(Refusal::BadBatch);
     }
     let n = wide(field(control, N));
-    if queries.len() != n * many {
-        return Verdict::Refused(Refusal::WrongTrace);
-    }
-    let stored = field(control, TRACE_COUNT);
-    if stored == 0 {
-        return Verdict::Refused(Refusal::Empty);
-    }
-    let m = wide(field(control, NODE_COUNT));
-    if trail.len() < query_judging::leaves::leaf_count(nodes, m) {
-        return Verdict::Refused(Refusal::ShortTrail);
-    }
-    Verdict::Fine
+    judge_run(control, nodes, queries, n * many, trail)
 }
 
 pub fn judge(

@@ -1,6 +1,6 @@
 -- Well-formed tables are `Branching`. From it: over all nodes, each number but 0 is once among the children, and no bound falls on the way down.
 use Prim.Native.Nat.{ℕ, zero, suc, _+_, _≤_, _<_, max}
-use mathlib.Core.Path.{_≡_, refl, sym, _∙_, subst}
+use mathlib.Core.Path.{_≡_, sym, _∙_, subst}
 use mathlib.Core.List.{List, [], _∷_, map, flatten}
 use native.Mathlib.Omega.{arith}
 use lib.ListN.{length, getD}
@@ -8,13 +8,13 @@ use lib.Dec.{T, leb, leb→le}
 use mir.Facts.{and-yes}
 use Rattle.integer.specs.Words.{counting, timesIn}
 use Rattle.integer.proofs.Tests.{passed}
-use Rattle.integer.proofs.Lists.{In, first, later, in-nil, InFlat, flat, from-flat}
-use Rattle.integer.proofs.Times.{times-same, times-other, times-none, times-once, counting-length}
+use Rattle.integer.proofs.Lists.{In, first, later, InFlat, flat, from-flat}
+use Rattle.integer.proofs.Times.{times-once, counting-length}
 use Rattle.dstree.specs.Measures.{Trace, Measures, within, inRange}
-use Rattle.dstree.specs.Node.{Test, Kind, leaf, inner, Tree, nodeAt}
+use Rattle.dstree.specs.Node.{Test, Kind, inner, Tree, nodeAt}
 use Rattle.dstree.specs.Matching.{ownBound, hasChild, bound}
 use Rattle.dstree.specs.WellFormed.{childrenOf}
-use Rattle.dstree.proofs.Formed.{Formed, Parent, well-formed, child-in, in-child, child-node}
+use Rattle.dstree.proofs.Formed.{Formed, Parent, well-formed, child-in, in-child, child-node, children-once}
 use Rattle.dstree.proofs.Nodes.{nodes-at-most}
 use Rattle.dstree.proofs.Bounds.{child-bound}
 use Rattle.best_first.specs.Branching.{Branching}
@@ -53,14 +53,6 @@ pub has-right : (kind : Kind) {test : Test} {l r : ℕ} → kind ≡ inner test 
 unfolding childrenOf
 has-right kind {test} {l} {r} e = in-child r kind (subst (λ (k : Kind). In r (childrenOf k)) (sym e) (later first))
 
--- of two children that differ, each is there once
-kid-once : (c : ℕ) (kind : Kind) → ((test : Test) (l r : ℕ) → kind ≡ inner test l r → l ≡ r → ⊥) → In c (childrenOf kind) → timesIn c (childrenOf kind) ≡ 1
-unfolding childrenOf
-kid-once c (leaf ns) differ i = absurd (in-nil i)
-kid-once c (inner test l r) differ first = omega (arith, times-same c (r ∷ []), times-other c r [] (differ test c r refl), times-none c [] (λ i. in-nil i))
-kid-once c (inner test l r) differ (later first) = omega (arith, times-other c l (c ∷ []) (λ e. differ test l c refl (sym e)), times-same c [], times-none c [] (λ i. in-nil i))
-kid-once c (inner test l r) differ (later (later i)) = absurd (in-nil i)
-
 counting-at : (n a j : ℕ) → j < n → getD (counting n a) j 0 ≡ a + j
 unfolding counting
 counting-at zero a j h = absurd (omega arith)
@@ -82,7 +74,8 @@ module _ (tree : Tree) (b : Branching tree) where
             place = p .parent;
             inside = rw (counting-length (length tree) 0) inside;
             once = subst (λ (j : ℕ). timesIn c (kids tree j) ≡ 1) (sym (at-place (p .parent) inside))
-                (kid-once c (nodeAt tree (p .parent) .kind) (b .children .children-differ (p .parent)) (child-in c (nodeAt tree (p .parent) .kind) (p .has)));
+                (children-once c (nodeAt tree (p .parent) .kind) (b .children .children-differ (p .parent))
+                (child-in c (nodeAt tree (p .parent) .kind) (p .has)));
             only = λ j h i.
                 let g : j < length tree = rw (counting-length (length tree) 0) at h in
                 b .children .one-parent j (p .parent) c (in-child c (nodeAt tree j .kind) (subst (λ (k : ℕ). In c (kids tree k)) (at-place j g) i)) (p .has);

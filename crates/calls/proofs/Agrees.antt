@@ -2,13 +2,13 @@
 -- a reading agree with every book, whatever the memory held before.
 use Prim.Native.Nat.{ℕ, _+_, _*_, _≤_, _<_}
 use mathlib.Core.Path.{_≡_, refl, sym, ap, ap₂, subst, _∙_}
-use mathlib.Core.Bool.{true, false, not}
+use mathlib.Core.Bool.{true, not}
 use mathlib.Core.Option.{Option, none, some}
 use mathlib.Core.List.{List, [], _∷_, _++_, foldl}
 use native.Mathlib.Omega.{arith}
 use lib.ListN.{length, getD, drop, replicate, length-append}
 use lib.Seq.{take-append-seam}
-use lib.Dec.{T, leb, ltb, eqb, le→leb, leb→le}
+use lib.Dec.{T, leb, ltb, eqb, le→leb}
 use borrow.Author.Tests.{not-false, eqb-true, eqb-false, ltb-false}
 use Rattle.integer.specs.Words.{every}
 use Rattle.integer.proofs.Tests.{passed, passes, is-true, eq→eqb}
@@ -31,6 +31,7 @@ use Rattle.dstree.proofs.KLaws.{k-nearest}
 use Rattle.dstree.proofs.BatchLaws.{query-size, batch}
 use Rattle.dstree.proofs.RoundTrips.{is-library}
 use Rattle.dstree.proofs.Recordings.{file-traces}
+use Rattle.dstree.proofs.Libraries.{library-of}
 use Rattle.tables.specs.Layout.{layout}
 use Rattle.tables.specs.Tables.{Tables, lentOf, measuresOf}
 use Rattle.tables.specs.View.{treeIn, tracesIn}
@@ -38,8 +39,8 @@ use Rattle.tables.specs.Judge.{openingConditionsOf, Room}
 use Rattle.tables.specs.Beginning.{left, Begins}
 use Rattle.tables.specs.Answers.{openingConditions}
 use Rattle.tables.proofs.Beginning.{tables-same, left-same, left-begins, begins-on}
-use Rattle.insertion_memory.specs.Memory.{addedTo}
 use Rattle.tables.specs.Holds.{Holds}
+use Rattle.insertion_memory.specs.Memory.{addedTo}
 use Rattle.insertion_memory.proofs.Made.{takes-more}
 use Rattle.insertion_memory.proofs.AddedBeginnings.{added-begins}
 use Rattle.calls.specs.Outcome.{Effect}
@@ -148,14 +149,11 @@ module _ (memory part : Tables) (begins : Begins part memory) (b : Book) (keeps 
 
   adding-puts : (x : Trace) → T (areSamples x) → firstOf (shortConditions layout (lentOf part) m ++ addingRest x) ≡ none
       → Keeps (left (addedTo part x) memory) (book m (b .traces ++ (x ∷ [])))
-  unfolding isLibrary
   adding-puts x samples e =
       let parts = none-both (shortConditions layout (lentOf part) m) (addingRest x) e in
       let one = none-first (not (eqb (length x) (m .n))) wrongTrace _ (parts .1) in
       let two = none-first (eqb (length (b .traces)) (m .capacity)) full _ (one .1) in
-      let most : length (b .traces) ≤ m .capacity = leb→le (length (b .traces)) (m .capacity)
-      (passed (inRange m) (leb (length (b .traces)) (m .capacity) ∷ every (isTrace sampleLimit (m .n)) (b .traces) ∷ [])
-      (keeps .library) .1 .0) in
+      let most = library-of sampleLimit m (b .traces) (keeps .library) .room in
       let less : length (b .traces) < m .capacity = strict most (λ q. eqb-false (length (b .traces)) (m .capacity) (two .0) q) in
       let grows = library-grows m (b .traces) (x ∷ []) (keeps .library)
       (one-trace m x samples (eqb-true (length x) (m .n) (not-false _ (one .0)))) (omega (arith, less)) in

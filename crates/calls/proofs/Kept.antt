@@ -11,10 +11,11 @@ use lib.Seq.{getD-take}
 use lib.Dec.{T}
 use borrow.Author.Tests.{ltb-false}
 use Rattle.integer.proofs.Tests.{test-true}
-use Rattle.dstree.specs.Measures.{Measures, inRange}
+use Rattle.dstree.specs.Measures.{Measures, inRange, sampleLimit}
 use Rattle.dstree.specs.Refusals.{Condition, firstOf, shortTable}
 use Rattle.dstree.specs.Book.{Lent, Book, controlShort, tablesShort, shortConditions}
 use Rattle.dstree.proofs.Conditions.{none-first}
+use Rattle.dstree.proofs.Libraries.{library-of}
 use Rattle.tables.specs.Layout.{layout, nPlace, capacityPlace, leafSizePlace, controlFields}
 use Rattle.tables.specs.Tables.{Tables, lentOf, field, measuresOf, traceCount}
 use Rattle.tables.specs.View.{wellFormed}
@@ -27,7 +28,7 @@ use Rattle.tables.specs.Holds.{Holds}
 use Rattle.insertion_memory.proofs.Made.{count-is}
 use Rattle.insertion_memory.proofs.Beginnings.{holds-whole}
 use Rattle.calls.specs.Library.{libraryTables, Keeps}
-use Rattle.calls.proofs.Library.{need, room-within, library-range, library-holds, library-lent}
+use Rattle.calls.proofs.Library.{need, room-within, library-holds, library-lent}
 
 -- where lengths are not refused, there is room
 pub short-room : (lengths : Lent) (m : Measures) (rest : List Condition) → firstOf (shortConditions layout lengths m ++ rest) ≡ none
@@ -108,7 +109,7 @@ module _ {memory : Tables} {b : Book} (keeps : Keeps memory b) (part : Tables) (
       → SameRefusal rest others part m
   made-same rest others same =
       judged-same memory part begins m (holds-whole (keeps .needed-places) own-holds .measures-are) rest others
-      (test-true (inRange m) (library-range m (b .traces) (keeps .library)))
+      (test-true (inRange m) (library-of sampleLimit m (b .traces) (keeps .library) .measured))
       (λ room. let h = part-holds room in (h .formed, same h))
 
   pub counted : Holds part m (b .traces) → traceCount part ≡ length (b .traces)

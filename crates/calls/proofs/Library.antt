@@ -7,21 +7,19 @@ use native.Mathlib.Omega.{arith}
 use lib.IntN.{pos}
 use lib.ListN.{length, take, drop, replicate, length-replicate}
 use lib.Seq.{take-append-seam, drop-at}
-use lib.Dec.{T, leb}
-use Rattle.integer.specs.Words.{every}
-use Rattle.integer.proofs.Tests.{passed}
-use Rattle.dstree.specs.Measures.{Trace, Measures, sampleLimit, inRange, isTrace, isLibrary}
-use Rattle.dstree.specs.Measures.{samplesNeeded, recordsNeeded, linksNeeded, workNeeded}
+use lib.Dec.{T}
+use Rattle.dstree.specs.Measures.{Trace, Measures, sampleLimit, isLibrary, samplesNeeded, recordsNeeded, linksNeeded, workNeeded}
 use Rattle.dstree.specs.Book.{Lent}
+use Rattle.dstree.proofs.Libraries.{library-of}
 use Rattle.tables.specs.Layout.{controlFields, recordPlaces}
 use Rattle.tables.specs.Tables.{Tables, lentOf, measuresOf, filled}
 use Rattle.tables.specs.Judge.{lent, Room}
 use Rattle.tables.specs.Beginning.{Begins, LentWithin}
 use Rattle.tables.specs.Answers.{opened}
 use Rattle.tables.proofs.Beginning.{tables-same, opened-lent}
+use Rattle.tables.specs.Holds.{Holds}
 use Rattle.insertion_memory.specs.Memory.{addedTo}
 use Rattle.insertion_memory.proofs.Meaning.{AfterAdding, meaning}
-use Rattle.tables.specs.Holds.{Holds}
 use Rattle.insertion_memory.proofs.Made.{takes-more, made-holds, shorter}
 use Rattle.insertion_memory.proofs.AddedBeginnings.{added-begins}
 use Rattle.calls.specs.Library.{blank, loaded, libraryTables, beyond}
@@ -58,11 +56,6 @@ room-within r = record {
   links-within = r .long .links-long;
   work-within = r .work-room;
 }
-
-pub library-range : (m : Measures) (traces : List Trace) → T (isLibrary sampleLimit m traces) → T (inRange m)
-unfolding isLibrary
-library-range m traces library = passed (inRange m)
-    (leb (length traces) (m .capacity) ∷ every (isTrace sampleLimit (m .n)) traces ∷ []) library .0
 
 -- ---- one trace after another
 
@@ -105,7 +98,7 @@ module _ (t : Tables) (m : Measures) (room : Room (lentOf t) m) where
 
   pub loaded-holds : (traces : List Trace) → T (isLibrary sampleLimit m traces) → Holds (loaded t m traces) m traces
   unfolding loaded
-  loaded-holds traces library = made-holds t m (library-range m traces library) room traces library
+  loaded-holds traces library = made-holds t m (library-of sampleLimit m traces library .measured) room traces library
 
   -- one more adding, as its meaning has it
   adding-to : (before : List Trace) (x : Trace) → T (isLibrary sampleLimit m (before ++ (x ∷ []))) → AfterAdding (loaded t m before) x
@@ -151,14 +144,16 @@ all-filled {A = A} k z = ap (λ (d : List A). replicate k z ++ d) (drop-end k) �
     drop-end zero = refl
     drop-end (suc k) = drop-end k
 
+-- adding leaves search work as it was, however many traces are added
+pub work-stays : (t : Tables) (more : List Trace) → foldl addedTo t more .work ≡ t .work
+unfolding addedTo
+work-stays t [] = refl
+work-stays t (x ∷ more) = work-stays (addedTo t x) more
+
 -- "The needed search work is left zero"
 pub library-work : (m : Measures) (traces : List Trace) → libraryTables m traces .work ≡ replicate (workNeeded m) 0
-unfolding loaded opened blank addedTo
-library-work m traces = stays (opened (blank m) m) traces ∙ all-filled {A = ℕ} (workNeeded m) 0
-  where
-    stays : (t : Tables) (more : List Trace) → foldl addedTo t more .work ≡ t .work
-    stays t [] = refl
-    stays t (x ∷ more) = stays (addedTo t x) more
+unfolding loaded opened blank
+library-work m traces = work-stays (opened (blank m) m) traces ∙ all-filled {A = ℕ} (workNeeded m) 0
 
 -- what is loaded into more places begins with what is loaded into the needed ones
 module _ (part : Tables) (m : Measures) (room : Room (lentOf part) m) where

@@ -21,6 +21,7 @@ use Rattle.dstree.specs.Book.{Lent, Book, shortConditions}
 use Rattle.dstree.proofs.Conditions.{none-first, none-both}
 use Rattle.dstree.proofs.Limits.{trace-length}
 use Rattle.dstree.proofs.Checking.{accepted-exact, made-accepted}
+use Rattle.dstree.proofs.Libraries.{library-of}
 use Rattle.tables.specs.Layout.{layout}
 use Rattle.tables.specs.Tables.{Tables, lentOf, measuresOf, traceCount}
 use Rattle.tables.specs.View.{treeIn, tracesIn}
@@ -37,7 +38,7 @@ use Rattle.insertion_memory.proofs.Beginnings.{Agree, agree-back, begins-agree,
 use Rattle.calls.specs.Library.{libraryTables, Keeps}
 use Rattle.calls.specs.Trusted.{bookIn, Trusts}
 use Rattle.calls.specs.Effects.{checks}
-use Rattle.calls.proofs.Library.{library-range, library-holds, library-lent, need-room}
+use Rattle.calls.proofs.Library.{library-holds, library-lent, need-room}
 use Rattle.calls.proofs.Kept.{SameRefusal, measures-lent, judged-same}
 use Rattle.calls.proofs.Stored.{stored-library}
 
@@ -125,7 +126,7 @@ module _ {memory : Tables} {b : Book} (k : Trusts memory b) {part : Tables} (beg
       → SameRefusal rest others part (b .measures)
   trusted-same rest others same =
       judged-same memory part begins (b .measures) (k .measures-are) rest others
-      (test-true (inRange (b .measures)) (library-range (b .measures) (b .traces) (k .library)))
+      (test-true (inRange (b .measures)) (library-of sampleLimit (b .measures) (b .traces) (k .library) .measured))
       (λ room. let t = part-trusts room in (t .formed, same t))
 
   -- so a check refuses no more than lengths

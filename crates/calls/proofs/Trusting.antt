@@ -9,13 +9,13 @@ use mathlib.Core.Logic.{_⊎_, inl, inr}
 use mathlib.Core.List.{List, [], _∷_, _++_, foldl, append-assoc, append-nil}
 use native.Mathlib.Omega.{arith}
 use lib.ListN.{length, length-append}
-use lib.Dec.{T, leb, ltb, eqb, leb→le}
+use lib.Dec.{T, ltb, eqb}
 use borrow.Author.Tests.{not-false, eqb-false, ltb-false}
 use Rattle.integer.specs.Words.{if_then_else_, every}
 use Rattle.integer.specs.Lists.{In, first, later}
-use Rattle.integer.proofs.Tests.{passed, passes, is-true, test-true}
+use Rattle.integer.proofs.Tests.{passes, is-true, test-true}
 use Rattle.integer.proofs.Lists.{in-nil, in-cons, from-every, every-of, strict}
-use Rattle.dstree.specs.Measures.{Trace, Measures, sampleLimit, inRange, areSamples, isTrace, isLibrary, workNeeded}
+use Rattle.dstree.specs.Measures.{Trace, Measures, sampleLimit, areSamples, isTrace, isLibrary, workNeeded}
 use Rattle.dstree.specs.Matching.{Match, matchBySteps}
 use Rattle.dstree.specs.Refusals.{Refusal, Condition, _refuses_, firstOf, wrongTrace, full, badRecording, looseRecord, numberOf}
 use Rattle.dstree.specs.Claims.{RangesOf}
@@ -31,6 +31,7 @@ use Rattle.dstree.proofs.Conditions.{none-first, none-both, first-some, first-n
 use Rattle.dstree.proofs.Limits.{trace-length}
 use Rattle.dstree.proofs.Recordings.{file-traces}
 use Rattle.dstree.proofs.Checking.{exactness, adding-accepted}
+use Rattle.dstree.proofs.Libraries.{library-of}
 use Rattle.tables.specs.Layout.{layout}
 use Rattle.tables.specs.Tables.{Tables, lentOf, measuresOf, traceCount}
 use Rattle.tables.specs.View.{treeIn, tracesIn, kindsNamed, wellFormed}
@@ -189,9 +190,7 @@ module _ (memory part : Tables) (begins : Begins part memory) (b : Book) (k : Tr
           let own = none-both (shortConditions layout (lentOf part) m) rest (sym judged ∙ f) .1 in
           let one = none-first (not (eqb (length x) (m .n))) wrongTrace _ own in
           let two = none-first (eqb (length (b .traces)) (m .capacity)) full _ (one .1) in
-          let most : length (b .traces) ≤ m .capacity = leb→le (length (b .traces)) (m .capacity)
-          (passed (inRange m) (leb (length (b .traces)) (m .capacity) ∷ every (isTrace sampleLimit (m .n)) (b .traces) ∷ [])
-          (k .library) .1 .0) in
+          let most = library-of sampleLimit m (b .traces) (k .library) .room in
           add-trusts (lent-trusts _ f) x (passes (eqb (length x) (m .n)) (areSamples x ∷ []) (is-true {b = eqb (length x) (m .n)} (not-false _ (one .0)), samples))
           (strict most (λ q. eqb-false (length (b .traces)) (m .capacity) (two .0) q))
 

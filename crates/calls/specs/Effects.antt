@@ -9,7 +9,7 @@ use Rattle.dstree.specs.Measures.{Trace, Measures, workNeeded}
 use Rattle.dstree.specs.Matching.{leaves, Near, Match, matchBySteps}
 use Rattle.dstree.specs.KNearest.{listPlaces, kNearestBySteps}
 use Rattle.dstree.specs.Batch.{queriesIn, batchConditions, batchBySteps}
-use Rattle.dstree.specs.Refusals.{Condition, _refuses_, empty, looseRecord}
+use Rattle.dstree.specs.Refusals.{Condition, _refuses_, empty, looseRecord, runConditions}
 use Rattle.dstree.specs.Checking.{isExact}
 use Rattle.dstree.specs.Sheet.{blocksNeeded, sheetOf, Judged, refused, holds, judgeSheet}
 use Rattle.dstree.specs.Recording.{recordingSize, recordingOf, judgeRecording, fileTraces}
@@ -42,7 +42,11 @@ adds t x = record {
 
 -- ---- a match: the same; then 4, 6, 7
 
--- what a search refuses of its query and its trail
+-- what a search refuses of a run of so many samples and of its trail
+abbrev pub runConditionsIn : Tables → ℕ → Trace → List ℕ → List Condition
+runConditionsIn t size run trail = runConditions size (traceCount t) (length (leaves (treeIn t))) run trail
+
+-- .. of its query
 abbrev pub queryConditionsIn : Tables → Trace → List ℕ → List Condition
 queryConditionsIn t query trail = queryConditions (measuresOf t) (traceCount t) (treeIn t) query trail
 

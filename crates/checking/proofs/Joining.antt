@@ -2,7 +2,7 @@
 -- traces follow from its children's.
 use mathlib.Core.Path.{_≡_, refl, ap, _∙_}
 use mathlib.Core.Logic.{_⊎_, inl, inr}
-use mathlib.Core.List.{List, [], _∷_, _++_, map, foldl, map-append}
+use mathlib.Core.List.{List, [], _∷_, _++_, map, foldl, map-append, foldl-append}
 use Prim.Native.Nat.{ℕ, _<_, min, max}
 use native.Mathlib.Omega.{arith}
 use lib.IntN.{ℤ, pos}
@@ -10,7 +10,7 @@ use lib.ListN.{length, length-map}
 use lib.Signed.{_≤ℤ_}
 use Rattle.integer.specs.Words.{lesser, greater, chosen}
 use Rattle.integer.proofs.Order.{≤ℤ-trans, ≤ℤ-antisym}
-use Rattle.integer.proofs.Lists.{lesser-left, lesser-right, greater-left, greater-right, lesser-either, greater-either, fold-append}
+use Rattle.integer.proofs.Lists.{lesser-left, lesser-right, greater-left, greater-right, lesser-either, greater-either}
 use Rattle.dstree.specs.Measures.{Trace}
 use Rattle.dstree.specs.Figures.{Run, sumOn, scatterOn}
 use Rattle.dstree.specs.Node.{Segment}
@@ -31,7 +31,7 @@ module _ {A : Type 0} (choice : A → A → A) (other : A) (assoc : (a b c : A) 
   unfolding chosen
   chosen-both [] m h g = absurd (omega arith)
   chosen-both (a ∷ l) [] h g = absurd (omega arith)
-  chosen-both (a ∷ l) (b ∷ m) h g = fold-append choice a l (b ∷ m) ∙ fold-on (foldl choice a l) b m
+  chosen-both (a ∷ l) (b ∷ m) h g = foldl-append choice a l (b ∷ m) ∙ fold-on (foldl choice a l) b m
 
 lesser-most : {z a b : ℤ} → z ≤ℤ a → z ≤ℤ b → z ≤ℤ lesser a b
 lesser-most {z} {a} {b} h g = by (lesser-either a b)

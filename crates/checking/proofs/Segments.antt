@@ -16,7 +16,7 @@ use Rattle.dstree.specs.Formed.{Rises, rises-more}
 use Rattle.dstree.specs.Adding.{segmentOf}
 use Rattle.dstree.specs.Checking.{sameFigures, areExact}
 use Rattle.dstree.proofs.Recomputed.{same-figures}
-use Rattle.tables.specs.Layout.{segmentsPlace, segmentAt}
+use Rattle.tables.specs.Layout.{segmentsPlace}
 use Rattle.tables.specs.View.{smallAt, segmentIn, segmentsIn}
 use Rattle.checking.specs.Compared.{firstOn}
 
@@ -92,7 +92,3 @@ segment-is traces r i t h =
     same-figures (segmentIn r i) (segmentOf traces (run (firstOn r i) (segmentIn r i .end))) refl
     (subst (λ (x : ℕ). T (sameFigures (segmentIn r x) (segmentOf traces (run (firstOn r x) (segmentIn r x .end))))) z
     (passed-at traces r (smallAt r segmentsPlace) 0 i t h))
-
-pub end-at : (r : List ℤ) (i : ℕ) → segmentIn r i .end ≡ smallAt r (segmentAt i)
-unfolding segmentIn
-end-at r i = refl

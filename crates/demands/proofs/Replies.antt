@@ -36,20 +36,29 @@ use Rattle.calls.specs.Outcome.{Outcome, outcome, unlessRefused}
 use Rattle.calls.specs.Effects.{opens, adds, resultOf, trailOf, isNone, cleared, matches, writes, reads, lists, imports, exports, checks}
 use Rattle.calls.specs.Effects.{batches, effectOf, outcomeOn}
 use Rattle.calls.specs.Follows.{Typed}
+use Rattle.calls.proofs.Library.{work-stays}
 use Rattle.calls.proofs.Finds.{found, last-never}
+use Rattle.checking.specs.declared.Checked.{Checked}
+use Rattle.checking.specs.declared.Checked.the-variants as k
+use Rattle.checking.specs.Answered as checking-answer
 use Rattle.opening.specs.declared.Opened.{Opened}
 use Rattle.opening.specs.declared.Opened.the-variants as o
 use Rattle.opening.specs.Opened as opening-answer
 use Rattle.adding.specs.declared.Added.{Added}
 use Rattle.adding.specs.declared.Added.the-variants as a
 use Rattle.adding.specs.Answered as adding-answer
+use Rattle.reading.proofs.Places.{nears-in}
 use Rattle.matching.specs.declared.Found.{Found}
 use Rattle.matching.specs.declared.Found.the-variants as f
 use Rattle.matching.specs.Answered as matching-answer
+use Rattle.batching.specs.declared.AnswerRecord as batch-record
+use Rattle.batching.specs.declared.Batched.{Batched as BatchOutcome}
+use Rattle.batching.specs.declared.Batched.the-variants as b
+use Rattle.batching.specs.Answered as batching-answer
+use Rattle.batch_answers.specs.AnswerRecords.{nearsOf}
 use Rattle.listing.specs.declared.Listed.{Listed}
 use Rattle.listing.specs.declared.Listed.the-variants as l
 use Rattle.listing.specs.Answered as listing-answer
-use Rattle.reading.proofs.Places.{nears-in}
 use Rattle.sheet_writing.specs.declared.Written.{Written}
 use Rattle.sheet_writing.specs.declared.Written.the-variants as w
 use Rattle.sheet_writing.specs.Answered as writing-answer
@@ -63,15 +72,7 @@ use Rattle.exporting.specs.declared.Exported.{Exported}
 use Rattle.exporting.specs.declared.Exported.the-variants as x
 use Rattle.exporting.specs.Answered as exporting-answer
 use Rattle.exporting.proofs.Exportable.{Exportable, exportable}
-use Rattle.checking.specs.declared.Checked.{Checked}
-use Rattle.checking.specs.declared.Checked.the-variants as k
-use Rattle.checking.specs.Answered as checking-answer
 use Rattle.demands.specs.Did.{WithTables, CallMade, by-open, by-add, by-nearest, by-write, by-read, by-list, by-import, by-export}
-use Rattle.batching.specs.declared.AnswerRecord as batch-record
-use Rattle.batching.specs.declared.Batched.{Batched as BatchOutcome}
-use Rattle.batching.specs.declared.Batched.the-variants as b
-use Rattle.batching.specs.Answered as batching-answer
-use Rattle.batch_answers.specs.AnswerRecords.{nearsOf}
 use Rattle.demands.specs.Did.{by-check, by-batch}
 use Rattle.demands.specs.Theorem.{Replied}
 
@@ -213,12 +214,6 @@ listing-said t k query trail list none = record {
   where
     m : KNearest
     m = kNearestBySteps k (tracesIn t) (treeIn t) query
-
--- adding leaves search work as it was, however many traces are added
-work-stays : (t : Tables) (more : List Trace) → foldl addedTo t more .work ≡ t .work
-unfolding addedTo
-work-stays t [] = refl
-work-stays t (x ∷ more) = work-stays (addedTo t x) more
 
 importing-said : (t : Tables) (bytes : List ℕ) (o : Option word.Refusal) → let e = unlessRefused o t [] (imports t bytes) in
     Said (λ (r : Imported) (l : List ℕ). outcome (importing-answer.answerBy r)

@@ -7,7 +7,7 @@ use mathlib.Core.Path.{_≡_, refl, sym, _∙_, ap, subst}
 use mathlib.Core.Logic.{_⊎_, inl, inr}
 use mathlib.Core.Bool.{Bool, true, false}
 use mathlib.Core.Option.{none, some}
-use mathlib.Core.List.{List, [], _∷_, _++_, map, foldl, flatten, append-nil}
+use mathlib.Core.List.{List, [], _∷_, _++_, map, foldl, flatten, append-nil, foldl-append}
 use native.Mathlib.Omega.{arith}
 use native.Mathlib.Nat.{le-antisymm}
 use lib.ListN.{length, getD}
@@ -15,7 +15,7 @@ use lib.Dec.{T, leb}
 use borrow.Author.Tests.{leb-true, leb-false}
 use Rattle.integer.specs.Words.{if_then_else_, those, isIn}
 use Rattle.integer.proofs.Lists.{In, first, later, in-nil, in-cons, is-in, in-is, InFlat, flat, from-flat, in-flat, map-agree, those-agree}
-use Rattle.integer.proofs.Lists.{fold-append, All, all-in, all-at, up-same, those-apart, map-apart, no-fewer}
+use Rattle.integer.proofs.Lists.{All, all-in, all-at, up-same, those-apart, map-apart, no-fewer}
 use Rattle.segment.specs.Figures.{distance}
 use Rattle.dstree.specs.Measures.{Trace}
 use Rattle.dstree.specs.Node.{Tree}
@@ -27,8 +27,8 @@ use Rattle.dstree.specs.Batch.{WantedBy, BatchClaims, BatchOfExact, OneC
 use Rattle.dstree.proofs.Formed.{formed}
 use Rattle.dstree.proofs.Containing.{Containing, of-exact}
 use Rattle.dstree.proofs.Reading.{InOrder, order-none, order-more, with-bound, in-reading, reading-in-order, reading-apart}
-use Rattle.dstree.proofs.Search.{AtLeast, fold-least, not-above, is-above, none-in-R, IsNear, is-near, winner}
-use Rattle.dstree.proofs.Closed.{trail-has, least-at-most, nearest, LeafOf, leaf-of, in-distances, from-distances}
+use Rattle.dstree.proofs.Search.{AtLeast, fold-least, not-above, is-above, none-in-R, IsNear, winner}
+use Rattle.dstree.proofs.Closed.{trail-has, least-at-most, near-least, nearest, LeafOf, leaf-of, in-distances, from-distances}
 use Rattle.dstree.proofs.Closed as closed
 use Rattle.dstree.proofs.BatchSteps.{same-in, once-has, all-keeps, all-has, all-from, trail-up}
 use Rattle.dstree.proofs.BatchSteps as steps
@@ -54,10 +54,8 @@ module _ (n : ℕ) (stored : List Trace) (tree : Tree) (c : Containing n stored 
     -- no best is below d
     best-least : (read : List ℕ) → AtLeast d (bestAmong stored tree query read)
     unfolding bestAmong
-    best-least read = fold-least d none tt (all-in (distancesAmong stored tree query read) (λ b i. by b (from-among read i)))
-      where
-        by : (b : Near) → IsNear stored query b → d ≤ b .distance
-        by b (is-near t h e) = rw e (least-at-most stored tree query t h)
+    best-least read = fold-least d none tt (all-in (distancesAmong stored tree query read)
+        (λ b i. near-least stored tree query (from-among read i)))
 
     -- with the leaves of R read, the best is the match's
     pub best-found : (read : List ℕ) → ((k : ℕ) → In k R → In k read) → bestAmong stored tree query read ≡ some
@@ -157,7 +155,7 @@ module _ (n : ℕ) (stored : List Trace) (tree : Tree) (c : Containing n stored 
       let R = matchOf stored tree q .trail in
       ap (λ (l : List ℕ). foldl (readFor stored tree) l rest) (reads-match q (h q first) read)
       ∙ reads-all (foldl readOnce read R) rest (λ p i. h p (later i))
-      ∙ sym (fold-append readOnce read R (wanted stored tree rest))
+      ∙ sym (foldl-append readOnce read R (wanted stored tree rest))
 
   module _ (queries : List Trace) (of-n : OfN queries) where
     abbrev all : List ℕ

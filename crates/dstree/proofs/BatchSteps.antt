@@ -5,32 +5,28 @@ use mathlib.Core.Path.{_≡_, refl, sym, _∙_, ap, subst}
 use mathlib.Core.Logic.{_⊎_, inl, inr}
 use mathlib.Core.Bool.{Bool, true, false}
 use mathlib.Core.Option.{none, some}
-use mathlib.Core.List.{List, [], _∷_, _++_, map, foldl, flatten}
+use mathlib.Core.List.{List, [], _∷_, _++_, map, foldl, flatten, foldl-append}
 use native.Mathlib.Omega.{arith}
 use native.Mathlib.Nat.{le-antisymm}
 use lib.ListN.{length, length-map}
 use lib.Dec.{T}
 use Rattle.integer.specs.Words.{if_then_else_, counting, those, isIn, timesIn}
-use Rattle.integer.proofs.Tests.{is-true, test-true, test-false}
+use Rattle.integer.proofs.Tests.{is-true, test-true, test-false, same-test}
 use Rattle.integer.proofs.Lists.{same-or-not, In, first, later, in-nil, in-cons, some-in, in-getD, is-in, in-is, in-append-left}
-use Rattle.integer.proofs.Lists.{in-append-right}
-use Rattle.integer.proofs.Lists.{in-snoc, map-agree, InFlat, flat, from-flat, in-flat, from-those, in-those}
-use Rattle.integer.proofs.Lists.{fold-first, fold-all, fold-in, Up, up-those, counting-up, Apart, apart-none, apart-more, apart-append}
-use Rattle.integer.proofs.Lists.{up-same}
-use Rattle.integer.proofs.Lists.{no-fewer, fold-append}
+use Rattle.integer.proofs.Lists.{in-append-right, in-snoc, map-agree, InFlat, flat, from-flat, in-flat, from-those, in-those}
+use Rattle.integer.proofs.Lists.{fold-in, Up, up-those, counting-up, Apart, apart-none, apart-more, apart-append, up-same, no-fewer}
 use Rattle.integer.proofs.Times.{times-same, times-other, times-none}
 use Rattle.dstree.specs.Measures.{Trace}
-use Rattle.dstree.specs.Node.{Kind, leaf, inner, Tree, nodeAt}
-use Rattle.dstree.specs.Formed.{Shape, Kept}
+use Rattle.dstree.specs.Node.{Tree, nodeAt}
+use Rattle.dstree.specs.Formed.{Shape}
 use Rattle.dstree.specs.Matching.{LeafBound, isLeaf, numbersIn, leaves, readingOrder, readOn, Near, nearAt, isNearer, nearer}
-use Rattle.dstree.specs.Matching.{bestWith}
-use Rattle.dstree.specs.Matching.{distancesIn, isAbove}
+use Rattle.dstree.specs.Matching.{bestWith, distancesIn, isAbove}
 use Rattle.dstree.specs.KNearest.{distancesAmong}
 use Rattle.dstree.specs.Batch.{batchWith, bestAmong, readOnce, readFor, batchRead, nearOrZero, batchBySteps, NearestOf, StepsClaims}
 use Rattle.dstree.specs.Batch.{StepsOfFormed, BatchOffTrail}
-use Rattle.dstree.proofs.Formed.{number-node, formed}
-use Rattle.dstree.proofs.Reading.{from-leaves, in-leaves, reading-of, reading-length}
-use Rattle.dstree.proofs.Search.{Comes, comes-trans, comes-refl, nearer-first, nearer-second, nearer-either, fold-some}
+use Rattle.dstree.proofs.Formed.{formed}
+use Rattle.dstree.proofs.Reading.{from-leaves, kept-leaf, leaf-full, reading-of, reading-length}
+use Rattle.dstree.proofs.Search.{comes-first, Comes, nearer-either, fold-some}
 use Rattle.dstree.proofs.Ranks.{Nearer, nearer-yes}
 use Rattle.dstree.proofs.OffTrail.{alike-in}
 use Rattle.dstree.proofs.KSteps.{one-more}
@@ -39,11 +35,7 @@ use Rattle.dstree.proofs.KSteps.{one-more}
 
 -- a number is in both of two lists or in neither
 pub same-in : (k : ℕ) (l m : List ℕ) → (In k l → In k m) → (In k m → In k l) → isIn k l ≡ isIn k m
-same-in k l m there back = by (isIn k l) refl
-  where
-    by : (t : Bool) → isIn k l ≡ t → isIn k l ≡ isIn k m
-    by true e = e ∙ sym (test-true (isIn k m) (in-is (there (is-in k l (is-true e)))))
-    by false e = e ∙ sym (test-false (isIn k m) (λ i. is-true (sym e ∙ test-true (isIn k l) (in-is (back (is-in k m i))))))
+same-in k l m there back = same-test (λ i. in-is (there (is-in k l i))) (λ i. in-is (back (is-in k m i)))
 
 -- numbers that differ are there once at most
 apart-once : (k : ℕ) {l : List ℕ} → Apart (λ (j : ℕ). j) l → timesIn k l ≤ 1
@@ -229,7 +221,7 @@ pub best-more : (stored : List Trace) (tree : Tree) (query : Trace) (read : List
 unfolding bestAmong
 best-more stored tree query read number =
     ap (foldl bestWith none) (one-more 1 stored tree query read number)
-    ∙ fold-append bestWith none (distancesAmong stored tree query read) (distancesIn stored tree query number)
+    ∙ foldl-append bestWith none (distancesAmong stored tree query read) (distancesIn stored tree query number)
 
 comes-no : (a b : Near) → Comes a b → isNearer b a ≡ false
 comes-no a b c = test-false (isNearer b a) (λ t. by c (nearer-yes b a (test-true (isNearer b a) t)))
@@ -245,13 +237,8 @@ unfolding bestWith nearOrZero
 best-of [] h = absurd (omega arith)
 best-of (a ∷ l) h = rw (fold-some a l) (record {
   among = fold-in nearer nearer-either a l;
-  none-nearer = λ b i. comes-no
-      (foldl nearer a l) b (at b (in-cons i));
+  none-nearer = λ b i. comes-no (foldl nearer a l) b (comes-first a l i);
 })
-  where
-    at : (b : Near) → (b ≡ a) ⊎ In b l → Comes (foldl nearer a l) b
-    at b (inl e) = rw e (fold-first Comes comes-trans comes-refl nearer nearer-first nearer-second a l)
-    at b (inr i) = fold-all Comes comes-trans comes-refl nearer nearer-first nearer-second a i
 
 -- the same traces in other leaves
 nearest-in : (l m : List Near) (a : Near) → ((b : Near) → In b l → In b m) → ((b : Near) → In b m → In b l) → NearestOf l a → NearestOf m a
@@ -260,25 +247,8 @@ nearest-in l m a there back o = record { among = there a (o .among); none-nearer
 -- ---- well-formed tables with a trace
 
 module _ (n : ℕ) (stored : List Trace) (tree : Tree) (shape : Shape n (length stored) tree) (one : 0 < length stored) where
-  -- "no leaf empty"
-  leaf-full : {k : ℕ} → In k (leaves tree) → 0 < length (numbersIn (nodeAt tree k .kind))
-  unfolding isLeaf numbersIn
-  leaf-full {k} i = by (nodeAt tree k .kind) refl (from-leaves tree i .1)
-    where
-      by : (a : Kind) → nodeAt tree k .kind ≡ a → T (isLeaf a) → 0 < length (numbersIn a)
-      by (leaf l) e t = shape .full k (from-leaves tree i .0) l e
-      by (inner test l r) e t = absurd t
-
   some-leaf : 0 < length (leaves tree)
-  unfolding isLeaf numbersIn isIn
-  some-leaf = by (shape .kept 0 one)
-    where
-      leafy : (a : Kind) → T (isIn 0 (numbersIn a)) → T (isLeaf a)
-      leafy (leaf l) i = tt
-      leafy (inner test l r) i = absurd i
-
-      by : Kept tree 0 → 0 < length (leaves tree)
-      by k = some-in (in-leaves tree (number-node tree 0 (k .at) (k .holds)) (leafy (nodeAt tree (k .at) .kind) (k .holds)))
+  some-leaf = some-in (kept-leaf (shape .kept 0 one))
 
   -- the first query reads a leaf
   record Some (read : List ℕ) : Type 0 where
@@ -307,7 +277,7 @@ module _ (n : ℕ) (stored : List Trace) (tree : Tree) (shape : Shape n (length 
   nears-full query read o s =
       let numbers = numbersIn (nodeAt tree (s .number) .kind) in
       let full : 0 < length (map (nearAt stored query) numbers) =
-      omega (arith, leaf-full (o .of-tree (s .number) (s .is-read)), length-map numbers (nearAt stored query)) in
+      omega (arith, leaf-full shape (o .of-tree (s .number) (s .is-read)), length-map numbers (nearAt stored query)) in
       some-in (in-flat (distancesIn stored tree query) (s .is-read)
       (in-getD (map (nearAt stored query) numbers) 0 (nearAt stored query 0) full))
 

@@ -22,10 +22,10 @@ use Rattle.dstree.specs.Adding.{tracesOf}
 use Rattle.dstree.specs.Matching.{bound, LeafBound, isLeaf, numbersIn, leaves, readingOrder, Near, nearAt, Search, distancesIn, searchOn}
 use Rattle.dstree.specs.Matching.{searched, matchFrom, matchBySteps, leastDistance, lowestAt, leavesR, matchOf}
 use Rattle.dstree.specs.Claims.{of-leaf, numbersAmong, LeavesOutOnlyAbove, ClaimsOf, ClaimsOfExact}
-use Rattle.dstree.proofs.Formed.{Kept, number-node, formed}
+use Rattle.dstree.proofs.Formed.{Kept, formed}
 use Rattle.dstree.proofs.Containing.{Containing, of-exact}
 use Rattle.dstree.proofs.Bounds.{bound-at-most}
-use Rattle.dstree.proofs.Reading.{from-leaves, in-leaves, reading-of, in-reading, reading-in-order, reading-apart}
+use Rattle.dstree.proofs.Reading.{kept-leaf, from-leaves, reading-of, in-reading, reading-in-order, reading-apart}
 use Rattle.dstree.proofs.Search.{Far, Hit, SameDistances, readAll, reads-R, nearsRead, read-trail, read-traces, read-best, LowestAt, lowest, IsNear, is-near, winner}
 
 -- ---- R
@@ -60,6 +60,9 @@ module _ (stored : List Trace) (tree : Tree) (query : Trace) where
   pub least-at-most : (t : ℕ) → t < length stored → leastDistance stored query ≤ distance query (getD stored t [])
   unfolding leastDistance
   least-at-most t h = least-low (in-map (distance query) (in-getD stored t [] h))
+
+  pub near-least : {b : Near} → IsNear stored query b → leastDistance stored query ≤ b .distance
+  near-least (is-near t h e) = rw e (least-at-most t h)
 
   module _ (n : ℕ) (c : Containing n stored tree) where
     of-numbers : (numbers : List ℕ) (t : ℕ) → In t numbers → ((u : ℕ) → In u numbers → u < length stored) → leastDistance stored query ≤ leastDistance (tracesOf stored numbers) query
@@ -158,17 +161,12 @@ module _ (n : ℕ) (stored : List Trace) (tree : Tree) (c : Containing n stored 
     pub low : bound tree query at ≤ distance query (getD stored t [])
 
   pub leaf-of : (t : ℕ) → t < length stored → LeafOf t
-  unfolding isLeaf numbersIn isIn
   leaf-of t h = by (c .shape .kept t h)
     where
-      leafy : (a : Kind) → T (isIn t (numbersIn a)) → T (isLeaf a)
-      leafy (leaf l) i = tt
-      leafy (inner test l r) i = absurd i
-
       by : Kept tree t → LeafOf t
       by k = record {
         at = k .at;
-        is-leaf = in-leaves tree (number-node tree t (k .at) (k .holds)) (leafy (nodeAt tree (k .at) .kind) (k .holds));
+        is-leaf = kept-leaf k;
         holds = is-in t (numbersIn (nodeAt tree (k .at) .kind)) (k .holds);
         low = bound-at-most n stored tree c query all-n lq (k .at) t (of-leaf (k .holds));
       }
@@ -185,10 +183,8 @@ module _ (n : ℕ) (stored : List Trace) (tree : Tree) (c : Containing n stored 
       by (of t j e) = is-near t (c .shape .numbers t k (in-is j)) e
 
   far : All (Far stored tree query d) order
-  far = all-in order (λ a i. all-in (distancesIn stored tree query (a .number)) (λ b j. by b (from-distances (a .number) j)))
-    where
-      by : (b : Near) → IsNear stored query b → d ≤ b .distance
-      by b (is-near t h e) = rw e (least-at-most stored tree query t h)
+  far = all-in order (λ a i. all-in (distancesIn stored tree query (a .number))
+      (λ b j. near-least stored tree query (from-distances (a .number) j)))
 
   hit : Some (Hit stored tree query d) order
   hit = some-of (in-reading tree query (o .is-leaf)) (record { low = rw (nearest .at) at (o .low); has = some-of (in-distances t (o .at) (o .holds)) (omega (arith, nearest .at)) })

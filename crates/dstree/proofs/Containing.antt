@@ -5,9 +5,10 @@ use Prim.Native.Nat.{ℕ}
 use mathlib.Core.List.{List, []}
 use lib.ListN.{length, getD}
 use Rattle.dstree.specs.Measures.{Trace, Measures}
-use Rattle.dstree.specs.Node.{Segment, Tree, nodeAt}
-use Rattle.dstree.specs.Claims.{Below, AllExact, exact-none, exact-more, RangesOf}
-use Rattle.dstree.proofs.Ranges.{Covered, covered-none, covered-more}
+use Rattle.dstree.specs.Node.{Tree, nodeAt}
+use Rattle.dstree.specs.Claims.{Below, RangesOf}
+use Rattle.dstree.proofs.Ranges.{Covered}
+use Rattle.dstree.proofs.Exact.{exact-covers}
 use Rattle.dstree.specs.Formed.{Shape, Formed}
 
 pub record Containing (n : ℕ) (stored : List Trace) (tree : Tree) : Type 0 where
@@ -17,18 +18,6 @@ pub record Containing (n : ℕ) (stored : List Trace) (tree : Tree) : Type 0 whe
 
 -- ---- what has it
 
-exact-covers : (stored : List Trace) (P : ℕ → Type 0) (t : ℕ) → P t → {from : ℕ} {l : List Segment} → AllExact stored P from l → Covered (getD stored t []) from l
-exact-covers stored P t p exact-none = covered-none
-exact-covers stored P t p (exact-more h w) =
-    covered-more
-    (record {
-      sum-low = h .least-sum .none-beyond t p;
-      sum-high = h .greatest-sum .none-beyond t p;
-      scatter-low = h .least-scatter .none-beyond t p;
-      scatter-high = h .greatest-scatter .none-beyond t p;
-    })
-    (exact-covers stored P t p w)
-
 -- well-formed tables with "the least and greatest sum and scatter of the traces below"
 pub of-exact : {limit : ℕ} {m : Measures} (stored : List Trace) (tree : Tree) → Formed limit m (length stored) tree → RangesOf stored tree → Containing (m .n) stored tree
-of-exact stored tree f exact = record { shape = f .shape; ranges = λ t k b. exact-covers stored (λ u. Below tree u k) t b (exact k) }
+of-exact stored tree f exact = record { shape = f .shape; ranges = λ t k b. exact-covers (exact k) b }

@@ -15,7 +15,8 @@ use borrow.Author.Tests.{eqb-true, eqb-false}
 use Rattle.integer.specs.Words.{every, counting, isEmpty, isIn, timesIn, lastOf}
 use Rattle.integer.proofs.Tests.{Each, passed, passes, eq→eqb}
 use Rattle.integer.proofs.Order.{natAbs-le, le-natAbs}
-use Rattle.integer.proofs.Lists.{In, first, later, is-in, in-is, in-nil, every-of, from-every, in-counting, from-counting, Up, u-none, u-more, InFlat, flat, from-flat, in-flat, in-getD}
+use Rattle.integer.proofs.Lists.{In, first, later, is-in, in-is, in-nil, not-empty, every-of, from-every, in-counting, from-counting}
+use Rattle.integer.proofs.Lists.{Up, u-none, u-more, InFlat, flat, from-flat, in-flat, in-getD}
 use Rattle.integer.proofs.Times.{times-same, times-other, times-none, times-in, up-once, OnceAt, once-at, times-once, place-of}
 use Rattle.segment.specs.Limits.{sumLimit, scatterLimit, rootLimit}
 use Rattle.dstree.specs.Measures.{Measures, inRange}
@@ -113,11 +114,6 @@ unfolding rising
 up-rising-0 u-none = tt
 up-rising-0 (u-more {a} h u) = up-rising a u
 
-some-not-empty : {A : Type 0} (l : List A) → T (not (isEmpty l)) → 0 < length l
-unfolding isEmpty
-some-not-empty [] t = absurd t
-some-not-empty (a ∷ l) t = omega arith
-
 not-empty-some : {A : Type 0} (l : List A) → 0 < length l → T (not (isEmpty l))
 unfolding isEmpty
 not-empty-some [] h = omega arith
@@ -148,7 +144,7 @@ module _ (n : ℕ) (all : List ℕ) where
   unfolding endsFit
   fits-of t =
       let p = passed (not (isEmpty all)) endTests t in
-      record { parted = parted-of n 0 (some-not-empty all (p .0)) (rising-up 0 all (p .1 .1 .0)) (eqb→eq (lastOf all) n (p .1 .1 .1)); few = leb→le (length all) 16 (p .1 .0) }
+      record { parted = parted-of n 0 (not-empty all (p .0)) (rising-up 0 all (p .1 .1 .0)) (eqb→eq (lastOf all) n (p .1 .1 .1)); few = leb→le (length all) 16 (p .1 .0) }
 
   of-fits : Fits n all → T (endsFit n all)
   unfolding endsFit
@@ -253,7 +249,7 @@ leaf-of : {kind : Kind} (ns : List ℕ) → T (leafFits kind) → kind ≡ leaf 
 unfolding leafFits
 leaf-of ns t e =
     let p = and-yes (rising ns) (not (isEmpty ns)) (subst (λ (a : Kind). T (leafFits a)) e t) in
-    (rising-up-0 ns (p .0), some-not-empty ns (p .1))
+    (rising-up-0 ns (p .0), not-empty ns (p .1))
 
 of-leaf : (kind : Kind) → ((ns : List ℕ) → kind ≡ leaf ns → Up 0 ns × (0 < length ns)) → T (leafFits kind)
 unfolding leafFits
@@ -265,7 +261,9 @@ unfolding testFits
 of-inner limit n (leaf ns) h = tt
 of-inner limit n (inner test left right) h = of-test limit n test left right (h test left right refl)
 
-children-once : (c : ℕ) (kind : Kind) → ((test : Test) (left right : ℕ) → kind ≡ inner test left right → left ≡ right → ⊥) → In c (childrenOf kind) → timesIn c (childrenOf kind) ≡ 1
+-- of two children that differ, each is there once
+pub children-once : (c : ℕ) (kind : Kind) → ((test : Test) (left right : ℕ) → kind ≡ inner test left right → left ≡ right → ⊥)
+    → In c (childrenOf kind) → timesIn c (childrenOf kind) ≡ 1
 unfolding childrenOf
 children-once c (leaf ns) differ i = absurd (in-nil i)
 children-once c (inner test left right) differ i = pair-once (differ test left right refl) i

@@ -36,10 +36,10 @@ use Rattle.dstree.specs.Claims.{of-leaf, numbersAmong}
 use Rattle.dstree.specs.KNearest.{ranking, nears, nearestList, kth, Listing, readInto, stopsAtKth, listOn, listed}
 use Rattle.dstree.specs.KNearest.{KNearest, kNearestBySteps, leavesRk, kNearestOf, listOfMatch, distancesAmong, leavesIn}
 use Rattle.dstree.specs.KNearest.{HoldsK, LeavesOutAbove, LeftOut, KNearestClaims, OneIsMatch}
-use Rattle.dstree.proofs.Formed.{Kept, number-node}
+use Rattle.dstree.proofs.Formed.{Kept}
 use Rattle.dstree.proofs.Containing.{Containing}
 use Rattle.dstree.proofs.Bounds.{bound-at-most}
-use Rattle.dstree.proofs.Reading.{InOrder, order-none, order-more, with-bound, in-leaves, reading-of, in-reading, reading-in-order}
+use Rattle.dstree.proofs.Reading.{kept-leaf, InOrder, order-none, order-more, with-bound, reading-of, in-reading, reading-in-order}
 use Rattle.dstree.proofs.Reading.{reading-apart, reading-length}
 use Rattle.dstree.proofs.Closed.{claims-of}
 use Rattle.dstree.proofs.Ranks.{nearer-no, linear, in-nears, from-nears, nears-length, all-ranked}
@@ -206,18 +206,14 @@ module _ (n : ℕ) (stored : List Trace) (tree : Tree) (c : Containing n stored 
     low : bound tree query at ≤ b .distance
 
   leaf-of : {b : Near} → In b all → LeafOf b
-  unfolding isLeaf numbersIn isIn distancesIn
+  unfolding distancesIn
   leaf-of {b} i = let h : (b .trace < length stored) × (b ≡ nearAt stored query (b .trace)) =
       from-nears stored query (from-sorted isNearer (nears stored query) i) in by (h .1) (c .shape .kept (b .trace) (h .0))
     where
-      leafy : (a : Kind) → T (isIn (b .trace) (numbersIn a)) → T (isLeaf a)
-      leafy (leaf l) i = tt
-      leafy (inner test l r) i = absurd i
-
       by : b ≡ nearAt stored query (b .trace) → Kept tree (b .trace) → LeafOf b
       by e k = record {
         at = k .at;
-        is-leaf = in-leaves tree (number-node tree (b .trace) (k .at) (k .holds)) (leafy (nodeAt tree (k .at) .kind) (k .holds));
+        is-leaf = kept-leaf k;
         holds = subst (λ (a : Near). In a (distancesIn stored tree query (k .at))) (sym e)
             (in-map (nearAt stored query) (is-in (b .trace) (numbersIn (nodeAt tree (k .at) .kind)) (k .holds)));
         low = subst (λ (d : ℕ). bound tree query (k .at) ≤ d) (sym (ap (λ (a : Near). a .distance) e))

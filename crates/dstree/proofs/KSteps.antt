@@ -4,11 +4,11 @@ use Prim.Native.Nat.{ℕ, _+_}
 use mathlib.Core.Path.{_≡_, refl, sym, _∙_, ap}
 use mathlib.Core.Bool.{Bool, true, false}
 use mathlib.Core.Option.{Option, none, some}
-use mathlib.Core.List.{List, [], _∷_, _++_, map, foldl, flatten, append-nil}
+use mathlib.Core.List.{List, [], _∷_, _++_, map, foldl, flatten, append-nil, foldl-append}
 use lib.ListN.{length, take, length-append}
 use Rattle.integer.specs.Words.{if_then_else_}
 use Rattle.integer.specs.Sorting.{sortedWith, atPlace}
-use Rattle.integer.proofs.Lists.{fold-append, flat-append}
+use Rattle.integer.proofs.Lists.{flat-append}
 use Rattle.integer.proofs.Sorting.{keep-sorted}
 use Rattle.dstree.specs.Measures.{Trace}
 use Rattle.dstree.specs.Node.{Tree}
@@ -16,8 +16,7 @@ use Rattle.dstree.specs.Adding.{tracesOf}
 use Rattle.dstree.specs.Claims.{numbersAmong}
 use Rattle.dstree.specs.Matching.{LeafBound, readingOrder, readOn, Near, nearer, bestWith, Search, distancesIn, readLeaf, isAbove}
 use Rattle.dstree.specs.Matching.{isNearer, searchOn, searched}
-use Rattle.dstree.specs.KNearest.{ranking, kth, Listing, listWith, readInto, stopsAtKth, listOn, listed, distancesAmong}
-use Rattle.dstree.specs.KNearest.{StepClaims}
+use Rattle.dstree.specs.KNearest.{ranking, kth, Listing, listWith, readInto, stopsAtKth, listOn, listed, distancesAmong, StepClaims}
 use Rattle.dstree.proofs.OffTrail.{alike-in, same-reading}
 use Rattle.dstree.proofs.Ranks.{linear}
 
@@ -47,7 +46,7 @@ module _ (k : ℕ) (stored : List Trace) (tree : Tree) (query : Trace) where
       let D = distancesIn stored tree query number in
       let E = distancesAmong stored tree query (s .trail) in
       record {
-        list = ap (λ (l : List Near). foldl (listWith k) l D) (o .list) ∙ sym (fold-append (listWith k) [] E D)
+        list = ap (λ (l : List Near). foldl (listWith k) l D) (o .list) ∙ sym (foldl-append (listWith k) [] E D)
             ∙ ap (foldl (listWith k) []) (sym (one-more (s .trail) number));
         traces = ap (λ (n : ℕ). n + length D) (o .traces) ∙ sym (length-append E D) ∙ ap length (sym (one-more (s .trail) number));
       }

@@ -19,6 +19,7 @@ use Rattle.dstree.proofs.Nodes.{nodes-most}
 use Rattle.dstree.proofs.Below.{below-inside, below-root}
 use Rattle.dstree.proofs.Invariant.{ranges-of}
 pub use Rattle.dstree.proofs.Limits.{trace-length}
+use Rattle.dstree.proofs.Libraries.{Library, library-of, traces-are}
 use Rattle.dstree.proofs.Grown.{insertion-inner, MadeTree, tree-made}
 use Rattle.dstree.proofs.Bounds.{child-bound, root-bound}
 use Rattle.dstree.proofs.Routing.{leads-to}
@@ -28,17 +29,11 @@ module _ (limit : ℕ) (m : Measures) (traces : List Trace) (library : T (isLibr
   abbrev tree : Tree
   tree = treeOf m traces
 
-  measured : T (inRange m)
-  unfolding isLibrary
-  measured = passed (inRange m) (leb (length traces) (m .capacity) ∷ every (isTrace limit (m .n)) traces ∷ []) library .0
-
-  room : length traces ≤ m .capacity
-  unfolding isLibrary
-  room = leb→le (length traces) (m .capacity) (passed (inRange m) (leb (length traces) (m .capacity) ∷ every (isTrace limit (m .n)) traces ∷ []) library .1 .0)
+  facts : Library limit m traces
+  facts = library-of limit m traces library
 
   each : T (every (isTrace limit (m .n)) traces)
-  unfolding isLibrary
-  each = passed (inRange m) (leb (length traces) (m .capacity) ∷ every (isTrace limit (m .n)) traces ∷ []) library .1 .1
+  each = traces-are limit (m .n) (facts .even) (facts .small)
 
   all-n : (t : ℕ) → t < length traces → length (getD traces t []) ≡ m .n
   all-n t h = trace-length limit (m .n) (getD traces t []) (from-every (isTrace limit (m .n)) traces each (in-getD traces t [] h))
@@ -47,12 +42,12 @@ module _ (limit : ℕ) (m : Measures) (traces : List Trace) (library : T (isLibr
   leaf-size : 1 ≤ m .leafSize
   unfolding inRange
   leaf-size = leb→le 1 (m .leafSize)
-      (passed (leb 1 (m .leafSize)) (leb (m .leafSize) 64 ∷ []) (passed (within 1 (m .n) 256) (within 1 (m .capacity) 4096 ∷ within 1 (m .leafSize) 64 ∷ []) measured .1 .1) .0)
+      (passed (leb 1 (m .leafSize)) (leb (m .leafSize) 64 ∷ []) (passed (within 1 (m .n) 256) (within 1 (m .capacity) 4096 ∷ within 1 (m .leafSize) 64 ∷ []) (facts .measured) .1 .1) .0)
 
   -- ---- the tree
 
   made : MadeTree limit m leaf-size traces tree
-  made = tree-made limit m leaf-size traces measured room each
+  made = tree-made limit m leaf-size traces (facts .measured) (facts .room) each
 
   -- the rules of "Well-formed tables", as far as they speak of the tree
   pub formed : Formed limit m (length traces) tree

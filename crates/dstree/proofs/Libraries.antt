@@ -1,16 +1,16 @@
 -- What a library is, as facts: measures in range, no more traces than the capacity, n samples each, and each sample within the limit.
 use Prim.Native.Nat.{ℕ, _≤_, _<_}
-use mathlib.Core.Path.{_≡_}
 use mathlib.Core.Bool.{_&&_}
 use mathlib.Core.List.{List, [], _∷_}
 use lib.ListN.{length}
 use lib.IntN.{ℤ}
 use lib.Signed.{mag}
-use lib.Dec.{T, leb, ltb, eqb, leb→le, le→leb, ltb→lt, lt→ltb, eqb→eq}
+use lib.Dec.{T, leb, ltb, eqb, leb→le, le→leb, ltb→lt, lt→ltb}
 use Rattle.integer.specs.Words.{every}
 use Rattle.integer.proofs.Tests.{passed, passes, eq→eqb}
 use Rattle.integer.proofs.Lists.{All, all-none, all-more, all-mono, every-all, all-every}
 use Rattle.dstree.specs.Measures.{Trace, Measures, within, inRange, isTrace, isLibrary}
+use Rattle.dstree.proofs.Limits.{trace-length}
 use Rattle.dstree.proofs.SheetPieces.{AllOfSize}
 
 pub record Highest (m : Measures) : Type 0 where
@@ -43,10 +43,6 @@ module _ (limit : ℕ) where
     pub small : All AllWithinLimit traces
 
   module _ (n : ℕ) where
-    pub trace-sized : (x : Trace) → T (isTrace limit n x) → length x ≡ n
-    unfolding isTrace
-    trace-sized x t = eqb→eq (length x) n (passed (eqb (length x) n) (every (λ sample. ltb (mag sample) limit) x ∷ []) t .0)
-
     pub trace-small : (x : Trace) → T (isTrace limit n x) → AllWithinLimit x
     unfolding isTrace
     trace-small x t = all-mono (λ z p. ltb→lt (mag z) limit p) (every-all (λ sample. ltb (mag sample) limit) x (passed (eqb (length x) n) (every (λ sample. ltb (mag sample) limit) x ∷ []) t .1))
@@ -70,7 +66,7 @@ module _ (limit : ℕ) where
         record {
           measured = all .0;
           room = leb→le (length traces) (m .capacity) (all .1 .0);
-          even = all-mono (trace-sized (m .n)) each;
+          even = all-mono (trace-length limit (m .n)) each;
           small = all-mono (trace-small (m .n)) each;
         }
 

@@ -11,10 +11,10 @@ use native.Mathlib.Decide.{decLe}
 use native.Mathlib.Nat.{lt-of-not-le}
 use lib.ListN.{length, getD, take, length-take}
 use lib.Seq.{take-length, take-take, getD-take}
-use lib.Dec.{T}
 use mir.Facts.{and-yes}
 use Rattle.integer.specs.Words.{those, chosen, least, counting, isEmpty}
-use Rattle.integer.proofs.Tests.{is-true, is-false, test-true}
+use borrow.Author.Tests.{not-true}
+use Rattle.integer.proofs.Tests.{is-true, is-false, test-true, never-both}
 use Rattle.integer.proofs.Lists as lists
 use Rattle.integer.proofs.Lists.{In, first, in-nil, in-cons, in-getD, some-in, from-those, in-those, in-counting, from-counting}
 use Rattle.integer.proofs.Lists.{least-low, least-in}
@@ -22,13 +22,6 @@ use Rattle.integer.proofs.Sorting.{from-take}
 use Rattle.dstree.specs.Adding.{splitBy, parts, showSides, fewestFirst}
 use Rattle.dstree.specs.Claims.{YesOrNo, TakenOf}
 use Rattle.dstree.proofs.Parting.{not-empty}
-
-clash : {b : Bool} → b ≡ true → b ≡ false → ⊥
-clash e f = subst T (sym e ∙ f) tt
-
-opposite : (b : Bool) → T (not b) → b ≡ false
-opposite true t = absurd t
-opposite false t = refl
 
 -- the least of some numbers does not depend on what stands for none
 chosen-some : (other : ℕ) (l : List ℕ) → 0 < length l → chosen min other l ≡ least l
@@ -64,7 +57,7 @@ module _ (goes : ℕ → Bool) where
         left-in = a .0;
         right-in = b .0;
         goes-left = test-true _ (a .1);
-        goes-right = opposite _ (b .1);
+        goes-right = not-true _ (test-true _ (b .1));
       }
 
   shows : {l : List ℕ} → Sides l → showSides goes l ≡ true
@@ -94,13 +87,13 @@ module _ (goes : ℕ → Bool) where
       by : (t : Bool) → showSides goes l ≡ t → t ≡ false
       by true e =
           let s = from-shown l e in
-          absurd (clash (s .goes-left) (h (s .left) (s .left-in) ∙ (sym (h (s .right) (s .right-in)) ∙ s .goes-right)))
+          never-both (s .goes-left) (h (s .left) (s .left-in) ∙ (sym (h (s .right) (s .right-in)) ∙ s .goes-right))
       by false e = refl
 
   -- two sides take two traces
   at-least-two : (l : List ℕ) → Sides l → 2 ≤ length l
   at-least-two [] s = absurd (in-nil (s .left-in))
-  at-least-two (x ∷ []) s = absurd (clash (s .goes-left) (same (in-cons (s .left-in)) (in-cons (s .right-in)) ∙ s .goes-right))
+  at-least-two (x ∷ []) s = never-both (s .goes-left) (same (in-cons (s .left-in)) (in-cons (s .right-in)) ∙ s .goes-right)
     where
       same : (s .left ≡ x) ⊎ In (s .left) [] → (s .right ≡ x) ⊎ In (s .right) [] → goes (s .left) ≡ goes (s .right)
       same (inl p) (inl q) = rw (p, q)
@@ -136,7 +129,7 @@ module _ (goes : ℕ → Bool) where
 
     all-else : showSides goes l ≡ false → fewestFirst goes l ≡ length l
     unfolding fewestFirst
-    all-else e = chosen-none (length l) enough (λ k i. clash
+    all-else e = chosen-none (length l) enough (λ k i. never-both
         (more-show (λ j. from-take k l) (test-true _ (from-those (λ j. showSides goes (take j l)) (counting (suc (length l)) 0) i .1))) e)
 
     of-all : showSides goes l ≡ true → Fewest (length l)
@@ -206,8 +199,8 @@ module _ (goes : ℕ → Bool) where
           (more-show (λ k. from-take (suc i) l) both, omega (arith, f .no-more, no-less))
         where
           late : Dec (fewestFirst goes l ≤ i) → showSides goes (take (fewestFirst goes l) l) ≡ true → i < fewestFirst goes l
-          late (yes h) e = absurd (clash e (one-side b (take (fewestFirst goes l) l) (λ k j. so-far k
-              (from-take (fewestFirst goes l) (take i l) (subst (In k) (sym (take-take (fewestFirst goes l) i l h)) j)))))
+          late (yes h) e = never-both e (one-side b (take (fewestFirst goes l) l) (λ k j. so-far k
+              (from-take (fewestFirst goes l) (take i l) (subst (In k) (sym (take-take (fewestFirst goes l) i l h)) j))))
           late (no f) e = lt-of-not-le f
 
 -- "Its yes or no remains"

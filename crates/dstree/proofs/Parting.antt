@@ -12,6 +12,7 @@ use lib.Dec.{T, T-not, not-T}
 use Rattle.integer.specs.Words.{leastℤ, greatestℤ, those, chosen, isEmpty}
 use Rattle.integer.proofs.Order.{_≤ℤ_, _<ℤ_}
 use Rattle.integer.proofs.Facts.{reading, from, _&_}
+use Rattle.integer.proofs.Tests.{and-false}
 use Rattle.integer.proofs.Lists.{In, first, later, in-map, InMap, of, from-map, from-those, in-those, leastℤ-low, greatestℤ-high, leastℤ-in, greatestℤ-in}
 use Rattle.dstree.specs.Node.{figureOf, goesLeft}
 use Rattle.dstree.specs.Adding.{thresholdOf, testOf, splitBy, parts}
@@ -69,15 +70,11 @@ module _ (g : ℕ → ℤ) where
     sides-of : 0 < length figures → bothSides figures numbers ≡ ltZ (leastℤ figures) (greatestℤ figures)
     sides-of some = by (ltZ (leastℤ figures) (greatestℤ figures)) refl
       where
-        never : (b : Bool) → b && false ≡ false
-        never true = refl
-        never false = refl
-
         by : (t : Bool) → ltZ (leastℤ figures) (greatestℤ figures) ≡ t → bothSides figures numbers ≡ t
         by true e =
             let h : leastℤ figures <ℤ greatestℤ figures = ltZ-yes (subst T (sym e) tt) in
             rw (some-left (from-map g numbers (leastℤ-in figures some)) h, some-right (from-map g numbers (greatestℤ-in figures some)) h)
-        by false e = rw (none-right (ltZ-no (subst (λ t. T (not t)) (sym e) tt))) (never (not (isEmpty (those (goes figures) numbers))))
+        by false e = rw (none-right (ltZ-no (subst (λ t. T (not t)) (sym e) tt))) (and-false (not (isEmpty (those (goes figures) numbers))))
 
   sides : (numbers : List ℕ) → bothSides (map g numbers) numbers ≡ ltZ (leastℤ (map g numbers)) (greatestℤ (map g numbers))
   unfolding those isEmpty chosen

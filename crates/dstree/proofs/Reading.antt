@@ -7,7 +7,7 @@ use mathlib.Core.List.{List, [], _∷_, map}
 use native.Mathlib.Omega.{arith}
 use lib.ListN.{length, length-map}
 use lib.Dec.{T, ltb, eqb}
-use Rattle.integer.specs.Words.{if_then_else_, counting}
+use Rattle.integer.specs.Words.{if_then_else_, counting, isIn}
 use Rattle.integer.specs.Sorting.{sortedWith, pouredBy, sortedBy}
 use borrow.Author.Tests.{ltb-true, ltb-false, eqb-true}
 use Rattle.integer.proofs.Tests.{is-true}
@@ -16,8 +16,10 @@ use Rattle.integer.proofs.Lists.{from-counting, All, all-none, all-more, all-mo
 use Rattle.integer.proofs.Lists.{up-apart}
 use Rattle.integer.proofs.Sorting.{from-inserted, from-sorted, in-sorted, sorted-length}
 use Rattle.dstree.specs.Measures.{Trace}
-use Rattle.dstree.specs.Node.{Tree, nodeAt}
-use Rattle.dstree.specs.Matching.{bound, LeafBound, isLeaf, leaves, before, readingOrder}
+use Rattle.dstree.specs.Node.{Kind, leaf, inner, Tree, nodeAt}
+use Rattle.dstree.specs.Matching.{bound, LeafBound, isLeaf, numbersIn, leaves, before, readingOrder}
+use Rattle.dstree.specs.Formed.{Kept, Shape}
+use Rattle.dstree.proofs.Formed.{number-node}
 
 -- ---- the leaves' numbers
 
@@ -31,6 +33,25 @@ module _ (tree : Tree) where
   pub in-leaves : {k : ℕ} → k < length tree → T (isLeaf (nodeAt tree k .kind)) → In k (leaves tree)
   unfolding leaves
   in-leaves {k} h t = in-those (λ number. isLeaf (nodeAt tree number .kind)) (in-counting (length tree) 0 k (omega arith) (omega arith)) t
+
+-- a node that has traces is a leaf
+holds-leaf : (t : ℕ) (kind : Kind) → T (isIn t (numbersIn kind)) → T (isLeaf kind)
+unfolding isLeaf numbersIn isIn
+holds-leaf t (leaf numbers) h = tt
+holds-leaf t (inner test left right) h = absurd h
+
+pub kept-leaf : {tree : Tree} {t : ℕ} (k : Kept tree t) → In (k .at) (leaves tree)
+kept-leaf {tree} {t} k = in-leaves tree (number-node tree t (k .at) (k .holds)) (holds-leaf t (nodeAt tree (k .at) .kind) (k .holds))
+
+-- "no leaf empty"
+pub leaf-full : {n count : ℕ} {tree : Tree} → Shape n count tree → {k : ℕ} → In k (leaves tree)
+    → 0 < length (numbersIn (nodeAt tree k .kind))
+unfolding isLeaf numbersIn
+leaf-full {tree = tree} shape {k} i = by (nodeAt tree k .kind) refl (from-leaves tree i .1)
+  where
+    by : (a : Kind) → nodeAt tree k .kind ≡ a → T (isLeaf a) → 0 < length (numbersIn a)
+    by (leaf l) e t = shape .full k (from-leaves tree i .0) l e
+    by (inner test l r) e t = absurd t
 
 -- ---- no leaf twice
 

@@ -19,7 +19,8 @@ use Rattle.dstree.specs.Sheet.{areBytes, bytesOf, numberIn, part, pieces
 use Rattle.dstree.specs.Recording.{Field, number, word, lettersRIFF, lettersWAVE, lettersFmt, lettersData, header, headerSize}
 use Rattle.dstree.specs.Recording.{rateLimit, sizeLimit, fieldBytes, recordingOf, rateIn, sizeIn, begins, isRecording}
 use Rattle.dstree.specs.Recording.{Recording, recording, recordedTraces, judgeRecording, fileTraces, RecordingClaims}
-use Rattle.dstree.proofs.Libraries.{AllWithinLimit, trace-sized, trace-small, traces-are}
+use Rattle.dstree.proofs.Limits.{trace-length}
+use Rattle.dstree.proofs.Libraries.{AllWithinLimit, trace-small, traces-are}
 use Rattle.dstree.proofs.SheetPieces.{AllOfSize, part-length, pieces-length, pieces-sized, pieces-all, pieces-flatten}
 use Rattle.dstree.proofs.SheetPieces.{flatten-length, flatten-all}
 use Rattle.dstree.proofs.SheetFields.{Bytes, bytes-of, bytes-length, number-bytes, number-below, said, coded-sized, codes-length}
@@ -311,7 +312,7 @@ module _ (n : ℕ) where
   unfolding flatten
   one-back some-sample most rate trace low t =
       let one : flatten (trace ∷ []) ≡ trace = append-nil trace in
-      let long = trace-sized sampleLimit n trace t in
+      let long = trace-length sampleLimit n trace t in
       ap (λ (samples : List ℤ). judgeRecording n (recordingOf rate samples)) (sym one)
       ∙ written-back n rate (trace ∷ []) some-sample low (all-more {a = trace} long all-none)
       (all-more {a = trace} (trace-small sampleLimit n trace t) all-none) (rw one (omega arith))
@@ -350,7 +351,7 @@ pub recording-claims : (n : ℕ) → 0 < n → RecordingClaims n
 recording-claims n some-sample = record {
   read-back = λ rate traces low t fits.
       let each = every-all (isTrace sampleLimit n) traces t in
-      let sized = all-mono (trace-sized sampleLimit n) each in
+      let sized = all-mono (trace-length sampleLimit n) each in
       written-back n rate traces some-sample low sized (all-mono (trace-small sampleLimit n) each) fits;
   exported = λ rate trace low most t. one-back n some-sample most rate trace low t;
   fits = its-numbers n;

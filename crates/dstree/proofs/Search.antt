@@ -5,13 +5,14 @@ use mathlib.Core.Path.{_≡_, refl, sym, _∙_, ap}
 use mathlib.Core.Logic.{_⊎_, inl, inr}
 use mathlib.Core.Bool.{Bool, true, false, _&&_, _||_}
 use mathlib.Core.Option.{Option, none, some}
-use mathlib.Core.List.{List, [], _∷_, _++_, map, foldl, flatten, append-assoc, append-nil}
+use mathlib.Core.List.{List, [], _∷_, _++_, map, foldl, flatten, append-assoc, append-nil, foldl-append}
 use native.Mathlib.Omega.{arith}
 use lib.ListN.{length, getD, length-map}
 use lib.Dec.{ltb, leb, eqb}
 use Rattle.integer.specs.Words.{if_then_else_, those, total}
 use borrow.Author.Tests.{ltb-true, ltb-false, leb-true, leb-false, eqb-true, eqb-false, lt-ltb, le-ltb, lt-leb}
-use Rattle.integer.proofs.Lists.{strict, fold-append, In, in-nil, in-cons, fold-first, fold-all, fold-in, All, all-none, all-more, Some, some-here, some-later}
+use Rattle.integer.proofs.Lists.{strict, In, in-nil, in-cons, fold-first, fold-all, fold-in, All, all-none, all-more}
+use Rattle.integer.proofs.Lists.{Some, some-here, some-later}
 use Rattle.segment.specs.Figures.{distance}
 use Rattle.dstree.specs.Measures.{Trace}
 use Rattle.dstree.specs.Node.{Tree, nodeAt}
@@ -216,7 +217,7 @@ module _ (stored : List Trace) (tree : Tree) (query : Trace) (d : ℕ) where
   read-best s [] = refl
   read-best s (a ∷ l) =
       read-best (readLeaf stored tree query s (a .number)) l
-      ∙ sym (fold-append bestWith (s .best) (distancesIn stored tree query (a .number)) (nearsRead l))
+      ∙ sym (foldl-append bestWith (s .best) (distancesIn stored tree query (a .number)) (nearsRead l))
 
 -- ---- the nearest, the lowest number among equals
 
@@ -260,6 +261,14 @@ unfolding bestWith
 fold-some a [] = refl
 fold-some a (b ∷ l) = fold-some (nearer a b) l
 
+-- the nearest of some comes before each of them
+pub comes-first : (a : Near) (l : List Near) {b : Near} → In b (a ∷ l) → Comes (foldl nearer a l) b
+comes-first a l {b} i = by (in-cons i)
+  where
+    by : (b ≡ a) ⊎ In b l → Comes (foldl nearer a l) b
+    by (inl e) = rw e (fold-first Comes comes-trans comes-refl nearer nearer-first nearer-second a l)
+    by (inr j) = fold-all Comes comes-trans comes-refl nearer nearer-first nearer-second a j
+
 -- of distances to stored traces, all those of d among them, the best is the lowest number at distance d
 pub winner : (stored : List Trace) (query : Trace) (d : ℕ) → LowestAt d stored query 0 →
     ((t : ℕ) → t < length stored → d ≤ distance query (getD stored t [])) → (l : List Near) →
@@ -268,12 +277,9 @@ pub winner : (stored : List Trace) (query : Trace) (d : ℕ) → LowestAt d stor
 unfolding bestWith
 winner stored query d o least [] nears has = absurd (in-nil (has (o .place) (o .inside) (o .at)))
 winner stored query d o least (a ∷ l) nears has = fold-some a l ∙ ap some
-    (by (foldl nearer a l) (nears (foldl nearer a l) (fold-in nearer nearer-either a l)) (comes (in-cons (has (o .place) (o .inside) (o .at)))))
+    (by (foldl nearer a l) (nears (foldl nearer a l) (fold-in nearer nearer-either a l))
+    (comes-first a l (has (o .place) (o .inside) (o .at))))
   where
-    comes : {b : Near} → (b ≡ a) ⊎ In b l → Comes (foldl nearer a l) b
-    comes (inl e) = rw e (fold-first Comes comes-trans comes-refl nearer nearer-first nearer-second a l)
-    comes (inr j) = fold-all Comes comes-trans comes-refl nearer nearer-first nearer-second a j
-
     at : (t : ℕ) → t < length stored → Comes (nearAt stored query t) (nearAt stored query (o .place)) → nearAt stored query t ≡ record { trace = lowestAt 0 d stored query; distance = d }
     at t h (inl c) = absurd (omega (arith, least t h, o .at))
     at t h (inr (e, c)) =

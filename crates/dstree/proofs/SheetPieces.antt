@@ -7,9 +7,8 @@ use native.Mathlib.Decide.{decLe}
 use native.Mathlib.Nat.{suc-mul, zero-mul, lt-of-not-le, le-of-lt, sub-zero, min-le-left}
 use lib.ListN.{length, getD, take, drop, replicate, length-append, length-take, length-drop}
 use lib.ListN.{length-replicate, take-append-drop, replicate-append-replicate, drop-of-length-le}
-use lib.Seq.{take-at, drop-at, take-all, take-add, take-nil, take-take, drop-drop, drop-cons, drop-append-add}
-use lib.Seq.{getD-take, getD-drop, length-take-le}
-use Rattle.integer.proofs.Lists.{All, all-none, all-more, all-take, all-drop, all-replicate}
+use lib.Seq.{take-at, drop-at, take-all, take-add, take-take, drop-drop, drop-cons, drop-append-add, getD-take, getD-drop, length-take-le}
+use Rattle.integer.proofs.Lists.{drop-take, All, all-none, all-more, all-take, all-drop, all-replicate}
 use Rattle.dstree.specs.Sheet.{part, pieces, filledTo}
 
 more : (count size : ℕ) → suc count * size ≡ size + count * size
@@ -119,12 +118,6 @@ module _ {A : Type 0} where
   flatten-append (x ∷ a) b = ap (λ (l : List A). x ++ l) (flatten-append a b) ∙ sym (append-assoc x (flatten a) (flatten b))
 
   -- ---- parts
-
-  pub drop-take : (p m : ℕ) (l : List A) → drop p (take m l) ≡ take (m - p) (drop p l)
-  drop-take zero m l = let e : m - 0 ≡ m = omega arith in rw e
-  drop-take (suc p) zero l = let e : 0 - suc p ≡ 0 = omega arith in rw e
-  drop-take (suc p) (suc m) [] = sym (take-nil (suc m - suc p))
-  drop-take (suc p) (suc m) (x ∷ l) = let e : suc m - suc p ≡ m - p = omega arith in rw e (drop-take p m l)
 
   pub drop-part : (u place size : ℕ) (l : List A) → drop u (part place size l) ≡ part (place + u) (size - u) l
   drop-part u place size l = drop-take u size (drop place l) ∙ ap (take (size - u)) (drop-drop u place l)

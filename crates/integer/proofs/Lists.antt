@@ -9,7 +9,7 @@ use native.Mathlib.Omega.{arith}
 use native.Mathlib.Decide.{decLe}
 use native.Mathlib.Nat.{lt-of-not-le}
 use lib.ListN.{length, getD, set, take, drop, replicate}
-use lib.Seq.{drop-drop}
+use lib.Seq.{drop-drop, take-nil}
 use lib.IntN.{ℤ, pos}
 use lib.Signed.{ltZ, ≤ℤ-refl, ltZ-yes, ltZ-no}
 use lib.Dec.{T, ltb, eqb, eqb-refl}
@@ -179,10 +179,6 @@ cons-tail a b l m e = cc
 cons-head : {A : Type 0} (a b : A) (l m : List A) → a ∷ l ≡ b ∷ m → a ≡ b
 cons-head a b l m e = cc
 
-pub fold-append : {A B : Type 0} (f : B → A → B) (b : B) (x y : List A) → foldl f b (x ++ y) ≡ foldl f (foldl f b x) y
-fold-append f b [] y = refl
-fold-append f b (a ∷ x) y = fold-append f (f b a) x y
-
 pub flat-append : {A B : Type 0} (f : A → List B) (x y : List A) → flatten (map f (x ++ y)) ≡ flatten (map f x) ++ flatten (map f y)
 unfolding flatten
 flat-append f [] y = refl
@@ -201,6 +197,13 @@ drop-more k n l m h e =
     rw q at p
 
 -- two maps that agree on a list agree on each element, and on each of the lists that it was made of
+-- a part of a beginning
+pub drop-take : {A : Type 0} (p m : ℕ) (l : List A) → drop p (take m l) ≡ take (m - p) (drop p l)
+drop-take zero m l = let e : m - 0 ≡ m = omega arith in rw e
+drop-take (suc p) zero l = let e : 0 - suc p ≡ 0 = omega arith in rw e
+drop-take (suc p) (suc m) [] = sym (take-nil (suc m - suc p))
+drop-take (suc p) (suc m) (x ∷ l) = let e : suc m - suc p ≡ m - p = omega arith in rw e (drop-take p m l)
+
 module _ {A B : Type 0} (f g : A → B) where
   pub agree-in : {a : A} {l : List A} → map f l ≡ map g l → In a l → f a ≡ g a
   agree-in {a} e (first {rest}) = cons-head (f a) (g a) (map f rest) (map g rest) e

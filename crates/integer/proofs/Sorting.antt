@@ -3,20 +3,18 @@
 -- has, the first k
 -- are the same. `place-low`: what stands at a place of fewer elements does not stand before what is at that place of all.
 use Prim.Native.Nat.{ℕ, zero, suc, _≤_, _<_, min}
-use mathlib.Core.Path.{_≡_, refl, sym, _∙_, ap, subst}
+use mathlib.Core.Path.{_≡_, refl, _∙_, ap}
 use mathlib.Core.Logic.{_⊎_, inl, inr}
 use mathlib.Core.Bool.{Bool, true, false}
 use mathlib.Core.Option.{none, some}
 use mathlib.Core.List.{List, [], _∷_, _++_, foldl}
 use native.Mathlib.Omega.{arith}
 use lib.ListN.{length, getD, take, drop, length-take}
-use lib.Dec.{T}
 use Rattle.integer.specs.Words.{if_then_else_}
 use Rattle.integer.specs.Sorting.{sortedWith, pouredBy, sortedBy, atPlace, Ordered, ordered-none, ordered-more}
+use Rattle.integer.proofs.Tests.{never-both}
 use Rattle.integer.proofs.Lists.{In, first, later, in-nil, in-cons, in-front, in-getD, All, all-none, all-more, all-at, all-in}
-use Rattle.integer.proofs.Lists.{all-mono}
-use Rattle.integer.proofs.Lists.{all-take, Apart, apart-none, apart-more}
-use Rattle.integer.proofs.Lists.{apart-more}
+use Rattle.integer.proofs.Lists.{all-mono, all-take, Apart, apart-none, apart-more}
 
 -- ---- a place
 
@@ -170,16 +168,13 @@ pub data Sorted {A : Type 0} (before : A → A → Bool) : List A → Type 0 whe
   sorted-none : Sorted before []
   sorted-more : {a : A} {rest : List A} → All (λ b. before a b ≡ true) rest → Sorted before rest → Sorted before (a ∷ rest)
 
-never : {b : Bool} → b ≡ true → b ≡ false → ⊥
-never p q = subst T (sym p ∙ q) tt
-
 module _ {A : Type 0} {before : A → A → Bool} (linear : LinearOrder before) where
   -- not both before each other
   pub asymmetric : (a b : A) → before a b ≡ true → before b a ≡ false
   asymmetric a b p = by (before b a) refl
     where
       by : (t : Bool) → before b a ≡ t → t ≡ false
-      by true q = absurd (never (linear .transitive a b a p q) (linear .irreflexive a))
+      by true q = never-both (linear .transitive a b a p q) (linear .irreflexive a)
       by false q = refl
 
   -- ---- the order in which elements come does not bear
@@ -191,13 +186,13 @@ module _ {A : Type 0} {before : A → A → Bool} (linear : LinearOrder before) 
         → sortedWith before a (if v then b ∷ x ∷ l else x ∷ sortedWith before b l) ≡ sortedWith before b
         (if u then a ∷ x ∷ l else x ∷ sortedWith before a l)
     unfolding sortedWith
-    front-two x l true true true true r w p q ih = absurd (never (linear .transitive a b a p q) (linear .irreflexive a))
+    front-two x l true true true true r w p q ih = never-both (linear .transitive a b a p q) (linear .irreflexive a)
     front-two x l true true true false r w p q ih = rw (p, q, w)
     front-two x l true true false true r w p q ih = rw (p, q, r)
     front-two x l true true false false r w p q ih = rw (linear .total a b p q)
-    front-two x l true false s true r w p q ih = absurd (never (linear .transitive b a x q r) w)
+    front-two x l true false s true r w p q ih = never-both (linear .transitive b a x q r) w
     front-two x l true false s false r w p q ih = rw (r, q, w)
-    front-two x l false true true t r w p q ih = absurd (never (linear .transitive a b x p w) r)
+    front-two x l false true true t r w p q ih = never-both (linear .transitive a b x p w) r
     front-two x l false true false t r w p q ih = rw (w, p, r)
     front-two x l false false s t r w p q ih = rw (r, w) (ap (λ (m : List A). x ∷ m) ih)
 
@@ -207,7 +202,7 @@ module _ {A : Type 0} {before : A → A → Bool} (linear : LinearOrder before) 
       where
         by : (s t : Bool) → before a b ≡ s → before b a ≡ t
             → (if s then a ∷ b ∷ [] else b ∷ a ∷ []) ≡ (if t then b ∷ a ∷ [] else a ∷ b ∷ [])
-        by true true p q = absurd (never (linear .transitive a b a p q) (linear .irreflexive a))
+        by true true p q = never-both (linear .transitive a b a p q) (linear .irreflexive a)
         by true false p q = refl
         by false true p q = refl
         by false false p q = rw (linear .total a b p q)
@@ -277,7 +272,7 @@ module _ {A : Type 0} {before : A → A → Bool} (linear : LinearOrder before) 
   behind-first {a} {b} {l} o i p = by (in-cons i)
     where
       by : (b ≡ a) ⊎ In b l → In b l
-      by (inl e) = absurd (never p (rw e (linear .irreflexive a)))
+      by (inl e) = never-both p (rw e (linear .irreflexive a))
       by (inr j) = j
 
   first-least : {a b : A} {l : List A} → All (λ c. before a c ≡ true) l → In b (a ∷ l) → before b a ≡ false
@@ -368,8 +363,8 @@ module _ {A : Type 0} {before : A → A → Bool} (linear : LinearOrder before) 
     where
       by : (s t : Bool) → before a b ≡ s → before b c ≡ t → s ≡ false
       by false t r w = refl
-      by true true r w = absurd (never (linear .transitive a b c r w) p)
-      by true false r w = absurd (never (rw (linear .total b c w q) at r) p)
+      by true true r w = never-both (linear .transitive a b c r w) p
+      by true false r w = never-both (rw (linear .total b c w q) at r) p
 
   pub inserted-ordered : (a : A) {l : List A} → Ordered before l → Ordered before (sortedWith before a l)
   unfolding sortedWith

@@ -5,7 +5,7 @@
 use mathlib.Core.Bool.{Bool, true, false, not, _&&_, _||_}
 use mathlib.Core.List.{List, [], _∷_}
 use Prim.Native.Nat.{ℕ}
-use mathlib.Core.Path.{_≡_, refl, sym, subst}
+use mathlib.Core.Path.{_≡_, refl, sym, subst, _∙_}
 use lib.Dec.{T, eqb, eqb-refl}
 
 -- a && b && c && ..
@@ -59,6 +59,16 @@ test-false false f = refl
 pub clash : {X : Type 0} → true ≡ false → X
 clash e = absurd (subst T e tt)
 
+pub never-both : {X : Type 0} {b : Bool} → b ≡ true → b ≡ false → X
+never-both e f = clash (sym e ∙ f)
+
+-- two tests are the same if each passes what the other passes
+pub same-test : {a b : Bool} → (T a → T b) → (T b → T a) → a ≡ b
+same-test {a = true} {b = true} f g = refl
+same-test {a = true} {b = false} f g = absurd (f tt)
+same-test {a = false} {b = true} f g = absurd (g tt)
+same-test {a = false} {b = false} f g = refl
+
 -- a test beside one whose answer is known
 pub and-true : (b : Bool) → b && true ≡ b
 and-true true = refl
@@ -70,5 +80,5 @@ and-false false = refl
 
 -- neither of two tests passes
 pub neither : (a b : Bool) → a || b ≡ false → (a ≡ false) × (b ≡ false)
-neither true b e = absurd (subst T e tt)
+neither true b e = clash e
 neither false b e = (refl, e)

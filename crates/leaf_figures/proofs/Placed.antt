@@ -2,13 +2,14 @@
 use mathlib.Core.Path.{_≡_, refl, sym, ap, ap₂, _∙_}
 use mathlib.Core.Bool.{Bool, true, false}
 use mathlib.Core.List.{List, [], _∷_, _++_, map, append-assoc}
-use Prim.Native.Nat.{ℕ, zero, suc, _+_, _-_, _<_, _≤_}
+use Prim.Native.Nat.{ℕ, suc, _+_, _-_, _<_, _≤_}
 use native.Mathlib.Omega.{arith}
 use native.Mathlib.Numerals.{add-one}
 use lib.ListN.{length, getD, take, drop, set, length-map, length-drop, drop-of-length-le}
-use lib.Seq.{drop-cons, take-nil, take-suc, take-suc-set, take-take, getD-take, getD-drop, length-take-le, ext-getD}
+use lib.Seq.{drop-cons, take-suc, take-suc-set, take-take, getD-take, getD-drop, length-take-le, ext-getD}
 use lib.Dec.{ltb}
 use borrow.Author.Tests.{lt-ltb, le-ltb}
+use Rattle.integer.proofs.Lists.{drop-take}
 use Rattle.integer.specs.Words.{if_then_else_, counting}
 use Rattle.integer.proofs.Times.{counting-length}
 use Rattle.integer.proofs.Rows.{getD-table}
@@ -61,12 +62,6 @@ cut-is new (end ∷ rest) = by (ltb new end) (cut-is new rest)
     by false rec = ap (λ (l : List ℕ). end ∷ l) rec
 
 -- ---- the ends above it moved up by one
-
-drop-take : (p m : ℕ) (l : List ℕ) → drop p (take m l) ≡ take (m - p) (drop p l)
-drop-take zero m l = let e : m - 0 ≡ m = omega arith in rw e
-drop-take (suc p) zero l = let e : 0 - suc p ≡ 0 = omega arith in rw e
-drop-take (suc p) (suc m) [] = sym (take-nil (suc m - suc p))
-drop-take (suc p) (suc m) (x ∷ l) = let e : suc m - suc p ≡ m - p = omega arith in rw e (drop-take p m l)
 
 -- ends up to place i, moved: those before the place, the new one, and those behind it
 abbrev pub EndsMoved : List ℕ → ℕ → ℕ → List ℕ → ℕ → Type 0

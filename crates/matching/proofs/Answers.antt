@@ -8,18 +8,19 @@ use native.Mathlib.Omega.{arith}
 use lib.IntN.{ℤ}
 use lib.ListN.{length, take}
 use lib.Seq.{length-take-le}
+use Rattle.integer.proofs.Tests.{clash}
 use Rattle.dstree.specs.Measures.{Trace}
 use Rattle.dstree.specs.Matching.{Search, Match, searched, matchFrom, matchBySteps}
 use Rattle.dstree.specs.Refusals.{firstOf}
 use Rattle.dstree.specs.Book.{matching, besideOf, over}
 use Rattle.tables.specs.Tables.{Tables, tables}
 use Rattle.tables.specs.View.{treeIn, tracesIn}
-use Rattle.reading.specs.Nearest.{nearBy}
-use Rattle.reading.specs.declared.best.Best.{Best}
-use Rattle.search.specs.Searched.{withoutWork, seen, Searched}
 use Rattle.calls.specs.Outcome.{outcome}
 use Rattle.calls.specs.Effects.{resultOf, trailOf, isNone, matches, effectOf, outcomeOn}
 use Rattle.calls.proofs.Ends.{ends-done, over-first}
+use Rattle.reading.specs.Nearest.{nearBy}
+use Rattle.reading.specs.declared.best.Best.{Best}
+use Rattle.search.specs.Searched.{withoutWork, seen, Searched}
 use Rattle.matching.specs.Answered.{answerBy}
 use Rattle.matching.specs.declared.Found.the-variants as f
 
@@ -44,7 +45,7 @@ module _ (control : List ℕ) (samples nodes : List ℤ) (links work : List ℕ)
       where
         by : (b : Bool) → best .found ≡ b → best .found ≡ true
         by true e = e
-        by false e = let clash : true ≡ false = rw (by-steps, e) at h in let z : _≡_ {A = ℕ} 0 1 = cc in absurd (omega arith)
+        by false e = let wrong : true ≡ false = rw (by-steps, e) at h in clash wrong
 
     read-long : length (take out trail′) ≡ out
     read-long = length-take-le out trail′ (omega (arith, s .within, size))

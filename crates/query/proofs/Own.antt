@@ -18,6 +18,7 @@ use Rattle.dstree.specs.Node.{Segment, ends, totalOver}
 use Rattle.dstree.specs.Formed.{Rises, rises-more, Limited, AllLimited, l-more}
 use Rattle.dstree.specs.Matching.{boundOn, ownBound}
 use Rattle.dstree.proofs.Cuts.{parted-rises}
+use Rattle.tables.proofs.Views.{end-at}
 use Rattle.tables.specs.Layout.{segmentsPlace, segmentAt}
 use Rattle.tables.specs.View.{smallAt, segmentIn, segmentsIn, nodeIn}
 use Rattle.query.specs.Bounded.{Bounded, boundBy, boundLimit}
@@ -74,10 +75,6 @@ next-of {r} {n} {count} {first} {i} (rises-more a b p) (l-more c d) =
       };
     }
 
-end-is : (r : List ℤ) (i : ℕ) → segmentIn r i .end ≡ smallAt r (segmentAt i)
-unfolding segmentIn
-end-is r i = refl
-
 after-none : (r : List ℤ) (count i : ℕ) → count ≤ i → segmentsAfter r count i ≡ []
 unfolding counting
 after-none r count i h = let e : count - i ≡ 0 = omega arith in rw e
@@ -91,7 +88,7 @@ module _ (r : List ℤ) (count i : ℕ) (h : i < count) where
 
   module _ (last : ℕ) (e : last ≡ smallAt r (segmentAt i)) where
     is-end : segmentIn r i .end ≡ last
-    is-end = end-is r i ∙ sym e
+    is-end = end-at r i ∙ sym e
 
     pub next-at : {n first : ℕ} → Left r n count first i → NextSegment r n count first i last
     next-at {n} {first} l =

@@ -10,6 +10,7 @@ use lib.Dec.{T}
 use lib.IntN.{ℤ}
 use lib.ListN.{length}
 use Rattle.integer.specs.Words.{if_then_else_, those, counting}
+use Rattle.integer.proofs.Lists.{those-agree, from-counting}
 use Rattle.dstree.specs.Measures.{sampleLimit}
 use Rattle.dstree.proofs.Nodes.{nodes-at-most}
 use Rattle.dstree.specs.Node.{nodeAt}
@@ -61,13 +62,6 @@ one-most false = omega arith
 
 -- ---- the tree's leaves
 
-those-same : (f g : ℕ → Bool) (n a : ℕ) → ((i : ℕ) → i < a + n → f i ≡ g i) → those f (counting n a) ≡ those g (counting n a)
-unfolding those counting
-those-same f g zero a h = refl
-those-same f g (suc n) a h =
-    let rest = those-same f g n (suc a) (λ i p. h i (omega (arith, p))) in
-    rw (h a (omega arith), rest)
-
 module _ (t : Tables) where
   leaf-is : (i : ℕ) → i < nodeCount t → isLeaf (nodeAt (treeIn t) i .kind) ≡ leafIn (t .nodes) i
   leaf-is i h = ap isLeaf (tree-kind t i h) ∙ leaf-same (t .links) (traceCount t) (recordOf (t .nodes) i) (smallAt (recordOf (t .nodes) i) kindPlace)
@@ -76,7 +70,8 @@ module _ (t : Tables) where
   unfolding leaves
   leaves-counted =
       ap (λ (n : ℕ). length (those (λ number. isLeaf (nodeAt (treeIn t) number .kind)) (counting n 0))) (tree-size t)
-      ∙ ap length (those-same (λ number. isLeaf (nodeAt (treeIn t) number .kind)) (leafIn (t .nodes)) (nodeCount t) 0 (λ i p. leaf-is i (omega (arith, p))))
+      ∙ ap length (those-agree (λ number. isLeaf (nodeAt (treeIn t) number .kind)) (leafIn (t .nodes)) (counting (nodeCount t) 0)
+      (λ i p. leaf-is i (omega (arith, from-counting (nodeCount t) 0 p))))
 
 -- ---- room for all records
 

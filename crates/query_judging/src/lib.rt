@@ -1,4 +1,4 @@
-// What every search refuses of its query and its trail, behind what it refuses of its tables.
+// What every search refuses of its query, or of the run of its queries, and of its trail, behind what it refuses of its tables.
 
 pub mod leaves; // how many leaves there are
 
@@ -19,19 +19,18 @@ ghost use Rattle.tables.specs.Layout.{nodeCountPlace, recordPlaces, nodePlaces}
 ghost use Rattle.tables.specs.Tables as t;
 ghost use Rattle.tables.specs.Tables.{tables};
 ghost use Rattle.tables.specs.Answers.{foundBy};
-ghost use Rattle.calls.specs.Effects.{queryConditionsIn};
+ghost use Rattle.calls.specs.Effects.{runConditionsIn, queryConditionsIn};
 
-// A query of another length (4), no trace stored (6), a trail with fewer places than leaves (7). Neither samples nor links nor search work
-// bear on these.
-pub fn judge_query(control: &[u16], nodes: &[i64], query: &[i16], trail: &[u16]) -> Verdict
+// A run of another length than so many samples (4), no trace stored (6), a trail with fewer places than leaves (7). Neither samples nor
+// links nor search work bear on these.
+pub fn judge_run(control: &[u16], nodes: &[i64], run: &[i16], size: usize, trail: &[u16]) -> Verdict
     requires { ⌜ (t.field (now control) nodeCountPlace * recordPlaces ≤ length (now nodes))
         × (t.field (now control) nodeCountPlace ≤ nodePlaces) ⌝ }
-    ensures { λ r. ⌜ ((samples : List ℤ) (links work : List ℕ) → foundBy r ≡ firstOf (queryConditionsIn
-        (tables (now (control .entry)) samples (now (nodes .entry)) links work) (now (query .entry)) (now (trail .entry)))) ⌝ }
+    ensures { λ r. ⌜ ((samples : List ℤ) (links work : List ℕ) → foundBy r ≡ firstOf (runConditionsIn
+        (tables (now (control .entry)) samples (now (nodes .entry)) links work) size (now (run .entry)) (now (trail .entry)))) ⌝ }
 {
-    let n = wide(field(control, N));
     let stored = field(control, TRACE_COUNT);
-    if query.len() != n {
+    if run.len() != size {
         return Verdict::Refused(Refusal::WrongTrace);
     }
     if stored == 0 {
@@ -42,4 +41,15 @@ pub fn judge_query(control: &[u16], nodes: &[i64], query: &[i16], trail: &[u16])
         return Verdict::Refused(Refusal::ShortTrail);
     }
     Verdict::Fine
+}
+
+// .. of one query, which is as long as a trace.
+pub fn judge_query(control: &[u16], nodes: &[i64], query: &[i16], trail: &[u16]) -> Verdict
+    requires { ⌜ (t.field (now control) nodeCountPlace * recordPlaces ≤ length (now nodes))
+        × (t.field (now control) nodeCountPlace ≤ nodePlaces) ⌝ }
+    ensures { λ r. ⌜ ((samples : List ℤ) (links work : List ℕ) → foundBy r ≡ firstOf (queryConditionsIn
+        (tables (now (control .entry)) samples (now (nodes .entry)) links work) (now (query .entry)) (now (trail .entry)))) ⌝ }
+{
+    let n = wide(field(control, N));
+    judge_run(control, nodes, query, n, trail)
 }

@@ -50,7 +50,7 @@ nears-in (a ∷ list) rest =
     nears-more (a .trace) (a .distance) (listPlaces list ++ rest) (length list)
     ∙ ap (λ (r : List Near). a ∷ r) (nears-in list rest)
 
-places-length : (list : List Near) → length (listPlaces list) ≡ 2 * length list
+pub places-length : (list : List Near) → length (listPlaces list) ≡ 2 * length list
 unfolding listPlaces
 places-length [] = refl
 places-length (a ∷ list) = omega (arith, places-length list)

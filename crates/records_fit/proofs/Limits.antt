@@ -9,7 +9,7 @@ use lib.IntN.{ℤ, pos, negsuc, negℤ, _+ℤ_}
 use lib.Signed.{leZ, leZ-yes, mag}
 use lib.Dec.{T, leb, leb→le, le→leb}
 use mir.Facts.{and-yes, yes-and}
-use Rattle.integer.proofs.Tests.{is-true, andAll, passed, passes, test-true, test-false}
+use Rattle.integer.proofs.Tests.{is-true, andAll, passed, passes, test-true, test-false, same-test}
 use Rattle.integer.proofs.Order.{≤ℤ→, →≤ℤ, ≤ℤ-trans, up, down, sum-parts, neg-parts}
 use Rattle.segment.specs.Limits.{sumLimit, scatterLimit, rootLimit}
 use Rattle.dstree.specs.Measures.{sampleLimit}
@@ -24,17 +24,6 @@ passing {b} t = sym (test-true b t)
 
 pub failing : {b : Bool} → (T b → ⊥) → false ≡ b
 failing {b} f = sym (test-false b f)
-
--- two tests are the same if each passes what the other passes
-pub same-test : {a b : Bool} → (T a → T b) → (T b → T a) → a ≡ b
-same-test {a = true} {b = true} f g = refl
-same-test {a = true} {b = false} f g = absurd (f tt)
-same-test {a = false} {b = true} f g = absurd (g tt)
-same-test {a = false} {b = false} f g = refl
-
--- no test both passes and fails
-pub clash : {X : Type 0} → true ≡ false → X
-clash e = let z : _≡_ {A = ℕ} 0 1 = cc in absurd (omega arith)
 
 -- a number that is at most another within a limit is so too
 pub below-both : (a b : ℤ) (limit : ℕ) → leZ a b ≡ true → leZ b (pos limit) ≡ true → T (leZ a (pos limit))

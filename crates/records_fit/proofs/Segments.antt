@@ -14,7 +14,7 @@ use mir.Facts.{and-yes as and-both}
 use borrow.Author.Tests.{lt-ltb, le-ltb, lt-leb, le-leb, ne-eqb, ltb-true, leb-true, leb-false}
 use Rattle.integer.specs.Words.{if_then_else_, counting, isEmpty, lastOf}
 use Rattle.integer.proofs.Lists.{In, in-nil, in-cons, in-map, in-counting, Up, u-none, u-more}
-use Rattle.integer.proofs.Tests.{is-true, passed, and-true, and-false}
+use Rattle.integer.proofs.Tests.{is-true, passed, and-true, and-false, clash}
 use Rattle.integer.proofs.Times.{counting-length}
 use Rattle.dstree.specs.Measures.{sampleLimit}
 use Rattle.dstree.specs.Figures.{run, width}
@@ -23,7 +23,6 @@ use Rattle.dstree.specs.WellFormed.{rising, endsFit, segmentFits, segmentsFit}
 use Rattle.tables.specs.Layout.{segmentAt, segmentsPlace}
 use Rattle.tables.specs.View.{smallOf, scatterIn, valueAt, smallAt, segmentIn, segmentsIn}
 use Rattle.tables.proofs.Small.{small-read}
-use Rattle.records_fit.proofs.Limits.{clash}
 use Rattle.records_fit.specs.Fits.{between, segmentsHold, segmentsInFrom, restHolds, EndsRise}
 
 -- ---- a number in between

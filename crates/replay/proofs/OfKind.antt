@@ -6,14 +6,15 @@ use mathlib.Core.Option.{Option, none, some, Option·none-ne-some, Option·some-
 use mathlib.Core.List.{List, [], _∷_}
 use native.Mathlib.Omega.{arith}
 use lib.IntN.{ℤ}
-use lib.ListN.{length, getD}
+use lib.ListN.{length}
 use lib.Dec.{T}
-use Rattle.integer.specs.Words.{if_then_else_}
 use Rattle.integer.specs.Lists.{All, all-none, all-more}
+use Rattle.integer.proofs.Tests.{never-both}
 use Rattle.dstree.specs.Measures.{areSamples}
 use Rattle.dstree.specs.Sheet.{areBytes}
-use Rattle.dstree.specs.Book.{Ask}
+use Rattle.dstree.specs.Book.{Ask, Answer}
 use Rattle.tables.specs.Tables.{Tables}
+use Rattle.calls.specs.Outcome.{Outcome, outcome}
 use Rattle.calls.specs.Effects.{outcomeOn}
 use Rattle.calls.specs.Follows.{Typed}
 use Rattle.replay.specs.declared.Amounts.{Amounts}
@@ -21,7 +22,7 @@ use Rattle.replay.specs.declared.Wanted.{Wanted}
 use Rattle.replay.specs.ReplyRows.{replyRow}
 use Rattle.replay.specs.Script.{ownNumber, amounts, Taken, taken, amountsOf, CallKind, openingCalls, addingCalls, matchingCalls, writingCalls, readingCalls}
 use Rattle.replay.specs.Script.{listingCalls, importingCalls, exportingCalls, checkingCalls, batchingCalls, kinds, callKindAt}
-use Rattle.replay.specs.Script.{takesOf, wantedBy, takenBy, leftBy, Called, called, calledBy, Plays}
+use Rattle.replay.specs.Script.{takesOf, wantedBy, takenBy, leftBy, Called, called, calledBy, RepliesTo, Plays}
 use Rattle.replay.proofs.Records.{places-back}
 
 -- ---- what nothing is taken of is empty
@@ -150,9 +151,6 @@ of-kind = of-some kinds of-kinds
 
 -- ---- kind by kind
 
-true-false : {A : Type 0} → true ≡ false → A
-true-false e = let z : _≡_ {A = ℕ} 0 1 = ap (λ (b : Bool). if b then 0 else 1) e in absurd (omega arith)
-
 kind-is : (k₀ k : CallKind) → some k₀ ≡ some k → k .changes ≡ k₀ .changes
 kind-is k₀ k e = ap (λ (k : CallKind). k .changes) (sym (Option·some-injective k₀ k e))
 
@@ -161,14 +159,14 @@ no-change : (number : ℕ) (k : CallKind) → (number ≡ 0 → ⊥) → (number
 unfolding callKindAt
 no-change zero k f g h i e b = f refl
 no-change (suc zero) k f g h i e b = g refl
-no-change (suc (suc zero)) k f g h i e b = true-false (sym b ∙ kind-is matchingCalls k e)
-no-change (suc (suc (suc zero))) k f g h i e b = true-false (sym b ∙ kind-is writingCalls k e)
+no-change (suc (suc zero)) k f g h i e b = never-both b (kind-is matchingCalls k e)
+no-change (suc (suc (suc zero))) k f g h i e b = never-both b (kind-is writingCalls k e)
 no-change (suc (suc (suc (suc zero)))) k f g h i e b = h refl
-no-change (suc (suc (suc (suc (suc zero))))) k f g h i e b = true-false (sym b ∙ kind-is listingCalls k e)
+no-change (suc (suc (suc (suc (suc zero))))) k f g h i e b = never-both b (kind-is listingCalls k e)
 no-change (suc (suc (suc (suc (suc (suc zero)))))) k f g h i e b = i refl
-no-change (suc (suc (suc (suc (suc (suc (suc zero))))))) k f g h i e b = true-false (sym b ∙ kind-is exportingCalls k e)
-no-change (suc (suc (suc (suc (suc (suc (suc (suc zero)))))))) k f g h i e b = true-false (sym b ∙ kind-is checkingCalls k e)
-no-change (suc (suc (suc (suc (suc (suc (suc (suc (suc zero))))))))) k f g h i e b = true-false (sym b ∙ kind-is batchingCalls k e)
+no-change (suc (suc (suc (suc (suc (suc (suc zero))))))) k f g h i e b = never-both b (kind-is exportingCalls k e)
+no-change (suc (suc (suc (suc (suc (suc (suc (suc zero)))))))) k f g h i e b = never-both b (kind-is checkingCalls k e)
+no-change (suc (suc (suc (suc (suc (suc (suc (suc (suc zero))))))))) k f g h i e b = never-both b (kind-is batchingCalls k e)
 no-change (suc (suc (suc (suc (suc (suc (suc (suc (suc (suc n)))))))))) k f g h i e b = absurd (Option·none-ne-some k e)
 
 pub changes-if : (number : ℕ) (k : CallKind) → (number ≡ 2 → ⊥) → (number ≡ 3 → ⊥) → (number ≡ 5 → ⊥) → (number ≡ 7 → ⊥) → (number ≡ 8 → ⊥)
@@ -188,7 +186,7 @@ changes-if (suc (suc (suc (suc (suc (suc (suc (suc (suc (suc n)))))))))) k f g h
 
 no-ask : (number : ℕ) (k : CallKind) → (number ≡ 2 → ⊥) → (number ≡ 3 → ⊥) → (number ≡ 5 → ⊥) → (number ≡ 7 → ⊥) → (number ≡ 8 → ⊥)
     → (number ≡ 9 → ⊥) → callKindAt kinds number ≡ some k → k .changes ≡ false → ⊥
-no-ask number k f g h i j l e b = true-false (sym (changes-if number k f g h i j l e) ∙ b)
+no-ask number k f g h i j l e b = never-both (changes-if number k f g h i j l e) b
 
 -- the kind with a number
 pub changes-not : (number : ℕ) (k₀ k : CallKind) → callKindAt kinds number ≡ some k₀ → callKindAt kinds number ≡ some k
@@ -210,48 +208,7 @@ module _ (number : ℕ) (row : List ℕ) (x : Taken) (t : Tables) (c : Called) w
       → (number ≡ 9 → ⊥) → Plays false number row x t c
   no-other-ask f g h i j l k e b s = absurd (no-ask number k f g h i j l e b)
 
--- ---- the number of a kind
-
-module _ {number : ℕ} where
-  pub is-openings : number ≡ 0 → callKindAt kinds number ≡ some openingCalls
-  unfolding callKindAt
-  is-openings e = ap (callKindAt kinds) e
-
-  pub is-addings : number ≡ 1 → callKindAt kinds number ≡ some addingCalls
-  unfolding callKindAt
-  is-addings e = ap (callKindAt kinds) e
-
-  pub is-matchings : number ≡ 2 → callKindAt kinds number ≡ some matchingCalls
-  unfolding callKindAt
-  is-matchings e = ap (callKindAt kinds) e
-
-  pub is-writings : number ≡ 3 → callKindAt kinds number ≡ some writingCalls
-  unfolding callKindAt
-  is-writings e = ap (callKindAt kinds) e
-
-  pub is-readings : number ≡ 4 → callKindAt kinds number ≡ some readingCalls
-  unfolding callKindAt
-  is-readings e = ap (callKindAt kinds) e
-
-  pub is-listings : number ≡ 5 → callKindAt kinds number ≡ some listingCalls
-  unfolding callKindAt
-  is-listings e = ap (callKindAt kinds) e
-
-  pub is-importings : number ≡ 6 → callKindAt kinds number ≡ some importingCalls
-  unfolding callKindAt
-  is-importings e = ap (callKindAt kinds) e
-
-  pub is-exportings : number ≡ 7 → callKindAt kinds number ≡ some exportingCalls
-  unfolding callKindAt
-  is-exportings e = ap (callKindAt kinds) e
-
-  pub is-checkings : number ≡ 8 → callKindAt kinds number ≡ some checkingCalls
-  unfolding callKindAt
-  is-checkings e = ap (callKindAt kinds) e
-
-  pub is-batchings : number ≡ 9 → callKindAt kinds number ≡ some batchingCalls
-  unfolding callKindAt
-  is-batchings e = ap (callKindAt kinds) e
+-- ---- what a row takes
 
 pub wanted-is : (r : Wanted) (row : List ℕ) (number : ℕ) (k : CallKind) (size : Amounts) → r ≡ record { known = true; size = size }
     → callKindAt kinds number ≡ some k → size ≡ k .takes row
@@ -296,87 +253,83 @@ wanted-not row (suc (suc (suc (suc (suc (suc (suc (suc (suc (suc n)))))))))) l =
 
 -- ---- a call follows its definition
 
--- one slice is left beside the tables
-one : (slice : List ℕ) (beside : List (List ℕ)) → slice ∷ [] ≡ beside → slice ≡ getD beside 0 []
-one slice beside e = ap (λ (b : List (List ℕ)). getD b 0 []) e
+-- its own equation, with the reply as numbers
+pub replies : (ask : Ask) (t : Tables) {t′ : Tables} {numbers : List ℕ} {a : Answer} {beside : List (List ℕ)} → numbers ≡ replyRow a
+    → outcome a t′ beside ≡ outcomeOn ask t → RepliesTo ask t numbers t′ beside
+replies ask t h does = (
+  h ∙ ap (λ (o : Outcome). replyRow (o .answer)) does,
+  ap (λ (o : Outcome). o .after) does,
+  ap (λ (o : Outcome). o .beside) does,
+)
 
-called-is : (ask : Ask) (t t′ : Tables) (numbers : List ℕ) (y : Taken) → numbers ≡ replyRow (outcomeOn ask t .answer) → t′
-    ≡ outcomeOn ask t .after
-    → y ≡ leftBy ask (outcomeOn ask t .beside) → called numbers t′ y ≡ calledBy ask t
-called-is ask t t′ numbers y a b c = rw (a, b, c)
+called-is : (ask : Ask) (t t′ : Tables) (numbers : List ℕ) (y : Taken) (beside : List (List ℕ)) → RepliesTo ask t numbers t′ beside
+    → y ≡ leftBy ask beside → called numbers t′ y ≡ calledBy ask t
+called-is ask t t′ numbers y beside r e = rw (r .0, r .1, e, r .2)
 
 module _ (row : List ℕ) (x : Taken) (t t′ : Tables) (numbers : List ℕ) where
-  pub opens-it : numbers ≡ replyRow (outcomeOn (openingCalls .ask row x) t .answer) → t′ ≡ outcomeOn (openingCalls .ask row x) t .after
-      → amountsOf x ≡ openingCalls .takes row → called numbers t′ x ≡ calledBy (openingCalls .ask row x) t
+  pub opens-it : RepliesTo (openingCalls .ask row x) t numbers t′ [] → amountsOf x ≡ openingCalls .takes row
+      → called numbers t′ x ≡ calledBy (openingCalls .ask row x) t
   unfolding leftBy
-  opens-it a b e = called-is (openingCalls .ask row x) t t′ numbers x a b
-      (taken-same (no-samples x e refl) (no-trail x e refl) (no-sheet x e
-      refl) (no-list x e refl))
+  opens-it r e = called-is (openingCalls .ask row x) t t′ numbers x [] r
+      (taken-same (no-samples x e refl) (no-trail x e refl) (no-sheet x e refl) (no-list x e refl))
 
-  pub adds-it : numbers ≡ replyRow (outcomeOn (addingCalls .ask row x) t .answer) → t′ ≡ outcomeOn (addingCalls .ask row x) t .after
-      → amountsOf x ≡ addingCalls .takes row → called numbers t′ x ≡ calledBy (addingCalls .ask row x) t
+  pub adds-it : RepliesTo (addingCalls .ask row x) t numbers t′ [] → amountsOf x ≡ addingCalls .takes row
+      → called numbers t′ x ≡ calledBy (addingCalls .ask row x) t
   unfolding leftBy
-  adds-it a b e = called-is (addingCalls .ask row x) t t′ numbers x a b (taken-same refl (no-trail x e refl) (no-sheet x e refl)
-      (no-list x e refl))
+  adds-it r e = called-is (addingCalls .ask row x) t t′ numbers x [] r
+      (taken-same refl (no-trail x e refl) (no-sheet x e refl) (no-list x e refl))
 
-  pub matches-it : (trail : List ℕ) → numbers ≡ replyRow (outcomeOn (matchingCalls .ask row x) t .answer) → t′
-      ≡ outcomeOn (matchingCalls .ask row x) t .after
-      → trail ∷ [] ≡ outcomeOn (matchingCalls .ask row x) t .beside → amountsOf x ≡ matchingCalls .takes row
+  pub matches-it : (trail : List ℕ) → RepliesTo (matchingCalls .ask row x) t numbers t′ (trail ∷ [])
+      → amountsOf x ≡ matchingCalls .takes row
       → called numbers t′ (taken (x .samples) trail (x .sheet) (x .list)) ≡ calledBy (matchingCalls .ask row x) t
   unfolding leftBy
-  matches-it trail a b c e =
-      called-is (matchingCalls .ask row x) t t′ numbers (taken (x .samples) trail (x .sheet) (x .list)) a b (taken-same refl (one trail _ c)
-      (no-sheet x e refl) (no-list x e refl))
+  matches-it trail r e = called-is (matchingCalls .ask row x) t t′ numbers (taken (x .samples) trail (x .sheet) (x .list)) (trail ∷ []) r
+      (taken-same refl refl (no-sheet x e refl) (no-list x e refl))
 
-  pub writes-it : (sheet : List ℕ) → numbers ≡ replyRow (outcomeOn (writingCalls .ask row x) t .answer) → t′
-      ≡ outcomeOn (writingCalls .ask row x) t .after
-      → sheet ∷ [] ≡ outcomeOn (writingCalls .ask row x) t .beside → amountsOf x ≡ writingCalls .takes row
+  pub writes-it : (sheet : List ℕ) → RepliesTo (writingCalls .ask row x) t numbers t′ (sheet ∷ []) → amountsOf x ≡ writingCalls .takes row
       → called numbers t′ (taken (x .samples) (x .trail) sheet (x .list)) ≡ calledBy (writingCalls .ask row x) t
   unfolding leftBy
-  writes-it sheet a b c e =
-      called-is (writingCalls .ask row x) t t′ numbers (taken (x .samples) (x .trail) sheet (x .list)) a b (bytes-only x e (one sheet _ c))
+  writes-it sheet r e = called-is (writingCalls .ask row x) t t′ numbers (taken (x .samples) (x .trail) sheet (x .list)) (sheet ∷ []) r
+      (bytes-only x e refl)
 
-  pub reads-it : numbers ≡ replyRow (outcomeOn (readingCalls .ask row x) t .answer) → t′ ≡ outcomeOn (readingCalls .ask row x) t .after
-      → amountsOf x ≡ readingCalls .takes row → called numbers t′ x ≡ calledBy (readingCalls .ask row x) t
+  pub reads-it : RepliesTo (readingCalls .ask row x) t numbers t′ [] → amountsOf x ≡ readingCalls .takes row
+      → called numbers t′ x ≡ calledBy (readingCalls .ask row x) t
   unfolding leftBy
-  reads-it a b e = called-is (readingCalls .ask row x) t t′ numbers x a b (bytes-only x e refl)
+  reads-it r e = called-is (readingCalls .ask row x) t t′ numbers x [] r
+      (bytes-only x e refl)
 
-  pub lists-it : (trail list : List ℕ) → numbers ≡ replyRow (outcomeOn (listingCalls .ask row x) t .answer) → t′
-      ≡ outcomeOn (listingCalls .ask row x) t .after
-      → trail ∷ list ∷ [] ≡ outcomeOn (listingCalls .ask row x) t .beside → amountsOf x ≡ listingCalls .takes row
+  pub lists-it : (trail list : List ℕ) → RepliesTo (listingCalls .ask row x) t numbers t′ (trail ∷ list ∷ [])
+      → amountsOf x ≡ listingCalls .takes row
       → called numbers t′ (taken (x .samples) trail (x .sheet) list) ≡ calledBy (listingCalls .ask row x) t
   unfolding leftBy
-  lists-it trail list a b c e =
-      called-is (listingCalls .ask row x) t t′ numbers (taken (x .samples) trail (x .sheet) list) a b (taken-same refl
-      (ap (λ (beside : List (List ℕ)). getD beside 0 []) c) (no-sheet x e refl) (ap (λ (beside : List (List ℕ)). getD beside 1 []) c))
+  lists-it trail list r e = called-is (listingCalls .ask row x) t t′ numbers (taken (x .samples) trail (x .sheet) list)
+      (trail ∷ list ∷ []) r
+      (taken-same refl refl (no-sheet x e refl) refl)
 
-  pub imports-it : numbers ≡ replyRow (outcomeOn (importingCalls .ask row x) t .answer)
-      → t′ ≡ outcomeOn (importingCalls .ask row x) t .after
-      → amountsOf x ≡ importingCalls .takes row → called numbers t′ x ≡ calledBy (importingCalls .ask row x) t
+  pub imports-it : RepliesTo (importingCalls .ask row x) t numbers t′ [] → amountsOf x ≡ importingCalls .takes row
+      → called numbers t′ x ≡ calledBy (importingCalls .ask row x) t
   unfolding leftBy
-  imports-it a b e = called-is (importingCalls .ask row x) t t′ numbers x a b (bytes-only x e refl)
+  imports-it r e = called-is (importingCalls .ask row x) t t′ numbers x [] r
+      (bytes-only x e refl)
 
-  pub exports-it : (buffer : List ℕ) → numbers ≡ replyRow (outcomeOn (exportingCalls .ask row x) t .answer) → t′
-      ≡ outcomeOn (exportingCalls .ask row x) t .after
-      → buffer ∷ [] ≡ outcomeOn (exportingCalls .ask row x) t .beside → amountsOf x ≡ exportingCalls .takes row
+  pub exports-it : (buffer : List ℕ) → RepliesTo (exportingCalls .ask row x) t numbers t′ (buffer ∷ [])
+      → amountsOf x ≡ exportingCalls .takes row
       → called numbers t′ (taken (x .samples) (x .trail) buffer (x .list)) ≡ calledBy (exportingCalls .ask row x) t
   unfolding leftBy
-  exports-it buffer a b c e =
-      called-is (exportingCalls .ask row x) t t′ numbers (taken (x .samples) (x .trail) buffer (x .list)) a b
-      (bytes-only x e (one buffer _ c))
+  exports-it buffer r e = called-is (exportingCalls .ask row x) t t′ numbers (taken (x .samples) (x .trail) buffer (x .list))
+      (buffer ∷ []) r
+      (bytes-only x e refl)
 
-  pub checks-it : numbers ≡ replyRow (outcomeOn (checkingCalls .ask row x) t .answer) → t′ ≡ outcomeOn (checkingCalls .ask row x) t .after
-      → amountsOf x ≡ checkingCalls .takes row → called numbers t′ x ≡ calledBy (checkingCalls .ask row x) t
+  pub checks-it : RepliesTo (checkingCalls .ask row x) t numbers t′ [] → amountsOf x ≡ checkingCalls .takes row
+      → called numbers t′ x ≡ calledBy (checkingCalls .ask row x) t
   unfolding leftBy
-  checks-it a b e = called-is (checkingCalls .ask row x) t t′ numbers x a b
-      (taken-same (no-samples x e refl) (no-trail x e refl) (no-sheet x e
-      refl) (no-list x e refl))
+  checks-it r e = called-is (checkingCalls .ask row x) t t′ numbers x [] r
+      (taken-same (no-samples x e refl) (no-trail x e refl) (no-sheet x e refl) (no-list x e refl))
 
-  pub batches-it : (trail list : List ℕ) → numbers ≡ replyRow (outcomeOn (batchingCalls .ask row x) t .answer) → t′
-      ≡ outcomeOn (batchingCalls .ask row x) t .after
-      → trail ∷ list ∷ [] ≡ outcomeOn (batchingCalls .ask row x) t .beside → amountsOf x ≡ batchingCalls .takes row
+  pub batches-it : (trail list : List ℕ) → RepliesTo (batchingCalls .ask row x) t numbers t′ (trail ∷ list ∷ [])
+      → amountsOf x ≡ batchingCalls .takes row
       → called numbers t′ (taken (x .samples) trail (x .sheet) list) ≡ calledBy (batchingCalls .ask row x) t
   unfolding leftBy
-  batches-it trail list a b c e =
-      called-is (batchingCalls .ask row x) t t′ numbers (taken (x .samples) trail (x .sheet) list) a b (taken-same refl
-      (ap (λ (beside : List (List ℕ)). getD beside 0 []) c) (no-sheet x e refl) (ap (λ (beside : List (List ℕ)). getD beside 1 []) c))
+  batches-it trail list r e = called-is (batchingCalls .ask row x) t t′ numbers (taken (x .samples) trail (x .sheet) list)
+      (trail ∷ list ∷ []) r
+      (taken-same refl refl (no-sheet x e refl) refl)

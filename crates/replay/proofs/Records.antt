@@ -13,7 +13,7 @@ use Rattle.dstree.specs.Matching.{Near}
 use Rattle.dstree.specs.KNearest.{listPlaces}
 use Rattle.reading.specs.Listed.{recordAt, nearsIn}
 use Rattle.reading.proofs.Records.{nears-length}
-use Rattle.reading.proofs.Places.{nears-in, list-over}
+use Rattle.reading.proofs.Places.{nears-in, places-length, list-over}
 use Rattle.batching.specs.Answered.{listBy}
 use Rattle.batching.proofs.Answers.{list-filled}
 
@@ -26,11 +26,6 @@ places-back records list e =
     drop-of-length-le list {i = 2 * records} (omega (arith, e)) ∙ sym (drop-of-length-le {A = ℕ} [] {i = 2 * records} (omega arith)) in
     sym (list-over records [] list (omega (arith, e)) none-behind
     ∙ (ap (λ (r : List ℕ). first ++ r) (drop-of-length-le {A = ℕ} [] {i = length first} (omega arith)) ∙ append-nil first))
-
-pub places-length : (list : List Near) → length (listPlaces list) ≡ 2 * length list
-unfolding listPlaces
-places-length [] = refl
-places-length (a ∷ list) = omega (arith, places-length list)
 
 pub nears-back : (records : ℕ) (list : List Near) → length list ≡ records → nearsIn records (listPlaces list) ≡ list
 nears-back records list e =

@@ -18,11 +18,12 @@ use Rattle.integer.specs.Lists.{All, all-none, all-more}
 use Rattle.integer.proofs.Lists.{all-append, every-all, all-every}
 use Rattle.dstree.specs.Sheet.{areBytes}
 use Rattle.dstree.specs.KNearest.{listPlaces}
-use Rattle.reading.specs.Listed.{nearsIn}
 use Rattle.dstree.specs.Book.{Lent, Ask, opening, adding, matching, writing, reading, listing, importing, exporting, checking, Call}
 use Rattle.dstree.specs.Book.{batching, call}
 use Rattle.tables.specs.Tables.{Tables, lentOf}
 use Rattle.tables.specs.Beginning.{LentWithin}
+use Rattle.reading.specs.Listed.{nearsIn}
+use Rattle.reading.proofs.Places.{places-length}
 use Rattle.replay.specs.Script.{State, lentBy, Taken, amountsOf, nextOf, aheadOf, CallKind, openingCalls, addingCalls, matchingCalls, writingCalls}
 use Rattle.replay.specs.Script.{amounts, readingCalls, listingCalls, importingCalls, exportingCalls, checkingCalls, batchingCalls, kinds, callKindAt}
 use Rattle.replay.specs.Script.{fitsIn, enough, ifEnough, playable, askedBy, asks, takenBy, stateAfter, turnMade, Played, begun}
@@ -31,7 +32,7 @@ use Rattle.replay.specs.declared.Amounts.{Amounts}
 use Rattle.replay.specs.Scripts.{Word, Mark, ArgumentsFit, Possible, MachineLengths, Script}
 use Rattle.replay.proofs.ReadBack.{scriptOf, rows-of-script}
 use Rattle.replay.proofs.Asking.{isSample, isByte}
-use Rattle.replay.proofs.Records.{places-length, nears-back, half}
+use Rattle.replay.proofs.Records.{nears-back, half}
 
 -- ---- a call's row
 

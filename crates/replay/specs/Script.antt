@@ -14,9 +14,9 @@ use Rattle.dstree.specs.KNearest.{listPlaces}
 use Rattle.dstree.specs.Book.{Lent, Ask, opening, adding, matching, writing, reading, listing, importing, exporting, checking, Call, call}
 use Rattle.dstree.specs.Book.{batching, Answer, Reply, reply}
 use Rattle.tables.specs.Tables.{Tables, lentOf}
-use Rattle.reading.specs.Listed.{nearsIn}
 use Rattle.calls.specs.Effects.{outcomeOn}
 use Rattle.calls.specs.Follows.{outcomeIn}
+use Rattle.reading.specs.Listed.{nearsIn}
 use Rattle.replay.specs.ReplyRows.{replyRow, withRow}
 use Rattle.replay.specs.declared.Lengths.{Lengths}
 use Rattle.replay.specs.declared.Amounts.{Amounts}
@@ -326,6 +326,12 @@ abbrev pub calledBy : Ask → Tables → Called
 calledBy ask t =
     let o = outcomeOn ask t in
     called (replyRow (o .answer)) (o .after) (leftBy ask (o .beside))
+
+-- these are the numbers of its reply, and this is what it leaves in the tables and beside them
+abbrev pub RepliesTo : Ask → Tables → List ℕ → Tables → List (List ℕ) → Type 0
+RepliesTo ask t numbers after beside =
+    let o = outcomeOn ask t in
+    (numbers ≡ replyRow (o .answer)) × (after ≡ o .after) × (beside ≡ o .beside)
 
 -- .. as a row makes it that has this number, and whose kind changes tables or does not
 abbrev pub Plays : Bool → ℕ → List ℕ → Taken → Tables → Called → Type 0

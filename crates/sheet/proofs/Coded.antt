@@ -14,6 +14,7 @@ use mir.Syntax.{w16, w64}
 use mir.Val.{Fits, SFits}
 use mir.Facts.{toZ-ofZ}
 use borrow.Author.Tests.{ltb-true, le-ltb}
+use Rattle.integer.proofs.Tests.{clash}
 use Rattle.integer.proofs.Width.{read, read-wider, small}
 use Rattle.dstree.specs.Sheet.{bytesOf, narrow, coded, codedAll}
 use Rattle.dstree.proofs.SheetFields.{codes-append, codes-length}
@@ -46,9 +47,6 @@ codes-put l place samples j h =
     ∙ ap (sets l place) (sym (codes-more samples j h))
 
 -- ---- the number of a sample below 0
-
-clash : {X : Type 0} → false ≡ true → X
-clash e = let z : _≡_ {A = ℕ} 0 1 = cc in absurd (omega arith)
 
 -- the number that 65,536 and the sample make
 record Complement (z : ℤ) : Type 0 where
@@ -94,15 +92,9 @@ module _ (z : ℤ) (f : SFits w16 z) (e : ltZ (read w16 z) (pos 0) ≡ false) wh
   up : (x : ℤ) → ltZ x (pos 0) ≡ false → mag x < 32768 → (T (nonNeg x) × Fits w16 (natAbs x)) × (bytesOf 2 (natAbs x) ≡ coded narrow x)
   unfolding coded
   up (pos v) e h = ((tt, omega arith), refl)
-  up (negsuc v) e h = clash (sym e)
+  up (negsuc v) e h = clash e
 
-  own : (T (nonNeg (read w16 z)) × Fits w16 (natAbs (read w16 z))) × (bytesOf 2 (natAbs (read w16 z)) ≡ coded narrow z)
+  pub own : (T (nonNeg (read w16 z)) × Fits w16 (natAbs (read w16 z))) × (bytesOf 2 (natAbs (read w16 z)) ≡ coded narrow z)
   own =
       subst (λ (x : ℤ). (T (nonNeg x) × Fits w16 (natAbs x)) × (bytesOf 2 (natAbs x) ≡ coded narrow z)) (sym (toZ-ofZ f))
       (up z (subst (λ (x : ℤ). ltZ x (pos 0) ≡ false) (toZ-ofZ f) e) (f .sfits))
-
-  pub own-cast : T (nonNeg (read w16 z)) × Fits w16 (natAbs (read w16 z))
-  own-cast = own .0
-
-  pub own-bytes : bytesOf 2 (natAbs (read w16 z)) ≡ coded narrow z
-  own-bytes = own .1

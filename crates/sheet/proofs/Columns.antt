@@ -7,9 +7,10 @@ use native.Mathlib.Numerals.{add-one}
 use native.Mathlib.Omega.{arith}
 use lib.ListN.{length, getD, take, drop, set, replicate, take-append-drop}
 use lib.Seq.{take-all, take-take, drop-drop, length-take-le, getD-drop}
+use Rattle.integer.proofs.Lists.{drop-take}
 use Rattle.integer.specs.Words.{total}
 use Rattle.dstree.specs.Sheet.{part, checkedSize, weighted}
-use Rattle.dstree.proofs.SheetPieces.{part-length, drop-take}
+use Rattle.dstree.proofs.SheetPieces.{part-length}
 use Rattle.sheet.specs.Columns.{columns, addedUp, EachAtMost, mostSum, mostLater, ColumnSums}
 
 -- ---- numbers with others added

@@ -6,10 +6,10 @@ use native.Mathlib.Omega.{arith}
 use native.Mathlib.Nat.{suc-mul, mul-le-mul-right}
 use lib.ListN.{getD, take, drop}
 use lib.Seq.{drop-drop, take-take}
-use Rattle.integer.proofs.Lists.{map-take}
+use Rattle.integer.proofs.Lists.{drop-take, map-take}
 use Rattle.integer.proofs.Rows.{map-append}
 use Rattle.dstree.specs.Sheet.{narrow, part, pieces, decoded}
-use Rattle.dstree.proofs.SheetPieces.{pieces-at, pieces-drop, pieces-take, pieces-more, drop-take}
+use Rattle.dstree.proofs.SheetPieces.{pieces-at, pieces-drop, pieces-take, pieces-more}
 use Rattle.sheet.specs.Codes.{samplesIn}
 
 abbrev width : ℕ

@@ -2,13 +2,12 @@
 use mathlib.Core.Path.{_≡_, sym, ap, ap₂, _∙_}
 use mathlib.Core.List.{List, _++_, map, flatten}
 use Prim.Native.Nat.{ℕ, zero, suc, _+_, _*_}
-use native.Mathlib.Nat.{zero-mul}
+use native.Mathlib.Nat.{zero-mul, suc-mul}
 use native.Mathlib.Omega.{arith}
 use lib.IntN.{ℤ}
-use lib.ListN.{length, take, drop, length-map}
+use lib.ListN.{length, take, drop}
 use lib.Seq.{take-add, drop-drop}
 use Rattle.integer.specs.Words.{counting}
-use Rattle.integer.proofs.Times.{counting-length}
 use Rattle.dstree.specs.Measures.{Measures, sampleLimit}
 use Rattle.dstree.specs.Sheet.{blockSize, narrow, kindOf, block, blocksFrom, headOf, blocksOf, sheetAs, sheetOf, sampleBlocksNeeded}
 use Rattle.dstree.specs.Sheet.{blocksNeeded}
@@ -19,6 +18,7 @@ use Rattle.dstree.proofs.SheetWritten.{carried-is, head-length}
 use Rattle.dstree.proofs.RoundTrips.{sheet-length}
 use Rattle.tables.specs.Tables.{Tables, measuresOf, traceCount}
 use Rattle.tables.specs.View.{traceIn, tracesIn}
+use Rattle.tables.proofs.Views.{traces-size}
 use Rattle.sheet_writing.specs.Filled.{withBlock, sampleBlocks, withSamples}
 use Rattle.sheet_writing.proofs.BlockByBlock.{whole}
 
@@ -27,13 +27,11 @@ unfolding flatten counting traceIn
 flat-from samples n zero a = ap (λ (i : ℕ). take i (drop (a * n) samples)) (sym (zero-mul n))
 flat-from samples n (suc k) a =
     ap (λ (l : List ℤ). take n (drop (a * n) samples) ++ l)
-    (flat-from samples n k (suc a) ∙ ap (λ (i : ℕ). take (k * n) (drop i samples)) (next a n) ∙ ap (take (k * n)) (sym (drop-drop n (a * n) samples)))
+    (flat-from samples n k (suc a) ∙ ap (λ (i : ℕ). take (k * n) (drop i samples)) (suc-mul a n)
+    ∙ ap (take (k * n)) (sym (drop-drop n (a * n) samples)))
     ∙ sym (take-add n (k * n) (drop (a * n) samples))
     ∙ ap (λ (i : ℕ). take i (drop (a * n) samples)) (more k n)
   where
-    next : (a n : ℕ) → suc a * n ≡ a * n + n
-    next a n = omega arith
-
     more : (k n : ℕ) → n + k * n ≡ suc k * n
     more k n = omega arith
 
@@ -43,10 +41,6 @@ module _ (t : Tables) where
   stored-flat =
       flat-from (t .samples) (measuresOf t .n) (traceCount t) 0
       ∙ ap (λ (i : ℕ). take (traceCount t * measuresOf t .n) (drop i (t .samples))) (zero-mul (measuresOf t .n))
-
-  stored-count : length (tracesIn t) ≡ traceCount t
-  unfolding tracesIn
-  stored-count = length-map (counting (traceCount t) 0) (traceIn (t .samples) (measuresOf t .n)) ∙ counting-length (traceCount t) 0
 
   abbrev m : Measures
   m = measuresOf t
@@ -62,11 +56,12 @@ module _ (t : Tables) where
   unfolding sheetAs blocksOf blocksFrom flatten kindOf
   sheet-is =
       ap (λ (cs : List (List ℕ)). flatten (blocksFrom narrow 0 cs)) (carried-is narrow sampleLimit narrow-sound m (tracesIn t))
-      ∙ ap₂ (λ (i : ℕ) (l : List ℤ). block (narrow .headKind) 0 (headOf m i) ++ sampleBlocks l (sampleBlocksNeeded narrow i (m .n))) stored-count stored-flat
+      ∙ ap₂ (λ (i : ℕ) (l : List ℤ). block (narrow .headKind) 0 (headOf m i) ++ sampleBlocks l (sampleBlocksNeeded narrow i (m .n)))
+      (traces-size t) stored-flat
 
   -- its length
   pub stored-length : length (sheetOf m (tracesIn t)) ≡ blockSize * blocksNeeded k (m .n)
-  stored-length = sheet-length m (tracesIn t) ∙ ap (λ (i : ℕ). blockSize * blocksNeeded i (m .n)) stored-count
+  stored-length = sheet-length m (tracesIn t) ∙ ap (λ (i : ℕ). blockSize * blocksNeeded i (m .n)) (traces-size t)
 
   -- what the loops leave is the sheet, with what stood behind it
   pub filled-is : (sheet : List ℕ)

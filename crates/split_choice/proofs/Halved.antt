@@ -1,6 +1,5 @@
 -- A segment's halves, as code finds them.
-use mathlib.Core.Path.{_≡_, refl}
-use mathlib.Core.Bool.{Bool, true, false, _&&_}
+use mathlib.Core.Path.{_≡_}
 use mathlib.Core.List.{List, [], _++_}
 use Prim.Native.Nat.{ℕ, suc, _+_, _-_, _/_, _≤_, _<_}
 use native.Mathlib.Omega.{arith}
@@ -9,6 +8,7 @@ use lib.ListN.{length}
 use lib.Seq.{length-take-le}
 use lib.Dec.{ltb}
 use borrow.Author.Tests.{lt-ltb, le-ltb, le-leb, lt-leb, ne-eqb}
+use Rattle.integer.proofs.Tests.{and-false}
 use Rattle.dstree.specs.Figures.{run}
 use Rattle.dstree.specs.Adding.{byEither, leftHalfEnd, halves}
 use Rattle.leaf_figures.specs.Ends.{endsOf, EndsRoom}
@@ -18,10 +18,6 @@ use Rattle.split_choice.specs.Choosing.{childEnds}
 -- no more ends than places
 pub ends-count : (e : Ends) → EndsRoom e → length (endsOf e) ≡ e .count
 ends-count e r = length-take-le (e .count) (e .at) (omega (arith, r .places, r .few))
-
-and-false : (b : Bool) → b && false ≡ false
-and-false true = refl
-and-false false = refl
 
 module _ (all : List ℕ) (first last : ℕ) where
   pub no-room : 16 ≤ length all → halves all (run first last) ≡ []

@@ -8,14 +8,9 @@ use lib.ListN.{length, getD, set, length-set}
 use lib.Seq.{getD-set-same, getD-set-other}
 use lib.Dec.{eqb}
 use Rattle.integer.specs.Words.{those}
-use Rattle.integer.proofs.Lists.{In, first, later, in-nil, in-cons, same-or-not}
+use Rattle.integer.proofs.Lists.{In, later, in-nil, in-cons, same-or-not, those-agree}
 use Rattle.leaf_figures.specs.Sides.{marked}
 use Rattle.split_choice.specs.Marking.{sideMark, marksBy}
-
-those-same : (p q : ℕ → Bool) (l : List ℕ) → ((t : ℕ) → In t l → p t ≡ q t) → those p l ≡ those q l
-unfolding those
-those-same p q [] h = refl
-those-same p q (t ∷ l) h = rw (h t first, those-same p q l (λ u i. h u (later i)))
 
 left-code : (b : Bool) → eqb (sideMark b) 1 ≡ b
 left-code true = refl
@@ -48,7 +43,9 @@ module _ (left : ℕ → Bool) where
 
   module _ (l marks : List ℕ) (room : (u : ℕ) → In u l → u < length marks) where
     pub left-side : marked (marksBy left marks l) 1 l ≡ those left l
-    left-side = those-same (λ t. eqb (getD (marksBy left marks l) t 0) 1) left l (λ t i. rw (marked-at l marks t room i) (left-code (left t)))
+    left-side = those-agree (λ t. eqb (getD (marksBy left marks l) t 0) 1) left l
+        (λ t i. rw (marked-at l marks t room i) (left-code (left t)))
 
     pub right-side : marked (marksBy left marks l) 2 l ≡ those (λ t. not (left t)) l
-    right-side = those-same (λ t. eqb (getD (marksBy left marks l) t 0) 2) (λ t. not (left t)) l (λ t i. rw (marked-at l marks t room i) (right-code (left t)))
+    right-side = those-agree (λ t. eqb (getD (marksBy left marks l) t 0) 2) (λ t. not (left t)) l
+        (λ t i. rw (marked-at l marks t room i) (right-code (left t)))

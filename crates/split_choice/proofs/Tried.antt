@@ -2,20 +2,19 @@
 use mathlib.Core.Path.{_≡_, refl, sym, ap, _∙_}
 use mathlib.Core.Bool.{Bool, true, false}
 use mathlib.Core.Option.{Option, none, some}
-use mathlib.Core.List.{List, [], _∷_, _++_, map, foldl}
+use mathlib.Core.List.{List, [], _∷_, _++_, map, foldl, foldl-append}
 use Prim.Native.Nat.{ℕ, suc, _+_, _^_, _≤_}
 use native.Mathlib.Numerals.{add-one}
 use lib.IntN.{ℤ, natAbs}
 use lib.Signed.{ltZ}
 use Rattle.integer.specs.Words.{if_then_else_, those, leastℤ, greatestℤ}
-use Rattle.integer.proofs.Lists.{fold-append}
+use Rattle.integer.proofs.Lists.{}
 use Rattle.dstree.specs.Measures.{Trace}
 use Rattle.dstree.specs.Figures.{run}
 use Rattle.dstree.specs.Node.{figureOf}
 use Rattle.dstree.specs.Adding.{Candidate, candidates, candidatesFrom, byEither, halves, Split, thresholdOf, testOf, splitByTest, splitBy, parts, gain, bestOf, best, tracesOf}
 use Rattle.dstree.proofs.Parting.{parting}
-use Rattle.tables.specs.Runs.{figureBy}
-use Rattle.tables.specs.Runs.{testBy}
+use Rattle.tables.specs.Runs.{figureBy, testBy}
 use Rattle.split_choice.specs.Choosing.{childEnds, candidateBy, splitOf, chosenBy, choiceOf, betterOf, betterSplit, tryOne, tried, TrialFits, ChoiceFound, ChoiceSound}
 use Rattle.split_choice.specs.declared.choice.Trial.{Trial}
 use Rattle.split_choice.specs.declared.choice.Choice.{Choice}
@@ -53,7 +52,8 @@ module _ (stored : List Trace) (all numbers : List ℕ) where
       ≡ tried stored all numbers (tried stored all numbers o (byEither (run first end) all ++ halves all (run first end))) (candidatesFrom all (end + 1) rest)
   unfolding candidatesFrom
   segment-tried o first end rest =
-      rw (add-one end) (fold-append (tryOne stored all numbers) o (byEither (run first end) all ++ halves all (run first end)) (candidatesFrom all (suc end) rest))
+      rw (add-one end)
+      (foldl-append (tryOne stored all numbers) o (byEither (run first end) all ++ halves all (run first end)) (candidatesFrom all (suc end) rest))
 
   -- ---- one candidate tried
 

@@ -1,7 +1,7 @@
 -- What tables stand for, read node by node and trace by trace: node j of the tree is its record read as a node, trace i its samples. For any contents; then what
 -- the test for well-formed tables says of them.
 use Prim.Native.Nat.{ℕ, _+_, _≤_, _<_}
-use mathlib.Core.Path.{_≡_, ap, _∙_}
+use mathlib.Core.Path.{_≡_, refl, ap, _∙_}
 use mathlib.Core.List.{List, []}
 use native.Mathlib.Omega.{arith}
 use lib.IntN.{ℤ}
@@ -18,12 +18,17 @@ use Rattle.dstree.specs.Node.{Segment, Node, node, leaf, nodeAt, ends}
 use Rattle.dstree.specs.Matching.{numbersIn}
 use Rattle.dstree.specs.WellFormed as abstract
 use Rattle.dstree.proofs.Formed.{Formed, formed}
-use Rattle.tables.specs.Layout.{kindPlace, segmentsPlace, firstPlace}
+use Rattle.tables.specs.Layout.{kindPlace, segmentsPlace, firstPlace, segmentAt}
 use Rattle.tables.specs.Tables.{Tables, measuresOf, traceCount, nodeCount, recordOf}
 use Rattle.tables.specs.View.{smallAt, segmentIn, segmentsIn, kindIn, nodeIn, treeIn, traceIn, tracesIn, kindsNamed, wellFormed}
 use Rattle.tables.specs.Judge.{InRange}
 use Rattle.tables.specs.Walk.{numbersOf}
 use Rattle.tables.proofs.Range.{in-range}
+
+-- where a segment ends
+pub end-at : (r : List ℤ) (i : ℕ) → segmentIn r i .end ≡ smallAt r (segmentAt i)
+unfolding segmentIn
+end-at r i = refl
 
 -- a record has as many segments as it says, and as many right ends
 pub segments-length : (r : List ℤ) → length (segmentsIn r) ≡ smallAt r segmentsPlace

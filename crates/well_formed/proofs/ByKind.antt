@@ -7,13 +7,13 @@ use native.Mathlib.Omega.{arith}
 use lib.IntN.{ℤ}
 use lib.Dec.{leb, ltb, eqb, leb→le, ltb→lt, le→leb, lt→ltb, eqb·suc-zero}
 use borrow.Author.Tests.{le-leb, lt-leb, eq-eqb, ne-eqb}
+use Rattle.integer.proofs.Tests.{same-test}
 use Rattle.dstree.specs.Node.{leaf}
 use Rattle.dstree.specs.Matching.{numbersIn}
 use Rattle.dstree.specs.WellFormed.{childrenOf, leafFits}
 use Rattle.tables.specs.Layout.{kindPlace, firstPlace, rightPlace}
 use Rattle.tables.specs.Tables.{recordOf}
 use Rattle.tables.specs.View.{smallAt, numbersFrom, kindIn}
-use Rattle.records_fit.proofs.Limits.{same-test}
 use Rattle.records_fit.proofs.Heads.{kind-inner}
 use Rattle.well_formed.specs.Tests.{countsFit, childrenAt, kindAt, leafFitsAt, numbersAt}
 

@@ -4,7 +4,7 @@ use Prim.Native.Nat.{ℕ, zero, suc, _+_, _≤_, _<_}
 use mathlib.Core.Path.{_≡_, refl, sym, _∙_, ap, subst}
 use mathlib.Core.Bool.{true, not}
 use mathlib.Core.Logic.{_⊎_, inl, inr}
-use mathlib.Core.List.{List, [], _∷_, _++_, map, flatten, append-assoc}
+use mathlib.Core.List.{List, [], _∷_, map, flatten}
 use native.Mathlib.Omega.{arith}
 use lib.ListN.{getD}
 use lib.Dec.{T, ltb, eqb, ltb→lt, lt→ltb}
@@ -44,13 +44,6 @@ leaf-rises l t = and-yes (rising l) (not (isEmpty l)) t .0
 pub leaf-of : (x : ℕ) (l : List ℕ) → T (rising (x ∷ l)) → T (leafFits (leaf (x ∷ l)))
 unfolding leafFits isEmpty
 leaf-of x l t = yes-and (rising (x ∷ l)) true t tt
-
--- ---- the parts of a list's elements, over two lists joined
-
-pub flat-append : (f : ℕ → List ℕ) (a b : List ℕ) → flatten (map f (a ++ b)) ≡ flatten (map f a) ++ flatten (map f b)
-unfolding flatten
-flat-append f [] b = refl
-flat-append f (x ∷ a) b = ap (λ (l : List ℕ). f x ++ l) (flat-append f a b) ∙ sym (append-assoc (f x) (flatten (map f a)) (flatten (map f b)))
 
 -- ---- a list
 

@@ -10,7 +10,7 @@ use lib.ListN.{length}
 use lib.Dec.{T, leb, ltb, eqb, leb→le, le→leb, ltb→lt}
 use mir.Facts.{and-yes, yes-and}
 use Rattle.integer.specs.Words.{every, counting, isIn, timesIn}
-use Rattle.integer.proofs.Tests.{is-true, passed, passes}
+use Rattle.integer.proofs.Tests.{is-true, passed, passes, same-test}
 use Rattle.integer.proofs.Lists.{In, every-of, from-every}
 use Rattle.dstree.specs.Measures.{inRange, sampleLimit}
 use Rattle.dstree.specs.Node.{Segment, Node, Tree, nodeAt, ends}
@@ -23,9 +23,7 @@ use Rattle.tables.specs.Tables.{Tables, tables, measuresOf, traceCount, nodeCou
 use Rattle.tables.specs.View.{smallAt, segmentsIn, kindIn, nodeIn, treeIn, kindsNamed, wellFormed}
 use Rattle.tables.proofs.Views.{tree-size, tree-segments}
 use Rattle.records_fit.specs.Fits.{kindAlone, childFits, headFits, segmentsHold, recordFits, endsIn, keptAt, recordsFit, allKept}
-use Rattle.records_fit.proofs.Limits.{same-test}
-use Rattle.well_formed.specs.Tests.{countsFit, childrenAt, childrenOnce, leafFitsAt, numbersAt, numbersOfFirst, leavesHold}
-use Rattle.well_formed.specs.Tests.{treeFits}
+use Rattle.well_formed.specs.Tests.{countsFit, childrenAt, childrenOnce, leafFitsAt, numbersAt, numbersOfFirst, leavesHold, treeFits}
 use Rattle.well_formed.proofs.Once.{every-same}
 
 -- ---- lists made for the numbers below m

@@ -12,7 +12,7 @@ use borrow.Author.Count.{below-more}
 use Rattle.integer.specs.Words.{counting, timesIn}
 use Rattle.integer.proofs.Lists.{same-or-not}
 use Rattle.integer.proofs.Times.{times-nil, times-same, times-other, times-append}
-use Rattle.records_fit.proofs.Limits.{clash}
+use Rattle.integer.proofs.Tests.{clash}
 use Rattle.well_formed.specs.Marks.{MarksGrown, Twice, MarkedOrTwice}
 
 -- ---- no number, one number, more numbers

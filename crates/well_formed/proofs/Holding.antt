@@ -13,8 +13,9 @@ use borrow.Author.Tests.{eq-eqb, ne-eqb, eqb-true}
 use Rattle.integer.specs.Words.{if_then_else_, counting, timesIn}
 use Rattle.integer.proofs.Lists.{same-or-not, In, first, in-flat, InFlat, flat, from-flat, in-counting, from-counting}
 use Rattle.integer.proofs.Times.{times-append, in-times, times-in, once-length, all-once}
+use Rattle.integer.proofs.Tests.{clash}
 use Rattle.records_fit.specs.Fits.{AllFit}
-use Rattle.records_fit.proofs.Limits.{passing, failing, clash}
+use Rattle.records_fit.proofs.Limits.{passing, failing}
 use Rattle.records_fit.proofs.Loops.{all-passed, each-passes}
 use Rattle.well_formed.specs.Marks.{MarksGrown, Named, LinkRises, LinksRise, LinksMarked, LinksName}
 use Rattle.well_formed.specs.Tests.{childrenOnce, firstsOf, notZero, linkAt, linksOf, leavesHold, markedOnce}

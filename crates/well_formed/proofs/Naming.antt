@@ -11,6 +11,7 @@ use lib.ListN.{length, length-append, getD}
 use lib.Dec.{T, ltb, eqb, ltb→lt, lt→ltb, eqb→eq, eqb·suc-zero}
 use mir.Facts.{and-yes, yes-and}
 use borrow.Author.Tests.{eq-eqb, ne-eqb, eqb-true}
+use Rattle.integer.proofs.Lists.{flat-append}
 use Rattle.integer.specs.Words.{if_then_else_, every, counting, timesIn}
 use Rattle.integer.proofs.Lists.{same-or-not, In, first, later, in-cons, in-nil, in-append, in-flat, InFlat, flat, from-flat, every-of, from-every, in-counting, from-counting}
 use Rattle.integer.proofs.Tests.{is-true, eq→eqb}
@@ -27,7 +28,7 @@ use Rattle.records_fit.proofs.Children.{kind-named, head-fits-at}
 use Rattle.well_formed.specs.Marks.{LinkRises}
 use Rattle.well_formed.specs.Tests.{childrenAt, childrenOfFirst, childrenOnce, kindAt, leafFitsAt, numbersAt, numbersOfFirst, firstAt, firstsOf, linkAt, linksOf, leavesHold}
 use Rattle.well_formed.proofs.ByKind.{no-child, two-children, is-leaf, no-number, inner-fits, leaf-numbers}
-use Rattle.well_formed.proofs.Chains.{leaf-rises, leaf-of, flat-append, followers, list-rest, list-is, list-first, Chain, chain, RisingBelow, list-rises}
+use Rattle.well_formed.proofs.Chains.{leaf-rises, leaf-of, followers, list-rest, list-is, list-first, Chain, chain, RisingBelow, list-rises}
 use Rattle.well_formed.proofs.Once.{children-inside}
 
 -- ---- a link

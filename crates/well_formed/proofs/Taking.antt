@@ -11,7 +11,7 @@ use lib.Dec.{T, ltb, eqb, ltb→lt, lt→ltb}
 use borrow.Author.Tests.{eqb-true, eqb-false}
 use Rattle.integer.specs.Words.{every, counting}
 use Rattle.integer.proofs.Lists.{same-or-not, In, first, in-cons, in-nil, in-append, in-flat, every-of, from-every, in-counting}
-use Rattle.records_fit.proofs.Limits.{clash}
+use Rattle.integer.proofs.Tests.{clash}
 use Rattle.well_formed.specs.Marks.{MarksGrown, Twice, MarkedOrTwice, Named, LinkRises, LinksRise, LinksMarked}
 use Rattle.well_formed.specs.Tests.{notZero, linkAt, linksOf}
 use Rattle.well_formed.proofs.Growth.{grown-none, grown-firsts, again-firsts, firsts-more, Tallied, tallied-none, tallied-more}

@@ -12,9 +12,6 @@ use Rattle.match_sheet.proofs.main.Tie as tie
 inside : (l : tie.After-line) → l .line .result ≤ length (l .line .last .1 .0)
 inside l = written-inside _ _ (l .line .result) (l .line .last .1 .0) (l .line .ensures)
 
-array-share-prefix-out : tie.Need-array-share-prefix-out
-array-share-prefix-out c = inside (c .before)
-
 slice-aggregate-write-all : tie.Need-slice-aggregate-write-all
 slice-aggregate-write-all c = let l = c .before .before in sym (length-take-le (l .line .result) (l .line .last .1 .0) (inside l))
 
@@ -23,4 +20,4 @@ main-spec =
     tie.close
     (tie.spec
     (λ c. search needs) (λ c κs. search needs) (λ c. search needs) (λ c. search needs) (λ c. search needs) (λ c κs. search needs)
-    array-share-prefix-out slice-aggregate-write-all (λ c κs. search needs) (λ c. search needs))
+    (λ c. inside (c .before)) slice-aggregate-write-all (λ c κs. search needs) (λ c. search needs))

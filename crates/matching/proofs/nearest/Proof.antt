@@ -4,20 +4,20 @@ use mathlib.Core.Path.{_≡_, sym, ap, _∙_}
 use mathlib.Core.Bool.{true, false}
 use mathlib.Core.Option.{none}
 use mathlib.Core.List.{List, [], _∷_}
-use native.Mathlib.Omega.{arith}
 use denote.Ref.{now}
 use borrow.Author.Needs.{needs}
 use borrow.Author.Tests.{not-true}
+use Rattle.integer.proofs.Tests.{never-both}
 use Rattle.dstree.specs.Refusals.{firstOf}
 use Rattle.dstree.specs.Book.{besideOf}
-use Rattle.tables.specs.Tables.{Tables, tables}
 use Rattle.dstree.specs.Matching.{matchBySteps}
+use Rattle.tables.specs.Tables.{Tables, tables}
 use Rattle.tables.specs.View.{treeIn, tracesIn}
 use Rattle.tables.specs.Answers.{foundBy}
 use Rattle.calls.specs.Effects.{isNone, matches, effectOf, outcomeOn}
 use Rattle.calls.proofs.Ends.{ends-refused}
-use Rattle.matching.specs.Answered.{answerBy}
 use Rattle.query_judging.proofs.Taken.{QueryAccepted}
+use Rattle.matching.specs.Answered.{answerBy}
 use Rattle.matching.proofs.Conditions.{may-search, finds}
 use Rattle.matching.proofs.Answers.{found-one, found-answer}
 use Rattle.matching.proofs.nearest.Statement.{statement}
@@ -45,12 +45,6 @@ module _ (e : tie.After-enum-told) where
   found : isNone (matchBySteps (tracesIn (lentTables s)) (treeIn (lentTables s)) (now (s .args .query))) ≡ false
   found = finds (lentTables s) (now (s .args .query)) (now (s .args .trail)) nothing
 
-judge-requires : tie.Need-judge-requires
-judge-requires c κs = tt
-
-enum-told : tie.Need-enum-told
-enum-told c = search needs
-
 search-all-requires : tie.Need-search-all-requires
 search-all-requires c κs = let m = may (c .before .before) in (m .ready, m .work-room)
 
@@ -70,9 +64,6 @@ module _ (q : tie.After-search-all) where
       found-one (now (a .control)) (now (a .samples)) (now (a .nodes)) (now (a .links)) (now (a .work)) (now (a .query)) (now (a .trail))
       workAfter trailAfter (r .best) (r .out) (r .traces) (q .search-all .kept .1 .1 .1 .1 .1 .1 .0) (q .search-all .ensures) (found e)
 
-true-false : true ≡ false → ⊥
-true-false e = let z : _≡_ {A = ℕ} 0 1 = cc in absurd (omega arith)
-
 same-length : tie.Need-same-length
 same-length c = c .before .before .before .before .before .before .search-all .kept .1 .1 .1 .1 .1 .0
 
@@ -83,7 +74,7 @@ returns : tie.Need-returns
 returns c =
     let q = c .before .before .before .before .before .before in
     let r = q .search-all .result in
-    absurd (true-false (sym (one q) ∙ not-true (r .best .found) (c .if1 .taken)))
+    never-both (one q) (not-true (r .best .found) (c .if1 .taken))
 
 returns-2 : tie.Need-returns-2
 unfolding answerBy outcomeOn effectOf besideOf
@@ -107,5 +98,5 @@ pub nearest-spec : {M : Type 1} → statement M
 nearest-spec =
     tie.close
     (tie.spec
-    judge-requires (λ c. search needs) enum-told search-all-requires same-length same-length-2 returns (λ c. search needs)
+    (λ c κs. tt) (λ c. search needs) (λ c. search needs) search-all-requires same-length same-length-2 returns (λ c. search needs)
     (λ c. search needs) returns-2 (λ c. search needs) (λ c. search needs) returns-3)

@@ -6,10 +6,10 @@ use denote.Ref.{now}
 use borrow.Author.Needs.{needs}
 use Rattle.dstree.specs.Measures.{Measures, measures}
 use Rattle.dstree.specs.Refusals.{firstOf}
+use Rattle.dstree.specs.Book.{done, besideOf}
 use Rattle.tables.specs.Tables.{Tables, tables, lentOf}
 use Rattle.tables.specs.Judge.{openingConditionsOf}
 use Rattle.tables.specs.Answers.{foundBy, openingConditions}
-use Rattle.dstree.specs.Book.{done, besideOf}
 use Rattle.calls.specs.Effects.{opens, effectOf, outcomeOn}
 use Rattle.calls.proofs.Ends.{ends-refused, ends-done}
 use Rattle.opening.specs.Opened.{answerBy}
@@ -30,9 +30,6 @@ start c = c .before .before .before .before
 -- what the judge found is what the definition finds
 found : (c : tie.After-judge-opening) → firstOf (openingConditionsOf (lentOf (lentTables (start c))) (asked (start c))) ≡ foundBy (c .judge-opening .result)
 found c = sym (c .judge-opening .ensures)
-
-enum-told : tie.Need-enum-told
-enum-told c = search needs
 
 -- nothing was refused
 module _ (c : tie.After-enum-told) where
@@ -71,5 +68,5 @@ pub open-spec : {M : Type 1} → statement M
 open-spec =
     tie.close
     (tie.spec
-    (λ c κs. search needs) (λ c. search needs) enum-told put-empty-requires returns (λ c. search needs) (λ c. search needs)
+    (λ c κs. search needs) (λ c. search needs) (λ c. search needs) put-empty-requires returns (λ c. search needs) (λ c. search needs)
     (λ c. search needs) (λ c. search needs) (λ c. search needs) returns-2)

@@ -1,103 +1,24 @@
--- `query_judging::judge_query` meets its contract: each return answers for one condition, the ones before it being false.
+-- `query_judging::judge_query` meets its contract: a query is a run as long as a trace.
 use Prim.Native.Nat.{ℕ}
-use mathlib.Core.Path.{_≡_, sym, ap, _∙_}
-use mathlib.Core.Bool.{true, false}
-use mathlib.Core.List.{List}
-use native.Mathlib.Omega.{arith}
-use lib.IntN.{ℤ}
-use lib.ListN.{length}
-use lib.Dec.{eqb}
+use mathlib.Core.Path.{ap, _∙_}
 use denote.Ref.{now}
 use borrow.Author.Needs.{needs}
-use borrow.Author.Tests.{eq-eqb, ne-eqb, lt-ltb, le-ltb}
-use Rattle.dstree.specs.Matching.{leaves}
 use Rattle.dstree.specs.Refusals.{firstOf}
-use Rattle.tables.specs.Tables.{Tables, tables, measuresOf, traceCount}
-use Rattle.tables.specs.View.{treeIn}
-use Rattle.tables.specs.Answers.{wordOf, foundBy}
-use Rattle.query_judging.specs.LeafCount.{leafCount}
-use Rattle.query_judging.proofs.Counted.{leaves-counted}
+use Rattle.tables.specs.Tables.{tables}
+use Rattle.calls.specs.Effects.{runConditionsIn}
 use Rattle.query_judging.proofs.judge_query.Statement.{statement}
 use Rattle.query_judging.proofs.judge_query.Tie as tie
 
--- whatever samples, links and search work the tables have
-module _ (samples : List ℤ) (links work : List ℕ) where
-  module _ (f : tie.After-field2) where
-    abbrev start : tie.Start
-    start = f .before .before .before .before .before
-
-    abbrev t : Tables
-    t = tables (now (start .args .control)) samples (now (start .args .nodes)) links work
-
-    abbrev size : ℕ
-    size = length (now (start .args .query))
-
-    abbrev room : ℕ
-    room = length (now (start .args .trail))
-
-    abbrev leafs : ℕ
-    leafs = length (leaves (treeIn t))
-
-    n-is : f .before .wide .result ≡ measuresOf t .n
-    n-is = f .before .wide .ensures ∙ f .before .before .field .ensures
-
-  same-length : (e : tie.Else1) → eqb (size (e .before)) (measuresOf (t (e .before)) .n) ≡ true
-  same-length e = let f = e .before in eq-eqb (size f) (measuresOf (t f) .n) (e .if1 .left ∙ n-is f)
-
-  some-trace : (e : tie.Else2) → eqb (traceCount (t (e .before .before))) 0 ≡ false
-  some-trace e = let f = e .before .before in ne-eqb (traceCount (t f)) 0 (λ q. e .if2 .left (f .field2 .ensures ∙ q))
-
-  -- the leaves counted are the tree's
-  module _ (l : tie.After-leaf-count) where
-    abbrev f : tie.After-field2
-    f = l .before .before .before .before .before
-
-    counted : l .leaf-count .result ≡ leafs f
-    counted =
-        l .leaf-count .ensures
-        ∙ (ap (λ (m : ℕ). leafCount (now (start f .args .nodes)) m 0) (l .before .wide2 .ensures ∙ l .before .before .field3 .ensures)
-        ∙ sym (leaves-counted (t f)))
-
-leaf-count-requires : tie.Need-leaf-count-requires
-leaf-count-requires c κs =
-    let s = c .before .before .before .before .before .before .before .before .before in
-    rw (c .wide2 .ensures ∙ c .before .field3 .ensures) (s .pre)
+abbrev start : tie.After-wide → tie.Start
+start w = w .before .before .before .before
 
 returns : tie.Need-returns
-unfolding foundBy wordOf firstOf
 returns c samples links work =
-    let f = c .before in
-    let T = t samples links work f in
-    rw (ne-eqb (size samples links work f) (measuresOf T .n) (λ q. c .if1 .taken (q ∙ sym (n-is samples links work f))))
-
-returns-2 : tie.Need-returns-2
-unfolding foundBy wordOf firstOf
-returns-2 c samples links work =
-    let f = c .before .before in
-    let stored = eq-eqb (traceCount (t samples links work f)) 0 (sym (f .field2 .ensures) ∙ c .if2 .taken) in
-    rw (same-length samples links work (c .before), stored)
-
-returns-3 : tie.Need-returns-3
-unfolding foundBy wordOf firstOf
-returns-3 c samples links work =
-    let l = c .before in
-    let e = l .before .before .before in
-    let r : ℕ = room samples links work (f samples links work l) in
-    let short = lt-ltb r (leafs samples links work (f samples links work l)) (omega (arith, c .if3 .taken, counted samples links work l)) in
-    rw (same-length samples links work (e .before), some-trace samples links work e, short)
-
-returns-4 : tie.Need-returns-4
-unfolding foundBy firstOf
-returns-4 c samples links work =
-    let l = c .before in
-    let e = l .before .before .before in
-    let r : ℕ = room samples links work (f samples links work l) in
-    let long = le-ltb r (leafs samples links work (f samples links work l)) (omega (arith, c .if3 .left, counted samples links work l)) in
-    rw (same-length samples links work (e .before), some-trace samples links work e, long)
+    let a = start (c .before) .args in
+    let t = tables (now (a .control)) samples (now (a .nodes)) links work in
+    c .judge-run .ensures samples links work
+    ∙ ap (λ (n : ℕ). firstOf (runConditionsIn t n (now (a .query)) (now (a .trail))))
+    (c .before .wide .ensures ∙ c .before .before .field .ensures)
 
 pub judge-query-spec : {M : Type 1} → statement M
-judge-query-spec =
-    tie.close
-    (tie.spec
-    (λ c κs. search needs) (λ c κs. search needs) (λ c κs. search needs) returns returns-2 (λ c κs. search needs) (λ c κs. search needs)
-    leaf-count-requires returns-3 returns-4)
+judge-query-spec = tie.close (tie.spec (λ c κs. search needs) (λ c κs. search needs) (λ c κs. start c .pre) returns)

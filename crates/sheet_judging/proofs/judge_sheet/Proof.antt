@@ -8,8 +8,8 @@ use denote.Ref.{now}
 use borrow.Author.Needs.{needs}
 use Rattle.dstree.specs.Refusals.{firstOf}
 use Rattle.dstree.specs.Sheet.{narrow, isWrongLength, blocksIn, tornConditions, badConditions, sheetConditions, conditionsAs}
-use Rattle.tables.specs.Answers.{wordOf, foundBy}
 use Rattle.dstree.proofs.Conditions.{first-some, first-none}
+use Rattle.tables.specs.Answers.{wordOf, foundBy}
 use Rattle.sheet_judging.proofs.judge_sheet.Statement.{statement}
 use Rattle.sheet_judging.proofs.judge_sheet.Tie as tie
 
@@ -28,15 +28,6 @@ module _ (e : tie.Else1) where
   later : firstOf (sheetConditions bytes) ≡ firstOf (tornConditions narrow 0 (blocksIn bytes) ++ badConditions narrow (blocksIn bytes))
   unfolding conditionsAs firstOf
   later = rw whole
-
-first-torn-requires : tie.Need-first-torn-requires
-first-torn-requires c κs = whole c
-
-enum-told : tie.Need-enum-told
-enum-told c = search needs
-
-judge-contents-requires : tie.Need-judge-contents-requires
-judge-contents-requires c κs = whole (c .before .before .before)
 
 returns-2 : tie.Need-returns-2
 unfolding foundBy
@@ -59,4 +50,5 @@ pub judge-sheet-spec : {M : Type 1} → statement M
 judge-sheet-spec =
     tie.close
     (tie.spec
-    (λ c κs. search needs) returns first-torn-requires (λ c. search needs) enum-told judge-contents-requires returns-2 returns-3)
+    (λ c κs. search needs) returns (λ c κs. whole c) (λ c. search needs) (λ c. search needs) (λ c κs. whole (c .before .before .before))
+    returns-2 returns-3)

@@ -17,18 +17,15 @@ use Rattle.tables.specs.Tables.{Tables, tables, lentOf}
 use Rattle.tables.specs.Answers.{foundBy, opened}
 use Rattle.tables.specs.Judge.{LongEnough}
 use Rattle.insertion_memory.specs.Memory.{addedTo}
+use Rattle.calls.specs.Library.{loaded}
 use Rattle.sheet_judging.specs.Traces.{sheetTraces}
 use Rattle.sheet_judging.proofs.Places.{first-inside}
 use Rattle.sheet_judging.proofs.Samples.{fine}
-use Rattle.calls.specs.Library.{loaded}
 use Rattle.sheet_reading.proofs.Ends.{said, sheet-fine, accepted, refused-answer, done-answer}
 use Rattle.sheet_reading.proofs.Library.{traces-count}
 use Rattle.sheet_reading.proofs.Steps.{opened-empty}
 use Rattle.sheet_reading.proofs.read_sheet.Statement.{statement}
 use Rattle.sheet_reading.proofs.read_sheet.Tie as tie
-
-enum-told : tie.Need-enum-told
-enum-told c = search needs
 
 -- what the call came with, and what was judged
 module _ (j : tie.After-judge-reading) where
@@ -126,5 +123,5 @@ pub read-sheet-spec : {M : Type 1} → statement M
 read-sheet-spec =
     tie.close
     (tie.spec
-    (λ c κs. search needs) (λ c. search needs) enum-told head-of-requires put-empty-requires load-requires returns
+    (λ c κs. search needs) (λ c. search needs) (λ c. search needs) head-of-requires put-empty-requires load-requires returns
     (λ c. search needs) (λ c. search needs) (λ c. search needs) (λ c. search needs) (λ c. search needs) returns-2)

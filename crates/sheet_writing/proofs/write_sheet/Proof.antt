@@ -26,9 +26,6 @@ nothing : (e : tie.After-enum-told)
 unfolding foundBy
 nothing e = sym (e .before .before .judge .ensures) ∙ ap foundBy (e .enum-told .given .1)
 
-enum-told : tie.Need-enum-told
-enum-told c = search needs
-
 fill-sheet-requires : tie.Need-fill-sheet-requires
 fill-sheet-requires c κs =
     let e = c .before in
@@ -54,5 +51,5 @@ pub write-sheet-spec : {M : Type 1} → statement M
 write-sheet-spec =
     tie.close
     (tie.spec
-    (λ c κs. search needs) (λ c. search needs) enum-told fill-sheet-requires (λ c. search needs) returns (λ c. search needs)
+    (λ c κs. search needs) (λ c. search needs) (λ c. search needs) fill-sheet-requires (λ c. search needs) returns (λ c. search needs)
     returns-2)

@@ -68,9 +68,6 @@ module _ (c : tie.After-wide4) where
   ranged : InRange (measuresOf (tables control [] nodes links []))
   ranged = in-range (measuresOf (tables control [] nodes links [])) (s .pre .measured)
 
-counts-fit-requires : tie.Need-counts-fit-requires
-counts-fit-requires c κs = omega (arith, capacity-read c, ranged c .capacity-high)
-
 counts : (c : tie.After-counts-fit) {b : Bool} → c .counts-fit .result ≡ b → countsFit (m (c .before)) (k (c .before)) (capacity (c .before)) ≡ b
 counts c e =
     let w = c .before in
@@ -126,4 +123,5 @@ well-formed-spec =
     tie.close
     (tie.spec
     (λ c κs. search needs) (λ c κs. search needs) (λ c κs. search needs) (λ c κs. search needs) (λ c κs. search needs)
-    (λ c κs. search needs) (λ c κs. search needs) (λ c κs. search needs) counts-fit-requires returns tree-fits-requires returns-2)
+    (λ c κs. search needs) (λ c κs. search needs) (λ c κs. search needs) (λ c κs. omega (arith, capacity-read c, ranged c .capacity-high))
+    returns tree-fits-requires returns-2)

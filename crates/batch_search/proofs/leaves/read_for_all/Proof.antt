@@ -47,9 +47,6 @@ module _ (c : tie.In-loop Inv-loop μ-loop) where
   room = query-room (c .before .loop .i) (start .args .many) (start .args .n) (now (start .args .queries)) (c .loop-test .taken)
       (start .pre .1)
 
-trace-at-requires : tie.Need-trace-at-requires Inv-loop μ-loop
-trace-at-requires c κs = room c
-
 read-for-requires : tie.Need-read-for-requires Inv-loop μ-loop
 read-for-requires c κs =
     let q = c .before in
@@ -103,4 +100,4 @@ pub read-for-all-spec : {M : Type 1} → statement M
 read-for-all-spec =
     tie.close
     (tie.spec
-    Inv-loop μ-loop loop-holds trace-at-requires read-for-requires add-i loop-less loop-again add-result same-length returns)
+    Inv-loop μ-loop loop-holds (λ c κs. room c) read-for-requires add-i loop-less loop-again add-result same-length returns)

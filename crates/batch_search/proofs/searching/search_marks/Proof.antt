@@ -41,9 +41,6 @@ module _ (w : tie.After-wide) where
   count-fits : w .wide .result ≤ length (now (begin .args .work))
   count-fits = omega (arith, count-is, nodes-needed (given begin) _ (leafs begin) (ready begin), begin .pre .2)
 
-slice-relend-prefix : tie.Need-slice-relend-prefix-search-queries
-slice-relend-prefix c = count-fits c
-
 slice-aggregate : tie.Need-slice-aggregate-search-queries
 slice-aggregate c =
     let w = c .before in
@@ -140,5 +137,5 @@ pub search-marks-spec : {M : Type 1} → statement M
 search-marks-spec =
     tie.close
     (tie.spec
-    (λ c κs. tt) (λ c κs. tt) slice-relend-prefix slice-aggregate search-queries-requires (λ c κs. tt) (λ c κs. tt)
+    (λ c κs. tt) (λ c κs. tt) count-fits slice-aggregate search-queries-requires (λ c κs. tt) (λ c κs. tt)
     records-needed-requires zero-work-requires same-length same-length-2 same-length-3 returns)

@@ -16,14 +16,14 @@ use Rattle.dstree.specs.Adding.{segmentOf}
 use Rattle.dstree.specs.Formed.{Rises}
 use Rattle.dstree.specs.Checking.{sameFigures, areExact}
 use Rattle.dstree.proofs.Cuts.{parted-rises}
+use Rattle.tables.proofs.Views.{end-at, ends-length}
 use Rattle.tables.specs.Layout.{segmentsPlace, segmentAt, recordPlaces}
 use Rattle.tables.specs.Tables.{recordOf}
 use Rattle.tables.specs.View.{smallAt, segmentIn, segmentsIn}
 use Rattle.tables.proofs.Frame.{record-length}
-use Rattle.tables.proofs.Views.{ends-length}
 use Rattle.leaf_figures.specs.Sides.{segmentBy}
 use Rattle.checking.specs.Compared.{tracesUnder, exactIn}
-use Rattle.checking.proofs.Segments.{leftFrom, all-left, none-left, NextEnd, next-end, test-more, end-at}
+use Rattle.checking.proofs.Segments.{leftFrom, all-left, none-left, NextEnd, next-end, test-more}
 use Rattle.checking.proofs.nodes.node_exact.Statement.{statement}
 use Rattle.checking.proofs.nodes.node_exact.Tie as tie
 

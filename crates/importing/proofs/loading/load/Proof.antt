@@ -79,9 +79,6 @@ module _ (d : tie.After-slice-known4 Inv-loop μ-loop) where
 add-number : tie.Need-add-number Inv-loop μ-loop
 add-number c = omega (arith, turn c .loop-test .taken, start (at (turn c)) .fits .count)
 
-loop-less : tie.Need-loop-less Inv-loop μ-loop
-loop-less c = omega (arith, turn c .loop-test .taken)
-
 loop-again : tie.Need-loop-again Inv-loop μ-loop
 loop-again c =
     let i = turn c in
@@ -124,7 +121,7 @@ load-spec =
     loop-holds
     put-one-requires
     add-number
-    loop-less
+    (λ c. omega (arith, turn c .loop-test .taken))
     loop-again
     same-length
     same-length-2

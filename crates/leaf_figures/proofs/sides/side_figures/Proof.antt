@@ -6,9 +6,9 @@ use Prim.Native.Nat.{ℕ, _-_, _<_, _≤_}
 use native.Mathlib.Omega.{arith}
 use Rattle.dstree.specs.Figures.{run}
 use Rattle.tables.specs.Walk.{storedIn, numbersOf}
+use Rattle.tables.proofs.Listed.{metFrom, met-start, behind-rises, fold-more, fold-end, stored-at, run-in}
 use Rattle.leaf_figures.specs.Sides.{noFigures, SmallFigures, segmentBy}
 use Rattle.leaf_figures.specs.declared.sides.SideRange.{SideRange}
-use Rattle.tables.proofs.Listed.{metFrom, met-start, behind-rises, fold-more, fold-end, stored-at, run-in}
 use Rattle.leaf_figures.proofs.Taken.{sideTaking, side-taken}
 use Rattle.leaf_figures.proofs.sides.side_figures.Statement.{statement}
 use Rattle.leaf_figures.proofs.sides.side_figures.Tie as tie
@@ -29,9 +29,6 @@ loop-holds c =
       ap (foldl (sideTaking (storedIn (a .samples .now) (a .n) (a .k)) (run (a .first) (a .last)) (a .marks .now) (a .mark)) noFigures) (met-start (a .links .now) (a .k) (a .head) (p .inside)),
       record { least-sum = omega arith; greatest-sum = omega arith; least-scatter = omega arith; greatest-scatter = omega arith },
     )
-
-element-copy-out-with-trace : tie.Need-element-copy-out-with-trace Inv-loop μ-loop
-element-copy-out-with-trace c = omega (arith, c .before .before .before .pre .0 .few)
 
 with-trace-requires : tie.Need-with-trace-requires Inv-loop μ-loop
 with-trace-requires c κs =
@@ -86,7 +83,7 @@ side-figures-spec =
     Inv-loop
     μ-loop
     loop-holds
-    element-copy-out-with-trace
+    (λ c. omega (arith, c .before .before .before .pre .0 .few))
     with-trace-requires
     behind-requires
     loop-less

@@ -62,9 +62,6 @@ start a = turn a .before .before
 least-requires : tie.Need-least-requires Inv-loop μ-loop
 least-requires c κs = let i = c .before .before .loop .inv in (c .before .loop-test .taken, i .0 .fits, i .0 .heap)
 
-is-past-requires : tie.Need-is-past-requires Inv-loop μ-loop
-is-past-requires c κs = tt
-
 same-length : tie.Need-same-length Inv-loop μ-loop
 same-length c = turn (c .before .before) .loop .inv .2
 
@@ -254,7 +251,7 @@ next-leaf-spec =
     μ-loop
     loop-holds
     least-requires
-    is-past-requires
+    (λ c κs. tt)
     same-length
     returns
     node-small-requires

@@ -6,9 +6,6 @@ use Rattle.library_c.proofs.Answers.{opened-done, opened-refused}
 use Rattle.library_c.proofs.telling.tell_opened.Statement.{statement}
 use Rattle.library_c.proofs.telling.tell_opened.Tie as tie
 
-enum-told : tie.Need-enum-told
-enum-told c = search needs
-
 returns : tie.Need-returns
 returns c = let s = c .before .before .before in opened-done (s .args .answer) (now (s .args .out)) (c .enum-told .given .1)
 
@@ -22,4 +19,4 @@ pub tell-opened-spec : {M : Type 1} → statement M
 tell-opened-spec =
     tie.close
     (tie.spec
-    enum-told (λ c. search needs) (λ c κs. search needs) returns (λ c. search needs) returns-2)
+    (λ c. search needs) (λ c. search needs) (λ c κs. search needs) returns (λ c. search needs) returns-2)

@@ -41,9 +41,6 @@ add-j c =
     let s = c .before .before .before in
     omega (arith, L .inv .0, s .pre .1)
 
-loop-less : tie.Need-loop-less Inv-loop μ-loop
-loop-less c = omega (arith, c .before .loop-test .taken)
-
 loop-again : tie.Need-loop-again Inv-loop μ-loop
 loop-again c =
     let L = c .before .before .loop in
@@ -68,6 +65,6 @@ leaf-count-spec =
     leaf-one-requires
     add-total
     add-j
-    loop-less
+    (λ c. omega (arith, c .before .loop-test .taken))
     loop-again
     returns)

@@ -68,9 +68,6 @@ module _ (c : tie.After-behind Inv-loop μ-loop) where
       (l .loop .t < b) × (b ≤ s .args .count)
   rises = behind-rises (s .args .links .now) (s .args .count) (s .pre .0 .rising) (l .loop .t) inside
 
-loop-less : tie.Need-loop-less Inv-loop μ-loop
-loop-less c = omega (arith, c .behind .ensures, rises c, inside c)
-
 loop-again : tie.Need-loop-again Inv-loop μ-loop
 loop-again c =
     let a = s c .args in
@@ -106,6 +103,6 @@ read-leaf-spec =
     Inv-loop μ-loop loop-holds take-trace-requires
     (λ c. let l = c .before .before .before .before .before in
     omega (arith, l .loop .inv .0, l .loop .inv .1, given l .pre .0 .few))
-    behind-requires loop-less loop-again
+    behind-requires (λ c. omega (arith, c .behind .ensures, rises c, inside c)) loop-again
     (λ c. c .before .loop .inv .2 .long)
     returns)

@@ -34,9 +34,6 @@ module _ (s : tie.Else1) where
   sound : SoundFile n bytes
   sound = passed-sound n bytes (is-true test)
 
-four-bytes-requires : tie.Need-four-bytes-requires
-four-bytes-requires c κs = omega (arith, sound c .long)
-
 size-is : (c : tie.After-four-bytes) → c .four-bytes .result ≡ sizeIn (bytes (c .before))
 unfolding sizeIn
 size-is c = c .four-bytes .ensures .0
@@ -51,4 +48,4 @@ pub judge-recording-spec : {M : Type 1} → statement M
 judge-recording-spec =
     tie.close
     (tie.spec
-    (λ c κs. search needs) returns four-bytes-requires (λ c. search needs) returns-2)
+    (λ c κs. search needs) returns (λ c κs. omega (arith, sound c .long)) (λ c. search needs) returns-2)

@@ -125,9 +125,6 @@ returns-5 c end =
 mul-not-above : tie.Need-mul-not-above
 mul-not-above c = omega (arith, top (c .before .before .before .before .before .before .before .before .before .before))
 
-not-above-requires-2 : tie.Need-not-above-requires-2
-not-above-requires-2 c κs = top (c .before .before .before .before .before .before .before .before .before .before)
-
 returns-6 : tie.Need-returns-6
 returns-6 c end =
     let i = c .before in
@@ -145,4 +142,5 @@ figures-fit-spec =
     tie.close
     (tie.spec
     (λ c κs. search needs) returns (λ c. search needs) (λ c κs. search needs) returns-2 not-below-requires returns-3
-    (λ c κs. search needs) returns-4 (λ c κs. search needs) returns-5 mul-not-above not-above-requires-2 returns-6)
+    (λ c κs. search needs) returns-4 (λ c κs. search needs) returns-5 mul-not-above
+    (λ c κs. top (c .before .before .before .before .before .before .before .before .before .before)) returns-6)

@@ -6,12 +6,12 @@ use native.Mathlib.Omega.{arith}
 use denote.Ref.{now}
 use borrow.Author.Needs.{needs}
 use borrow.Author.Tests.{not-false}
+use Rattle.integer.proofs.Tests.{clash}
 use Rattle.dstree.specs.Measures.{sampleLimit}
 use Rattle.dstree.specs.Node.{Segment}
 use Rattle.dstree.specs.WellFormed.{segmentFits}
 use Rattle.tables.specs.View.{segmentIn}
 use Rattle.records_fit.specs.Fits.{Behind}
-use Rattle.records_fit.proofs.Limits.{clash}
 use Rattle.records_fit.proofs.Segments.{between-yes}
 use Rattle.records_fit.proofs.twins.segments_fit.Statement.{statement}
 use Rattle.records_fit.proofs.twins.segments_fit.Tie as tie

@@ -5,9 +5,9 @@ use native.Mathlib.Omega.{arith}
 use denote.Ref.{now}
 use mathlib.Core.Logic.{_⊎_, inl, inr}
 use borrow.Author.Tests.{not-false, eqb-true}
+use Rattle.integer.proofs.Tests.{clash}
 use Rattle.tables.specs.View.{segmentIn}
 use Rattle.records_fit.specs.Fits.{Behind}
-use Rattle.records_fit.proofs.Limits.{clash}
 use Rattle.records_fit.proofs.Siblings.{Passing, passing-first, passing-more, passing-all}
 use Rattle.records_fit.proofs.twins.segments_run.Statement.{statement}
 use Rattle.records_fit.proofs.twins.segments_run.Tie as tie

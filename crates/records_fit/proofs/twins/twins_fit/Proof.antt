@@ -1,7 +1,7 @@
 -- `records_fit::twins::twins_fit` meets its contract: a yes is the loop's.
 use mathlib.Core.Path.{sym}
 use borrow.Author.Needs.{needs}
-use Rattle.records_fit.proofs.Limits.{clash}
+use Rattle.integer.proofs.Tests.{clash}
 use Rattle.records_fit.proofs.twins.twins_fit.Statement.{statement}
 use Rattle.records_fit.proofs.twins.twins_fit.Tie as tie
 

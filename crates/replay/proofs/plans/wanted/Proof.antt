@@ -3,35 +3,40 @@ use Prim.Native.Nat.{ℕ, _*_, _/_}
 use mathlib.Core.Path.{refl, sym, ap, ap₂, _∙_}
 use native.Mathlib.Omega.{arith}
 use denote.Ref.{now}
-use Rattle.replay.specs.Script.{ownNumber, amounts, openingCalls, addingCalls, matchingCalls, listingCalls, checkingCalls, batchingCalls}
-use Rattle.replay.proofs.OfKind.{is-openings, is-addings, is-matchings, is-listings, is-checkings, wanted-is, wanted-bytes}
-use Rattle.replay.proofs.OfKind.{is-batchings, wanted-not}
+use Rattle.replay.specs.Script.{numberAt, ownNumber, amounts, openingCalls, addingCalls, matchingCalls, listingCalls, checkingCalls, batchingCalls, kinds, callKindAt}
+use Rattle.replay.proofs.OfKind.{wanted-is, wanted-bytes, wanted-not}
 use Rattle.replay.proofs.plans.wanted.Statement.{statement}
 use Rattle.replay.proofs.plans.wanted.Tie as tie
 
 returns : tie.Need-returns
-returns c = wanted-is _ (now (c .before .before .before .before .before .before .before .before .args .row)) _ openingCalls _ (c .size
-    .ensures) (is-openings (sym (c .before .before .before .before .before .before .number-at .ensures) ∙ c .before .if1 .taken)) refl
+unfolding callKindAt
+returns c =
+    let row = now (c .before .before .before .before .before .before .before .before .args .row) in
+    wanted-is _ row (numberAt row 0) openingCalls _ (c .size .ensures)
+    (ap (callKindAt kinds) (sym (c .before .before .before .before .before .before .number-at .ensures) ∙ c .before .if1 .taken)) refl
 
 returns-2 : tie.Need-returns-2
+unfolding callKindAt
 returns-2 c =
     let first = c .before .before .before .before .before .places .ensures
     ∙ c .before .before .before .before .before .before .number-at2 .ensures in
-    wanted-is _ (now (c .before .before .before .before .before .before .before .before .before .args .row)) _ addingCalls _ (c .size2
-    .ensures) (is-addings (sym (c .before .before .before .before .before .before .before .number-at .ensures)
+    let row = now (c .before .before .before .before .before .before .before .before .before .args .row) in
+    wanted-is _ row (numberAt row 0) addingCalls _ (c .size2 .ensures) (ap (callKindAt kinds) (sym (c .before .before .before .before .before .before .before .number-at .ensures)
     ∙ c .before .if2 .taken)) (ap (λ (x : ℕ). amounts x 0 0 0) first)
 
 returns-3 : tie.Need-returns-3
+unfolding callKindAt
 returns-3 c =
     let first = c .before .before .before .before .before .before .places .ensures
     ∙ c .before .before .before .before .before .before .before .number-at2 .ensures in
     let second = c .before .before .before .before .places2 .ensures ∙ c .before .before .before .before .before .number-at3 .ensures in
-    wanted-is _ (now (c .before .before .before .before .before .before .before .before .before .before .args .row)) _ matchingCalls _
-    (c .size3 .ensures) (is-matchings (sym (c .before .before .before .before .before .before .before .before .number-at .ensures)
+    let row = now (c .before .before .before .before .before .before .before .before .before .before .args .row) in
+    wanted-is _ row (numberAt row 0) matchingCalls _ (c .size3 .ensures) (ap (callKindAt kinds) (sym (c .before .before .before .before .before .before .before .before .number-at .ensures)
     ∙ c .before .if3 .taken))
     (ap₂ (λ (x : ℕ) (y : ℕ). amounts x y 0 0) first second)
 
 returns-4 : tie.Need-returns-4
+unfolding callKindAt
 returns-4 c =
     let row = now (c .before .before .before .before .before .before .before .before .before .before .before .before .before .args .row)
     in
@@ -40,7 +45,7 @@ returns-4 c =
     let second = c .before .before .before .before .before .before .before .places2 .ensures ∙
     c .before .before .before .before .before .before .before .before .number-at3 .ensures in
     let third = c .before .places3 .ensures ∙ c .before .before .number-at4 .ensures in
-    wanted-is _ row _ listingCalls _ (c .size4 .ensures) (is-listings (sym
+    wanted-is _ row (numberAt row 0) listingCalls _ (c .size4 .ensures) (ap (callKindAt kinds) (sym
     (c .before .before .before .before .before .before .before .before .before .before .before .number-at .ensures) ∙
     c .before .before .before .if4 .taken))
     (ap₂ (λ (x : ℕ) (y : ℕ). amounts x y 0 (c .before .places3 .result)) first second
@@ -58,12 +63,15 @@ returns-5 c =
     (omega (arith, is, c .before .if5 .taken))
 
 returns-6 : tie.Need-returns-6
-returns-6 c = wanted-is _ (now (c .before .before .before .before .before .before .before .before .before .before .before .before .before
-    .args .row)) _ checkingCalls _ (c .size6 .ensures) (is-checkings (sym
+unfolding callKindAt
+returns-6 c =
+    let row = now (c .before .before .before .before .before .before .before .before .before .before .before .before .before .args .row) in
+    wanted-is _ row (numberAt row 0) checkingCalls _ (c .size6 .ensures) (ap (callKindAt kinds) (sym
     (c .before .before .before .before .before .before .before .before .before .before .before .number-at .ensures)
     ∙ c .before .if6 .taken)) refl
 
 returns-7 : tie.Need-returns-7
+unfolding callKindAt
 returns-7 c =
     let second-read = c .before .before .before .before .before .before .before .before .before .before .before in
     let first-read = second-read .before .before in
@@ -72,7 +80,8 @@ returns-7 c =
     let second = second-read .places2 .ensures ∙ second-read .before .number-at3 .ensures in
     let third = c .before .even .ensures
     ∙ ap (λ (n : ℕ). 2 * (n / 2)) (c .before .before .places4 .ensures ∙ c .before .before .before .number-at5 .ensures) in
-    wanted-is _ row _ batchingCalls _ (c .size7 .ensures) (is-batchings (sym (first-read .before .before .number-at .ensures)
+    wanted-is _ row (numberAt row 0) batchingCalls _ (c .size7 .ensures)
+    (ap (callKindAt kinds) (sym (first-read .before .before .number-at .ensures)
     ∙ c .before .before .before .before .if7 .taken))
     (ap₂ (λ (x : ℕ) (y : ℕ). amounts x y 0 (c .before .even .result)) first second
     ∙ ap (λ (z : ℕ). amounts (ownNumber row 0) (ownNumber row 1) 0 z) third)

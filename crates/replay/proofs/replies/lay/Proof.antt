@@ -20,27 +20,6 @@ abbrev μ-loop : tie.MeasureT-loop
 loop-holds : tie.Need-loop-holds Inv-loop μ-loop
 loop-holds c = (omega arith, paste-zero (now (c .args .replies)) (c .args .at) (now (c .args .numbers)), refl)
 
-mul-replies : tie.Need-mul-replies Inv-loop μ-loop
-mul-replies c = omega arith
-
-shared-slice-read-replies : tie.Need-shared-slice-read-replies Inv-loop μ-loop
-shared-slice-read-replies c = omega arith
-
-add-replies : tie.Need-add-replies Inv-loop μ-loop
-add-replies c = omega arith
-
-mul-replies-2 : tie.Need-mul-replies-2 Inv-loop μ-loop
-mul-replies-2 c = omega arith
-
-slice-write-replies : tie.Need-slice-write-replies Inv-loop μ-loop
-slice-write-replies c = omega arith
-
-add-j : tie.Need-add-j Inv-loop μ-loop
-add-j c = omega arith
-
-loop-less : tie.Need-loop-less Inv-loop μ-loop
-loop-less c = omega arith
-
 loop-again : tie.Need-loop-again Inv-loop μ-loop
 loop-again c =
     let l = c .before .before .loop in
@@ -48,9 +27,6 @@ loop-again c =
     let h : a .at + l .j < length (now (a .replies)) = omega arith in
     let k : l .j < length (now (a .numbers)) = omega arith in
     (omega arith, rw (l .inv .1, add-one (l .j)) (paste-suc (now (a .replies)) (a .at) (now (a .numbers)) (l .j) 0 h k), simp length-set (l .inv .2))
-
-same-length : tie.Need-same-length Inv-loop μ-loop
-same-length c = search needs
 
 returns : tie.Need-returns Inv-loop μ-loop
 returns c =
@@ -66,13 +42,13 @@ lay-spec =
     Inv-loop
     μ-loop
     loop-holds
-    mul-replies
-    shared-slice-read-replies
-    add-replies
-    mul-replies-2
-    slice-write-replies
-    add-j
-    loop-less
+    (λ c. omega arith)
+    (λ c. omega arith)
+    (λ c. omega arith)
+    (λ c. omega arith)
+    (λ c. omega arith)
+    (λ c. omega arith)
+    (λ c. omega arith)
     loop-again
-    same-length
+    (λ c. search needs)
     returns)

@@ -10,18 +10,6 @@ use Rattle.replay.specs.ReplyRows.{replyPlaces, withRow}
 use Rattle.replay.proofs.replies.store_reply.Statement.{statement}
 use Rattle.replay.proofs.replies.store_reply.Tie as tie
 
-mul-lay : tie.Need-mul-lay
-mul-lay c = search needs
-
-slice-aggregate-lay : tie.Need-slice-aggregate-lay
-slice-aggregate-lay c = search needs
-
-lay-requires : tie.Need-lay-requires
-lay-requires c κs = search needs
-
-same-length : tie.Need-same-length
-same-length c = search needs
-
 returns : tie.Need-returns
 unfolding withRow
 returns c =
@@ -38,4 +26,4 @@ returns-2 c =
 
 pub store-reply-spec : {M : Type 1} → statement M
 store-reply-spec =
-    tie.close (tie.spec mul-lay slice-aggregate-lay lay-requires same-length returns returns-2)
+    tie.close (tie.spec (λ c. search needs) (λ c. search needs) (λ c κs. search needs) (λ c. search needs) returns returns-2)

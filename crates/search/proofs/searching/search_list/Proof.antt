@@ -22,12 +22,6 @@ prefix-sums-requires c κs =
     let s = c .before .before .before .before .before .before .before in
     (length-fits (tablesOf s) (now (s .args .query)) (length (now (s .args .trail))) (s .pre .0 .0), refl, refl)
 
-field-requires : tie.Need-field-requires
-field-requires c κs = tt
-
-wide-requires : tie.Need-wide-requires
-wide-requires c κs = tt
-
 -- ---- a place of search work for each node
 
 module _ (w : tie.After-wide) where
@@ -47,9 +41,6 @@ module _ (w : tie.After-wide) where
         begin .pre .0 .1,
       )
 
-slice-relend-prefix-visit : tie.Need-slice-relend-prefix-visit
-slice-relend-prefix-visit c = count-fits (c .before .before)
-
 slice-aggregate-visit : tie.Need-slice-aggregate-visit
 slice-aggregate-visit c =
     let w = c .before .before .before in
@@ -67,12 +58,6 @@ visit-requires c κs =
       ),
       s .pre .1,
     )
-
-field-requires-2 : tie.Need-field-requires-2
-field-requires-2 c κs = tt
-
-wider-requires : tie.Need-wider-requires
-wider-requires c κs = tt
 
 -- ---- what the loop leaves
 
@@ -158,13 +143,13 @@ search-list-spec =
     tie.close
     (tie.spec
     prefix-sums-requires
-    field-requires
-    wide-requires
-    slice-relend-prefix-visit
+    (λ c κs. tt)
+    (λ c κs. tt)
+    (λ c. count-fits (c .before .before))
     slice-aggregate-visit
     visit-requires
-    field-requires-2
-    wider-requires
+    (λ c κs. tt)
+    (λ c κs. tt)
     records-needed-requires
     zero-work-requires
     same-length

@@ -67,12 +67,6 @@ module _ (s : tie.Start Inv-loop μ-loop) where
 
 -- ---- before the loop
 
-field-requires : tie.Need-field-requires Inv-loop μ-loop
-field-requires c κs = tt
-
-wide-requires : tie.Need-wide-requires Inv-loop μ-loop
-wide-requires c κs = tt
-
 begin-requires : tie.Need-begin-requires Inv-loop μ-loop
 begin-requires c κs =
     let s = c .before .before .before .before .before .before .before .before in
@@ -107,9 +101,6 @@ next-leaf-requires c κs =
     let l = c .before .before .before in
     let s = startOf l in
     (rw (l .loop .inv .1) (walks s), s .pre .0 .1, rw (l .loop .inv .1) (l .loop .inv .0 .waits))
-
-enum-told : tie.Need-enum-told Inv-loop μ-loop
-enum-told c = search needs
 
 -- what the call left, over the tree of all records
 module _ (a : tie.After-next-leaf Inv-loop μ-loop) where
@@ -284,6 +275,6 @@ pub visit-spec : {M : Type 1} → statement M
 visit-spec =
     tie.close
     (tie.spec
-    Inv-loop μ-loop field-requires wide-requires begin-requires loop-holds kth-distance-requires next-leaf-requires
-    (λ c. search needs) enum-told same-length same-length-2 same-length-3 returns node-small-requires read-leaf-requires
+    Inv-loop μ-loop (λ c κs. tt) (λ c κs. tt) begin-requires loop-holds kth-distance-requires next-leaf-requires
+    (λ c. search needs) (λ c. search needs) same-length same-length-2 same-length-3 returns node-small-requires read-leaf-requires
     add-traces narrow-requires mul-trail slice-write-trail add-out loop-less loop-again)

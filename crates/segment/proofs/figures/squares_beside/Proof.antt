@@ -22,9 +22,6 @@ loop-holds c =
     let e : h + 0 ≡ h = omega arith in
     omega (arith, ap (squaresTo (c .args .samples .now)) e)
 
-two-squares-requires : tie.Need-two-squares-requires Inv-loop μ-loop
-two-squares-requires c κs = tt
-
 loop-again : tie.Need-loop-again Inv-loop μ-loop
 loop-again c =
     let l = c .before .before .before .before .loop in
@@ -49,4 +46,4 @@ squares-beside-spec =
     tie.close
     (tie.spec
     Inv-loop μ-loop loop-holds (λ c. omega arith) (λ c. omega arith) (λ c. omega arith) (λ c. omega arith) (λ c. omega arith)
-    two-squares-requires (λ c. omega arith) (λ c. omega arith) (λ c. omega arith) loop-again returns)
+    (λ c κs. tt) (λ c. omega arith) (λ c. omega arith) (λ c. omega arith) loop-again returns)

@@ -17,9 +17,6 @@ shared-slice-copy-out-square-difference-2 :
     tie.Need-shared-slice-copy-out-square-difference-2 Inv-loop μ-loop
 shared-slice-copy-out-square-difference-2 c = omega arith
 
-square-difference-requires : tie.Need-square-difference-requires Inv-loop μ-loop
-square-difference-requires c κs = tt
-
 loop-again : tie.Need-loop-again Inv-loop μ-loop
 loop-again c =
     let l = c .before .before .before .before .loop in
@@ -42,5 +39,5 @@ stretch-distance-spec =
     tie.close
     (tie.spec
     Inv-loop μ-loop (λ c. omega arith) (λ c. omega arith) (λ c. omega arith) (λ c. omega arith)
-    shared-slice-copy-out-square-difference-2 square-difference-requires (λ c. omega arith) (λ c. omega arith) (λ c. omega arith)
+    shared-slice-copy-out-square-difference-2 (λ c κs. tt) (λ c. omega arith) (λ c. omega arith) (λ c. omega arith)
     loop-again returns)

@@ -62,17 +62,11 @@ returns c = negative (2 * floorRoot (c .before .args .v)) (c .before .args .t) (
 cast-beyond : tie.Need-cast-beyond
 cast-beyond c = (above c .0, record { fits = omega (arith, most c) })
 
-add-beyond : tie.Need-add-beyond
-add-beyond c = omega (arith, most c)
-
 returns-2 : tie.Need-returns-2
 returns-2 c = sym (wide _ _ (c .before .before .fits .v .fits) (c .if2 .taken)) ∙ asked (c .before)
 
 mul-result : tie.Need-mul-result
 mul-result c = narrow _ (c .if2 .left)
 
-returns-3 : tie.Need-returns-3
-returns-3 c = asked (c .before)
-
 pub twice-root-within-spec : {M : Type 1} → statement M
-twice-root-within-spec = tie.close (tie.spec returns cast-beyond add-beyond returns-2 mul-result returns-3)
+twice-root-within-spec = tie.close (tie.spec returns cast-beyond (λ c. omega (arith, most c)) returns-2 mul-result (λ c. asked (c .before)))

@@ -14,12 +14,6 @@ module _ (c : tie.Start) where
   product : (c .args .column + 1) * c .args .sum ≤ columns * mostSum
   product = small (c .args .column) (c .args .sum) (c .pre .0) (c .pre .1)
 
-mul-result : tie.Need-mul-result
-mul-result c = omega (arith, product c)
-
-add-result-2 : tie.Need-add-result-2
-add-result-2 c = omega (arith, product c, c .pre .2)
-
 returns : tie.Need-returns
 returns c = (omega arith, omega (arith, product c, c .pre .2))
 
@@ -27,4 +21,5 @@ pub weight-spec : {M : Type 1} → statement M
 weight-spec =
     tie.close
     (tie.spec
-    (λ c. search needs) (λ c. search needs) mul-result (λ c. search needs) add-result-2 returns)
+    (λ c. search needs) (λ c. search needs) (λ c. omega (arith, product c)) (λ c. search needs) (λ c. omega (arith, product c, c .pre .2))
+    returns)

@@ -1,7 +1,7 @@
 -- `sheet::samples::code` meets its contract: the test, on the parameter itself, tells the definition's cases apart.
 use mir.Syntax.{w16, w64}
 use Rattle.integer.proofs.Width.{fits-wider}
-use Rattle.sheet.proofs.Coded.{added-fits, added-cast, added-bytes, own-cast, own-bytes}
+use Rattle.sheet.proofs.Coded.{added-fits, added-cast, added-bytes, own}
 use Rattle.sheet.proofs.samples.code.Statement.{statement}
 use Rattle.sheet.proofs.samples.code.Tie as tie
 
@@ -18,10 +18,10 @@ returns : tie.Need-returns
 returns c = added-bytes (c .before .args .sample) (c .before .fits .sample) (c .if1 .taken)
 
 cast-result-3 : tie.Need-cast-result-3
-cast-result-3 c = own-cast (c .before .args .sample) (c .before .fits .sample) (c .if1 .left)
+cast-result-3 c = own (c .before .args .sample) (c .before .fits .sample) (c .if1 .left) .0
 
 returns-2 : tie.Need-returns-2
-returns-2 c = own-bytes (c .before .args .sample) (c .before .fits .sample) (c .if1 .left)
+returns-2 c = own (c .before .args .sample) (c .before .fits .sample) (c .if1 .left) .1
 
 pub code-spec : {M : Type 1} → statement M
 code-spec = tie.close (tie.spec cast-result add-result cast-result-2 returns cast-result-3 returns-2)

@@ -23,9 +23,6 @@ Inv-loop sheet count cursor₀ cursor =
 abbrev μ-loop : tie.MeasureT-loop
 μ-loop sheet count cursor₀ cursor = count - cursor .number
 
-first-requires : tie.Need-first-requires Inv-loop μ-loop
-first-requires c κs = tt
-
 loop-holds : tie.Need-loop-holds Inv-loop μ-loop
 loop-holds c =
     let l = now (c .before .before .args .sheet) in
@@ -106,5 +103,5 @@ pub first-torn-spec : {M : Type 1} → statement M
 first-torn-spec =
     tie.close
     (tie.spec
-    Inv-loop μ-loop first-requires loop-holds start-requires (λ c. omega (arith, ends c)) (λ c. omega arith)
+    Inv-loop μ-loop (λ c κs. tt) loop-holds start-requires (λ c. omega (arith, ends c)) (λ c. omega arith)
     (λ c. omega (arith, ends c)) (λ c. omega (arith, ends c)) is-torn-requires returns next-requires loop-less loop-again returns-2)

@@ -12,8 +12,7 @@ use borrow.Author.Tests.{lt-ltb, le-ltb, eq-eqb, ne-eqb, not-true, not-false}
 use Rattle.integer.specs.Words.{same, roundedUp}
 use Rattle.dstree.specs.Measures.{Measures, measures, inRange}
 use Rattle.dstree.specs.Refusals.{firstOf}
-use Rattle.dstree.specs.Sheet.{narrow, part, letters, blocksIn, measuresIn, countIn, sampleBlocksNeeded, areZero, zerosIn}
-use Rattle.dstree.specs.Sheet.{badConditions}
+use Rattle.dstree.specs.Sheet.{narrow, part, letters, blocksIn, measuresIn, countIn, sampleBlocksNeeded, areZero, zerosIn, badConditions}
 use Rattle.tables.specs.Answers.{wordOf, foundBy}
 use Rattle.tables.specs.Judge.{InRange}
 use Rattle.tables.proofs.Range.{in-range, samples-fit}
@@ -117,9 +116,6 @@ mul-samples c = record { fits = samples-fit (count (head c)) (m (head c) .n) (fe
 sub-if4 : tie.Need-sub-if4
 sub-if4 c = omega (arith, blocks (bytes (head c)) (start (head c) .pre) .some-block)
 
-add-if4 : tie.Need-add-if4
-add-if4 c = omega (arith, samples-few c)
-
 returns-4 : tie.Need-returns-4
 unfolding foundBy wordOf sampleBlocksNeeded roundedUp
 returns-4 c =
@@ -167,5 +163,6 @@ pub judge-contents-spec : {M : Type 1} → statement M
 judge-contents-spec =
     tie.close
     (tie.spec
-    letters-fit-requires returns head-of-requires (λ c κs. search needs) returns-2 returns-3 mul-samples sub-if4 add-if4 returns-4
+    letters-fit-requires returns head-of-requires (λ c κs. search needs) returns-2 returns-3 mul-samples sub-if4
+    (λ c. omega (arith, samples-few c)) returns-4
     all-zero-requires returns-5 returns-6)

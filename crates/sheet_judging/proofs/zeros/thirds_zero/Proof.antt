@@ -20,9 +20,6 @@ Inv-loop sheet count cursor₀ cursor =
 abbrev μ-loop : tie.MeasureT-loop
 μ-loop sheet count cursor₀ cursor = count - cursor .number
 
-first-requires : tie.Need-first-requires Inv-loop μ-loop
-first-requires c κs = tt
-
 loop-holds : tie.Need-loop-holds Inv-loop μ-loop
 loop-holds c =
     let e = c .first .ensures in
@@ -89,5 +86,5 @@ pub thirds-zero-spec : {M : Type 1} → statement M
 thirds-zero-spec =
     tie.close
     (tie.spec
-    Inv-loop μ-loop first-requires loop-holds start-requires (λ c. omega (arith, ends c)) shared-slice-read-if2 returns
+    Inv-loop μ-loop (λ c κs. tt) loop-holds start-requires (λ c. omega (arith, ends c)) shared-slice-read-if2 returns
     next-requires loop-less loop-again returns-2)

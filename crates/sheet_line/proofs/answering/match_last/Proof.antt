@@ -23,12 +23,6 @@ module _ (a : tie.After-trail) where
   length-is : start .args .n ≡ length (take (start .args .n) (replicate 64 (pos 0)))
   length-is = sym (length-take-le (start .args .n) (replicate 64 (pos 0)) few)
 
-array-borrow-prefix-query : tie.Need-array-borrow-prefix-query
-array-borrow-prefix-query c = few c
-
-slice-aggregate-match-query-2 : tie.Need-slice-aggregate-match-query-2
-slice-aggregate-match-query-2 c = length-is (c .before)
-
 match-query-requires : tie.Need-match-query-requires
 unfolding recordsNeeded
 match-query-requires c κs =
@@ -40,5 +34,5 @@ pub match-last-spec : {M : Type 1} → statement M
 match-last-spec =
     tie.close
     (tie.spec
-    (λ c. search needs) array-borrow-prefix-query slice-aggregate-match-query-2 match-query-requires (λ c. search needs)
+    (λ c. search needs) few (λ c. length-is (c .before)) match-query-requires (λ c. search needs)
     (λ c. search needs))

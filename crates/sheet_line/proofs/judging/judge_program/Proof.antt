@@ -11,8 +11,8 @@ use Rattle.dstree.specs.Measures.{Measures}
 use Rattle.dstree.specs.Refusals.{firstOf}
 use Rattle.dstree.specs.Sheet.{measuresIn, countIn, sheetConditions}
 use Rattle.dstree.specs.Program.{mostBytes}
-use Rattle.tables.specs.Answers.{wordOf, foundBy}
 use Rattle.dstree.proofs.Conditions.{first-some, first-none}
+use Rattle.tables.specs.Answers.{wordOf, foundBy}
 use Rattle.sheet_judging.specs.Blocks.{blockAt}
 use Rattle.sheet_judging.proofs.Places.{first-inside}
 use Rattle.sheet_judging.proofs.Samples.{fine}
@@ -32,9 +32,6 @@ module _ (e : tie.Else1) where
   later : firstOf (programConditions bytes) ≡ firstOf (sheetConditions bytes ++ smallConditions (measuresIn (blockAt bytes 0)) (countIn (blockAt bytes 0)))
   unfolding programConditions firstOf
   later = rw (le-ltb mostBytes (length bytes) (e .if1 .left))
-
-enum-told : tie.Need-enum-told
-enum-told c = search needs
 
 -- the sheet is not refused
 module _ (t : tie.After-enum-told) where
@@ -67,4 +64,4 @@ pub judge-program-spec : {M : Type 1} → statement M
 judge-program-spec =
     tie.close
     (tie.spec
-    returns (λ c κs. search needs) (λ c. search needs) enum-told head-of-requires (λ c κs. search needs) returns-2 returns-3)
+    returns (λ c κs. search needs) (λ c. search needs) (λ c. search needs) head-of-requires (λ c κs. search needs) returns-2 returns-3)

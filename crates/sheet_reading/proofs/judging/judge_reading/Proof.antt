@@ -33,9 +33,6 @@ module _ (j : tie.After-judge-sheet) where
   found : firstOf (sheetConditions bytes) ≡ foundBy (j .judge-sheet .result)
   found = sym (j .judge-sheet .ensures)
 
-enum-told : tie.Need-enum-told
-enum-told c = search needs
-
 -- it is not refused
 module _ (e : tie.After-enum-told) where
   abbrev judge : tie.After-judge-sheet
@@ -74,4 +71,4 @@ pub judge-reading-spec : {M : Type 1} → statement M
 judge-reading-spec =
     tie.close
     (tie.spec
-    (λ c κs. search needs) (λ c. search needs) enum-told head-of-requires judge-short-requires returns returns-2)
+    (λ c κs. search needs) (λ c. search needs) (λ c. search needs) head-of-requires judge-short-requires returns returns-2)

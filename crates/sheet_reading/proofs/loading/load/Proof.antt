@@ -51,12 +51,6 @@ loop-holds c =
       },
     )
 
-first-requires : tie.Need-first-requires Inv-loop μ-loop
-first-requires c κs = tt
-
-next-requires : tie.Need-next-requires Inv-loop μ-loop
-next-requires c κs = omega (arith, c .first .ensures)
-
 -- what the call came with
 module _ (k : tie.After-shared-slice-known Inv-loop μ-loop) where
   abbrev start : tie.Start Inv-loop μ-loop
@@ -166,8 +160,8 @@ load-spec =
     (tie.spec
     Inv-loop
     μ-loop
-    first-requires
-    next-requires
+    (λ c κs. tt)
+    (λ c κs. omega (arith, c .first .ensures))
     loop-holds
     put-one-requires
     add-number

@@ -25,12 +25,6 @@ module _ (a : tie.After-put-next-arg4) where
   length-is : start .args .n ≡ length (take (start .args .n) (replicate 256 (pos 0)))
   length-is = sym (length-take-le (start .args .n) (replicate 256 (pos 0)) few)
 
-array-borrow-prefix-trace : tie.Need-array-borrow-prefix-trace
-array-borrow-prefix-trace c = few c
-
-slice-aggregate-put-next : tie.Need-slice-aggregate-put-next
-slice-aggregate-put-next c = length-is (c .before)
-
 put-next-requires : tie.Need-put-next-requires
 put-next-requires c κs =
     let a = c .before in
@@ -55,5 +49,5 @@ pub put-one-spec : {M : Type 1} → statement M
 put-one-spec =
     tie.close
     (tie.spec
-    array-borrow-prefix-trace slice-aggregate-put-next put-next-requires (λ c. search needs) (λ c. search needs) (λ c. search needs)
+    few (λ c. length-is (c .before)) put-next-requires (λ c. search needs) (λ c. search needs) (λ c. search needs)
     (λ c. search needs) returns)

@@ -69,20 +69,11 @@ unfolding blocksNeeded
 need-is l =
     omega (arith, l .sample-blocks .ensures .0 ∙ ap₂ (sampleBlocksNeeded narrow) (k-is (judged (l .before))) (n-is (judged (l .before))))
 
-enum-told : tie.Need-enum-told
-enum-told c = search needs
-
 sample-blocks-requires : tie.Need-sample-blocks-requires
 sample-blocks-requires c κs =
     let j = judged c in
     let ok = taken c in
     (omega (arith, k-is j, facts (lent j) (ok .formed) .room, ok .range .capacity-high), omega (arith, n-is j, ok .range .n-high))
-
-add-blocks : tie.Need-add-blocks
-add-blocks c = omega (arith, c .sample-blocks .ensures .1)
-
-mul-if1 : tie.Need-mul-if1
-mul-if1 c = omega (arith, c .sample-blocks .ensures .1)
 
 returns : tie.Need-returns
 unfolding foundBy wordOf firstOf
@@ -109,4 +100,5 @@ judge-spec =
     tie.close
     (tie.spec
     (λ c κs. search needs) (λ c κs. search needs) (λ c κs. search needs) (λ c κs. search needs) (λ c κs. search needs)
-    (λ c. search needs) enum-told sample-blocks-requires add-blocks mul-if1 returns returns-2 returns-3)
+    (λ c. search needs) (λ c. search needs) sample-blocks-requires (λ c. omega (arith, c .sample-blocks .ensures .1))
+    (λ c. omega (arith, c .sample-blocks .ensures .1)) returns returns-2 returns-3)

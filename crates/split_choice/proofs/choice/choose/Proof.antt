@@ -60,9 +60,6 @@ module _ (l : tie.After-list-leaf) where
 list-leaf-requires : tie.Need-list-leaf-requires
 list-leaf-requires c κs = let p = c .before .before .pre .0 in (p .inside, p .few, p .links-room, p .rising, omega arith)
 
-all-same-requires : tie.Need-all-same-requires
-all-same-requires c κs = listed (c .before)
-
 best-kept-requires : tie.Need-best-kept-requires
 best-kept-requires c κs = let l = c .before .before .before .before in (listed l, below l, s l .pre .0 .few, s l .pre .1, s l .pre .2)
 
@@ -84,4 +81,4 @@ returns-2 : tie.Need-returns-2
 returns-2 c = answer (c .before .before .before .before .before) (c .best-kept .result) (c .best-kept .ensures .0) (c .best-kept .ensures .1)
 
 pub choose-spec : {M : Type 1} → statement M
-choose-spec = tie.close (tie.spec list-leaf-requires all-same-requires (λ c κs. tt) returns best-kept-requires returns-2)
+choose-spec = tie.close (tie.spec list-leaf-requires (λ c κs. listed (c .before)) (λ c κs. tt) returns best-kept-requires returns-2)

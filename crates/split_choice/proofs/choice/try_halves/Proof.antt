@@ -1,12 +1,12 @@
 -- `split_choice::choice::try_halves` meets its contract: the left half is tried, then the right one, as the definition has them.
 use mathlib.Core.Path.{_≡_, sym, ap, _∙_}
 use mathlib.Core.Option.{Option}
-use mathlib.Core.List.{List, _++_}
+use mathlib.Core.List.{List, _++_, foldl-append}
 use Prim.Native.Nat.{_+_, _≤_, _<_}
 use native.Mathlib.Omega.{arith}
 use lib.ListN.{take}
 use borrow.Author.Tests.{ne-eqb}
-use Rattle.integer.proofs.Lists.{fold-append}
+use Rattle.integer.proofs.Lists.{}
 use Rattle.dstree.specs.Figures.{run}
 use Rattle.dstree.specs.Adding.{Candidate, Split, byEither, halves}
 use Rattle.dstree.specs.Formed.{Rises}
@@ -81,7 +81,7 @@ returns c =
     let e : halves all (run (a .first) (a .last)) ≡ lefts ++ rights = both-halves all (a .first) (a .last) (s .pre .1 .from-1) (s .pre .4)
     (omega (arith, ends-count (s .args .e) (s .pre .0 .room), s .pre .5)) in
     let split : after s (before s) (halves all (run (a .first) (a .last))) ≡ after s (after s (before s) lefts) rights =
-    ap (λ (h : List Candidate). after s (before s) h) e ∙ fold-append one (before s) lefts rights in (
+    ap (λ (h : List Candidate). after s (before s) h) e ∙ foldl-append one (before s) lefts rights in (
       record {
         is = c .try-both2 .ensures .0 .is ∙ (ap (λ (o : Option Split). after s o rights) (g .try-both .ensures .0 .is) ∙ sym split);
         sound = c .try-both2 .ensures .0 .sound;

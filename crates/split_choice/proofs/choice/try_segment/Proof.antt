@@ -1,10 +1,10 @@
 -- `split_choice::choice::try_segment` meets its contract: the whole segment is tried, and its halves where the definition has them.
 use mathlib.Core.Path.{_≡_, refl, sym, ap, _∙_}
 use mathlib.Core.Option.{Option}
-use mathlib.Core.List.{List, [], _++_}
+use mathlib.Core.List.{List, [], _++_, foldl-append}
 use native.Mathlib.Omega.{arith}
 use lib.ListN.{take}
-use Rattle.integer.proofs.Lists.{fold-append}
+use Rattle.integer.proofs.Lists.{}
 use Rattle.dstree.specs.Figures.{run}
 use Rattle.dstree.specs.Adding.{Candidate, Split, byEither, halves}
 use Rattle.tables.specs.Walk.{storedIn}
@@ -27,7 +27,7 @@ whole-only : (s : tie.Start) → let a = s .args in halves (endsOf (a .e)) (run 
     ≡ after s (before s) (byEither (run (a .first) (a .last)) (endsOf (a .e)) ++ halves (endsOf (a .e)) (run (a .first) (a .last)))
 whole-only s e =
     let a = s .args in
-    sym (fold-append (tryOne (storedIn (a .samples .now) (a .n) (a .k)) (endsOf (a .e)) (take (a .count) (a .list .now))) (before s)
+    sym (foldl-append (tryOne (storedIn (a .samples .now) (a .n) (a .k)) (endsOf (a .e)) (take (a .count) (a .list .now))) (before s)
     (byEither (run (a .first) (a .last)) (endsOf (a .e))) (halves (endsOf (a .e)) (run (a .first) (a .last)))
     ∙ ap (λ (h : List Candidate). after s (after s (before s) (byEither (run (a .first) (a .last)) (endsOf (a .e)))) h) e)
 
@@ -73,7 +73,7 @@ returns-3 c =
       record {
         is = c .try-halves .ensures .0 .is
             ∙ (ap (λ (o : Option Split). after s o (halves all (run (a .first) (a .last)))) (h .before .before .try-both .ensures .0 .is)
-            ∙ sym (fold-append one (before s) wholes (halves all (run (a .first) (a .last)))));
+            ∙ sym (foldl-append one (before s) wholes (halves all (run (a .first) (a .last)))));
         sound = c .try-halves .ensures .0 .sound;
       },
       c .try-halves .ensures .1,

@@ -4,7 +4,7 @@ use Prim.Native.Nat.{ℕ, _-_, _≤_}
 use native.Mathlib.Omega.{arith}
 use denote.Ref.{now}
 use borrow.Author.Tests.{not-false}
-use Rattle.records_fit.proofs.Limits.{clash}
+use Rattle.integer.proofs.Tests.{clash}
 use Rattle.well_formed.specs.Marks.{VisitedFirst}
 use Rattle.well_formed.proofs.Looking.{visited-none, visited-more}
 use Rattle.well_formed.proofs.first_look.nodes_pass.Statement.{statement}

@@ -5,7 +5,7 @@ use Prim.Native.Nat.{ℕ}
 use lib.ListN.{length-replicate}
 use denote.Ref.{now}
 use borrow.Author.Tests.{not-false}
-use Rattle.records_fit.proofs.Limits.{clash}
+use Rattle.integer.proofs.Tests.{clash}
 use Rattle.well_formed.specs.Tests.{leavesHold, treeFits}
 use Rattle.well_formed.proofs.Holding.{links-decide}
 use Rattle.well_formed.proofs.first_look.passes.Statement.{statement}

@@ -5,7 +5,7 @@ use native.Mathlib.Omega.{arith}
 use lib.ListN.{length, length-replicate}
 use denote.Ref.{now}
 use borrow.Author.Tests.{not-false}
-use Rattle.records_fit.proofs.Limits.{clash}
+use Rattle.integer.proofs.Tests.{clash}
 use Rattle.well_formed.proofs.Looking.{all-visited}
 use Rattle.well_formed.proofs.first_look.records_pass.Statement.{statement}
 use Rattle.well_formed.proofs.first_look.records_pass.Tie as tie

@@ -43,9 +43,6 @@ module _ (e : tie.After-enum-told) where
   contents : firstOf (madeConditions (lentTables s)) ≡ firstOf (not (wellFormed (tables (now (s .args .control)) [] (now (s .args .nodes)) (now (s .args .links)) [])) refuses word.spoiled ∷ [])
   contents = by-contents (now (s .args .control)) (now (s .args .samples)) (now (s .args .nodes)) (now (s .args .links)) (now (s .args .work)) nothing
 
-enum-told : tie.Need-enum-told
-enum-told c = search needs
-
 well-formed-requires : tie.Need-well-formed-requires
 well-formed-requires c κs = lends (lentTables (s c)) (nothing c)
 
@@ -69,4 +66,4 @@ judge-tables-spec =
     tie.close
     (tie.spec
     (λ c κs. search needs) (λ c κs. search needs) (λ c κs. search needs) (λ c κs. search needs) (λ c κs. search needs)
-    (λ c κs. search needs) (λ c κs. search needs) (λ c. search needs) enum-told well-formed-requires returns returns-2 returns-3)
+    (λ c κs. search needs) (λ c κs. search needs) (λ c. search needs) (λ c. search needs) well-formed-requires returns returns-2 returns-3)

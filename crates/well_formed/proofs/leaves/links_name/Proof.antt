@@ -5,7 +5,7 @@ use Prim.Native.Nat.{ℕ, _≤_, _<_}
 use native.Mathlib.Omega.{arith}
 use denote.Ref.{now}
 use borrow.Author.Tests.{not-true, not-false}
-use Rattle.records_fit.proofs.Limits.{clash}
+use Rattle.integer.proofs.Tests.{clash}
 use Rattle.well_formed.specs.Marks.{LinkRises, LinksRise}
 use Rattle.well_formed.proofs.Holding.{all-named, never-named, first-named}
 use Rattle.well_formed.proofs.leaves.links_name.Statement.{statement}

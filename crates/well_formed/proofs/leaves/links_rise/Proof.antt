@@ -5,7 +5,7 @@ use native.Mathlib.Omega.{arith}
 use lib.Dec.{eqb}
 use denote.Ref.{now}
 use borrow.Author.Needs.{needs}
-use Rattle.records_fit.proofs.Limits.{clash}
+use Rattle.integer.proofs.Tests.{clash}
 use Rattle.well_formed.proofs.Taking.{Counted, counted-start, counted-more, counted-short, counted-all}
 use Rattle.well_formed.proofs.leaves.links_rise.Statement.{statement}
 use Rattle.well_formed.proofs.leaves.links_rise.Tie as tie

@@ -3,7 +3,7 @@ use mathlib.Core.Path.{sym, subst}
 use Prim.Native.Nat.{ℕ, _<_}
 use native.Mathlib.Omega.{arith}
 use denote.Ref.{now}
-use Rattle.records_fit.proofs.Limits.{clash}
+use Rattle.integer.proofs.Tests.{clash}
 use Rattle.well_formed.proofs.Growth.{grown-one, met-again}
 use Rattle.well_formed.proofs.marks.mark_trace.Statement.{statement}
 use Rattle.well_formed.proofs.marks.mark_trace.Tie as tie

@@ -1,0 +1,95 @@
+-- `query_judging::judge_run` meets its contract: each return answers for one condition, the ones before it being false.
+use Prim.Native.Nat.{ℕ}
+use mathlib.Core.Path.{_≡_, sym, ap, _∙_}
+use mathlib.Core.Bool.{true, false}
+use mathlib.Core.List.{List}
+use native.Mathlib.Omega.{arith}
+use lib.IntN.{ℤ}
+use lib.ListN.{length}
+use lib.Dec.{eqb}
+use denote.Ref.{now}
+use borrow.Author.Needs.{needs}
+use borrow.Author.Tests.{eq-eqb, ne-eqb, lt-ltb, le-ltb}
+use Rattle.dstree.specs.Matching.{leaves}
+use Rattle.dstree.specs.Refusals.{firstOf}
+use Rattle.tables.specs.Tables.{Tables, tables, traceCount}
+use Rattle.tables.specs.View.{treeIn}
+use Rattle.tables.specs.Answers.{wordOf, foundBy}
+use Rattle.query_judging.specs.LeafCount.{leafCount}
+use Rattle.query_judging.proofs.Counted.{leaves-counted}
+use Rattle.query_judging.proofs.judge_run.Statement.{statement}
+use Rattle.query_judging.proofs.judge_run.Tie as tie
+
+abbrev start : tie.After-field → tie.Start
+start f = f .before .before .before
+
+same-length : (e : tie.Else1) → eqb (length (now (start (e .before) .args .run))) (start (e .before) .args .size) ≡ true
+same-length e = eq-eqb (length (now (start (e .before) .args .run))) (start (e .before) .args .size) (e .if1 .left)
+
+-- whatever samples, links and search work the tables have
+module _ (samples : List ℤ) (links work : List ℕ) where
+  module _ (f : tie.After-field) where
+    abbrev t : Tables
+    t = tables (now (start f .args .control)) samples (now (start f .args .nodes)) links work
+
+    abbrev room : ℕ
+    room = length (now (start f .args .trail))
+
+    abbrev leafs : ℕ
+    leafs = length (leaves (treeIn t))
+
+  some-trace : (e : tie.Else2) → eqb (traceCount (t (e .before .before))) 0 ≡ false
+  some-trace e = let f = e .before .before in ne-eqb (traceCount (t f)) 0 (λ q. e .if2 .left (f .field .ensures ∙ q))
+
+  -- the leaves counted are the tree's
+  module _ (l : tie.After-leaf-count) where
+    abbrev f : tie.After-field
+    f = l .before .before .before .before .before
+
+    counted : l .leaf-count .result ≡ leafs f
+    counted =
+        l .leaf-count .ensures
+        ∙ (ap (λ (m : ℕ). leafCount (now (start f .args .nodes)) m 0) (l .before .wide .ensures ∙ l .before .before .field2 .ensures)
+        ∙ sym (leaves-counted (t f)))
+
+leaf-count-requires : tie.Need-leaf-count-requires
+leaf-count-requires c κs =
+    let s = start (c .before .before .before .before) in
+    rw (c .wide .ensures ∙ c .before .field2 .ensures) (s .pre)
+
+returns : tie.Need-returns
+unfolding foundBy wordOf firstOf
+returns c samples links work =
+    let a = start (c .before) .args in
+    rw (ne-eqb (length (now (a .run))) (a .size) (c .if1 .taken))
+
+returns-2 : tie.Need-returns-2
+unfolding foundBy wordOf firstOf
+returns-2 c samples links work =
+    let f = c .before .before in
+    let stored = eq-eqb (traceCount (t samples links work f)) 0 (sym (f .field .ensures) ∙ c .if2 .taken) in
+    rw (same-length (c .before), stored)
+
+returns-3 : tie.Need-returns-3
+unfolding foundBy wordOf firstOf
+returns-3 c samples links work =
+    let l = c .before in
+    let e = l .before .before .before in
+    let r : ℕ = room samples links work (f samples links work l) in
+    let short = lt-ltb r (leafs samples links work (f samples links work l)) (omega (arith, c .if3 .taken, counted samples links work l)) in
+    rw (same-length (e .before), some-trace samples links work e, short)
+
+returns-4 : tie.Need-returns-4
+unfolding foundBy firstOf
+returns-4 c samples links work =
+    let l = c .before in
+    let e = l .before .before .before in
+    let r : ℕ = room samples links work (f samples links work l) in
+    let long = le-ltb r (leafs samples links work (f samples links work l)) (omega (arith, c .if3 .left, counted samples links work l)) in
+    rw (same-length (e .before), some-trace samples links work e, long)
+
+pub judge-run-spec : {M : Type 1} → statement M
+judge-run-spec =
+    tie.close
+    (tie.spec
+    (λ c κs. search needs) returns returns-2 (λ c κs. search needs) (λ c κs. search needs) leaf-count-requires returns-3 returns-4)

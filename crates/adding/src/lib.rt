@@ -25,8 +25,8 @@ pub enum Added {
 
 // Adds a trace. Every refusal is decided before anything is written. Search work is lent only to be long enough: it stays as it was.
 //
-// Two wrong programs that the contract rules out: one that splits a leaf as long as the leaf size, and one that refuses a full library before a trace of
-// another length.
+// Two wrong programs that the contract rules out: one that splits a leaf as long as the leaf size, and one that refuses a full library
+// before a trace of another length.
 pub fn add(
     control: &mut [u16],
     samples: &mut [i16],

@@ -21,7 +21,8 @@ pub fn put(
     requires { ⌜ Takes (now control) (now samples) (now nodes) (now links) (now trace) ⌝ }
     ensures { λ _. ⌜ ((work : List ℕ) →
         tables (now (control .exit)) (now (samples .exit)) (now (nodes .exit)) (now (links .exit)) work
-        ≡ addedTo (tables (now (control .entry)) (now (samples .entry)) (now (nodes .entry)) (now (links .entry)) work) (now (trace .entry))) ⌝ }
+        ≡ addedTo (tables (now (control .entry)) (now (samples .entry)) (now (nodes .entry)) (now (links .entry)) work)
+        (now (trace .entry))) ⌝ }
 {
     let k = wide(field(control, TRACE_COUNT));
     let n = trace.len();

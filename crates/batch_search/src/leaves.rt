@@ -53,7 +53,7 @@ fn read_for(
     bests[at + 1] = one[1];
 }
 
-// .. for all queries of the run. Answers how many leaves were read, with this one: whoever has a leaf read has it counted.
+// .. for all queries of the run. Answers how many leaves were read, this one too, so that each reading comes with its count.
 fn read_for_all(
     samples: &[i16],
     links: &[u16],

@@ -1,4 +1,5 @@
--- Well-formed tables are `Branching`. From it: over all nodes, each number but 0 is once among the children, and no bound falls on the way down.
+-- Well-formed tables are `Branching`. From it: over all nodes, each number but 0 is once among the children, and no bound falls on the way
+-- down.
 use Prim.Native.Nat.{ℕ, zero, suc, _+_, _≤_, _<_, max}
 use mathlib.Core.Path.{_≡_, sym, _∙_, subst}
 use mathlib.Core.List.{List, [], _∷_, map, flatten}

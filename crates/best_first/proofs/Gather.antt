@@ -1,5 +1,6 @@
--- The leaves below node 0 are all leaves, and the nodes below it all nodes. Each node but 0 is a child once, so the leaves below all nodes, node by node,
--- are those below node 0 with those below all children; they are also all leaves with those below all children. What is below the children cancels.
+-- The leaves below node 0 are all leaves, and the nodes below it all nodes. Each node but 0 is a child once, so the leaves below all nodes,
+-- node by node, are those below node 0 with those below all children; they are also all leaves with those below all children. What is below
+-- the children cancels.
 use Prim.Native.Nat.{ℕ, zero, suc, _+_, _-_, _≤_, _<_}
 use mathlib.Core.Path.{_≡_, refl, sym, _∙_, ap}
 use mathlib.Core.Logic.{⊎-elim}

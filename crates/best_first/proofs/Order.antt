@@ -1,6 +1,6 @@
--- The keys that wait, and the leaves still to come: those below the nodes whose keys wait. The least key that waits is at most the key of every leaf
--- to come, so that a leaf with the least key is the next. A turn takes one node away from `nodesWaiting`, the nodes still to be taken: it is a loop's measure,
--- and the room that the keys need.
+-- The keys that wait, and the leaves still to come: those below the nodes whose keys wait. The least key that waits is at most the key of
+-- every leaf to come, so that a leaf with the least key is the next. A turn takes one node away from `nodesWaiting`, the nodes still to be
+-- taken: it is a loop's measure, and the room that the keys need.
 use Prim.Native.Nat.{ℕ, suc, _+_, _≤_, _<_, max}
 use mathlib.Core.Path.{_≡_, refl, sym, _∙_, ap}
 use mathlib.Core.Logic.{⊎-elim}

@@ -1,4 +1,5 @@
--- Keys in order and leaves in order are the same: a key holds a leaf's bound and number, and the order of keys is "by bound, then by number".
+-- Keys in order and leaves in order are the same: a key holds a leaf's bound and number, and the order of keys is "by bound, then by
+-- number".
 use Prim.Native.Nat.{ℕ, _≤_, _<_}
 use mathlib.Core.Path.{_≡_, refl, sym, _∙_, ap}
 use mathlib.Core.Logic.{⊎-elim}

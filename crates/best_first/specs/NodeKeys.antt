@@ -1,5 +1,5 @@
--- The key of a node: bound × 8,192 + number, so that keys are in the order "by bound, then by number". The bound of a child is known on the way down:
--- the greater of its own and its parent's.
+-- The key of a node: bound × 8,192 + number, so that keys are in the order "by bound, then by number". The bound of a child is known on the
+-- way down: the greater of its own and its parent's.
 use Prim.Native.Nat.{ℕ, _+_, _*_, _/_, _%_, _^_, max}
 use mathlib.Core.List.{List}
 use Rattle.heap.specs.Keys.{insertKey}

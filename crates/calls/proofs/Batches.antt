@@ -1,5 +1,5 @@
--- Document 02, §7, of calls that follow their definitions: what is claimed of any batch, of every memory that the check would accept, whatever
--- made its tables, by the laws of exact trees; and what holds of a batch on any tables.
+-- Document 02, §7, of calls that follow their definitions: what is claimed of any batch, of every memory that the check would accept,
+-- whatever made its tables, by the laws of exact trees; and what holds of a batch on any tables.
 use Prim.Native.Nat.{ℕ, _*_, _<_}
 use mathlib.Core.Path.{_≡_, refl, sym, ap, subst, _∙_}
 use mathlib.Core.Bool.{not}

@@ -1,6 +1,6 @@
--- The demands over calls that follow their definitions. A memory keeps the book from the first opening on, and so is one that the check would
--- accept; of any query, what is claimed holds of every such memory (`Queries`). From a check on that has just accepted, a memory goes on being
--- one, and the same claims hold of it.
+-- The demands over calls that follow their definitions. A memory keeps the book from the first opening on, and so is one that the check
+-- would accept; of any query, what is claimed holds of every such memory (`Queries`). From a check on that has just accepted, a memory goes
+-- on being one, and the same claims hold of it.
 use Prim.Native.Nat.{ℕ, _*_, _<_}
 use mathlib.Core.Path.{_≡_, refl, sym, ap, subst, _∙_}
 use mathlib.Core.Option.{none, some}

@@ -1,6 +1,6 @@
 -- Samples in leaves off the trail do not bear on a search, of whatever tables it takes: no condition and no node is read from a sample, and
--- the traces in the leaves that the search reads are the same. The argument is one for every search; a match, a listing and a batch each add
--- that their steps read nothing else.
+-- the traces in the leaves that the search reads are the same. The argument is one for every search; a match, a listing and a batch each
+-- add that their steps read nothing else.
 use Prim.Native.Nat.{ℕ, _≤_, _<_}
 use mathlib.Core.Path.{_≡_, refl, sym, ap, subst, _∙_}
 use mathlib.Core.Bool.{Bool, true, false}

@@ -1,5 +1,5 @@
--- What is claimed of any query, of every memory that the check would accept, whatever made its tables: by the laws of exact trees, by what a
--- search does on that memory, or on one that differs from it off the trail.
+-- What is claimed of any query, of every memory that the check would accept, whatever made its tables: by the laws of exact trees, by what
+-- a search does on that memory, or on one that differs from it off the trail.
 use Prim.Native.Nat.{ℕ, _≤_, _<_}
 use mathlib.Core.Path.{_≡_, refl, sym, ap, subst, _∙_}
 use mathlib.Core.Option.{Option, none, some}

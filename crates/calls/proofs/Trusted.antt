@@ -1,5 +1,5 @@
--- Memories that the check would accept, whatever made their tables. What they hold is read from the needed places alone, so that it is what a
--- call is lent that is lent enough; and no call refuses them for what they hold. A memory that keeps a book is one of them.
+-- Memories that the check would accept, whatever made their tables. What they hold is read from the needed places alone, so that it is what
+-- a call is lent that is lent enough; and no call refuses them for what they hold. A memory that keeps a book is one of them.
 use Prim.Native.Nat.{ℕ}
 use mathlib.Core.Path.{_≡_, refl, sym, ap, subst, _∙_}
 use mathlib.Core.Bool.{not}

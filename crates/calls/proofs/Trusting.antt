@@ -1,6 +1,6 @@
--- A call on a memory that the check would accept, whichever it is, leaves one that it would accept, with the measures and traces that the book
--- then has: adding keeps figures exact, an opening and a reading make a library by calls, the others write nothing but search work. So does a
--- list of calls, from a check on that has just accepted; and none of them is refused with 3 or 13.
+-- A call on a memory that the check would accept, whichever it is, leaves one that it would accept, with the measures and traces that the
+-- book then has: adding keeps figures exact, an opening and a reading make a library by calls, the others write nothing but search work. So
+-- does a list of calls, from a check on that has just accepted; and none of them is refused with 3 or 13.
 use Prim.Native.Nat.{ℕ, _+_, _≤_, _<_}
 use mathlib.Core.Path.{_≡_, refl, sym, ap, subst, _∙_}
 use mathlib.Core.Bool.{Bool, true, false, not}

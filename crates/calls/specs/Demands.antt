@@ -20,7 +20,8 @@ use Rattle.dstree.specs.Batch.{queriesIn, Batch, answerIn, batchOf, batchByStep
 use Rattle.dstree.specs.Refusals.{Refusal, spoiled, empty, looseRecord, firstOf}
 use Rattle.dstree.specs.Sheet.{blockSize, blocksNeeded, sheetOf}
 use Rattle.dstree.specs.Recording.{Recording, recording, judgeRecording}
-use Rattle.dstree.specs.Book.{Lent, adding, matching, writing, reading, listing, importing, exporting, checking, batching, Call, call, besideOf}
+use Rattle.dstree.specs.Book.{Lent, adding, matching, writing, reading, listing, importing, exporting, checking, batching, Call, call}
+use Rattle.dstree.specs.Book.{besideOf}
 use Rattle.dstree.specs.Book.{Result, done, added, matched, written, neighbours, imported, exported, accepted, batched, refusing}
 use Rattle.dstree.specs.Book.{answering, Reply, reply, over, Book, bookTree, shortConditions, judge, after, repliesOf, start}
 use Rattle.dstree.specs.Claims.{Below, numbersAmong, LeavesOutOnlyAbove, RangesOf, ExactTree}
@@ -132,13 +133,14 @@ ImportsAnywhere = (lent : Lent) (bytes : List ℕ) (memory memory′ : Tables) (
 
 -- ---- document 02, §7, on any tables
 
--- a batch that answered m, on the tables t that it was lent, whoever made them: "where other well-formed tables break [a claim], that answer
--- is the program's"
+-- a batch that answered m, on the tables t that it was lent, whoever made them: "where other well-formed tables break [a claim], that
+-- answer is the program's"
 pub record BatchedIn (count : ℕ) (run : Trace) (t : Tables) (m : Batch) : Type 0 where
-  -- the program's steps: query after query, each in its match's order until the next bound is above its best; a leaf is read for all at once
+  -- the program's steps: query after query, each in its match's order until the next bound is above its best; a leaf is read for all at
+  -- once
   pub by-steps : m ≡ batchBySteps (tracesIn t) (treeIn t) (queriesIn (measuresOf t .n) count run)
-  -- what holds of them: "no leaf is read twice"; "The trail lists the leaves read by rising number"; "one count of leaves"; and each answer is
-  -- the nearest of the traces in the leaves read
+  -- what holds of them: "no leaf is read twice"; "The trail lists the leaves read by rising number"; "one count of leaves"; and each answer
+  -- is the nearest of the traces in the leaves read
   pub steps-are : StepsClaims (tracesIn t) (treeIn t) (queriesIn (measuresOf t .n) count run)
   -- "One answer record for each query"
   pub one-each : length (m .answers) ≡ count
@@ -150,9 +152,10 @@ BatchesAnywhere = (lent : Lent) (count : ℕ) (run : Trace) (trail : List ℕ) (
     → (m : Batch) → said .answer ≡ answering (batched m)
     → BatchedIn count run (firstPlaces lent memory) m × (memory′ ≡ left (cleared (firstPlaces lent memory)) memory)
 
--- ---- any query, of stored traces and their tree in some memory. What a call is refused for is judged by a book (`judge`), which takes nothing
--- from the tables, or, where these may be anyone's, by what they hold
+-- ---- any query, of stored traces and their tree in some memory
 
+-- what a call is refused for is judged by a book (`judge`), which takes nothing from the tables, or, where these may be anyone's, by what
+-- they hold
 abbrev pub judgeIn : Tables → Call → Option Refusal
 judgeIn memory c = firstOf (effectIn c memory .conditions)
 
@@ -355,8 +358,8 @@ IsWritten lent memory = (sheet : List ℕ) (said : Reply) (memory′ : Tables) �
 
 -- ---- document 02, §6
 
--- document 02, §6: what holds after a list of calls that a check started which has just accepted, "whatever made the tables". The book starts
--- with what these hold
+-- document 02, §6: what holds after a list of calls that a check started which has just accepted, "whatever made the tables". The book
+-- starts with what these hold
 pub record AfterCheck (b : Book) (calls : List Call) (said : List Reply) (memory : Tables) : Type 0 where
   -- "What is stored, a book says", refused calls included: the tables have its measures and its traces, and every recorded figure is exact.
   -- The tree is their own

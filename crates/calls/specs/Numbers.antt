@@ -11,9 +11,9 @@ unfoldable pub codeOf : Answer → ℕ
 codeOf (answering result) = 0
 codeOf (refusing why) = numberOf why
 
--- "Opening and sheet reading answer only that they succeeded, adding the new trace's number, writing the number of blocks"; "The answer is trace number,
--- distance, leaves read and traces read"; of the k nearest, leaves read, traces read, and how many are listed; of an import how many traces, of an export
--- how many bytes; of a check nothing, as of an opening; of a batch leaves read
+-- "Opening and sheet reading answer only that they succeeded, adding the new trace's number, writing the number of blocks"; "The answer is
+-- trace number, distance, leaves read and traces read"; of the k nearest, leaves read, traces read, and how many are listed; of an import
+-- how many traces, of an export how many bytes; of a check nothing, as of an opening; of a batch leaves read
 unfoldable pub resultValues : Result → List ℕ
 resultValues done = []
 resultValues (added number) = number ∷ []

@@ -12,8 +12,8 @@ use Rattle.tables.specs.Judge.{Room}
 abbrev pub bookIn : Tables → Book
 bookIn memory = book (measuresOf memory) (tracesIn memory)
 
--- a memory that the check would accept, with the measures and the traces that a book has. What is not asked is who made the tree: it may be any
--- whose figures are those of the traces below
+-- a memory that the check would accept, with the measures and the traces that a book has. What is not asked is who made the tree: it may be
+-- any whose figures are those of the traces below
 pub record Trusts (memory : Tables) (b : Book) : Type 0 where
   -- measures in range, no more traces than the capacity, each of n samples within their limits
   pub library : T (isLibrary sampleLimit (b .measures) (b .traces))

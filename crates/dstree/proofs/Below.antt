@@ -1,4 +1,5 @@
--- What is below a node of a tree with its shape: stored traces only; of a leaf its own, of an inner node what is below its children, of node 0 all.
+-- What is below a node of a tree with its shape: stored traces only; of a leaf its own, of an inner node what is below its children, of
+-- node 0 all.
 use Prim.Native.Nat.{ℕ, zero, suc, _<_}
 use mathlib.Core.Path.{_≡_, subst}
 use mathlib.Core.Logic.{_⊎_, inl, inr}

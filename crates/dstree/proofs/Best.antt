@@ -1,4 +1,5 @@
--- The greatest gain wins, the earliest among equals: the winner so far is kept at an equal gain, so only a greater one behind it takes its place.
+-- The greatest gain wins, the earliest among equals: the winner so far is kept at an equal gain, so only a greater one behind it takes its
+-- place.
 use mathlib.Core.Path.{_≡_, refl, sym, _∙_, ap, subst}
 use mathlib.Core.Logic.{_⊎_, inl, inr}
 use mathlib.Core.Bool.{Bool, true, false, not}

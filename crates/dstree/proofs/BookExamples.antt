@@ -160,13 +160,14 @@ pub record BookExamples : Type 0 where
   pub readings : map (λ bytes. first (call exact (reading bytes))) (sheet3 ∷ sheet8 ∷ [] ∷ []) ≡ answering done ∷ refusing shortTable ∷ refusing sheetLength ∷ []
   -- "judged by arguments and book"
   pub judged : map (λ ask. judge layout opened (call exact ask)) (adding C ∷ matching C (blank 3) ∷ []) ≡ none ∷ some empty ∷ []
-  -- "Refusals follow the table"; "Opening and sheet reading answer only that they succeeded, adding the new trace's number, writing the number of blocks"
+  -- "Refusals follow the table"; "Opening and sheet reading answer only that they succeeded, adding the new trace's number, writing the
+  -- number of blocks"
   pub answered : map (λ (r : Reply). r .answer) (repliesOf layout opened calls) ≡ map (λ (t : CallAnswered). t .answer) turns
   -- "the trail begins with R"; "places after them keep their contents"; a refused match leaves its trail
   pub trails : map (λ trail. replyOf layout (book (measures 4 3 2) ABC) (call exact (matching (level 1) trail)) .beside) ((7 ∷ 8 ∷ 9 ∷ []) ∷ (7 ∷ []) ∷ [])
       ≡ ((1 ∷ 8 ∷ 9 ∷ []) ∷ []) ∷ ((7 ∷ []) ∷ []) ∷ []
-  -- "An opening puts its measures and no trace. Adding appends its trace. Reading puts the sheet's measures and traces, in order": the book after 4, 35, 38
-  -- calls and after all
+  -- "An opening puts its measures and no trace. Adding appends its trace. Reading puts the sheet's measures and traces, in order": the book
+  -- after 4, 35, 38 calls and after all
   pub books : map (λ k. after layout opened (take k calls)) (4 ∷ 35 ∷ 38 ∷ 41 ∷ [])
       ≡ book (measures 4 3 2) (level 0 ∷ [])
       ∷ book (measures 4 3 2) ABC
@@ -209,7 +210,8 @@ pub record BookExamples : Type 0 where
       ≡ refusing badRecording ∷ refusing badRecording ∷ refusing badRecording ∷ refusing sheetLength ∷ []
   -- "answers its bytes' number"; bytes of the buffer behind them stay
   pub exports : replyWith ABC (exporting 2 8000 (replicate 54 7)) ≡ reply (answering (exported 52 one)) ((one ++ (7 ∷ 7 ∷ [])) ∷ [])
-  -- document 02, §6: "It accepts every library made by calls", one that holds nothing too, and puts nothing; short tables are refused before
+  -- document 02, §6: "It accepts every library made by calls", one that holds nothing too, and puts nothing; short tables are refused
+  -- before
   pub checks : map (λ (r : Reply). r .answer)
       (replyWith ABC checking ∷ replyWith [] checking ∷ replyOf layout (book (measures 4 3 2) ABC) (call (lent 5 12 435 3 4) checking) ∷ [])
       ≡ answering accepted ∷ answering accepted ∷ refusing shortTable ∷ []
@@ -223,7 +225,8 @@ pub record BookExamples : Type 0 where
       ∷ replyWith ABC (batching 1 (level 4) (blank 1) (at 7 7 ∷ []))
       ∷ [])
       ≡ refusing badBatch ∷ refusing badBatch ∷ refusing wrongTrace ∷ refusing empty ∷ refusing shortTrail ∷ []
-  -- "One answer record for each query is filled in the caller's list"; "The trail lists the leaves read by rising number", its other places stay
+  -- "One answer record for each query is filled in the caller's list"; "The trail lists the leaves read by rising number", its other places
+  -- stay
   pub batches : replyWith ABC (batching 2 (level 4 ++ level 2) (7 ∷ 8 ∷ 9 ∷ []) (at 5 6 ∷ at 7 8 ∷ []))
       ≡ reply (answering (batched (record { answers = at 1 0 ∷ at 0 16 ∷ []; leaves = 2; trail = 1 ∷ 2 ∷ [] })))
       ((1 ∷ 2 ∷ 9 ∷ []) ∷ (1 ∷ 0 ∷ 0 ∷ 16 ∷ []) ∷ [])

@@ -1,6 +1,7 @@
 -- No node's bound exceeds the query's distance to a trace below it, and a node's bound is the greater of its own and its parent's.
 -- The first goes segment by segment (`segment`'s law), then up the path, below each node of which the trace is too.
--- The second says that the definition's fuel is enough: a parent is numbered below its child, so any fuel above a node's number gives its bound.
+-- The second says that the definition's fuel is enough: a parent is numbered below its child, so any fuel above a node's number gives its
+-- bound.
 use Prim.Native.Nat.{ℕ, zero, suc, _+_, _-_, _≤_, _<_, max}
 use mathlib.Core.Path.{_≡_, refl, sym, _∙_, ap, subst}
 use mathlib.Core.Bool.{Bool, true, false}

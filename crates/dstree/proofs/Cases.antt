@@ -1,7 +1,7 @@
 -- Small libraries with what another implementation of documents 01 and 02 makes of them, as two tables, with a query and without; and the
--- definitions give the same, by computation. These few have each kind of split (by sum and scatter, whole and cut segments), ties in gain and in
--- distance, leaves over size, gains and sums below zero. The calls, which are proved equal to the definitions, are run on all of `vectors/`
--- (`rust/tests/vectors.rs`).
+-- definitions give the same, by computation. These few have each kind of split (by sum and scatter, whole and cut segments), ties in gain
+-- and in distance, leaves over size, gains and sums below zero. The calls, which are proved equal to the definitions, are run on all of
+-- `vectors/` (`rust/tests/vectors.rs`).
 -- Written by `tools/cases.py` from `vectors/libraries.txt`, the libraries that `vectors/cases.txt` names.
 use Prim.Native.Nat.{ℕ}
 use mathlib.Core.Path.{_≡_, refl}
@@ -159,7 +159,8 @@ cases =
       bounds = 0 ∷ 3364 ∷ 0 ∷ 55696 ∷ 0 ∷ [];
       match = matchWith 0 0 1 4 (4 ∷ []);
     }
-    -- lowest-number-first: a leaf that five traces leave whole; at the sixth both new leaves 3 and 4 are over size, and 3, 4, 5 split in this order
+    -- lowest-number-first: a leaf that five traces leave whole; at the sixth both new leaves 3 and 4 are over size, and 3, 4, 5 split in
+    -- this order
     ∷ record {
       measures = measures 5 8 1;
       traces = (+ 0 ∷ + 1 ∷ + 0 ∷ + 0 ∷ + 1 ∷ []) ∷ (+ 0 ∷ + 1 ∷ + 0 ∷ + 1 ∷ + 0 ∷ []) ∷ (+ 0 ∷ + 1 ∷ + 1 ∷ + 0 ∷ + 0 ∷ []) ∷ (+ 1 ∷ + 0
@@ -314,7 +315,8 @@ pub record GrownCase : Type 0 where
 
 abbrev pub grownCases : List GrownCase
 grownCases =
-    -- floor-roots-4a: scatters 4, 9 and 0: the middle of the roots parts 0 from 4 and 9, and the candidate wins that was not the winner by scatters
+    -- floor-roots-4a: scatters 4, 9 and 0: the middle of the roots parts 0 from 4 and 9, and the candidate wins that was not the winner by
+    -- scatters
     record {
       measures = measures 2 8 2;
       traces = (+ 0 ∷ + 2 ∷ []) ∷ (+ 1 ∷ − 2 ∷ []) ∷ (− 2 ∷ − 2 ∷ []) ∷ [];
@@ -324,7 +326,8 @@ grownCases =
           ∷ node (seg 2 (− 1) (+ 2) 4 9 ∷ []) (leaf (0 ∷ 1 ∷ []))
           ∷ [];
     }
-    -- floor-roots-4b: unequal scatters with equal floor roots, of the whole segment and of its halves: no candidate parts the leaf, which stays whole
+    -- floor-roots-4b: unequal scatters with equal floor roots, of the whole segment and of its halves: no candidate parts the leaf, which
+    -- stays whole
     ∷ record {
       measures = measures 5 4 1;
       traces = (+ 50 ∷ − 50 ∷ + 0 ∷ + 0 ∷ + 3 ∷ []) ∷ (+ 50 ∷ − 50 ∷ − 1 ∷ + 1 ∷ + 3 ∷ []) ∷ [];

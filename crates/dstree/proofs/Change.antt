@@ -1,4 +1,5 @@
--- What the steps of adding do to a tree, node by node: children, the way down, widening, joining. Each step is told by cases on the node's number.
+-- What the steps of adding do to a tree, node by node: children, the way down, widening, joining. Each step is told by cases on the node's
+-- number.
 use Prim.Native.Nat.{ℕ, zero, suc, _+_, _-_, _≤_, _<_}
 use mathlib.Core.Path.{_≡_, refl, sym, _∙_, ap, subst}
 use mathlib.Core.Logic.{_⊎_, inl, inr}

@@ -1,5 +1,6 @@
--- The match in closed form: the steps of the search give it, and R, the leaves with a bound at most the least distance d, is what they read.
--- The search law of `Search` at d: no distance is below d, and the leaf of a nearest trace has a bound at most d, for a bound is never above the distance.
+-- The match in closed form: the steps of the search give it, and R, the leaves with a bound at most the least distance d, is what they
+-- read. The search law of `Search` at d: no distance is below d, and the leaf of a nearest trace has a bound at most d, for a bound is
+-- never above the distance.
 use Prim.Native.Nat.{ℕ, _≤_, _<_}
 use mathlib.Core.Path.{_≡_, refl, _∙_, ap}
 use mathlib.Core.Logic.{inr}

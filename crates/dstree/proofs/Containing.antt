@@ -1,6 +1,6 @@
--- What the laws of a query ask of a tree and its traces: the rules for well-formed tables, as far as they place nodes, segments and traces, and that each
--- record contains the figures of the traces below it. The tree that insertion makes has it, and so has any well-formed tree whose ranges are those of the
--- traces below, whoever made it. That a least or a greatest is also reached by a trace is not asked.
+-- What the laws of a query ask of a tree and its traces: the rules for well-formed tables, as far as they place nodes, segments and traces,
+-- and that each record contains the figures of the traces below it. The tree that insertion makes has it, and so has any well-formed tree
+-- whose ranges are those of the traces below, whoever made it. That a least or a greatest is also reached by a trace is not asked.
 use Prim.Native.Nat.{ℕ}
 use mathlib.Core.List.{List, []}
 use lib.ListN.{length, getD}

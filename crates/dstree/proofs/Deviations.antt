@@ -1,6 +1,6 @@
--- Document 02 §4, scatter tests at the middle of the deviations: T, when a candidate by scatter parts a leaf, and where least and greatest go.
--- The floor root keeps the order, so that the least of some roots is the root of the least, and the greatest that of the greatest. All else is
--- `Parting`, which holds of any figure.
+-- Document 02 §4, scatter tests at the middle of the deviations: T, when a candidate by scatter parts a leaf, and where least and greatest
+-- go. The floor root keeps the order, so that the least of some roots is the root of the least, and the greatest that of the greatest. All
+-- else is `Parting`, which holds of any figure.
 use Prim.Native.Nat.{ℕ, _+_, _*_, _≤_, min, max}
 use mathlib.Core.Path.{_≡_, refl, sym, ap, ap₂, _∙_}
 use mathlib.Core.Bool.{true, not}

@@ -1,5 +1,5 @@
--- Each least and greatest that a node records is the figure of a trace below it; with what is covered (`Ranges`) that makes the records exact.
--- Widening takes the old figure or the new trace's, a new leaf one of its own traces'.
+-- Each least and greatest that a node records is the figure of a trace below it; with what is covered (`Ranges`) that makes the records
+-- exact. Widening takes the old figure or the new trace's, a new leaf one of its own traces'.
 use Prim.Native.Nat.{ℕ, suc, _<_, min, max}
 use mathlib.Core.Path.{_≡_, sym, _∙_, ap, subst}
 use mathlib.Core.Logic.{_⊎_, inl, inr}

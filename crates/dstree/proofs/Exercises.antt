@@ -1,5 +1,5 @@
--- Every definition at work in small examples, which hold by computation: a record for each heading of document 01, its sentence above each fact.
--- The starred examples stand in `specs/Examples`, whole libraries in `Cases`.
+-- Every definition at work in small examples, which hold by computation: a record for each heading of document 01, its sentence above each
+-- fact. The starred examples stand in `specs/Examples`, whole libraries in `Cases`.
 use Prim.Native.Nat.{ℕ, _^_, _*_, _-_}
 use mathlib.Core.Path.{_≡_, refl}
 use mathlib.Core.Bool.{Bool, true, false}
@@ -169,8 +169,8 @@ pub record AddingExamples : Type 0 where
   pub parting : map (λ c. parts (splitBy ABC (0 ∷ 1 ∷ 2 ∷ []) c)) (candidates (4 ∷ [])) ≡ replicate 6 true
   pub not-parting : map (λ c. parts (splitBy twins (0 ∷ 1 ∷ []) c)) (candidates (4 ∷ [])) ≡ replicate 6 false
   pub no-best : best twins (4 ∷ []) (0 ∷ 1 ∷ []) ≡ none
-  -- document 02, §3, "the fewest first ones that show both sides, or all when none do": 0, 1, 9 with T = 9 go left, left, right; by scatter,
-  -- and (1,2,1,2) and (2,1,2,1), all go left; of 9, 0, 1 two are enough, and of no trace there is none to take
+  -- document 02, §3, "the fewest first ones that show both sides, or all when none do": 0, 1, 9 with T = 9 go left, left, right; by
+  -- scatter, and (1,2,1,2) and (2,1,2,1), all go left; of 9, 0, 1 two are enough, and of no trace there is none to take
   pub seen : map (λ c. showSides (sidesOf nine (0 ∷ 1 ∷ 2 ∷ []) c) (0 ∷ 1 ∷ 2 ∷ [])) (candidates (1 ∷ [])) ≡ true ∷ false ∷ []
   pub taken : map (λ c. fewestFirst (sidesOf nine (0 ∷ 1 ∷ 2 ∷ []) c) (0 ∷ 1 ∷ 2 ∷ [])) (candidates (1 ∷ [])) ≡ 3 ∷ 3 ∷ []
   pub taken-twins : map (λ c. fewestFirst (sidesOf twins (0 ∷ 1 ∷ []) c) (0 ∷ 1 ∷ [])) (candidates (4 ∷ [])) ≡ replicate 6 2
@@ -246,7 +246,8 @@ both-altered = changeAt altered 2 (λ a. node (seg 4 (+ 100) (+ 100) 0 0 ∷ [])
 pub record MatchingExamples : Type 0 where
   -- "g is the distance from t to [least sum, greatest sum]": below it, inside, above
   pub sum-gaps : map (λ t. sumGap t (− 5) (+ 9)) (− 7 ∷ − 5 ∷ + 0 ∷ + 9 ∷ + 12 ∷ []) ≡ 2 ∷ 0 ∷ 0 ∷ 0 ∷ 3 ∷ []
-  -- "h is the largest of 0, floor root of least scatter − ceiling root of U, and floor root of U − ceiling root of greatest scatter"; scatters 100 to 200 here
+  -- "h is the largest of 0, floor root of least scatter − ceiling root of U, and floor root of U − ceiling root of greatest scatter";
+  -- scatters 100 to 200 here
   pub scatter-gaps : map (λ u. scatterGap u 100 200) (0 ∷ 5 ∷ 99 ∷ 150 ∷ 200 ∷ 400 ∷ []) ≡ 10 ∷ 7 ∷ 0 ∷ 0 ∷ 0 ∷ 5 ∷ []
   -- "(g² + h²) / w, each rounded up": 2/3, 2/1, 4/3
   pub bound-terms : boundTerm 3 1 1 ∷ boundTerm 1 1 1 ∷ boundTerm 3 2 0 ∷ [] ≡ 1 ∷ 2 ∷ 2 ∷ []
@@ -273,7 +274,8 @@ pub record MatchingExamples : Type 0 where
   pub on-the-trail : map (numbersAmong tree) ((1 ∷ []) ∷ (2 ∷ 1 ∷ []) ∷ []) ≡ (0 ∷ []) ∷ (1 ∷ 2 ∷ 0 ∷ []) ∷ []
   -- "Samples in leaves off the trail don't bear on a search": B and C replaced
   pub off-the-trail : matchBySteps (level 0 ∷ level 1 ∷ level 1 ∷ []) tree (level 1) ≡ matchBySteps ABC tree (level 1)
-  -- "With well-formed tables that somebody altered, calls follow the steps above on what is recorded": leaf 1 seems far, so leaf 2 is read alone
+  -- "With well-formed tables that somebody altered, calls follow the steps above on what is recorded": leaf 1 seems far, so leaf 2 is read
+  -- alone
   pub as-recorded : matchBySteps ABC altered (level 1) ≡ some (matchWith 1 36 1 2 (2 ∷ []))
   -- .. and when both seem far, the first one is read: no best distance is found yet
   pub first-is-read : matchBySteps ABC both-altered (level 1) ≡ some (matchWith 0 4 1 1 (1 ∷ []))
@@ -381,7 +383,8 @@ abbrev endingAt : List ℕ → Tree
 endingAt ends = node (map (λ end. seg end (+ 0) (+ 0) 0 0) ends) (leaf (0 ∷ 1 ∷ 2 ∷ [])) ∷ []
 
 pub record WellFormedExamples : Type 0 where
-  -- what adding makes; a tree that somebody altered: the test, the children's order, the ranges, up to their limits; the traces of the leaves; leaves above the leaf size
+  -- what adding makes; a tree that somebody altered: the test, the children's order, the ranges, up to their limits; the traces of the
+  -- leaves; leaves above the leaf size
   pub as-made : fits tree ≡ true
   pub other-tests : map (λ t. fits (testedBy t)) (test 2 3 bySum (− 131072) ∷ test 4 4 bySum (+ 65536) ∷ test 2 3 byScatter (+ 0) ∷ test 2 3 byScatter (+ 131072) ∷ []) ≡ replicate 4 true
   pub other-children : fits (withChildren 2 1) ≡ true
@@ -396,7 +399,8 @@ pub record WellFormedExamples : Type 0 where
   -- "no node exactly when no trace"
   pub no-node : map (λ count. wellFormedTree sampleLimit (measures 4 8 2) count []) (0 ∷ 3 ∷ []) ≡ true ∷ false ∷ []
   pub no-trace : wellFormedTree sampleLimit (measures 4 8 2) 0 tree ≡ false
-  -- "inner children numbered above their parent": nodes 1 and 2 below each other, so that each is a child once; node 1 below itself; a child that is no node
+  -- "inner children numbered above their parent": nodes 1 and 2 below each other, so that each is a child once; node 1 below itself; a
+  -- child that is no node
   pub below-each-other : fits (plain (leaf (0 ∷ [])) ∷ plain (inner (test 1 4 bySum (+ 0)) 2 3) ∷ plain (inner (test 1 4 bySum (+ 0)) 1 4) ∷ plain (leaf (1 ∷ [])) ∷ plain (leaf (2 ∷ [])) ∷ []) ≡ false
   pub below-itself : fits (plain (leaf (0 ∷ [])) ∷ plain (inner (test 1 4 bySum (+ 0)) 1 2) ∷ plain (leaf (1 ∷ 2 ∷ [])) ∷ []) ≡ false
   pub no-such-node : fits (plain (inner (test 1 4 bySum (+ 0)) 1 2) ∷ plain (leaf (0 ∷ 1 ∷ 2 ∷ [])) ∷ []) ≡ false
@@ -569,7 +573,8 @@ pub record Damage : Type 0 where
 abbrev damage : List (ℕ × ℕ) → ℕ → program.Line → Damage
 damage edits size line = record { edits = edits; size = size; line = line }
 
--- a damage at each field. The check of the changed block, at 510 and 511 or at 1022 and 1023, is changed with it where it is not said to be left
+-- a damage at each field. The check of the changed block, at 510 and 511 or at 1022 and 1023, is changed with it where it is not said to be
+-- left
 abbrev pub damages : List Damage
 damages =
     -- nothing
@@ -659,7 +664,8 @@ damages =
 pub record ProgramExamples : Type 0 where
   -- "For A, B, C and (1,1,1,1) it prints `0 4 1 1`"
   pub printed : program.programLine (sheetOf (measures 4 8 2) (ABC ++ (level 1 ∷ []))) ≡ program.found 0 4 1 1
-  -- "in decimal with single spaces": the bytes of `0 4 1 1` and `refused 6 0`, a line feed behind them; of 0, 7, 10 and the largest distance
+  -- "in decimal with single spaces": the bytes of `0 4 1 1` and `refused 6 0`, a line feed behind them; of 0, 7, 10 and the largest
+  -- distance
   pub printed-match : program.printed (sheetOf (measures 4 8 2) (ABC ++ (level 1 ∷ []))) ≡ 48 ∷ 32 ∷ 52 ∷ 32 ∷ 49 ∷ 32 ∷ 49 ∷ 10 ∷ []
   pub printed-refusal : program.printed (sheetOf (measures 2 8 2) []) ≡ 114 ∷ 101 ∷ 102 ∷ 117 ∷ 115 ∷ 101 ∷ 100 ∷ 32 ∷ 54 ∷ 32 ∷ 48 ∷ 10 ∷ []
   pub digits : map program.decimal (0 ∷ 7 ∷ 10 ∷ 1099478073600 ∷ []) ≡ (48 ∷ []) ∷ (55 ∷ []) ∷ (49 ∷ 48 ∷ []) ∷ (49 ∷ 48 ∷ 57 ∷ 57 ∷ 52 ∷ 55 ∷ 56 ∷ 48 ∷ 55 ∷ 51 ∷ 54 ∷ 48 ∷ 48 ∷ []) ∷ []

@@ -1,4 +1,5 @@
--- The test for well-formed tables passes exactly if the rules hold as facts: `formed` has them of a tree that passes, `well-formed` leads back.
+-- The test for well-formed tables passes exactly if the rules hold as facts: `formed` has them of a tree that passes, `well-formed` leads
+-- back.
 use Prim.Native.Nat.{ℕ, zero, suc, _+_, _*_, _-_, _≤_, _<_}
 use mathlib.Core.Path.{_≡_, refl, sym, _∙_, ap, subst}
 use mathlib.Core.Bool.{Bool, true, false, not, _&&_, _||_, Bool·beq}

@@ -1,6 +1,6 @@
 -- Every tree that adding makes has the invariant, and no leaf over size has a candidate that parts it.
--- The second is an invariant of the pass over new leaves: it holds of all nodes before the pass's position. Each step moves the position on by one,
--- and there are fewer nodes than twice the traces, so that the pass does not end too soon.
+-- The second is an invariant of the pass over new leaves: it holds of all nodes before the pass's position. Each step moves the position on
+-- by one, and there are fewer nodes than twice the traces, so that the pass does not end too soon.
 use Prim.Native.Nat.{ℕ, zero, suc, _+_, _*_, _≤_, _<_}
 use mathlib.Core.Path.{_≡_, refl, sym, _∙_, ap, subst}
 use mathlib.Core.Bool.{Bool, true, false, not}

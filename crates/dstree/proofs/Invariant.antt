@@ -1,6 +1,6 @@
--- What holds of every tree that adding makes, over the traces added so far: it is well formed, and its records and tests are those of the traces below.
--- Joining (`Joins`) and splitting (`Splits`) keep it, the first leaf has it (`Keeps`). They keep the records without a word of the tests, so that
--- adding keeps them exact in any well-formed tree, whoever made it.
+-- What holds of every tree that adding makes, over the traces added so far: it is well formed, and its records and tests are those of the
+-- traces below. Joining (`Joins`) and splitting (`Splits`) keep it, the first leaf has it (`Keeps`). They keep the records without a word
+-- of the tests, so that adding keeps them exact in any well-formed tree, whoever made it.
 use Prim.Native.Nat.{ℕ}
 use mathlib.Core.Path.{_≡_}
 use mathlib.Core.Bool.{true, false}

@@ -1,5 +1,5 @@
--- What document 01 says of the tree that insertion makes, for every library: any sample limit, measures in range, and traces of n samples each within
--- the limit, no more than the capacity. The statements are those of `specs/Claims`.
+-- What document 01 says of the tree that insertion makes, for every library: any sample limit, measures in range, and traces of n samples
+-- each within the limit, no more than the capacity. The statements are those of `specs/Claims`.
 use Prim.Native.Nat.{ℕ, _*_, _-_, _≤_, _<_, max}
 use mathlib.Core.Path.{_≡_}
 use mathlib.Core.List.{List, [], _∷_}

@@ -2,7 +2,8 @@
 -- all together: Laws. The k nearest: Ranks, KSteps and KClosed; all together: KLaws. Batches: BatchSteps and BatchClosed; all together:
 -- BatchLaws.
 -- Sheets: SheetWritten, SheetRead, ReadBack and WrittenAgain; all together: RoundTrips.
--- Recorder's files: Recordings. Both sides seen: Looking. The check of tables: TracesBelow, BelowOnce and Recomputed; all together: Checking.
+-- Recorder's files: Recordings. Both sides seen: Looking. The check of tables: TracesBelow, BelowOnce and Recomputed; all together:
+-- Checking.
 pub mod Everything
 pub mod Notation
 pub mod Examples

@@ -1,6 +1,6 @@
--- Every figure that a tree records is within document 01's limits, for any sample limit, and joining and splitting keep it so, whoever made the tree.
--- The idea: a trace's own figures are within the limits; a widened record takes figures that it has or the trace's, a new leaf's those of stored traces,
--- and a new threshold is the sum of two such sums, or of two roots of such scatters, within twice the limits.
+-- Every figure that a tree records is within document 01's limits, for any sample limit, and joining and splitting keep it so, whoever made
+-- the tree. The idea: a trace's own figures are within the limits; a widened record takes figures that it has or the trace's, a new leaf's
+-- those of stored traces, and a new threshold is the sum of two such sums, or of two roots of such scatters, within twice the limits.
 use Prim.Native.Nat.{ℕ, _-_, _≤_, _<_}
 use mathlib.Core.Path.{_≡_, sym, subst}
 use mathlib.Core.Logic.{_⊎_, inl, inr}

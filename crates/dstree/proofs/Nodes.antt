@@ -1,6 +1,6 @@
 -- How many nodes a well-formed tree has: one less than twice its leaves, and no more leaves than traces.
--- The idea: each node but 0 is a child once, so there are one less children than nodes, two for each inner node; each trace is in a leaf once,
--- so the leaves together hold as many numbers as there are traces, and none is empty.
+-- The idea: each node but 0 is a child once, so there are one less children than nodes, two for each inner node; each trace is in a leaf
+-- once, so the leaves together hold as many numbers as there are traces, and none is empty.
 use Prim.Native.Nat.{ℕ, suc, _+_, _*_, _-_, _≤_, _<_}
 use mathlib.Core.Path.{_≡_, refl, _∙_}
 use mathlib.Core.Bool.{Bool, true, false, not}

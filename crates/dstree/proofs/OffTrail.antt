@@ -1,4 +1,5 @@
--- Samples in leaves off the trail do not bear on a search: each step reads one leaf, which is then on the trail, and stops by what it has read.
+-- Samples in leaves off the trail do not bear on a search: each step reads one leaf, which is then on the trail, and stops by what it has
+-- read.
 use Prim.Native.Nat.{ℕ}
 use mathlib.Core.Path.{_≡_, refl, ap}
 use mathlib.Core.Bool.{Bool, true, false}

@@ -1,5 +1,6 @@
--- "A candidate parts the leaf if both sides receive a trace": exactly if its least figure is below its greatest. T is the sum of the two, so that
--- the least figure goes left, and the greatest goes right if it is the larger one; if the two are the same, all figures are, and all go left.
+-- "A candidate parts the leaf if both sides receive a trace": exactly if its least figure is below its greatest. T is the sum of the two,
+-- so that the least figure goes left, and the greatest goes right if it is the larger one; if the two are the same, all figures are, and
+-- all go left.
 use Prim.Native.Nat.{ℕ, _<_}
 use mathlib.Core.Path.{_≡_, refl, sym, subst}
 use mathlib.Core.Bool.{Bool, true, false, not, _&&_}

@@ -1,5 +1,5 @@
--- The tests lead each stored trace to the leaf that holds it: the trace is below node 0, and where it is below an inner node it is below the child
--- that the test sends it to, for the other child has only traces that the test sends there.
+-- The tests lead each stored trace to the leaf that holds it: the trace is below node 0, and where it is below an inner node it is below
+-- the child that the test sends it to, for the other child has only traces that the test sends there.
 use Prim.Native.Nat.{ℕ, _<_}
 use mathlib.Core.Path.{_≡_, refl, sym, subst}
 use mathlib.Core.Logic.{_⊎_, inl, inr}

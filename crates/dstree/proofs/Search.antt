@@ -1,5 +1,6 @@
--- The steps of the search, for any value d at which it stops: if no distance is below d, and a leaf with a bound at most d has a distance at most d,
--- then the leaves read are those with a bound at most d, in the order of reading, and what they hold is all that bears on the search.
+-- The steps of the search, for any value d at which it stops: if no distance is below d, and a leaf with a bound at most d has a distance
+-- at most d, then the leaves read are those with a bound at most d, in the order of reading, and what they hold is all that bears on the
+-- search.
 use Prim.Native.Nat.{ℕ, zero, suc, _+_, _≤_, _<_}
 use mathlib.Core.Path.{_≡_, refl, sym, _∙_, ap}
 use mathlib.Core.Logic.{_⊎_, inl, inr}
@@ -175,8 +176,8 @@ module _ (stored : List Trace) (tree : Tree) (query : Trace) (d : ℕ) where
   unfolding readLeaf
   read-alike other s a e = rw e
 
-  -- leaves in order, no distance below d, and d already found or still to be found in a leaf of R: the leaves read from here on are those of R,
-  -- also on other traces that give these leaves the same distances
+  -- leaves in order, no distance below d, and d already found or still to be found in a leaf of R: the leaves read from here on are those
+  -- of R, also on other traces that give these leaves the same distances
   pub reads-R : (other : List Trace) {all : List LeafBound} (s : Search) → InOrder all → All Far all → All (SameDistances other) all
       → AtLeast d (s .best) → AtMost d (s .best) ⊎ Some Hit all → searchOn other tree query s all ≡ readAll s (inR all)
   unfolding readOn those

@@ -1,5 +1,6 @@
--- A leaf that is split keeps the shape and the invariant: its traces go to the left or the right child by the test, and all else is as before.
--- What a split must have for that is `GoodSplit`, and the best split of a node has it, as every candidate of the node that parts the leaf has.
+-- A leaf that is split keeps the shape and the invariant: its traces go to the left or the right child by the test, and all else is as
+-- before. What a split must have for that is `GoodSplit`, and the best split of a node has it, as every candidate of the node that parts
+-- the leaf has.
 use Prim.Native.Nat.{ℕ, zero, suc, _+_, _≤_, _<_}
 use mathlib.Core.Path.{_≡_, refl, sym, _∙_, ap, subst}
 use mathlib.Core.Logic.{_⊎_, inl, inr}

@@ -7,11 +7,13 @@ use lib.ListN.{length, getD, take}
 use lib.IntN.{ℤ, pos, _+ℤ_, _-ℤ_}
 use lib.Signed.{ltZ}
 use lib.Dec.{leb, ltb}
-use Rattle.integer.specs.Words.{if_then_else_, lesser, greater, leastℤ, greatestℤ, least, greatest, counting, those, chosen, isEmpty, lastOf}
+use Rattle.integer.specs.Words.{if_then_else_, lesser, greater, leastℤ, greatestℤ, least, greatest, counting, those, chosen, isEmpty}
+use Rattle.integer.specs.Words.{lastOf}
 use Rattle.segment.specs.Terms.{spreadTerm}
 use Rattle.dstree.specs.Measures.{Trace, Measures}
 use Rattle.dstree.specs.Figures.{Run, run, width, sumOn, scatterOn}
-use Rattle.dstree.specs.Node.{Segment, Figure, bySum, byScatter, Test, Kind, leaf, inner, Node, node, Tree, nodeAt, changeAt, figureOf, goesLeft, ends, totalOver, changeAll, mostSegments}
+use Rattle.dstree.specs.Node.{Segment, Figure, bySum, byScatter, Test, Kind, leaf, inner, Node, node, Tree, nodeAt, changeAt}
+use Rattle.dstree.specs.Node.{figureOf, goesLeft, ends, totalOver, changeAll, mostSegments}
 
 -- ---- the way down
 
@@ -91,7 +93,8 @@ pub record Candidate : Type 0 where
 
 -- a run "by sum, by scatter", with the children's right ends
 unfoldable pub byEither : Run → List ℕ → List Candidate
-byEither on childEnds = record { on = on; figure = bySum; childEnds = childEnds } ∷ record { on = on; figure = byScatter; childEnds = childEnds } ∷ []
+byEither on childEnds =
+    record { on = on; figure = bySum; childEnds = childEnds } ∷ record { on = on; figure = byScatter; childEnds = childEnds } ∷ []
 
 -- one more right end, in its place among rising ones
 unfoldable pub cutAt : ℕ → List ℕ → List ℕ
@@ -106,7 +109,8 @@ leftHalfEnd r = r .first + width r / 2 - 1
 unfoldable pub halves : List ℕ → Run → List Candidate
 halves all r =
     let middle = leftHalfEnd r in
-    if ltb (length all) mostSegments && leb 2 (width r) then byEither (run (r .first) middle) (cutAt middle all) ++ byEither (run (suc middle) (r .last)) (cutAt middle all) else []
+    if ltb (length all) mostSegments && leb 2 (width r)
+    then byEither (run (r .first) middle) (cutAt middle all) ++ byEither (run (suc middle) (r .last)) (cutAt middle all) else []
 
 -- "for each segment, left to right, in this order": the whole segment, then its halves
 unfoldable pub candidatesFrom : List ℕ → ℕ → List ℕ → List Candidate
@@ -127,8 +131,9 @@ spreadOn on s = spreadTerm (width on) (s .leastSum) (s .greatestSum) (s .greates
 unfoldable pub spread : List ℕ → List Trace → ℕ
 spread ends traces = totalOver spreadOn 1 (segmentsOf ends traces)
 
--- "T is the least plus the greatest figure among the leaf's traces"; by scatter, document 02 §4, "T is the floor root of the least scatter plus that of
--- the greatest", which is the same, as roots keep the order (`Claims`, `Deviations`). It replaces the least plus the greatest scatter
+-- "T is the least plus the greatest figure among the leaf's traces"; by scatter, document 02 §4, "T is the floor root of the least scatter
+-- plus that of the greatest", which is the same, as roots keep the order (`Claims`, `Deviations`). It replaces the least plus the greatest
+-- scatter
 unfoldable pub thresholdOf : Figure → Run → List Trace → ℤ
 thresholdOf figure on traces = leastℤ (map (figureOf figure on) traces) +ℤ greatestℤ (map (figureOf figure on) traces)
 
@@ -173,7 +178,8 @@ fewestFirst goes numbers = chosen min (length numbers) (those (λ k. showSides g
 -- "twice the leaf's spread less both children's", a signed number. "Children use the cut segments"
 unfoldable pub gain : List Trace → List ℕ → List ℕ → Split → ℤ
 gain stored ends numbers s =
-    pos (2 * spread ends (tracesOf stored numbers)) -ℤ pos (spread (s .childEnds) (tracesOf stored (s .left)) + spread (s .childEnds) (tracesOf stored (s .right)))
+    let sides = spread (s .childEnds) (tracesOf stored (s .left)) + spread (s .childEnds) (tracesOf stored (s .right)) in
+    pos (2 * spread ends (tracesOf stored numbers)) -ℤ pos sides
 
 -- "Among the candidates that part the leaf the greatest gain wins, the earliest among equals"
 unfoldable pub bestOf : (Split → ℤ) → List Split → Option Split
@@ -202,8 +208,8 @@ splitKind leafSize stored tree at (leaf numbers) =
 abbrev pub split : ℕ → List Trace → Tree → ℕ → Tree
 split leafSize stored tree at = splitKind leafSize stored tree at (nodeAt tree at .kind)
 
--- "New leaves above the leaf size split likewise, lowest number first": new leaves come last, so one pass over rising numbers takes them in that order.
--- A leaf of k traces makes at most 2k − 2 new nodes, so that twice the traces are fuel enough
+-- "New leaves above the leaf size split likewise, lowest number first": new leaves come last, so one pass over rising numbers takes them in
+-- that order. A leaf of k traces makes at most 2k − 2 new nodes, so that twice the traces are fuel enough
 unfoldable pub splitNew : ℕ → ℕ → List Trace → Tree → ℕ → Tree
 splitNew zero leafSize stored tree at = tree
 splitNew (suc fuel) leafSize stored tree at =

@@ -1,5 +1,5 @@
--- Document 01, "Demand 3, over a list of calls": the calls, what the table refuses, and the book. "A call added later joins the list": document 02's stand
--- behind document 01's.
+-- Document 01, "Demand 3, over a list of calls": the calls, what the table refuses, and the book. "A call added later joins the list":
+-- document 02's stand behind document 01's.
 use Prim.Native.Nat.{ℕ, _+_, _*_}
 use mathlib.Core.Bool.{Bool, true, not, _&&_, _||_}
 use mathlib.Core.Option.{Option, none, some}
@@ -32,11 +32,11 @@ pub record Lent : Type 0 where
   pub links : ℕ
   pub work : ℕ
 
--- what a call asks for: "calls of opening, adding, match, sheet writing and sheet reading .. with any arguments". "Trails and sheets are not part of" the
--- tables: a match comes with its query and the contents of its trail, a writing and a reading with the bytes of their sheet; the search of document 02, §1,
--- with k, its query, and the contents of its trail and its list; an import of §2 with the bytes of its file, an export with a trace's number, a rate, and
--- the contents of its buffer; the check of §6 with nothing but the tables; a batch of §7 with the number of its queries, their run of samples, and the
--- contents of its trail and of its list of answer records
+-- what a call asks for: "calls of opening, adding, match, sheet writing and sheet reading .. with any arguments". "Trails and sheets are
+-- not part of" the tables: a match comes with its query and the contents of its trail, a writing and a reading with the bytes of their
+-- sheet; the search of document 02, §1, with k, its query, and the contents of its trail and its list; an import of §2 with the bytes of
+-- its file, an export with a trace's number, a rate, and the contents of its buffer; the check of §6 with nothing but the tables; a batch
+-- of §7 with the number of its queries, their run of samples, and the contents of its trail and of its list of answer records
 pub data Ask : Type 0 where
   opening : Measures → Ask
   adding : Trace → Ask
@@ -72,9 +72,10 @@ besideOf (batching count run trail list) = trail ∷ listPlaces list ∷ []
 
 -- ---- answers
 
--- what a call answers that is not refused: "Opening and sheet reading answer only that they succeeded, adding the new trace's number, writing the number
--- of blocks"; a match with its trail, a writing with its sheet, a listing with list and trail; an import "how many" traces it added, an export "its bytes'
--- number", with these bytes; a check that "it accepts"; a batch with its answer records, "one count of leaves" and its trail
+-- what a call answers that is not refused: "Opening and sheet reading answer only that they succeeded, adding the new trace's number,
+-- writing the number of blocks"; a match with its trail, a writing with its sheet, a listing with list and trail; an import "how many"
+-- traces it added, an export "its bytes' number", with these bytes; a check that "it accepts"; a batch with its answer records, "one count
+-- of leaves" and its trail
 pub data Result : Type 0 where
   done : Result
   added : ℕ → Result
@@ -117,8 +118,8 @@ book m traces = record { measures = m; traces = traces }
 abbrev pub bookTree : Book → Tree
 bookTree b = treeOf (b .measures) (b .traces)
 
--- what the book says of a call, "fed the calls' arguments alone": the table's conditions, in order; and, if none holds, what it puts, what it answers, and
--- what it leaves in what it is lent beside the tables
+-- what the book says of a call, "fed the calls' arguments alone": the table's conditions, in order; and, if none holds, what it puts, what
+-- it answers, and what it leaves in what it is lent beside the tables
 pub record Entry : Type 0 where
   pub conditions : List Condition
   pub puts : Book
@@ -189,7 +190,12 @@ putRead b (holds m traces) = book m traces
 module _ (layout : Layout) (lent : Lent) (b : Book) where
   -- "An opening puts its measures and no trace"
   unfoldable pub openingEntry : Measures → Entry
-  openingEntry m = record { conditions = not (inRange m) refuses measure ∷ shortConditions layout lent m; puts = book m []; result = done; beside = [] }
+  openingEntry m = record {
+    conditions = not (inRange m) refuses measure ∷ shortConditions layout lent m;
+    puts = book m [];
+    result = done;
+    beside = [];
+  }
 
   -- "Adding appends its trace"
   unfoldable pub addingEntry : Trace → Entry
@@ -223,7 +229,12 @@ module _ (layout : Layout) (lent : Lent) (b : Book) where
       }
 
   unfoldable pub readingEntry : List ℕ → Entry
-  readingEntry bytes = record { conditions = readingConditions layout lent (judgeSheet bytes); puts = putRead b (judgeSheet bytes); result = done; beside = [] }
+  readingEntry bytes = record {
+    conditions = readingConditions layout lent (judgeSheet bytes);
+    puts = putRead b (judgeSheet bytes);
+    result = done;
+    beside = [];
+  }
 
   -- document 02, §1: "lists the k nearest traces"; "List places past those filled keep their contents"
   unfoldable pub listingEntry : ℕ → Trace → List ℕ → List ℕ → Entry

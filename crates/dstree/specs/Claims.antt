@@ -39,7 +39,8 @@ pub record ShapeOf (limit : ℕ) (m : Measures) (traces : List Trace) (tree : Tr
 
 -- ---- "the least and greatest sum and scatter of the traces below"
 
--- of the traces with P, one has the figure `extreme`, and no other's is beyond it: with R for "at most" it is the least, the other way round the greatest
+-- of the traces with P, one has the figure `extreme`, and no other's is beyond it: with R for "at most" it is the least, the other way
+-- round the greatest
 pub record Extreme {A : Type 0} (R : A → A → Type 0) (P : ℕ → Type 0) (figure : ℕ → A) (extreme : A) : Type 0 where
   pub trace : ℕ
   pub is-one : P trace
@@ -56,7 +57,8 @@ pub record ExactOn (traces : List Trace) (P : ℕ → Type 0) (on : Run) (s : Se
 -- .. on each segment, the first from sample `first` on
 pub data AllExact (traces : List Trace) (P : ℕ → Type 0) : ℕ → List Segment → Type 0 where
   exact-none : {first : ℕ} → AllExact traces P first []
-  exact-more : {first : ℕ} {s : Segment} {rest : List Segment} → ExactOn traces P (run first (s .end)) s → AllExact traces P (suc (s .end)) rest → AllExact traces P first (s ∷ rest)
+  exact-more : {first : ℕ} {s : Segment} {rest : List Segment} → ExactOn traces P (run first (s .end)) s
+      → AllExact traces P (suc (s .end)) rest → AllExact traces P first (s ∷ rest)
 
 abbrev pub RangesOf : List Trace → Tree → Type 0
 RangesOf traces tree = (number : ℕ) → AllExact traces (λ t. Below tree t number) 1 (nodeAt tree number .segments)
@@ -65,14 +67,16 @@ RangesOf traces tree = (number : ℕ) → AllExact traces (λ t. Below tree t nu
 
 pub record TestsOf (m : Measures) (traces : List Trace) (tree : Tree) : Type 0 where
   -- "moving no threshold": an inner node keeps its test and its children when a trace is added
-  pub kept : (x : Trace) (number : ℕ) (test : Test) (left right : ℕ) → nodeAt tree number .kind ≡ inner test left right → nodeAt (insertion m traces tree x) number .kind ≡ inner test left right
+  pub kept : (x : Trace) (number : ℕ) (test : Test) (left right : ℕ) → nodeAt tree number .kind ≡ inner test left right
+      → nodeAt (insertion m traces tree x) number .kind ≡ inner test left right
   -- "the trace goes down by the tests .. and joins a leaf": the tests still lead each stored trace to the leaf that holds it
   pub routed : (t : ℕ) → t < length traces → T (isIn t (numbersIn (nodeAt tree (lastOf (way tree (getD traces t []))) .kind)))
 
 -- "A candidate parts the leaf if both sides receive a trace": exactly if its least figure is below its greatest
 abbrev pub Parting : Type 0
 Parting = (stored : List Trace) (numbers : List ℕ) (c : Candidate) → parts (splitBy stored numbers c) ≡ ltZ
-    (leastℤ (map (figureOf (c .figure) (c .on)) (tracesOf stored numbers))) (greatestℤ (map (figureOf (c .figure) (c .on)) (tracesOf stored numbers)))
+    (leastℤ (map (figureOf (c .figure) (c .on)) (tracesOf stored numbers)))
+    (greatestℤ (map (figureOf (c .figure) (c .on)) (tracesOf stored numbers)))
 
 -- Document 02, §3, "Its yes or no remains": a leaf's traces show both sides of a candidate's test exactly if the candidate parts the leaf
 abbrev pub YesOrNo : Type 0
@@ -109,8 +113,8 @@ abbrev pub Deviations : Type 0
 Deviations = (stored : List Trace) (numbers : List ℕ) (c : Candidate) → c .figure ≡ byScatter
     → ByDeviation stored numbers c (map (scatterOn (c .on)) (tracesOf stored numbers))
 
--- "Among the candidates that part the leaf the greatest gain wins, the earliest among equals": what stands before the winner has less gain, what
--- stands behind it no more
+-- "Among the candidates that part the leaf the greatest gain wins, the earliest among equals": what stands before the winner has less gain,
+-- what stands behind it no more
 pub record Wins (gainOf : Split → ℤ) (all : List Split) (winner : Split) : Type 0 where
   pub earlier : List Split
   pub later : List Split
@@ -127,39 +131,44 @@ Winning = (gainOf : Split → ℤ) (all : List Split) (winner : Split) → bestO
 unfoldable pub numbersAmong : Tree → List ℕ → List ℕ
 numbersAmong tree set = flatten (map (λ number. numbersIn (nodeAt tree number .kind)) set)
 
--- "Samples in leaves off the trail don't bear on a search: well-formed tables that differ only there give the same answer and the same trail".
--- It holds of any tree, whoever made it
+-- "Samples in leaves off the trail don't bear on a search: well-formed tables that differ only there give the same answer and the same
+-- trail". It holds of any tree, whoever made it
 abbrev pub OffTrail : Type 0
 OffTrail = (traces other : List Trace) (tree : Tree) (query : Trace) → tracesOf other
-    (numbersAmong tree (searched traces tree query .trail)) ≡ tracesOf traces (numbersAmong tree (searched traces tree query .trail)) → searched other tree query ≡ searched traces tree query
+    (numbersAmong tree (searched traces tree query .trail)) ≡ tracesOf traces (numbersAmong tree (searched traces tree query .trail))
+    → searched other tree query ≡ searched traces tree query
 
--- a set of leaves that "leaves out only bounds above the least distance in the set". A set is a list: what is claimed of every list's length is
--- claimed of the list without repetition
+-- a set of leaves that "leaves out only bounds above the least distance in the set". A set is a list: what is claimed of every list's
+-- length is claimed of the list without repetition
 pub record LeavesOutOnlyAbove (traces : List Trace) (tree : Tree) (query : Trace) (set : List ℕ) : Type 0 where
   -- "one leaf or more"
   pub one-or-more : T (not (isEmpty set))
   pub of-leaves : T (every (λ number. isIn number (leaves tree)) set)
-  pub out-is-above : (number : ℕ) → T (isIn number (leaves tree)) → T (not (isIn number set)) → leastDistance (tracesOf traces (numbersAmong tree set)) query < bound tree query number
+  pub out-is-above : (number : ℕ) → T (isIn number (leaves tree)) → T (not (isIn number set))
+      → leastDistance (tracesOf traces (numbersAmong tree set)) query < bound tree query number
 
 -- "After the list, if the book has a trace, take any query of n samples", for a book with these traces and their tree
 pub record ClaimsOf (traces : List Trace) (tree : Tree) (query : Trace) : Type 0 where
   -- "No node's bound exceeds the query's distance to a trace below it"
   pub bound-at-most : (number trace : ℕ) → Below tree trace number → bound tree query number ≤ distance query (getD traces trace [])
-  -- "A match .. answers the lowest trace number at distance d, d, the number of leaves in R, and the number of traces in them; the trail begins with R"
+  -- "A match .. answers the lowest trace number at distance d, d, the number of leaves in R, and the number of traces in them; the trail
+  -- begins with R"
   pub steps-give-it : matchBySteps traces tree query ≡ some (matchOf traces tree query)
   -- "The same match on tables that differ from these only in samples of traces outside R .. gives that answer and that trail"
   pub others-do-not-bear : (other : List Trace)
       → tracesOf other (numbersAmong tree (matchOf traces tree query .trail)) ≡ tracesOf traces
       (numbersAmong tree (matchOf traces tree query .trail)) → matchBySteps other tree query ≡ some (matchOf traces tree query)
   -- "R leaves out only bounds above d"
-  pub out-of-R : (number : ℕ) → T (isIn number (leaves tree)) → T (not (isIn number (matchOf traces tree query .trail))) → leastDistance traces query < bound tree query number
+  pub out-of-R : (number : ℕ) → T (isIn number (leaves tree)) → T (not (isIn number (matchOf traces tree query .trail)))
+      → leastDistance traces query < bound tree query number
   -- "Any set of one leaf or more that leaves out only bounds above the least distance in the set contains R"
-  pub contains-R : (set : List ℕ) → LeavesOutOnlyAbove traces tree query set → T (every (λ number. isIn number set) (matchOf traces tree query .trail))
+  pub contains-R : (set : List ℕ) → LeavesOutOnlyAbove traces tree query set
+      → T (every (λ number. isIn number set) (matchOf traces tree query .trail))
   -- ".. so it has at least as many leaves as the answer counts"
   pub fewest : (set : List ℕ) → LeavesOutOnlyAbove traces tree query set → matchOf traces tree query .leaves ≤ length set
 
--- a tree that is well formed, over traces of n samples, whose records have exactly the figures of the traces below: the tree that insertion makes is
--- one, and so is any other, whoever made it
+-- a tree that is well formed, over traces of n samples, whose records have exactly the figures of the traces below: the tree that insertion
+-- makes is one, and so is any other, whoever made it
 pub record ExactTree (limit : ℕ) (m : Measures) (stored : List Trace) (tree : Tree) : Type 0 where
   pub well-formed : T (wellFormedTree limit m (length stored) tree)
   pub of-n : (t : ℕ) → t < length stored → length (getD stored t []) ≡ m .n

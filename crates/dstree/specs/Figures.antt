@@ -1,5 +1,5 @@
--- Document 01, "Sum, scatter, root", of a trace on a run of its samples. The figures themselves stand in `segment`: `Figures` has sum, scatter and
--- distance, `Roots` the two roots.
+-- Document 01, "Sum, scatter, root", of a trace on a run of its samples. The figures themselves stand in `segment`: `Figures` has sum,
+-- scatter and distance, `Roots` the two roots.
 use Prim.Native.Nat.{ℕ, suc, _-_}
 use mathlib.Core.List.{List}
 use lib.ListN.{take, drop}

@@ -1,6 +1,6 @@
--- Document 01's rules for "Well-formed tables", as far as they speak of the tree, as facts: each says of every node, child, trace or segment what the
--- test `wellFormedTree` computes over lists. The test passes exactly if the facts hold (`proofs/Formed`). `Shape` is what bears on where nodes and traces
--- stand; with measures and limits it is `Formed`.
+-- Document 01's rules for "Well-formed tables", as far as they speak of the tree, as facts: each says of every node, child, trace or
+-- segment what the test `wellFormedTree` computes over lists. The test passes exactly if the facts hold (`proofs/Formed`). `Shape` is what
+-- bears on where nodes and traces stand; with measures and limits it is `Formed`.
 use Prim.Native.Nat.{ℕ, suc, _*_, _≤_, _<_}
 use mathlib.Core.Path.{_≡_}
 use mathlib.Core.List.{List, [], _∷_}

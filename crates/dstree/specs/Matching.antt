@@ -43,7 +43,8 @@ parentFrom number (a ∷ rest) child =
 unfoldable pub boundFrom : ℕ → Tree → Trace → ℕ → ℕ
 boundFrom zero tree query number = 0
 boundFrom (suc fuel) tree query number =
-    max (ownBound query (nodeAt tree number)) (elim (parentFrom 0 tree number) [ none ↦ 0 | some parent ↦ boundFrom fuel tree query parent ])
+    max (ownBound query (nodeAt tree number)) (elim
+    (parentFrom 0 tree number) [ none ↦ 0 | some parent ↦ boundFrom fuel tree query parent ])
 
 abbrev pub bound : Tree → Trace → ℕ → ℕ
 bound tree query = boundFrom (length tree) tree query
@@ -145,7 +146,8 @@ pub record Match : Type 0 where
 -- what a search answers; none where nothing is stored, which is refused
 unfoldable pub matchFrom : Search → Option Near → Option Match
 matchFrom s none = none
-matchFrom s (some best) = some (record { trace = best .trace; distance = best .distance; leaves = length (s .trail); traces = s .traces; trail = s .trail })
+matchFrom s (some best) =
+    some (record { trace = best .trace; distance = best .distance; leaves = length (s .trail); traces = s .traces; trail = s .trail })
 
 -- the match by its steps: it holds for any well-formed tables
 unfoldable pub matchBySteps : List Trace → Tree → Trace → Option Match

@@ -39,7 +39,8 @@ judgedLine (refused r) = refusalLine r
 judgedLine (holds m traces) =
     let last = length traces - 1 in
     let line = lineOf m (take last traces) (getD traces last []) in
-    if ltb programMost (m .n) || ltb programMost (m .capacity) then refusalLine shortTable else if leb (length traces) 1 then refusalLine empty else line
+    if ltb programMost (m .n) || ltb programMost (m .capacity) then refusalLine shortTable else if leb (length traces) 1
+    then refusalLine empty else line
 
 -- "reads one sheet of at most 65,536 bytes ..; a longer input is refusal 8"
 unfoldable pub programLine : List ℕ → Line

@@ -1,4 +1,5 @@
--- Document 01, "Well-formed tables", as far as it speaks of the tree. (That "every kind field [is] a value that its layout names" is said where the layout is.)
+-- Document 01, "Well-formed tables", as far as it speaks of the tree. (That "every kind field [is] a value that its layout names" is said
+-- where the layout is.)
 use Prim.Native.Nat.{ℕ, suc, _*_, _-_}
 use mathlib.Core.Bool.{Bool, true, not, _&&_, Bool·beq}
 use mathlib.Core.List.{List, [], _∷_, map, flatten}
@@ -36,7 +37,8 @@ childrenAbove tree number a = every (λ child. ltb number child && ltb child (le
 
 -- "every node but 0 a child once"
 unfoldable pub childOnce : Tree → Bool
-childOnce tree = every (λ number. eqb (timesIn number (flatten (map (λ (a : Node). childrenOf (a .kind)) tree))) 1) (counting (length tree - 1) 1)
+childOnce tree =
+    every (λ number. eqb (timesIn number (flatten (map (λ (a : Node). childrenOf (a .kind)) tree))) 1) (counting (length tree - 1) 1)
 
 -- ---- ends
 
@@ -71,14 +73,15 @@ withinℤ x z = leZ (negℤ (pos x)) z && leZ z (pos x)
 unfoldable pub segmentFits : ℕ → ℕ → Segment → Bool
 segmentFits limit w s =
     leZ (s .leastSum) (s .greatestSum) && leb (s .leastScatter) (s .greatestScatter)
-    && withinℤ (sumLimit limit w) (s .leastSum) && withinℤ (sumLimit limit w) (s .greatestSum) && leb (s .greatestScatter) (scatterLimit limit w)
+    && withinℤ (sumLimit limit w) (s .leastSum) && withinℤ (sumLimit limit w) (s .greatestSum)
+    && leb (s .greatestScatter) (scatterLimit limit w)
 
 unfoldable pub segmentsFit : ℕ → ℕ → List Segment → Bool
 segmentsFit limit first [] = true
 segmentsFit limit first (s ∷ rest) = segmentFits limit (width (run first (s .end))) s && segmentsFit limit (suc (s .end)) rest
 
--- "T between twice those limits"; by scatter, document 02 §4, "T's limit among the well-formed rules becomes 2 × w × 32,768", in place of twice
--- that of scatters
+-- "T between twice those limits"; by scatter, document 02 §4, "T's limit among the well-formed rules becomes 2 × w × 32,768", in place of
+-- twice that of scatters
 unfoldable pub thresholdFits : ℕ → Figure → ℕ → ℤ → Bool
 thresholdFits limit bySum w t = withinℤ (2 * sumLimit limit w) t
 thresholdFits limit byScatter w t = leZ (pos 0) t && leZ t (pos (2 * rootLimit limit w))
@@ -87,7 +90,8 @@ thresholdFits limit byScatter w t = leZ (pos 0) t && leZ t (pos (2 * rootLimit l
 unfoldable pub testFits : ℕ → ℕ → Kind → Bool
 testFits limit n (leaf numbers) = true
 testFits limit n (inner test left right) =
-    leb 1 (test .on .first) && leb (test .on .first) (test .on .last) && leb (test .on .last) n && thresholdFits limit (test .figure) (width (test .on)) (test .threshold)
+    leb 1 (test .on .first) && leb (test .on .first) (test .on .last) && leb (test .on .last) n
+    && thresholdFits limit (test .figure) (width (test .on)) (test .threshold)
 
 -- ---- all of it, in the document's order
 

@@ -20,8 +20,8 @@ ghost use Rattle.dstree.specs.Measures.{mostSamples};
 
 // ---- openings: "n 256, capacity 4,096, leaf size 64 open; 257, 4,097, 65 and 0 do not"
 
-// An opening in tables that are just long enough for the largest library, with junk in every place. What it answers is `opening::open`'s contract; with
-// tables of a million places in a contract of its own the prover would compute.
+// An opening in tables that are just long enough for the largest library, with junk in every place. What it answers is `opening::open`'s
+// contract; with tables of a million places in a contract of its own the prover would compute.
 fn in_largest_tables(n: u64, capacity: u64, leaf_size: u64) -> Opened {
     let mut control = [7u16; 5];
     let mut samples = [7i16; 1048576];
@@ -219,8 +219,8 @@ fn read_one(
     match_all(control, samples, nodes, links, work, 1, &[-1i16]);
 }
 
-// Sheets of two blocks, the last of them even if it is shorter, read into the same tables: "a refused call changes nothing", so that the trace is found
-// after each.
+// Sheets of two blocks, the last of them even if it is shorter, read into the same tables: "a refused call changes nothing", so that the
+// trace is found after each.
 fn read_all(
     control: &mut [u16],
     samples: &mut [i16],
@@ -254,7 +254,8 @@ fn read_back(sheets: &[u8]) {
     );
 }
 
-// A sheet of two blocks as it is, with a sample changed, and its block 0 alone. The byte changed is the low one of the sample: 255 in two's complement.
+// A sheet of two blocks as it is, with a sample changed, and its block 0 alone. The byte changed is the low one of the sample: 255 in two's
+// complement.
 fn damage(sheet: &[u8], sheets: &mut [u8])
     requires { ⌜ (length (now sheet) ≡ 1024) × (length (now sheets) ≡ 2560) ⌝ }
 {

@@ -1,5 +1,5 @@
--- `push`: a hole goes up from the end. With some key w in it, not below the new key, the places are a heap; in the end the new key, which is
--- lower, fills the hole.
+-- `push`: a hole goes up from the end. With some key w in it, not below the new key, the places are a heap; in the end the new key, which
+-- is lower, fills the hole.
 use mathlib.Core.Path.{_≡_, refl, sym, ap, subst, _∙_}
 use mathlib.Core.Logic.{⊎-elim}
 use mathlib.Core.List.{List}

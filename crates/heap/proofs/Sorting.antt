@@ -1,5 +1,5 @@
--- Laws of keys in order. `pour` forgets the order in which keys come (`insert-comm`), and a key that was put in can be taken out of both sides of an
--- equation (`insert-cancel`), for every list, in order or not: so lists of keys are reckoned with as if they were bags.
+-- Laws of keys in order. `pour` forgets the order in which keys come (`insert-comm`), and a key that was put in can be taken out of both
+-- sides of an equation (`insert-cancel`), for every list, in order or not: so lists of keys are reckoned with as if they were bags.
 use mathlib.Core.Path.{_≡_, refl, sym, ap, _∙_}
 use mathlib.Core.Bool.{Bool, true, false}
 use mathlib.Core.Logic.{_⊎_, inl, inr, ⊎-elim}
@@ -189,7 +189,8 @@ set-pour (x ∷ xs) (suc i) a r h =
     ∙ ap (insertKey x) (set-pour xs i a r (le-of-suc-le-suc h))
     ∙ insert-comm x a (pour xs r)
 
--- A hole at a place of l: with `key` for what stands there, the keys would be c. Another key k put there moves the hole to where k came from,
+-- A hole at a place of l: with `key` for what stands there, the keys would be c. Another key k put there moves the hole to where k came
+-- from,
 pub hole-move : (l : List ℕ) (i key k : ℕ) (c : List ℕ) → i < length l
     → insertKey key (sortedOf l) ≡ insertKey (getD l i 0) c → insertKey key (sortedOf (set l i k)) ≡ insertKey k c
 hole-move l i key k c h e =

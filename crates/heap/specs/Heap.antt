@@ -1,5 +1,5 @@
--- A binary heap in the first n places of a slice: no key is below the one above it. What a caller reads of it is `sortedOf (take n s)`, its keys,
--- the least first. Each record says what one call leaves: a heap again, its keys, and every place behind them.
+-- A binary heap in the first n places of a slice: no key is below the one above it. What a caller reads of it is `sortedOf (take n s)`, its
+-- keys, the least first. Each record says what one call leaves: a heap again, its keys, and every place behind them.
 use mathlib.Core.Path.{_≡_}
 use mathlib.Core.List.{List, _∷_}
 use Prim.Native.Nat.{ℕ, _+_, _*_, _-_, _<_, _≤_}

@@ -1,4 +1,5 @@
--- Keys in order. `sortedOf` forgets the order in which keys stand, so it says which keys a list has, and how often: what a heap holds is read by it.
+-- Keys in order. `sortedOf` forgets the order in which keys stand, so it says which keys a list has, and how often: what a heap holds is
+-- read by it.
 use mathlib.Core.List.{List}
 use Prim.Native.Nat.{ℕ}
 use lib.Dec.{leb}

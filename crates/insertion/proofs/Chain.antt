@@ -1,4 +1,5 @@
--- The last of a leaf's list of traces: as a walk along the links meets them, the last of what is left is the last of all, and it is a stored trace.
+-- The last of a leaf's list of traces: as a walk along the links meets them, the last of what is left is the last of all, and it is a
+-- stored trace.
 use mathlib.Core.Path.{_≡_, sym, ap, subst, _∙_}
 use mathlib.Core.List.{List, _∷_}
 use Prim.Native.Nat.{ℕ, _≤_, _<_}

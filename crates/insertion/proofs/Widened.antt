@@ -1,5 +1,5 @@
--- How a record is widened place by place: four stores make a segment the widened one (`stored`), and after i segments the record is partly widened
--- (`partly`). Behind those it is as it was, so that the next segment is still the one of the record at first.
+-- How a record is widened place by place: four stores make a segment the widened one (`stored`), and after i segments the record is partly
+-- widened (`partly`). Behind those it is as it was, so that the next segment is still the one of the record at first.
 use mathlib.Core.Path.{_≡_, refl, sym, ap, subst, _∙_}
 use mathlib.Core.List.{List, [], _∷_, _++_, map, flatten, append-assoc, append-nil}
 use Prim.Native.Nat.{ℕ, zero, suc, _+_, _*_, _^_, _≤_, _<_, min, max}

@@ -70,7 +70,8 @@ pub fn become_inner(
 )
     requires { ⌜ (j * recordPlaces + recordPlaces ≤ length (now nodes)) × (j ≤ mostNodes)
         × (left ≤ smallMost) × (right ≤ smallMost) × (first ≤ smallMost) × (last ≤ smallMost) ⌝ }
-    ensures { λ _. ⌜ now (nodes .exit) ≡ onRecord (innerRecord (testBy first last «by_scatter» threshold) left right) (now (nodes .entry)) j ⌝ }
+    ensures { λ _. ⌜ now (nodes .exit)
+        ≡ onRecord (innerRecord (testBy first last «by_scatter» threshold) left right) (now (nodes .entry)) j ⌝ }
 {
     let a = record_start(j);
     let e = record_end(j);
@@ -93,8 +94,10 @@ pub fn write_segment(
     least_scatter: u64,
     greatest_scatter: u64,
 )
-    requires { ⌜ (length (now «record») ≡ recordPlaces) × (i < mostSegments) × (end ≤ smallMost) × («least_scatter» ≤ scatterRoom) × («greatest_scatter» ≤ scatterRoom) ⌝ }
-    ensures { λ _. ⌜ now («record» .exit) ≡ withSegment (now («record» .entry)) i (segmentOfParts end «least_sum» «greatest_sum» «least_scatter» «greatest_scatter») ⌝ }
+    requires { ⌜ (length (now «record») ≡ recordPlaces) × (i < mostSegments) × (end ≤ smallMost) × («least_scatter» ≤ scatterRoom)
+        × («greatest_scatter» ≤ scatterRoom) ⌝ }
+    ensures { λ _. ⌜ now («record» .exit)
+        ≡ withSegment (now («record» .entry)) i (segmentOfParts end «least_sum» «greatest_sum» «least_scatter» «greatest_scatter») ⌝ }
 {
     let at = HEAD + i * SEGMENT;
     record[at] = end as i64;
@@ -119,7 +122,8 @@ fn first_record(record: &mut [i64], trace: &[i16])
 // The first trace makes leaf 0 with one segment, and its list is trace 0 alone.
 pub fn first_leaf(nodes: &mut [i64], links: &mut [u16], trace: &[i16])
     requires { ⌜ (recordPlaces ≤ length (now nodes)) × (1 ≤ length (now links)) × (length (now trace) ≤ mostSamples) ⌝ }
-    ensures { λ _. ⌜ now (nodes .exit) ≡ withRecord (now (nodes .entry)) 0 (leafRecord (segmentsOf (length (now (trace .entry)) ∷ []) (now (trace .entry) ∷ [])) 0) ⌝ }
+    ensures { λ _. ⌜ now (nodes .exit)
+        ≡ withRecord (now (nodes .entry)) 0 (leafRecord (segmentsOf (length (now (trace .entry)) ∷ []) (now (trace .entry) ∷ [])) 0) ⌝ }
     ensures linked { λ _. ⌜ now (links .exit) ≡ set (now (links .entry)) 0 0 ⌝ }
 {
     let a = record_start(0);

@@ -1,4 +1,5 @@
-// A node's record widened by a trace: the least and the greatest of each segment's figures. The head is never written, so that no threshold moves.
+// A node's record widened by a trace: the least and the greatest of each segment's figures. The head is never written, so that no threshold
+// moves.
 
 use tables::numbers::greater;
 use tables::numbers::lesser;
@@ -42,7 +43,8 @@ pub fn widen_segment(
     requires readable { ⌜ (length (now «record») ≡ recordPlaces) × (i < mostSegments)
         × SegmentReadable (now «record») i first (length (now trace)) ⌝ }
     ensures { λ _. ⌜ now («record» .exit)
-        ≡ withSegment (now («record» .entry)) i (widenSegment (now (trace .entry)) (run first (endIn (now («record» .entry)) i)) (segmentIn (now («record» .entry)) i)) ⌝ }
+        ≡ withSegment (now («record» .entry)) i
+        (widenSegment (now (trace .entry)) (run first (endIn (now («record» .entry)) i)) (segmentIn (now («record» .entry)) i)) ⌝ }
 {
     let at = HEAD + i * SEGMENT;
     let end = small_at(record, at);

@@ -1,5 +1,5 @@
--- What tables hold is read from the needed places alone: tables that agree on these hold the same. So a memory holds what its first places do, and these
--- what the memory does where they are long enough.
+-- What tables hold is read from the needed places alone: tables that agree on these hold the same. So a memory holds what its first places
+-- do, and these what the memory does where they are long enough.
 use Prim.Native.Nat.{ℕ, suc, _+_, _*_, _-_, _≤_, _<_}
 use mathlib.Core.Path.{_≡_, refl, sym, _∙_, ap, subst}
 use mathlib.Core.List.{List, [], _++_, map}

@@ -1,6 +1,6 @@
--- Each step of adding on nodes and links, with more places behind both: it does to the first places what it does to these alone, and leaves the others.
--- The idea: every record and every link that a step touches lies inside, since what the first places stand for is a tree over at most c traces; and
--- with more places behind them they stand for the same tree, so that the same leaf splits in the same way.
+-- Each step of adding on nodes and links, with more places behind both: it does to the first places what it does to these alone, and leaves
+-- the others. The idea: every record and every link that a step touches lies inside, since what the first places stand for is a tree over
+-- at most c traces; and with more places behind them they stand for the same tree, so that the same leaf splits in the same way.
 use Prim.Native.Nat.{ℕ, zero, suc, _+_, _*_, _-_, _≤_, _<_}
 use mathlib.Core.Path.{_≡_, refl, sym, _∙_, ap, ap₂, subst}
 use mathlib.Core.Bool.{Bool, true, false}

@@ -1,5 +1,5 @@
--- Tables that adding makes of empty ones hold exactly the tree of their traces, and are well formed: each adding stands for an insertion, and the
--- tree that insertions make is well formed by its laws.
+-- Tables that adding makes of empty ones hold exactly the tree of their traces, and are well formed: each adding stands for an insertion,
+-- and the tree that insertions make is well formed by its laws.
 use Prim.Native.Nat.{ℕ, suc, _+_, _*_, _-_, _<_, _≤_}
 use mathlib.Core.Path.{_≡_, refl, sym, _∙_, ap, subst}
 use mathlib.Core.Bool.{true}

@@ -1,5 +1,5 @@
--- What adding does to the tables means document 01's adding: after it they store one trace more, stand for the tree that the steps make, and all
--- that adding does not speak of is as it was.
+-- What adding does to the tables means document 01's adding: after it they store one trace more, stand for the tree that the steps make,
+-- and all that adding does not speak of is as it was.
 -- The idea: each step on nodes and links stands for the step on the tree, so that what they are read as in the end is the tree in the end.
 use Prim.Native.Nat.{ℕ, suc, _+_, _*_, _<_}
 use mathlib.Core.Path.{_≡_, refl, sym, _∙_, ap, subst}

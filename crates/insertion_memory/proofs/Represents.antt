@@ -1,4 +1,5 @@
--- Nodes and links that stand for a tree are read as it: reading a leaf's list with any count above its numbers gives the list that the links follow.
+-- Nodes and links that stand for a tree are read as it: reading a leaf's list with any count above its numbers gives the list that the
+-- links follow.
 use Prim.Native.Nat.{ℕ, zero, suc, _≤_, _<_}
 use mathlib.Core.Path.{_≡_, refl, sym, _∙_, ap, subst}
 use mathlib.Core.Logic.{_⊎_}

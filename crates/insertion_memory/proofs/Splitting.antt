@@ -1,6 +1,6 @@
 -- Splitting on nodes and links stands for splitting on the tree: one leaf, then the pass over the new ones.
--- The idea: the two sides' lists are laid anew over numbers of the split leaf only, so that every other leaf's list stays; and there is room, since a
--- tree over k traces has less than 2k nodes after the split as before it.
+-- The idea: the two sides' lists are laid anew over numbers of the split leaf only, so that every other leaf's list stays; and there is
+-- room, since a tree over k traces has less than 2k nodes after the split as before it.
 use Prim.Native.Nat.{ℕ, zero, suc, _*_, _-_, _≤_, _<_}
 use mathlib.Core.Path.{_≡_, refl, sym, _∙_, ap, subst}
 use mathlib.Core.Bool.{Bool, true, false}

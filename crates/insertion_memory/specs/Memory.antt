@@ -40,7 +40,8 @@ splitTo traces h at none = h
 splitTo traces h at (some s) =
     let parent = onRecord (innerRecord (s .test) (h .count) (suc (h .count))) (h .nodes) at in
     let left = withRecord parent (h .count) (leafRecord (segmentsOf (s .childEnds) (tracesOf traces (s .left))) (getD (s .left) 0 0)) in
-    let right = withRecord left (suc (h .count)) (leafRecord (segmentsOf (s .childEnds) (tracesOf traces (s .right))) (getD (s .right) 0 0)) in
+    let right = withRecord left (suc (h .count)) (leafRecord (segmentsOf (s .childEnds) (tracesOf traces (s .right)))
+    (getD (s .right) 0 0)) in
     treeTables right (linked (s .right) (linked (s .left) (h .links))) (suc (suc (h .count)))
 
 -- a leaf that "holds more than the leaf size .. splits"

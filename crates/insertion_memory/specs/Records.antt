@@ -36,5 +36,6 @@ innerKind byScatter = pos 2
 -- "The leaf .. becomes inner": its segments stay
 unfoldable pub innerRecord : Test → ℕ → ℕ → List ℤ → List ℤ
 innerRecord test left right r =
-    (innerKind (test .figure) ∷ valueAt r segmentsPlace ∷ pos left ∷ pos right ∷ pos (test .on .first) ∷ pos (test .on .last) ∷ test .threshold ∷ [])
+    (innerKind (test .figure) ∷ valueAt r segmentsPlace ∷ pos left ∷ pos right ∷ pos (test .on .first) ∷ pos (test .on .last)
+    ∷ test .threshold ∷ [])
     ++ drop headPlaces r

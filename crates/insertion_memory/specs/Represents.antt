@@ -1,5 +1,5 @@
--- What it means that nodes and links stand for a tree: each record reads as its node, a leaf's list by the links, and the tree has its shape.
--- Of a leaf's record it is said which list the links follow from its first number on, without fuel.
+-- What it means that nodes and links stand for a tree: each record reads as its node, a leaf's list by the links, and the tree has its
+-- shape. Of a leaf's record it is said which list the links follow from its first number on, without fuel.
 use Prim.Native.Nat.{ℕ, _*_, _-_, _≤_, _<_}
 use mathlib.Core.Path.{_≡_}
 use mathlib.Core.List.{List, _∷_}

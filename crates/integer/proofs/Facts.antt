@@ -1,4 +1,5 @@
--- Orders and equations of ℤ and ℕ from others. Each is made a polynomial as `ring` does it; the monomials are `omega`'s unknowns, and it finds the multiples.
+-- Orders and equations of ℤ and ℕ from others. Each is made a polynomial as `ring` does it; the monomials are `omega`'s unknowns, and it
+-- finds the multiples.
 --
 --     linear ρ (search reading depth 30) (omega arith)                        a goal with its hypotheses not yet bound: x ≤ℤ y → y <ℤ z → x <ℤ z
 --     from ρ (h & k) (search reading depth 30) (omega arith)                  a goal from facts in hand

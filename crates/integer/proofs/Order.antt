@@ -1,6 +1,7 @@
 -- The integers of the machine's signed types (ℤ of `lib.IntN`) as an ordered commutative ring: the laws that the kit lacks.
 -- Prove an equation by `ring` and an order by `from` or `linear` (the modules Ring and Facts) before you look for a law here.
--- The way to ℕ: z is `up z` less `down z`, and one of the two is 0. `≤ℤ→`, `→≤ℤ`, `→≡ℤ` carry an order or an equation over, and `omega` does the rest.
+-- The way to ℕ: z is `up z` less `down z`, and one of the two is 0. `≤ℤ→`, `→≤ℤ`, `→≡ℤ` carry an order or an equation over, and `omega`
+-- does the rest.
 use mathlib.Core.Path.{_≡_, refl, sym, _∙_, ap, ap₂, subst}
 use mathlib.Core.Bool.{Bool, true, false, not, cond}
 use mathlib.Core.Logic.{_⊎_, inl, inr}
@@ -13,7 +14,8 @@ use lib.IntN.{ℤ, pos, negsuc, sucℤ, predℤ, negℤ, _+ℤ_, _-ℤ_, _*ℤ_,
 use lib.Signed as Signed
 use lib.Signed.{leZ, ltZ, mag}
 
--- the kit's two orders under a fixity that lets a sum stand on either side: the kit has `infix 50`, by which `a +ℤ b ≤ℤ c` is `a +ℤ (b ≤ℤ c)`
+-- the kit's two orders under a fixity that lets a sum stand on either side: the kit has `infix 50`, by which `a +ℤ b ≤ℤ c` is `a +ℤ (b ≤ℤ
+-- c)`
 infix 5 _≤ℤ_ _<ℤ_
 abbrev pub _≤ℤ_ : ℤ → ℤ → Type 0
 a ≤ℤ b = Signed._≤ℤ_ a b

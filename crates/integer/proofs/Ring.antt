@@ -5,7 +5,8 @@
 --
 -- The list holds the unknowns: any terms of ℤ, and `pos n` for a natural number n. `search reading` reads the two sides over that list:
 -- it writes a term of `IntReading`, whose index is the integer that it reads. `norm` makes a polynomial of it, and `tt` proves that the two
--- polynomials are the same, by computation. Read are `+ℤ`, `-ℤ`, `*ℤ`, `negℤ`, numerals `pos 2` and `negsuc 2`, and under `pos` also `+`, `*` and `suc`.
+-- polynomials are the same, by computation. Read are `+ℤ`, `-ℤ`, `*ℤ`, `negℤ`, numerals `pos 2` and `negsuc 2`, and under `pos` also `+`,
+-- `*` and `suc`.
 use mathlib.Core.Path.{_≡_, refl, sym, _∙_, ap, ap₂, subst}
 use mathlib.Core.Bool.{Bool, true, false}
 use mathlib.Core.List.{List, [], _∷_}

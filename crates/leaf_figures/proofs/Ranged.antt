@@ -1,5 +1,5 @@
--- The least and greatest figure that a test compares, from the least and greatest sum and scatter of some traces: the sums, and the floor roots of the
--- scatters.
+-- The least and greatest figure that a test compares, from the least and greatest sum and scatter of some traces: the sums, and the floor
+-- roots of the scatters.
 use mathlib.Core.Path.{_≡_, sym, ap, _∙_}
 use mathlib.Core.List.{List, map}
 use lib.IntN.{pos}

@@ -1,5 +1,5 @@
--- Numbers of traces in an array's first places, and their figures on some runs, kept so that samples are read once. What is kept is a table that may
--- lack any run: a run's figures are those of the samples, wherever they are read from.
+-- Numbers of traces in an array's first places, and their figures on some runs, kept so that samples are read once. What is kept is a table
+-- that may lack any run: a run's figures are those of the samples, wherever they are read from.
 use Prim.Native.Nat.{ℕ, _+_, _*_, _≤_, _<_}
 use mathlib.Core.Path.{_≡_}
 use mathlib.Core.List.{List, map}
@@ -66,10 +66,12 @@ pub record PlacesInList (list : List ℕ) (count : ℕ) (place : List ℕ) : Typ
 
 -- the first m figures of column f
 abbrev pub Column : List ℤ → ℕ → List ℕ → ℕ → ℕ → ℕ → List ℤ → List ℕ → ℕ → Type 0
-Column samples n list f first last sums scatters m = (p : ℕ) → p < m → FiguresAt (traceIn samples n (getD list p 0)) first last sums scatters (f * columnRows + p)
+Column samples n list f first last sums scatters m =
+    (p : ℕ) → p < m → FiguresAt (traceIn samples n (getD list p 0)) first last sums scatters (f * columnRows + p)
 
 pub record Columns (samples : List ℤ) (n : ℕ) (list : List ℕ) (count : ℕ) (runs : List ℕ) (sums : List ℤ) (scatters : List ℕ) : Type 0 where
   pub runs-places : length runs ≡ runPlaces
   pub sums-places : length sums ≡ figurePlaces
   pub scatters-places : length scatters ≡ figurePlaces
-  pub column : (f : ℕ) → f < mostRuns → 0 < getD runs (mostRuns + f) 0 → Column samples n list f (getD runs f 0) (getD runs (mostRuns + f) 0) sums scatters count
+  pub column : (f : ℕ) → f < mostRuns → 0 < getD runs (mostRuns + f) 0
+      → Column samples n list f (getD runs f 0) (getD runs (mostRuns + f) 0) sums scatters count

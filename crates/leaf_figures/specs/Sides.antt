@@ -1,4 +1,5 @@
--- The figures of a side's traces on a run, as they are taken one trace after another. Each trace of a leaf has a mark, and a side is the traces with one mark.
+-- The figures of a side's traces on a run, as they are taken one trace after another. Each trace of a leaf has a mark, and a side is the
+-- traces with one mark.
 use Prim.Native.Nat.{ℕ, _≤_, min, max}
 use mathlib.Core.Bool.{true, false}
 use mathlib.Core.List.{List}
@@ -50,4 +51,10 @@ pub record SmallFigures (f : SideRange) : Type 0 where
 
 -- the figures as a segment of a node's record
 abbrev pub segmentBy : ℕ → SideRange → Segment
-segmentBy end f = record { end = end; leastSum = f .«least_sum»; greatestSum = f .«greatest_sum»; leastScatter = f .«least_scatter»; greatestScatter = f .«greatest_scatter» }
+segmentBy end f = record {
+  end = end;
+  leastSum = f .«least_sum»;
+  greatestSum = f .«greatest_sum»;
+  leastScatter = f .«least_scatter»;
+  greatestScatter = f .«greatest_scatter»;
+}

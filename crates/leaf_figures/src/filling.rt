@@ -64,7 +64,8 @@ fn fill_run(
 )
     requires { ⌜ TracesListed (now samples) n (now list) count × Inside n first last × (count ≤ columnRows) × (f < mostRuns)
         × Columns (now samples) n (now list) count (now runs) (now sums) (now scatters) ⌝ }
-    ensures { λ _. ⌜ Columns (now (samples .entry)) n (now (list .entry)) count (now (runs .exit)) (now (sums .exit)) (now (scatters .exit)) ⌝ }
+    ensures { λ _. ⌜ Columns (now (samples .entry)) n (now (list .entry)) count (now (runs .exit)) (now (sums .exit))
+        (now (scatters .exit)) ⌝ }
 {
     fill_column(samples, n, list, count, f, first, last, sums, scatters);
     runs[f] = first;
@@ -87,7 +88,8 @@ fn fill_segment(
 )
     requires { ⌜ TracesListed (now samples) n (now list) count × Inside n first last × (count ≤ columnRows) × (j < mostSegments)
         × Columns (now samples) n (now list) count (now runs) (now sums) (now scatters) ⌝ }
-    ensures { λ _. ⌜ Columns (now (samples .entry)) n (now (list .entry)) count (now (runs .exit)) (now (sums .exit)) (now (scatters .exit)) ⌝ }
+    ensures { λ _. ⌜ Columns (now (samples .entry)) n (now (list .entry)) count (now (runs .exit)) (now (sums .exit))
+        (now (scatters .exit)) ⌝ }
 {
     fill_run(
         samples,
@@ -150,7 +152,8 @@ pub fn fill_rows(
 )
     requires { ⌜ TracesListed (now samples) n (now list) count × EndsRoom e × Rises n 1 (endsOf e)
         × Columns (now samples) n (now list) count (now runs) (now sums) (now scatters) ⌝ }
-    ensures { λ _. ⌜ Columns (now (samples .entry)) n (now (list .entry)) count (now (runs .exit)) (now (sums .exit)) (now (scatters .exit)) ⌝ }
+    ensures { λ _. ⌜ Columns (now (samples .entry)) n (now (list .entry)) count (now (runs .exit)) (now (sums .exit))
+        (now (scatters .exit)) ⌝ }
 {
     if 65 < count {
         return;

@@ -28,7 +28,8 @@ pub fn list_leaf(links: &[u16], k: usize, head: usize, list: &mut [u16; 4096]) -
 
 // Where each number stands in the list.
 pub fn place_list(list: &[u16; 4096], count: usize, place: &mut [u16; 4096])
-    requires { ⌜ (length (now list) ≡ mostTraces) × (count ≤ mostTraces) × (length (now place) ≡ mostTraces) × ((t : ℕ) → In t (take count (now list)) → t < mostTraces) ⌝ }
+    requires { ⌜ (length (now list) ≡ mostTraces) × (count ≤ mostTraces) × (length (now place) ≡ mostTraces)
+        × ((t : ℕ) → In t (take count (now list)) → t < mostTraces) ⌝ }
     ensures { λ _. ⌜ PlacesInList (now (list .entry)) count (now (place .exit)) ⌝ }
 {
     let mut i: usize = 0;

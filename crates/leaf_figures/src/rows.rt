@@ -46,10 +46,12 @@ pub fn figures_at(
     last: usize,
 ) -> Figures
     requires { ⌜ RunOfTrace (now samples) n t first last × (column < mostRuns → t < length (now place))
-        × (column < mostRuns → FiguresAt (traceIn (now samples) n t) first last (now sums) (now scatters) (column * columnRows + getD (now place) t 0)) ⌝ }
+        × (column < mostRuns → FiguresAt (traceIn (now samples) n t) first last (now sums) (now scatters)
+        (column * columnRows + getD (now place) t 0)) ⌝ }
     ensures sum { λ r. ⌜ (r .sum ≡ sumOn (run first last) (traceIn (now (samples .entry)) n t))
         × (natAbs (r .sum) ≤ sumMost mostSamples) ⌝ }
-    ensures scatter { λ r. ⌜ (r .scatter ≡ scatterOn (run first last) (traceIn (now (samples .entry)) n t)) × (r .scatter ≤ scatterMost mostSamples) ⌝ }
+    ensures scatter { λ r. ⌜ (r .scatter ≡ scatterOn (run first last) (traceIn (now (samples .entry)) n t))
+        × (r .scatter ≤ scatterMost mostSamples) ⌝ }
 {
     if column < 48 {
         let at = column * 65 + wide(place[t]);

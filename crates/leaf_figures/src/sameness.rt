@@ -37,7 +37,8 @@ fn same_trace(x: &[i16], y: &[i16]) -> bool
 // Yes says that all of the list's traces are its first one. Of fewer than two it says no, which promises nothing.
 pub fn all_same(samples: &[i16], n: usize, list: &[u16; 4096], count: usize) -> bool
     requires { ⌜ TracesListed (now samples) n (now list) count ⌝ }
-    ensures { λ r. ⌜ (r ≡ true → (t : ℕ) → In t (take count (now (list .entry))) → traceIn (now (samples .entry)) n t ≡ traceIn (now (samples .entry)) n (getD (now (list .entry)) 0 0)) ⌝ }
+    ensures { λ r. ⌜ (r ≡ true → (t : ℕ) → In t (take count (now (list .entry))) → traceIn (now (samples .entry)) n t
+        ≡ traceIn (now (samples .entry)) n (getD (now (list .entry)) 0 0)) ⌝ }
 {
     if count < 2 {
         return false;

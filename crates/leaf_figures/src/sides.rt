@@ -1,5 +1,5 @@
-// The least and greatest figures of a leaf's traces on a run of samples, or of one side of them. Each trace has a mark, and a side is the traces
-// with one mark.
+// The least and greatest figures of a leaf's traces on a run of samples, or of one side of them. Each trace has a mark, and a side is the
+// traces with one mark.
 
 use segment::terms::larger;
 use tables::numbers::greater;
@@ -61,7 +61,8 @@ fn with_trace(
     f: SideRange,
 ) -> SideRange
     requires { ⌜ RunOfTrace (now samples) n t first last × SmallFigures f ⌝ }
-    ensures { λ r. ⌜ r ≡ (if «on_side» then withFigures f (sumOn (run first last) (traceIn (now (samples .entry)) n t)) (scatterOn (run first last) (traceIn (now (samples .entry)) n t)) else f) ⌝ }
+    ensures { λ r. ⌜ r ≡ (if «on_side» then withFigures f (sumOn (run first last) (traceIn (now (samples .entry)) n t))
+        (scatterOn (run first last) (traceIn (now (samples .entry)) n t)) else f) ⌝ }
     ensures small { λ r. ⌜ SmallFigures r ⌝ }
 {
     if on_side {
@@ -73,7 +74,8 @@ fn with_trace(
     }
 }
 
-// The figures of the leaf's traces with a mark. The leaf is the list that starts at `head`; a walk that leaves its last trace out does not meet this.
+// The figures of the leaf's traces with a mark. The leaf is the list that starts at `head`; a walk that leaves its last trace out does not
+// meet this.
 pub fn side_figures(
     samples: &[i16],
     links: &[u16],
@@ -86,7 +88,8 @@ pub fn side_figures(
     last: usize,
 ) -> SideRange
     requires { ⌜ Stored (now samples) (now links) n k head × Inside n first last × (length (now marks) ≡ mostTraces) ⌝ }
-    ensures { λ r. ⌜ segmentBy last r ≡ segmentOf (sideTraces (now (samples .entry)) (now (links .entry)) n k head (now (marks .entry)) mark) (run first last) ⌝ }
+    ensures { λ r. ⌜ segmentBy last r
+        ≡ segmentOf (sideTraces (now (samples .entry)) (now (links .entry)) n k head (now (marks .entry)) mark) (run first last) ⌝ }
     ensures small { λ r. ⌜ SmallFigures r ⌝ }
 {
     let mut f = SideRange {

@@ -27,7 +27,8 @@ fn segment_spread(
 ) -> u64
     requires { ⌜ TracesListed (now samples) n (now list) count × Inside n first last
         × Rows (now samples) n (take count (now list)) (now place) (now runs) (now sums) (now scatters) ⌝ }
-    ensures { λ r. ⌜ r ≡ spreadOn (run first last) (segmentOf (tracesAt (now (samples .entry)) n (take count (now (list .entry)))) (run first last)) ⌝ }
+    ensures { λ r. ⌜ r ≡ spreadOn (run first last)
+        (segmentOf (tracesAt (now (samples .entry)) n (take count (now (list .entry)))) (run first last)) ⌝ }
     ensures size { λ r. ⌜ r ≤ termMost ⌝ }
 {
     let f = crate::along::figures_along(
@@ -77,7 +78,9 @@ pub fn spread_along(
     halved: usize,
     e: crate::ends::Ends,
 ) -> u64
-    requires { ⌜ TracesListed (now samples) n (now list) count × Rows (now samples) n (take count (now list)) (now place) (now runs) (now sums) (now scatters) × EndsRoom e × Rises n 1 (endsOf e) ⌝ }
+    requires { ⌜ TracesListed (now samples) n (now list) count
+        × Rows (now samples) n (take count (now list)) (now place) (now runs) (now sums) (now scatters) × EndsRoom e
+        × Rises n 1 (endsOf e) ⌝ }
     ensures { λ r. ⌜ r ≡ spread (endsOf e) (tracesAt (now (samples .entry)) n (take count (now (list .entry)))) ⌝ }
     ensures size { λ r. ⌜ r ≤ spreadMost ⌝ }
 {

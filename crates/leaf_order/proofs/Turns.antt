@@ -1,5 +1,5 @@
--- A turn of `next_leaf`, by the least key: its node is past the limit, and then so are all leaves to come; or a leaf, which is the next; or an inner
--- node, in whose stead its children wait, for the same leaves.
+-- A turn of `next_leaf`, by the least key: its node is past the limit, and then so are all leaves to come; or a leaf, which is the next; or
+-- an inner node, in whose stead its children wait, for the same leaves.
 use Prim.Native.Nat.{ℕ, suc, _+_, _-_, _≤_, _<_}
 use mathlib.Core.Path.{_≡_, sym, _∙_, ap, subst}
 use mathlib.Core.Bool.{Bool, true, false}

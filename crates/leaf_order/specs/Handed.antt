@@ -1,5 +1,5 @@
--- What asking for the next leaf leaves. The leaves to come begin with the one that is handed out, and the keys then stand for the others; or none of them is
--- within the limit, and the keys still stand for all of them.
+-- What asking for the next leaf leaves. The leaves to come begin with the one that is handed out, and the keys then stand for the others;
+-- or none of them is within the limit, and the keys still stand for all of them.
 use Prim.Native.Nat.{ℕ, _<_}
 use mathlib.Core.Path.{_≡_}
 use mathlib.Core.Bool.{Bool, true, false, _&&_}

@@ -15,7 +15,8 @@ ghost use Rattle.best_first.specs.NodeKeys.{keyOf, boundsBelow};
 ghost use Rattle.leaf_order.specs.Waits.{shapeIn, Walkable, Waits, Begun, ChildrenPushed};
 ghost use Rattle.leaf_order.specs.Handed.{Handed};
 
-// The next leaf: its bound, its number, and how many keys wait then. Or the end: no leaf comes whose bound is within the limit, and so many keys wait.
+// The next leaf: its bound, its number, and how many keys wait then. Or the end: no leaf comes whose bound is within the limit, and so many
+// keys wait.
 pub enum Next {
     Leaf(u64, usize, usize),
     End(usize),
@@ -65,8 +66,8 @@ fn open_node(
 
 // Hands out the next leaf, if its bound is within the limit. A node whose bound is past the limit is not opened.
 //
-// Two wrong programs that the contract rules out: one that ends at a bound equal to the limit, and one that hands out a leaf before an inner node with a
-// lesser key.
+// Two wrong programs that the contract rules out: one that ends at a bound equal to the limit, and one that hands out a leaf before an
+// inner node with a lesser key.
 pub fn next_leaf(
     nodes: &[i64],
     query: &[i16],
@@ -79,7 +80,8 @@ pub fn next_leaf(
 ) -> Next
     requires { ⌜ Walkable (now nodes) (length (now work)) (now query) × Prefixes (now query) (now sums) (now squares)
         × Waits (shapeIn (now nodes) (length (now work))) (now query) waiting (now work) ⌝ }
-    ensures { λ r. ⌜ Handed (shapeIn (now (nodes .entry)) (length (now (work .entry)))) (now (query .entry)) limited limit waiting (now (work .entry)) (now (work .exit)) r ⌝ }
+    ensures { λ r. ⌜ Handed (shapeIn (now (nodes .entry)) (length (now (work .entry)))) (now (query .entry)) limited limit waiting
+        (now (work .entry)) (now (work .exit)) r ⌝ }
 {
     let mut n = waiting;
     while 0 < n {

@@ -1,8 +1,9 @@
-// The calls for C and for Rust: numbers and slices only, a slice as a pointer and then its length. Each is the call of the same name, and its contract
-// is that call's own definition. The code is 0, or the number of the refusal; the answer's values go into the lent slice `out`, in order: adding the
-// trace's number, a match the trace's number, the distance, leaves read and traces read, a listing leaves read, traces read and how many it
-// lists, a writing the number of blocks, an import the number of traces, an export the number of bytes, a batch leaves read, a refusal its
-// place; an opening, a reading and a check have none. A shorter `out` takes the first of them, and places behind them stay.
+// The calls for C and for Rust: numbers and slices only, a slice as a pointer and then its length. Each is the call of the same name, and
+// its contract is that call's own definition. The code is 0, or the number of the refusal; the answer's values go into the lent slice
+// `out`, in order: adding the trace's number, a match the trace's number, the distance, leaves read and traces read, a listing leaves read,
+// traces read and how many it lists, a writing the number of blocks, an import the number of traces, an export the number of bytes, a batch
+// leaves read, a refusal its place; an opening, a reading and a check have none. A shorter `out` takes the first of them, and places behind
+// them stay.
 
 pub mod telling; // an answer as numbers
 
@@ -17,8 +18,8 @@ ghost use Rattle.calls.specs.Effects.{outcomeOn};
 ghost use Rattle.batch_answers.specs.AnswerRecords.{nearsOf};
 ghost use Rattle.library_c.specs.COutcome.{cOutcome, cOutcomeOf};
 
-// Two wrong programs that the contract rules out: one that gives the place as its code, and one that writes the place of a refusal into a place of `out`
-// behind the first.
+// Two wrong programs that the contract rules out: one that gives the place as its code, and one that writes the place of a refusal into a
+// place of `out` behind the first.
 #[no_mangle]
 pub extern "C" fn silkendoz_open(
     control: &mut [u16],
@@ -35,7 +36,8 @@ pub extern "C" fn silkendoz_open(
         (tables (now (control .exit)) (now (samples .exit)) (now (nodes .exit)) (now (links .exit)) (now (work .exit)))
         []
         ≡ cOutcomeOf (outcomeOn (book.opening (measures n capacity «leaf_size»))
-        (tables (now (control .entry)) (now (samples .entry)) (now (nodes .entry)) (now (links .entry)) (now (work .entry)))) (now (out .entry)) ⌝ }
+        (tables (now (control .entry)) (now (samples .entry)) (now (nodes .entry)) (now (links .entry)) (now (work .entry))))
+        (now (out .entry)) ⌝ }
 {
     let answer = opening::open(control, samples, nodes, links, work, n, capacity, leaf_size);
     telling::tell_opened(answer, out)
@@ -56,7 +58,8 @@ pub extern "C" fn silkendoz_add(
         (tables (now (control .exit)) (now (samples .exit)) (now (nodes .exit)) (now (links .exit)) (now (work .entry)))
         []
         ≡ cOutcomeOf (outcomeOn (book.adding (now (trace .entry)))
-        (tables (now (control .entry)) (now (samples .entry)) (now (nodes .entry)) (now (links .entry)) (now (work .entry)))) (now (out .entry)) ⌝ }
+        (tables (now (control .entry)) (now (samples .entry)) (now (nodes .entry)) (now (links .entry)) (now (work .entry))))
+        (now (out .entry)) ⌝ }
 {
     let answer = adding::add(control, samples, nodes, links, work, trace);
     telling::tell_added(answer, out)
@@ -78,7 +81,8 @@ pub extern "C" fn silkendoz_nearest(
         (tables (now (control .entry)) (now (samples .entry)) (now (nodes .entry)) (now (links .entry)) (now (work .exit)))
         (now (trail .exit) ∷ [])
         ≡ cOutcomeOf (outcomeOn (book.matching (now (query .entry)) (now (trail .entry)))
-        (tables (now (control .entry)) (now (samples .entry)) (now (nodes .entry)) (now (links .entry)) (now (work .entry)))) (now (out .entry)) ⌝ }
+        (tables (now (control .entry)) (now (samples .entry)) (now (nodes .entry)) (now (links .entry)) (now (work .entry))))
+        (now (out .entry)) ⌝ }
 {
     let answer = matching::nearest(control, samples, nodes, links, work, trail, query);
     telling::tell_found(answer, out)
@@ -112,7 +116,8 @@ pub extern "C" fn silkendoz_k_nearest(
     telling::tell_listed(answer, out)
 }
 
-// Two wrong programs that the contract rules out: one that tells the number of bytes, and one that tells the blocks of a sheet that it refused.
+// Two wrong programs that the contract rules out: one that tells the number of bytes, and one that tells the blocks of a sheet that it
+// refused.
 #[no_mangle]
 pub extern "C" fn silkendoz_write_sheet(
     control: &[u16],
@@ -127,13 +132,15 @@ pub extern "C" fn silkendoz_write_sheet(
         (tables (now (control .entry)) (now (samples .entry)) (now (nodes .entry)) (now (links .entry)) (now (work .entry)))
         (now (sheet .exit) ∷ [])
         ≡ cOutcomeOf (outcomeOn (book.writing (now (sheet .entry)))
-        (tables (now (control .entry)) (now (samples .entry)) (now (nodes .entry)) (now (links .entry)) (now (work .entry)))) (now (out .entry)) ⌝ }
+        (tables (now (control .entry)) (now (samples .entry)) (now (nodes .entry)) (now (links .entry)) (now (work .entry))))
+        (now (out .entry)) ⌝ }
 {
     let answer = sheet_writing::write_sheet(control, samples, nodes, links, work, sheet);
     telling::tell_written(answer, out)
 }
 
-// Two wrong programs that the contract rules out: one that tells place 0 for every torn sheet, and one that tells the number of traces read.
+// Two wrong programs that the contract rules out: one that tells place 0 for every torn sheet, and one that tells the number of traces
+// read.
 #[no_mangle]
 pub extern "C" fn silkendoz_read_sheet(
     control: &mut [u16],
@@ -148,7 +155,8 @@ pub extern "C" fn silkendoz_read_sheet(
         (tables (now (control .exit)) (now (samples .exit)) (now (nodes .exit)) (now (links .exit)) (now (work .exit)))
         []
         ≡ cOutcomeOf (outcomeOn (book.reading (now (sheet .entry)))
-        (tables (now (control .entry)) (now (samples .entry)) (now (nodes .entry)) (now (links .entry)) (now (work .entry)))) (now (out .entry)) ⌝ }
+        (tables (now (control .entry)) (now (samples .entry)) (now (nodes .entry)) (now (links .entry)) (now (work .entry))))
+        (now (out .entry)) ⌝ }
 {
     let answer = sheet_reading::read_sheet(control, samples, nodes, links, work, sheet);
     telling::tell_read(answer, out)
@@ -170,7 +178,8 @@ pub extern "C" fn silkendoz_import_recording(
         (tables (now (control .exit)) (now (samples .exit)) (now (nodes .exit)) (now (links .exit)) (now (work .entry)))
         []
         ≡ cOutcomeOf (outcomeOn (book.importing (now (bytes .entry)))
-        (tables (now (control .entry)) (now (samples .entry)) (now (nodes .entry)) (now (links .entry)) (now (work .entry)))) (now (out .entry)) ⌝ }
+        (tables (now (control .entry)) (now (samples .entry)) (now (nodes .entry)) (now (links .entry)) (now (work .entry))))
+        (now (out .entry)) ⌝ }
 {
     let answer = importing::import_recording(control, samples, nodes, links, work, bytes);
     telling::tell_imported(answer, out)
@@ -193,7 +202,8 @@ pub extern "C" fn silkendoz_export_recording(
         (tables (now (control .entry)) (now (samples .entry)) (now (nodes .entry)) (now (links .entry)) (now (work .entry)))
         (now (buffer .exit) ∷ [])
         ≡ cOutcomeOf (outcomeOn (book.exporting number rate (now (buffer .entry)))
-        (tables (now (control .entry)) (now (samples .entry)) (now (nodes .entry)) (now (links .entry)) (now (work .entry)))) (now (out .entry)) ⌝ }
+        (tables (now (control .entry)) (now (samples .entry)) (now (nodes .entry)) (now (links .entry)) (now (work .entry))))
+        (now (out .entry)) ⌝ }
 {
     let answer = exporting::export_recording(
         control,
@@ -222,7 +232,8 @@ pub extern "C" fn silkendoz_check_tables(
         (tables (now (control .entry)) (now (samples .entry)) (now (nodes .entry)) (now (links .entry)) (now (work .entry)))
         []
         ≡ cOutcomeOf (outcomeOn book.checking
-        (tables (now (control .entry)) (now (samples .entry)) (now (nodes .entry)) (now (links .entry)) (now (work .entry)))) (now (out .entry)) ⌝ }
+        (tables (now (control .entry)) (now (samples .entry)) (now (nodes .entry)) (now (links .entry)) (now (work .entry))))
+        (now (out .entry)) ⌝ }
 {
     let answer = checking::check_tables(control, samples, nodes, links, work);
     telling::tell_checked(answer, out)
@@ -230,8 +241,8 @@ pub extern "C" fn silkendoz_check_tables(
 
 // The list is lent as records, a struct of two numbers each, and has one for each query.
 //
-// Two wrong programs that the contract rules out: one that tells how many queries there were, and one that tells how many leaves the queries
-// would read one by one.
+// Two wrong programs that the contract rules out: one that tells how many queries there were, and one that tells how many leaves the
+// queries would read one by one.
 #[no_mangle]
 pub extern "C" fn silkendoz_match_batch(
     control: &[u16],

@@ -137,7 +137,8 @@ pub fn tell_imported(answer: Imported, out: &mut [u64]) -> u64
 
 // The recording is told by the slice that the export leaves it in.
 pub fn tell_exported(answer: Exported, out: &mut [u64]) -> u64
-    ensures { λ r. ⌜ ((buffer : List ℕ) → returned r (now (out .exit)) ≡ returnedOf (exporting.answerBy answer buffer) (now (out .entry))) ⌝ }
+    ensures { λ r. ⌜ ((buffer : List ℕ) → returned r (now (out .exit))
+        ≡ returnedOf (exporting.answerBy answer buffer) (now (out .entry))) ⌝ }
 {
     match answer {
         Exported::Bytes(size) => {

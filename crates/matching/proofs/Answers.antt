@@ -1,4 +1,5 @@
--- What a search that found a trace leaves is what the definition of a match has: the answer, search work zeroed, the trail's beginning. And it found one.
+-- What a search that found a trace leaves is what the definition of a match has: the answer, search work zeroed, the trail's beginning. And
+-- it found one.
 use Prim.Native.Nat.{ℕ}
 use mathlib.Core.Path.{_≡_, refl, sym, ap, _∙_}
 use mathlib.Core.Bool.{Bool, true, false}

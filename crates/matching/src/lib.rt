@@ -18,10 +18,11 @@ pub enum Found {
     Refused(Refusal),
 }
 
-// Finds the nearest trace. Every refusal is decided before anything is written. The trail begins with the leaves read, and search work is left zero.
+// Finds the nearest trace. Every refusal is decided before anything is written. The trail begins with the leaves read, and search work is
+// left zero.
 //
-// Two wrong programs that the contract rules out: one that leaves out a leaf whose bound equals the best distance, and one that writes past the trail's
-// leaves.
+// Two wrong programs that the contract rules out: one that leaves out a leaf whose bound equals the best distance, and one that writes past
+// the trail's leaves.
 pub fn nearest(
     control: &[u16],
     samples: &[i16],

@@ -46,8 +46,8 @@ fn write_control(control: &mut [u16], n: u16, capacity: u16, leaf_size: u16)
     control[NODE_COUNT] = 0;
 }
 
-// The tables of an empty library with these measures, for tables that refuse nothing of them: the needed parts are zeroed, and the control record is
-// written last. Sheet reading, which has its own refusals, begins with it too.
+// The tables of an empty library with these measures, for tables that refuse nothing of them: the needed parts are zeroed, and the control
+// record is written last. Sheet reading, which has its own refusals, begins with it too.
 pub fn put_empty(
     control: &mut [u16],
     samples: &mut [i16],
@@ -58,7 +58,8 @@ pub fn put_empty(
     capacity: u64,
     leaf_size: u64,
 )
-    requires { ⌜ LongEnough (lentOf (tables (now control) (now samples) (now nodes) (now links) (now work))) (measures n capacity «leaf_size») ⌝ }
+    requires { ⌜ LongEnough (lentOf (tables (now control) (now samples) (now nodes) (now links) (now work)))
+        (measures n capacity «leaf_size») ⌝ }
     ensures { λ _. ⌜ tables (now (control .exit)) (now (samples .exit)) (now (nodes .exit)) (now (links .exit)) (now (work .exit))
         ≡ opened
         (tables (now (control .entry)) (now (samples .entry)) (now (nodes .entry)) (now (links .entry)) (now (work .entry)))
@@ -72,11 +73,11 @@ pub fn put_empty(
     write_control(control, n as u16, capacity as u16, leaf_size as u16);
 }
 
-// Opens an empty library with these measures. Every refusal is decided before anything is written. The measures come at full width, so that none wraps
-// into its range: 65,792 for n is refused, though its low 16 bits are 256.
+// Opens an empty library with these measures. Every refusal is decided before anything is written. The measures come at full width, so that
+// none wraps into its range: 65,792 for n is refused, though its low 16 bits are 256.
 //
-// Two wrong programs that the contract rules out: one that zeroes each table whole (places behind the needed ones change), and one that zeroes the
-// samples before it looks at the length of the other tables (a refused call then leaves them changed).
+// Two wrong programs that the contract rules out: one that zeroes each table whole (places behind the needed ones change), and one that
+// zeroes the samples before it looks at the length of the other tables (a refused call then leaves them changed).
 pub fn open(
     control: &mut [u16],
     samples: &mut [i16],

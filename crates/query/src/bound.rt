@@ -33,7 +33,8 @@ fn segment_term(
     first: usize,
     last: usize,
 ) -> u64
-    requires { ⌜ Prefixes (now query) (now sums) (now squares) × Inside (length (now query)) first last × (length (now «record») ≡ recordPlaces)
+    requires { ⌜ Prefixes (now query) (now sums) (now squares) × Inside (length (now query)) first last
+        × (length (now «record») ≡ recordPlaces)
         × (i < mostSegments) × Limited sampleLimit (width (run first last)) (segmentIn (now «record») i) ⌝ }
     ensures { λ r. ⌜ r ≡ boundOn (now (query .entry)) (run first last) (segmentIn (now («record» .entry)) i) ⌝ }
     ensures size { λ r. ⌜ r ≤ boundLimit sampleLimit (width (run first last)) ⌝ }

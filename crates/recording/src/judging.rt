@@ -34,8 +34,8 @@ fn is_recording(bytes: &[u8], n: u64) -> bool
 
 // How many traces of n samples a file holds.
 //
-// Two wrong programs that the contract rules out: one that takes a file with a byte behind its data, and one whose sizes are numbers of 32 bits, so
-// that a data size of 2^32 - 36 has a RIFF size of 0.
+// Two wrong programs that the contract rules out: one that takes a file with a byte behind its data, and one whose sizes are numbers of 32
+// bits, so that a data size of 2^32 - 36 has a RIFF size of 0.
 pub fn judge_recording(bytes: &[u8], n: usize) -> FileTraces
     requires { ⌜ 0 < n ⌝ }
     ensures { λ r. ⌜ tracesFound r ≡ tracesRecorded (judgeRecording n (now (bytes .entry))) ⌝ }

@@ -30,7 +30,8 @@ figureNamed kind = if eqb kind 1 then bySum else byScatter
 abbrev pub childFits : ℕ → ℕ → ℕ → Bool
 childFits m j child = ltb j child && ltb child m
 
--- "every kind field a value that its layout names", "inner children numbered above their parent", "T between twice those limits, on a run inside 1 to n"
+-- "every kind field a value that its layout names", "inner children numbered above their parent", "T between twice those limits, on a run
+-- inside 1 to n"
 unfoldable pub headFits : ℕ → ℕ → ℕ → List ℤ → Bool
 headFits n m j r = leb (smallAt r kindPlace) 2 && every (childFits m j) (childrenOf (kindAlone r)) && testFits sampleLimit n (kindAlone r)
 
@@ -49,10 +50,12 @@ segmentsInFrom r count i = map (segmentIn r) (counting count i)
 abbrev pub between : ℕ → ℕ → ℕ → Bool
 between low high x = ltb low x && leb x high
 
--- the same two rules segment by segment, `before` being the end before the first: the ends rise to n, and each segment's figures are in their limits
+-- the same two rules segment by segment, `before` being the end before the first: the ends rise to n, and each segment's figures are in
+-- their limits
 unfoldable pub restHolds : ℕ → ℕ → List Segment → Bool
 restHolds n before [] = eqb before n
-restHolds n before (s ∷ rest) = ltb before (s .end) && segmentFits sampleLimit (width (run (suc before) (s .end))) s && restHolds n (s .end) rest
+restHolds n before (s ∷ rest) =
+    ltb before (s .end) && segmentFits sampleLimit (width (run (suc before) (s .end))) s && restHolds n (s .end) rest
 
 -- a segment's end is behind the end before it, 256 at most, and its figures are in their limits
 pub record Behind (before : ℕ) (s : Segment) : Type 0 where
@@ -68,7 +71,8 @@ endsIn child parent = every (λ end. isIn end (ends child)) (ends parent)
 
 -- of node j and each of its children
 unfoldable pub keptAt : List ℤ → ℕ → Bool
-keptAt nodes j = every (λ child. endsIn (segmentsIn (recordOf nodes child)) (segmentsIn (recordOf nodes j))) (childrenOf (kindAlone (recordOf nodes j)))
+keptAt nodes j =
+    every (λ child. endsIn (segmentsIn (recordOf nodes child)) (segmentsIn (recordOf nodes j))) (childrenOf (kindAlone (recordOf nodes j)))
 
 -- the segments of a child's record hold, and its ends include its parent's
 pub record Under (n : ℕ) (child parent : List ℤ) : Type 0 where

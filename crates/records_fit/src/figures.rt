@@ -38,8 +38,8 @@ fn not_above(limit: u64, v: i64) -> bool
 
 // ---- limits
 
-// The figures of a segment of w samples: least at most greatest, sums up to a limit either side of 0, scatters from 0 to its square. A test of one side
-// is enough for each of the four, as least and greatest are in order.
+// The figures of a segment of w samples: least at most greatest, sums up to a limit either side of 0, scatters from 0 to its square. A test
+// of one side is enough for each of the four, as least and greatest are in order.
 pub fn figures_fit(
     w: u64,
     least_sum: i64,
@@ -75,8 +75,8 @@ pub fn figures_fit(
     not_above(limit * limit, greatest_scatter)
 }
 
-// A threshold on a run of w samples, by the kind of its node: up to twice the limit of a sum, which is that of a scatter's root too; either side of
-// 0 by sum, from 0 by scatter.
+// A threshold on a run of w samples, by the kind of its node: up to twice the limit of a sum, which is that of a scatter's root too; either
+// side of 0 by sum, from 0 by scatter.
 pub fn threshold_fits(kind: usize, w: u64, threshold: i64) -> bool
     requires { ⌜ w ≤ mostSamples ⌝ }
     ensures { λ r. ⌜ r ≡ thresholdFits sampleLimit (figureNamed kind) w threshold ⌝ }

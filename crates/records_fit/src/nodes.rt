@@ -13,7 +13,8 @@ ghost use Rattle.dstree.specs.Measures.{mostSamples, mostNodes};
 ghost use Rattle.tables.specs.Layout.{segmentsPlace, recordPlaces};
 ghost use Rattle.tables.specs.Tables.{recordOf};
 ghost use Rattle.tables.specs.View.{smallAt, segmentsIn};
-ghost use Rattle.records_fit.specs.Fits.{headFits, segmentsHold, recordFits, endsIn, keptAt, Under, ChildrenUnder, recordsFit, allKept, EndsRise, AllFit, InUse, HeadFits};
+ghost use Rattle.records_fit.specs.Fits.{headFits, segmentsHold, recordFits, endsIn, keptAt, Under, ChildrenUnder, recordsFit};
+ghost use Rattle.records_fit.specs.Fits.{allKept, EndsRise, AllFit, InUse, HeadFits};
 
 fn node_fits(nodes: &[i64], j: usize, m: usize, n: usize) -> bool
     requires { ⌜ (j * recordPlaces + recordPlaces ≤ length (now nodes)) × (j ≤ mostNodes) × (n ≤ mostSamples) ⌝ }

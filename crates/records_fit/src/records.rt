@@ -24,7 +24,8 @@ ghost use Rattle.dstree.specs.Node.{inner, mostSegments};
 ghost use Rattle.dstree.specs.WellFormed.{segmentFits, testFits};
 ghost use Rattle.tables.specs.Layout.{segmentsPlace, recordPlaces};
 ghost use Rattle.tables.specs.View.{smallMost, smallOf, smallAt, segmentIn, segmentsIn};
-ghost use Rattle.records_fit.specs.Fits.{figureNamed, between, childFits, headFits, segmentsHold, recordFits, segmentsInFrom, restHolds, endsIn, EndsRise};
+ghost use Rattle.records_fit.specs.Fits.{figureNamed, between, childFits, headFits, segmentsHold, recordFits, segmentsInFrom};
+ghost use Rattle.records_fit.specs.Fits.{restHolds, endsIn, EndsRise};
 
 // ---- segments
 
@@ -127,7 +128,8 @@ fn child_fits(m: usize, j: usize, child: usize) -> bool
 fn test_fits(kind: usize, first: usize, last: usize, threshold: i64, n: usize) -> bool
     requires { ⌜ n ≤ mostSamples ⌝ }
     ensures { λ r. ⌜ ((left right : ℕ) →
-        r ≡ testFits sampleLimit n (inner (record { on = run first last; figure = figureNamed kind; threshold = threshold }) left right)) ⌝ }
+        r ≡ testFits sampleLimit n
+        (inner (record { on = run first last; figure = figureNamed kind; threshold = threshold }) left right)) ⌝ }
 {
     if first < 1 {
         return false;
@@ -177,8 +179,8 @@ pub fn record_fits(places: &[i64], j: usize, m: usize, n: usize) -> bool
 
 // ---- ends of a node and its child
 
-// The first `many` ends of the parent are among the first `count` of the child. Both rise, so that one pass over the child's is enough: each end of the
-// parent is passed when it is met, in order, and any other end of the child is one to spare.
+// The first `many` ends of the parent are among the first `count` of the child. Both rise, so that one pass over the child's is enough:
+// each end of the parent is passed when it is met, in order, and any other end of the child is one to spare.
 fn ends_in(child: &[i64], count: usize, parent: &[i64], many: usize) -> bool
     requires { ⌜ (length (now child) ≡ recordPlaces) × EndsRise (now child) count
         × (length (now parent) ≡ recordPlaces) × EndsRise (now parent) many ⌝ }

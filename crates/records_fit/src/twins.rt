@@ -1,5 +1,5 @@
-// The records of a node's two children as a split leaves them: with the same ends. One loop tests the segments of both and whether they keep their parent's
-// ends. A yes says that they do; a no says nothing, as children with other ends may fit too.
+// The records of a node's two children as a split leaves them: with the same ends. One loop tests the segments of both and whether they
+// keep their parent's ends. A yes says that they do; a no says nothing, as children with other ends may fit too.
 
 use crate::records::end_at;
 use crate::records::end_behind;
@@ -70,7 +70,8 @@ fn segments_run(
     n: usize,
 ) -> bool
     requires { ⌜ (length (now left) ≡ recordPlaces) × (length (now right) ≡ recordPlaces) × (length (now parent) ≡ recordPlaces)
-        × (count ≡ smallAt (now left) segmentsPlace) × (count ≡ smallAt (now right) segmentsPlace) × (many ≡ smallAt (now parent) segmentsPlace)
+        × (count ≡ smallAt (now left) segmentsPlace) × (count ≡ smallAt (now right) segmentsPlace)
+        × (many ≡ smallAt (now parent) segmentsPlace)
         × (1 ≤ count) × (count ≤ mostSegments) ⌝ }
     ensures { λ r. ⌜ (r ≡ true → Under n (now (left .entry)) (now (parent .entry)) × Under n (now (right .entry)) (now (parent .entry))) ⌝ }
 {

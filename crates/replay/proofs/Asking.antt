@@ -1,4 +1,5 @@
--- The call that a row asks for, and what is known of it: it is lent no more than there is, and its arguments are what the slices' types say.
+-- The call that a row asks for, and what is known of it: it is lent no more than there is, and its arguments are what the slices' types
+-- say.
 use Prim.Native.Nat.{ℕ, _≤_}
 use mathlib.Core.Path.{_≡_, refl, sym, ap, subst, _∙_}
 use mathlib.Core.Bool.{Bool, true, false}

@@ -1,5 +1,5 @@
--- The loop of `play`: after some rows the lent slices are in the state that these leave, the calls they made ran one after another, and their replies are
--- laid down.
+-- The loop of `play`: after some rows the lent slices are in the state that these leave, the calls they made ran one after another, and
+-- their replies are laid down.
 use Prim.Native.Nat.{ℕ, suc, _+_, _≤_}
 use mathlib.Core.Path.{_≡_, refl, sym, ap, subst, _∙_}
 use mathlib.Core.Bool.{Bool, true, false}

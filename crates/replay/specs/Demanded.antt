@@ -7,8 +7,9 @@ use Rattle.tables.specs.Tables.{Tables}
 use Rattle.calls.specs.Trusted.{bookIn}
 use Rattle.calls.specs.Demands.{AfterList, AfterCheck}
 
--- "An opening or a sheet reading has just succeeded when it starts": where the first call answered `done`, all that document 01 demands of a list of calls
--- holds of the calls behind it. Where it answered `accepted`, document 02's claims hold of them, of a library that starts with what the tables held
+-- "An opening or a sheet reading has just succeeded when it starts": where the first call answered `done`, all that document 01 demands of
+-- a list of calls holds of the calls behind it. Where it answered `accepted`, document 02's claims hold of them, of a library that starts
+-- with what the tables held
 unfoldable pub Demanded : Tables → List Call → List Reply → Tables → Type 0
 Demanded memory₀ [] said memory = Unit
 Demanded memory₀ (first ∷ calls) [] memory = ⊥

@@ -136,7 +136,8 @@ aheadOf s = amounts (length (s .samples)) (length (s .trails .ahead)) (length (s
 
 -- ---- the kinds of rows
 
--- whether its calls change tables (and not search work alone); how much a row of this kind takes, by its numbers; and the call that it makes of that
+-- whether its calls change tables (and not search work alone); how much a row of this kind takes, by its numbers; and the call that it
+-- makes of that
 pub record CallKind : Type 0 where
   pub changes : Bool
   pub takes : List ℕ → Amounts
@@ -195,8 +196,8 @@ exportingCalls = record {
 abbrev pub checkingCalls : CallKind
 checkingCalls = record { changes = false; takes = λ row. amounts 0 0 0 0; ask = λ row x. checking }
 
--- a batch of so many queries, in a run of the next so many samples, with a trail of the next so many places and a list of records of the next so
--- many, two places each: of an odd number the last is not taken
+-- a batch of so many queries, in a run of the next so many samples, with a trail of the next so many places and a list of records of the
+-- next so many, two places each: of an odd number the last is not taken
 abbrev pub batchingCalls : CallKind
 batchingCalls = record {
   changes = false;

@@ -1,5 +1,5 @@
-// Rows whose calls change no table but search work: matches (2), writings (3), listings (5), exports (7), checks (8), batches (9). A kind is a reply and a
-// branch.
+// Rows whose calls change no table but search work: matches (2), writings (3), listings (5), exports (7), checks (8), batches (9). A kind
+// is a reply and a branch.
 
 use crate::batches::play_batch;
 use crate::replies::of_refusal;

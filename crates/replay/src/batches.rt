@@ -37,7 +37,8 @@ fn store(found: BatchFound, records: usize, list: &mut [u64])
     }
 }
 
-// A list of so many places, an odd last one aside. (A list of another length is not what the row takes, and the answer then does not matter.)
+// A list of so many places, an odd last one aside. (A list of another length is not what the row takes, and the answer then does not
+// matter.)
 pub fn play_batch(
     control: &[u16],
     samples: &[i16],

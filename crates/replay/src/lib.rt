@@ -47,8 +47,8 @@ pub struct Plan {
     pub to: Amounts,
 }
 
-// What playing a row comes to: whether a call was made; its reply as numbers, which are 0 or the refusal's number, then the answer's values or the
-// refusal's place, zeros behind them; and how much is taken.
+// What playing a row comes to: whether a call was made; its reply as numbers, which are 0 or the refusal's number, then the answer's values
+// or the refusal's place, zeros behind them; and how much is taken.
 pub struct Turn {
     pub made: bool,
     pub numbers: [u64; 5],
@@ -56,15 +56,16 @@ pub struct Turn {
 }
 
 // Every call of a script, in its order, on tables that hold anything. `script` has a row of numbers a call, each behind its length: which
-// call it is (0 opening, 1 adding, 2 match, 3 writing, 4 reading, 5 listing, 6 import, 7 export, 8 check, 9 batch), the lengths of the five tables
-// that it is lent, and its own: an opening's measures; an adding's number of samples; a match's, then the places of its trail; the bytes of a
-// writing's or a reading's sheet, or of an import's recording; a listing's as a match's, then the places of its list and k; the bytes of an
-// export's buffer, then a trace's number and a rate; a check has none. `pool` has the samples of traces and queries, one behind another, `trails` the trails
-// of matches and listings, `sheets` the sheets of writings and readings, with the recordings and buffers among them, `lists` the lists of
-// listings likewise. Each reply goes into five places of `replies`.
+// call it is (0 opening, 1 adding, 2 match, 3 writing, 4 reading, 5 listing, 6 import, 7 export, 8 check, 9 batch), the lengths of the five
+// tables that it is lent, and its own: an opening's measures; an adding's number of samples; a match's, then the places of its trail; the
+// bytes of a writing's or a reading's sheet, or of an import's recording; a listing's as a match's, then the places of its list and k; the
+// bytes of an export's buffer, then a trace's number and a rate; a check has none. `pool` has the samples of traces and queries, one behind
+// another, `trails` the trails of matches and listings, `sheets` the sheets of writings and readings, with the recordings and buffers among
+// them, `lists` the lists of listings likewise. Each reply goes into five places of `replies`.
 //
-// What holds after the calls is document 01's demands over lists of calls, and document 02's claims from a check on that accepted. Two wrong
-// programs that the contract rules out: one that leaves out an adding, and one that lends a call a table one place shorter than it asks for.
+// What holds after the calls is document 01's demands over lists of calls, and document 02's claims from a check on that accepted. Two
+// wrong programs that the contract rules out: one that leaves out an adding, and one that lends a call a table one place shorter than it
+// asks for.
 pub fn play(
     control: &mut [u16],
     samples: &mut [i16],

@@ -35,7 +35,8 @@ fn even(places: usize) -> usize
     2 * (places / 2)
 }
 
-// By a row's kind and its first three own numbers. Sheets and recordings take bytes alone, a check nothing. (Behind the last kind there is none.)
+// By a row's kind and its first three own numbers. Sheets and recordings take bytes alone, a check nothing. (Behind the last kind there is
+// none.)
 fn wanted(row: &[u64]) -> Wanted
     ensures { λ r. ⌜ wantedBy r ≡ takesOf (callKindAt kinds (numberAt (now (row .entry)) 0)) (now (row .entry)) ⌝ }
 {

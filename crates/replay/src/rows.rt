@@ -38,7 +38,8 @@ pub fn lengths(row: &[u64]) -> Lengths
 pub fn row_end(script: &[u64], place: usize) -> usize
     requires { ⌜ place < length (now script) ⌝ }
     ensures { λ r. ⌜ (place + 1 ≤ r) × (r ≤ length (now (script .entry)))
-        × (rowsOf (drop place (now (script .entry))) ≡ take (r - (place + 1)) (drop (place + 1) (now (script .entry))) ∷ rowsOf (drop r (now (script .entry)))) ⌝ }
+        × (rowsOf (drop place (now (script .entry)))
+        ≡ take (r - (place + 1)) (drop (place + 1) (now (script .entry))) ∷ rowsOf (drop r (now (script .entry)))) ⌝ }
 {
     let many = places(script[place]);
     let from = place + 1;

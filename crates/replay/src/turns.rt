@@ -100,7 +100,8 @@ fn lend(
         (tables (now (control .exit)) (now (samples .exit)) (now (nodes .exit)) (now (links .exit)) (now (work .exit)))
         (now (pool .entry)) (now (trails .exit)) (now (sheets .exit)) (now (lists .exit)) to)
         ≡ turnMade (lentBy (now (row .entry))) (asks (lentOf
-        (tables (now (control .entry)) (now (samples .entry)) (now (nodes .entry)) (now (links .entry)) (now (work .entry)))) (now (row .entry)) (stateAt
+        (tables (now (control .entry)) (now (samples .entry)) (now (nodes .entry)) (now (links .entry)) (now (work .entry))))
+        (now (row .entry)) (stateAt
         (tables (now (control .entry)) (now (samples .entry)) (now (nodes .entry)) (now (links .entry)) (now (work .entry)))
         (now (pool .entry)) (now (trails .entry)) (now (sheets .entry)) (now (lists .entry)) at)) (stateAt
         (tables (now (control .entry)) (now (samples .entry)) (now (nodes .entry)) (now (links .entry)) (now (work .entry)))
@@ -155,7 +156,8 @@ pub fn turn(
         (tables (now (control .exit)) (now (samples .exit)) (now (nodes .exit)) (now (links .exit)) (now (work .exit)))
         (now (pool .entry)) (now (trails .exit)) (now (sheets .exit)) (now (lists .exit))
         ≡ turnMade (lentBy (now (row .entry))) (asks (lentOf
-        (tables (now (control .entry)) (now (samples .entry)) (now (nodes .entry)) (now (links .entry)) (now (work .entry)))) (now (row .entry)) (stateAt
+        (tables (now (control .entry)) (now (samples .entry)) (now (nodes .entry)) (now (links .entry)) (now (work .entry))))
+        (now (row .entry)) (stateAt
         (tables (now (control .entry)) (now (samples .entry)) (now (nodes .entry)) (now (links .entry)) (now (work .entry)))
         (now (pool .entry)) (now (trails .entry)) (now (sheets .entry)) (now (lists .entry)) at)) (stateAt
         (tables (now (control .entry)) (now (samples .entry)) (now (nodes .entry)) (now (links .entry)) (now (work .entry)))

@@ -27,7 +27,8 @@ sumLimit limit w = w * limit
 unfoldable pub scatterLimit : ℕ → ℕ → ℕ
 scatterLimit limit w = w * w * (limit * limit)
 
--- the floor root of such a scatter is at most this; document 02 §4: "T's limit among the well-formed rules becomes 2 × w × 32,768", twice it
+-- the floor root of such a scatter is at most this; document 02 §4: "T's limit among the well-formed rules becomes 2 × w × 32,768", twice
+-- it
 unfoldable pub rootLimit : ℕ → ℕ → ℕ
 rootLimit limit w = w * limit
 

@@ -77,8 +77,8 @@ pub struct Figures {
     pub scatter: u64,
 }
 
-// A segment's sum and scatter. The squared deviation times w, and the variance, do not meet this: the scatter has the factor w twice. There is a
-// loop for each total: of one loop with totals of two widths the compiler makes no vector code.
+// A segment's sum and scatter. The squared deviation times w, and the variance, do not meet this: the scatter has the factor w twice. There
+// is a loop for each total: of one loop with totals of two widths the compiler makes no vector code.
 pub fn figures_of(samples: &[i16]) -> Figures
     requires { do ⌜ (← ⟦samples.len()⟧) ≤ widthMost ⌝ }
     ensures sum { λ r. ⌜ (r .sum ≡ figure.sum (now (samples .entry))) × (natAbs (r .sum) ≤ sumMost (length (now (samples .entry)))) ⌝ }

@@ -27,8 +27,8 @@ fn wrong_length(size: usize) -> bool
 
 // What reading refuses by the sheet alone, in the table's order: its length (8), the first torn block (9), its contents (10).
 //
-// Two wrong programs that the contract rules out: one that tests letters and measures before the last block is known to be whole, and one that takes a
-// sheet with a block too many.
+// Two wrong programs that the contract rules out: one that tests letters and measures before the last block is known to be whole, and one
+// that takes a sheet with a block too many.
 pub fn judge_sheet(sheet: &[u8]) -> Verdict
     ensures { λ r. ⌜ foundBy r ≡ firstOf (sheetConditions (now (sheet .entry))) ⌝ }
 {

@@ -16,7 +16,8 @@ ghost use Rattle.sheet_judging.specs.Traces.{sizeOf, countOf, sheetTrace
 pub fn read_samples(sheet: &[u8], from: Cursor, places: &mut [i16]) -> Cursor
     requires { ⌜ InBlocks (now sheet) × IsAt (from .number) (from .used) (sampleNumber (from .number) (from .used))
         × (sampleNumber (from .number) (from .used) + length (now places) ≤ (blockCount (now sheet) - 1) * narrow .samplesPerBlock) ⌝ }
-    ensures { λ r. ⌜ (now (places .exit) ≡ samplesFrom (now (sheet .entry)) (sampleNumber (from .number) (from .used)) (length (now (places .entry))))
+    ensures { λ r. ⌜ (now (places .exit)
+        ≡ samplesFrom (now (sheet .entry)) (sampleNumber (from .number) (from .used)) (length (now (places .entry))))
         × IsAt (r .number) (r .used) (sampleNumber (from .number) (from .used) + length (now (places .entry))) ⌝ }
 {
     let n = places.len();
@@ -34,7 +35,8 @@ pub fn read_samples(sheet: &[u8], from: Cursor, places: &mut [i16]) -> Cursor
 
 // A trace by its number, of a sheet that is not refused.
 pub fn read_trace(sheet: &[u8], number: usize, trace: &mut [i16])
-    requires { ⌜ (firstOf (sheetConditions (now sheet)) ≡ none) × (number < countOf (now sheet)) × (length (now trace) ≡ sizeOf (now sheet)) ⌝ }
+    requires { ⌜ (firstOf (sheetConditions (now sheet)) ≡ none) × (number < countOf (now sheet))
+        × (length (now trace) ≡ sizeOf (now sheet)) ⌝ }
     ensures { λ _. ⌜ now (trace .exit) ≡ getD (sheetTraces (now (sheet .entry))) number [] ⌝ }
 {
     let from = Cursor::at_sample(number * trace.len());

@@ -36,7 +36,9 @@ fn match_query(
 ) -> Found
     requires { ⌜ EarlierStored (now control) (now samples) (now nodes) (now links) (now work) (now sheet) (length (now query)) last
         × (recordsNeeded most ≤ length (now trail)) ⌝ }
-    ensures { λ r. ⌜ lineBy r ≡ lineOf (measuresIn (blockAt (now (sheet .entry)) 0)) (take last (sheetTraces (now (sheet .entry)))) (getD (sheetTraces (now (sheet .entry))) last []) ⌝ }
+    ensures { λ r. ⌜ lineBy r
+        ≡ lineOf (measuresIn (blockAt (now (sheet .entry)) 0)) (take last (sheetTraces (now (sheet .entry))))
+        (getD (sheetTraces (now (sheet .entry))) last []) ⌝ }
 {
     read_trace(sheet, last, query);
     let seen = search::searching::search_all(control, samples, nodes, links, query, work, trail);
@@ -63,7 +65,9 @@ fn match_last(
     last: usize,
 ) -> Found
     requires { ⌜ EarlierStored (now control) (now samples) (now nodes) (now links) (now work) (now sheet) n last ⌝ }
-    ensures { λ r. ⌜ lineBy r ≡ lineOf (measuresIn (blockAt (now (sheet .entry)) 0)) (take last (sheetTraces (now (sheet .entry)))) (getD (sheetTraces (now (sheet .entry))) last []) ⌝ }
+    ensures { λ r. ⌜ lineBy r
+        ≡ lineOf (measuresIn (blockAt (now (sheet .entry)) 0)) (take last (sheetTraces (now (sheet .entry))))
+        (getD (sheetTraces (now (sheet .entry))) last []) ⌝ }
 {
     let mut query = [0i16; 64];
     let mut trail = [0u16; 127];

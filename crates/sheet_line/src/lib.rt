@@ -12,7 +12,8 @@ ghost use Rattle.sheet_line.specs.Lines.{lineBy, put, lineIn};
 
 // Trace, distance, leaves and traces read of the last trace's match among the earlier ones, or a refusal.
 //
-// Two wrong programs that the contract rules out: one that has the query in the library, and one that refuses a sheet without traces before it looks at n.
+// Two wrong programs that the contract rules out: one that has the query in the library, and one that refuses a sheet without traces before
+// it looks at n.
 pub fn answer_of(sheet: &[u8]) -> Found
     ensures { λ r. ⌜ lineBy r ≡ programLine (now (sheet .entry)) ⌝ }
 {
@@ -23,9 +24,11 @@ pub fn answer_of(sheet: &[u8]) -> Found
     }
 }
 
-// The line of a sheet of any bytes, in the first places of `out`, and how many they are. Nothing is written where the longest line has no room.
+// The line of a sheet of any bytes, in the first places of `out`, and how many they are. Nothing is written where the longest line has no
+// room.
 //
-// Two wrong programs that the contract rules out: one that prints a refusal's place before its number, and one that leaves out the line's end.
+// Two wrong programs that the contract rules out: one that prints a refusal's place before its number, and one that leaves out the line's
+// end.
 pub fn line(sheet: &[u8], out: &mut [u8]) -> usize
     ensures { λ r. ⌜ put r (now (out .exit)) ≡ lineIn (now (sheet .entry)) (now (out .entry)) ⌝ }
 {

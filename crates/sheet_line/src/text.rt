@@ -32,7 +32,8 @@ fn put_decimal(out: &mut [u8], place: usize, v: u64) -> usize
 // A number, and a byte behind it.
 fn put_item(out: &mut [u8], place: usize, v: u64, end: u8) -> usize
     requires { ⌜ place + length (decimal v ++ (end ∷ [])) ≤ length (now out) ⌝ }
-    ensures { λ r. ⌜ (r ≡ place + length (decimal v ++ (end ∷ []))) × (now (out .exit) ≡ sets (now (out .entry)) place (decimal v ++ (end ∷ []))) ⌝ }
+    ensures { λ r. ⌜ (r ≡ place + length (decimal v ++ (end ∷ [])))
+        × (now (out .exit) ≡ sets (now (out .entry)) place (decimal v ++ (end ∷ []))) ⌝ }
 {
     let at = put_decimal(out, place, v);
     out[at] = end;
@@ -42,7 +43,8 @@ fn put_item(out: &mut [u8], place: usize, v: u64, end: u8) -> usize
 // Four numbers with single spaces, and the line's end.
 fn put_numbers(out: &mut [u8], trace: u64, distance: u64, leaves: u64, traces: u64) -> usize
     requires { ⌜ lineRoom ≤ length (now out) ⌝ }
-    ensures { λ r. ⌜ (r ≡ length (text (found trace distance leaves traces))) × (now (out .exit) ≡ over (text (found trace distance leaves traces)) (now (out .entry))) ⌝ }
+    ensures { λ r. ⌜ (r ≡ length (text (found trace distance leaves traces)))
+        × (now (out .exit) ≡ over (text (found trace distance leaves traces)) (now (out .entry))) ⌝ }
 {
     let second = put_item(out, 0, trace, 32);
     let third = put_item(out, second, distance, 32);
@@ -53,7 +55,8 @@ fn put_numbers(out: &mut [u8], trace: u64, distance: u64, leaves: u64, traces: u
 // `refused`, number, place, and the line's end.
 fn put_refusal(out: &mut [u8], number: u64, block: u64) -> usize
     requires { ⌜ lineRoom ≤ length (now out) ⌝ }
-    ensures { λ r. ⌜ (r ≡ length (text (refusedLine number block))) × (now (out .exit) ≡ over (text (refusedLine number block)) (now (out .entry))) ⌝ }
+    ensures { λ r. ⌜ (r ≡ length (text (refusedLine number block)))
+        × (now (out .exit) ≡ over (text (refusedLine number block)) (now (out .entry))) ⌝ }
 {
     put_bytes(out, 0, &REFUSED);
     let second = put_item(out, 8, number, 32);

@@ -27,7 +27,8 @@ fn judge_short(
     capacity: u64,
 ) -> Verdict
     requires { ⌜ (n ≤ mostSamples) × (capacity ≤ mostTraces) ⌝ }
-    ensures { λ r. ⌜ ((leafSize : ℕ) → foundBy r ≡ firstOf (shortConditions layout (lent control samples nodes links work) (measures n capacity leafSize))) ⌝ }
+    ensures { λ r. ⌜ ((leafSize : ℕ) → foundBy r
+        ≡ firstOf (shortConditions layout (lent control samples nodes links work) (measures n capacity leafSize))) ⌝ }
 {
     if control_short(control) {
         return Verdict::Refused(Refusal::ShortTable);
@@ -46,7 +47,8 @@ pub fn judge_reading(
     work: usize,
     sheet: &[u8],
 ) -> Verdict
-    ensures { λ r. ⌜ foundBy r ≡ firstOf (readingConditions layout (lent control samples nodes links work) (judgeSheet (now (sheet .entry)))) ⌝ }
+    ensures { λ r. ⌜ foundBy r
+        ≡ firstOf (readingConditions layout (lent control samples nodes links work) (judgeSheet (now (sheet .entry)))) ⌝ }
 {
     let judged = judge_sheet(sheet);
     match judged {

@@ -21,11 +21,11 @@ pub enum Read {
     Refused(Refusal),
 }
 
-// Reads a sheet of any bytes: opens a library with its measures and adds its traces in order. Every refusal is decided before anything is written, and
-// what was judged is not tested again: each trace goes into tables that are known to be well formed.
+// Reads a sheet of any bytes: opens a library with its measures and adds its traces in order. Every refusal is decided before anything is
+// written, and what was judged is not tested again: each trace goes into tables that are known to be well formed.
 //
-// Two wrong programs that the contract rules out: one that opens the library before the last block was judged (a torn block then leaves the tables
-// changed), and one that copies the samples without adding the traces (the tables then hold no tree).
+// Two wrong programs that the contract rules out: one that opens the library before the last block was judged (a torn block then leaves the
+// tables changed), and one that copies the samples without adding the traces (the tables then hold no tree).
 pub fn read_sheet(
     control: &mut [u16],
     samples: &mut [i16],

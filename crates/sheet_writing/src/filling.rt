@@ -61,7 +61,8 @@ fn fill_blocks(sheet: &mut [u8], samples: &[i16], count: usize, total: usize)
 fn fill_head(sheet: &mut [u8], control: &[u16])
     requires { ⌜ blockSize ≤ length (now sheet) ⌝ }
     ensures { λ _. ⌜ now (sheet .exit) ≡ withBlock (now (sheet .entry)) 0
-        (block (narrow .headKind) 0 (headOf (measuresOf (tables (now (control .entry)) [] [] [] [])) (traceCount (tables (now (control .entry)) [] [] [] [])))) ⌝ }
+        (block (narrow .headKind) 0
+        (headOf (measuresOf (tables (now (control .entry)) [] [] [] [])) (traceCount (tables (now (control .entry)) [] [] [] [])))) ⌝ }
 {
     let n = field(control, N);
     let capacity = field(control, CAPACITY);
@@ -73,9 +74,11 @@ fn fill_head(sheet: &mut [u8], control: &[u16])
 // The whole sheet of a library that the tables hold, and the number of its blocks.
 pub fn fill_sheet(control: &[u16], samples: &[i16], sheet: &mut [u8]) -> u64
     requires { ⌜ Fillable (now control) (now samples) (length (now sheet)) ⌝ }
-    ensures { λ r. ⌜ (r ≡ blocksNeeded (traceCount (tables (now (control .entry)) [] [] [] [])) (measuresOf (tables (now (control .entry)) [] [] [] []) .n))
+    ensures { λ r. ⌜ (r ≡ blocksNeeded (traceCount (tables (now (control .entry)) [] [] [] []))
+        (measuresOf (tables (now (control .entry)) [] [] [] []) .n))
         × (now (sheet .exit) ≡ over
-        (sheetOf (measuresOf (tables (now (control .entry)) [] [] [] [])) (tracesIn (tables (now (control .entry)) (now (samples .entry)) [] [] [])))
+        (sheetOf (measuresOf (tables (now (control .entry)) [] [] [] []))
+        (tracesIn (tables (now (control .entry)) (now (samples .entry)) [] [] [])))
         (now (sheet .entry))) ⌝ }
 {
     let n = wide(field(control, N));

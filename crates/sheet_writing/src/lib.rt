@@ -19,10 +19,11 @@ pub enum Written {
     Refused(Refusal),
 }
 
-// Writes the library to the sheet's first blocks. Every refusal is decided before anything is written. All five tables are lent only to be read and to be
-// long enough: they stay as they were.
+// Writes the library to the sheet's first blocks. Every refusal is decided before anything is written. All five tables are lent only to be
+// read and to be long enough: they stay as they were.
 //
-// Two wrong programs that the contract rules out: one that starts each trace in a block of its own, and one that zeroes the sheet behind the last block.
+// Two wrong programs that the contract rules out: one that starts each trace in a block of its own, and one that zeroes the sheet behind
+// the last block.
 pub fn write_sheet(
     control: &[u16],
     samples: &[i16],

@@ -39,7 +39,8 @@ candidateBy all c = record { on = run (c .first) (c .last); figure = figureBy (c
 
 -- the split of a choice that was found
 abbrev pub splitOf : List Trace → List ℕ → List ℕ → Choice → Split
-splitOf stored all numbers r = splitByTest stored numbers (testBy (r .first) (r .last) (r .«by_scatter») (r .threshold)) (childEnds (r .cut) all)
+splitOf stored all numbers r =
+    splitByTest stored numbers (testBy (r .first) (r .last) (r .«by_scatter») (r .threshold)) (childEnds (r .cut) all)
 
 -- what a choice stands for
 abbrev pub chosenBy : List Trace → List ℕ → List ℕ → Choice → Option Split
@@ -47,7 +48,8 @@ chosenBy stored all numbers r = if r .found then some (splitOf stored all number
 
 -- a choice of one trial
 abbrev pub choiceOf : Trial → ℤ → ℤ → Choice
-choiceOf c threshold g = record { found = true; first = c .first; last = c .last; «by_scatter» = c .«by_scatter»; cut = c .cut; threshold = threshold; gain = g }
+choiceOf c threshold g =
+    record { found = true; first = c .first; last = c .last; «by_scatter» = c .«by_scatter»; cut = c .cut; threshold = threshold; gain = g }
 
 -- nothing found yet
 abbrev pub nothing : Choice
@@ -65,7 +67,8 @@ betterSplit gainOf (some a) s = some (if ltZ (gainOf a) (gainOf s) then s else a
 
 -- one candidate more, which counts only if it parts the leaf
 abbrev pub tryOne : List Trace → List ℕ → List ℕ → Option Split → Candidate → Option Split
-tryOne stored all numbers o c = if parts (splitBy stored numbers c) then betterSplit (gain stored all numbers) o (splitBy stored numbers c) else o
+tryOne stored all numbers o c =
+    if parts (splitBy stored numbers c) then betterSplit (gain stored all numbers) o (splitBy stored numbers c) else o
 
 abbrev pub tried : List Trace → List ℕ → List ℕ → Option Split → List Candidate → Option Split
 tried stored all numbers = foldl (tryOne stored all numbers)
@@ -101,7 +104,8 @@ pub record After (n : ℕ) (stored : List Trace) (all numbers : List ℕ) (old :
   pub sound : ChoiceSound n stored all numbers r
 
 -- a leaf's numbers, its node's right ends, its spread over them, and the table of its figures
-pub record Leaf (samples : List ℤ) (n k : ℕ) (list : List ℕ) (count : ℕ) (place runs : List ℕ) (sums : List ℤ) (scatters : List ℕ) (e : Ends) (whole : ℕ) : Type 0 where
+pub record Leaf (samples : List ℤ) (n k : ℕ) (list : List ℕ) (count : ℕ) (place runs : List ℕ) (sums : List ℤ) (scatters : List ℕ)
+    (e : Ends) (whole : ℕ) : Type 0 where
   pub listed : TracesListed samples n list count
   pub below : (t : ℕ) → In t (take count list) → t < k
   pub rows : Rows samples n (take count list) place runs sums scatters

@@ -24,7 +24,8 @@ ghost use Rattle.tables.specs.Walk.{storedIn, numbersOf, Stored};
 ghost use Rattle.tables.specs.Runs.{Inside};
 ghost use Rattle.leaf_figures.specs.Ends.{endsOf, EndsRoom};
 ghost use Rattle.leaf_figures.specs.Rows.{TracesListed, Rows};
-ghost use Rattle.split_choice.specs.Choosing.{nothing, choiceOf, betterOf, trialBy, candidateBy, childEnds, chosenBy, chosenIn, ChoiceSound, ChoiceSoundIn};
+ghost use Rattle.split_choice.specs.Choosing.{nothing, choiceOf, betterOf, trialBy, candidateBy, childEnds, chosenBy, chosenIn};
+ghost use Rattle.split_choice.specs.Choosing.{ChoiceSound, ChoiceSoundIn};
 ghost use Rattle.split_choice.specs.Choosing.{After, TrialFits, Leaf, TrialExtremes};
 
 // A candidate: a run, its figure, and where the children's segments are cut, 0 for nowhere. Its column in the table of figures is a guess.
@@ -101,10 +102,12 @@ fn try_one(
     old: Choice,
     side: &mut [u16; 4096],
 ) -> Choice
-    requires { ⌜ Leaf (now samples) n k (now list) count (now place) (now runs) (now sums) (now scatters) e whole × TrialFits n (endsOf e) (c .first) (c .last) (c .cut)
+    requires { ⌜ Leaf (now samples) n k (now list) count (now place) (now runs) (now sums) (now scatters) e whole
+        × TrialFits n (endsOf e) (c .first) (c .last) (c .cut)
         × TrialExtremes (tracesOf (storedIn (now samples) n k) (take count (now list))) c low high
         × ChoiceSound n (storedIn (now samples) n k) (endsOf e) (take count (now list)) old × (length (now side) ≡ mostTraces) ⌝ }
-    ensures { λ r. ⌜ After n (storedIn (now (samples .entry)) n k) (endsOf e) (take count (now (list .entry))) old (candidateBy (endsOf e) c ∷ []) r ⌝ }
+    ensures { λ r. ⌜ After n (storedIn (now (samples .entry)) n k) (endsOf e) (take count (now (list .entry))) old
+        (candidateBy (endsOf e) c ∷ []) r ⌝ }
     ensures room { λ _. ⌜ length (now (side .exit)) ≡ mostTraces ⌝ }
 {
     let seen = crate::parting::look_at(
@@ -158,7 +161,8 @@ fn trial_of(first: usize, last: usize, by_scatter: bool, cut: usize, column: usi
     }
 }
 
-// What a run tried by sum leaves: the best so far, and the floor roots of the least and the greatest scatter on the run, by which it is tried next.
+// What a run tried by sum leaves: the best so far, and the floor roots of the least and the greatest scatter on the run, by which it is
+// tried next.
 struct BySum {
     best: Choice,
     low: i64,
@@ -193,7 +197,8 @@ fn try_sum(
     old: Choice,
     side: &mut [u16; 4096],
 ) -> BySum
-    requires { ⌜ Leaf (now samples) n k (now list) count (now place) (now runs) (now sums) (now scatters) e whole × TrialFits n (endsOf e) first last cut
+    requires { ⌜ Leaf (now samples) n k (now list) count (now place) (now runs) (now sums) (now scatters) e whole
+        × TrialFits n (endsOf e) first last cut
         × ChoiceSound n (storedIn (now samples) n k) (endsOf e) (take count (now list)) old × (length (now side) ≡ mostTraces) ⌝ }
     ensures { λ r. ⌜ After n (storedIn (now (samples .entry)) n k) (endsOf e) (take count (now (list .entry))) old
         (candidateBy (endsOf e) (trialBy first last cut column false) ∷ []) (r .best) ⌝ }
@@ -260,9 +265,11 @@ fn try_both(
     old: Choice,
     side: &mut [u16; 4096],
 ) -> Choice
-    requires { ⌜ Leaf (now samples) n k (now list) count (now place) (now runs) (now sums) (now scatters) e whole × TrialFits n (endsOf e) first last cut
+    requires { ⌜ Leaf (now samples) n k (now list) count (now place) (now runs) (now sums) (now scatters) e whole
+        × TrialFits n (endsOf e) first last cut
         × ChoiceSound n (storedIn (now samples) n k) (endsOf e) (take count (now list)) old × (length (now side) ≡ mostTraces) ⌝ }
-    ensures { λ r. ⌜ After n (storedIn (now (samples .entry)) n k) (endsOf e) (take count (now (list .entry))) old (byEither (run first last) (childEnds cut (endsOf e))) r ⌝ }
+    ensures { λ r. ⌜ After n (storedIn (now (samples .entry)) n k) (endsOf e) (take count (now (list .entry))) old
+        (byEither (run first last) (childEnds cut (endsOf e))) r ⌝ }
     ensures room { λ _. ⌜ length (now (side .exit)) ≡ mostTraces ⌝ }
 {
     let by_sum = try_sum(
@@ -329,7 +336,8 @@ fn try_halves(
         × ((m : ℕ) → first ≤ m → m < last → Rises n 1 (cutAt m (endsOf e))) × (i < mostSegments) × (first < last)
         × (e .count < mostSegments)
         × ChoiceSound n (storedIn (now samples) n k) (endsOf e) (take count (now list)) old × (length (now side) ≡ mostTraces) ⌝ }
-    ensures { λ r. ⌜ After n (storedIn (now (samples .entry)) n k) (endsOf e) (take count (now (list .entry))) old (halves (endsOf e) (run first last)) r ⌝ }
+    ensures { λ r. ⌜ After n (storedIn (now (samples .entry)) n k) (endsOf e) (take count (now (list .entry))) old
+        (halves (endsOf e) (run first last)) r ⌝ }
     ensures room { λ _. ⌜ length (now (side .exit)) ≡ mostTraces ⌝ }
 {
     let mid = first + (last - first + 1) / 2 - 1;
@@ -398,7 +406,8 @@ fn try_segment(
     requires { ⌜ Leaf (now samples) n k (now list) count (now place) (now runs) (now sums) (now scatters) e whole × Inside n first last
         × ((m : ℕ) → first ≤ m → m < last → Rises n 1 (cutAt m (endsOf e))) × (i < mostSegments)
         × ChoiceSound n (storedIn (now samples) n k) (endsOf e) (take count (now list)) old × (length (now side) ≡ mostTraces) ⌝ }
-    ensures { λ r. ⌜ After n (storedIn (now (samples .entry)) n k) (endsOf e) (take count (now (list .entry))) old (byEither (run first last) (endsOf e) ++ halves (endsOf e) (run first last)) r ⌝ }
+    ensures { λ r. ⌜ After n (storedIn (now (samples .entry)) n k) (endsOf e) (take count (now (list .entry))) old
+        (byEither (run first last) (endsOf e) ++ halves (endsOf e) (run first last)) r ⌝ }
     ensures room { λ _. ⌜ length (now (side .exit)) ≡ mostTraces ⌝ }
 {
     let segments = e.count;
@@ -461,7 +470,8 @@ fn best_along(
     e: Ends,
 ) -> Choice
     requires { ⌜ TracesListed (now samples) n (now list) count × ((t : ℕ) → In t (take count (now list)) → t < k)
-        × Rows (now samples) n (take count (now list)) (now place) (now runs) (now sums) (now scatters) × EndsRoom e × Rises n 1 (endsOf e) ⌝ }
+        × Rows (now samples) n (take count (now list)) (now place) (now runs) (now sums) (now scatters) × EndsRoom e
+        × Rises n 1 (endsOf e) ⌝ }
     ensures { λ r. ⌜ chosenBy (storedIn (now (samples .entry)) n k) (endsOf e) (take count (now (list .entry))) r
         ≡ best (storedIn (now (samples .entry)) n k) (endsOf e) (take count (now (list .entry))) ⌝ }
     ensures sound { λ r. ⌜ ChoiceSound n (storedIn (now (samples .entry)) n k) (endsOf e) (take count (now (list .entry))) r ⌝ }
@@ -508,7 +518,8 @@ fn best_kept(
     count: usize,
     e: Ends,
 ) -> Choice
-    requires { ⌜ TracesListed (now samples) n (now list) count × ((t : ℕ) → In t (take count (now list)) → t < k) × (k ≤ mostTraces) × EndsRoom e × Rises n 1 (endsOf e) ⌝ }
+    requires { ⌜ TracesListed (now samples) n (now list) count × ((t : ℕ) → In t (take count (now list)) → t < k) × (k ≤ mostTraces)
+        × EndsRoom e × Rises n 1 (endsOf e) ⌝ }
     ensures { λ r. ⌜ chosenBy (storedIn (now (samples .entry)) n k) (endsOf e) (take count (now (list .entry))) r
         ≡ best (storedIn (now (samples .entry)) n k) (endsOf e) (take count (now (list .entry))) ⌝ }
     ensures sound { λ r. ⌜ ChoiceSound n (storedIn (now (samples .entry)) n k) (endsOf e) (take count (now (list .entry))) r ⌝ }
@@ -543,10 +554,12 @@ fn best_kept(
 }
 
 // The split that a leaf takes, over the right ends of its node: the greatest gain, which can be below zero, and the earliest among equals.
-// Nothing is found if no candidate parts the leaf. A leaf whose traces are all the same is not tried: nothing parts it, and it may hold many.
+// Nothing is found if no candidate parts the leaf. A leaf whose traces are all the same is not tried: nothing parts it, and it may hold
+// many.
 pub fn choose(samples: &[i16], links: &[u16], n: usize, k: usize, head: usize, e: Ends) -> Choice
     requires { ⌜ Stored (now samples) (now links) n k head × EndsRoom e × Rises n 1 (endsOf e) ⌝ }
-    ensures { λ r. ⌜ chosenIn (now (samples .entry)) (now (links .entry)) n k head e r ≡ best (storedIn (now (samples .entry)) n k) (endsOf e) (numbersOf (now (links .entry)) k head) ⌝ }
+    ensures { λ r. ⌜ chosenIn (now (samples .entry)) (now (links .entry)) n k head e r
+        ≡ best (storedIn (now (samples .entry)) n k) (endsOf e) (numbersOf (now (links .entry)) k head) ⌝ }
     ensures sound { λ r. ⌜ ChoiceSoundIn (now (samples .entry)) (now (links .entry)) n k head e r ⌝ }
 {
     let mut list = [0u16; 4096];

@@ -58,8 +58,11 @@ fn side_spread(
     side: &mut [u16; 4096],
 ) -> u64
     requires { ⌜ TracesListed (now samples) n (now list) count × Inside n (c .first) (c .last)
-        × Rows (now samples) n (take count (now list)) (now place) (now runs) (now sums) (now scatters) × (length (now side) ≡ mostTraces) × EndsRoom child × Rises n 1 (endsOf child) ⌝ }
-    ensures { λ r. ⌜ r ≡ spread (endsOf child) (tracesAt (now (samples .entry)) n (sideOf (now (samples .entry)) n (trialTest c threshold) left (take count (now (list .entry))))) ⌝ }
+        × Rows (now samples) n (take count (now list)) (now place) (now runs) (now sums) (now scatters) × (length (now side) ≡ mostTraces)
+        × EndsRoom child × Rises n 1 (endsOf child) ⌝ }
+    ensures { λ r. ⌜ r ≡ spread (endsOf child)
+        (tracesAt (now (samples .entry)) n
+        (sideOf (now (samples .entry)) n (trialTest c threshold) left (take count (now (list .entry))))) ⌝ }
     ensures size { λ r. ⌜ r ≤ spreadMost ⌝ }
     ensures room { λ _. ⌜ length (now (side .exit)) ≡ mostTraces ⌝ }
 {
@@ -124,7 +127,8 @@ pub fn gain_of(
     requires { ⌜ Leaf (now samples) n k (now list) count (now place) (now runs) (now sums) (now scatters) e whole
         × TrialFits n (endsOf e) (c .first) (c .last) (c .cut) × (length (now side) ≡ mostTraces) ⌝ }
     ensures { λ r. ⌜ r ≡ adding.gain (storedIn (now (samples .entry)) n k) (endsOf e) (take count (now (list .entry)))
-        (splitByTest (storedIn (now (samples .entry)) n k) (take count (now (list .entry))) (trialTest c threshold) (childEnds (c .cut) (endsOf e))) ⌝ }
+        (splitByTest (storedIn (now (samples .entry)) n k) (take count (now (list .entry))) (trialTest c threshold)
+        (childEnds (c .cut) (endsOf e))) ⌝ }
     ensures room { λ _. ⌜ length (now (side .exit)) ≡ mostTraces ⌝ }
 {
     let child = child_ends(e, c.cut);

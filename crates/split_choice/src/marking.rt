@@ -47,7 +47,8 @@ pub fn mark_sides(
 )
     requires { ⌜ Stored (now samples) (now links) n k head × Inside n first last × (length (now marks) ≡ mostTraces) ⌝ }
     ensures { λ _. ⌜ now (marks .exit)
-        ≡ marksBy (λ (t : ℕ). goesLeft (testBy first last «by_scatter» threshold) (getD (storedIn (now (samples .entry)) n k) t [])) (now (marks .entry)) (numbersOf (now (links .entry)) k head) ⌝ }
+        ≡ marksBy (λ (t : ℕ). goesLeft (testBy first last «by_scatter» threshold) (getD (storedIn (now (samples .entry)) n k) t []))
+        (now (marks .entry)) (numbersOf (now (links .entry)) k head) ⌝ }
     ensures size { λ _. ⌜ length (now (marks .exit)) ≡ mostTraces ⌝ }
 {
     let mut t = head;

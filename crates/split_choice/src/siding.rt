@@ -31,7 +31,8 @@ pub fn goes_left_at(
     threshold: i64,
 ) -> bool
     requires { ⌜ RunOfTrace (now samples) n t first last × (column < mostRuns → t < length (now place))
-        × (column < mostRuns → FiguresAt (traceIn (now samples) n t) first last (now sums) (now scatters) (column * columnRows + getD (now place) t 0)) ⌝ }
+        × (column < mostRuns → FiguresAt (traceIn (now samples) n t) first last (now sums) (now scatters)
+        (column * columnRows + getD (now place) t 0)) ⌝ }
     ensures { λ r. ⌜ r ≡ goesLeft (testBy first last «by_scatter» threshold) (traceIn (now (samples .entry)) n t) ⌝ }
 {
     let own = figures_at(samples, n, place, sums, scatters, column, t, first, last);
@@ -67,7 +68,8 @@ pub fn list_side(
     requires { ⌜ TracesListed (now samples) n (now list) count × Inside n (c .first) (c .last)
         × Rows (now samples) n (take count (now list)) (now place) (now runs) (now sums) (now scatters)
         × (length (now side) ≡ mostTraces) ⌝ }
-    ensures { λ r. ⌜ take r (now (side .exit)) ≡ sideOf (now (samples .entry)) n (trialTest c threshold) left (take count (now (list .entry))) ⌝ }
+    ensures { λ r. ⌜ take r (now (side .exit))
+        ≡ sideOf (now (samples .entry)) n (trialTest c threshold) left (take count (now (list .entry))) ⌝ }
     ensures few { λ r. ⌜ r ≤ mostTraces ⌝ }
     ensures size { λ _. ⌜ length (now (side .exit)) ≡ mostTraces ⌝ }
 {

@@ -1,6 +1,6 @@
 -- Nodes and links that stand for a tree: every node can be tried, and they stand for a tree after it.
--- The idea: a split makes two nodes, and what it leaves stands for a tree over as many traces, which has less than twice as many nodes; so there is room
--- before it.
+-- The idea: a split makes two nodes, and what it leaves stands for a tree over as many traces, which has less than twice as many nodes; so
+-- there is room before it.
 use mathlib.Core.Path.{_≡_, refl, sym, ap, subst}
 use mathlib.Core.Bool.{true}
 use mathlib.Core.Option.{some}

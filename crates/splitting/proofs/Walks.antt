@@ -1,4 +1,5 @@
--- Along a leaf's list: the traces with a mark that are still to come, an array that they are listed in, and a list that is laid link by link.
+-- Along a leaf's list: the traces with a mark that are still to come, an array that they are listed in, and a list that is laid link by
+-- link.
 use mathlib.Core.Path.{_≡_, refl, sym, ap, _∙_}
 use mathlib.Core.List.{List, [], _∷_}
 use Prim.Native.Nat.{ℕ, suc, _≤_, _<_}

@@ -30,4 +30,5 @@ pub record Side (samples : List ℤ) (links : List ℕ) (n k head : ℕ) (marks 
 -- the record of a new leaf: those of a leaf's traces that have a mark, over these right ends
 abbrev pub sideRecord : List ℤ → List ℕ → ℕ → ℕ → ℕ → List ℕ → ℕ → List ℕ → List ℤ
 sideRecord samples links n k head marks mark ends =
-    leafRecord (segmentsOf ends (tracesOf (storedIn samples n k) (marked marks mark (numbersOf links k head)))) (getD (marked marks mark (numbersOf links k head)) 0 0)
+    leafRecord (segmentsOf ends (tracesOf (storedIn samples n k) (marked marks mark (numbersOf links k head))))
+    (getD (marked marks mark (numbersOf links k head)) 0 0)

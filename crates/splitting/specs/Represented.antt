@@ -1,5 +1,5 @@
--- Nodes and links that stand for a tree, with room for what splits make of it. What they stand for, no equation of a call's names: a call keeps it
--- because the steps on nodes and links stand for the steps on the tree.
+-- Nodes and links that stand for a tree, with room for what splits make of it. What they stand for, no equation of a call's names: a call
+-- keeps it because the steps on nodes and links stand for the steps on the tree.
 use Prim.Native.Nat.{ℕ, _*_, _≤_}
 use mathlib.Core.List.{List}
 use lib.IntN.{ℤ}

@@ -40,7 +40,8 @@ pub record IsLeaf (nodes : List ℤ) (links : List ℕ) (samples : List ℤ) (n 
   pub stored : Stored samples links n k (smallAt (recordOf nodes at) firstPlace)
   pub few : smallAt (recordOf nodes at) segmentsPlace ≤ mostSegments
   pub rise : Rises n 1 (ends (segmentsIn (recordOf nodes at)))
-  pub parted : (cut : Split) → best (storedIn samples n k) (ends (segmentsIn (recordOf nodes at))) (numbersOf links k (smallAt (recordOf nodes at) firstPlace)) ≡ some cut → TwoSides nodes count cut
+  pub parted : (cut : Split) → best (storedIn samples n k) (ends (segmentsIn (recordOf nodes at)))
+      (numbersOf links k (smallAt (recordOf nodes at) firstPlace)) ≡ some cut → TwoSides nodes count cut
 
 pub record Splits (nodes : List ℤ) (links : List ℕ) (samples : List ℤ) (n k count at : ℕ) : Type 0 where
   pub inside : at < count

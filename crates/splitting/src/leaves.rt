@@ -34,7 +34,8 @@ pub fn write_segments(
     requires { ⌜ (length (now «record») ≡ recordPlaces) × Stored (now samples) (now links) n k head
         × (length (now marks) ≡ mostTraces) × EndsRoom e × Rises n 1 (endsOf e) ⌝ }
     ensures { λ _. ⌜ now («record» .exit) ≡ withSegments (now («record» .entry))
-        (segmentsOf (endsOf e) (tracesOf (storedIn (now (samples .entry)) n k) (marked (now (marks .entry)) mark (numbersOf (now (links .entry)) k head)))) ⌝ }
+        (segmentsOf (endsOf e)
+        (tracesOf (storedIn (now (samples .entry)) n k) (marked (now (marks .entry)) mark (numbersOf (now (links .entry)) k head)))) ⌝ }
 {
     let at = e.at;
     let count = e.count;
@@ -82,7 +83,9 @@ pub fn write_leaf(
 )
     requires { ⌜ (j * recordPlaces + recordPlaces ≤ length (now nodes)) × (j ≤ mostNodes)
         × Side (now samples) (now links) n k head (now marks) mark e ⌝ }
-    ensures { λ _. ⌜ now (nodes .exit) ≡ withRecord (now (nodes .entry)) j (sideRecord (now (samples .entry)) (now (links .entry)) n k head (now (marks .entry)) mark (endsOf e)) ⌝ }
+    ensures { λ _. ⌜ now (nodes .exit)
+        ≡ withRecord (now (nodes .entry)) j
+        (sideRecord (now (samples .entry)) (now (links .entry)) n k head (now (marks .entry)) mark (endsOf e)) ⌝ }
 {
     let first = crate::lists::first_on_side(links, k, head, marks, mark);
     let count = e.count;

@@ -1,4 +1,5 @@
-// A leaf's list of traces: how long it is, and the two sides of it laid as lists of their own. Each trace has a mark, and a side is the traces with one mark.
+// A leaf's list of traces: how long it is, and the two sides of it laid as lists of their own. Each trace has a mark, and a side is the
+// traces with one mark.
 
 use tables::numbers::wide;
 use tables::walk::behind;
@@ -95,10 +96,12 @@ pub fn lay(links: &mut [u16], order: &[u16; 4096], count: usize)
     links[t] = 0;
 }
 
-// The two sides of a leaf laid as lists of their own: mark 1 is the left side, mark 2 the right one. Both are listed before a link is written.
+// The two sides of a leaf laid as lists of their own: mark 1 is the left side, mark 2 the right one. Both are listed before a link is
+// written.
 pub fn relink(links: &mut [u16], k: usize, head: usize, marks: &[u8; 4096])
     requires { ⌜ (head < k) × (k ≤ mostTraces) × (k ≤ length (now links)) × Rising (now links) k × (length (now marks) ≡ mostTraces)
-        × (0 < length (marked (now marks) 1 (numbersOf (now links) k head))) × (0 < length (marked (now marks) 2 (numbersOf (now links) k head))) ⌝ }
+        × (0 < length (marked (now marks) 1 (numbersOf (now links) k head)))
+        × (0 < length (marked (now marks) 2 (numbersOf (now links) k head))) ⌝ }
     ensures { λ _. ⌜ now (links .exit) ≡ linked (marked (now (marks .entry)) 2 (numbersOf (now (links .entry)) k head))
         (linked (marked (now (marks .entry)) 1 (numbersOf (now (links .entry)) k head)) (now (links .entry))) ⌝ }
 {

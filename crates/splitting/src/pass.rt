@@ -6,7 +6,8 @@ ghost use Rattle.tables.specs.Walk.{storedIn};
 ghost use Rattle.insertion_memory.specs.Memory.{treeTables, splitOn, splitAllOf};
 ghost use Rattle.splitting.specs.Represented.{Represented};
 
-// Every node from `from` on is tried, in order. New leaves come last, so that this takes them too. The answer is how many nodes there are then.
+// Every node from `from` on is tried, in order. New leaves come last, so that this takes them too. The answer is how many nodes there are
+// then.
 pub fn split_pass(
     nodes: &mut [i64],
     links: &mut [u16],
@@ -19,7 +20,8 @@ pub fn split_pass(
 ) -> usize
     requires { ⌜ Represented (now nodes) (now links) (now samples) n k many ⌝ }
     ensures { λ r. ⌜ treeTables (now (nodes .exit)) (now (links .exit)) r
-        ≡ splitOn (2 * k) «leaf_size» (storedIn (now (samples .entry)) n k) (treeTables (now (nodes .entry)) (now (links .entry)) many) from ⌝ }
+        ≡ splitOn (2 * k) «leaf_size» (storedIn (now (samples .entry)) n k)
+        (treeTables (now (nodes .entry)) (now (links .entry)) many) from ⌝ }
 {
     let mut count = many;
     let mut at = from;

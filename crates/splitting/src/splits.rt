@@ -35,7 +35,8 @@ fn write_sides(
         × Side (now samples) (now links) n k head (now marks) 1 e × Side (now samples) (now links) n k head (now marks) 2 e ⌝ }
     ensures { λ _. ⌜ now (nodes .exit)
         ≡ withRecord
-        (withRecord (now (nodes .entry)) count (sideRecord (now (samples .entry)) (now (links .entry)) n k head (now (marks .entry)) 1 (endsOf e)))
+        (withRecord (now (nodes .entry)) count
+        (sideRecord (now (samples .entry)) (now (links .entry)) n k head (now (marks .entry)) 1 (endsOf e)))
         (suc count) (sideRecord (now (samples .entry)) (now (links .entry)) n k head (now (marks .entry)) 2 (endsOf e)) ⌝ }
 {
     crate::leaves::write_leaf(nodes, count, samples, links, n, k, head, marks, 1, e);
@@ -43,8 +44,8 @@ fn write_sides(
     crate::leaves::write_leaf(nodes, right, samples, links, n, k, head, marks, 2, e);
 }
 
-// A leaf split by a choice: it becomes inner, its two sides become the next two nodes, and their lists are laid. The sides are marked, and the new
-// records written, by the links as they were.
+// A leaf split by a choice: it becomes inner, its two sides become the next two nodes, and their lists are laid. The sides are marked, and
+// the new records written, by the links as they were.
 fn split_by(
     nodes: &mut [i64],
     links: &mut [u16],
@@ -59,7 +60,8 @@ fn split_by(
 )
     requires { ⌜ Parts (now nodes) (now links) (now samples) n k count at head e c ⌝ }
     ensures { λ _. ⌜ treeTables (now (nodes .exit)) (now (links .exit)) (suc (suc count)) ≡ splitTo (storedIn (now (samples .entry)) n k)
-        (treeTables (now (nodes .entry)) (now (links .entry)) count) at (some (splitOf (storedIn (now (samples .entry)) n k) (endsOf e) (numbersOf (now (links .entry)) k head) c)) ⌝ }
+        (treeTables (now (nodes .entry)) (now (links .entry)) count) at
+        (some (splitOf (storedIn (now (samples .entry)) n k) (endsOf e) (numbersOf (now (links .entry)) k head) c)) ⌝ }
 {
     let first = c.first;
     let last = c.last;
@@ -85,7 +87,8 @@ fn split_by(
     crate::lists::relink(links, k, head, &marks);
 }
 
-// The node at a number, tried: a leaf with more traces than the leaf size splits, if a candidate parts it. The answer is how many nodes there are then.
+// The node at a number, tried: a leaf with more traces than the leaf size splits, if a candidate parts it. The answer is how many nodes
+// there are then.
 pub fn split_at(
     nodes: &mut [i64],
     links: &mut [u16],

@@ -1,5 +1,5 @@
--- The first places of a memory, and what is behind them. The idea: a memory that begins with some tables is those tables with more places behind each,
--- so that what a call does to it can be said as an equation between lists that are joined.
+-- The first places of a memory, and what is behind them. The idea: a memory that begins with some tables is those tables with more places
+-- behind each, so that what a call does to it can be said as an equation between lists that are joined.
 use Prim.Native.Nat.{ℕ, zero, suc, _*_, _≤_}
 use mathlib.Core.Path.{_≡_, refl, sym, ap, _∙_}
 use mathlib.Core.List.{List, [], _∷_, _++_, append-assoc}

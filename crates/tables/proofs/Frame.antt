@@ -1,5 +1,5 @@
--- A record that is put into a table is what stands there then, every other record is as it was, and so is the table's length. First for parts of any size
--- w in a list of anything (traces lie so in the samples), then for node records.
+-- A record that is put into a table is what stands there then, every other record is as it was, and so is the table's length. First for
+-- parts of any size w in a list of anything (traces lie so in the samples), then for node records.
 use mathlib.Core.Path.{_≡_, refl, sym, ap, subst, _∙_}
 use mathlib.Core.Bool.{Bool, true, false}
 use mathlib.Core.List.{List, _++_}

@@ -1,6 +1,6 @@
 -- Lists by links: what following the links from a number gives.
--- The idea: "the links follow this list to its end" says it without fuel. Following with fuel enough gives the list, and a list that was found by
--- following, rises and stays below k with more than k fuel is followed to its end. So the links of well-formed tables rise.
+-- The idea: "the links follow this list to its end" says it without fuel. Following with fuel enough gives the list, and a list that was
+-- found by following, rises and stays below k with more than k fuel is followed to its end. So the links of well-formed tables rise.
 use Prim.Native.Nat.{ℕ, zero, suc, _+_, _≤_, _<_}
 use mathlib.Core.Path.{_≡_, refl, _∙_, sym, subst}
 use mathlib.Core.Logic.{_⊎_, inl, inr}

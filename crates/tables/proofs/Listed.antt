@@ -1,4 +1,5 @@
--- A walk along the links meets a leaf's numbers one after another. The links rise, so that k + 1 steps are enough, and one more changes nothing.
+-- A walk along the links meets a leaf's numbers one after another. The links rise, so that k + 1 steps are enough, and one more changes
+-- nothing.
 use mathlib.Core.Path.{_≡_, ap, _∙_}
 use mathlib.Core.Logic.{_⊎_, inl, inr}
 use mathlib.Core.List.{List, [], _∷_, foldl}

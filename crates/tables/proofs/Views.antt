@@ -1,5 +1,5 @@
--- What tables stand for, read node by node and trace by trace: node j of the tree is its record read as a node, trace i its samples. For any contents; then what
--- the test for well-formed tables says of them.
+-- What tables stand for, read node by node and trace by trace: node j of the tree is its record read as a node, trace i its samples. For
+-- any contents; then what the test for well-formed tables says of them.
 use Prim.Native.Nat.{ℕ, _+_, _≤_, _<_}
 use mathlib.Core.Path.{_≡_, refl, ap, _∙_}
 use mathlib.Core.List.{List, []}

@@ -1,4 +1,5 @@
--- The memory of a library is one, and a call is lent the first so many places of each table: "lengths of tables included" (docs/DECISIONS.md, T11).
+-- The memory of a library is one, and a call is lent the first so many places of each table: "lengths of tables included"
+-- (docs/DECISIONS.md, T11).
 use Prim.Native.Nat.{_≤_}
 use mathlib.Core.Path.{_≡_}
 use lib.ListN.{take}

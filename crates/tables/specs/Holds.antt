@@ -19,5 +19,6 @@ pub record Holds (t : Tables) (m : Measures) (traces : List Trace) : Type 0 wher
   pub long : Long t
   pub measures-are : measuresOf t ≡ m
   pub traces-are : tracesIn t ≡ traces
-  -- "The tree is the one that the published DSTree insertion, in document 01's whole numbers, builds from the same traces in the same order"
+  -- "The tree is the one that the published DSTree insertion, in document 01's whole numbers, builds from the same traces in the same
+  -- order"
   pub tree-is : treeIn t ≡ treeOf m traces

@@ -2,7 +2,8 @@
 use Prim.Native.Nat.{ℕ, _*_, _≤_}
 use mathlib.Core.Bool.{not}
 use mathlib.Core.List.{List, [], _∷_}
-use Rattle.dstree.specs.Measures.{Measures, mostSamples, mostTraces, mostLeaf, inRange, samplesNeeded, recordsNeeded, linksNeeded, workNeeded}
+use Rattle.dstree.specs.Measures.{Measures, mostSamples, mostTraces, mostLeaf, inRange, samplesNeeded, recordsNeeded, linksNeeded}
+use Rattle.dstree.specs.Measures.{workNeeded}
 use Rattle.dstree.specs.Refusals as word
 use Rattle.dstree.specs.Refusals.{Condition, _refuses_}
 use Rattle.dstree.specs.Book.{Lent, controlShort, tablesShort}

@@ -20,7 +20,13 @@ tables control samples nodes links work = record { control = control; samples = 
 
 -- the lengths that a call is lent
 abbrev pub lentOf : Tables → Lent
-lentOf t = record { control = length (t .control); samples = length (t .samples); nodes = length (t .nodes); links = length (t .links); work = length (t .work) }
+lentOf t = record {
+  control = length (t .control);
+  samples = length (t .samples);
+  nodes = length (t .nodes);
+  links = length (t .links);
+  work = length (t .work);
+}
 
 -- a field of the control record (0 behind its end)
 abbrev pub field : List ℕ → ℕ → ℕ

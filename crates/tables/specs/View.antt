@@ -10,7 +10,8 @@ use Rattle.dstree.specs.Measures.{Trace, sampleLimit}
 use Rattle.dstree.specs.Figures.{run}
 use Rattle.dstree.specs.Node.{Segment, Figure, bySum, byScatter, Test, Kind, leaf, inner, Node, node, Tree}
 use Rattle.dstree.specs.WellFormed as abstract
-use Rattle.tables.specs.Layout.{kindPlace, segmentsPlace, firstPlace, rightPlace, runFirstPlace, runLastPlace, thresholdPlace, segmentAt}
+use Rattle.tables.specs.Layout.{kindPlace, segmentsPlace, firstPlace, rightPlace, runFirstPlace, runLastPlace, thresholdPlace}
+use Rattle.tables.specs.Layout.{segmentAt}
 use Rattle.tables.specs.Tables.{Tables, measuresOf, traceCount, nodeCount, recordOf}
 
 -- ---- fields of a record
@@ -19,7 +20,8 @@ use Rattle.tables.specs.Tables.{Tables, measuresOf, traceCount, nodeCoun
 abbrev pub smallMost : ℕ
 smallMost = 65535
 
--- a field that holds a small number: node and trace numbers, ends, samples, kinds. Whatever is no 16-bit number reads as 65,536, which no rule accepts
+-- a field that holds a small number: node and trace numbers, ends, samples, kinds. Whatever is no 16-bit number reads as 65,536, which no
+-- rule accepts
 abbrev pub smallOf : ℤ → ℕ
 smallOf (pos n) = if ltb smallMost n then smallMost + 1 else n
 smallOf (negsuc n) = smallMost + 1
@@ -51,9 +53,11 @@ unfoldable pub segmentsIn : List ℤ → List Segment
 segmentsIn r = map (segmentIn r) (counting (smallAt r segmentsPlace) 0)
 
 unfoldable pub testIn : List ℤ → Figure → Test
-testIn r figure = record { on = run (smallAt r runFirstPlace) (smallAt r runLastPlace); figure = figure; threshold = valueAt r thresholdPlace }
+testIn r figure =
+    record { on = run (smallAt r runFirstPlace) (smallAt r runLastPlace); figure = figure; threshold = valueAt r thresholdPlace }
 
--- a leaf's trace numbers: its first, then by the links. A link of 0 ends them, which no number is that a rising list goes on to. `fuel` of them at most
+-- a leaf's trace numbers: its first, then by the links. A link of 0 ends them, which no number is that a rising list goes on to. `fuel` of
+-- them at most
 unfoldable pub numbersFrom : List ℕ → ℕ → ℕ → List ℕ
 numbersFrom links zero number = []
 numbersFrom links (suc fuel) number =

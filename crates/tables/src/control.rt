@@ -55,7 +55,8 @@ pub fn samples_needed(n: u64, capacity: u64) -> usize
     (capacity as usize) * (n as usize)
 }
 
-// Node records that a capacity needs, as many as places of search work: a leaf for each trace, and one inner node fewer. No record for no trace.
+// Node records that a capacity needs, as many as places of search work: a leaf for each trace, and one inner node fewer. No record for no
+// trace.
 pub fn records_needed(capacity: u64) -> usize
     requires { ⌜ capacity ≤ mostTraces ⌝ }
     ensures { λ r. ⌜ ((n leafSize : ℕ) → r ≡ recordsNeeded (measures n capacity leafSize)) ⌝ }
@@ -83,7 +84,8 @@ pub fn tables_short(
     capacity: u64,
 ) -> bool
     requires { ⌜ (n ≤ mostSamples) × (capacity ≤ mostTraces) ⌝ }
-    ensures { λ r. ⌜ ((control leafSize : ℕ) → r ≡ tablesShort layout (lent control samples nodes links work) (measures n capacity leafSize)) ⌝ }
+    ensures { λ r. ⌜ ((control leafSize : ℕ) → r
+        ≡ tablesShort layout (lent control samples nodes links work) (measures n capacity leafSize)) ⌝ }
 {
     if samples < samples_needed(n, capacity) {
         return true;
@@ -123,7 +125,8 @@ pub fn judge_opening(
     Verdict::Fine
 }
 
-// What every call that is lent made tables refuses before it tests their contents: a short control record (2), its measures (3), another short table (2).
+// What every call that is lent made tables refuses before it tests their contents: a short control record (2), its measures (3), another
+// short table (2).
 pub fn judge_lent(
     control: usize,
     samples: usize,

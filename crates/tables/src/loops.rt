@@ -66,7 +66,8 @@ pub fn copy_trace(samples: &mut [i16], at: usize, trace: &[i16])
     }
 }
 
-// Looks at every sample: each is a number of 16 bits, as a lent slice's type says and a look at it shows. Nothing is left of it when it runs.
+// Looks at every sample: each is a number of 16 bits, as a lent slice's type says and a look at it shows. Nothing is left of it when it
+// runs.
 pub fn look(samples: &[i16])
     ensures { λ _. ⌜ T (areSamples (now (samples .entry))) ⌝ }
 {

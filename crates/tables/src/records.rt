@@ -50,7 +50,8 @@ pub fn small_at(record: &[i64], place: usize) -> usize
     small(record[place])
 }
 
-// ---- the table. A part that is written through is lent from `record_start` to `record_end`, since a contract can say nothing of a part that is handed back
+// ---- the table. A part that is written through is lent from `record_start` to `record_end`, since a contract can say nothing of a part
+// that is handed back
 
 // Where node j's record starts, and the place behind it. Nothing else computes where a record lies.
 pub fn record_start(j: usize) -> usize

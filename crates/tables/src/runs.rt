@@ -1,5 +1,5 @@
-// A stored trace as a part of the samples, and a trace's figures on a run of its samples, which are numbered from 1. Nothing else computes where a
-// trace lies, or where a run does.
+// A stored trace as a part of the samples, and a trace's figures on a run of its samples, which are numbered from 1. Nothing else computes
+// where a trace lies, or where a run does.
 
 ghost use mathlib.Core.Path.{_≡_};
 ghost use Prim.Native.Nat.{_+_, _*_, _≤_};
@@ -36,8 +36,8 @@ pub fn figures_on(trace: &[i16], first: usize, last: usize) -> segment::figures:
 }
 
 // Whether a trace with these figures on a test's run goes left: by sum, if twice the sum is at most the threshold; by scatter, if twice the
-// scatter's floor root is, for which no root is taken. What is equal to half of the threshold goes left. The way down, the sides of a split and
-// the marks all go by this.
+// scatter's floor root is, for which no root is taken. What is equal to half of the threshold goes left. The way down, the sides of a split
+// and the marks all go by this.
 pub fn is_left(sum: i64, scatter: u64, by_scatter: bool, threshold: i64) -> bool
     requires { ⌜ natAbs sum ≤ sumRoom ⌝ }
     ensures { λ r. ⌜ r ≡ leZ (pos 2 *ℤ (if «by_scatter» then pos (floorRoot scatter) else sum)) threshold ⌝ }

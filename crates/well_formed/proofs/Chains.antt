@@ -1,5 +1,5 @@
--- A leaf's list by the links: behind its first number stand the links of its numbers, and nothing else. So a number is in the list as often as it is the
--- first, and as often as it is the link of a number of the list.
+-- A leaf's list by the links: behind its first number stand the links of its numbers, and nothing else. So a number is in the list as often
+-- as it is the first, and as often as it is the link of a number of the list.
 use Prim.Native.Nat.{ℕ, zero, suc, _+_, _≤_, _<_}
 use mathlib.Core.Path.{_≡_, refl, sym, _∙_, ap, subst}
 use mathlib.Core.Bool.{true, not}

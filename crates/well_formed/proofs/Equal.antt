@@ -1,5 +1,5 @@
--- The test by records and marks is the definition: the tree that tables stand for has a node for each number below the node count, and each rule on the tree
--- is the rule on the records.
+-- The test by records and marks is the definition: the tree that tables stand for has a node for each number below the node count, and each
+-- rule on the tree is the rule on the records.
 use Prim.Native.Nat.{ℕ, zero, suc, _*_, _-_, _≤_, _<_}
 use mathlib.Core.Path.{_≡_, refl, sym, _∙_, ap, subst}
 use mathlib.Core.Bool.{Bool, true, false, _&&_, Bool·beq}

@@ -1,5 +1,5 @@
--- Every trace number in one leaf, by what names it: a number is in the leaves' lists as often as it is a leaf's first or the link of a number of a list. So
--- where every link rises, each number is in one list exactly if each is named once.
+-- Every trace number in one leaf, by what names it: a number is in the leaves' lists as often as it is a leaf's first or the link of a
+-- number of a list. So where every link rises, each number is in one list exactly if each is named once.
 use Prim.Native.Nat.{ℕ, zero, suc, _+_, _*_, _-_, _≤_, _<_}
 use mathlib.Core.Path.{_≡_, refl, sym, _∙_, ap, subst}
 use mathlib.Core.Bool.{Bool, true, false, _&&_}

@@ -15,7 +15,8 @@ use Rattle.tables.specs.Tables.{recordOf}
 use Rattle.tables.specs.View.{smallAt, kindIn}
 use Rattle.records_fit.specs.Fits.{kindAlone, recordsFit, allKept}
 
--- "trace count at most capacity; no node exactly when no trace", and of k traces at most 2k − 1 nodes, which follows from the rules on children and leaves
+-- "trace count at most capacity; no node exactly when no trace", and of k traces at most 2k − 1 nodes, which follows from the rules on
+-- children and leaves
 unfoldable pub countsFit : ℕ → ℕ → ℕ → Bool
 countsFit m k capacity = leb k capacity && Bool·beq (eqb m 0) (eqb k 0) && leb m (2 * k - 1)
 
@@ -71,7 +72,8 @@ linksOf links k = flatten (map (linkAt links) (counting k 0))
 unfoldable pub leavesHold : ℕ → List ℤ → ℕ → List ℕ → Bool
 leavesHold m nodes k links =
     every (leafFitsAt nodes links k) (counting m 0)
-    && (every (λ number. eqb (timesIn number (numbersOfFirst nodes links k m)) 1) (counting k 0) && every (λ number. ltb number k) (numbersOfFirst nodes links k m))
+    && (every (λ number. eqb (timesIn number (numbersOfFirst nodes links k m)) 1) (counting k 0)
+    && every (λ number. ltb number k) (numbersOfFirst nodes links k m))
 
 -- ---- all rules on nodes and links
 

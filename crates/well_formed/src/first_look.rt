@@ -1,5 +1,5 @@
-// A first look at nodes and links, in one pass over the records: each is read once, with its sibling and its parent at hand. It passes tables as calls leave
-// them, where the two children of a node have the same ends. A yes says that the rules hold; a no says nothing.
+// A first look at nodes and links, in one pass over the records: each is read once, with its sibling and its parent at hand. It passes
+// tables as calls leave them, where the two children of a node have the same ends. A yes says that the rules hold; a no says nothing.
 
 ghost use mathlib.Core.Path.{_≡_};
 ghost use mathlib.Core.Bool.{true};
@@ -63,7 +63,8 @@ fn nodes_pass(
 
 // Every record. Node 0 is no child, and each other one is, so that all were read.
 fn records_pass(nodes: &[i64], m: usize, n: usize, k: usize, named: &mut [u8; 4096]) -> bool
-    requires { ⌜ (m * recordPlaces ≤ length (now nodes)) × (m ≤ mostNodes) × (n ≤ mostSamples) × (k ≤ mostTraces) × (length (now named) ≡ mostTraces) ⌝ }
+    requires { ⌜ (m * recordPlaces ≤ length (now nodes)) × (m ≤ mostNodes) × (n ≤ mostSamples) × (k ≤ mostTraces)
+        × (length (now named) ≡ mostTraces) ⌝ }
     ensures { λ r. ⌜ (r ≡ true → RecordsPassed n m k (now (nodes .entry)) (now (named .entry)) (now (named .exit))) ⌝ }
 {
     if m == 0 {

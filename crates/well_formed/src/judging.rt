@@ -1,5 +1,5 @@
-// The test that every call on made tables begins with, in the table's order: a short control record (2), its measures (3), another short table (2),
-// spoiled tables (3). What else a call refuses comes behind it.
+// The test that every call on made tables begins with, in the table's order: a short control record (2), its measures (3), another short
+// table (2), spoiled tables (3). What else a call refuses comes behind it.
 
 use tables::Refusal;
 use tables::Verdict;

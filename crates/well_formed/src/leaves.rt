@@ -1,5 +1,5 @@
-// Every trace number is in one leaf, and the numbers of a leaf rise. No leaf's list is walked: if every link rises, and every trace is named once, by a link
-// or as a leaf's first, then going back from a trace by what names it ends at one leaf, whose list it is in.
+// Every trace number is in one leaf, and the numbers of a leaf rise. No leaf's list is walked: if every link rises, and every trace is
+// named once, by a link or as a leaf's first, then going back from a trace by what names it ends at one leaf, whose list it is in.
 
 use tables::numbers::wide;
 use tables::places::FIRST;
@@ -99,7 +99,8 @@ fn mark_links(links: &[u16], k: usize, marks: &mut [u8; 4096])
     }
 }
 
-// The links of k traces rise, and with what is marked before they name every trace. Trace 0 is behind no other, so that it has to be marked before.
+// The links of k traces rise, and with what is marked before they name every trace. Trace 0 is behind no other, so that it has to be marked
+// before.
 pub fn links_name(links: &[u16], k: usize, m: usize, marks: &mut [u8; 4096]) -> bool
     requires { ⌜ (k ≤ length (now links)) × (k ≤ mostTraces) × (length (now marks) ≡ mostTraces) × (m ≤ mostNodes) ⌝ }
     ensures { λ r. ⌜ (r ≡ true → LinksName (now (links .entry)) k m (now (marks .entry)))

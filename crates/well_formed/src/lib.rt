@@ -1,5 +1,5 @@
-// Well-formed tables: the test that every call on made tables makes before it trusts them. It takes tables of any contents, reads each used record and link
-// a fixed number of times, and writes none of them: its marks are its own.
+// Well-formed tables: the test that every call on made tables makes before it trusts them. It takes tables of any contents, reads each used
+// record and link a fixed number of times, and writes none of them: its marks are its own.
 
 pub mod marks; // numbers met, in a table of their own
 pub mod children; // every node but 0 a child once

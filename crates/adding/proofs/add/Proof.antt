@@ -1,4 +1,5 @@
--- `adding::add` meets its contract: what the judge found says which of the two ways the call ends, and tables that refuse nothing take the trace.
+-- `adding::add` meets its contract: what the judge found says which of the two ways the call ends, and tables that refuse nothing take the
+-- trace.
 use mathlib.Core.Path.{_≡_, refl, sym, ap, _∙_}
 use mathlib.Core.Option.{none}
 use mathlib.Core.List.{[]}

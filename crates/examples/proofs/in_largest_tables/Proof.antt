@@ -1,4 +1,5 @@
--- `examples::in_largest_tables` is safe: each array is as long as it was made. (Its length is cited, not computed: the arrays have a million places.)
+-- `examples::in_largest_tables` is safe: each array is as long as it was made. (Its length is cited, not computed: the arrays have a
+-- million places.)
 use mathlib.Core.Path.{refl, sym}
 use Prim.Native.Nat.{ℕ}
 use lib.IntN.{ℤ, pos}

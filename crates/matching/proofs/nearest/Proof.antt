@@ -1,4 +1,5 @@
--- `matching::nearest` meets its contract: what the judge found says which way the call ends, and tables that refuse nothing may be searched.
+-- `matching::nearest` meets its contract: what the judge found says which way the call ends, and tables that refuse nothing may be
+-- searched.
 use Prim.Native.Nat.{ℕ}
 use mathlib.Core.Path.{_≡_, sym, ap, _∙_}
 use mathlib.Core.Bool.{true, false}

@@ -1,5 +1,5 @@
--- `replay::play` meets its contract: after some rows the lent slices are in the state that these leave. The measure is how much of the script
--- is left.
+-- `replay::play` meets its contract: after some rows the lent slices are in the state that these leave. The measure is how much of the
+-- script is left.
 use Prim.Native.Nat.{_-_, _≤_}
 use mathlib.Core.Path.{_≡_, refl, _∙_}
 use native.Mathlib.Omega.{arith}

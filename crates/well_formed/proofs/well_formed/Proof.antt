@@ -1,4 +1,5 @@
--- `well_formed::well_formed` meets its contract: its tests together are the definition (`Equal`), so that the counts refuse, or the rest decides.
+-- `well_formed::well_formed` meets its contract: its tests together are the definition (`Equal`), so that the counts refuse, or the rest
+-- decides.
 use mathlib.Core.Path.{_≡_, sym, ap, ap₂, _∙_}
 use mathlib.Core.Bool.{Bool, true}
 use mathlib.Core.List.{List, []}

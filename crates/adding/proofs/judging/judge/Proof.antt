@@ -1,4 +1,5 @@
--- `adding::judging::judge` meets its contract: tables are judged first, then each return answers for one condition, the ones before it being false.
+-- `adding::judging::judge` meets its contract: tables are judged first, then each return answers for one condition, the ones before it
+-- being false.
 use mathlib.Core.Path.{_≡_, sym, ap, _∙_}
 use mathlib.Core.Bool.{true, not}
 use mathlib.Core.List.{List, [], _∷_}

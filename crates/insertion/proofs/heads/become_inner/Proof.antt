@@ -1,4 +1,5 @@
--- `insertion::heads::become_inner` meets its contract: the part is node j's record, of which six places are stored and place 1 stays (`Plain`).
+-- `insertion::heads::become_inner` meets its contract: the part is node j's record, of which six places are stored and place 1 stays
+-- (`Plain`).
 use mathlib.Core.Path.{_≡_, ap, _∙_}
 use mathlib.Core.List.{List}
 use Prim.Native.Nat.{ℕ, _-_}

@@ -1,5 +1,5 @@
--- `insertion::way::goes_left` meets its contract: the test is the one that the record's four fields name, and the trace's figures on its run are what it
--- compares.
+-- `insertion::way::goes_left` meets its contract: the test is the one that the record's four fields name, and the trace's figures on its
+-- run are what it compares.
 use mathlib.Core.Path.{_≡_, ap₂, _∙_}
 use Prim.Native.Nat.{_≤_}
 use native.Mathlib.Omega.{arith}

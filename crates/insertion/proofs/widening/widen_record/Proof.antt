@@ -1,5 +1,5 @@
--- `insertion::widening::widen_record` meets its contract: after i turns the first i segments are widened, and the rest of the record is as it was
--- (`Widened`), so that the next segment is still readable. The measure is how many are left.
+-- `insertion::widening::widen_record` meets its contract: after i turns the first i segments are widened, and the rest of the record is as
+-- it was (`Widened`), so that the next segment is still readable. The measure is how many are left.
 use mathlib.Core.Path.{_≡_, refl, sym, ap, _∙_}
 use mathlib.Core.List.{List}
 use Prim.Native.Nat.{suc, _+_, _-_, _≤_, _<_}

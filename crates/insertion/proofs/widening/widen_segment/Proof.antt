@@ -1,5 +1,5 @@
--- `insertion::widening::widen_segment` meets its contract: the two ranges are widened by the run's sum and scatter, and the four places make the widened
--- segment (`Widened`).
+-- `insertion::widening::widen_segment` meets its contract: the two ranges are widened by the run's sum and scatter, and the four places
+-- make the widened segment (`Widened`).
 use mathlib.Core.Path.{_≡_, ap, _∙_}
 use Prim.Native.Nat.{ℕ, _+_, _*_}
 use native.Mathlib.Omega.{arith}

@@ -1,5 +1,5 @@
--- `leaf_figures::ends::with_cut` meets its contract: the ends before the place stay, the new one is put there, and after each turn one more of those
--- behind it has moved up.
+-- `leaf_figures::ends::with_cut` meets its contract: the ends before the place stay, the new one is put there, and after each turn one more
+-- of those behind it has moved up.
 use mathlib.Core.Path.{_≡_, subst, _∙_}
 use Prim.Native.Nat.{ℕ, _+_, _-_, _≤_}
 use native.Mathlib.Omega.{arith}

@@ -1,4 +1,5 @@
--- `leaf_figures::filling::fill_column` meets its contract: after p turns the first p figures of the column are right, and no other column has changed.
+-- `leaf_figures::filling::fill_column` meets its contract: after p turns the first p figures of the column are right, and no other column
+-- has changed.
 use mathlib.Core.Path.{_≡_, refl, sym, ap, subst, _∙_}
 use Prim.Native.Nat.{ℕ, _+_, _*_, _-_, _≤_, _<_}
 use native.Mathlib.Omega.{arith}

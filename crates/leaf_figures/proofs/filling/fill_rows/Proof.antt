@@ -1,4 +1,5 @@
--- `leaf_figures::filling::fill_rows` meets its contract: each segment is inside, since the ends rise. The measure is how many segments are left.
+-- `leaf_figures::filling::fill_rows` meets its contract: each segment is inside, since the ends rise. The measure is how many segments are
+-- left.
 use Prim.Native.Nat.{_+_, _-_, _≤_}
 use native.Mathlib.Omega.{arith}
 use lib.ListN.{getD, take, drop}

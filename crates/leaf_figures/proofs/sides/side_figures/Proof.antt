@@ -1,5 +1,5 @@
--- `leaf_figures::sides::side_figures` meets its contract: what is taken, and what the rest of the walk takes, is what all of the walk takes. The links rise,
--- and the measure is how far the walk is from k.
+-- `leaf_figures::sides::side_figures` meets its contract: what is taken, and what the rest of the walk takes, is what all of the walk
+-- takes. The links rise, and the measure is how far the walk is from k.
 use mathlib.Core.Path.{_≡_, sym, ap, ap₂, _∙_}
 use mathlib.Core.List.{foldl}
 use Prim.Native.Nat.{ℕ, _-_, _<_, _≤_}

@@ -1,5 +1,5 @@
--- `leaf_figures::spread::spread_along` meets its contract: the total, and the spread over the ends that are left, make the whole spread. 16 terms of 57 bits
--- have at most 61.
+-- `leaf_figures::spread::spread_along` meets its contract: the total, and the spread over the ends that are left, make the whole spread. 16
+-- terms of 57 bits have at most 61.
 use mathlib.Core.Path.{_≡_}
 use Prim.Native.Nat.{_+_, _*_, _-_, _^_, _≤_}
 use native.Mathlib.Omega.{arith}

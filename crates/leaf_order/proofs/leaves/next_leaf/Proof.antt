@@ -1,4 +1,5 @@
--- `leaf_order::leaves::next_leaf` meets its contract: the keys that wait stand for the same leaves in every turn, and the nodes below them are the measure.
+-- `leaf_order::leaves::next_leaf` meets its contract: the keys that wait stand for the same leaves in every turn, and the nodes below them
+-- are the measure.
 use mathlib.Core.Path.{_≡_, refl, sym, _∙_, subst}
 use Prim.Native.Nat.{ℕ, _≤_, _<_}
 use mathlib.Core.List.{List}

@@ -1,5 +1,5 @@
--- `query::bound::own_bound` meets its contract: the total, and the terms of the segments that are left, make the whole bound. A term is at most 2^33 for
--- each of its samples (`boundLimit`).
+-- `query::bound::own_bound` meets its contract: the total, and the terms of the segments that are left, make the whole bound. A term is at
+-- most 2^33 for each of its samples (`boundLimit`).
 use mathlib.Core.Path.{_≡_, sym, ap, subst}
 use Prim.Native.Nat.{ℕ, _+_, _-_, _≤_}
 use native.Mathlib.Omega.{arith}

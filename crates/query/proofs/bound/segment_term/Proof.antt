@@ -1,5 +1,5 @@
--- `query::bound::segment_term` meets its contract: it is the definition's term at the query's figures and the record's fields, and these are within the
--- limits (`Own`).
+-- `query::bound::segment_term` meets its contract: it is the definition's term at the query's figures and the record's fields, and these
+-- are within the limits (`Own`).
 use mathlib.Core.Path.{_≡_, ap, ap₂, _∙_}
 use Prim.Native.Nat.{ℕ, suc, _+_, _-_, _≤_}
 use native.Mathlib.Omega.{arith}

@@ -1,4 +1,5 @@
--- `records_fit::figures::figures_fit` meets its contract: its tests together are the definition's, so that the first that fails decides, and else the last.
+-- `records_fit::figures::figures_fit` meets its contract: its tests together are the definition's, so that the first that fails decides,
+-- and else the last.
 use mathlib.Core.Path.{_≡_, sym, ap, ap₂, subst, _∙_}
 use mathlib.Core.Bool.{Bool, true, _&&_}
 use Prim.Native.Nat.{ℕ, _*_, _<_, _^_}

@@ -1,4 +1,5 @@
--- `records_fit::figures::not_below` meets its contract: a number is from −limit on exactly if with the limit added it is not below 0, and that sum fits.
+-- `records_fit::figures::not_below` meets its contract: a number is from −limit on exactly if with the limit added it is not below 0, and
+-- that sum fits.
 use mathlib.Core.Path.{_≡_, sym, ap, ap₂, subst, _∙_}
 use native.Mathlib.Omega.{arith}
 use lib.IntN.{ℤ, pos, _+ℤ_}

@@ -1,4 +1,5 @@
--- `records_fit::nodes::children_fit` meets its contract, by the kind field: a leaf has no child, and an inner node's two are tested together.
+-- `records_fit::nodes::children_fit` meets its contract, by the kind field: a leaf has no child, and an inner node's two are tested
+-- together.
 use mathlib.Core.Path.{_≡_, sym, subst, _∙_}
 use mathlib.Core.List.{List}
 use Prim.Native.Nat.{ℕ, _+_, _*_, _≤_, _<_}

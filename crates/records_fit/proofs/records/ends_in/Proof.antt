@@ -1,5 +1,5 @@
--- `records_fit::records::ends_in` meets its contract. The loop's invariant: all ends of the parent are the child's exactly if what is left of them is among
--- what is left of the child's, of which there is as much.
+-- `records_fit::records::ends_in` meets its contract. The loop's invariant: all ends of the parent are the child's exactly if what is left
+-- of them is among what is left of the child's, of which there is as much.
 use mathlib.Core.Path.{_≡_, sym, _∙_}
 use Prim.Native.Nat.{_-_, _<_}
 use native.Mathlib.Omega.{arith}

@@ -1,5 +1,5 @@
--- `records_fit::records::head_fits` meets its contract, by the kind field: a leaf fits, a kind that is not named does not, and an inner node by its
--- children and its test.
+-- `records_fit::records::head_fits` meets its contract, by the kind field: a leaf fits, a kind that is not named does not, and an inner
+-- node by its children and its test.
 use mathlib.Core.Path.{_≡_, sym, ap, _∙_}
 use mathlib.Core.Bool.{Bool, true}
 use mathlib.Core.List.{List}

@@ -1,4 +1,5 @@
--- `records_fit::records::segments_run` meets its contract. The loop's invariant: the whole list holds exactly if the rest does, behind the end before it.
+-- `records_fit::records::segments_run` meets its contract. The loop's invariant: the whole list holds exactly if the rest does, behind the
+-- end before it.
 use mathlib.Core.Path.{_≡_, sym, ap, subst, _∙_}
 use mathlib.Core.Bool.{Bool}
 use mathlib.Core.List.{List, _∷_}

@@ -1,4 +1,5 @@
--- `records_fit::twins::segments_run` meets its contract. The loop's invariant: each child's segments were passed so far, and so many of the parent's ends met.
+-- `records_fit::twins::segments_run` meets its contract. The loop's invariant: each child's segments were passed so far, and so many of the
+-- parent's ends met.
 use mathlib.Core.Path.{_≡_, sym, _∙_}
 use Prim.Native.Nat.{ℕ, _+_, _-_, _≤_, _<_}
 use native.Mathlib.Omega.{arith}

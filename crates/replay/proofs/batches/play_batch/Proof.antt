@@ -1,4 +1,5 @@
--- `replay::batches::play_batch` meets its contract: the core's own equation, of the records that the list has, and what storing leaves there.
+-- `replay::batches::play_batch` meets its contract: the core's own equation, of the records that the list has, and what storing leaves
+-- there.
 use Prim.Native.Nat.{_/_}
 use mathlib.Core.Path.{_≡_, ap, _∙_}
 use native.Mathlib.Omega.{arith}

@@ -1,4 +1,5 @@
--- `replay::turns::lend` meets its contract: what comes back in the first places of each table, and in the next ones of each supply, is what the call leaves there.
+-- `replay::turns::lend` meets its contract: what comes back in the first places of each table, and in the next ones of each supply, is what
+-- the call leaves there.
 use Prim.Native.Nat.{_≤_}
 use mathlib.Core.Path.{_≡_, refl, sym, ap, subst, _∙_}
 use mathlib.Core.Option.{some}

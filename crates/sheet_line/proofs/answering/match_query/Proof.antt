@@ -1,5 +1,5 @@
--- `sheet_line::answering::match_query` meets its contract: what is read is the sheet's last trace, and what the search finds is its match in the tree that
--- adding makes of the earlier ones.
+-- `sheet_line::answering::match_query` meets its contract: what is read is the sheet's last trace, and what the search finds is its match
+-- in the tree that adding makes of the earlier ones.
 use mathlib.Core.Path.{_≡_, ap, _∙_}
 use mathlib.Core.Option.{none}
 use mathlib.Core.List.{List, []}

@@ -1,5 +1,5 @@
--- `sheet_line::text::put_decimal` meets its contract: as the definition has it, the digits before the last one are those of a tenth of the number, which is
--- the measure that falls.
+-- `sheet_line::text::put_decimal` meets its contract: as the definition has it, the digits before the last one are those of a tenth of the
+-- number, which is the measure that falls.
 use Prim.Native.Nat.{ℕ, _+_, _/_, _%_, _<_}
 use mathlib.Core.Path.{refl, sym, _∙_, ap, ap₂}
 use mathlib.Core.List.{List, [], _∷_}

@@ -1,5 +1,5 @@
--- `split_choice::choice::best_along` meets its contract: what is found, and what the segments that are left find, is the best of all. The measure is how many
--- segments are left.
+-- `split_choice::choice::best_along` meets its contract: what is found, and what the segments that are left find, is the best of all. The
+-- measure is how many segments are left.
 use mathlib.Core.Path.{_≡_, sym, ap, subst, _∙_}
 use mathlib.Core.List.{List, _∷_}
 use Prim.Native.Nat.{ℕ, _+_, _-_, _≤_}

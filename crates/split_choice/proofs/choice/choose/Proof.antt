@@ -1,4 +1,5 @@
--- `split_choice::choice::choose` meets its contract: the list is the leaf's numbers, and if its traces are all the same no candidate parts it.
+-- `split_choice::choice::choose` meets its contract: the list is the leaf's numbers, and if its traces are all the same no candidate parts
+-- it.
 use mathlib.Core.Path.{_≡_, sym, ap, subst, _∙_}
 use mathlib.Core.List.{List, []}
 use Prim.Native.Nat.{ℕ, _<_}

@@ -1,4 +1,5 @@
--- `split_choice::choice::try_sum` meets its contract: the least and greatest figures are those of the leaf, and the run is tried by its sum.
+-- `split_choice::choice::try_sum` meets its contract: the least and greatest figures are those of the leaf, and the run is tried by its
+-- sum.
 use mathlib.Core.Path.{_≡_, ap, subst, _∙_}
 use mathlib.Core.Bool.{Bool, true, false}
 use mathlib.Core.List.{List, [], _∷_}

@@ -1,4 +1,5 @@
--- `split_choice::gains::gain_of` meets its contract: the two sides are the test's left and right, and each side's spread is that of a child.
+-- `split_choice::gains::gain_of` meets its contract: the two sides are the test's left and right, and each side's spread is that of a
+-- child.
 use mathlib.Core.Path.{_≡_, sym, ap, ap₂, subst, _∙_}
 use mathlib.Core.Bool.{Bool, true, false}
 use mathlib.Core.List.{List, []}

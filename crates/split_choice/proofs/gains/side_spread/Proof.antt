@@ -1,4 +1,5 @@
--- `split_choice::gains::side_spread` meets its contract: the side's traces are some of the list's, so that the table of figures serves them too.
+-- `split_choice::gains::side_spread` meets its contract: the side's traces are some of the list's, so that the table of figures serves them
+-- too.
 use mathlib.Core.Path.{ap, subst, _∙_}
 use mathlib.Core.List.{List}
 use Prim.Native.Nat.{ℕ}

@@ -1,4 +1,5 @@
--- `split_choice::marking::mark_sides` meets its contract: what is marked, and what the rest of the walk marks, is what all of the walk marks.
+-- `split_choice::marking::mark_sides` meets its contract: what is marked, and what the rest of the walk marks, is what all of the walk
+-- marks.
 use mathlib.Core.Path.{_≡_, sym, ap, ap₂, subst, _∙_}
 use mathlib.Core.Bool.{Bool}
 use mathlib.Core.List.{List, [], foldl}

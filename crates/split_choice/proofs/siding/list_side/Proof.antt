@@ -1,5 +1,5 @@
--- `split_choice::siding::list_side` meets its contract: what is listed, and what the rest of the list has of the side, make the side. Each trace is written
--- behind what is listed, and counts if it is on the side.
+-- `split_choice::siding::list_side` meets its contract: what is listed, and what the rest of the list has of the side, make the side. Each
+-- trace is written behind what is listed, and counts if it is on the side.
 use mathlib.Core.Path.{_≡_, refl, sym, ap, subst, _∙_}
 use mathlib.Core.Bool.{Bool}
 use mathlib.Core.List.{List, [], _++_, append-nil}

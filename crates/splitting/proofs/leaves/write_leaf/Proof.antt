@@ -1,4 +1,5 @@
--- `splitting::leaves::write_leaf` meets its contract: the part is node j's record, and zeros, the head and the segments are the record of a new leaf (`Written`).
+-- `splitting::leaves::write_leaf` meets its contract: the part is node j's record, and zeros, the head and the segments are the record of a
+-- new leaf (`Written`).
 use mathlib.Core.Path.{_≡_, sym, ap, ap₂, _∙_}
 use mathlib.Core.List.{List, _++_}
 use Prim.Native.Nat.{ℕ, _-_}

@@ -1,5 +1,5 @@
--- `splitting::leaves::write_segments` meets its contract: after i turns the first i segments are written (`Written`), and the others are those of the
--- ends that are left. The measure is how many are left.
+-- `splitting::leaves::write_segments` meets its contract: after i turns the first i segments are written (`Written`), and the others are
+-- those of the ends that are left. The measure is how many are left.
 use mathlib.Core.Path.{_≡_, refl, sym, ap, ap₂, _∙_}
 use mathlib.Core.List.{List}
 use Prim.Native.Nat.{ℕ, _+_, _-_, _≤_}

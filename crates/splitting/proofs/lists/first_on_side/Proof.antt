@@ -1,4 +1,5 @@
--- `splitting::lists::first_on_side` meets its contract: no trace that was passed has the mark, so that the first of the side is still to come.
+-- `splitting::lists::first_on_side` meets its contract: no trace that was passed has the mark, so that the first of the side is still to
+-- come.
 use mathlib.Core.Path.{_≡_, sym, ap, _∙_}
 use mathlib.Core.List.{List}
 use Prim.Native.Nat.{ℕ, _-_, _≤_, _<_}

@@ -1,5 +1,5 @@
--- `splitting::lists::leaf_longer` meets its contract: what is seen and what is still to come make the list. The links rise, so that no more is seen than
--- lies below the place where the walk stands, and what is left to k falls.
+-- `splitting::lists::leaf_longer` meets its contract: what is seen and what is still to come make the list. The links rise, so that no more
+-- is seen than lies below the place where the walk stands, and what is left to k falls.
 use mathlib.Core.Path.{_≡_, ap}
 use Prim.Native.Nat.{ℕ, suc, _+_, _-_, _≤_, _<_}
 use native.Mathlib.Omega.{arith}

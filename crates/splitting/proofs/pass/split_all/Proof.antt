@@ -1,5 +1,5 @@
--- `splitting::pass::split_all` meets its contract: the joined leaf is tried, nodes and links stand for a tree then (`Kept`), and the pass goes over what is
--- new.
+-- `splitting::pass::split_all` meets its contract: the joined leaf is tried, nodes and links stand for a tree then (`Kept`), and the pass
+-- goes over what is new.
 use mathlib.Core.Path.{_≡_, sym, ap₂, _∙_}
 use Prim.Native.Nat.{ℕ, _*_}
 use lib.ListN.{length}

@@ -1,5 +1,6 @@
--- `splitting::pass::split_pass` meets its contract: at each turn the rest of the pass, with one fuel less for each node that was passed, comes to the whole.
--- Nodes and links stand for a tree at each turn (`Kept`), which has less than 2k nodes, so that there is fuel left, and what is left to 2k falls.
+-- `splitting::pass::split_pass` meets its contract: at each turn the rest of the pass, with one fuel less for each node that was passed,
+-- comes to the whole. Nodes and links stand for a tree at each turn (`Kept`), which has less than 2k nodes, so that there is fuel left, and
+-- what is left to 2k falls.
 use mathlib.Core.Path.{_≡_, refl, sym, ap, ap₂, _∙_}
 use Prim.Native.Nat.{ℕ, suc, _+_, _*_, _-_, _≤_}
 use native.Mathlib.Omega.{arith}

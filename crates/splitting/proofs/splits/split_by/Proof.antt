@@ -1,5 +1,5 @@
--- `splitting::splits::split_by` meets its contract: the marks are those of the test, so that the two sides are its left and its right; the records and
--- the lists are then the definition's, one after the other.
+-- `splitting::splits::split_by` meets its contract: the marks are those of the test, so that the two sides are its left and its right; the
+-- records and the lists are then the definition's, one after the other.
 use mathlib.Core.Path.{_≡_, sym, ap, ap₂, subst, _∙_}
 use mathlib.Core.Bool.{Bool, not}
 use mathlib.Core.List.{List, []}

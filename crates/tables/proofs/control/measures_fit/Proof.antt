@@ -1,4 +1,5 @@
--- `tables::control::measures_fit` meets its contract: each return rewrites with the definition's comparisons as the tests before it decide them.
+-- `tables::control::measures_fit` meets its contract: each return rewrites with the definition's comparisons as the tests before it decide
+-- them.
 use native.Mathlib.Omega.{arith}
 use borrow.Author.Tests.{le-leb, lt-leb}
 use Rattle.dstree.specs.Measures.{inRange}

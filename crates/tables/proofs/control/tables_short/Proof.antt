@@ -1,4 +1,5 @@
--- `tables::control::tables_short` meets its contract: each return rewrites with the tests that led there, on the needs as the definitions give them.
+-- `tables::control::tables_short` meets its contract: each return rewrites with the tests that led there, on the needs as the definitions
+-- give them.
 use mathlib.Core.Path.{_≡_}
 use mathlib.Core.Bool.{true, false}
 use Prim.Native.Nat.{ℕ, _*_, _<_, _≤_}

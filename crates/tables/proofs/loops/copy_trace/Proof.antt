@@ -1,4 +1,5 @@
--- `tables::loops::copy_trace` meets its contract: after j turns the first j samples of the trace are copied. The measure is how many are left.
+-- `tables::loops::copy_trace` meets its contract: after j turns the first j samples of the trace are copied. The measure is how many are
+-- left.
 use mathlib.Core.Path.{_≡_, refl, subst}
 use Prim.Native.Nat.{ℕ, _+_, _-_, _≤_, _<_}
 use native.Mathlib.Omega.{arith}

@@ -1,4 +1,5 @@
--- `well_formed::children::children_once` meets its contract: with a child that is met again the rule fails, and else the marks tell how often each node is a child.
+-- `well_formed::children::children_once` meets its contract: with a child that is met again the rule fails, and else the marks tell how
+-- often each node is a child.
 use mathlib.Core.Path.{_≡_, sym, _∙_}
 use Prim.Native.Nat.{ℕ}
 use native.Mathlib.Omega.{arith}

@@ -1,4 +1,5 @@
--- `well_formed::children::mark_children` meets its contract, by the kind field: a leaf has no child, and an inner node's two are marked one after the other.
+-- `well_formed::children::mark_children` meets its contract, by the kind field: a leaf has no child, and an inner node's two are marked one
+-- after the other.
 use mathlib.Core.Path.{_≡_, sym, _∙_}
 use mathlib.Core.List.{List, [], _∷_}
 use Prim.Native.Nat.{ℕ, _+_, _*_, _≤_, _<_}

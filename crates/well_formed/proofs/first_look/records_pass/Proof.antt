@@ -1,4 +1,5 @@
--- `well_formed::first_look::records_pass` meets its contract: all nodes were visited, and by the marks each but node 0 is a child (`Looking`).
+-- `well_formed::first_look::records_pass` meets its contract: all nodes were visited, and by the marks each but node 0 is a child
+-- (`Looking`).
 use mathlib.Core.Path.{_≡_, sym, _∙_}
 use Prim.Native.Nat.{ℕ}
 use native.Mathlib.Omega.{arith}

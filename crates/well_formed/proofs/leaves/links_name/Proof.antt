@@ -1,4 +1,5 @@
--- `well_formed::leaves::links_name` meets its contract: links that rise are marked, and what is marked then was marked before or is a link (`Holding`).
+-- `well_formed::leaves::links_name` meets its contract: links that rise are marked, and what is marked then was marked before or is a link
+-- (`Holding`).
 use mathlib.Core.Path.{sym, _∙_}
 use mathlib.Core.Logic.{inl, inr}
 use Prim.Native.Nat.{ℕ, _≤_, _<_}

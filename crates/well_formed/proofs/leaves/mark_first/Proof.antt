@@ -1,4 +1,5 @@
--- `well_formed::leaves::mark_first` meets its contract, by the kind field: an inner node has no number, and a leaf's first has to be a trace's.
+-- `well_formed::leaves::mark_first` meets its contract, by the kind field: an inner node has no number, and a leaf's first has to be a
+-- trace's.
 use mathlib.Core.Path.{_≡_, sym, ap, _∙_}
 use mathlib.Core.Bool.{Bool}
 use mathlib.Core.List.{List, [], _∷_}

@@ -1,4 +1,5 @@
--- `well_formed::leaves::mark_firsts` meets its contract. The loop's invariant: the first numbers of the leaves passed are traces' numbers, and are marked.
+-- `well_formed::leaves::mark_firsts` meets its contract. The loop's invariant: the first numbers of the leaves passed are traces' numbers,
+-- and are marked.
 use mathlib.Core.Path.{_∙_}
 use Prim.Native.Nat.{_-_, _≤_}
 use native.Mathlib.Omega.{arith}

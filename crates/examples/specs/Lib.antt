@@ -1,2 +1,2 @@
--- What the steps of an example begin with.
+-- What the steps of an example begin with, and what is done to a sheet.
 pub mod Steps

@@ -1,5 +1,6 @@
 // The examples of document 01, and some of document 02, run: what each call answers, held to the file stdout; walks along a leaf, and
-// distances with a limit. A step answers values, with a contract (`steps`); here the steps are put together, and printed.
+// distances with a limit. A step answers values, with a contract (`steps`); here the steps are put together, and printed. A function
+// that prints alone, in memory of its own, has no contract (`printing`).
 
 mod steps; // traces added, queries matched, a sheet written
 mod walks; // a candidate's test, along a leaf
@@ -14,9 +15,15 @@ use crate::walks::twins;
 use opening::Opened;
 use sheet::fields::put_bytes;
 ghost use mathlib.Core.Path.{_≡_};
+ghost use mathlib.Core.List.{[], _∷_};
 ghost use Prim.Native.Nat.{_<_, _≤_};
 ghost use lib.ListN.{length};
+ghost use Rattle.dstree.specs.Book.{writing};
 ghost use Rattle.dstree.specs.Measures.{mostSamples};
+ghost use Rattle.tables.specs.Tables.{tables};
+ghost use Rattle.calls.specs.Effects.{outcomeOn};
+ghost use Rattle.examples.specs.Steps.{starredIn, junk, damaged, parts, PartEnd};
+ghost use Rattle.examples.specs.Steps.{addedEach, matchedEach, readMatched, readEach};
 
 // ---- openings: "n 256, capacity 4,096, leaf size 64 open; 257, 4,097, 65 and 0 do not"
 
@@ -70,13 +77,12 @@ fn run_openings() {
 // Where the next `size` places end, or those that are left.
 fn part_end(length: usize, at: usize, size: usize) -> usize
     requires { ⌜ (at < length) × (0 < size) ⌝ }
-    ensures { λ r. ⌜ (at < r) × (r ≤ length) ⌝ }
+    ensures { λ r. ⌜ (at < r) × (r ≤ length) × PartEnd length at size r ⌝ }
 {
     if size < length - at {
-        at + size
-    } else {
-        length
+        return at + size;
     }
+    length
 }
 
 // Every n samples added as a trace, the last ones even if they are fewer.
@@ -90,6 +96,9 @@ fn add_all(
     traces: &[i16],
 )
     requires { ⌜ 0 < n ⌝ }
+    ensures { λ _. ⌜ tables (now (control .exit)) (now (samples .exit)) (now (nodes .exit)) (now (links .exit)) (now (work .entry))
+        ≡ addedEach (tables (now (control .entry)) (now (samples .entry)) (now (nodes .entry)) (now (links .entry)) (now (work .entry)))
+        (parts n (now (traces .entry))) ⌝ }
 {
     let mut at: usize = 0;
     while at < traces.len() {
@@ -110,6 +119,9 @@ fn match_all(
     queries: &[i16],
 )
     requires { ⌜ 0 < n ⌝ }
+    ensures { λ _. ⌜ tables (now (control .entry)) (now (samples .entry)) (now (nodes .entry)) (now (links .entry)) (now (work .exit))
+        ≡ matchedEach (tables (now (control .entry)) (now (samples .entry)) (now (nodes .entry)) (now (links .entry)) (now (work .entry)))
+        (parts n (now (queries .entry))) ⌝ }
 {
     let mut at: usize = 0;
     while at < queries.len() {
@@ -177,7 +189,9 @@ fn run_libraries() {
 // ---- a sheet: written, read back into other tables and searched there; then read damaged
 
 // The starred example, written to a sheet with junk in every place.
-fn write_to(sheet: &mut [u8], line: &[u8]) {
+fn write_to(sheet: &mut [u8], line: &[u8])
+    ensures { λ _. ⌜ now (sheet .exit) ∷ [] ≡ outcomeOn (writing (now (sheet .entry))) (starredIn junk) .beside ⌝ }
+{
     let mut control = [7u16; 5];
     let mut samples = [7i16; 8];
     let mut nodes = [7i64; 1305];
@@ -214,7 +228,11 @@ fn read_one(
     links: &mut [u16],
     work: &mut [u64],
     sheet: &[u8],
-) {
+)
+    ensures { λ _. ⌜ tables (now (control .exit)) (now (samples .exit)) (now (nodes .exit)) (now (links .exit)) (now (work .exit))
+        ≡ readMatched (tables (now (control .entry)) (now (samples .entry)) (now (nodes .entry)) (now (links .entry)) (now (work .entry)))
+        (now (sheet .entry)) ⌝ }
+{
     printing::read(sheet_reading::read_sheet(control, samples, nodes, links, work, sheet));
     match_all(control, samples, nodes, links, work, 1, &[-1i16]);
 }
@@ -228,7 +246,11 @@ fn read_all(
     links: &mut [u16],
     work: &mut [u64],
     sheets: &[u8],
-) {
+)
+    ensures { λ _. ⌜ tables (now (control .exit)) (now (samples .exit)) (now (nodes .exit)) (now (links .exit)) (now (work .exit))
+        ≡ readEach (tables (now (control .entry)) (now (samples .entry)) (now (nodes .entry)) (now (links .entry)) (now (work .entry)))
+        (parts 1024 (now (sheets .entry))) ⌝ }
+{
     let mut at: usize = 0;
     while at < sheets.len() {
         let end = part_end(sheets.len(), at, 1024);
@@ -258,6 +280,7 @@ fn read_back(sheets: &[u8]) {
 // complement.
 fn damage(sheet: &[u8], sheets: &mut [u8])
     requires { ⌜ (length (now sheet) ≡ 1024) × (length (now sheets) ≡ 2560) ⌝ }
+    ensures { λ _. ⌜ now (sheets .exit) ≡ damaged (now (sheet .entry)) (now (sheets .entry)) ⌝ }
 {
     put_bytes(sheets, 0, sheet);
     put_bytes(sheets, 1024, sheet);

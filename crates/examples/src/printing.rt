@@ -1,4 +1,5 @@
-// Answers as text, on standard output. No contract can speak of output, so that nothing here has one.
+// Answers as text, on standard output. What `io::write_all` writes is no value that a contract can name, so that nothing here has one; each
+// line is held to the file stdout when the program is run.
 
 use crate::steps::AddingStep;
 use crate::steps::MatchStep;

@@ -6,9 +6,13 @@ use split_choice::choice::Trial;
 use split_choice::parting::Look;
 use split_choice::parting::look_along;
 ghost use mathlib.Core.Path.{_≡_};
+ghost use mathlib.Core.Bool.{false};
+ghost use mathlib.Core.List.{[], _∷_};
+ghost use lib.IntN.{pos};
 ghost use Rattle.tables.specs.Walk.{storedIn, numbersOf, Stored};
 ghost use Rattle.tables.specs.Runs.{testBy};
 ghost use Rattle.split_choice.specs.Parting.{lookOf};
+ghost use Rattle.examples.specs.Steps.{nineTraces, twinTraces};
 
 // The whole run of n samples, by its sum or by its scatter. No figures are kept: they are taken from the samples.
 pub fn walk_of(
@@ -54,11 +58,15 @@ pub fn walk_of(
 }
 
 // 0, 1 and 9 in one leaf, n = 1.
-pub fn nine(by_scatter: bool, threshold: i64) -> Look {
+pub fn nine(by_scatter: bool, threshold: i64) -> Look
+    ensures { λ r. ⌜ r ≡ lookOf nineTraces (testBy 1 1 «by_scatter» threshold) (0 ∷ 1 ∷ 2 ∷ []) ⌝ }
+{
     walk_of(&[0i16, 1, 9], &[1u16, 2, 0], 1, 3, 0, by_scatter, threshold)
 }
 
 // "(1,2,1,2) and (2,1,2,1): one leaf of two", by sum, T = 12.
-pub fn twins() -> Look {
+pub fn twins() -> Look
+    ensures { λ r. ⌜ r ≡ lookOf twinTraces (testBy 1 4 false (pos 12)) (0 ∷ 1 ∷ []) ⌝ }
+{
     walk_of(&[1i16, 2, 1, 2, 2, 1, 2, 1], &[1u16, 0], 4, 2, 0, false, 12)
 }

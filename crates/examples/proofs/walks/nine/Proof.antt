@@ -1,11 +1,18 @@
--- `examples::walks::nine` meets what a walk requires: 0, 1 and 9 stand in one leaf, each linked to the next.
-use mathlib.Core.Path.{refl}
+-- `examples::walks::nine` meets its contract: 0, 1 and 9 stand in one leaf, each linked to the next.
+use mathlib.Core.Path.{refl, ap, _∙_}
 use mathlib.Core.Logic.{inl, inr}
 use mathlib.Core.List.{[], _∷_}
 use Prim.Native.Nat.{zero, suc}
 use native.Mathlib.Omega.{arith}
+use lib.IntN.{ℤ}
+use mir.Facts.{toZ-ofZ}
 use borrow.Author.Needs.{needs}
+use Rattle.integer.specs.Words.{counting}
+use Rattle.tables.specs.View.{traceIn, numbersFrom}
 use Rattle.tables.specs.Walk.{Rising}
+use Rattle.tables.specs.Runs.{testBy}
+use Rattle.split_choice.specs.Parting.{lookOf}
+use Rattle.examples.specs.Steps.{nineTraces}
 use Rattle.examples.proofs.walks.nine.Statement.{statement}
 use Rattle.examples.proofs.walks.nine.Tie as tie
 
@@ -26,5 +33,12 @@ walk-of-requires c κs = record {
   inside = omega arith;
 }
 
+returns : tie.Need-returns
+unfolding traceIn counting numbersFrom
+returns c =
+    let s = c .before .before .before in
+    c .walk-of .ensures
+    ∙ ap (λ (z : ℤ). lookOf nineTraces (testBy 1 1 (s .args .by-scatter) z) (0 ∷ 1 ∷ 2 ∷ [])) (toZ-ofZ (s .fits .threshold))
+
 pub nine-spec : {M : Type 1} → statement M
-nine-spec = tie.close (tie.spec (λ c. search needs) (λ c. search needs) walk-of-requires (λ c. tt))
+nine-spec = tie.close (tie.spec (λ c. search needs) (λ c. search needs) walk-of-requires returns)

@@ -1,10 +1,12 @@
--- `examples::walks::twins` meets what a walk requires: the two traces stand in one leaf, linked.
+-- `examples::walks::twins` meets its contract: the two traces stand in one leaf, linked.
 use mathlib.Core.Path.{refl}
 use mathlib.Core.Logic.{inl, inr}
 use mathlib.Core.List.{[], _∷_}
 use Prim.Native.Nat.{zero, suc}
 use native.Mathlib.Omega.{arith}
 use borrow.Author.Needs.{needs}
+use Rattle.integer.specs.Words.{counting}
+use Rattle.tables.specs.View.{traceIn, numbersFrom}
 use Rattle.tables.specs.Walk.{Rising}
 use Rattle.examples.proofs.walks.twins.Statement.{statement}
 use Rattle.examples.proofs.walks.twins.Tie as tie
@@ -25,5 +27,9 @@ walk-of-requires c κs = record {
   inside = omega arith;
 }
 
+returns : tie.Need-returns
+unfolding traceIn counting numbersFrom
+returns c = c .walk-of .ensures
+
 pub twins-spec : {M : Type 1} → statement M
-twins-spec = tie.close (tie.spec (λ c. search needs) (λ c. search needs) walk-of-requires (λ c. tt))
+twins-spec = tie.close (tie.spec (λ c. search needs) (λ c. search needs) walk-of-requires returns)

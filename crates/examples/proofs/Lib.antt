@@ -1,0 +1,2 @@
+-- Lists in parts.
+pub mod Parts

@@ -47,8 +47,8 @@ fn lesser(s: &[u64], n: usize, left: usize) -> usize
     left + below(s[left], s[right])
 }
 
-// Puts a key that is not below the least in the place of the least of a heap of n keys. Where the least is taken and a key near it comes
-// in, this is one short way down in place of a long one down and a long one up.
+// Puts a key that is not below the least in the place of the least of a heap of n keys. Where the least is taken and another key comes in,
+// this spares the way up of the one that comes in.
 pub fn sink(s: &mut [u64], n: usize, key: u64)
     requires { ⌜ (0 < n) × (n ≤ length (now s)) × (IsHeap n (now s)) × (getD (now s) 0 0 ≤ key) ⌝ }
     ensures { λ _. ⌜ Sunk n key (now (s .entry)) (now (s .exit)) ⌝ }

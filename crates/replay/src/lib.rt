@@ -59,9 +59,10 @@ pub struct Turn {
 // call it is (0 opening, 1 adding, 2 match, 3 writing, 4 reading, 5 listing, 6 import, 7 export, 8 check, 9 batch), the lengths of the five
 // tables that it is lent, and its own: an opening's measures; an adding's number of samples; a match's, then the places of its trail; the
 // bytes of a writing's or a reading's sheet, or of an import's recording; a listing's as a match's, then the places of its list and k; the
-// bytes of an export's buffer, then a trace's number and a rate; a check has none. `pool` has the samples of traces and queries, one behind
-// another, `trails` the trails of matches and listings, `sheets` the sheets of writings and readings, with the recordings and buffers among
-// them, `lists` the lists of listings likewise. Each reply goes into five places of `replies`.
+// bytes of an export's buffer, then a trace's number and a rate; a check has none; a batch's samples in all, then the places of its trail,
+// those of its records, two each, and how many queries there are. `pool` has the samples of traces and queries, one behind another,
+// `trails` the trails of matches, listings and batches, `sheets` the sheets of writings and readings, with the recordings and buffers among
+// them, `lists` the lists of listings and the records of batches likewise. Each reply goes into five places of `replies`.
 //
 // What holds after the calls is document 01's demands over lists of calls, and document 02's claims from a check on that accepted. Two
 // wrong programs that the contract rules out: one that leaves out an adding, and one that lends a call a table one place shorter than it

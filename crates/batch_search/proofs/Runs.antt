@@ -20,7 +20,7 @@ pub ready-for : (t : Tables) (run : Trace) (many : ℕ) → Searchable t run man
     → Ready t (queryAt t run i) (length (leaves (treeIn t)))
 ready-for t run many s i h = record {
   formed = s .formed;
-  long = record { control-long = s .control-long; samples-long = s .samples-long; nodes-long = s .nodes-long; links-long = s .links-long };
+  long = s .long;
   some-trace = s .some-trace;
   same-length = trace-length run (measuresOf t .n) i (query-room i many (measuresOf t .n) run h (s .run-long));
   trail-long = omega arith;

@@ -8,12 +8,12 @@ use mathlib.Core.List.{List, foldl}
 use lib.ListN.{length, getD, take, drop, set}
 use lib.Dec.{T, eqb}
 use Rattle.integer.specs.Words.{counting, those, isIn}
-use Rattle.dstree.specs.Measures.{Trace, samplesNeeded, recordsNeeded, linksNeeded, workNeeded}
+use Rattle.dstree.specs.Measures.{Trace, workNeeded}
 use Rattle.dstree.specs.Matching.{Near, bestWith}
 use Rattle.dstree.specs.Batch.{mostQueries, queriesIn, Batch, bestAmong, batchBySteps}
-use Rattle.tables.specs.Layout.{controlFields, recordPlaces}
 use Rattle.tables.specs.Tables.{Tables, measuresOf, traceCount, nodeCount, filled}
 use Rattle.tables.specs.View.{treeIn, traceIn, tracesIn, wellFormed}
+use Rattle.tables.specs.Holds.{Long}
 use Rattle.reading.specs.Listed.{recordAt, nearsIn}
 
 -- ---- what is asked of the tables
@@ -21,10 +21,7 @@ use Rattle.reading.specs.Listed.{recordAt, nearsIn}
 -- well-formed tables with a trace, and a run of so many queries of their length, 1 to 16
 pub record Searchable (t : Tables) (run : Trace) (many : ℕ) : Type 0 where
   pub formed : T (wellFormed t)
-  pub control-long : controlFields ≤ length (t .control)
-  pub samples-long : samplesNeeded (measuresOf t) ≤ length (t .samples)
-  pub nodes-long : recordsNeeded (measuresOf t) * recordPlaces ≤ length (t .nodes)
-  pub links-long : linksNeeded (measuresOf t) ≤ length (t .links)
+  pub long : Long t
   pub some-trace : 0 < traceCount t
   pub run-long : length run ≡ measuresOf t .n * many
   pub some-query : 1 ≤ many

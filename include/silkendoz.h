@@ -19,8 +19,8 @@
  *
  * `struct silkendoz_tables` holds them, and silkendoz_nearest_in(&tables, ..) is silkendoz_nearest with those tables; so for every call.
  *
- * A slice is passed as a pointer and then its length in elements (not bytes). A table may be longer than its need: places behind the need are neither
- * read nor written. A shorter one is refused (2). What the tables hold is in docs/LAYOUT.md, in the machine's own byte order.
+ * A slice is passed as a pointer and then its length in elements (not bytes). A table may be longer than its need: places behind the need
+ * are neither read nor written. A shorter one is refused (2). What the tables hold is in docs/LAYOUT.md, in the machine's own byte order.
  *
  * WHAT A CALLER OWES, which C cannot test: each pointer is aligned for its element and leads to as many elements as its length says, all
  * of them readable, and writable where the pointer is not const; no slice that a call may write overlaps another slice of the same call;
@@ -45,8 +45,8 @@
  *                         cache, invalidate it before the call and clean it before the card takes a sheet that was written
  *   stack                 a task with less than what is said above: the call then writes over its neighbour
  *
- * ANSWERS. A call gives back 0, or the number of a refusal. It writes the values that belong to the answer into the slice `out`, from its first place
- * on, and leaves the places behind them:
+ * ANSWERS. A call gives back 0, or the number of a refusal. It writes the values that belong to the answer into the slice `out`, from its
+ * first place on, and leaves the places behind them:
  *
  *   silkendoz_open              0   none
  *   silkendoz_add               0   the new trace's number
@@ -63,9 +63,9 @@
  * If `out` has fewer places, the first values are written and the others are left out. SILKENDOZ_OUT places are enough for every call.
  *
  * REFUSALS. A refused call leaves every table, the trail, the list, the answers, the sheet, the buffer and all of `out` behind its first
- * place as they were. The place is 0, but for a torn block, where it is the first block at fault. The numbers are tested in this order: 1; a control
- * record too short (2); its measures (3); other tables (2); the rest of 3; 11, 12 or 14, directly behind 3; then 4 to 8; 13. Reading a sheet:
- * 8; 9 over all blocks; 10; 2.
+ * place as they were. The place is 0, but for a torn block, where it is the first block at fault. The numbers are tested in this order: 1;
+ * a control record too short (2); its measures (3); other tables (2); the rest of 3; 11, 12 or 14, directly behind 3; then 4 to 8; 13.
+ * Reading a sheet: 8; 9 over all blocks; 10; 2.
  */
 #ifndef SILKENDOZ_H
 #define SILKENDOZ_H
@@ -131,8 +131,8 @@ enum silkendoz_refusal {
     SILKENDOZ_BAD_BATCH = 14      /* a batch: 0 or more than 16 queries, or an answer list of another length than the batch */
 };
 
-/* Opens an empty library with these measures: the needed parts of the tables are set to zero, then the control record is written. What the tables held
- * before does not matter. Refuses 1, 2. */
+/* Opens an empty library with these measures: the needed parts of the tables are set to zero, then the control record is written. What the
+ * tables held before does not matter. Refuses 1, 2. */
 uint64_t silkendoz_open(
     uint16_t *control, size_t control_len,
     int16_t *samples, size_t samples_len,
@@ -152,10 +152,10 @@ uint64_t silkendoz_add(
     const int16_t *trace, size_t trace_len,
     uint64_t *out, size_t out_len);
 
-/* Finds the stored trace that is nearest to a query of n samples: the least sum of squared differences, the lowest number among equals. The trail begins
- * with the numbers of the leaves read, in order; its places behind them stay. The needed part of `work` is left zero, whatever it held.
- * Of well-formed tables with loose records, which silkendoz_check_tables refuses, it is the nearest of the traces in the leaves read.
- * Refuses 2, 3, 4, 6, 7. */
+/* Finds the stored trace that is nearest to a query of n samples: the least sum of squared differences, the lowest number among equals. The
+ * trail begins with the numbers of the leaves read, in order; its places behind them stay. The needed part of `work` is left zero, whatever
+ * it held. Of well-formed tables with loose records, which silkendoz_check_tables refuses, it is the nearest of the traces in the leaves
+ * read. Refuses 2, 3, 4, 6, 7. */
 uint64_t silkendoz_nearest(
     const uint16_t *control, size_t control_len,
     const int16_t *samples, size_t samples_len,
@@ -186,8 +186,8 @@ uint64_t silkendoz_k_nearest(
 /* Bytes of a sheet that are enough for k traces of n samples: blocks of 512 bytes, block 0 and 253 samples in each other one. */
 #define SILKENDOZ_SHEET(k, n) (512 * (1 + ((size_t)(k) * (size_t)(n) + 252) / 253))
 
-/* Writes the library as a sheet, into the first blocks of `sheet`; bytes behind them stay. out[0] is the number of blocks. Of `work` only the length is
- * looked at. Refuses 2, 3, 8. */
+/* Writes the library as a sheet, into the first blocks of `sheet`; bytes behind them stay. out[0] is the number of blocks. Of `work` only
+ * the length is looked at. Refuses 2, 3, 8. */
 uint64_t silkendoz_write_sheet(
     const uint16_t *control, size_t control_len,
     const int16_t *samples, size_t samples_len,
@@ -197,8 +197,8 @@ uint64_t silkendoz_write_sheet(
     uint8_t *sheet, size_t sheet_len,
     uint64_t *out, size_t out_len);
 
-/* Opens the library that a sheet of any bytes holds, and adds its traces in order. What the tables held before does not matter. Every refusal is decided
- * before a table is written. silkendoz_sheet_measures says what tables a sheet needs. Refuses 8, 9, 10, 2. */
+/* Opens the library that a sheet of any bytes holds, and adds its traces in order. What the tables held before does not matter. Every
+ * refusal is decided before a table is written. silkendoz_sheet_measures says what tables a sheet needs. Refuses 8, 9, 10, 2. */
 uint64_t silkendoz_read_sheet(
     uint16_t *control, size_t control_len,
     int16_t *samples, size_t samples_len,
@@ -241,12 +241,11 @@ uint64_t silkendoz_export_recording(
 /* Whether tables that nobody vouches for may be trusted: recomputes every node's least and greatest sums and scatters from the samples of
  * the traces below it, by the leaves' lists, and compares them. If it gives 0, silkendoz_nearest, silkendoz_k_nearest and
  * silkendoz_match_batch answer the nearest stored traces and read the fewest leaves, whatever made the tables; and it still gives 0 after
- * any calls that follow. It gives 0 for every
- * library that calls made, an empty one too. A range that is wider than it need be is loose (13) as well as one that is too narrow. What it
- * does not see: a sample that changed, where the figures that a node records stayed as they were, or changed with it; thresholds of tests,
- * by which adding goes; places that hold nothing of the library. It reads every stored sample, at most 16 times, so it takes as long as one
- * scan of all traces or as some of them (docs/GUIDE.md). Nothing is written but `out`. Of `work` only the length is looked at. Refuses 2,
- * 3, 13. */
+ * any calls that follow. It gives 0 for every library that calls made, an empty one too. A range that is wider than it need be is loose
+ * (13) as well as one that is too narrow. What it does not see: a sample that changed, where the figures that a node records stayed as they
+ * were, or changed with it; thresholds of tests, by which adding goes; places that hold nothing of the library. It reads every stored
+ * sample, at most 16 times, so it takes as long as one scan of all traces or as some of them (docs/GUIDE.md). Nothing is written but `out`.
+ * Of `work` only the length is looked at. Refuses 2, 3, 13. */
 uint64_t silkendoz_check_tables(
     const uint16_t *control, size_t control_len,
     const int16_t *samples, size_t samples_len,

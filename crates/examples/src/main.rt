@@ -1,19 +1,28 @@
 // The examples of document 01, and some of document 02, run: what each call answers, held to the file stdout; walks along a leaf, and
 // distances with a limit. A step answers values, with a contract (`steps`); here the steps are put together, and printed. A function
-// that prints alone, in memory of its own, has no contract (`printing`).
+// that prints alone, in memory of its own, has no contract.
 
 mod steps; // traces added, queries matched, a sheet written
 mod walks; // a candidate's test, along a leaf
-mod printing; // answers as text
 
-use crate::printing::item;
+use crate::steps::AddingStep;
+use crate::steps::MatchStep;
 use crate::steps::add_to;
 use crate::steps::match_of;
 use crate::steps::put_starred;
 use crate::walks::nine;
 use crate::walks::twins;
+use adding::Added;
+use matching::Found;
 use opening::Opened;
+use segment::samples::apart;
+use segment::within::Distance;
 use sheet::fields::put_bytes;
+use sheet_reading::Read;
+use sheet_writing::Written;
+use split_choice::parting::Look;
+use tables::Refusal;
+use tables::numbers::wider;
 ghost use mathlib.Core.Path.{_≡_};
 ghost use mathlib.Core.List.{[], _∷_};
 ghost use Prim.Native.Nat.{_<_, _≤_};
@@ -24,6 +33,140 @@ ghost use Rattle.tables.specs.Tables.{tables};
 ghost use Rattle.calls.specs.Effects.{outcomeOn};
 ghost use Rattle.examples.specs.Steps.{starredIn, junk, damaged, parts, PartEnd};
 ghost use Rattle.examples.specs.Steps.{addedEach, matchedEach, readMatched, readEach};
+
+// ---- answers as text, on standard output. What `io::write_all` writes is no value that a contract can name, so that nothing here has one;
+// each line is held to the file stdout when the program is run
+
+// Words, and a number behind them.
+fn item(words: &[u8], n: u64) {
+    io::write_all(1, words);
+    io::print_decimal(1, n);
+}
+
+fn line_end() {
+    io::write_all(1, b"\n");
+}
+
+fn print_refusal(why: Refusal) {
+    item(b"refused ", tables::answers::number(why));
+    item(b" ", tables::answers::place(why));
+}
+
+fn print_opening(answer: Opened) {
+    match answer {
+        Opened::Done => {
+            io::write_all(1, b"opened");
+        }
+        Opened::Refused(why) => print_refusal(why),
+    }
+    line_end();
+}
+
+fn print_adding(step: AddingStep) {
+    let answer = step.answer;
+    match answer {
+        Added::At(k) => item(b"added ", k),
+        Added::Refused(why) => print_refusal(why),
+    }
+    item(b"\n  nodes ", wider(step.nodes));
+    line_end();
+}
+
+// A sample behind a space.
+fn print_sample(x: i16) {
+    if x < 0 {
+        io::write_all(1, b" -");
+    } else {
+        io::write_all(1, b" ");
+    }
+    io::print_decimal(1, apart(x, 0) as u64);
+}
+
+fn print_query(samples: &[i16]) {
+    io::write_all(1, b"match");
+    let mut i: usize = 0;
+    while i < samples.len() {
+        print_sample(samples[i]);
+        i += 1;
+    }
+    io::write_all(1, b": ");
+}
+
+// The leaves read, which the trail begins with.
+fn print_trail(trail: &[u16], leaves: u64) {
+    io::write_all(1, b" trail");
+    let mut i: usize = 0;
+    while i < trail.len() {
+        if (i as u64) < leaves {
+            item(b" ", wider(trail[i]));
+        }
+        i += 1;
+    }
+}
+
+fn print_match(step: MatchStep) {
+    let answer = step.answer;
+    let trail = step.trail;
+    match answer {
+        Found::At(trace, distance, leaves, traces) => {
+            item(b"trace ", trace);
+            item(b" distance ", distance);
+            item(b" leaves ", leaves);
+            item(b" traces ", traces);
+            print_trail(&trail, leaves);
+        }
+        Found::Refused(why) => print_refusal(why),
+    }
+    line_end();
+}
+
+// "Bytes 510 to 511" of block 0 and of block 1.
+fn print_checks(sheet: &[u8]) {
+    if 1024 <= sheet.len() {
+        item(b" checks ", sheet::fields::two_bytes(sheet, 510));
+        item(b" ", sheet::fields::two_bytes(sheet, 1022));
+    }
+}
+
+fn print_writing(answer: Written, sheet: &[u8]) {
+    match answer {
+        Written::Blocks(blocks) => {
+            item(b"blocks ", blocks);
+            print_checks(sheet);
+        }
+        Written::Refused(why) => print_refusal(why),
+    }
+    line_end();
+}
+
+fn print_reading(answer: Read) {
+    match answer {
+        Read::Done => {
+            io::write_all(1, b"done");
+        }
+        Read::Refused(why) => print_refusal(why),
+    }
+    line_end();
+}
+
+// Whether both sides were seen, and how many traces that took.
+fn print_walk(words: &[u8], seen: Look) {
+    io::write_all(1, words);
+    if seen.both {
+        item(b"yes, took ", seen.taken as u64);
+    } else {
+        item(b"no, took ", seen.taken as u64);
+    }
+    line_end();
+}
+
+fn print_distance(answer: Distance) {
+    match answer {
+        Distance::Exact(d) => item(b"exact ", d),
+        Distance::Beyond(samples) => item(b"beyond ", samples as u64),
+    }
+    line_end();
+}
 
 // ---- openings: "n 256, capacity 4,096, leaf size 64 open; 257, 4,097, 65 and 0 do not"
 
@@ -52,7 +195,7 @@ fn opening_of(n: u64, capacity: u64, leaf_size: u64) {
     item(b" ", capacity);
     item(b" ", leaf_size);
     io::write_all(1, b": ");
-    printing::opened(in_largest_tables(n, capacity, leaf_size));
+    print_opening(in_largest_tables(n, capacity, leaf_size));
 }
 
 fn run_openings() {
@@ -103,7 +246,7 @@ fn add_all(
     let mut at: usize = 0;
     while at < traces.len() {
         let end = part_end(traces.len(), at, n);
-        printing::grown(add_to(control, samples, nodes, links, work, &traces[at..end]));
+        print_adding(add_to(control, samples, nodes, links, work, &traces[at..end]));
         at = end;
     }
 }
@@ -127,8 +270,8 @@ fn match_all(
     while at < queries.len() {
         let end = part_end(queries.len(), at, n);
         let query = &queries[at..end];
-        printing::query(query);
-        printing::matched(match_of(control, samples, nodes, links, work, query));
+        print_query(query);
+        print_match(match_of(control, samples, nodes, links, work, query));
         at = end;
     }
 }
@@ -142,7 +285,7 @@ fn library(n: u16, leaf_size: u64, traces: &[i16], queries: &[i16])
     let mut nodes = [7i64; 1305];
     let mut links = [7u16; 8];
     let mut work = [7u64; 15];
-    printing::opened(opening::open(
+    print_opening(opening::open(
         &mut control,
         &mut samples,
         &mut nodes,
@@ -206,7 +349,7 @@ fn write_to(sheet: &mut [u8], line: &[u8])
     );
     let answer = sheet_writing::write_sheet(&control, &samples, &nodes, &links, &work, sheet);
     io::write_all(1, line);
-    printing::written(answer, sheet);
+    print_writing(answer, sheet);
 }
 
 // What is done to a sheet before it is read.
@@ -233,7 +376,7 @@ fn read_one(
         ≡ readMatched (tables (now (control .entry)) (now (samples .entry)) (now (nodes .entry)) (now (links .entry)) (now (work .entry)))
         (now (sheet .entry)) ⌝ }
 {
-    printing::read(sheet_reading::read_sheet(control, samples, nodes, links, work, sheet));
+    print_reading(sheet_reading::read_sheet(control, samples, nodes, links, work, sheet));
     match_all(control, samples, nodes, links, work, 1, &[-1i16]);
 }
 
@@ -302,10 +445,10 @@ fn run_sheets() {
 
 fn run_walks() {
     // 0, 1 and 9: T = 9 by sum, so that 9 alone goes right; T = 0 by scatter, and all go left
-    printing::walked(b"walk 0 1 9 by sum, T 9: ", nine(false, 9));
-    printing::walked(b"walk 0 1 9 by scatter, T 0: ", nine(true, 0));
+    print_walk(b"walk 0 1 9 by sum, T 9: ", nine(false, 9));
+    print_walk(b"walk 0 1 9 by scatter, T 0: ", nine(true, 0));
     // (1,2,1,2) and (2,1,2,1), which nothing parts: sums of 6, T = 12
-    printing::walked(b"walk 1 2 1 2, 2 1 2 1 by sum, T 12: ", twins());
+    print_walk(b"walk 1 2 1 2, 2 1 2 1 by sum, T 12: ", twins());
 }
 
 // ---- distances with a limit: document 02, "Leave a hopeless trace early"
@@ -316,7 +459,7 @@ fn distance_of(words: &[u8], x: &[i16], y: &[i16], limit: u64)
 {
     item(words, limit);
     io::write_all(1, b": ");
-    printing::distance(segment::within::distance_within(x, y, limit));
+    print_distance(segment::within::distance_within(x, y, limit));
 }
 
 fn run_distances() {

@@ -37,6 +37,7 @@ use Rattle.calls.proofs.OneCall.{one-call}
 use Rattle.calls.proofs.NeverSpoiled.{spoiled-is-not, loose-is-not, never}
 use Rattle.calls.proofs.RoundTrips.{written-is, is-written, read-back-in, written-again-from}
 use Rattle.calls.proofs.OffTrail.{answered, off-trail}
+use Rattle.calls.proofs.Adds.{adds-anywhere}
 use Rattle.calls.proofs.Imports.{imports-anywhere, exported-sound, exported-and-imported}
 use Rattle.calls.proofs.Trusting.{check-stays, part-checked, loose-is, loose-fine, loose-stores, trusted, all-trusting}
 use Rattle.calls.proofs.Queries.{Judges, of-any-query}
@@ -181,6 +182,7 @@ pub demands : Demands
 demands = record {
   one-call = one-call;
   off-trail = off-trail;
+  adds-anywhere = adds-anywhere;
   lists-anywhere = lists-anywhere;
   imports-anywhere = imports-anywhere;
   checks-anywhere = checks-anywhere;

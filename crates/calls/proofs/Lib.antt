@@ -11,6 +11,7 @@ pub mod OneCall
 pub mod NeverSpoiled
 pub mod OffTrail
 pub mod RoundTrips
+pub mod Adds
 pub mod Imports
 pub mod Trusting
 pub mod Queries

@@ -31,7 +31,7 @@ use Rattle.tables.proofs.Beginning.{extended, restOf, begins-is, tables-same, l
 use Rattle.tables.proofs.Beginning.{first-begins, fill-length, opened-lent}
 use Rattle.insertion_memory.specs.Memory.{addedTo}
 use Rattle.insertion_memory.proofs.FromTables.{long-of}
-use Rattle.insertion_memory.proofs.Meaning.{meaning}
+use Rattle.insertion_memory.proofs.Meaning.{AfterAdding, meaning}
 use Rattle.insertion_memory.proofs.Keeps.{TakesAll, keeps-all}
 use Rattle.calls.specs.Outcome.{Effect, unlessRefused}
 use Rattle.calls.specs.Library.{loaded, beyond}
@@ -77,16 +77,23 @@ module _ (t : Tables) where
       let r = short-room (lentOf t) m [] (none-first (not (inRange m)) measure (shortConditions layout (lentOf t) m) e .1) in
       record { lengths-same = opened-lent t m r; room = r; beyond-same = opened-beyond t m r }
 
-  adding-untouched : (x : Trace) → firstOf (adds t x .conditions) ≡ none → Untouched t (addedTo t x)
+  -- what an adding that is not refused means
+  pub adding-means : (x : Trace) → firstOf (adds t x .conditions) ≡ none → AfterAdding t x
   unfolding adds
-  adding-untouched x e =
+  adding-means x e =
       let own = none-both (madeConditions t) _ e .1 in
       let one = none-first (not (eqb (length x) (measuresOf t .n))) wrongTrace _ own in
       let two = none-first (eqb (traceCount t) (measuresOf t .capacity)) full _ (one .1) in
       let ok = accepted t (none-both (madeConditions t) _ e .0) in
       let size = eqb-true (length x) (measuresOf t .n) (not-false _ (one .0)) in
       let less = strict (tree-formed t (ok .formed) .room) (λ q. eqb-false (traceCount t) (measuresOf t .capacity) (two .0) q) in
-      let a = meaning t x (ok .formed) (long-of t (ok .room)) size less in
+      meaning t x (ok .formed) (long-of t (ok .room)) size less
+
+  adding-untouched : (x : Trace) → firstOf (adds t x .conditions) ≡ none → Untouched t (addedTo t x)
+  unfolding adds
+  adding-untouched x e =
+      let ok = accepted t (none-both (madeConditions t) _ e .0) in
+      let a = adding-means x e in
       record {
         lengths-same = a .lengths-stay;
         room = rw (a .measures-stay) (ok .room);

@@ -173,6 +173,7 @@ module _ {memory : Tables} {b : Book} (k : Trusts memory b) (judges : Call → O
         out-of-R = c some-trace .out-of-R;
         contains-R = c some-trace .contains-R;
         fewest = c some-trace .fewest;
+        R-itself = c some-trace .R-itself;
         each-k = λ j. record {
           list-gives = list-gives j;
           list-is = list-claims j (b .traces) query;

@@ -5,7 +5,7 @@ use Prim.Native.Nat.{ℕ, _*_, _≤_, _<_}
 use mathlib.Core.Path.{_≡_}
 use mathlib.Core.Bool.{true, not}
 use mathlib.Core.Option.{Option, none, some}
-use mathlib.Core.List.{List, [], _∷_, map}
+use mathlib.Core.List.{List, [], _∷_, _++_, map}
 use lib.ListN.{length, getD, take}
 use lib.Dec.{T}
 use Rattle.integer.specs.Words.{every, isIn, counting}
@@ -13,6 +13,7 @@ use Rattle.integer.specs.Lists.{In, Up}
 use Rattle.segment.specs.Figures.{distance}
 use Rattle.dstree.specs.Measures.{Trace, Measures, sampleLimit, areSamples}
 use Rattle.dstree.specs.Node.{Tree}
+use Rattle.dstree.specs.Adding.{insertion}
 use Rattle.dstree.specs.Matching.{bound, leaves, leastDistance, Near, Match, matchOf}
 use Rattle.dstree.specs.KNearest.{isK, ranking, listPlaces, KNearest, kNearestBySteps, kNearestOf, distancesAmong, ListClaims}
 use Rattle.dstree.specs.KNearest.{KNearestClaims, OneIsMatch}
@@ -88,6 +89,26 @@ SamplesOffTrail = (c : Call) (these these′ : Tables) (said : Reply) → Follow
     → (r : Result) (trail : List ℕ) → said .answer ≡ answering r → trailFound r ≡ some trail
     → (other other′ : Tables) (also : Reply) → DifferOutside trail these other → Follows c other also other′
     → also ≡ said
+
+-- ---- adding, on any tables
+
+-- an adding that answered a number, on some memory, and what it left there: "With well-formed tables that somebody altered, calls follow
+-- the steps above on what is recorded"
+pub record AddedInto (lent : Lent) (x : Trace) (memory : Tables) (number : ℕ) (memory′ : Tables) : Type 0 where
+  pub number-is : number ≡ traceCount (firstPlaces lent memory)
+  pub measures-stay : measuresOf (firstPlaces lent memory′) ≡ measuresOf (firstPlaces lent memory)
+  -- "Adding appends its trace"
+  pub traces-are : tracesIn (firstPlaces lent memory′) ≡ tracesIn (firstPlaces lent memory) ++ (x ∷ [])
+  -- the tree is the one that the steps under "Adding" make of the recorded one
+  pub tree-is : treeIn (firstPlaces lent memory′)
+      ≡ insertion (measuresOf (firstPlaces lent memory)) (tracesIn (firstPlaces lent memory)) (treeIn (firstPlaces lent memory)) x
+  -- "Adding and writing leave search work as it was"
+  pub work-stays : firstPlaces lent memory′ .work ≡ firstPlaces lent memory .work
+
+abbrev pub AddsAnywhere : Type 0
+AddsAnywhere = (lent : Lent) (x : Trace) (memory memory′ : Tables) (said : Reply)
+    → Follows (call lent (adding x)) memory said memory′
+    → (number : ℕ) → said .answer ≡ answering (added number) → AddedInto lent x memory number memory′
 
 -- ---- document 02, §1, on any tables
 
@@ -214,6 +235,8 @@ pub record OfAnyQuery (judges : Call → Option Refusal) (stored : List Trace) (
   pub contains-R : (set : List ℕ) → LeavesOutOnlyAbove stored tree query set
       → T (every (λ number. isIn number set) (matchOf stored tree query .trail))
   pub fewest : (set : List ℕ) → LeavesOutOnlyAbove stored tree query set → matchOf stored tree query .leaves ≤ length set
+  -- R is itself such a set, so that "the fewest its bounds allow" is reached
+  pub R-itself : LeavesOutOnlyAbove stored tree query (matchOf stored tree query .trail)
   -- document 02, §1; the one nearest is the match, "with its trail and counts"
   pub each-k : (k : ℕ) → OfEachK judges k stored tree query memory
   pub one-is-match : OneIsMatch stored tree query
@@ -402,6 +425,7 @@ ChecksAnywhere = (lent : Lent) (memory memory′ : Tables) (said : Reply) → Fo
 pub record Demands : Type 0 where
   pub one-call : (c : Call) (memory memory′ : Tables) (said : Reply) → Follows c memory said memory′ → OneCall c memory said memory′
   pub off-trail : SamplesOffTrail
+  pub adds-anywhere : AddsAnywhere
   pub lists-anywhere : ListsAnywhere
   pub imports-anywhere : ImportsAnywhere
   pub checks-anywhere : ChecksAnywhere

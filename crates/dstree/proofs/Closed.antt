@@ -239,8 +239,35 @@ module _ (n : ℕ) (stored : List Trace) (tree : Tree) (c : Containing n stored 
       (λ t j. ap (λ (x : Trace). record { trace = t; distance = distance query x }) (agree-in (λ (k : ℕ). getD other k []) (λ (k : ℕ). getD stored k []) e
       (in-flat (λ (number : ℕ). numbersIn (nodeAt tree number .kind)) (trail-has stored tree query (reading-of tree query i .0) (omega (arith, reading-of tree query i .1))) j)))
 
+  -- R is itself a set that leaves out only bounds above the least distance in it: the leaf of a nearest trace is in R
+  nearest-leaf : LeafOf (nearest .place)
+  nearest-leaf = leaf-of (nearest .place) (nearest .inside)
+
+  nearest-in : In (nearest-leaf .at) (trail stored tree query)
+  nearest-in = trail-has stored tree query (nearest-leaf .is-leaf) (omega (arith, nearest-leaf .low, nearest .at))
+
+  filled : (l : List ℕ) {k : ℕ} → In k l → T (not (isEmpty l))
+  unfolding isEmpty
+  filled [] i = absurd (omega (arith, some-in i))
+  filled (a ∷ l) i = tt
+
+  R-least : leastDistance (tracesOf stored (numbersAmong tree (trail stored tree query))) query ≤ d
+  unfolding leastDistance numbersAmong
+  R-least =
+      let t : ℕ = nearest .place in
+      let i = in-map (distance query) (in-map (λ (k : ℕ). getD stored k []) (in-flat (λ (number : ℕ). numbersIn (nodeAt tree number .kind)) nearest-in (nearest-leaf .holds))) in
+      omega (arith, least-low i, nearest .at)
+
+  R-itself : LeavesOutOnlyAbove stored tree query (trail stored tree query)
+  R-itself = record {
+    one-or-more = filled (trail stored tree query) nearest-in;
+    of-leaves = every-of (λ number. isIn number (leaves tree)) (trail stored tree query) (λ k i. in-is (from-trail stored tree query i .0));
+    out-is-above = λ number i out. omega (arith, R-least, out-of-R stored tree query number i out);
+  }
+
   pub claims-of : ClaimsOf stored tree query
   claims-of = record {
+    R-itself = R-itself;
     bound-at-most = bound-at-most n stored tree c query all-n lq;
     steps-give-it = alike-gives stored (all-in order (λ a i h. refl));
     others-do-not-bear = λ other e. alike-gives other (all-in order (agree-alike other e));

@@ -440,6 +440,28 @@ module _ (n : ℕ) (stored : List Trace) (tree : Tree) (c : Containing n stored 
         by true e = refl
         by false e = absurd (T-not (isIn number trail) out (in-is (in-R number (is-in number (leaves tree) i) e)))
 
+    -- the leaves read are themselves a set that holds k traces and leaves out only bounds above the k-th distance there
+    abbrev own : ℕ → Bool
+    own number = isIn number trail
+
+    own-apart : Apart (λ (j : ℕ). j) (leavesIn tree own)
+    unfolding leaves
+    own-apart =
+        those-apart (λ (j : ℕ). j) own
+        (those-apart (λ (j : ℕ). j) (λ number. isLeaf (nodeAt tree number .kind)) (up-same (counting-up (length tree) 0)))
+
+    own-kth : kth k (ranking (among (leavesIn tree own))) ≡ last
+    own-kth =
+        sym (kth-taken k (ranking (among (leavesIn tree own))))
+        ∙ ap (kth k) (sym (has-first (leavesIn tree own) own-apart (λ j i g. in-those own i (in-is (in-R j i g)))))
+        ∙ kth-taken k all ∙ sym last-is
+
+    own-out : (d : Near) → last ≡ some d → LeavesOutAbove tree query own (d .distance)
+    own-out d e number i out = from-above (bound tree query number) d (rw e at (out-is-above number i out))
+
+    Rk-itself : (d : Near) → last ≡ some d → HoldsK k stored tree query own d × LeavesOutAbove tree query own (d .distance)
+    Rk-itself d e = (own-kth ∙ e, own-out d e)
+
     -- ---- fewest
 
     module _ (set : ℕ → Bool) (d : Near) (holds : HoldsK k stored tree query set d) where
@@ -557,6 +579,7 @@ module _ (n : ℕ) (stored : List Trace) (tree : Tree) (c : Containing n stored 
     contains-Rk = contains-Rk k;
     no-fewer = no-fewer-leaves k;
     fewest = fewest k;
+    Rk-itself = Rk-itself k;
     shorter-trail = λ j one h. shorter-trail j k one h;
   }
 

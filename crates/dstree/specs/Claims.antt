@@ -166,6 +166,8 @@ pub record ClaimsOf (traces : List Trace) (tree : Tree) (query : Trace) : Type 0
       → T (every (λ number. isIn number set) (matchOf traces tree query .trail))
   -- ".. so it has at least as many leaves as the answer counts"
   pub fewest : (set : List ℕ) → LeavesOutOnlyAbove traces tree query set → matchOf traces tree query .leaves ≤ length set
+  -- R is itself such a set, so that "the fewest" is reached
+  pub R-itself : LeavesOutOnlyAbove traces tree query (matchOf traces tree query .trail)
 
 -- a tree that is well formed, over traces of n samples, whose records have exactly the figures of the traces below: the tree that insertion
 -- makes is one, and so is any other, whoever made it

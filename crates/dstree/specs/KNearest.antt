@@ -205,6 +205,10 @@ pub record KNearestClaims (k : ℕ) (stored : List Trace) (tree : Tree) (query :
   -- "for any smaller set of leaves that holds k traces, some leaf left out has a bound no greater than the k-th distance there"
   pub fewest : (set : ℕ → Bool) (last : Near) → HoldsK k stored tree query set last
       → length (leavesIn tree set) < kNearestOf k stored tree query .leaves → LeftOut tree query set last
+  -- the leaves read are themselves such a set, so that the fewest is reached
+  pub Rk-itself : (last : Near) → kth k (nearestList k stored query) ≡ some last
+      → HoldsK k stored tree query (λ number. isIn number (kNearestOf k stored tree query .trail)) last
+      × LeavesOutAbove tree query (λ number. isIn number (kNearestOf k stored tree query .trail)) (last .distance)
   -- "A shorter list must be the beginning of a longer one", and its trail that of a longer one's
   pub shorter-trail : (j : ℕ) → 0 < j → j ≤ k
       → kNearestOf j stored tree query .trail ≡ take (kNearestOf j stored tree query .leaves) (kNearestOf k stored tree query .trail)

@@ -6,7 +6,7 @@ use lib.IntN.{ℤ}
 use denote.Ref.{RefT, now}
 use denote.Triple.Entry.{Args}
 use denote.Triple.Clauses.{AtExit}
-use borrow.Fn.Kinds.{Dens, endedOf}
+use borrow.Fn.Kinds.{PK, RK, Dens, endedOf, Out, resT}
 use contract.Lifetimes.{Lfts}
 use Rattle.dstree.specs.Measures.{measures}
 use Rattle.dstree.specs.KNearest.{listPlaces}
@@ -17,39 +17,30 @@ use Rattle.tables.specs.Beginning.{firstPlaces, left}
 use Rattle.calls.specs.Outcome.{outcome}
 use Rattle.calls.specs.Effects.{outcomeOn}
 use Rattle.calls.specs.Follows.{Typed}
-use Rattle.opening.specs.declared.Opened.{Opened}
 use Rattle.opening.specs.Opened as opening-answer
 use Rattle.opening.proofs.open.Kinds as open-kinds
 use Rattle.opening.proofs.open.Reads as open-reads
-use Rattle.adding.specs.declared.Added.{Added}
 use Rattle.adding.specs.Answered as adding-answer
 use Rattle.adding.proofs.add.Kinds as add-kinds
 use Rattle.adding.proofs.add.Reads as add-reads
-use Rattle.matching.specs.declared.Found.{Found}
 use Rattle.matching.specs.Answered as matching-answer
 use Rattle.matching.proofs.nearest.Kinds as nearest-kinds
 use Rattle.matching.proofs.nearest.Reads as nearest-reads
-use Rattle.listing.specs.declared.Listed.{Listed}
 use Rattle.listing.specs.Answered as listing-answer
 use Rattle.listing.proofs.k_nearest.Kinds as list-kinds
 use Rattle.listing.proofs.k_nearest.Reads as list-reads
-use Rattle.sheet_writing.specs.declared.Written.{Written}
 use Rattle.sheet_writing.specs.Answered as writing-answer
 use Rattle.sheet_writing.proofs.write_sheet.Kinds as write-kinds
 use Rattle.sheet_writing.proofs.write_sheet.Reads as write-reads
-use Rattle.sheet_reading.specs.declared.Read.{Read}
 use Rattle.sheet_reading.specs.Answered as reading-answer
 use Rattle.sheet_reading.proofs.read_sheet.Kinds as read-kinds
 use Rattle.sheet_reading.proofs.read_sheet.Reads as read-reads
-use Rattle.importing.specs.declared.Imported.{Imported}
 use Rattle.importing.specs.Answered as importing-answer
 use Rattle.importing.proofs.import_recording.Kinds as import-kinds
 use Rattle.importing.proofs.import_recording.Reads as import-reads
-use Rattle.exporting.specs.declared.Exported.{Exported}
 use Rattle.exporting.specs.Answered as exporting-answer
 use Rattle.exporting.proofs.export_recording.Kinds as export-kinds
 use Rattle.exporting.proofs.export_recording.Reads as export-reads
-use Rattle.checking.specs.declared.Checked.{Checked}
 use Rattle.checking.specs.Answered as checking-answer
 use Rattle.checking.proofs.check_tables.Kinds as check-kinds
 use Rattle.checking.proofs.check_tables.Reads as check-reads
@@ -103,116 +94,83 @@ pub record CallMade (ask : Ask) (before : Tables) (answer : Answer) (after : Tab
 
 -- ---- call by call, with the claim of its contract (`claim`), which the code meets (`Theorem`)
 
-pub record Opens (c : Call) (memory : Tables) (said : Reply) (memory′ : Tables) : Type 0 where
-  pub κs : Lfts 5
-  pub args : Dens κs open-kinds.ps
-  pub exits : AtExit (endedOf 5 open-kinds.ps open-kinds.r) κs
-  pub result : Opened
-  pub claim : open-reads.Learnt κs args result exits
-  pub made : let n = own args .0 in
-      let capacity = own args .1 .0 in
-      let leafSize = own args .1 .1 .0 in
-      CallMade (opening (measures n capacity leafSize)) (tablesOf args)
-      (opening-answer.answerBy result) (tablesOf exits) [] c memory said memory′
+-- what a call asked and was lent, what it answered, and what it left
+pub record Exchange : Type 0 where
+  pub ask : Ask
+  pub before : Tables
+  pub answer : Answer
+  pub after : Tables
+  pub beside : List (List ℕ)
+
+abbrev pub exchange : Ask → Tables → Answer → Tables → List (List ℕ) → Exchange
+exchange ask before answer after beside = record { ask = ask; before = before; answer = answer; after = after; beside = beside }
+
+-- a call of a function with these parameters and this result, of which its contract claims `Learnt`
+pub record Made {n : ℕ} (ps : List (PK n)) (r : RK n) (Learnt : Out n ps r)
+    (seen : (κs : Lfts n) → Dens κs ps → resT r κs .Denot → AtExit (endedOf n ps r) κs → Exchange)
+    (c : Call) (memory : Tables) (said : Reply) (memory′ : Tables) : Type 0 where
+  pub κs : Lfts n
+  pub args : Dens κs ps
+  pub exits : AtExit (endedOf n ps r) κs
+  pub result : resT r κs .Denot
+  pub claim : Learnt κs args result exits
+  pub made : let x = seen κs args result exits in CallMade (x .ask) (x .before) (x .answer) (x .after) (x .beside) c memory said memory′
+
+abbrev pub Opens : Call → Tables → Reply → Tables → Type 0
+Opens = Made open-kinds.ps open-kinds.r open-reads.Learnt (λ κs args r exits.
+    exchange (opening (measures (own args .0) (own args .1 .0) (own args .1 .1 .0))) (tablesOf args) (opening-answer.answerBy r)
+    (tablesOf exits) [])
 
 -- adding is lent the search work to read, and leaves it
-pub record Adds (c : Call) (memory : Tables) (said : Reply) (memory′ : Tables) : Type 0 where
-  pub κs : Lfts 6
-  pub args : Dens κs add-kinds.ps
-  pub exits : AtExit (endedOf 6 add-kinds.ps add-kinds.r) κs
-  pub result : Added
-  pub claim : add-reads.Learnt κs args result exits
-  pub made : let trace = now (own args .0) in
-      CallMade (adding trace) (tablesOf args)
-      (adding-answer.answerBy result) (tables (control exits) (samples exits) (nodes exits) (links exits)
-      (work args)) [] c memory said memory′
+abbrev pub Adds : Call → Tables → Reply → Tables → Type 0
+Adds = Made add-kinds.ps add-kinds.r add-reads.Learnt (λ κs args r exits.
+    exchange (adding (now (own args .0))) (tablesOf args) (adding-answer.answerBy r)
+    (tables (control exits) (samples exits) (nodes exits) (links exits) (work args)) [])
 
 -- a match is lent all but search work and trail to read
-pub record Matches (c : Call) (memory : Tables) (said : Reply) (memory′ : Tables) : Type 0 where
-  pub κs : Lfts 7
-  pub args : Dens κs nearest-kinds.ps
-  pub exits : AtExit (endedOf 7 nearest-kinds.ps nearest-kinds.r) κs
-  pub result : Found
-  pub claim : nearest-reads.Learnt κs args result exits
-  pub made : let trail = now (own args .0) in
-      let query = now (own args .1 .0) in
-      let trail′ = now (own exits .0) in
-      CallMade (matching query trail) (tablesOf args)
-      (matching-answer.answerBy result trail′) (tables (control args) (samples args) (nodes args) (links args) (work exits))
-      (trail′ ∷ []) c memory said memory′
+abbrev pub Matches : Call → Tables → Reply → Tables → Type 0
+Matches = Made nearest-kinds.ps nearest-kinds.r nearest-reads.Learnt (λ κs args r exits.
+    let trail′ = now (own exits .0) in
+    exchange (matching (now (own args .1 .0)) (now (own args .0))) (tablesOf args) (matching-answer.answerBy r trail′)
+    (tables (control args) (samples args) (nodes args) (links args) (work exits)) (trail′ ∷ []))
 
 -- a writing is lent all tables to read, and leaves them
-pub record Writes (c : Call) (memory : Tables) (said : Reply) (memory′ : Tables) : Type 0 where
-  pub κs : Lfts 6
-  pub args : Dens κs write-kinds.ps
-  pub exits : AtExit (endedOf 6 write-kinds.ps write-kinds.r) κs
-  pub result : Written
-  pub claim : write-reads.Learnt κs args result exits
-  pub made : let sheet = now (own args .0) in
-      let sheet′ = now (own exits .0) in
-      CallMade (writing sheet) (tablesOf args) (writing-answer.answerBy result sheet′) (tablesOf args) (sheet′ ∷ []) c memory said memory′
+abbrev pub Writes : Call → Tables → Reply → Tables → Type 0
+Writes = Made write-kinds.ps write-kinds.r write-reads.Learnt (λ κs args r exits.
+    let sheet′ = now (own exits .0) in
+    exchange (writing (now (own args .0))) (tablesOf args) (writing-answer.answerBy r sheet′) (tablesOf args) (sheet′ ∷ []))
 
 -- a reading is lent its sheet to read
-pub record Reads (c : Call) (memory : Tables) (said : Reply) (memory′ : Tables) : Type 0 where
-  pub κs : Lfts 6
-  pub args : Dens κs read-kinds.ps
-  pub exits : AtExit (endedOf 6 read-kinds.ps read-kinds.r) κs
-  pub result : Read
-  pub claim : read-reads.Learnt κs args result exits
-  pub made : let sheet = now (own args .0) in
-      CallMade (reading sheet) (tablesOf args) (reading-answer.answerBy result) (tablesOf exits) [] c memory said memory′
+abbrev pub Reads : Call → Tables → Reply → Tables → Type 0
+Reads = Made read-kinds.ps read-kinds.r read-reads.Learnt (λ κs args r exits.
+    exchange (reading (now (own args .0))) (tablesOf args) (reading-answer.answerBy r) (tablesOf exits) [])
 
 -- a listing is lent all but search work, trail and list to read
-pub record Lists (c : Call) (memory : Tables) (said : Reply) (memory′ : Tables) : Type 0 where
-  pub κs : Lfts 8
-  pub args : Dens κs list-kinds.ps
-  pub exits : AtExit (endedOf 8 list-kinds.ps list-kinds.r) κs
-  pub result : Listed
-  pub claim : list-reads.Learnt κs args result exits
-  pub made : let trail = now (own args .0) in
-      let list = now (own args .1 .0) in
-      let query = now (own args .1 .1 .0) in
-      let k = own args .1 .1 .1 .0 in
-      let trail′ = now (own exits .0) in
-      let list′ = now (own exits .1 .0) in
-      CallMade (listing k query trail list) (tablesOf args)
-      (listing-answer.answerBy result trail′ list′) (tables (control args) (samples args) (nodes args) (links args) (work exits))
-      (trail′ ∷ list′ ∷ []) c memory said memory′
+abbrev pub Lists : Call → Tables → Reply → Tables → Type 0
+Lists = Made list-kinds.ps list-kinds.r list-reads.Learnt (λ κs args r exits.
+    let trail′ = now (own exits .0) in
+    let list′ = now (own exits .1 .0) in
+    exchange (listing (own args .1 .1 .1 .0) (now (own args .1 .1 .0)) (now (own args .0)) (now (own args .1 .0))) (tablesOf args)
+    (listing-answer.answerBy r trail′ list′) (tables (control args) (samples args) (nodes args) (links args) (work exits))
+    (trail′ ∷ list′ ∷ []))
 
 -- an import is lent the search work and its file to read, and leaves them
-pub record Imports (c : Call) (memory : Tables) (said : Reply) (memory′ : Tables) : Type 0 where
-  pub κs : Lfts 6
-  pub args : Dens κs import-kinds.ps
-  pub exits : AtExit (endedOf 6 import-kinds.ps import-kinds.r) κs
-  pub result : Imported
-  pub claim : import-reads.Learnt κs args result exits
-  pub made : let file = now (own args .0) in
-      CallMade (importing file) (tablesOf args)
-      (importing-answer.answerBy result) (tables (control exits) (samples exits) (nodes exits) (links exits)
-      (work args)) [] c memory said memory′
+abbrev pub Imports : Call → Tables → Reply → Tables → Type 0
+Imports = Made import-kinds.ps import-kinds.r import-reads.Learnt (λ κs args r exits.
+    exchange (importing (now (own args .0))) (tablesOf args) (importing-answer.answerBy r)
+    (tables (control exits) (samples exits) (nodes exits) (links exits) (work args)) [])
 
 -- an export is lent all tables to read, and leaves them
-pub record Exports (c : Call) (memory : Tables) (said : Reply) (memory′ : Tables) : Type 0 where
-  pub κs : Lfts 6
-  pub args : Dens κs export-kinds.ps
-  pub exits : AtExit (endedOf 6 export-kinds.ps export-kinds.r) κs
-  pub result : Exported
-  pub claim : export-reads.Learnt κs args result exits
-  pub made : let buffer = now (own args .0) in
-      let number = own args .1 .0 in
-      let rate = own args .1 .1 .0 in
-      let buffer′ = now (own exits .0) in
-      CallMade (exporting number rate buffer) (tablesOf args)
-      (exporting-answer.answerBy result buffer′) (tablesOf args) (buffer′ ∷ []) c memory said memory′
+abbrev pub Exports : Call → Tables → Reply → Tables → Type 0
+Exports = Made export-kinds.ps export-kinds.r export-reads.Learnt (λ κs args r exits.
+    let buffer′ = now (own exits .0) in
+    exchange (exporting (own args .1 .0) (own args .1 .1 .0) (now (own args .0))) (tablesOf args) (exporting-answer.answerBy r buffer′)
+    (tablesOf args) (buffer′ ∷ []))
 
 -- a check is lent all tables to read, and leaves them
-pub record Checks (c : Call) (memory : Tables) (said : Reply) (memory′ : Tables) : Type 0 where
-  pub κs : Lfts 5
-  pub args : Dens κs check-kinds.ps
-  pub exits : AtExit (endedOf 5 check-kinds.ps check-kinds.r) κs
-  pub result : Checked
-  pub claim : check-reads.Learnt κs args result exits
-  pub made : CallMade checking (tablesOf args) (checking-answer.answerBy result) (tablesOf args) [] c memory said memory′
+abbrev pub Checks : Call → Tables → Reply → Tables → Type 0
+Checks = Made check-kinds.ps check-kinds.r check-reads.Learnt (λ κs args r exits.
+    exchange checking (tablesOf args) (checking-answer.answerBy r) (tablesOf args) [])
 
 -- what a batch asks
 abbrev pub batchAsk : (κs : Lfts 8) → Args batch.signature κs → Ask

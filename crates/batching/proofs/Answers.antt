@@ -22,7 +22,7 @@ use Rattle.tables.specs.declared.Verdict.the-variants as v
 use Rattle.reading.specs.Listed.{nearsIn}
 use Rattle.search.specs.Searched.{withoutWork}
 use Rattle.calls.specs.Outcome.{outcome, unlessRefused}
-use Rattle.calls.specs.Effects.{batchConditionsIn, batches, cleared, effectOf, outcomeOn}
+use Rattle.calls.specs.Effects.{batchConditionsIn, cleared, effectOf, outcomeOn}
 use Rattle.calls.proofs.Ends.{over-first}
 use Rattle.batch_search.specs.Batched.{queriesOf, batch, BatchSearched}
 use Rattle.batching.specs.Answered.{answerBy, listBy}
@@ -47,7 +47,7 @@ module _ (control : List ℕ) (samples nodes : List ℤ) (links work : List ℕ)
       → firstOf (madeConditions lent ++ batchConditionsIn lent many (length list) run trail) ≡ foundBy (v.Refused why)
       → outcome (answerBy (o.Refused why) (listBy 0 bests list) trail) lent (trail ∷ listPlaces (listBy 0 bests list) ∷ [])
       ≡ outcomeOn (batching many run trail list) lent
-  unfolding answerBy outcomeOn effectOf besideOf batches unlessRefused foundBy
+  unfolding answerBy outcomeOn effectOf besideOf unlessRefused foundBy
   batch-refused why bests q = rw (q, list-left bests list)
 
   module _ (work′ trail′ bests : List ℕ) (out : ℕ) (trail-size : length trail′ ≡ length trail)
@@ -65,7 +65,7 @@ module _ (control : List ℕ) (samples nodes : List ℤ) (links work : List ℕ)
     pub batch-answer : firstOf (madeConditions lent ++ batchConditionsIn lent many (length list) run trail) ≡ none → length list ≡ many
         → outcome (answerBy (o.Done out) (listBy many bests list) trail′) (tables control samples nodes links work′)
         (trail′ ∷ listPlaces (listBy many bests list) ∷ []) ≡ outcomeOn (batching many run trail list) lent
-    unfolding answerBy outcomeOn effectOf besideOf batches unlessRefused
+    unfolding answerBy outcomeOn effectOf besideOf unlessRefused
     batch-answer q size =
         rw (q, list-filled many bests list size)
         (ap (λ (w : List ℕ). outcome (answering (batched found)) (tables control samples nodes links w)

@@ -1,9 +1,9 @@
 -- Call by call: what the book says of a call, and what the call does to tables lent of a memory that keeps the book, agree. An opening and
 -- a reading agree with every book, whatever the memory held before.
-use Prim.Native.Nat.{ℕ, _+_, _*_, _≤_, _<_}
+use Prim.Native.Nat.{ℕ, _+_, _≤_, _<_}
 use mathlib.Core.Path.{_≡_, refl, sym, ap, ap₂, subst, _∙_}
-use mathlib.Core.Bool.{true, not, false}
-use mathlib.Core.Option.{Option, none, some}
+use mathlib.Core.Bool.{true, not}
+use mathlib.Core.Option.{Option, none}
 use mathlib.Core.List.{List, [], _∷_, _++_, foldl}
 use native.Mathlib.Omega.{arith}
 use lib.ListN.{length, getD, drop, replicate, length-append}
@@ -14,26 +14,21 @@ use Rattle.integer.specs.Words.{every}
 use Rattle.integer.proofs.Tests.{passed, passes, is-true, eq→eqb}
 use Rattle.integer.proofs.Lists.{all-append, every-all, all-every, strict}
 use Rattle.dstree.specs.Measures.{Trace, Measures, sampleLimit, inRange, areSamples, isTrace, isLibrary, workNeeded}
-use Rattle.dstree.specs.Matching.{leaves, Near, matchBySteps, matchOf}
-use Rattle.dstree.specs.KNearest.{isK, kNearestBySteps, kNearestOf}
-use Rattle.dstree.specs.Batch.{isBatch, queriesIn, batchConditions, batchOf, batchBySteps}
-use Rattle.dstree.specs.Refusals.{Condition, firstOf, measure, wrongTrace, full, empty, badK, badRecording, badBatch}
+use Rattle.dstree.specs.Refusals.{Condition, firstOf, measure, wrongTrace, full, badRecording}
 use Rattle.dstree.specs.Sheet.{areBytes, blocksNeeded, sheetOf, Judged, refused, holds, judgeSheet}
 use Rattle.dstree.specs.Recording.{recordingSize, recordingOf, Recording, judgeRecording, fileTraces, isBadFile}
-use Rattle.dstree.specs.Book.{Ask, opening, adding, matching, writing, reading, listing, importing, exporting, checking, batching, Book, book}
+use Rattle.dstree.specs.Book.{Ask, opening, adding, searching, writing, reading, importing, exporting, checking, Book, book}
 use Rattle.dstree.specs.Book.{bookTree, Entry, added, written, imported, exported, over, importConditions, exportConditions}
-use Rattle.dstree.specs.Book.{shortConditions, addConditions, queryConditions, writeConditions, listConditions, readingConditions, putRead}
-use Rattle.dstree.specs.Book.{openingEntry, addingEntry, matchingEntry, writingEntry, readingEntry, listingEntry, importingEntry}
-use Rattle.dstree.specs.Book.{exportingEntry, checkingEntry, batchingEntry, entryOf}
+use Rattle.dstree.specs.Book.{shortConditions, addConditions, writeConditions, readingConditions, putRead, Found, AnySearch, Sought, searchOf}
+use Rattle.dstree.specs.Book.{openingEntry, addingEntry, searchingEntry, writingEntry, readingEntry, importingEntry}
+use Rattle.dstree.specs.Book.{exportingEntry, checkingEntry, entryOf}
 use Rattle.dstree.proofs.Conditions.{none-first, none-both}
-use Rattle.dstree.proofs.Laws.{claims}
-use Rattle.dstree.proofs.KLaws.{k-nearest}
-use Rattle.dstree.proofs.BatchLaws.{query-size, batch}
+use Rattle.dstree.proofs.Laws.{exact}
 use Rattle.dstree.proofs.RoundTrips.{is-library}
 use Rattle.dstree.proofs.Recordings.{file-traces}
 use Rattle.dstree.proofs.Libraries.{library-of}
 use Rattle.tables.specs.Layout.{layout}
-use Rattle.tables.specs.Tables.{Tables, lentOf, measuresOf}
+use Rattle.tables.specs.Tables.{Tables, lentOf, measuresOf, traceCount}
 use Rattle.tables.specs.View.{treeIn, tracesIn}
 use Rattle.tables.specs.Judge.{openingConditionsOf, Room}
 use Rattle.tables.specs.Beginning.{left, Begins}
@@ -45,10 +40,9 @@ use Rattle.insertion_memory.proofs.Made.{takes-more}
 use Rattle.insertion_memory.proofs.AddedBeginnings.{added-begins}
 use Rattle.calls.specs.Outcome.{Effect}
 use Rattle.calls.specs.Library.{loaded, libraryTables, Keeps}
-use Rattle.calls.specs.Effects.{opens, adds, resultOf, trailOf, cleared, matches, writes, loadedBy, reads, lists, imports, exports, checks}
-use Rattle.calls.specs.Effects.{batches, effectOf}
+use Rattle.calls.specs.Effects.{opens, adds, cleared, searches, writes, loadedBy, reads, imports, exports, checks, effectOf}
 use Rattle.calls.specs.Follows.{Typed}
-use Rattle.calls.proofs.Finds.{last-never}
+use Rattle.calls.proofs.Searches.{laws}
 use Rattle.calls.proofs.Library.{library-holds, library-work, loaded-more, loaded-begins, added-begin}
 use Rattle.calls.proofs.Trusted.{accepted-same, kept-trusts}
 use Rattle.calls.proofs.Kept.{short-room, library-begins, part-holds, made-same, counted}
@@ -122,9 +116,6 @@ unfolding isTrace every
 one-trace m x samples size = passes (isTrace sampleLimit (m .n) x) (true ∷ [])
     (passes (eqb (length x) (m .n)) (areSamples x ∷ []) (eq→eqb size, samples), tt)
 
-some-of : (k : ℕ) → eqb k 0 ≡ false → 0 < k
-some-of k e = strict (omega arith) (λ q. eqb-false k 0 e (sym q))
-
 module _ (memory part : Tables) (begins : Begins part memory) (b : Book) (keeps : Keeps memory b) where
   abbrev m : Measures
   m = b .measures
@@ -194,61 +185,33 @@ module _ (memory part : Tables) (begins : Begins part memory) (b : Book) (keeps 
       → Keeps (left (cleared part) memory) b
   searching-puts rest e = kept b (cleared part) (keeps .library) (cleared-begins (short-room (lentOf part) m rest e))
 
-  module _ (query : Trace) (trail : List ℕ) where
-    abbrev matchingRest : List Condition
-    matchingRest = queryConditions m (length (b .traces)) (bookTree b) query trail
+  -- any search
+  pub searching-agrees : (q : Sought) → Agrees memory (searches part (searchOf q)) (searchingEntry layout (lentOf part) b (searchOf q))
+  searching-agrees q = record {
+    judged = made-same keeps part begins _ rest (λ h. ap firstOf (
+        ap (λ (k : Measures). s .refuses-own k (traceCount part) (treeIn part)) (h .measures-are)
+        ∙ (ap (λ (k : ℕ). s .refuses-own m k (treeIn part)) (counted keeps part begins h)
+        ∙ ap (s .refuses-own m (length (b .traces))) (h .tree-is))));
+    result-is = λ e. ap (λ (f : Found). f .result) (found-is e);
+    beside-is = λ e. ap (λ (f : Found). f .beside) (found-is e);
+    puts = searching-puts rest;
+  }
+    where
+      s : AnySearch
+      s = searchOf q
 
-    matching-judged : firstOf (matches part query trail .conditions) ≡ firstOf (shortConditions layout (lentOf part) m ++ matchingRest)
-    matching-judged = last-never part query trail ∙ made-same keeps part begins _ matchingRest
-        (λ h. rw (ap (λ (k : Measures). k .n) (h .measures-are), counted keeps part begins h, h .tree-is))
+      rest : List Condition
+      rest = s .refuses-own m (length (b .traces)) (bookTree b)
 
-    steps-give : firstOf (shortConditions layout (lentOf part) m ++ matchingRest) ≡ none
-        → matchBySteps (tracesIn part) (treeIn part) query ≡ some (matchOf (b .traces) (bookTree b) query)
-    steps-give e =
-        let parts = none-both (shortConditions layout (lentOf part) m) matchingRest e in
-        let one = none-first (not (eqb (length query) (m .n))) wrongTrace _ (parts .1) in
-        let two = none-first (eqb (length (b .traces)) 0) empty _ (one .1) in
-        let h = holds-it matchingRest e in
-        let c = claims sampleLimit m (b .traces) (keeps .library) query (some-of (length (b .traces)) (two .0))
-        (eqb-true (length query) (m .n) (not-false _ (one .0))) in
-        rw (h .traces-are, h .tree-is) (c .steps-give-it)
-
-    pub matching-agrees : Agrees memory (matches part query trail) (matchingEntry layout (lentOf part) b query trail)
-    unfolding matches matchingEntry resultOf trailOf
-    matching-agrees = record {
-      judged = matching-judged;
-      result-is = λ e. rw (steps-give e);
-      beside-is = λ e. rw (steps-give e);
-      puts = searching-puts matchingRest;
-    }
-
-    module _ (k : ℕ) (list : List ℕ) where
-      abbrev listingRest : List Condition
-      listingRest = listConditions m (length (b .traces)) (bookTree b) k query trail list
-
-      listing-judged : firstOf (lists part k query trail list .conditions) ≡ firstOf (shortConditions layout (lentOf part) m ++ listingRest)
-      unfolding lists
-      listing-judged = made-same keeps part begins _ listingRest
-          (λ h. rw (ap (λ (k : Measures). k .n) (h .measures-are), counted keeps part begins h, h .tree-is))
-
-      list-steps-give : firstOf (shortConditions layout (lentOf part) m ++ listingRest) ≡ none
-          → kNearestBySteps k (tracesIn part) (treeIn part) query ≡ kNearestOf k (b .traces) (bookTree b) query
-      list-steps-give e =
-          let parts = none-both (shortConditions layout (lentOf part) m) listingRest e in
-          let one = none-first (not (isK k)) badK _ (parts .1) in
-          let two = none-first (not (eqb (length query) (m .n))) wrongTrace _ (one .1) in
-          let h = holds-it listingRest e in
-          let c = k-nearest sampleLimit m (b .traces) (keeps .library) query (eqb-true (length query) (m .n) (not-false _ (two .0))) k in
-          rw (h .traces-are, h .tree-is) (c .steps-give-it)
-
-      pub listing-agrees : Agrees memory (lists part k query trail list) (listingEntry layout (lentOf part) b k query trail list)
-      unfolding lists listingEntry
-      listing-agrees = record {
-        judged = listing-judged;
-        result-is = λ e. rw (list-steps-give e);
-        beside-is = λ e. rw (list-steps-give e);
-        puts = searching-puts listingRest;
-      }
+      found-is : firstOf (shortConditions layout (lentOf part) m ++ rest) ≡ none
+          → s .steps (measuresOf part) (tracesIn part) (treeIn part) ≡ s .closed m (b .traces) (bookTree b)
+      found-is e =
+          let h = holds-it rest e in
+          ap (λ (k : Measures). s .steps k (tracesIn part) (treeIn part)) (h .measures-are)
+          ∙ (ap (λ (l : List Trace). s .steps m l (treeIn part)) (h .traces-are)
+          ∙ (ap (s .steps m (b .traces)) (h .tree-is)
+          ∙ laws q .gives m (b .traces) (bookTree b) (exact sampleLimit m (b .traces) (keeps .library))
+          (none-both (shortConditions layout (lentOf part) m) rest e .1)))
 
   pub writing-agrees : (sheet : List ℕ) → Agrees memory (writes part sheet) (writingEntry layout (lentOf part) b sheet)
   unfolding writes writingEntry
@@ -329,49 +292,15 @@ module _ (memory part : Tables) (begins : Begins part memory) (b : Book) (keeps 
     puts = λ e. rw (left-same part memory begins) keeps;
   }
 
-  -- document 02, §7
-  module _ (count : ℕ) (run : Trace) (trail : List ℕ) (list : List Near) where
-    abbrev batchingRest : List Condition
-    batchingRest = batchConditions (m .n) (length (b .traces)) (length (leaves (bookTree b))) count (length list) run trail
-
-    batching-judged : firstOf (batches part count run trail list .conditions) ≡ firstOf (shortConditions layout (lentOf part) m ++ batchingRest)
-    unfolding batches
-    batching-judged = made-same keeps part begins _ batchingRest
-        (λ h. rw (ap (λ (k : Measures). k .n) (h .measures-are), counted keeps part begins h, h .tree-is))
-
-    batch-steps-give : firstOf (shortConditions layout (lentOf part) m ++ batchingRest) ≡ none
-        → batchBySteps (tracesIn part) (treeIn part) (queriesIn (measuresOf part .n) count run)
-        ≡ batchOf (b .traces) (bookTree b) (queriesIn (m .n) count run)
-    batch-steps-give e =
-        let parts = none-both (shortConditions layout (lentOf part) m) batchingRest e in
-        let one = none-first (not (isBatch count (length list))) badBatch _ (parts .1) in
-        let two = none-first (not (eqb (length run) (m .n * count))) wrongTrace _ (one .1) in
-        let three = none-first (eqb (length (b .traces)) 0) empty _ (two .1) in
-        let h = holds-it batchingRest e in
-        let c = batch sampleLimit m (b .traces) (keeps .library) (some-of (length (b .traces)) (three .0)) (queriesIn (m .n) count run)
-        (query-size (m .n) count run (eqb-true (length run) (m .n * count) (not-false _ (two .0)))) in
-        rw (ap (λ (k : Measures). k .n) (h .measures-are), h .traces-are, h .tree-is) (c .steps-give-it)
-
-    pub batching-agrees : Agrees memory (batches part count run trail list) (batchingEntry layout (lentOf part) b count run trail list)
-    unfolding batches batchingEntry
-    batching-agrees = record {
-      judged = batching-judged;
-      result-is = λ e. rw (batch-steps-give e);
-      beside-is = λ e. rw (batch-steps-give e);
-      puts = searching-puts batchingRest;
-    }
-
   -- ---- any call
 
   pub agrees : (ask : Ask) → Typed ask part → Agrees memory (effectOf ask part) (entryOf layout (lentOf part) b ask)
   unfolding effectOf entryOf Typed
   agrees (opening m) typed = opening-agrees memory part b m
   agrees (adding x) typed = adding-agrees x typed
-  agrees (matching query trail) typed = matching-agrees query trail
+  agrees (searching q) typed = searching-agrees q
   agrees (writing sheet) typed = writing-agrees sheet
   agrees (reading bytes) typed = reading-agrees memory part b bytes typed
-  agrees (listing k query trail list) typed = listing-agrees query trail k list
   agrees (importing bytes) typed = importing-agrees bytes (typed .0)
   agrees (exporting number rate buffer) typed = exporting-agrees number rate buffer
   agrees checking typed = checking-agrees
-  agrees (batching count run trail list) typed = batching-agrees count run trail list

@@ -3,7 +3,7 @@
 use Prim.Native.Nat.{ℕ, _*_, _<_}
 use mathlib.Core.Path.{_≡_, refl, sym, ap, subst, _∙_}
 use mathlib.Core.Bool.{not}
-use mathlib.Core.Option.{Option, none}
+use mathlib.Core.Option.{Option}
 use mathlib.Core.List.{List, [], _∷_}
 use native.Mathlib.Omega.{arith}
 use lib.ListN.{length, length-map}
@@ -11,7 +11,7 @@ use lib.Seq.{take-all}
 use lib.Dec.{T, eqb}
 use borrow.Author.Tests.{eqb-false}
 use Rattle.integer.proofs.Lists.{Up, strict}
-use Rattle.dstree.specs.Measures.{Trace, Measures, sampleLimit}
+use Rattle.dstree.specs.Measures.{Trace, sampleLimit}
 use Rattle.dstree.specs.Node.{Tree}
 use Rattle.dstree.specs.Matching.{matchOf}
 use Rattle.dstree.specs.KNearest.{listPlaces}
@@ -20,7 +20,7 @@ use Rattle.dstree.specs.Batch.{BatchClaims, OneClaims}
 use Rattle.dstree.specs.Sheet.{pieces}
 use Rattle.dstree.specs.WellFormed as abstract
 use Rattle.dstree.specs.Refusals.{Refusal, firstOf, wrongTrace, empty, badBatch}
-use Rattle.dstree.specs.Book.{batching, Call, call, besideOf, batched, Reply, Book}
+use Rattle.dstree.specs.Book.{Call, besideOf, batched, Reply, Book, aBatch}
 use Rattle.dstree.proofs.Conditions.{none-first, none-both}
 use Rattle.dstree.proofs.SheetPieces.{pieces-length}
 use Rattle.dstree.proofs.BatchSteps.{steps-of-formed}
@@ -34,13 +34,12 @@ use Rattle.tables.proofs.Views.{traces-size, tree-passes}
 use Rattle.tables.proofs.Judged.{accepted}
 use Rattle.calls.specs.Trusted.{Trusts}
 use Rattle.calls.specs.Effects.{batches, effectOf}
-use Rattle.calls.specs.Follows.{Typed}
-use Rattle.calls.specs.Demands.{DifferOutside, trailFound, judgeIn, BatchedIn, BatchesAnywhere, BatchGives, OfAnyBatch}
+use Rattle.calls.specs.Demands.{trailFound, BatchedIn, BatchesAnywhere, OfAnyBatch}
 use Rattle.calls.proofs.Trusted.{tree-is-formed, exact-tree}
 use Rattle.calls.proofs.Steps.{reply-is}
 use Rattle.calls.proofs.OneCall.{one-call}
-use Rattle.calls.proofs.OffTrail.{answered, off-trail}
-use Rattle.calls.proofs.Queries.{places-here, call-here, Judges, on-part}
+use Rattle.calls.proofs.OffTrail.{answered}
+use Rattle.calls.proofs.Queries.{Judges, search-gives, gives-there}
 
 -- ---- any memory that the check would accept
 
@@ -61,24 +60,6 @@ module _ {memory : Tables} {b : Book} (k : Trusts memory b) (judges : Call → O
   steps-claimed : StepsClaims (b .traces) tree queries
   steps-claimed = steps-of-formed sampleLimit (b .measures) (b .traces) tree (tree-is-formed k) some-trace queries
 
-  gives : BatchGives judges count run memory m
-  unfolding effectOf batches Typed
-  gives lent trail list said memory′ f not-refused =
-      let part = firstPlaces lent memory in
-      let here : judgeIn memory (call lent (batching count run trail list)) ≡ none = fine _ (f .has-places) tt not-refused in
-      let same = on-part k lent _ here in
-      let steps : batchBySteps (tracesIn part) (treeIn part) (queriesIn (measuresOf part .n) count run) ≡ m =
-      rw (ap (λ (x : Measures). x .n) (same .0), same .1 .0, same .1 .1) (claimed .steps-give-it) in
-      one-call _ memory memory′ said f .works here .0 ∙ (rw steps)
-
-  gives-there : (other : Tables) → DifferOutside (m .trail) memory other → BatchGives judges count run other m
-  unfolding trailFound Typed
-  gives-there other differ lent trail list said other′ g not-refused =
-      let asks = call lent (batching count run trail list) in
-      let f = call-here asks memory (places-here differ g) tt in
-      let here = gives lent trail list _ _ f not-refused in
-      off-trail asks memory _ _ f (batched m) (m .trail) (ap (λ (r : Reply). r .answer) here) refl other other′ said differ g ∙ here
-
   alone : count ≡ 1 → (queries ≡ run ∷ []) × OneClaims (b .traces) tree run
   unfolding pieces
   alone e =
@@ -86,9 +67,9 @@ module _ {memory : Tables} {b : Book} (k : Trusts memory b) (judges : Call → O
       (rw e (ap (λ (q : Trace). q ∷ []) (take-all (b .measures .n) run (omega (arith, long)))), one-claims (b .traces) tree run)
 
   pub of-any-batch : OfAnyBatch judges (b .traces) tree (b .measures .n) count run memory
-  unfolding batchOf
+  unfolding batchOf trailFound
   of-any-batch = record {
-    batch-gives = gives;
+    batch-gives = λ lent trail list. search-gives k judges fine (aBatch count run trail list) lent;
     as-alone = refl;
     one-each = length-map queries (λ query. answerIn (matchOf (b .traces) tree query)) ∙ pieces-length (b .measures .n) count run;
     leaves-are = claimed;
@@ -96,13 +77,13 @@ module _ {memory : Tables} {b : Book} (k : Trusts memory b) (judges : Call → O
     rising = subst (λ (x : Batch). Up 0 (x .trail)) (claimed .steps-give-it) (steps-claimed .rising);
     counted = refl;
     one-alone = alone;
-    others-do-not-bear = gives-there;
+    others-do-not-bear = λ other differ lent trail list. gives-there k judges fine (aBatch count run trail list) _ refl other differ lent;
   }
 
 -- ---- any tables: what is answered are the steps
 
 pub batches-anywhere : BatchesAnywhere
-unfolding effectOf besideOf batches batchBySteps
+unfolding effectOf besideOf batchBySteps
 batches-anywhere lent count run trail list memory memory′ said f m answers =
     let t = firstPlaces lent memory in
     let e = batches t count run trail list in

@@ -13,7 +13,7 @@ use Rattle.dstree.specs.Node.{Tree}
 use Rattle.dstree.specs.KNearest.{kNearestBySteps}
 use Rattle.dstree.specs.Refusals.{firstOf, spoiled, empty, looseRecord}
 use Rattle.dstree.specs.Book.{Lent, listing, call, besideOf, neighbours, Reply, Book, bookTree, Call, done, accepted, answering, after}
-use Rattle.dstree.specs.Book.{shortConditions, listConditions, listingEntry, entryOf, judge, replyUnless, replyOf, repliesOf, start}
+use Rattle.dstree.specs.Book.{shortConditions, listConditions, entryOf, judge, replyUnless, replyOf, repliesOf, start}
 use Rattle.dstree.proofs.Conditions.{first-none}
 use Rattle.dstree.proofs.KSteps.{step-claims}
 use Rattle.tables.specs.Layout.{layout}
@@ -34,7 +34,8 @@ use Rattle.calls.proofs.Trusted.{exact-tree, accepted-same, kept-trusts
 use Rattle.calls.proofs.Agrees.{agrees}
 use Rattle.calls.proofs.Steps.{reply-is, stepped, started, ran}
 use Rattle.calls.proofs.OneCall.{one-call}
-use Rattle.calls.proofs.NeverSpoiled.{spoiled-is-not, loose-is-not, never}
+use Rattle.calls.proofs.OfArguments.{spoiled-is-not, loose-is-not}
+use Rattle.calls.proofs.NeverSpoiled.{never}
 use Rattle.calls.proofs.RoundTrips.{written-is, is-written, read-back-in, written-again-from}
 use Rattle.calls.proofs.OffTrail.{answered, off-trail}
 use Rattle.calls.proofs.Adds.{adds-anywhere}
@@ -81,7 +82,7 @@ module _ {memory : Tables} {b : Book} (keeps : Keeps memory b) where
 
   -- "an empty one is still 6"
   empty-is-six : EmptyIsSix b memory
-  unfolding replyOf replyUnless judge entryOf listingEntry firstOf
+  unfolding replyOf replyUnless judge entryOf firstOf
   empty-is-six lent k query trail list said memory′ f long ok size none-stored =
       let judged : judge layout b (call lent (listing k query trail list)) ≡ some empty =
       first-none (shortConditions layout lent (b .measures))
@@ -91,7 +92,7 @@ module _ {memory : Tables} {b : Book} (keeps : Keeps memory b) where
 
 -- document 02, §1, on any tables: what is answered are the steps
 lists-anywhere : ListsAnywhere
-unfolding effectOf besideOf lists kNearestBySteps
+unfolding effectOf besideOf kNearestBySteps
 lists-anywhere lent k query trail list memory memory′ said f m answers =
     let t = firstPlaces lent memory in
     let e = lists t k query trail list in

@@ -1,10 +1,10 @@
 -- A match of well-formed tables with a trace finds one, altered tables included: there is a leaf, no leaf is empty, and the first in the
--- order of reading is read whatever its bound. So the last condition of a match, that nothing is found, never holds behind the others.
+-- order of reading is read whatever its bound.
 use Prim.Native.Nat.{ℕ, _≤_, _<_}
-use mathlib.Core.Path.{_≡_, refl, sym, _∙_, ap}
+use mathlib.Core.Path.{_≡_}
 use mathlib.Core.Bool.{Bool, true, false, not}
 use mathlib.Core.Option.{Option, none, some}
-use mathlib.Core.List.{List, [], _∷_, _++_, foldl, append-assoc}
+use mathlib.Core.List.{List, [], _∷_, _++_, foldl}
 use native.Mathlib.Omega.{arith}
 use native.Mathlib.Nat.{pos-of-ne-zero}
 use lib.ListN.{length, length-map}
@@ -16,19 +16,19 @@ use Rattle.integer.proofs.Lists.{some-in}
 use Rattle.dstree.specs.Measures.{Trace}
 use Rattle.dstree.specs.Node.{Tree, nodeAt}
 use Rattle.dstree.specs.Matching.{LeafBound, numbersIn, leaves, readingOrder, readOn, Near, nearAt, nearer, bestWith, Search}
-use Rattle.dstree.specs.Matching.{distancesIn, readLeaf, isAbove, searchOn, searched, Match, matchFrom, matchBySteps}
-use Rattle.dstree.specs.Refusals.{Refusal, Condition, _refuses_, firstOf, wrongTrace, empty, shortTrail}
-use Rattle.dstree.proofs.Conditions.{none-first, first-some, first-none, none-both}
+use Rattle.dstree.specs.Matching.{distancesIn, readLeaf, isAbove, searchOn, searched}
+use Rattle.dstree.specs.Refusals.{firstOf, wrongTrace, empty, shortTrail}
+use Rattle.dstree.proofs.Conditions.{none-first, none-both}
 use Rattle.dstree.proofs.Reading.{kept-leaf, leaf-full, reading-of, in-reading}
 use Rattle.tables.specs.Tables.{Tables, measuresOf, traceCount}
 use Rattle.tables.specs.View.{treeIn, tracesIn, wellFormed}
 use Rattle.tables.proofs.Judged.{accepted}
 use Rattle.tables.specs.Answers.{madeConditions}
 use Rattle.tables.proofs.Views.{tree-formed}
-use Rattle.calls.specs.Effects.{isNone, runConditionsIn, queryConditionsIn, matches}
+use Rattle.calls.specs.Effects.{runConditionsIn, queryConditionsIn}
 
 -- something is there
-abbrev Some : {A : Type 0} → Option A → Type 0
+abbrev pub Some : {A : Type 0} → Option A → Type 0
 Some none = ⊥
 Some (some a) = Unit
 
@@ -77,16 +77,6 @@ module _ (stored : List Trace) (tree : Tree) (query : Trace) where
       found-stays rest (readLeaf stored tree query nothingYet (a .number))
       (with-one (distancesIn stored tree query (a .number)) some-distance)
 
-answered-some : (s : Search) (o : Option Near) → Some o → Some (matchFrom s o)
-unfolding matchFrom
-answered-some s (some b) h = tt
-answered-some s none h = absurd h
-
-not-none : (o : Option Match) → Some o → isNone o ≡ false
-unfolding isNone
-not-none (some m) s = refl
-not-none none s = absurd s
-
 module _ (t : Tables) (w : T (wellFormed t)) (some-trace : 0 < traceCount t) (query : Trace) where
   all-full : (a : LeafBound) → In a (readingOrder (treeIn t) query) → 0 < length (numbersIn (nodeAt (treeIn t) (a .number) .kind))
   all-full a i = leaf-full (tree-formed t w .shape) (reading-of (treeIn t) query i .0)
@@ -95,12 +85,9 @@ module _ (t : Tables) (w : T (wellFormed t)) (some-trace : 0 < traceCount t) (qu
   a-leaf : 0 < length (readingOrder (treeIn t) query)
   a-leaf = some-in (in-reading (treeIn t) query (kept-leaf (tree-formed t w .shape .kept 0 some-trace)))
 
-  pub finds : isNone (matchBySteps (tracesIn t) (treeIn t) query) ≡ false
-  unfolding matchBySteps searched
-  finds =
-      let s = searched (tracesIn t) (treeIn t) query in
-      let some-best = first-read (tracesIn t) (treeIn t) query (readingOrder (treeIn t) query) all-full a-leaf in
-      not-none (matchFrom s (s .best)) (answered-some s (s .best) some-best)
+  pub finds : Some (searched (tracesIn t) (treeIn t) query .best)
+  unfolding searched
+  finds = first-read (tracesIn t) (treeIn t) query (readingOrder (treeIn t) query) all-full a-leaf
 
 -- ---- the conditions of a search
 
@@ -122,26 +109,9 @@ run-fits t size run trail e =
       trail-long = ltb-false (length trail) (length (leaves (treeIn t))) (three .0);
     }
 
-module _ (t : Tables) (query : Trace) (trail : List ℕ) where
-  -- all but the last
-  abbrev pub testedConditions : List Condition
-  testedConditions = madeConditions t ++ queryConditionsIn t query trail
-
-  -- where none of these holds, a search finds a trace ..
-  pub found : firstOf testedConditions ≡ none → isNone (matchBySteps (tracesIn t) (treeIn t) query) ≡ false
-  found e =
-      let parts = none-both (madeConditions t) (queryConditionsIn t query trail) e in
-      finds t (accepted t (parts .0) .formed) (run-fits t (measuresOf t .n) query trail (parts .1) .some-trace) query
-
-  -- .. so that the last never decides
-  pub last-never : firstOf (matches t query trail .conditions) ≡ firstOf testedConditions
-  unfolding matches firstOf
-  last-never =
-      ap firstOf (sym (append-assoc (madeConditions t) (queryConditionsIn t query trail) last)) ∙ by (firstOf testedConditions) refl
-    where
-      last : List Condition
-      last = isNone (matchBySteps (tracesIn t) (treeIn t) query) refuses empty ∷ []
-
-      by : (o : Option Refusal) → firstOf testedConditions ≡ o → firstOf (testedConditions ++ last) ≡ firstOf testedConditions
-      by (some why) e = first-some testedConditions last why e ∙ sym e
-      by none e = first-none testedConditions last e ∙ (rw (found e) (sym e))
+-- where a match refuses nothing, it finds a trace
+pub found : (t : Tables) (query : Trace) (trail : List ℕ) → firstOf (madeConditions t ++ queryConditionsIn t query trail) ≡ none
+    → Some (searched (tracesIn t) (treeIn t) query .best)
+found t query trail e =
+    let parts = none-both (madeConditions t) (queryConditionsIn t query trail) e in
+    finds t (accepted t (parts .0) .formed) (run-fits t (measuresOf t .n) query trail (parts .1) .some-trace) query

@@ -8,6 +8,8 @@ pub mod Agrees
 pub mod Ends
 pub mod Steps
 pub mod OneCall
+pub mod OfArguments
+pub mod Searches
 pub mod NeverSpoiled
 pub mod OffTrail
 pub mod RoundTrips

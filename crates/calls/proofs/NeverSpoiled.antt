@@ -2,61 +2,28 @@
 -- is refused for.
 use Prim.Native.Nat.{ℕ, suc}
 use mathlib.Core.Path.{_≡_, sym, ap, subst, _∙_}
-use mathlib.Core.Bool.{Bool, true, false, not, _&&_}
+use mathlib.Core.Bool.{true}
 use mathlib.Core.Option.{Option, none, some}
 use mathlib.Core.Logic.{_⊎_, inl, inr}
 use mathlib.Core.List.{List, [], _∷_, _++_}
 use native.Mathlib.Omega.{arith}
-use lib.Dec.{T, eqb}
-use Rattle.integer.specs.Words.{if_then_else_, every}
-use Rattle.integer.proofs.Tests.{passed, passes}
+use lib.ListN.{length}
+use lib.Dec.{T}
+use Rattle.integer.specs.Words.{every}
+use Rattle.integer.proofs.Tests.{passes}
 use Rattle.integer.specs.Lists.{In}
 use Rattle.integer.proofs.Lists.{in-nil, in-cons}
-use Rattle.dstree.specs.Refusals.{Refusal, spoiled, looseRecord, numberOf, Condition, _refuses_, firstOf}
+use Rattle.dstree.specs.Refusals.{Refusal, numberOf, Condition, _refuses_, firstOf}
 use Rattle.dstree.specs.Sheet.{Format, narrow, blocksIn, tornConditions, badConditions, conditionsAs, Judged, refused, holds, libraryIn}
 use Rattle.dstree.specs.Sheet.{judgedBy, judgeAs, judgeSheet}
-use Rattle.dstree.specs.Book.{Layout, Lent, Ask, opening, adding, matching, writing, reading, listing, importing, exporting, Call}
-use Rattle.dstree.specs.Book.{checking, batching, refusing}
-use Rattle.dstree.specs.Book.{Reply, Book, Entry}
-use Rattle.dstree.specs.Book.{readingConditions, openingEntry, addingEntry, matchingEntry, writingEntry, readingEntry, listingEntry}
-use Rattle.dstree.specs.Book.{importingEntry, exportingEntry, checkingEntry, batchingEntry}
+use Rattle.dstree.specs.Book.{Layout, Lent, Ask, opening, adding, searching, writing, reading, importing, exporting, checking, Call}
+use Rattle.dstree.specs.Book.{refusing, Reply, Book, bookTree, Entry}
+use Rattle.dstree.specs.Book.{readingConditions, openingEntry, addingEntry, writingEntry, readingEntry, importingEntry, exportingEntry}
+use Rattle.dstree.specs.Book.{checkingEntry}
 use Rattle.dstree.specs.Book.{entryOf, entry, judge, turn}
 use Rattle.dstree.specs.Book.{replyUnless, replyOf, repliesOf}
-
--- a refusal passes a test, if there is one
-unfoldable pub ifAny : (Refusal → Bool) → Option Refusal → Bool
-ifAny passes none = true
-ifAny passes (some r) = passes r
-
--- where each condition's refusal passes, the first that holds does
-pub first-any : (passes : Refusal → Bool) (l : List Condition) → T (every (λ c. passes (c .refusal)) l) → T (ifAny passes (firstOf l))
-unfolding firstOf every ifAny
-first-any passes [] t = tt
-first-any passes (c ∷ l) t =
-    let p = passed (passes (c .refusal)) (every (λ c. passes (c .refusal)) l ∷ []) t in by (c .holds) (p .0) (first-any passes l (p .1))
-  where
-    by : (h : Bool) → T (passes (c .refusal)) → T (ifAny passes (firstOf l)) → T (ifAny passes (if h then some (c .refusal) else firstOf l))
-    by true p q = p
-    by false p q = q
-
--- a refusal for what a call is given, and not for what the tables hold: neither 3 nor 13
-unfoldable pub ofArguments : Refusal → Bool
-unfolding numberOf
-ofArguments r = not (eqb (numberOf r) 3) && not (eqb (numberOf r) 13)
-
-pub spoiled-is-not : T (ofArguments spoiled) → ⊥
-unfolding ofArguments numberOf
-spoiled-is-not t = t
-
-pub loose-is-not : T (ofArguments looseRecord) → ⊥
-unfolding ofArguments numberOf
-loose-is-not t = t
-
-abbrev pub other : Condition → Bool
-other c = ofArguments (c .refusal)
-
-pub first-other : (l : List Condition) → T (every other l) → T (ifAny ofArguments (firstOf l))
-first-other = first-any ofArguments
+use Rattle.calls.proofs.OfArguments.{ifAny, ofArguments, other, first-other}
+use Rattle.calls.proofs.Searches.{laws}
 
 -- ---- a sheet
 
@@ -103,18 +70,15 @@ module _ (layout : Layout) where
   reading-other lent (holds m traces) h = tt
 
   pub entry-other : (lent : Lent) (b : Book) (ask : Ask) → T (every other (entryOf layout lent b ask .conditions))
-  unfolding entryOf openingEntry addingEntry matchingEntry writingEntry readingEntry listingEntry importingEntry exportingEntry checkingEntry
-      batchingEntry every ofArguments numberOf
+  unfolding entryOf openingEntry addingEntry writingEntry readingEntry importingEntry exportingEntry checkingEntry every ofArguments numberOf
   entry-other lent b (opening m) = tt
   entry-other lent b (adding x) = tt
-  entry-other lent b (matching query trail) = tt
+  entry-other lent b (searching q) = laws q .by-arguments (b .measures) (length (b .traces)) (bookTree b)
   entry-other lent b (writing sheet) = tt
   entry-other lent b (reading bytes) = reading-other lent (judgeSheet bytes) (judge-other narrow bytes)
-  entry-other lent b (listing k query trail list) = tt
   entry-other lent b (importing bytes) = tt
   entry-other lent b (exporting number rate buffer) = tt
   entry-other lent b checking = tt
-  entry-other lent b (batching count run trail list) = tt
 
   reply-other : (w : Refusal) → (T (ofArguments w) → ⊥) → (o : Option Refusal) → T (ifAny ofArguments o)
       → (beside : List (List ℕ)) (e : Entry) → replyUnless o beside e .answer ≡ refusing w → ⊥

@@ -1,6 +1,5 @@
 -- Samples in leaves off the trail do not bear on a search, of whatever tables it takes: no condition and no node is read from a sample, and
--- the traces in the leaves that the search reads are the same. The argument is one for every search; a match, a listing and a batch each
--- add that their steps read nothing else.
+-- the traces in the leaves that the search reads are the same. The argument is one for every search, by its laws (`Searches`).
 use Prim.Native.Nat.{ℕ, _≤_, _<_}
 use mathlib.Core.Path.{_≡_, refl, sym, ap, subst, _∙_}
 use mathlib.Core.Bool.{Bool, true, false}
@@ -13,17 +12,12 @@ use lib.Dec.{T, ltb}
 use borrow.Author.Tests.{ltb-true, ltb-false}
 use Rattle.integer.specs.Words.{isIn}
 use Rattle.integer.proofs.Lists.{in-is, map-agree}
-use Rattle.dstree.specs.Measures.{Trace, Measures}
-use Rattle.dstree.specs.Matching.{Search, Near, matchFrom, searched, matchBySteps}
-use Rattle.dstree.specs.Batch.{queriesIn, batchBySteps}
-use Rattle.dstree.specs.KNearest.{listed, kNearestBySteps, SameIn}
+use Rattle.dstree.specs.Measures.{Measures}
+use Rattle.dstree.specs.KNearest.{SameIn}
 use Rattle.dstree.specs.Refusals.{Refusal, firstOf}
-use Rattle.dstree.specs.Book.{Lent, Ask, opening, adding, matching, writing, reading, listing, importing, exporting, checking, besideOf}
-use Rattle.dstree.specs.Book.{batching, Result, answering, Reply, reply}
+use Rattle.dstree.specs.Book.{Lent, Ask, opening, adding, searching, writing, reading, importing, exporting, checking, besideOf}
+use Rattle.dstree.specs.Book.{Result, answering, Reply, reply, Found, AnySearch, searchOf}
 use Rattle.dstree.specs.Claims.{numbersAmong}
-use Rattle.dstree.proofs.OffTrail as trees
-use Rattle.dstree.proofs.KSteps.{step-claims}
-use Rattle.dstree.proofs.BatchSteps.{batch-off-trail}
 use Rattle.tables.specs.Tables.{Tables, tables, measuresOf, traceCount}
 use Rattle.tables.specs.View.{traceIn, treeIn, tracesIn, kindsNamed, wellFormed}
 use Rattle.dstree.proofs.Conditions.{none-both}
@@ -35,11 +29,10 @@ use Rattle.tables.specs.Holds.{Long}
 use Rattle.insertion_memory.proofs.FromTables.{long-of}
 use Rattle.insertion_memory.proofs.Beginnings.{Agree, begins-agree, measures-same, tree-same}
 use Rattle.calls.specs.Outcome.{Effect, unlessRefused}
-use Rattle.calls.specs.Effects.{opens, adds, resultOf, matches, writes, reads, lists, imports, exports, checks}
-use Rattle.calls.specs.Effects.{batches, effectOf, outcomeOn}
+use Rattle.calls.specs.Effects.{opens, adds, searches, writes, reads, imports, exports, checks, effectOf, outcomeOn}
 use Rattle.calls.specs.Demands.{DifferOutside, trailFound, SamplesOffTrail}
 use Rattle.tables.proofs.Judged.{Accepted, accepted}
-use Rattle.calls.proofs.Finds.{last-never}
+use Rattle.calls.proofs.Searches.{laws}
 use Rattle.calls.proofs.Steps.{reply-is}
 
 -- ---- tables with other samples, as many
@@ -48,21 +41,10 @@ module _ (t : Tables) (samples : List ℤ) (as-many : length samples ≡ length 
   abbrev with-others : Tables
   with-others = tables (t .control) samples (t .nodes) (t .links) (t .work)
 
-  -- no condition of a match that can hold reads a sample
-  match-conditions-same : (query : Trace) (trail : List ℕ)
-      → firstOf (matches with-others query trail .conditions) ≡ firstOf (matches t query trail .conditions)
+  -- no condition of a search reads a sample
+  conditions-same : (s : AnySearch) → firstOf (searches with-others s .conditions) ≡ firstOf (searches t s .conditions)
   unfolding madeConditions wellFormed kindsNamed treeIn
-  match-conditions-same query trail = last-never with-others query trail ∙ (rw as-many (sym (last-never t query trail)))
-
-  list-conditions-same : (k : ℕ) (query : Trace) (trail list : List ℕ)
-      → firstOf (lists with-others k query trail list .conditions) ≡ firstOf (lists t k query trail list .conditions)
-  unfolding lists madeConditions wellFormed kindsNamed treeIn
-  list-conditions-same k query trail list = rw as-many
-
-  batch-conditions-same : (count : ℕ) (run : Trace) (trail : List ℕ) (list : List Near)
-      → firstOf (batches with-others count run trail list .conditions) ≡ firstOf (batches t count run trail list .conditions)
-  unfolding batches madeConditions wellFormed kindsNamed treeIn
-  batch-conditions-same count run trail list = rw as-many
+  conditions-same s = rw as-many
 
 -- ---- the traces that a search reads
 
@@ -144,12 +126,6 @@ unfolding unlessRefused
 answered (some why) t beside e r q = let z : _≡_ {A = ℕ} 0 1 = cc in absurd (omega arith)
 answered none t beside e r q = (refl, cc)
 
--- the trail of a match is its search's
-match-trail : (s : Search) (o : Option Near) (trail : List ℕ) → trailFound (resultOf (matchFrom s o)) ≡ some trail → s .trail ≡ trail
-unfolding matchFrom resultOf trailFound
-match-trail s none trail e = let z : _≡_ {A = ℕ} 0 1 = cc in absurd (omega arith)
-match-trail s (some best) trail e = cc
-
 module _ (lent : Lent) {these other : Tables} {trail : List ℕ} (differ : DifferOutside trail these other) where
   abbrev t : Tables
   t = firstPlaces lent these
@@ -158,61 +134,23 @@ module _ (lent : Lent) {these other : Tables} {trail : List ℕ} (differ : Diffe
   Same ask = firstOf (effectOf ask t .conditions) ≡ none → trailFound (effectOf ask t .result) ≡ some trail
       → replyTo ask (firstPlaces lent other) ≡ replyTo ask t
 
-  match-same : (query : Trace) (place : List ℕ) → Same (matching query place)
-  unfolding effectOf matches treeIn matchBySteps
-  match-same query place fine found =
-      let ok = accepted t (none-both (madeConditions t) _ fine .0) in
-      let u = also lent ok differ in
-      let s = searched (tracesIn t) (treeIn t) query in
-      let trails : s .trail ≡ trail = match-trail s (s .best) trail found in
-      let both : searched (tracesIn u) (treeIn t) query ≡ s = trees.off-trail (tracesIn t) (tracesIn u) (treeIn t) query
-      (subst (λ (l : List ℕ). SameIn (treeIn t) l (tracesIn t) (tracesIn u)) (sym trails) (all-same lent ok differ)) in
-      let same : matchBySteps (tracesIn u) (treeIn u) query ≡ matchBySteps (tracesIn t) (treeIn t) query =
-      ap (λ (x : Search). matchFrom x (x .best)) both in
-      ap (replyTo (matching query place)) (also-is lent ok differ)
-      ∙ same-work (matching query place) t u fine (match-conditions-same t (u .samples) (as-many lent ok differ) query place)
-      (rw same) (rw same)
-
-  list-same : (k : ℕ) (query : Trace) (place list : List ℕ) → Same (listing k query place list)
-  unfolding effectOf lists treeIn kNearestBySteps trailFound
-  list-same k query place list fine found =
-      let ok = accepted t (none-both (madeConditions t) _ fine .0) in
-      let u = also lent ok differ in
-      let s = listed k (tracesIn t) (treeIn t) query in
-      let trails : s .trail ≡ trail = cc in
-      let both : listed k (tracesIn u) (treeIn u) query ≡ s = step-claims k (tracesIn t) (treeIn t) query .off-trail (tracesIn u)
-      (subst (λ (l : List ℕ). SameIn (treeIn t) l (tracesIn t) (tracesIn u)) (sym trails) (all-same lent ok differ)) in
-      ap (replyTo (listing k query place list)) (also-is lent ok differ)
-      ∙ same-work (listing k query place list) t u fine (list-conditions-same t (u .samples) (as-many lent ok differ) k query place list)
-      (rw both) (rw both)
-
-  batch-same : (count : ℕ) (run : Trace) (place : List ℕ) (list : List Near) → Same (batching count run place list)
-  unfolding effectOf batches treeIn trailFound
-  batch-same count run place list fine found =
-      let ok = accepted t (none-both (madeConditions t) _ fine .0) in
-      let u = also lent ok differ in
-      let queries = queriesIn (measuresOf t .n) count run in
-      let s = batchBySteps (tracesIn t) (treeIn t) queries in
-      let trails : s .trail ≡ trail = cc in
-      let both : batchBySteps (tracesIn u) (treeIn u) queries ≡ s = batch-off-trail (tracesIn t) (tracesIn u) (treeIn t) queries
-      (subst (λ (l : List ℕ). SameIn (treeIn t) l (tracesIn t) (tracesIn u)) (sym trails) (all-same lent ok differ)) in
-      ap (replyTo (batching count run place list)) (also-is lent ok differ)
-      ∙ same-work (batching count run place list) t u fine
-      (batch-conditions-same t (u .samples) (as-many lent ok differ) count run place list) (rw both) (rw both)
-
   -- no other call answers with a trail
   any-same : (ask : Ask) → Same ask
-  unfolding effectOf opens adds writes reads imports exports checks trailFound
+  unfolding effectOf opens adds writes reads imports exports checks trailFound treeIn
+  any-same (searching q) fine found =
+      let ok = accepted t (none-both (madeConditions t) _ fine .0) in
+      let u = also lent ok differ in
+      let both = laws q .unmoved (measuresOf t) (tracesIn t) (tracesIn u) (treeIn t) trail found (all-same lent ok differ) in
+      ap (replyTo (searching q)) (also-is lent ok differ)
+      ∙ same-work (searching q) t u fine (conditions-same t (u .samples) (as-many lent ok differ) (searchOf q))
+      (ap (λ (f : Found). f .result) both) (ap (λ (f : Found). f .beside) both)
   any-same (opening m) fine found = let z : _≡_ {A = ℕ} 0 1 = cc in absurd (omega arith)
   any-same (adding x) fine found = let z : _≡_ {A = ℕ} 0 1 = cc in absurd (omega arith)
-  any-same (matching query place) fine found = match-same query place fine found
   any-same (writing sheet) fine found = let z : _≡_ {A = ℕ} 0 1 = cc in absurd (omega arith)
   any-same (reading bytes) fine found = let z : _≡_ {A = ℕ} 0 1 = cc in absurd (omega arith)
-  any-same (listing k query place list) fine found = list-same k query place list fine found
   any-same (importing bytes) fine found = let z : _≡_ {A = ℕ} 0 1 = cc in absurd (omega arith)
   any-same (exporting number rate buffer) fine found = let z : _≡_ {A = ℕ} 0 1 = cc in absurd (omega arith)
   any-same checking fine found = let z : _≡_ {A = ℕ} 0 1 = cc in absurd (omega arith)
-  any-same (batching count run place list) fine found = batch-same count run place list fine found
 
 -- ---- the law
 

@@ -15,8 +15,8 @@ use Rattle.dstree.specs.Measures.{Trace, Measures, sampleLimit, inRange, areSam
 use Rattle.dstree.specs.Refusals.{Refusal, _refuses_, firstOf, measure, wrongTrace, full, badRecording}
 use Rattle.dstree.specs.Recording.{judgeRecording, fileTraces, isBadFile}
 use Rattle.dstree.specs.Sheet.{areBytes, Judged, refused, holds, judgeSheet}
-use Rattle.dstree.specs.Book.{Ask, opening, adding, matching, writing, reading, listing, importing, exporting, checking, Call, besideOf}
-use Rattle.dstree.specs.Book.{batching, Reply, reply, shortConditions, readingConditions}
+use Rattle.dstree.specs.Book.{Ask, opening, adding, searching, writing, reading, importing, exporting, checking, Call, besideOf}
+use Rattle.dstree.specs.Book.{Reply, reply, shortConditions, readingConditions}
 use Rattle.dstree.proofs.Conditions.{none-first, none-both}
 use Rattle.dstree.proofs.RoundTrips.{is-library}
 use Rattle.dstree.proofs.Recordings.{file-traces}
@@ -35,8 +35,7 @@ use Rattle.insertion_memory.proofs.Meaning.{AfterAdding, meaning}
 use Rattle.insertion_memory.proofs.Keeps.{TakesAll, keeps-all}
 use Rattle.calls.specs.Outcome.{Effect, unlessRefused}
 use Rattle.calls.specs.Library.{loaded, beyond}
-use Rattle.calls.specs.Effects.{opens, adds, cleared, matches, writes, loadedBy, reads, lists, imports, exports, checks}
-use Rattle.calls.specs.Effects.{batches, effectOf}
+use Rattle.calls.specs.Effects.{opens, adds, cleared, writes, loadedBy, reads, imports, exports, checks, effectOf}
 use Rattle.calls.specs.Follows.{Typed, Follows}
 use Rattle.calls.specs.Demands.{OneCall}
 use Rattle.tables.proofs.Judged.{accepted}
@@ -147,17 +146,15 @@ module _ (t : Tables) where
       }
 
   pub after-untouched : (ask : Ask) → Typed ask t → firstOf (effectOf ask t .conditions) ≡ none → Untouched t (effectOf ask t .after)
-  unfolding effectOf opens adds matches writes reads lists imports exports checks batches Typed
+  unfolding effectOf opens adds writes reads imports exports checks Typed
   after-untouched (opening m) typed e = opening-untouched m e
   after-untouched (adding x) typed e = adding-untouched x e
-  after-untouched (matching query trail) typed e = searching-untouched (none-both (madeConditions t) _ e .0)
+  after-untouched (searching q) typed e = searching-untouched (none-both (madeConditions t) _ e .0)
   after-untouched (writing sheet) typed e = read-untouched (none-both (madeConditions t) _ e .0)
   after-untouched (reading bytes) typed e = reading-by (judgeSheet bytes) (λ m traces j. is-library bytes m traces typed j) e
-  after-untouched (listing k query trail list) typed e = searching-untouched (none-both (madeConditions t) _ e .0)
   after-untouched (importing bytes) typed e = importing-untouched bytes (typed .0) (typed .1) e
   after-untouched (exporting number rate buffer) typed e = read-untouched (none-both (madeConditions t) _ e .0)
   after-untouched checking typed e = read-untouched (none-both (madeConditions t) _ e .0)
-  after-untouched (batching count run trail list) typed e = searching-untouched (none-both (madeConditions t) _ e .0)
 
 -- ---- the same of a memory whose first places are lent
 

@@ -3,33 +3,33 @@
 use Prim.Native.Nat.{ℕ, _≤_, _<_}
 use mathlib.Core.Path.{_≡_, refl, sym, ap, subst, _∙_}
 use mathlib.Core.Option.{Option, none, some}
-use mathlib.Core.List.{List, [], _++_, map}
+use mathlib.Core.List.{List, [], map}
 use native.Mathlib.Omega.{arith}
 use lib.ListN.{length, getD, length-map}
 use Rattle.integer.proofs.Lists.{in-map, in-getD, least-low, least-in, strict}
 use Rattle.segment.specs.Figures.{distance}
-use Rattle.dstree.specs.Measures.{Trace, sampleLimit}
+use Rattle.dstree.specs.Measures.{Trace, Measures, sampleLimit}
 use Rattle.dstree.specs.Node.{Tree}
-use Rattle.dstree.specs.Matching.{Match, matchBySteps, leastDistance, lowestAt, matchOf}
-use Rattle.dstree.specs.KNearest.{kNearestBySteps, kNearestOf, KNearestClaims}
+use Rattle.dstree.specs.Matching.{Match, leastDistance, lowestAt, matchOf}
 use Rattle.dstree.specs.Claims.{ClaimsOf}
-use Rattle.dstree.specs.Refusals.{Refusal, Condition, firstOf}
-use Rattle.dstree.specs.Book.{Lent, matching, listing, Call, call, matched, neighbours, Reply, reply, Book}
+use Rattle.dstree.specs.Refusals.{Refusal, firstOf}
+use Rattle.dstree.specs.Book.{Lent, searching, Call, call, answering, Reply, reply, Book, Found, Sought, aMatch, aListing, searchOf}
 use Rattle.dstree.proofs.Conditions.{none-both}
 use Rattle.dstree.proofs.Closed.{match-exact}
 use Rattle.dstree.proofs.Ranks.{list-claims}
 use Rattle.dstree.proofs.KLaws.{k-nearest-exact, one-exact}
 use Rattle.dstree.proofs.Search.{LowestAt, lowest}
-use Rattle.tables.specs.Tables.{Tables, lentOf, measuresOf}
+use Rattle.tables.specs.Tables.{Tables, lentOf, measuresOf, traceCount}
 use Rattle.tables.specs.View.{treeIn, tracesIn}
 use Rattle.tables.specs.Beginning.{firstPlaces, LentWithin}
 use Rattle.tables.specs.Answers.{madeConditions}
 use Rattle.tables.proofs.Beginning.{begins-within, first-begins, first-lent}
 use Rattle.calls.specs.Trusted.{Trusts}
-use Rattle.calls.specs.Effects.{resultOf, trailOf, matches, lists, effectOf}
+use Rattle.calls.specs.Effects.{effectOf}
 use Rattle.calls.specs.Follows.{Typed, outcomeIn, Follows}
-use Rattle.calls.specs.Demands.{DifferOutside, trailFound, judgeIn, MatchGives, ListGives, OfAnyQuery}
-use Rattle.calls.proofs.Trusted.{exact-tree, part-trusts, part-tree, fine-room}
+use Rattle.calls.specs.Demands.{DifferOutside, trailFound, judgeIn, OfAnyQuery}
+use Rattle.calls.proofs.Searches.{laws}
+use Rattle.calls.proofs.Trusted.{count-in, exact-tree, part-trusts, part-tree, fine-room}
 use Rattle.calls.proofs.OneCall.{one-call}
 use Rattle.calls.proofs.OffTrail.{off-trail}
 
@@ -94,91 +94,77 @@ abbrev pub Judges : (Call → Option Refusal) → Tables → Type 0
 Judges judges memory = (c : Call) → lentOf (firstPlaces (c .lent) memory) ≡ c .lent → Typed (c .ask) (firstPlaces (c .lent) memory)
     → judges c ≡ none → judgeIn memory c ≡ none
 
--- the tables that a call is lent which is not refused are the memory's
-pub on-part : {memory : Tables} {b : Book} → Trusts memory b → (lent : Lent) (rest : List Condition) → let part = firstPlaces lent memory in
-    firstOf (madeConditions part ++ rest) ≡ none
-    → (measuresOf part ≡ b .measures) × ((tracesIn part ≡ b .traces) × (treeIn part ≡ treeIn memory))
-on-part {memory} k lent rest e =
-    let begins = first-begins lent memory in
-    let room = fine-room k begins (none-both (madeConditions (firstPlaces lent memory)) rest e .0) in
-    let t = part-trusts k begins room in
-    (t .measures-are, (t .traces-are, part-tree k begins room))
+-- a search that is not refused gives its closed form, on a memory that the check would accept and on one that differs from it off the trail
+module _ {memory : Tables} {b : Book} (k : Trusts memory b) (judges : Call → Option Refusal) (fine : Judges judges memory) (q : Sought) where
+  abbrev finds : Found
+  finds = searchOf q .closed (b .measures) (b .traces) (treeIn memory)
+
+  abbrev gives : Tables → Type 0
+  gives memory = (lent : Lent) (said : Reply) (memory′ : Tables) → Follows (call lent (searching q)) memory said memory′
+      → judges (call lent (searching q)) ≡ none → said ≡ reply (answering (finds .result)) (finds .beside)
+
+  pub search-gives : gives memory
+  unfolding effectOf Typed
+  search-gives lent said memory′ f not-refused =
+      let part = firstPlaces lent memory in
+      let s = searchOf q in
+      let here : judgeIn memory (call lent (searching q)) ≡ none = fine _ (f .has-places) tt not-refused in
+      let own = none-both (madeConditions part) _ here in
+      let begins = first-begins lent memory in
+      let room = fine-room k begins (own .0) in
+      let t = part-trusts k begins room in
+      let same = part-tree k begins room in
+      let own-here : firstOf (s .refuses-own (b .measures) (length (b .traces)) (treeIn memory)) ≡ none =
+      ap firstOf (sym (ap (λ (m : Measures). s .refuses-own m (traceCount part) (treeIn part)) (t .measures-are)
+      ∙ (ap (λ (n : ℕ). s .refuses-own (b .measures) n (treeIn part)) (count-in t)
+      ∙ ap (s .refuses-own (b .measures) (length (b .traces))) same))) ∙ own .1 in
+      let is : s .steps (measuresOf part) (tracesIn part) (treeIn part) ≡ finds =
+      ap (λ (m : Measures). s .steps m (tracesIn part) (treeIn part)) (t .measures-are)
+      ∙ (ap (λ (l : List Trace). s .steps (b .measures) l (treeIn part)) (t .traces-are)
+      ∙ (ap (s .steps (b .measures) (b .traces)) same
+      ∙ laws q .gives (b .measures) (b .traces) (treeIn memory) (exact-tree k) own-here)) in
+      one-call _ memory memory′ said f .works here .0 ∙ ap (λ (x : Found). reply (answering (x .result)) (x .beside)) is
+
+  pub gives-there : (trail : List ℕ) → trailFound (finds .result) ≡ some trail
+      → (other : Tables) → DifferOutside trail memory other → gives other
+  unfolding Typed
+  gives-there trail found other differ lent said other′ g not-refused =
+      let asks = call lent (searching q) in
+      let f = call-here asks memory (places-here differ g) tt in
+      let here = search-gives lent _ _ f not-refused in
+      off-trail asks memory _ _ f (finds .result) trail (ap (λ (r : Reply). r .answer) here) found other other′ said differ g ∙ here
 
 module _ {memory : Tables} {b : Book} (k : Trusts memory b) (judges : Call → Option Refusal) (fine : Judges judges memory)
     (query : Trace) (size : length query ≡ b .measures .n) where
   abbrev tree : Tree
   tree = treeIn memory
 
-  -- a match
-  module _ (some-trace : 0 < length (b .traces)) where
-    abbrev c : ClaimsOf (b .traces) tree query
-    c = match-exact sampleLimit (b .measures) (b .traces) tree (exact-tree k) query some-trace size
-
-    gives : MatchGives judges query memory (matchOf (b .traces) tree query)
-    unfolding effectOf matches resultOf trailOf Typed
-    gives lent trail said memory′ f not-refused =
-        let here : judgeIn memory (call lent (matching query trail)) ≡ none = fine _ (f .has-places) tt not-refused in
-        let same = on-part k lent _ here in
-        let steps : matchBySteps (tracesIn (firstPlaces lent memory)) (treeIn (firstPlaces lent memory)) query
-        ≡ some (matchOf (b .traces) tree query) = rw (same .1 .0, same .1 .1) (c .steps-give-it) in
-        one-call _ memory memory′ said f .works here .0 ∙ (rw steps)
-
-    gives-there : (other : Tables) → DifferOutside (matchOf (b .traces) tree query .trail) memory other
-        → MatchGives judges query other (matchOf (b .traces) tree query)
-    unfolding trailFound Typed
-    gives-there other differ lent trail said other′ g not-refused =
-        let asks = call lent (matching query trail) in
-        let m = matchOf (b .traces) tree query in
-        let f = call-here asks memory (places-here differ g) tt in
-        let here = gives lent trail _ _ f not-refused in
-        off-trail asks memory _ _ f (matched m) (m .trail) (ap (λ (r : Reply). r .answer) here) refl other other′ said differ g ∙ here
-
-  -- the k nearest
-  module _ (j : ℕ) where
-    lists-claimed : KNearestClaims j (b .traces) tree query
-    lists-claimed = k-nearest-exact sampleLimit (b .measures) (b .traces) tree (exact-tree k) query size j
-
-    list-gives : ListGives judges j query memory (kNearestOf j (b .traces) tree query)
-    unfolding effectOf lists Typed
-    list-gives lent trail list said memory′ f not-refused =
-        let here : judgeIn memory (call lent (listing j query trail list)) ≡ none = fine _ (f .has-places) tt not-refused in
-        let same = on-part k lent _ here in
-        let steps : kNearestBySteps j (tracesIn (firstPlaces lent memory)) (treeIn (firstPlaces lent memory)) query
-        ≡ kNearestOf j (b .traces) tree query = rw (same .1 .0, same .1 .1) (lists-claimed .steps-give-it) in
-        one-call _ memory memory′ said f .works here .0 ∙ (rw steps)
-
-    list-gives-there : (other : Tables) → DifferOutside (kNearestOf j (b .traces) tree query .trail) memory other
-        → ListGives judges j query other (kNearestOf j (b .traces) tree query)
-    unfolding trailFound Typed
-    list-gives-there other differ lent trail list said other′ g not-refused =
-        let asks = call lent (listing j query trail list) in
-        let m = kNearestOf j (b .traces) tree query in
-        let f = call-here asks memory (places-here differ g) tt in
-        let here = list-gives lent trail list _ _ f not-refused in
-        off-trail asks memory _ _ f (neighbours m) (m .trail) (ap (λ (r : Reply). r .answer) here) refl other other′ said differ g ∙ here
+  abbrev c : 0 < length (b .traces) → ClaimsOf (b .traces) tree query
+  c some-trace = match-exact sampleLimit (b .measures) (b .traces) tree (exact-tree k) query some-trace size
 
   -- ---- any query, of whatever the check would accept
 
   pub of-any-query : 0 < length (b .traces) → OfAnyQuery judges (b .traces) tree query memory
+  unfolding trailFound
   of-any-query some-trace =
       let n = nearest (b .traces) tree query some-trace in
       record {
         bound-at-most = c some-trace .bound-at-most;
-        match-gives = gives some-trace;
+        match-gives = λ lent trail. search-gives k judges fine (aMatch query trail) lent;
         is-stored = n .is-stored;
         has-distance = n .has-distance;
         is-least = n .is-least;
         is-lowest = n .is-lowest;
-        others-do-not-bear = gives-there some-trace;
+        others-do-not-bear = λ other differ lent trail. gives-there k judges fine (aMatch query trail) _ refl other differ lent;
         out-of-R = c some-trace .out-of-R;
         contains-R = c some-trace .contains-R;
         fewest = c some-trace .fewest;
         R-itself = c some-trace .R-itself;
         each-k = λ j. record {
-          list-gives = list-gives j;
+          list-gives = λ lent trail list. search-gives k judges fine (aListing j query trail list) lent;
           list-is = list-claims j (b .traces) query;
-          leaves-are = lists-claimed j;
-          others-do-not-bear = list-gives-there j;
+          leaves-are = k-nearest-exact sampleLimit (b .measures) (b .traces) tree (exact-tree k) query size j;
+          others-do-not-bear = λ other differ lent trail list. gives-there k judges fine (aListing j query trail list) _ refl other differ lent;
         };
         one-is-match = one-exact sampleLimit (b .measures) (b .traces) tree (exact-tree k) query size some-trace;
       }

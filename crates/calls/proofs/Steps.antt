@@ -2,29 +2,26 @@
 -- list of calls is answered as the book says, from the first that succeeded on.
 use Prim.Native.Nat.{ℕ}
 use mathlib.Core.Path.{_≡_, refl, sym, ap, subst, _∙_}
-use mathlib.Core.Bool.{false}
 use mathlib.Core.Option.{Option, none, some}
 use mathlib.Core.List.{List, [], _∷_}
 use native.Mathlib.Omega.{arith}
 use Rattle.dstree.specs.Measures.{measures}
-use Rattle.dstree.specs.Matching.{Match, matchBySteps}
-use Rattle.dstree.specs.KNearest.{listPlaces}
 use Rattle.dstree.specs.Refusals.{Refusal, firstOf}
-use Rattle.dstree.specs.Book.{Lent, Ask, opening, adding, matching, writing, reading, listing, importing, exporting, checking, Call}
-use Rattle.dstree.specs.Book.{batching, call, besideOf, done, answering}
+use Rattle.dstree.specs.Book.{Lent, Ask, opening, adding, searching, writing, reading, importing, exporting, checking, Call}
+use Rattle.dstree.specs.Book.{call, besideOf, done, answering, searchOf}
 use Rattle.dstree.specs.Book.{Book, book, Entry, openingEntry, readingEntry, entryOf, judge, putUnless, turn, after, replyUnless, start}
 use Rattle.dstree.specs.Book.{Reply, reply, replyOf, repliesOf}
 use Rattle.tables.specs.Layout.{layout}
-use Rattle.tables.specs.Tables.{Tables}
+use Rattle.tables.specs.Tables.{Tables, measuresOf}
 use Rattle.tables.specs.View.{treeIn, tracesIn}
 use Rattle.tables.specs.Beginning.{firstPlaces, left, Begins}
 use Rattle.tables.proofs.Beginning.{left-same, first-begins}
 use Rattle.calls.specs.Outcome.{Effect, Outcome, unlessRefused, outcomeOf}
 use Rattle.calls.specs.Library.{Keeps}
-use Rattle.calls.specs.Effects.{adds, resultOf, isNone, matches, writes, lists, imports, exports, checks, effectOf}
-use Rattle.calls.specs.Effects.{batches, outcomeOn}
+use Rattle.calls.specs.Effects.{adds, searches, writes, imports, exports, checks, effectOf, outcomeOn}
+use Rattle.calls.specs.Demands.{trailFound}
 use Rattle.calls.specs.Follows.{Typed, Follows, Ran, no-call, a-call}
-use Rattle.calls.proofs.Finds.{found, last-never}
+use Rattle.calls.proofs.Searches.{laws}
 use Rattle.calls.proofs.Agrees.{Agrees, opening-agrees, reading-agrees, agrees}
 
 -- ---- the shape of every step, by the refusal that the book finds
@@ -83,36 +80,25 @@ unfolding unlessRefused
 not-done (some why) t beside e f d = let z : _≡_ {A = ℕ} 0 1 = cc in absurd (omega arith)
 not-done none t beside e f d = f refl (cc)
 
-found-not-done : (o : Option Match) → isNone o ≡ false → resultOf o ≡ done → ⊥
-unfolding isNone resultOf
-found-not-done none e d = let z : _≡_ {A = ℕ} 0 1 = cc in absurd (omega arith)
-found-not-done (some m) e d = let z : _≡_ {A = ℕ} 0 1 = cc in absurd (omega arith)
-
 module _ (memory part : Tables) (lent : Lent) where
   abbrev noBook : Book
   noBook = book (measures 0 0 0) []
 
   started-by : (ask : Ask) → Typed ask part → outcomeOn ask part .answer ≡ answering done
       → Keeps (left (outcomeOn ask part .after) memory) (start layout (call lent ask))
-  unfolding outcomeOn effectOf besideOf entryOf start openingEntry readingEntry adds matches writes lists imports exports checks
-      batches Typed
+  unfolding outcomeOn effectOf besideOf entryOf start openingEntry readingEntry adds writes imports exports checks Typed trailFound
   started-by (opening m) typed d = start-by memory part noBook [] (opening-agrees memory part noBook m) d
   started-by (adding x) typed d = absurd (not-done _ part [] (adds part x) (λ e r. let z : _≡_ {A = ℕ} 0 1 = cc in omega arith) d)
-  started-by (matching query trail) typed d = absurd (not-done _ part (trail ∷ []) (matches part query trail)
-      (λ e r. found-not-done (matchBySteps (tracesIn part) (treeIn part) query)
-      (found part query trail (sym (last-never part query trail) ∙ e)) r) d)
+  started-by (searching q) typed d = absurd (not-done _ part _ (searches part (searchOf q))
+      (λ e r. laws q .has-trail (measuresOf part) (tracesIn part) (treeIn part) (ap trailFound r)) d)
   started-by (writing sheet) typed d = absurd (not-done _ part (sheet ∷ []) (writes part sheet)
       (λ e r. let z : _≡_ {A = ℕ} 0 1 = cc in omega arith) d)
   started-by (reading bytes) typed d = start-by memory part noBook [] (reading-agrees memory part noBook bytes typed) d
-  started-by (listing k query trail list) typed d = absurd (not-done _ part (trail ∷ list ∷ []) (lists part k query trail list)
-      (λ e r. let z : _≡_ {A = ℕ} 0 1 = cc in omega arith) d)
   started-by (importing bytes) typed d = absurd (not-done _ part [] (imports part bytes)
       (λ e r. let z : _≡_ {A = ℕ} 0 1 = cc in omega arith) d)
   started-by (exporting number rate buffer) typed d = absurd (not-done _ part (buffer ∷ []) (exports part number rate buffer)
       (λ e r. let z : _≡_ {A = ℕ} 0 1 = cc in omega arith) d)
   started-by checking typed d = absurd (not-done _ part [] (checks part) (λ e r. let z : _≡_ {A = ℕ} 0 1 = cc in omega arith) d)
-  started-by (batching count run trail list) typed d = absurd (not-done _ part (trail ∷ listPlaces list ∷ []) (batches part count run trail list)
-      (λ e r. let z : _≡_ {A = ℕ} 0 1 = cc in omega arith) d)
 
 pub started : {c : Call} {memory memory′ : Tables} {said : Reply} → Follows c memory said memory′ → said .answer ≡ answering done
     → Keeps memory′ (start layout c)

@@ -16,17 +16,16 @@ use Rattle.integer.specs.Lists.{In, first, later}
 use Rattle.integer.proofs.Tests.{passes, is-true, test-true}
 use Rattle.integer.proofs.Lists.{in-nil, in-cons, from-every, every-of, strict}
 use Rattle.dstree.specs.Measures.{Trace, Measures, sampleLimit, areSamples, isTrace, isLibrary, workNeeded}
-use Rattle.dstree.specs.Matching.{Match, matchBySteps}
 use Rattle.dstree.specs.Refusals.{Refusal, Condition, _refuses_, firstOf, wrongTrace, full, badRecording, looseRecord, numberOf}
 use Rattle.dstree.specs.Claims.{RangesOf}
 use Rattle.dstree.specs.Checking.{isExact}
 use Rattle.dstree.specs.WellFormed as abstract
 use Rattle.dstree.specs.Recording.{Recording, judgeRecording, fileTraces, isBadFile}
 use Rattle.dstree.specs.Sheet.{areBytes}
-use Rattle.dstree.specs.Book.{Lent, Ask, opening, adding, matching, writing, reading, listing, importing, exporting, checking, Call, call}
+use Rattle.dstree.specs.Book.{Lent, Ask, opening, adding, searching, writing, reading, importing, exporting, checking, Call, call}
 use Rattle.dstree.specs.Book.{besideOf, accepted, refusing, answering, Reply, Book, book, Entry, shortConditions, addConditions}
-use Rattle.dstree.specs.Book.{importConditions, addingEntry, matchingEntry, writingEntry, listingEntry, importingEntry, exportingEntry}
-use Rattle.dstree.specs.Book.{batching, checkingEntry, batchingEntry, entryOf, judge, putUnless, turn, after}
+use Rattle.dstree.specs.Book.{importConditions, addingEntry, writingEntry, importingEntry, exportingEntry, checkingEntry, entryOf, judge}
+use Rattle.dstree.specs.Book.{putUnless, turn, after}
 use Rattle.dstree.proofs.Conditions.{none-first, none-both, first-some, first-none}
 use Rattle.dstree.proofs.Limits.{trace-length}
 use Rattle.dstree.proofs.Recordings.{file-traces}
@@ -46,15 +45,17 @@ use Rattle.insertion_memory.proofs.Meaning.{meaning}
 use Rattle.insertion_memory.proofs.Keeps.{keeps-well-formed}
 use Rattle.calls.specs.Outcome.{Effect, unlessRefused}
 use Rattle.calls.specs.Trusted.{bookIn, Trusts}
-use Rattle.calls.specs.Effects.{opens, adds, resultOf, cleared, matches, writes, reads, lists, imports, exports, checks}
-use Rattle.calls.specs.Effects.{batches, effectOf}
+use Rattle.calls.specs.Effects.{opens, adds, cleared, writes, reads, imports, exports, checks, effectOf}
+use Rattle.calls.specs.Demands.{trailFound}
 use Rattle.calls.specs.Follows.{Typed, Follows, Ran, no-call, a-call}
 use Rattle.calls.proofs.Stored.{Fine, Stores, lent-stores}
 use Rattle.calls.proofs.Trusted.{long-in, count-in, each-is, whole-trusts, part-trusts, fine-room}
 use Rattle.calls.proofs.Trusted.{trusted-same, accepted-same, checked-trusts, kept-trusts}
 use Rattle.calls.proofs.Agrees.{Agrees, opening-agrees, reading-agrees, library-grows}
 use Rattle.calls.proofs.Steps.{reply-is, memory-is}
-use Rattle.calls.proofs.NeverSpoiled.{ifAny, first-any, ofArguments, other, first-other, entry-other}
+use Rattle.calls.proofs.OfArguments.{ifAny, first-any, ofArguments, other, first-other}
+use Rattle.calls.proofs.Searches.{laws}
+use Rattle.calls.proofs.NeverSpoiled.{entry-other}
 use Rattle.calls.proofs.OffTrail.{answered}
 
 -- ---- adding
@@ -149,9 +150,9 @@ module _ (memory part : Tables) (begins : Begins part memory) (b : Book) (k : Tr
       }
 
   -- an effect whose own conditions are `rest`
-  searching : (rest : List Condition) (e : Effect) (n : Entry) → e .conditions ≡ madeConditions part ++ rest → n .puts ≡ b
+  search-leads : (rest : List Condition) (e : Effect) (n : Entry) → e .conditions ≡ madeConditions part ++ rest → n .puts ≡ b
       → e .after ≡ cleared part → T (every other (shortConditions layout (lentOf part) (b .measures) ++ rest)) → Leads memory b e n
-  searching rest e n c p l all = record {
+  search-leads rest e n c p l all = record {
     puts-same = put-stays _ b n p ∙ sym (put-stays _ b n p);
     trusts = λ f. rw (l, p) (left-trusts (cleared-trusts (lent-trusts rest (ap firstOf (sym c) ∙ f))));
     by-arguments = rw c (by-own rest all);
@@ -225,20 +226,17 @@ module _ (memory part : Tables) (begins : Begins part memory) (b : Book) (k : Tr
           (ltb-false (m .capacity) (length (b .traces) + length (fileTraces file)) (two .0)))
 
   leads : (ask : Ask) → Typed ask part → Leads memory b (effectOf ask part) (entryOf layout (lentOf part) b ask)
-  unfolding effectOf entryOf Typed matches lists writes exports checks matchingEntry listingEntry writingEntry exportingEntry checkingEntry
-      batches batchingEntry every ofArguments numberOf
+  unfolding effectOf entryOf Typed writes exports checks writingEntry exportingEntry checkingEntry every ofArguments numberOf
   leads (opening x) typed = of-agrees (opening-agrees memory part b x) (entry-other layout (lentOf part) b (opening x))
   leads (adding x) typed = adding-leads x typed
-  leads (matching query trail) typed = searching _ _ _ refl refl refl tt
+  leads (searching q) typed = search-leads _ _ _ refl refl refl (laws q .by-arguments (measuresOf part) (traceCount part) (treeIn part))
   leads (writing sheet) typed = staying _ _ refl refl (by-own _ tt)
   leads (reading bytes) typed = of-agrees (reading-agrees memory part b bytes typed) (entry-other layout (lentOf part) b (reading bytes))
-  leads (listing j query trail list) typed = searching _ _ _ refl refl refl tt
   leads (importing bytes) typed = importing-leads bytes (typed .0)
   leads (exporting number rate buffer) typed = staying _ _ refl refl (by-own _ tt)
   leads checking typed = staying _ _ refl refl
       (subst (λ (o : Option Refusal). T (ifAny ofArguments o)) (sym (accepted-same k begins))
       (first-other (shortConditions layout (lentOf part) m) tt))
-  leads (batching count run trail list) typed = searching _ _ _ refl refl refl tt
 
 -- ---- the step
 
@@ -292,23 +290,16 @@ all-trusting k (a-call {said = said} {others = others} f rest) =
 -- ---- the first call
 
 -- only a check answers `accepted`
-match-accepts-none : (o : Option Match) → resultOf o ≡ accepted → ⊥
-unfolding resultOf
-match-accepts-none none e = let z : _≡_ {A = ℕ} 0 1 = cc in omega arith
-match-accepts-none (some m) e = let z : _≡_ {A = ℕ} 0 1 = cc in omega arith
-
 only-check : (ask : Ask) (t : Tables) → effectOf ask t .result ≡ accepted → ask ≡ checking
-unfolding effectOf opens adds matches writes reads lists imports exports checks batches
+unfolding effectOf opens adds writes reads imports exports checks trailFound
 only-check (opening m) t e = let z : _≡_ {A = ℕ} 0 1 = cc in absurd (omega arith)
 only-check (adding x) t e = let z : _≡_ {A = ℕ} 0 1 = cc in absurd (omega arith)
-only-check (matching query trail) t e = absurd (match-accepts-none (matchBySteps (tracesIn t) (treeIn t) query) e)
+only-check (searching q) t e = absurd (laws q .has-trail (measuresOf t) (tracesIn t) (treeIn t) (ap trailFound e))
 only-check (writing sheet) t e = let z : _≡_ {A = ℕ} 0 1 = cc in absurd (omega arith)
 only-check (reading bytes) t e = let z : _≡_ {A = ℕ} 0 1 = cc in absurd (omega arith)
-only-check (listing k query trail list) t e = let z : _≡_ {A = ℕ} 0 1 = cc in absurd (omega arith)
 only-check (importing bytes) t e = let z : _≡_ {A = ℕ} 0 1 = cc in absurd (omega arith)
 only-check (exporting number rate buffer) t e = let z : _≡_ {A = ℕ} 0 1 = cc in absurd (omega arith)
 only-check checking t e = refl
-only-check (batching count run trail list) t e = let z : _≡_ {A = ℕ} 0 1 = cc in absurd (omega arith)
 
 module _ {lent : Lent} {memory memory′ : Tables} {said : Reply} (f : Follows (call lent checking) memory said memory′) where
   abbrev lentPart : Tables

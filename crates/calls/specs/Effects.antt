@@ -1,20 +1,19 @@
 -- The calls, one by one, on tables that hold anything. A contract says that a call's answer, and all that it leaves, is `outcomeOn` what it
 -- asked.
 use Prim.Native.Nat.{ℕ}
-use mathlib.Core.Bool.{Bool, true, false, not}
-use mathlib.Core.Option.{Option, none, some}
+use mathlib.Core.Bool.{not}
 use mathlib.Core.List.{List, [], _∷_, _++_, foldl}
 use lib.ListN.{length, getD}
 use Rattle.dstree.specs.Measures.{Trace, Measures, workNeeded}
-use Rattle.dstree.specs.Matching.{leaves, Near, Match, matchBySteps}
-use Rattle.dstree.specs.KNearest.{listPlaces, kNearestBySteps}
-use Rattle.dstree.specs.Batch.{queriesIn, batchConditions, batchBySteps}
-use Rattle.dstree.specs.Refusals.{Condition, _refuses_, empty, looseRecord, runConditions}
+use Rattle.dstree.specs.Matching.{leaves, Near}
+use Rattle.dstree.specs.Batch.{batchConditions}
+use Rattle.dstree.specs.Refusals.{Condition, _refuses_, looseRecord, runConditions}
 use Rattle.dstree.specs.Checking.{isExact}
 use Rattle.dstree.specs.Sheet.{blocksNeeded, sheetOf, Judged, refused, holds, judgeSheet}
 use Rattle.dstree.specs.Recording.{recordingSize, recordingOf, judgeRecording, fileTraces}
-use Rattle.dstree.specs.Book.{Ask, opening, adding, matching, writing, reading, listing, importing, exporting, checking, batching, besideOf}
-use Rattle.dstree.specs.Book.{Result, done, added, matched, written, neighbours, imported, exported, accepted, batched, over}
+use Rattle.dstree.specs.Book.{Ask, opening, adding, searching, writing, reading, importing, exporting, checking, besideOf}
+use Rattle.dstree.specs.Book.{done, added, written, imported, exported, accepted, over}
+use Rattle.dstree.specs.Book.{AnySearch, matchSearch, listSearch, batchSearch, searchOf}
 use Rattle.dstree.specs.Book.{addConditions, queryConditions, writeConditions, readingConditions, listConditions, importConditions}
 use Rattle.dstree.specs.Book.{exportConditions}
 use Rattle.tables.specs.Layout.{layout}
@@ -40,44 +39,49 @@ adds t x = record {
   beside = [];
 }
 
--- ---- a match: the same; then 4, 6, 7
-
--- what a search refuses of a run of so many samples and of its trail
-abbrev pub runConditionsIn : Tables → ℕ → Trace → List ℕ → List Condition
-runConditionsIn t size run trail = runConditions size (traceCount t) (length (leaves (treeIn t))) run trail
-
--- .. of its query
-abbrev pub queryConditionsIn : Tables → Trace → List ℕ → List Condition
-queryConditionsIn t query trail = queryConditions (measuresOf t) (traceCount t) (treeIn t) query trail
-
--- the match that a search found, and its trail. A search that finds none is refused before (below), so that its answer here does not matter
-unfoldable pub resultOf : Option Match → Result
-resultOf none = done
-resultOf (some m) = matched m
-
-unfoldable pub trailOf : Option Match → List ℕ
-trailOf none = []
-trailOf (some m) = m .trail
-
-unfoldable pub isNone : {A : Type 0} → Option A → Bool
-isNone none = true
-isNone (some a) = false
+-- ---- a search: the same; then what it refuses of its own
 
 -- "The needed search work is left zero"
 abbrev pub cleared : Tables → Tables
 cleared t = tables (t .control) (t .samples) (t .nodes) (t .links) (filled (workNeeded (measuresOf t)) 0 (t .work))
 
--- "With well-formed tables that somebody altered, calls follow the steps above on what is recorded". The last condition never holds behind
--- the others (`proofs/Finds`): well-formed tables with a trace have a leaf, and no leaf is empty (docs/DECISIONS.md, M7)
-unfoldable pub matches : Tables → Trace → List ℕ → Effect
-matches t query trail =
-    let found = matchBySteps (tracesIn t) (treeIn t) query in
+-- "With well-formed tables that somebody altered, calls follow the steps above on what is recorded"; document 02, §7: "where other
+-- well-formed tables break [a claim], that answer is the program's"
+abbrev pub searches : Tables → AnySearch → Effect
+searches t s =
+    let found = s .steps (measuresOf t) (tracesIn t) (treeIn t) in
     record {
-      conditions = madeConditions t ++ (queryConditionsIn t query trail ++ (isNone found refuses empty ∷ []));
-      result = resultOf found;
+      conditions = madeConditions t ++ s .refuses-own (measuresOf t) (traceCount t) (treeIn t);
+      result = found .result;
       after = cleared t;
-      beside = over (trailOf found) trail ∷ [];
+      beside = found .beside;
     }
+
+-- what a search refuses of a run of so many samples and of its trail
+abbrev pub runConditionsIn : Tables → ℕ → Trace → List ℕ → List Condition
+runConditionsIn t size run trail = runConditions size (traceCount t) (length (leaves (treeIn t))) run trail
+
+-- a match, of its query: 4, 6, 7
+abbrev pub queryConditionsIn : Tables → Trace → List ℕ → List Condition
+queryConditionsIn t query trail = queryConditions (measuresOf t) (traceCount t) (treeIn t) query trail
+
+abbrev pub matches : Tables → Trace → List ℕ → Effect
+matches t query trail = searches t (matchSearch query trail)
+
+-- the k nearest (document 02, §1): as a match; "11 .. after 3; a list shorter than k is refused as 7"
+abbrev pub listConditionsIn : Tables → ℕ → Trace → List ℕ → List ℕ → List Condition
+listConditionsIn t k query trail list = listConditions (measuresOf t) (traceCount t) (treeIn t) k query trail list
+
+abbrev pub lists : Tables → ℕ → Trace → List ℕ → List ℕ → Effect
+lists t k query trail list = searches t (listSearch k query trail list)
+
+-- a batch (document 02, §7), with a list of so many records: "14 bad batch .., after 3", then 4, 6, 7
+abbrev pub batchConditionsIn : Tables → ℕ → ℕ → Trace → List ℕ → List Condition
+batchConditionsIn t count places run trail =
+    batchConditions (measuresOf t .n) (traceCount t) (length (leaves (treeIn t))) count places run trail
+
+abbrev pub batches : Tables → ℕ → Trace → List ℕ → List Near → Effect
+batches t count run trail list = searches t (batchSearch count run trail list)
 
 -- ---- writing: the same; then 8, "below the need"
 
@@ -105,22 +109,6 @@ reads t bytes = record {
   after = loadedBy t (judgeSheet bytes);
   beside = [];
 }
-
--- ---- the k nearest (document 02, §1): as a match; "11 .. after 3; a list shorter than k is refused as 7"
-
--- what it refuses of its own
-abbrev pub listConditionsIn : Tables → ℕ → Trace → List ℕ → List ℕ → List Condition
-listConditionsIn t k query trail list = listConditions (measuresOf t) (traceCount t) (treeIn t) k query trail list
-
-unfoldable pub lists : Tables → ℕ → Trace → List ℕ → List ℕ → Effect
-lists t k query trail list =
-    let found = kNearestBySteps k (tracesIn t) (treeIn t) query in
-    record {
-      conditions = madeConditions t ++ listConditionsIn t k query trail list;
-      result = neighbours found;
-      after = cleared t;
-      beside = over (found .trail) trail ∷ over (listPlaces (found .list)) list ∷ [];
-    }
 
 -- ---- recordings (document 02, §2): "12 bad recording .., after 3 and before 5; 5 if not all traces fit; an export buffer too short is 8"
 
@@ -158,38 +146,17 @@ checks t = record {
   beside = [];
 }
 
--- ---- a batch (document 02, §7): "14 bad batch .., after 3", then 4, 6, 7
-
--- what it refuses of its own, with a list of so many records
-abbrev pub batchConditionsIn : Tables → ℕ → ℕ → Trace → List ℕ → List Condition
-batchConditionsIn t count places run trail =
-    batchConditions (measuresOf t .n) (traceCount t) (length (leaves (treeIn t))) count places run trail
-
--- "where other well-formed tables break [a claim], that answer is the program's": its steps, on what is recorded. What a check accepts has
--- the answers of the matches
-unfoldable pub batches : Tables → ℕ → Trace → List ℕ → List Near → Effect
-batches t count run trail list =
-    let found = batchBySteps (tracesIn t) (treeIn t) (queriesIn (measuresOf t .n) count run) in
-    record {
-      conditions = madeConditions t ++ batchConditionsIn t count (length list) run trail;
-      result = batched found;
-      after = cleared t;
-      beside = over (found .trail) trail ∷ listPlaces (found .answers) ∷ [];
-    }
-
 -- ---- any call
 
 unfoldable pub effectOf : Ask → Tables → Effect
 effectOf (opening m) t = opens t m
 effectOf (adding x) t = adds t x
-effectOf (matching query trail) t = matches t query trail
+effectOf (searching q) t = searches t (searchOf q)
 effectOf (writing sheet) t = writes t sheet
 effectOf (reading bytes) t = reads t bytes
-effectOf (listing k query trail list) t = lists t k query trail list
 effectOf (importing bytes) t = imports t bytes
 effectOf (exporting number rate buffer) t = exports t number rate buffer
 effectOf checking t = checks t
-effectOf (batching count run trail list) t = batches t count run trail list
 
 -- what a call answers and leaves that asks this of these tables
 unfoldable pub outcomeOn : Ask → Tables → Outcome

@@ -5,8 +5,7 @@ use mathlib.Core.List.{List, [], _∷_}
 use lib.Dec.{T}
 use Rattle.dstree.specs.Measures.{areSamples}
 use Rattle.dstree.specs.Sheet.{areBytes}
-use Rattle.dstree.specs.Book.{Ask, opening, adding, matching, writing, reading, listing, importing, exporting, checking, Call}
-use Rattle.dstree.specs.Book.{batching, Reply}
+use Rattle.dstree.specs.Book.{Ask, opening, adding, searching, writing, reading, importing, exporting, checking, Call, Reply}
 use Rattle.tables.specs.Tables.{Tables, lentOf}
 use Rattle.tables.specs.Beginning.{firstPlaces, left}
 use Rattle.calls.specs.Outcome.{Outcome, outcome}
@@ -18,14 +17,12 @@ use Rattle.calls.specs.Effects.{outcomeOn}
 unfoldable pub Typed : Ask → Tables → Type 0
 Typed (opening m) t = Unit
 Typed (adding x) t = T (areSamples x)
-Typed (matching query trail) t = Unit
+Typed (searching q) t = Unit
 Typed (writing sheet) t = Unit
 Typed (reading bytes) t = T (areBytes bytes)
-Typed (listing k query trail list) t = Unit
 Typed (importing bytes) t = T (areBytes bytes) × T (areSamples (t .samples))
 Typed (exporting number rate buffer) t = Unit
 Typed checking t = T (areSamples (t .samples))
-Typed (batching count run trail list) t = Unit
 
 -- what a call answers, and what it leaves in the memory and in what it is lent beside the tables. Places behind those that it is lent stay
 abbrev pub outcomeIn : Call → Tables → Outcome

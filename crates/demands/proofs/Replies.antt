@@ -2,23 +2,22 @@
 -- are one.
 use Prim.Native.Nat.{ℕ, zero, suc, _*_}
 use mathlib.Core.Path.{_≡_, refl, sym, ap, subst, _∙_}
-use mathlib.Core.Bool.{false}
 use mathlib.Core.Option.{Option, none, some}
 use mathlib.Core.List.{List, [], _∷_, map, foldl}
 use native.Mathlib.Omega.{arith}
-use lib.ListN.{length, getD, take, drop}
+use lib.ListN.{length, getD, drop}
 use lib.Seq.{take-at}
 use denote.Ref.{RefT}
 use contract.Lifetimes.{Lfts}
 use Rattle.dstree.specs.Measures.{Trace, Measures}
-use Rattle.dstree.specs.Matching.{Search, Near, matchFrom, searched, Match, matchBySteps}
+use Rattle.dstree.specs.Matching.{Near, searched, Match}
 use Rattle.dstree.specs.KNearest.{KNearest, listPlaces, kNearestBySteps}
 use Rattle.dstree.specs.Batch.{queriesIn, Batch, batchBySteps}
 use Rattle.dstree.specs.Refusals as word
 use Rattle.dstree.specs.Refusals.{firstOf}
 use Rattle.dstree.specs.Sheet.{blockSize, blocksNeeded, sheetOf}
-use Rattle.dstree.specs.Book.{Ask, opening, adding, matching, writing, reading, listing, importing, exporting, checking, Call}
-use Rattle.dstree.specs.Book.{batching, besideOf, Answer, answering, imported, reply, over}
+use Rattle.dstree.specs.Book.{Ask, opening, adding, searching, writing, reading, importing, exporting, checking, Call}
+use Rattle.dstree.specs.Book.{aMatch, aListing, aBatch, matchSeen, matching, listing, batching, besideOf, Answer, answering, imported, reply, over}
 use Rattle.dstree.specs.Recording.{recordingSize, recordingOf, judgeRecording, fileTraces}
 use Rattle.dstree.proofs.RoundTrips.{sheet-length}
 use Rattle.dstree.proofs.Recordings.{recording-length}
@@ -33,11 +32,10 @@ use Rattle.tables.proofs.Parts.{trace-length}
 use Rattle.insertion_memory.specs.Memory.{addedTo}
 use Rattle.insertion_memory.proofs.Made.{count-is}
 use Rattle.calls.specs.Outcome.{Outcome, outcome, unlessRefused}
-use Rattle.calls.specs.Effects.{opens, adds, resultOf, trailOf, isNone, cleared, matches, writes, reads, lists, imports, exports, checks}
+use Rattle.calls.specs.Effects.{opens, adds, matches, writes, reads, lists, imports, exports, checks}
 use Rattle.calls.specs.Effects.{batches, effectOf, outcomeOn}
 use Rattle.calls.specs.Follows.{Typed}
 use Rattle.calls.proofs.Library.{work-stays}
-use Rattle.calls.proofs.Finds.{found, last-never}
 use Rattle.checking.specs.declared.Checked.{Checked}
 use Rattle.checking.specs.declared.Checked.the-variants as k
 use Rattle.checking.specs.Answered as checking-answer
@@ -147,35 +145,20 @@ adding-said t x (some why) = record { result = a.Refused (caseOf why); beside = 
 adding-said t x none = record { result = a.At (traceCount t); beside = []; is = refl }
 
 -- the trail that code answers is as long as it counts
-trail-read : (s : Search) (o : Option Near) (m : Match) (trail : List ℕ) → matchFrom s o ≡ some m
-    → take (m .leaves) (over (m .trail) trail) ≡ m .trail
-unfolding matchFrom
-trail-read s none m trail e = let z : _≡_ {A = ℕ} 0 1 = cc in absurd (omega arith)
-trail-read s (some best) m trail e =
-    let counted : length (m .trail) ≡ m .leaves = cc in
-    take-at (m .trail) (drop (length (m .trail)) trail) (m .leaves) counted
-
-matching-said : (t : Tables) (query : Trace) (trail : List ℕ) (o : Option word.Refusal) → firstOf (matches t query trail .conditions) ≡ o
+matching-said : (t : Tables) (query : Trace) (trail : List ℕ) (o : Option word.Refusal)
     → let e = unlessRefused o t (trail ∷ []) (matches t query trail) in
     Said (λ (r : Found) (l : List ℕ). outcome (matching-answer.answerBy r l)
     (tables (t .control) (t .samples) (t .nodes) (t .links) (e .after .work)) (l ∷ [])) e
-unfolding unlessRefused matches matching-answer.answerBy resultOf trailOf isNone matchBySteps
-matching-said t query trail (some why) q = record { result = f.Refused (caseOf why); beside = trail; is = rw (case-word why) }
-matching-said t query trail none q = by (matchBySteps (tracesIn t) (treeIn t) query) refl
-    (found t query trail (sym (last-never t query trail) ∙ q))
+unfolding unlessRefused matching-answer.answerBy
+matching-said t query trail (some why) = record { result = f.Refused (caseOf why); beside = trail; is = rw (case-word why) }
+matching-said t query trail none = record {
+  result = f.At (m .trace) (m .distance) (m .leaves) (m .traces);
+  beside = over (m .trail) trail;
+  is = rw (take-at (m .trail) (drop (length (m .trail)) trail) (m .leaves) refl);
+}
   where
-    s : Search
-    s = searched (tracesIn t) (treeIn t) query
-
-    by : (x : Option Match) → matchFrom s (s .best) ≡ x → isNone x ≡ false
-        → Said (λ (r : Found) (l : List ℕ). outcome (matching-answer.answerBy r l) (cleared t) (l ∷ []))
-        (outcome (answering (resultOf x)) (cleared t) (over (trailOf x) trail ∷ []))
-    by none e n = let z : _≡_ {A = ℕ} 0 1 = cc in absurd (omega arith)
-    by (some m) e n = record {
-      result = f.At (m .trace) (m .distance) (m .leaves) (m .traces);
-      beside = over (m .trail) trail;
-      is = rw (trail-read s (s .best) m trail e);
-    }
+    m : Match
+    m = let s = searched (tracesIn t) (treeIn t) query in matchSeen s (s .best)
 
 writing-said : (t : Tables) (sheet : List ℕ) (o : Option word.Refusal) → let e = unlessRefused o t (sheet ∷ []) (writes t sheet) in
     Said (λ (r : Written) (l : List ℕ). outcome (writing-answer.answerBy r l) t (l ∷ [])) e
@@ -201,7 +184,7 @@ listing-said : (t : Tables) (k : ℕ) (query : Trace) (trail list : List ℕ) (o
     → let e = unlessRefused o t (trail ∷ list ∷ []) (lists t k query trail list) in
     Said (λ (r : Listed) (b : List ℕ × List ℕ). outcome (listing-answer.answerBy r (b .0) (b .1))
     (tables (t .control) (t .samples) (t .nodes) (t .links) (e .after .work)) (b .0 ∷ b .1 ∷ [])) e
-unfolding unlessRefused lists listing-answer.answerBy kNearestBySteps
+unfolding unlessRefused listing-answer.answerBy kNearestBySteps
 listing-said t k query trail list (some why) = record { result = l.Refused (caseOf why); beside = (trail, list); is = rw (case-word why) }
 listing-said t k query trail list none = record {
   result = l.Found (m .leaves) (m .traces) (length (m .list));
@@ -266,7 +249,7 @@ batching-said : (t : Tables) (many : ℕ) (run : Trace) (trail : List ℕ) (list
     → let e = unlessRefused o t (trail ∷ listPlaces list ∷ []) (batches t many run trail list) in
     Said (λ (r : BatchOutcome) (s : List ℕ × List Near). outcome (batching-answer.answerBy r (s .1) (s .0))
     (tables (t .control) (t .samples) (t .nodes) (t .links) (e .after .work)) (s .0 ∷ listPlaces (s .1) ∷ [])) e
-unfolding unlessRefused batches batching-answer.answerBy batchBySteps
+unfolding unlessRefused batching-answer.answerBy batchBySteps
 batching-said t many run trail list (some why) = record { result = b.Refused (caseOf why); beside = (trail, list); is = rw (case-word why) }
 batching-said t many run trail list none = record {
   result = b.Done (m .leaves);
@@ -333,8 +316,8 @@ module _ (c : Call) (memory : Tables) (places : lentOf (firstPlaces (c .lent) me
           made = in-place _ kept [] asked typed;
         });
       }
-  by-ask (matching query trail) asked typed =
-      let s = matching-said t query trail (firstOf (matches t query trail .conditions)) refl in
+  by-ask (searching (aMatch query trail)) asked typed =
+      let s = matching-said t query trail (firstOf (matches t query trail .conditions)) in
       let after = outcomeOn (matching query trail) t .after in
       let kept = tables (t .control) (t .samples) (t .nodes) (t .links) (after .work) in
       record {
@@ -378,7 +361,7 @@ module _ (c : Call) (memory : Tables) (places : lentOf (firstPlaces (c .lent) me
           made = in-place _ after [] asked typed;
         });
       }
-  by-ask (listing k query trail list) asked typed =
+  by-ask (searching (aListing k query trail list)) asked typed =
       let s = listing-said t k query trail list (firstOf (lists t k query trail list .conditions)) in
       let after = outcomeOn (listing k query trail list) t .after in
       let kept = tables (t .control) (t .samples) (t .nodes) (t .links) (after .work) in
@@ -440,7 +423,7 @@ module _ (c : Call) (memory : Tables) (places : lentOf (firstPlaces (c .lent) me
           made = in-place _ t [] asked typed;
         });
       }
-  by-ask (batching many run trail list) asked typed =
+  by-ask (searching (aBatch many run trail list)) asked typed =
       let s = batching-said t many run trail list (firstOf (batches t many run trail list .conditions)) in
       let after = outcomeOn (batching many run trail list) t .after in
       let kept = tables (t .control) (t .samples) (t .nodes) (t .links) (after .work) in

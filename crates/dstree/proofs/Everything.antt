@@ -24,8 +24,7 @@ use Rattle.dstree.specs.Sheet.{letters, headOf, coded, sampleBlocksNeede
 use Rattle.dstree.specs.Sheet.{blocksIn, measuresIn, countIn, decoded, sampleBytesIn, tracesInBlocks, isWrongLength, isTorn}
 use Rattle.dstree.specs.Sheet.{tornConditions, areZero, zerosIn, badConditions, conditionsAs, libraryIn, judgedBy, judgeAs}
 use Rattle.dstree.specs.Book.{besideOf, controlShort, tablesShort, readingConditions, putRead, openingEntry, addingEntry}
-use Rattle.dstree.specs.Book.{matchingEntry, writingEntry, readingEntry, listingEntry, importingEntry, exportingEntry, checkingEntry}
-use Rattle.dstree.specs.Book.{batchingEntry}
+use Rattle.dstree.specs.Book.{writingEntry, readingEntry, importingEntry, exportingEntry, checkingEntry}
 use Rattle.dstree.specs.Book.{entryOf, judge, putUnless, turn, after, replyUnless, replyOf, repliesOf, start}
 use Rattle.dstree.specs.Program.{refusalLine, matchLine, lineOf, judgedLine, programLine, digitsFrom, decimal, spaced, text, printed}
 use Rattle.dstree.specs.Claims.{numbersAmong}
@@ -111,11 +110,11 @@ unfolding belowFrom sameFigures areExact isExactAt isExact
 checkingOpen = tt
 
 unfoldable booksOpen : Unit {0}
-unfolding besideOf controlShort tablesShort readingConditions putRead openingEntry addingEntry matchingEntry writingEntry readingEntry
+unfolding besideOf controlShort tablesShort readingConditions putRead openingEntry addingEntry writingEntry readingEntry
 booksOpen = tt
 
 unfoldable booksOpen2 : Unit {0}
-unfolding listingEntry importingEntry exportingEntry checkingEntry batchingEntry entryOf judge putUnless turn after replyUnless replyOf repliesOf start
+unfolding importingEntry exportingEntry checkingEntry entryOf judge putUnless turn after replyUnless replyOf repliesOf start
 booksOpen2 = tt
 
 unfoldable linesOpen : Unit {0}

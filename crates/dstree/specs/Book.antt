@@ -9,9 +9,9 @@ use lib.Dec.{ltb, eqb}
 use Rattle.dstree.specs.Measures.{Trace, Measures, measures, inRange, samplesNeeded, recordsNeeded, linksNeeded, workNeeded}
 use Rattle.dstree.specs.Node.{Tree}
 use Rattle.dstree.specs.Adding.{treeOf}
-use Rattle.dstree.specs.Matching.{leaves, Near, Match, matchOf}
-use Rattle.dstree.specs.KNearest.{isK, listPlaces, KNearest, kNearestOf}
-use Rattle.dstree.specs.Batch.{queriesIn, batchConditions, Batch, batchOf}
+use Rattle.dstree.specs.Matching.{leaves, Near, Match, Search, searched, matchOf}
+use Rattle.dstree.specs.KNearest.{isK, listPlaces, KNearest, kNearestBySteps, kNearestOf}
+use Rattle.dstree.specs.Batch.{queriesIn, batchConditions, Batch, nearOrZero, batchBySteps, batchOf}
 use Rattle.dstree.specs.Refusals.{Refusal, measure, shortTable, wrongTrace, full, shortTrail, sheetLength, badK, badRecording}
 use Rattle.dstree.specs.Refusals.{Condition, _refuses_, firstOf, runConditions}
 use Rattle.dstree.specs.Recording.{rateLimit, recordingSize, recordingOf, Recording, judgeRecording, isBadFile, fileTraces}
@@ -32,22 +32,35 @@ pub record Lent : Type 0 where
   pub links : ℕ
   pub work : ℕ
 
+-- what a search is asked: a match comes with its query and the contents of its trail; the search of document 02, §1, with k, its query, and
+-- the contents of its trail and its list; a batch of §7 with the number of its queries, their run of samples, and the contents of its trail
+-- and of its list of answer records
+pub data Sought : Type 0 where
+  aMatch : Trace → List ℕ → Sought
+  aListing : ℕ → Trace → List ℕ → List ℕ → Sought
+  aBatch : ℕ → Trace → List ℕ → List Near → Sought
+
 -- what a call asks for: "calls of opening, adding, match, sheet writing and sheet reading .. with any arguments". "Trails and sheets are
--- not part of" the tables: a match comes with its query and the contents of its trail, a writing and a reading with the bytes of their
--- sheet; the search of document 02, §1, with k, its query, and the contents of its trail and its list; an import of §2 with the bytes of
--- its file, an export with a trace's number, a rate, and the contents of its buffer; the check of §6 with nothing but the tables; a batch
--- of §7 with the number of its queries, their run of samples, and the contents of its trail and of its list of answer records
+-- not part of" the tables: a writing and a reading come with the bytes of their sheet; an import of document 02, §2, with the bytes of its
+-- file, an export with a trace's number, a rate, and the contents of its buffer; the check of §6 with nothing but the tables
 pub data Ask : Type 0 where
   opening : Measures → Ask
   adding : Trace → Ask
-  matching : Trace → List ℕ → Ask
+  searching : Sought → Ask
   writing : List ℕ → Ask
   reading : List ℕ → Ask
-  listing : ℕ → Trace → List ℕ → List ℕ → Ask
   importing : List ℕ → Ask
   exporting : ℕ → ℕ → List ℕ → Ask
   checking : Ask
-  batching : ℕ → Trace → List ℕ → List Near → Ask
+
+abbrev pub matching : Trace → List ℕ → Ask
+matching query trail = searching (aMatch query trail)
+
+abbrev pub listing : ℕ → Trace → List ℕ → List ℕ → Ask
+listing k query trail list = searching (aListing k query trail list)
+
+abbrev pub batching : ℕ → Trace → List ℕ → List Near → Ask
+batching count run trail list = searching (aBatch count run trail list)
 
 -- a call: "arguments .., lengths of tables included"
 pub record Call : Type 0 where
@@ -56,19 +69,6 @@ pub record Call : Type 0 where
 
 abbrev pub call : Lent → Ask → Call
 call lent ask = record { lent = lent; ask = ask }
-
--- what a call is lent beside the tables to be written, slice by slice
-unfoldable pub besideOf : Ask → List (List ℕ)
-besideOf (opening m) = []
-besideOf (adding x) = []
-besideOf (matching query trail) = trail ∷ []
-besideOf (writing sheet) = sheet ∷ []
-besideOf (reading bytes) = []
-besideOf (listing k query trail list) = trail ∷ list ∷ []
-besideOf (importing bytes) = []
-besideOf (exporting number rate buffer) = buffer ∷ []
-besideOf checking = []
-besideOf (batching count run trail list) = trail ∷ listPlaces list ∷ []
 
 -- ---- answers
 
@@ -185,6 +185,87 @@ unfoldable pub putRead : Book → Judged → Book
 putRead b (refused r) = b
 putRead b (holds m traces) = book m traces
 
+-- ---- searches, each as a value
+
+-- what a search finds: its answer, and what then stands in what it was lent beside the tables
+pub record Found : Type 0 where
+  pub result : Result
+  pub beside : List (List ℕ)
+
+abbrev pub finding : Result → List (List ℕ) → Found
+finding result beside = record { result = result; beside = beside }
+
+pub record AnySearch : Type 0 where
+  -- what it is lent beside the tables to be written, slice by slice
+  pub lends : List (List ℕ)
+  -- what it refuses behind 2 and 3
+  pub refuses-own : Measures → ℕ → Tree → List Condition
+  -- what it finds: by its steps, whoever made the tables, and in closed form, which the book has
+  pub steps : Measures → List Trace → Tree → Found
+  pub closed : Measures → List Trace → Tree → Found
+
+-- a match. "the trail begins with R". (A search of well-formed tables with a trace finds one, so that 0 and 0 are never answered:
+-- `calls/proofs/Finds`)
+abbrev pub matchSeen : Search → Option Near → Match
+matchSeen s best = record {
+  trace = nearOrZero best .trace;
+  distance = nearOrZero best .distance;
+  leaves = length (s .trail);
+  traces = s .traces;
+  trail = s .trail;
+}
+
+abbrev pub matchFound : List ℕ → Match → Found
+matchFound trail m = finding (matched m) (over (m .trail) trail ∷ [])
+
+abbrev pub matchSearch : Trace → List ℕ → AnySearch
+matchSearch query trail = record {
+  lends = trail ∷ [];
+  refuses-own = λ m count tree. queryConditions m count tree query trail;
+  steps = λ m traces tree. let s = searched traces tree query in matchFound trail (matchSeen s (s .best));
+  closed = λ m traces tree. matchFound trail (matchOf traces tree query);
+}
+
+-- document 02, §1: "lists the k nearest traces"; "List places past those filled keep their contents"
+abbrev pub listFound : List ℕ → List ℕ → KNearest → Found
+listFound trail list m = finding (neighbours m) (over (m .trail) trail ∷ over (listPlaces (m .list)) list ∷ [])
+
+abbrev pub listSearch : ℕ → Trace → List ℕ → List ℕ → AnySearch
+listSearch k query trail list = record {
+  lends = trail ∷ list ∷ [];
+  refuses-own = λ m count tree. listConditions m count tree k query trail list;
+  steps = λ m traces tree. listFound trail list (kNearestBySteps k traces tree query);
+  closed = λ m traces tree. listFound trail list (kNearestOf k traces tree query);
+}
+
+-- document 02, §7: "One answer record for each query is filled in the caller's list", which has a place for each and no more
+abbrev pub batchFound : List ℕ → Batch → Found
+batchFound trail m = finding (batched m) (over (m .trail) trail ∷ listPlaces (m .answers) ∷ [])
+
+abbrev pub batchSearch : ℕ → Trace → List ℕ → List Near → AnySearch
+batchSearch count run trail list = record {
+  lends = trail ∷ listPlaces list ∷ [];
+  refuses-own = λ m stored tree. batchConditions (m .n) stored (length (leaves tree)) count (length list) run trail;
+  steps = λ m traces tree. batchFound trail (batchBySteps traces tree (queriesIn (m .n) count run));
+  closed = λ m traces tree. batchFound trail (batchOf traces tree (queriesIn (m .n) count run));
+}
+
+abbrev pub searchOf : Sought → AnySearch
+searchOf (aMatch query trail) = matchSearch query trail
+searchOf (aListing k query trail list) = listSearch k query trail list
+searchOf (aBatch count run trail list) = batchSearch count run trail list
+
+-- what a call is lent beside the tables to be written, slice by slice
+unfoldable pub besideOf : Ask → List (List ℕ)
+besideOf (opening m) = []
+besideOf (adding x) = []
+besideOf (searching q) = searchOf q .lends
+besideOf (writing sheet) = sheet ∷ []
+besideOf (reading bytes) = []
+besideOf (importing bytes) = []
+besideOf (exporting number rate buffer) = buffer ∷ []
+besideOf checking = []
+
 -- ---- call by call
 
 module _ (layout : Layout) (lent : Lent) (b : Book) where
@@ -206,16 +287,15 @@ module _ (layout : Layout) (lent : Lent) (b : Book) where
     beside = [];
   }
 
-  -- "A refused call changes nothing, nor does a match or a writing". "the trail begins with R"
-  unfoldable pub matchingEntry : Trace → List ℕ → Entry
-  matchingEntry query trail =
-      let found = matchOf (b .traces) (bookTree b) query in
+  -- a search: "A refused call changes nothing, nor does a match or a writing"
+  abbrev pub searchingEntry : AnySearch → Entry
+  searchingEntry s =
+      let found = s .closed (b .measures) (b .traces) (bookTree b) in
       record {
-        conditions =
-            shortConditions layout lent (b .measures) ++ queryConditions (b .measures) (length (b .traces)) (bookTree b) query trail;
+        conditions = shortConditions layout lent (b .measures) ++ s .refuses-own (b .measures) (length (b .traces)) (bookTree b);
         puts = b;
-        result = matched found;
-        beside = over (found .trail) trail ∷ [];
+        result = found .result;
+        beside = found .beside;
       }
 
   unfoldable pub writingEntry : List ℕ → Entry
@@ -235,18 +315,6 @@ module _ (layout : Layout) (lent : Lent) (b : Book) where
     result = done;
     beside = [];
   }
-
-  -- document 02, §1: "lists the k nearest traces"; "List places past those filled keep their contents"
-  unfoldable pub listingEntry : ℕ → Trace → List ℕ → List ℕ → Entry
-  listingEntry k query trail list =
-      let found = kNearestOf k (b .traces) (bookTree b) query in
-      record {
-        conditions =
-            shortConditions layout lent (b .measures) ++ listConditions (b .measures) (length (b .traces)) (bookTree b) k query trail list;
-        puts = b;
-        result = neighbours found;
-        beside = over (found .trail) trail ∷ over (listPlaces (found .list)) list ∷ [];
-      }
 
   -- document 02, §2: "The samples are cut into traces of n and added in order, all or none; the answer is how many"
   unfoldable pub importingEntry : List ℕ → Entry
@@ -274,31 +342,15 @@ module _ (layout : Layout) (lent : Lent) (b : Book) where
   unfoldable pub checkingEntry : Entry
   checkingEntry = record { conditions = shortConditions layout lent (b .measures); puts = b; result = accepted; beside = [] }
 
-  -- document 02, §7: "One answer record for each query is filled in the caller's list", which has a place for each and no more
-  unfoldable pub batchingEntry : ℕ → Trace → List ℕ → List Near → Entry
-  batchingEntry count run trail list =
-      let n = b .measures .n in
-      let found = batchOf (b .traces) (bookTree b) (queriesIn n count run) in
-      record {
-        conditions =
-            shortConditions layout lent (b .measures)
-            ++ batchConditions n (length (b .traces)) (length (leaves (bookTree b))) count (length list) run trail;
-        puts = b;
-        result = batched found;
-        beside = over (found .trail) trail ∷ listPlaces (found .answers) ∷ [];
-      }
-
   unfoldable pub entryOf : Ask → Entry
   entryOf (opening m) = openingEntry m
   entryOf (adding x) = addingEntry x
-  entryOf (matching query trail) = matchingEntry query trail
+  entryOf (searching q) = searchingEntry (searchOf q)
   entryOf (writing sheet) = writingEntry sheet
   entryOf (reading bytes) = readingEntry bytes
-  entryOf (listing k query trail list) = listingEntry k query trail list
   entryOf (importing bytes) = importingEntry bytes
   entryOf (exporting number rate buffer) = exportingEntry number rate buffer
   entryOf checking = checkingEntry
-  entryOf (batching count run trail list) = batchingEntry count run trail list
 
 -- ---- every call
 

@@ -60,7 +60,7 @@ module _ (control : List ℕ) (samples nodes : List ℤ) (links work : List ℕ)
     pub list-answer : firstOf (lists lent k query trail list .conditions) ≡ none
         → outcome (answerBy (l.Found out traces many) trail′ list′) (tables control samples nodes links work′) (trail′ ∷ list′ ∷ [])
         ≡ outcomeOn (book.listing k query trail list) lent
-    unfolding answerBy outcomeOn effectOf besideOf lists
+    unfolding answerBy outcomeOn effectOf besideOf
     list-answer e =
         ends-done lent (trail ∷ list ∷ []) (lists lent k query trail list) _ _ _ e
         (ap neighbours by-steps)

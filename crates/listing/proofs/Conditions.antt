@@ -25,7 +25,6 @@ pub record MayList (t : Tables) (k : ℕ) (query : Trace) (trail list : List ℕ
 
 pub may-list : (t : Tables) (k : ℕ) (query : Trace) (trail list : List ℕ) → firstOf (lists t k query trail list .conditions) ≡ none
     → MayList t k query trail list
-unfolding lists
 may-list t k query trail list e =
     let parts = none-both (madeConditions t) (listConditionsIn t k query trail list) e in
     let one = none-first (not (isK k)) badK _ (parts .1) in

@@ -18,8 +18,8 @@ use Rattle.integer.specs.Lists.{All, all-none, all-more}
 use Rattle.integer.proofs.Lists.{all-append, every-all, all-every}
 use Rattle.dstree.specs.Sheet.{areBytes}
 use Rattle.dstree.specs.KNearest.{listPlaces}
-use Rattle.dstree.specs.Book.{Lent, Ask, opening, adding, matching, writing, reading, listing, importing, exporting, checking, Call}
-use Rattle.dstree.specs.Book.{batching, call}
+use Rattle.dstree.specs.Book.{Lent, Ask, opening, adding, searching, writing, reading, importing, exporting, checking, Call}
+use Rattle.dstree.specs.Book.{aMatch, aListing, aBatch, batching, call}
 use Rattle.tables.specs.Tables.{Tables, lentOf}
 use Rattle.tables.specs.Beginning.{LentWithin}
 use Rattle.reading.specs.Listed.{nearsIn}
@@ -87,7 +87,7 @@ rowFor (adding x) = record {
   bytes-fit = λ s. all-none;
   list-fits = λ s. all-none;
 }
-rowFor (matching x trail) = record {
+rowFor (searching (aMatch x trail)) = record {
   number = 2;
   own = length x ∷ length trail ∷ [];
   kind = matchingCalls;
@@ -132,7 +132,7 @@ rowFor (reading bytes) = record {
   bytes-fit = λ s. every-all isByte bytes (s .0);
   list-fits = λ s. all-none;
 }
-rowFor (listing k x trail list) = record {
+rowFor (searching (aListing k x trail list)) = record {
   number = 5;
   own = length x ∷ length trail ∷ length list ∷ k ∷ [];
   kind = listingCalls;
@@ -192,7 +192,7 @@ rowFor checking = record {
   bytes-fit = λ s. all-none;
   list-fits = λ s. all-none;
 }
-rowFor (batching many x trail list) = record {
+rowFor (searching (aBatch many x trail list)) = record {
   number = 9;
   own = length x ∷ length trail ∷ length (listPlaces list) ∷ many ∷ [];
   kind = batchingCalls;

@@ -12,7 +12,7 @@ use Rattle.integer.specs.Words.{if_then_else_}
 use Rattle.dstree.specs.Measures.{measures}
 use Rattle.dstree.specs.KNearest.{listPlaces}
 use Rattle.dstree.specs.Book.{Lent, Ask, opening, adding, matching, writing, reading, listing, importing, exporting, checking, Call, call}
-use Rattle.dstree.specs.Book.{batching, Answer, Reply, reply}
+use Rattle.dstree.specs.Book.{batching, searching, aMatch, aListing, aBatch, Answer, Reply, reply}
 use Rattle.tables.specs.Tables.{Tables, lentOf}
 use Rattle.calls.specs.Effects.{outcomeOn}
 use Rattle.calls.specs.Follows.{outcomeIn}
@@ -280,27 +280,27 @@ replyIn c memory = reply (outcomeIn c memory .answer) (outcomeIn c memory .besid
 unfoldable pub takenBy : Ask → Taken
 takenBy (opening m) = taken [] [] [] []
 takenBy (adding x) = taken x [] [] []
-takenBy (matching query trail) = taken query trail [] []
+takenBy (searching (aMatch query trail)) = taken query trail [] []
 takenBy (writing sheet) = taken [] [] sheet []
 takenBy (reading bytes) = taken [] [] bytes []
-takenBy (listing k query trail list) = taken query trail [] list
+takenBy (searching (aListing k query trail list)) = taken query trail [] list
 takenBy (importing bytes) = taken [] [] bytes []
 takenBy (exporting number rate buffer) = taken [] [] buffer []
 takenBy checking = taken [] [] [] []
-takenBy (batching many run trail list) = taken run trail [] (listPlaces list)
+takenBy (searching (aBatch many run trail list)) = taken run trail [] (listPlaces list)
 
 -- .. and how it leaves that, by what it leaves beside the tables
 unfoldable pub leftBy : Ask → List (List ℕ) → Taken
 leftBy (opening m) beside = taken [] [] [] []
 leftBy (adding x) beside = taken x [] [] []
-leftBy (matching query trail) beside = taken query (getD beside 0 []) [] []
+leftBy (searching (aMatch query trail)) beside = taken query (getD beside 0 []) [] []
 leftBy (writing sheet) beside = taken [] [] (getD beside 0 []) []
 leftBy (reading bytes) beside = taken [] [] bytes []
-leftBy (listing k query trail list) beside = taken query (getD beside 0 []) [] (getD beside 1 [])
+leftBy (searching (aListing k query trail list)) beside = taken query (getD beside 0 []) [] (getD beside 1 [])
 leftBy (importing bytes) beside = taken [] [] bytes []
 leftBy (exporting number rate buffer) beside = taken [] [] (getD beside 0 []) []
 leftBy checking beside = taken [] [] [] []
-leftBy (batching many run trail list) beside = taken run (getD beside 0 []) [] (getD beside 1 [])
+leftBy (searching (aBatch many run trail list)) beside = taken run (getD beside 0 []) [] (getD beside 1 [])
 
 -- the places that a call took are used, as it left them
 abbrev pub used : Supply → List ℕ → List ℕ → Supply

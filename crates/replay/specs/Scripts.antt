@@ -9,8 +9,8 @@ use Rattle.integer.specs.Lists.{All}
 use Rattle.dstree.specs.Measures.{areSamples}
 use Rattle.dstree.specs.KNearest.{listPlaces}
 use Rattle.dstree.specs.Sheet.{areBytes}
-use Rattle.dstree.specs.Book.{Lent, Ask, opening, adding, matching, writing, reading, listing, importing, exporting, checking, Call}
-use Rattle.dstree.specs.Book.{batching}
+use Rattle.dstree.specs.Book.{Lent, Ask, opening, adding, searching, writing, reading, importing, exporting, checking, Call}
+use Rattle.dstree.specs.Book.{aMatch, aListing, aBatch}
 use Rattle.tables.specs.Tables.{Tables}
 use Rattle.tables.specs.Beginning.{LentWithin}
 use Rattle.replay.specs.Script.{played}
@@ -27,15 +27,15 @@ Mark x = x < 2 ^ 16
 unfoldable pub ArgumentsFit : Ask → Type 0
 ArgumentsFit (opening m) = Word (m .n) × Word (m .capacity) × Word (m .leafSize)
 ArgumentsFit (adding x) = T (areSamples x) × Word (length x)
-ArgumentsFit (matching x trail) = T (areSamples x) × Word (length x) × All Mark trail × Word (length trail)
+ArgumentsFit (searching (aMatch x trail)) = T (areSamples x) × Word (length x) × All Mark trail × Word (length trail)
 ArgumentsFit (writing sheet) = T (areBytes sheet) × Word (length sheet)
 ArgumentsFit (reading bytes) = T (areBytes bytes) × Word (length bytes)
-ArgumentsFit (listing k x trail list) =
+ArgumentsFit (searching (aListing k x trail list)) =
     Word k × T (areSamples x) × Word (length x) × All Mark trail × Word (length trail) × All Word list × Word (length list)
 ArgumentsFit (importing bytes) = T (areBytes bytes) × Word (length bytes)
 ArgumentsFit (exporting number rate buffer) = Word number × Word rate × T (areBytes buffer) × Word (length buffer)
 ArgumentsFit checking = Unit
-ArgumentsFit (batching many x trail list) =
+ArgumentsFit (searching (aBatch many x trail list)) =
     Word many × T (areSamples x) × Word (length x) × All Mark trail × Word (length trail) × All Word (listPlaces list)
     × Word (length (listPlaces list))
 

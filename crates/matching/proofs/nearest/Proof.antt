@@ -2,7 +2,7 @@
 -- searched.
 use Prim.Native.Nat.{ℕ}
 use mathlib.Core.Path.{_≡_, sym, ap, _∙_}
-use mathlib.Core.Bool.{true, false}
+use mathlib.Core.Bool.{true}
 use mathlib.Core.Option.{none}
 use mathlib.Core.List.{List, [], _∷_}
 use denote.Ref.{now}
@@ -11,15 +11,16 @@ use borrow.Author.Tests.{not-true}
 use Rattle.integer.proofs.Tests.{never-both}
 use Rattle.dstree.specs.Refusals.{firstOf}
 use Rattle.dstree.specs.Book.{besideOf}
-use Rattle.dstree.specs.Matching.{matchBySteps}
+use Rattle.dstree.specs.Matching.{searched}
 use Rattle.tables.specs.Tables.{Tables, tables}
 use Rattle.tables.specs.View.{treeIn, tracesIn}
 use Rattle.tables.specs.Answers.{foundBy}
-use Rattle.calls.specs.Effects.{isNone, matches, effectOf, outcomeOn}
+use Rattle.calls.specs.Effects.{matches, effectOf, outcomeOn}
 use Rattle.calls.proofs.Ends.{ends-refused}
+use Rattle.calls.proofs.Finds.{Some, found}
 use Rattle.query_judging.proofs.Taken.{QueryAccepted}
 use Rattle.matching.specs.Answered.{answerBy}
-use Rattle.matching.proofs.Conditions.{may-search, finds}
+use Rattle.matching.proofs.Conditions.{may-search}
 use Rattle.matching.proofs.Answers.{found-one, found-answer}
 use Rattle.matching.proofs.nearest.Statement.{statement}
 use Rattle.matching.proofs.nearest.Tie as tie
@@ -43,8 +44,8 @@ module _ (e : tie.After-enum-told) where
   may : QueryAccepted (lentTables s) (now (s .args .query)) (now (s .args .trail))
   may = may-search (lentTables s) (now (s .args .query)) (now (s .args .trail)) nothing
 
-  found : isNone (matchBySteps (tracesIn (lentTables s)) (treeIn (lentTables s)) (now (s .args .query))) ≡ false
-  found = finds (lentTables s) (now (s .args .query)) (now (s .args .trail)) nothing
+  finds : Some (searched (tracesIn (lentTables s)) (treeIn (lentTables s)) (now (s .args .query)) .best)
+  finds = found (lentTables s) (now (s .args .query)) (now (s .args .trail)) nothing
 
 search-all-requires : tie.Need-search-all-requires
 search-all-requires c κs = let m = may (c .before .before) in (m .ready, m .work-room)
@@ -63,7 +64,7 @@ module _ (q : tie.After-search-all) where
       let a = s e .args in
       let r = q .search-all .result in
       found-one (now (a .control)) (now (a .samples)) (now (a .nodes)) (now (a .links)) (now (a .work)) (now (a .query)) (now (a .trail))
-      workAfter trailAfter (r .best) (r .out) (r .traces) (q .search-all .kept .1 .1 .1 .1 .1 .1 .0) (q .search-all .ensures) (found e)
+      workAfter trailAfter (r .best) (r .out) (r .traces) (q .search-all .kept .1 .1 .1 .1 .1 .1 .0) (q .search-all .ensures) (finds e)
 
 same-length : tie.Need-same-length
 same-length c = c .before .before .before .before .before .before .search-all .kept .1 .1 .1 .1 .1 .0

@@ -9,7 +9,7 @@ use Rattle.dstree.proofs.Conditions.{first-none}
 use Rattle.tables.specs.Tables.{Tables, tables}
 use Rattle.tables.specs.Answers.{foundBy, madeConditions}
 use Rattle.well_formed.proofs.Refused.{refused-first}
-use Rattle.calls.specs.Effects.{listConditionsIn, lists}
+use Rattle.calls.specs.Effects.{listConditionsIn}
 use Rattle.query_judging.proofs.Taken.{records-fit}
 use Rattle.listing.proofs.judging.judge.Statement.{statement}
 use Rattle.listing.proofs.judging.judge.Tie as tie
@@ -40,13 +40,11 @@ judge-own-requires : tie.Need-judge-own-requires
 judge-own-requires c κs = records-fit (lent (j c)) (nothing c)
 
 returns : tie.Need-returns
-unfolding lists
 returns c =
     let i = c .before .before .before in
     refused-first (madeConditions (lent i)) (own i) _ (sym (i .judge-tables .ensures) ∙ ap foundBy (c .before .made .given .1))
 
 returns-2 : tie.Need-returns-2
-unfolding lists
 returns-2 c =
     let e = c .before in
     let t = lent (j e) in

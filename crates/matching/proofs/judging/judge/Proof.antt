@@ -1,5 +1,4 @@
--- `matching::judging::judge` meets its contract: tables are judged first, then query and trail; what is found of a search that is not
--- refused is never nothing.
+-- `matching::judging::judge` meets its contract: tables are judged first, then query and trail.
 use mathlib.Core.Path.{_≡_, sym, ap, _∙_}
 use mathlib.Core.Option.{none}
 use mathlib.Core.List.{List}
@@ -13,7 +12,6 @@ use Rattle.tables.specs.Tables.{Tables, tables}
 use Rattle.tables.specs.Answers.{foundBy, madeConditions}
 use Rattle.well_formed.proofs.Refused.{refused-first}
 use Rattle.calls.specs.Effects.{queryConditionsIn}
-use Rattle.calls.proofs.Finds.{last-never}
 use Rattle.query_judging.proofs.Taken.{records-fit}
 use Rattle.matching.proofs.judging.judge.Statement.{statement}
 use Rattle.matching.proofs.judging.judge.Tie as tie
@@ -50,7 +48,6 @@ returns c =
     let i = c .before .before .before in
     refused-first (madeConditions (lent i)) (queryConditionsIn (lent i) (query i) (trail i)) _
     (sym (i .judge-tables .ensures) ∙ ap foundBy (c .before .made .given .1))
-    ∙ sym (last-never (lent i) (query i) (trail i))
 
 returns-2 : tie.Need-returns-2
 returns-2 c =
@@ -58,7 +55,7 @@ returns-2 c =
     let i = j e in
     let t = lent i in
     c .judge-query .ensures (t .samples) (t .links) (t .work)
-    ∙ sym (last-never t (query i) (trail i) ∙ first-none (madeConditions t) (queryConditionsIn t (query i) (trail i)) (nothing e))
+    ∙ sym (first-none (madeConditions t) (queryConditionsIn t (query i) (trail i)) (nothing e))
 
 pub judge-spec : {M : Type 1} → statement M
 judge-spec =

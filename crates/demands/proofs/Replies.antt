@@ -8,6 +8,8 @@ use native.Mathlib.Omega.{arith}
 use lib.ListN.{length, getD, drop}
 use lib.Seq.{take-at}
 use denote.Ref.{RefT}
+use denote.Triple.Clauses.{AtExit}
+use borrow.Fn.Kinds.{PK, RK, Dens, endedOf, Out, resT}
 use contract.Lifetimes.{Lfts}
 use Rattle.dstree.specs.Measures.{Trace, Measures}
 use Rattle.dstree.specs.Matching.{Near, searched, Match}
@@ -17,7 +19,7 @@ use Rattle.dstree.specs.Refusals as word
 use Rattle.dstree.specs.Refusals.{firstOf}
 use Rattle.dstree.specs.Sheet.{blockSize, blocksNeeded, sheetOf}
 use Rattle.dstree.specs.Book.{Ask, opening, adding, searching, writing, reading, importing, exporting, checking, Call}
-use Rattle.dstree.specs.Book.{aMatch, aListing, aBatch, matchSeen, matching, listing, batching, besideOf, Answer, answering, imported, reply, over}
+use Rattle.dstree.specs.Book.{aMatch, aListing, aBatch, matchSeen, matching, listing, batching, besideOf, Answer, answering, imported, Reply, reply, over}
 use Rattle.dstree.specs.Recording.{recordingSize, recordingOf, judgeRecording, fileTraces}
 use Rattle.dstree.proofs.RoundTrips.{sheet-length}
 use Rattle.dstree.proofs.Recordings.{recording-length}
@@ -70,7 +72,7 @@ use Rattle.exporting.specs.declared.Exported.{Exported}
 use Rattle.exporting.specs.declared.Exported.the-variants as x
 use Rattle.exporting.specs.Answered as exporting-answer
 use Rattle.exporting.proofs.Exportable.{Exportable, exportable}
-use Rattle.demands.specs.Did.{WithTables, CallMade, by-open, by-add, by-nearest, by-write, by-read, by-list, by-import, by-export}
+use Rattle.demands.specs.Did.{WithTables, CallMade, Exchange, Made, Did, by-open, by-add, by-nearest, by-write, by-read, by-list, by-import, by-export}
 use Rattle.demands.specs.Did.{by-check, by-batch}
 use Rattle.demands.specs.Theorem.{Replied}
 
@@ -279,150 +281,76 @@ module _ (c : Call) (memory : Tables) (places : lentOf (firstPlaces (c .lent) me
   abbrev t : Tables
   t = firstPlaces (c .lent) memory
 
-  in-place : {ask : Ask} (answer : Answer) (after : Tables) (beside : List (List ℕ)) → c .ask ≡ ask → Typed ask t
-      → CallMade ask t answer after beside c memory (reply answer beside) (left after memory)
-  in-place answer after beside asked typed = record { asks = asked; typed = typed; first-places = refl; so-many = places; says = refl; leaves = refl }
+  in-place : {ask : Ask} {before : Tables} {answer : Answer} {after : Tables} {beside : List (List ℕ)} → c .ask ≡ ask → Typed ask before
+      → before ≡ t → CallMade ask before answer after beside c memory (reply answer beside) (left after memory)
+  in-place asked typed before = record {
+    asks = asked;
+    typed = typed;
+    first-places = before;
+    so-many = ap lentOf before ∙ places;
+    says = refl;
+    leaves = refl;
+  }
+
+  -- a call of the code that its contract claims, on slices that hold what the memory has
+  reply-by : {n : ℕ} {ps : List (PK n)} {r : RK n} {Learnt : Out n ps r}
+      {seen : (κs : Lfts n) → Dens κs ps → resT r κs .Denot → AtExit (endedOf n ps r) κs → Exchange}
+      → ((said : Reply) (memory′ : Tables) → Made ps r Learnt seen c memory said memory′ → Did c memory said memory′)
+      → (κs : Lfts n) (args : Dens κs ps) (exits : AtExit (endedOf n ps r) κs) (result : resT r κs .Denot) → Learnt κs args result exits
+      → c .ask ≡ seen κs args result exits .ask → Typed (seen κs args result exits .ask) t → seen κs args result exits .before ≡ t
+      → Replied c memory
+  reply-by {seen = seen} did κs args exits result claim asked typed before =
+      let x = seen κs args result exits in
+      record {
+        said = reply (x .answer) (x .beside);
+        memory′ = left (x .after) memory;
+        did = did _ _ (record {
+          κs = κs;
+          args = args;
+          exits = exits;
+          result = result;
+          claim = claim;
+          made = in-place asked (subst (Typed (x .ask)) (sym before) typed) before;
+        });
+      }
 
   by-ask : (ask : Ask) → c .ask ≡ ask → Typed ask t → Replied c memory
   unfolding outcomeOn effectOf besideOf
   by-ask (opening m) asked typed =
       let s = opening-said t m (firstOf (opens t m .conditions)) in
-      let after = outcomeOn (opening m) t .after in
-      record {
-        said = reply (opening-answer.answerBy (s .result)) [];
-        memory′ = left after memory;
-        did = by-open (record {
-          κs = lifetimes 5;
-          args = slices t (m .n, (m .capacity, (m .leafSize, tt)));
-          exits = slices after (m .n, (m .capacity, (m .leafSize, tt)));
-          result = s .result;
-          claim = s .is;
-          made = in-place _ after [] asked typed;
-        });
-      }
+      reply-by (λ said memory′ d. by-open d) (lifetimes 5) (slices t (m .n, (m .capacity, (m .leafSize, tt))))
+      (slices (outcomeOn (opening m) t .after) (m .n, (m .capacity, (m .leafSize, tt)))) (s .result) (s .is) asked typed refl
   by-ask (adding x) asked typed =
       let s = adding-said t x (firstOf (adds t x .conditions)) in
-      let after = outcomeOn (adding x) t .after in
-      let kept = tables (after .control) (after .samples) (after .nodes) (after .links) (t .work) in
-      record {
-        said = reply (adding-answer.answerBy (s .result)) [];
-        memory′ = left kept memory;
-        did = by-add (record {
-          κs = lifetimes 6;
-          args = slices t (slice x, tt);
-          exits = slices after (slice x, tt);
-          result = s .result;
-          claim = s .is;
-          made = in-place _ kept [] asked typed;
-        });
-      }
-  by-ask (searching (aMatch query trail)) asked typed =
-      let s = matching-said t query trail (firstOf (matches t query trail .conditions)) in
-      let after = outcomeOn (matching query trail) t .after in
-      let kept = tables (t .control) (t .samples) (t .nodes) (t .links) (after .work) in
-      record {
-        said = reply (matching-answer.answerBy (s .result) (s .beside)) (s .beside ∷ []);
-        memory′ = left kept memory;
-        did = by-nearest (record {
-          κs = lifetimes 7;
-          args = slices t (slice trail, (slice query, tt));
-          exits = slices after (slice (s .beside), (slice query, tt));
-          result = s .result;
-          claim = s .is;
-          made = in-place _ kept (s .beside ∷ []) asked typed;
-        });
-      }
+      reply-by (λ said memory′ d. by-add d) (lifetimes 6) (slices t (slice x, tt)) (slices (outcomeOn (adding x) t .after) (slice x, tt))
+      (s .result) (s .is) asked typed refl
   by-ask (writing sheet) asked typed =
       let s = writing-said t sheet (firstOf (writes t sheet .conditions)) in
-      record {
-        said = reply (writing-answer.answerBy (s .result) (s .beside)) (s .beside ∷ []);
-        memory′ = left t memory;
-        did = by-write (record {
-          κs = lifetimes 6;
-          args = slices t (slice sheet, tt);
-          exits = slices t (slice (s .beside), tt);
-          result = s .result;
-          claim = s .is;
-          made = in-place _ t (s .beside ∷ []) asked typed;
-        });
-      }
+      reply-by (λ said memory′ d. by-write d) (lifetimes 6) (slices t (slice sheet, tt)) (slices t (slice (s .beside), tt)) (s .result) (s .is) asked typed refl
   by-ask (reading bytes) asked typed =
       let s = reading-said t bytes (firstOf (reads t bytes .conditions)) in
-      let after = outcomeOn (reading bytes) t .after in
-      record {
-        said = reply (reading-answer.answerBy (s .result)) [];
-        memory′ = left after memory;
-        did = by-read (record {
-          κs = lifetimes 6;
-          args = slices t (slice bytes, tt);
-          exits = slices after (slice bytes, tt);
-          result = s .result;
-          claim = s .is;
-          made = in-place _ after [] asked typed;
-        });
-      }
-  by-ask (searching (aListing k query trail list)) asked typed =
-      let s = listing-said t k query trail list (firstOf (lists t k query trail list .conditions)) in
-      let after = outcomeOn (listing k query trail list) t .after in
-      let kept = tables (t .control) (t .samples) (t .nodes) (t .links) (after .work) in
-      let left-trail = s .beside .0 in
-      let left-list = s .beside .1 in
-      record {
-        said = reply (listing-answer.answerBy (s .result) left-trail left-list) (left-trail ∷ left-list ∷ []);
-        memory′ = left kept memory;
-        did = by-list (record {
-          κs = lifetimes 8;
-          args = slices t (slice trail, (slice list, (slice query, (k, tt))));
-          exits = slices after (slice left-trail, (slice left-list, (slice query, (k, tt))));
-          result = s .result;
-          claim = s .is;
-          made = in-place _ kept (left-trail ∷ left-list ∷ []) asked typed;
-        });
-      }
+      reply-by (λ said memory′ d. by-read d) (lifetimes 6) (slices t (slice bytes, tt)) (slices (outcomeOn (reading bytes) t .after) (slice bytes, tt))
+      (s .result) (s .is) asked typed refl
   by-ask (importing bytes) asked typed =
       let s = importing-said t bytes (firstOf (imports t bytes .conditions)) in
-      let after = outcomeOn (importing bytes) t .after in
-      let kept = tables (after .control) (after .samples) (after .nodes) (after .links) (t .work) in
-      record {
-        said = reply (importing-answer.answerBy (s .result)) [];
-        memory′ = left kept memory;
-        did = by-import (record {
-          κs = lifetimes 6;
-          args = slices t (slice bytes, tt);
-          exits = slices after (slice bytes, tt);
-          result = s .result;
-          claim = s .is;
-          made = in-place _ kept [] asked typed;
-        });
-      }
+      reply-by (λ said memory′ d. by-import d) (lifetimes 6) (slices t (slice bytes, tt)) (slices (outcomeOn (importing bytes) t .after) (slice bytes, tt))
+      (s .result) (s .is) asked typed refl
   by-ask (exporting number rate buffer) asked typed =
       let s = exporting-said t number rate buffer (firstOf (exports t number rate buffer .conditions)) refl in
-      record {
-        said = reply (exporting-answer.answerBy (s .result) (s .beside)) (s .beside ∷ []);
-        memory′ = left t memory;
-        did = by-export (record {
-          κs = lifetimes 6;
-          args = slices t (slice buffer, (number, (rate, tt)));
-          exits = slices t (slice (s .beside), (number, (rate, tt)));
-          result = s .result;
-          claim = s .is;
-          made = in-place _ t (s .beside ∷ []) asked typed;
-        });
-      }
+      reply-by (λ said memory′ d. by-export d) (lifetimes 6) (slices t (slice buffer, (number, (rate, tt))))
+      (slices t (slice (s .beside), (number, (rate, tt)))) (s .result) (s .is) asked typed refl
   by-ask checking asked typed =
       let s = checking-said t (firstOf (checks t .conditions)) in
-      record {
-        said = reply (checking-answer.answerBy (s .result)) [];
-        memory′ = left t memory;
-        did = by-check (record {
-          κs = lifetimes 5;
-          args = slices t tt;
-          exits = slices t tt;
-          result = s .result;
-          claim = s .is;
-          made = in-place _ t [] asked typed;
-        });
-      }
+      reply-by (λ said memory′ d. by-check d) (lifetimes 5) (slices t tt) (slices t tt) (s .result) (s .is) asked typed refl
+  by-ask (searching (aMatch query trail)) asked typed =
+      let s = matching-said t query trail (firstOf (matches t query trail .conditions)) in
+      reply-by (λ said memory′ d. by-nearest d) (lifetimes 7) (slices t (slice trail, (slice query, tt)))
+      (slices (outcomeOn (matching query trail) t .after) (slice (s .beside), (slice query, tt))) (s .result) (s .is) asked typed refl
+  by-ask (searching (aListing k query trail list)) asked typed =
+      let s = listing-said t k query trail list (firstOf (lists t k query trail list .conditions)) in
+      reply-by (λ said memory′ d. by-list d) (lifetimes 8) (slices t (slice trail, (slice list, (slice query, (k, tt)))))
+      (slices (outcomeOn (listing k query trail list) t .after) (slice (s .beside .0), (slice (s .beside .1), (slice query, (k, tt)))))
+      (s .result) (s .is) asked typed refl
   by-ask (searching (aBatch many run trail list)) asked typed =
       let s = batching-said t many run trail list (firstOf (batches t many run trail list .conditions)) in
       let after = outcomeOn (batching many run trail list) t .after in
@@ -438,8 +366,8 @@ module _ (c : Call) (memory : Tables) (places : lentOf (firstPlaces (c .lent) me
           exits = slices after (slice left-trail, (slice run, (many, (slice (recordsOf (s .beside .1)), tt))));
           result = s .result;
           claim = rw (nears-back (s .beside .1), nears-back list) (s .is);
-          made = in-place _ kept (left-trail ∷ listPlaces left-list ∷ []) (asked ∙ ap (batching many run trail) (sym (nears-back list)))
-              (subst (λ (l : List Near). Typed (batching many run trail l) t) (sym (nears-back list)) typed);
+          made = in-place (asked ∙ ap (batching many run trail) (sym (nears-back list)))
+              (subst (λ (l : List Near). Typed (batching many run trail l) t) (sym (nears-back list)) typed) refl;
         });
       }
 

@@ -3,32 +3,45 @@
 -- on being one, and the same claims hold of it.
 use Prim.Native.Nat.{ℕ, _*_, _<_}
 use mathlib.Core.Path.{_≡_, refl, sym, ap, subst, _∙_}
-use mathlib.Core.Option.{none, some}
+use mathlib.Core.Bool.{Bool, true, false, not}
+use mathlib.Core.Option.{Option, none, some}
 use mathlib.Core.List.{List, [], _∷_}
-use lib.ListN.{length}
+use lib.ListN.{length, take}
+use lib.Dec.{T}
 use borrow.Author.Tests.{eq-eqb}
 use Rattle.integer.specs.Lists.{In}
-use Rattle.dstree.specs.Measures.{Trace}
+use Rattle.integer.proofs.Tests.{is-true, test-true}
+use Rattle.dstree.specs.Measures.{Trace, sampleLimit}
 use Rattle.dstree.specs.Node.{Tree}
-use Rattle.dstree.specs.KNearest.{kNearestBySteps}
-use Rattle.dstree.specs.Refusals.{firstOf, spoiled, empty, looseRecord}
-use Rattle.dstree.specs.Book.{Lent, listing, call, besideOf, neighbours, Reply, Book, bookTree, Call, done, accepted, answering, after}
+use Rattle.dstree.specs.Matching.{Near, searched, matchFrom, matchBySteps}
+use Rattle.dstree.specs.KNearest.{ranking, Listing, kNearestBySteps, distancesAmong}
+use Rattle.dstree.specs.Batch.{nearOrZero}
+use Rattle.dstree.specs.Claims.{RangesOf}
+use Rattle.dstree.specs.Checking.{isExact, Exactness}
+use Rattle.dstree.specs.WellFormed as abstract
+use Rattle.dstree.specs.Refusals.{_refuses_, firstOf, spoiled, empty, looseRecord}
+use Rattle.dstree.specs.Book.{Lent, listing, checking, call, besideOf, matched, matchSeen, refusing, neighbours, Reply, Book, bookTree, Call, done, accepted, answering, after}
 use Rattle.dstree.specs.Book.{shortConditions, listConditions, entryOf, judge, replyUnless, replyOf, repliesOf, start}
 use Rattle.dstree.proofs.Conditions.{first-none}
-use Rattle.dstree.proofs.KSteps.{step-claims}
+use Rattle.dstree.proofs.KSteps.{step-claims, listOf, one-searched}
+use Rattle.dstree.proofs.Checking.{exactness}
 use Rattle.tables.specs.Layout.{layout}
-use Rattle.tables.specs.Tables.{Tables}
+use Rattle.tables.specs.Tables.{Tables, measuresOf}
 use Rattle.tables.specs.View.{treeIn, tracesIn}
 use Rattle.tables.specs.Beginning.{firstPlaces}
 use Rattle.tables.proofs.Beginning.{first-begins}
+use Rattle.tables.specs.Answers.{madeConditions}
+use Rattle.tables.proofs.Views.{traces-size, tree-passes}
+use Rattle.tables.proofs.Judged as judged
 use Rattle.insertion_memory.proofs.Beginnings.{holds-whole}
 use Rattle.calls.specs.Library.{Keeps}
 use Rattle.calls.specs.Trusted.{bookIn, Trusts}
-use Rattle.calls.specs.Effects.{lists, checks, effectOf}
-use Rattle.calls.specs.Follows.{Ran, a-call}
-use Rattle.calls.specs.Demands.{ListedIn, ListsAnywhere, ChecksAnywhere, judgeIn, OfAnyQuery, EmptyIsSix, IsAccepted}
+use Rattle.calls.specs.Effects.{matches, lists, checks, effectOf}
+use Rattle.calls.specs.Follows.{Follows, Ran, a-call}
+use Rattle.calls.specs.Demands.{MatchedIn, MatchesAnywhere, ListedIn, ListsAnywhere, ChecksAnywhere, judgeIn, OfAnyQuery, EmptyIsSix, IsAccepted}
 use Rattle.calls.specs.Demands.{OfAnyBatch, AfterList, ReadBack, OfStored, AfterCheck, Demands}
 use Rattle.calls.proofs.Library.{library-holds}
+use Rattle.calls.proofs.Finds.{Some, found}
 use Rattle.calls.proofs.Stored.{Stores, kept-stores, trusted-stores, typed-stores}
 use Rattle.calls.proofs.Trusted.{exact-tree, accepted-same, kept-trusts}
 use Rattle.calls.proofs.Agrees.{agrees}
@@ -90,6 +103,37 @@ module _ {memory : Tables} {b : Book} (keeps : Keeps memory b) where
       ∙ rw (ok, eq-eqb (length query) (b .measures .n) size, none-stored) in
       ap (λ (r : Reply). r .answer) (stepped f keeps .0) ∙ rw judged
 
+-- a match on any tables: what is answered are the steps, and they find a trace
+matched-by : (t : Tables) (query : Trace) (best : Option Near) → let s = searched (tracesIn t) (treeIn t) query in
+    s .best ≡ best → Some best → MatchedIn query t (matchSeen s best)
+unfolding matchBySteps matchFrom nearOrZero
+matched-by t query none e h = absurd h
+matched-by t query (some a) e h =
+    let stored : List Trace = tracesIn t in
+    let tree : Tree = treeIn t in
+    let steps = step-claims 1 stored tree query in
+    let one = one-searched stored tree query in
+    record {
+      by-steps = rw e refl;
+      nearest-read = ap listOf (sym e)
+          ∙ subst (λ (l : Listing). l .list ≡ take 1 (ranking (distancesAmong stored tree query (l .trail)))) one (steps .nearest-read);
+      leaves-counted = refl;
+      traces-counted = subst (λ (l : Listing). l .traces ≡ length (distancesAmong stored tree query (l .trail))) one (steps .traces-read);
+    }
+
+matches-anywhere : MatchesAnywhere
+unfolding effectOf besideOf
+matches-anywhere lent query trail memory memory′ said f m answers =
+    let t = firstPlaces lent memory in
+    let e = matches t query trail in
+    let known = answered (firstOf (e .conditions)) t (trail ∷ []) e (matched m)
+    (sym (ap (λ (r : Reply). r .answer) (reply-is f)) ∙ answers) in
+    let s = searched (tracesIn t) (treeIn t) query in
+    let is : matchSeen s (s .best) ≡ m = cc in (
+      subst (MatchedIn query t) is (matched-by t query (s .best) refl (found t query trail (known .0))),
+      one-call _ memory memory′ said f .works (known .0) .1,
+    )
+
 -- document 02, §1, on any tables: what is answered are the steps
 lists-anywhere : ListsAnywhere
 unfolding effectOf besideOf kNearestBySteps
@@ -147,12 +191,45 @@ of-stored k = record {
   exported-and-imported = exported-and-imported k;
 }
 
+-- what a check answers of tables that no call refuses for what they hold is whether their figures are exact
+module _ {lent : Lent} {memory memory′ : Tables} {said : Reply} (f : Follows (call lent checking) memory said memory′)
+    (fine : firstOf (madeConditions (firstPlaces lent memory)) ≡ none) where
+  abbrev t : Tables
+  t = firstPlaces lent memory
+
+  abbrev exact : Bool
+  exact = isExact (tracesIn t) (treeIn t)
+
+  checked : firstOf (checks t .conditions) ≡ firstOf (not exact refuses looseRecord ∷ [])
+  unfolding checks
+  checked = first-none (madeConditions t) (not exact refuses looseRecord ∷ []) fine
+
+  both-ways : Exactness (tracesIn t) (treeIn t)
+  both-ways = exactness sampleLimit (measuresOf t) (tracesIn t) (treeIn t)
+      (subst (λ (n : ℕ). T (abstract.wellFormedTree sampleLimit (measuresOf t) n (treeIn t))) (sym (traces-size t))
+      (tree-passes t (judged.accepted t fine .formed)))
+
+  accepts-exact : RangesOf (tracesIn t) (treeIn t) → said .answer ≡ answering accepted
+  unfolding effectOf checks firstOf
+  accepts-exact ranges = ap (λ (r : Reply). r .answer)
+      (one-call _ memory memory′ said f .works (checked ∙ rw (test-true exact (both-ways .ranges-exact ranges))) .0)
+
+  loose-refused : (RangesOf (tracesIn t) (treeIn t) → ⊥) → said .answer ≡ refusing looseRecord
+  unfolding effectOf checks firstOf
+  loose-refused loose = one-call _ memory memory′ said f .refuses looseRecord (checked ∙ by exact refl)
+    where
+      by : (b : Bool) → exact ≡ b → firstOf (not exact refuses looseRecord ∷ []) ≡ some looseRecord
+      by true e = absurd (loose (both-ways .exact-ranges (is-true {b = exact} e)))
+      by false e = rw e
+
 -- document 02, §6, on any tables
 checks-anywhere : ChecksAnywhere
 checks-anywhere lent memory memory′ said f = record {
   stays = check-stays f;
   accepts = λ a. exact-tree (part-checked f a);
   refuses-loose = λ a. loose-is f a;
+  accepts-exact = accepts-exact f;
+  loose-refused = loose-refused f;
   loose-written = λ a. is-written lent memory (loose-fine f a);
   loose-stored = λ a. of-stored (loose-stores f a);
 }
@@ -184,6 +261,7 @@ demands = record {
   one-call = one-call;
   off-trail = off-trail;
   adds-anywhere = adds-anywhere;
+  matches-anywhere = matches-anywhere;
   lists-anywhere = lists-anywhere;
   imports-anywhere = imports-anywhere;
   checks-anywhere = checks-anywhere;

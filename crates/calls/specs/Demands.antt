@@ -14,7 +14,7 @@ use Rattle.segment.specs.Figures.{distance}
 use Rattle.dstree.specs.Measures.{Trace, Measures, sampleLimit, areSamples}
 use Rattle.dstree.specs.Node.{Tree}
 use Rattle.dstree.specs.Adding.{insertion}
-use Rattle.dstree.specs.Matching.{bound, leaves, leastDistance, Near, Match, matchOf}
+use Rattle.dstree.specs.Matching.{bound, leaves, leastDistance, Near, Match, matchBySteps, matchOf}
 use Rattle.dstree.specs.KNearest.{isK, ranking, listPlaces, KNearest, kNearestBySteps, kNearestOf, distancesAmong, ListClaims}
 use Rattle.dstree.specs.KNearest.{KNearestClaims, OneIsMatch}
 use Rattle.dstree.specs.Batch.{queriesIn, Batch, answerIn, batchOf, batchBySteps, StepsClaims, BatchClaims, OneClaims}
@@ -30,6 +30,7 @@ use Rattle.tables.specs.Layout.{layout}
 use Rattle.tables.specs.Tables.{Tables, lentOf, measuresOf, traceCount}
 use Rattle.tables.specs.View.{traceIn, treeIn, tracesIn, wellFormed}
 use Rattle.tables.specs.Beginning.{firstPlaces, left}
+use Rattle.tables.specs.Answers.{madeConditions}
 use Rattle.tables.specs.Holds.{Holds}
 use Rattle.calls.specs.Outcome.{Effect}
 use Rattle.calls.specs.Library.{Keeps, beyond}
@@ -109,6 +110,25 @@ abbrev pub AddsAnywhere : Type 0
 AddsAnywhere = (lent : Lent) (x : Trace) (memory memory′ : Tables) (said : Reply)
     → Follows (call lent (adding x)) memory said memory′
     → (number : ℕ) → said .answer ≡ answering (added number) → AddedInto lent x memory number memory′
+
+-- ---- a match, on any tables
+
+-- a match that answered m, on the tables t that it was lent, whoever made them
+pub record MatchedIn (query : Trace) (t : Tables) (m : Match) : Type 0 where
+  -- "With well-formed tables that somebody altered, calls follow the steps above on what is recorded": they find a trace
+  pub by-steps : matchBySteps (tracesIn t) (treeIn t) query ≡ some m
+  -- it is the nearest of the traces read, the lowest number among equals
+  pub nearest-read : answerIn m ∷ [] ≡ take 1 (ranking (distancesAmong (tracesIn t) (treeIn t) query (m .trail)))
+  -- "leaves read and traces read"
+  pub leaves-counted : m .leaves ≡ length (m .trail)
+  pub traces-counted : m .traces ≡ length (distancesAmong (tracesIn t) (treeIn t) query (m .trail))
+
+-- "A call that takes a query leaves the needed search work zero", and all else as it was
+abbrev pub MatchesAnywhere : Type 0
+MatchesAnywhere = (lent : Lent) (query : Trace) (trail : List ℕ) (memory memory′ : Tables) (said : Reply)
+    → Follows (call lent (matching query trail)) memory said memory′
+    → (m : Match) → said .answer ≡ answering (matched m)
+    → MatchedIn query (firstPlaces lent memory) m × (memory′ ≡ left (cleared (firstPlaces lent memory)) memory)
 
 -- ---- document 02, §1, on any tables
 
@@ -412,6 +432,11 @@ pub record CheckedIn (lent : Lent) (memory : Tables) (said : Reply) (memory′ :
   -- "13 loose record, when well-formed tables hold a figure that isn't exactly the recomputed one"
   pub refuses-loose : let t = firstPlaces lent memory in said .answer ≡ refusing looseRecord
       → T (wellFormed t) × (RangesOf (tracesIn t) (treeIn t) → ⊥)
+  -- and so the other way, of tables that no call refuses for their lengths or for what they hold
+  pub accepts-exact : let t = firstPlaces lent memory in firstOf (madeConditions t) ≡ none → RangesOf (tracesIn t) (treeIn t)
+      → said .answer ≡ answering accepted
+  pub loose-refused : let t = firstPlaces lent memory in firstOf (madeConditions t) ≡ none → (RangesOf (tracesIn t) (treeIn t) → ⊥)
+      → said .answer ≡ refusing looseRecord
   -- such tables can be written as a sheet; read back, it is the library of the traces as these tables have them
   pub loose-written : said .answer ≡ refusing looseRecord → IsWritten lent memory
   pub loose-stored : said .answer ≡ refusing looseRecord → OfStored (bookIn memory) memory
@@ -426,6 +451,7 @@ pub record Demands : Type 0 where
   pub one-call : (c : Call) (memory memory′ : Tables) (said : Reply) → Follows c memory said memory′ → OneCall c memory said memory′
   pub off-trail : SamplesOffTrail
   pub adds-anywhere : AddsAnywhere
+  pub matches-anywhere : MatchesAnywhere
   pub lists-anywhere : ListsAnywhere
   pub imports-anywhere : ImportsAnywhere
   pub checks-anywhere : ChecksAnywhere

@@ -51,6 +51,7 @@ use Rattle.calls.proofs.OfArguments.{spoiled-is-not, loose-is-not}
 use Rattle.calls.proofs.NeverSpoiled.{never}
 use Rattle.calls.proofs.RoundTrips.{written-is, is-written, read-back-in, written-again-from}
 use Rattle.calls.proofs.OffTrail.{answered, off-trail}
+use Rattle.calls.proofs.Differ.{may-differ}
 use Rattle.calls.proofs.Adds.{adds-anywhere}
 use Rattle.calls.proofs.Imports.{imports-anywhere, exported-sound, exported-and-imported}
 use Rattle.calls.proofs.Trusting.{check-stays, part-checked, loose-is, loose-fine, loose-stores, trusted, all-trusting}
@@ -260,6 +261,7 @@ pub demands : Demands
 demands = record {
   one-call = one-call;
   off-trail = off-trail;
+  may-differ = may-differ;
   adds-anywhere = adds-anywhere;
   matches-anywhere = matches-anywhere;
   lists-anywhere = lists-anywhere;

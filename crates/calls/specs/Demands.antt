@@ -1,12 +1,13 @@
 -- The three demands, of calls that follow their definitions: demand 1 of every call on every memory; demand 2 and document 01's "Demand 3,
 -- over a list of calls", a field for each sentence, of what a list of calls leaves; and document 02's claims of the calls that it adds.
 -- `proofs/Demands` proves them.
-use Prim.Native.Nat.{ℕ, _*_, _≤_, _<_}
+use Prim.Native.Nat.{ℕ, _+_, _*_, _≤_, _<_}
 use mathlib.Core.Path.{_≡_}
 use mathlib.Core.Bool.{true, not}
 use mathlib.Core.Option.{Option, none, some}
 use mathlib.Core.List.{List, [], _∷_, _++_, map}
-use lib.ListN.{length, getD, take}
+use lib.ListN.{length, getD, set, take}
+use lib.IntN.{ℤ}
 use lib.Dec.{T}
 use Rattle.integer.specs.Words.{every, isIn, counting}
 use Rattle.integer.specs.Lists.{In, Up}
@@ -27,7 +28,7 @@ use Rattle.dstree.specs.Book.{Result, done, added, matched, written, neighbours
 use Rattle.dstree.specs.Book.{answering, Reply, reply, over, Book, bookTree, shortConditions, judge, after, repliesOf, start}
 use Rattle.dstree.specs.Claims.{Below, numbersAmong, LeavesOutOnlyAbove, RangesOf, ExactTree}
 use Rattle.tables.specs.Layout.{layout}
-use Rattle.tables.specs.Tables.{Tables, lentOf, measuresOf, traceCount}
+use Rattle.tables.specs.Tables.{Tables, tables, lentOf, measuresOf, traceCount}
 use Rattle.tables.specs.View.{traceIn, treeIn, tracesIn, wellFormed}
 use Rattle.tables.specs.Beginning.{firstPlaces, left}
 use Rattle.tables.specs.Answers.{madeConditions}
@@ -70,6 +71,16 @@ pub record DifferOutside (set : List ℕ) (these other : Tables) : Type 0 where
   pub as-long : length (other .samples) ≡ length (these .samples)
   pub samples-same : (trace : ℕ) → T (isIn trace (numbersAmong (treeIn these) set))
       → traceIn (other .samples) (measuresOf these .n) trace ≡ traceIn (these .samples) (measuresOf these .n) trace
+
+abbrev pub withSample : Tables → ℕ → ℤ → Tables
+withSample t place sample = tables (t .control) (set (t .samples) place sample) (t .nodes) (t .links) (t .work)
+
+-- there are such tables: every sample of every trace outside these leaves may be any number, one after another
+pub record MayDiffer (those : List ℕ) (these : Tables) : Type 0 where
+  pub not-at-all : DifferOutside those these these
+  pub in-a-sample : (other : Tables) → DifferOutside those these other → (trace at : ℕ) (sample : ℤ) → at < measuresOf these .n
+      → T (not (isIn trace (numbersAmong (treeIn these) those)))
+      → DifferOutside those these (withSample other (trace * measuresOf these .n + at) sample)
 
 -- the leaves that a search has read, by its answer: a match's, that of the k nearest, or a batch's. No other call answers with a trail
 unfoldable pub trailFound : Result → Option (List ℕ)
@@ -450,6 +461,7 @@ ChecksAnywhere = (lent : Lent) (memory memory′ : Tables) (said : Reply) → Fo
 pub record Demands : Type 0 where
   pub one-call : (c : Call) (memory memory′ : Tables) (said : Reply) → Follows c memory said memory′ → OneCall c memory said memory′
   pub off-trail : SamplesOffTrail
+  pub may-differ : (those : List ℕ) (these : Tables) → MayDiffer those these
   pub adds-anywhere : AddsAnywhere
   pub matches-anywhere : MatchesAnywhere
   pub lists-anywhere : ListsAnywhere

@@ -51,6 +51,7 @@ use Rattle.calls.proofs.OfArguments.{spoiled-is-not, loose-is-not}
 use Rattle.calls.proofs.NeverSpoiled.{never}
 use Rattle.calls.proofs.RoundTrips.{written-is, is-written, read-back-in, written-again-from}
 use Rattle.calls.proofs.OffTrail.{answered, off-trail}
+use Rattle.calls.proofs.Trails.{list-by-bound, search-by-bound}
 use Rattle.calls.proofs.Differ.{may-differ}
 use Rattle.calls.proofs.Adds.{adds-anywhere}
 use Rattle.calls.proofs.Imports.{imports-anywhere, exported-sound, exported-and-imported}
@@ -118,6 +119,7 @@ matched-by t query (some a) e h =
       by-steps = rw e refl;
       nearest-read = ap listOf (sym e)
           ∙ subst (λ (l : Listing). l .list ≡ take 1 (ranking (distancesAmong stored tree query (l .trail)))) one (steps .nearest-read);
+      by-bound = search-by-bound tree query stored;
       leaves-counted = refl;
       traces-counted = subst (λ (l : Listing). l .traces ≡ length (distancesAmong stored tree query (l .trail))) one (steps .traces-read);
     }
@@ -146,7 +148,7 @@ lists-anywhere lent k query trail list memory memory′ said f m answers =
     let steps = step-claims k (tracesIn t) (treeIn t) query in
     let is : kNearestBySteps k (tracesIn t) (treeIn t) query ≡ m = cc in (
       subst (ListedIn k query t) is
-          (record { by-steps = refl; nearest-read = steps .nearest-read; leaves-counted = refl; traces-counted = steps .traces-read }),
+          (record { by-steps = refl; nearest-read = steps .nearest-read; by-bound = list-by-bound (treeIn t) query k (tracesIn t); leaves-counted = refl; traces-counted = steps .traces-read }),
       one-call _ memory memory′ said f .works (known .0) .1,
     )
 

@@ -12,6 +12,7 @@ pub mod OfArguments
 pub mod Searches
 pub mod NeverSpoiled
 pub mod OffTrail
+pub mod Trails
 pub mod Differ
 pub mod RoundTrips
 pub mod Adds

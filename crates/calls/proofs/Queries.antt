@@ -10,7 +10,8 @@ use Rattle.integer.proofs.Lists.{in-map, in-getD, least-low, least-in, strict}
 use Rattle.segment.specs.Figures.{distance}
 use Rattle.dstree.specs.Measures.{Trace, Measures, sampleLimit}
 use Rattle.dstree.specs.Node.{Tree}
-use Rattle.dstree.specs.Matching.{Match, leastDistance, lowestAt, matchOf}
+use Rattle.dstree.specs.Matching.{Match, searched, matchBySteps, leastDistance, lowestAt, matchOf}
+use Rattle.dstree.specs.KNearest.{KNearest, kNearestBySteps}
 use Rattle.dstree.specs.Claims.{ClaimsOf}
 use Rattle.dstree.specs.Refusals.{Refusal, firstOf}
 use Rattle.dstree.specs.Book.{Lent, searching, Call, call, answering, Reply, reply, Book, Found, Sought, aMatch, aListing, searchOf}
@@ -27,7 +28,8 @@ use Rattle.tables.proofs.Beginning.{begins-within, first-begins, first-lent}
 use Rattle.calls.specs.Trusted.{Trusts}
 use Rattle.calls.specs.Effects.{effectOf}
 use Rattle.calls.specs.Follows.{Typed, outcomeIn, Follows}
-use Rattle.calls.specs.Demands.{DifferOutside, trailFound, judgeIn, OfAnyQuery}
+use Rattle.calls.specs.Demands.{DifferOutside, trailFound, judgeIn, ByBound, OfAnyQuery}
+use Rattle.calls.proofs.Trails.{list-by-bound, search-by-bound, match-trail}
 use Rattle.calls.proofs.Searches.{laws}
 use Rattle.calls.proofs.Trusted.{count-in, exact-tree, part-trusts, part-tree, fine-room}
 use Rattle.calls.proofs.OneCall.{one-call}
@@ -145,12 +147,15 @@ module _ {memory : Tables} {b : Book} (k : Trusts memory b) (judges : Call → O
   -- ---- any query, of whatever the check would accept
 
   pub of-any-query : 0 < length (b .traces) → OfAnyQuery judges (b .traces) tree query memory
-  unfolding trailFound
+  unfolding trailFound matchBySteps kNearestBySteps
   of-any-query some-trace =
       let n = nearest (b .traces) tree query some-trace in
       record {
         bound-at-most = c some-trace .bound-at-most;
         match-gives = λ lent trail. search-gives k judges fine (aMatch query trail) lent;
+        by-bound = let s = searched (b .traces) tree query in
+            subst (ByBound tree query) (match-trail s (s .best) (matchOf (b .traces) tree query) (c some-trace .steps-give-it))
+            (search-by-bound tree query (b .traces));
         is-stored = n .is-stored;
         has-distance = n .has-distance;
         is-least = n .is-least;
@@ -163,6 +168,9 @@ module _ {memory : Tables} {b : Book} (k : Trusts memory b) (judges : Call → O
         each-k = λ j. record {
           list-gives = λ lent trail list. search-gives k judges fine (aListing j query trail list) lent;
           list-is = list-claims j (b .traces) query;
+          by-bound = subst (λ (m : KNearest). ByBound tree query (m .trail))
+              (k-nearest-exact sampleLimit (b .measures) (b .traces) tree (exact-tree k) query size j .steps-give-it)
+              (list-by-bound tree query j (b .traces));
           leaves-are = k-nearest-exact sampleLimit (b .measures) (b .traces) tree (exact-tree k) query size j;
           others-do-not-bear = λ other differ lent trail list. gives-there k judges fine (aListing j query trail list) _ refl other differ lent;
         };

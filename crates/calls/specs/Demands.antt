@@ -11,11 +11,12 @@ use lib.IntN.{ℤ}
 use lib.Dec.{T}
 use Rattle.integer.specs.Words.{every, isIn, counting}
 use Rattle.integer.specs.Lists.{In, Up}
+use Rattle.integer.specs.Sorting.{Ordered}
 use Rattle.segment.specs.Figures.{distance}
 use Rattle.dstree.specs.Measures.{Trace, Measures, sampleLimit, areSamples}
 use Rattle.dstree.specs.Node.{Tree}
 use Rattle.dstree.specs.Adding.{insertion}
-use Rattle.dstree.specs.Matching.{bound, leaves, leastDistance, Near, Match, matchBySteps, matchOf}
+use Rattle.dstree.specs.Matching.{bound, before, leaves, leastDistance, Near, Match, matchBySteps, matchOf}
 use Rattle.dstree.specs.KNearest.{isK, ranking, listPlaces, KNearest, kNearestBySteps, kNearestOf, distancesAmong, ListClaims}
 use Rattle.dstree.specs.KNearest.{KNearestClaims, OneIsMatch}
 use Rattle.dstree.specs.Batch.{queriesIn, Batch, answerIn, batchOf, batchBySteps, StepsClaims, BatchClaims, OneClaims}
@@ -124,12 +125,17 @@ AddsAnywhere = (lent : Lent) (x : Trace) (memory memory′ : Tables) (said : Rep
 
 -- ---- a match, on any tables
 
+-- "The trail lists the leaf numbers in reading order": "by bound, then by number"
+abbrev pub ByBound : Tree → Trace → List ℕ → Type 0
+ByBound tree query trail = Ordered before (map (λ number. record { number = number; bound = bound tree query number }) trail)
+
 -- a match that answered m, on the tables t that it was lent, whoever made them
 pub record MatchedIn (query : Trace) (t : Tables) (m : Match) : Type 0 where
   -- "With well-formed tables that somebody altered, calls follow the steps above on what is recorded": they find a trace
   pub by-steps : matchBySteps (tracesIn t) (treeIn t) query ≡ some m
   -- it is the nearest of the traces read, the lowest number among equals
   pub nearest-read : answerIn m ∷ [] ≡ take 1 (ranking (distancesAmong (tracesIn t) (treeIn t) query (m .trail)))
+  pub by-bound : ByBound (treeIn t) query (m .trail)
   -- "leaves read and traces read"
   pub leaves-counted : m .leaves ≡ length (m .trail)
   pub traces-counted : m .traces ≡ length (distancesAmong (tracesIn t) (treeIn t) query (m .trail))
@@ -150,6 +156,7 @@ pub record ListedIn (k : ℕ) (query : Trace) (t : Tables) (m : KNearest) : Type
   -- "on altered tables the list is the nearest of the traces read"
   pub nearest-read : m .list ≡ take k (ranking (distancesAmong (tracesIn t) (treeIn t) query (m .trail)))
   -- "with its trail and counts": the leaves read, and the traces in them
+  pub by-bound : ByBound (treeIn t) query (m .trail)
   pub leaves-counted : m .leaves ≡ length (m .trail)
   pub traces-counted : m .traces ≡ length (distancesAmong (tracesIn t) (treeIn t) query (m .trail))
 
@@ -233,6 +240,7 @@ pub record OfEachK (judges : Call → Option Refusal) (k : ℕ) (stored : List T
   -- what the list is: "the k nearest traces by distance, then number; a smaller library lists all it has"; "A shorter list must be the
   -- beginning of a longer one"
   pub list-is : ListClaims k stored query
+  pub by-bound : ByBound tree query (kNearestOf k stored tree query .trail)
   -- which leaves are read: "those with a bound at most the last listed distance, or every leaf when fewer than k traces are stored"; "The
   -- fewest-leaves property is wanted for each k"
   pub leaves-are : KNearestClaims k stored tree query
@@ -248,6 +256,7 @@ pub record OfAnyQuery (judges : Call → Option Refusal) (stored : List Trace) (
   -- "A match of this query that the table doesn't refuse answers the lowest trace number at distance d, d, the number of leaves in R, and
   -- the number of traces in them; the trail begins with R, by bound, then by number"
   pub match-gives : MatchGives judges query memory (matchOf stored tree query)
+  pub by-bound : ByBound tree query (matchOf stored tree query .trail)
   -- demand 2: "the match is the stored trace with the least sum of squared sample differences, the lowest number among equals"
   pub is-stored : matchOf stored tree query .trace < length stored
   pub has-distance : distance query (getD stored (matchOf stored tree query .trace) []) ≡ matchOf stored tree query .distance

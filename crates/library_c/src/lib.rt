@@ -5,8 +5,6 @@
 // leaves read, a refusal its place; an opening, a reading and a check have none. A shorter `out` takes the first of them, and places behind
 // them stay.
 
-pub mod telling; // an answer as numbers
-
 use batching::AnswerRecord;
 ghost use mathlib.Core.Path.{_≡_};
 ghost use mathlib.Core.List.{[], _∷_};
@@ -16,7 +14,7 @@ ghost use Rattle.dstree.specs.Book as book;
 ghost use Rattle.tables.specs.Tables.{tables};
 ghost use Rattle.calls.specs.Effects.{outcomeOn};
 ghost use Rattle.batch_answers.specs.AnswerRecords.{nearsOf};
-ghost use Rattle.library_c.specs.COutcome.{cOutcome, cOutcomeOf};
+ghost use Rattle.telling.specs.COutcome.{cOutcome, cOutcomeOf};
 
 // Two wrong programs that the contract rules out: one that gives the place as its code, and one that writes the place of a refusal into a
 // place of `out` behind the first.

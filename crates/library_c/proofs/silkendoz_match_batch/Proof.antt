@@ -53,7 +53,7 @@ use Rattle.calls.specs.Outcome.{outcome}
 use Rattle.calls.specs.Effects.{outcomeOn}
 use Rattle.batching.specs.Answered.{answerBy}
 use Rattle.batch_answers.specs.AnswerRecords.{nearsOf}
-use Rattle.library_c.specs.COutcome.{returned, returnedOf, cOutcome, cOutcomeOf}
+use Rattle.telling.specs.COutcome.{returned, returnedOf, cOutcome, cOutcomeOf}
 use Rattle.library_c.proofs.Answers.{exported-call}
 use Rattle.batching.proofs.AnswerRecord as T
 use Rattle.batching.proofs.Batched as O
@@ -62,10 +62,10 @@ use Rattle.batch_answers.proofs.match_batch as all′
 use Rattle.batch_answers.proofs.match_batch.Symbol as all-def
 use Rattle.batch_answers.proofs.match_batch.Symbol.{name as #all}
 use Rattle.batch_answers.proofs.match_batch.Met as all-thm
-use Rattle.library_c.proofs.telling.tell_batched as tell′
-use Rattle.library_c.proofs.telling.tell_batched.Symbol as tell-def
-use Rattle.library_c.proofs.telling.tell_batched.Symbol.{name as #tell}
-use Rattle.library_c.proofs.telling.tell_batched.Met as tell-thm
+use Rattle.telling.proofs.tell_batched as tell′
+use Rattle.telling.proofs.tell_batched.Symbol as tell-def
+use Rattle.telling.proofs.tell_batched.Symbol.{name as #tell}
+use Rattle.telling.proofs.tell_batched.Met as tell-thm
 use Rattle.library_c.proofs.silkendoz_match_batch.Key.{name as #call}
 use Rattle.library_c.proofs.silkendoz_match_batch as f
 use Rattle.library_c.proofs.silkendoz_match_batch.Statement as stated
@@ -517,5 +517,5 @@ silkendoz-match-batch-spec 𝓤 H 𝓜 𝓖 𝓡 =
     (call-meets 𝓤 H (𝓖 .A) (givenOf 𝓤 H 𝓜 𝓖) (𝓜 .mem) (𝓡 .run) (tablesOf 𝓤 H 𝓜 (tables 𝓤 H 𝓜 𝓡 code.env))
     (cited 𝓤 H (All 𝓤 H (𝓖 .A) (𝓜 .mem) (𝓡 .run)) 𝓜 𝓡 code.env #all all-def.routine code.calls-batch-answers·match-batch
     (all-thm.met 𝓤 H 𝓜 𝓖 𝓡))
-    (cited 𝓤 H (Tell 𝓤 H (𝓖 .A) (𝓜 .mem) (𝓡 .run)) 𝓜 𝓡 code.env #tell tell-def.routine code.calls-library-c·telling·tell-batched
+    (cited 𝓤 H (Tell 𝓤 H (𝓖 .A) (𝓜 .mem) (𝓡 .run)) 𝓜 𝓡 code.env #tell tell-def.routine code.calls-telling·tell-batched
     (tell-thm.met 𝓤 H 𝓜 𝓖 𝓡)))

@@ -1,10 +1,10 @@
--- `telling::tell_batched` meets its contract, arm by arm.
+-- `tell_batched` meets its contract, arm by arm.
 use borrow.Author.Needs.{needs}
 use mathlib.Core.Path.{_∙_}
 use denote.Ref.{now}
-use Rattle.library_c.proofs.Answers.{batched-leaves, batched-refused}
-use Rattle.library_c.proofs.telling.tell_batched.Statement.{statement}
-use Rattle.library_c.proofs.telling.tell_batched.Tie as tie
+use Rattle.telling.proofs.Answers.{batched-leaves, batched-refused}
+use Rattle.telling.proofs.tell_batched.Statement.{statement}
+use Rattle.telling.proofs.tell_batched.Tie as tie
 
 returns : tie.Need-returns
 returns c = λ records trail.

@@ -1,10 +1,10 @@
--- `telling::tell_opened` meets its contract, arm by arm.
+-- `tell_opened` meets its contract, arm by arm.
 use borrow.Author.Needs.{needs}
 use mathlib.Core.Path.{_∙_}
 use denote.Ref.{now}
-use Rattle.library_c.proofs.Answers.{opened-done, opened-refused}
-use Rattle.library_c.proofs.telling.tell_opened.Statement.{statement}
-use Rattle.library_c.proofs.telling.tell_opened.Tie as tie
+use Rattle.telling.proofs.Answers.{opened-done, opened-refused}
+use Rattle.telling.proofs.tell_opened.Statement.{statement}
+use Rattle.telling.proofs.tell_opened.Tie as tie
 
 returns : tie.Need-returns
 returns c = let s = c .before .before .before in opened-done (s .args .answer) (now (s .args .out)) (c .enum-told .given .1)

@@ -28,7 +28,7 @@ ghost use Rattle.importing.specs.Answered as importing;
 ghost use Rattle.exporting.specs.Answered as exporting;
 ghost use Rattle.checking.specs.Answered as checking;
 ghost use Rattle.batching.specs.Answered as batching;
-ghost use Rattle.library_c.specs.COutcome.{returned, returnedOf};
+ghost use Rattle.telling.specs.COutcome.{returned, returnedOf};
 
 // A number at its place, if there is such a place.
 fn put(out: &mut [u64], at: usize, x: u64)

@@ -1,10 +1,10 @@
--- `telling::tell_listed` meets its contract, arm by arm.
+-- `tell_listed` meets its contract, arm by arm.
 use borrow.Author.Needs.{needs}
 use mathlib.Core.Path.{_∙_}
 use denote.Ref.{now}
-use Rattle.library_c.proofs.Answers.{listed-found, listed-refused}
-use Rattle.library_c.proofs.telling.tell_listed.Statement.{statement}
-use Rattle.library_c.proofs.telling.tell_listed.Tie as tie
+use Rattle.telling.proofs.Answers.{listed-found, listed-refused}
+use Rattle.telling.proofs.tell_listed.Statement.{statement}
+use Rattle.telling.proofs.tell_listed.Tie as tie
 
 returns : tie.Need-returns
 returns c = λ trail list.

@@ -1,10 +1,10 @@
--- `telling::tell_exported` meets its contract, arm by arm.
+-- `tell_exported` meets its contract, arm by arm.
 use borrow.Author.Needs.{needs}
 use mathlib.Core.Path.{_∙_}
 use denote.Ref.{now}
-use Rattle.library_c.proofs.Answers.{exported-bytes, exported-refused}
-use Rattle.library_c.proofs.telling.tell_exported.Statement.{statement}
-use Rattle.library_c.proofs.telling.tell_exported.Tie as tie
+use Rattle.telling.proofs.Answers.{exported-bytes, exported-refused}
+use Rattle.telling.proofs.tell_exported.Statement.{statement}
+use Rattle.telling.proofs.tell_exported.Tie as tie
 
 returns : tie.Need-returns
 returns c buffer =

@@ -1,10 +1,10 @@
--- `telling::tell_imported` meets its contract, arm by arm.
+-- `tell_imported` meets its contract, arm by arm.
 use borrow.Author.Needs.{needs}
 use mathlib.Core.Path.{_∙_}
 use denote.Ref.{now}
-use Rattle.library_c.proofs.Answers.{imported-traces, imported-refused}
-use Rattle.library_c.proofs.telling.tell_imported.Statement.{statement}
-use Rattle.library_c.proofs.telling.tell_imported.Tie as tie
+use Rattle.telling.proofs.Answers.{imported-traces, imported-refused}
+use Rattle.telling.proofs.tell_imported.Statement.{statement}
+use Rattle.telling.proofs.tell_imported.Tie as tie
 
 returns : tie.Need-returns
 returns c =

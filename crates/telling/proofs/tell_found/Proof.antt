@@ -1,10 +1,10 @@
--- `telling::tell_found` meets its contract, arm by arm.
+-- `tell_found` meets its contract, arm by arm.
 use borrow.Author.Needs.{needs}
 use mathlib.Core.Path.{_∙_}
 use denote.Ref.{now}
-use Rattle.library_c.proofs.Answers.{found-at, found-refused}
-use Rattle.library_c.proofs.telling.tell_found.Statement.{statement}
-use Rattle.library_c.proofs.telling.tell_found.Tie as tie
+use Rattle.telling.proofs.Answers.{found-at, found-refused}
+use Rattle.telling.proofs.tell_found.Statement.{statement}
+use Rattle.telling.proofs.tell_found.Tie as tie
 
 returns : tie.Need-returns
 returns c = λ trail.

@@ -1,10 +1,10 @@
--- `telling::tell_added` meets its contract, arm by arm.
+-- `tell_added` meets its contract, arm by arm.
 use borrow.Author.Needs.{needs}
 use mathlib.Core.Path.{_∙_}
 use denote.Ref.{now}
-use Rattle.library_c.proofs.Answers.{added-at, added-refused}
-use Rattle.library_c.proofs.telling.tell_added.Statement.{statement}
-use Rattle.library_c.proofs.telling.tell_added.Tie as tie
+use Rattle.telling.proofs.Answers.{added-at, added-refused}
+use Rattle.telling.proofs.tell_added.Statement.{statement}
+use Rattle.telling.proofs.tell_added.Tie as tie
 
 returns : tie.Need-returns
 returns c =

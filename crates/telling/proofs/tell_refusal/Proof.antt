@@ -1,10 +1,10 @@
--- `telling::tell_refusal` meets its contract: the number is the code, the place the first value.
+-- `tell_refusal` meets its contract: the number is the code, the place the first value.
 use borrow.Author.Needs.{needs}
 use denote.Ref.{now}
 use Rattle.tables.specs.Answers.{wordOf}
-use Rattle.library_c.proofs.Answers.{refusal-returned}
-use Rattle.library_c.proofs.telling.tell_refusal.Statement.{statement}
-use Rattle.library_c.proofs.telling.tell_refusal.Tie as tie
+use Rattle.telling.proofs.Answers.{refusal-returned}
+use Rattle.telling.proofs.tell_refusal.Statement.{statement}
+use Rattle.telling.proofs.tell_refusal.Tie as tie
 
 returns : tie.Need-returns
 returns c =

@@ -1,10 +1,10 @@
--- `telling::tell_written` meets its contract, arm by arm.
+-- `tell_written` meets its contract, arm by arm.
 use borrow.Author.Needs.{needs}
 use mathlib.Core.Path.{_∙_}
 use denote.Ref.{now}
-use Rattle.library_c.proofs.Answers.{written-blocks, written-refused}
-use Rattle.library_c.proofs.telling.tell_written.Statement.{statement}
-use Rattle.library_c.proofs.telling.tell_written.Tie as tie
+use Rattle.telling.proofs.Answers.{written-blocks, written-refused}
+use Rattle.telling.proofs.tell_written.Statement.{statement}
+use Rattle.telling.proofs.tell_written.Tie as tie
 
 returns : tie.Need-returns
 returns c sheet =

@@ -1,10 +1,10 @@
--- `telling::tell_checked` meets its contract, arm by arm.
+-- `tell_checked` meets its contract, arm by arm.
 use borrow.Author.Needs.{needs}
 use mathlib.Core.Path.{_∙_}
 use denote.Ref.{now}
-use Rattle.library_c.proofs.Answers.{checked-accepted, checked-refused}
-use Rattle.library_c.proofs.telling.tell_checked.Statement.{statement}
-use Rattle.library_c.proofs.telling.tell_checked.Tie as tie
+use Rattle.telling.proofs.Answers.{checked-accepted, checked-refused}
+use Rattle.telling.proofs.tell_checked.Statement.{statement}
+use Rattle.telling.proofs.tell_checked.Tie as tie
 
 returns : tie.Need-returns
 returns c = let s = c .before .before .before in checked-accepted (s .args .answer) (now (s .args .out)) (c .enum-told .given .1)

@@ -1,0 +1,2 @@
+-- What is returned of each answer.
+pub mod Answers

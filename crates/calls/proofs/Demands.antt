@@ -35,7 +35,7 @@ use Rattle.tables.proofs.Views.{traces-size, tree-passes}
 use Rattle.tables.proofs.Judged as judged
 use Rattle.insertion_memory.proofs.Beginnings.{holds-whole}
 use Rattle.calls.specs.Library.{Keeps}
-use Rattle.calls.specs.Trusted.{bookIn, Trusts}
+use Rattle.calls.specs.Trusted.{bookIn, Trusts, treeAfter}
 use Rattle.calls.specs.Effects.{matches, lists, checks, effectOf}
 use Rattle.calls.specs.Follows.{Follows, Ran, a-call}
 use Rattle.calls.specs.Demands.{MatchedIn, MatchesAnywhere, ListedIn, ListsAnywhere, ChecksAnywhere, judgeIn, OfAnyQuery, EmptyIsSix, IsAccepted}
@@ -56,6 +56,7 @@ use Rattle.calls.proofs.Differ.{may-differ}
 use Rattle.calls.proofs.Adds.{adds-anywhere}
 use Rattle.calls.proofs.Imports.{imports-anywhere, exported-sound, exported-and-imported}
 use Rattle.calls.proofs.Trusting.{check-stays, part-checked, loose-is, loose-fine, loose-stores, trusted, all-trusting}
+use Rattle.calls.proofs.Trees.{tree-of-book}
 use Rattle.calls.proofs.Queries.{Judges, of-any-query}
 use Rattle.calls.proofs.Batches.{of-any-batch, batches-anywhere}
 
@@ -246,17 +247,20 @@ from-first first calls memory₀ memory said₀ said (a-call f rest) e = let r =
 -- from a check on that has just accepted
 from-check : (first : Call) (calls : List Call) (memory₀ memory : Tables) (said₀ : Reply) (said : List Reply)
     → Ran memory₀ (first ∷ calls) (said₀ ∷ said) memory → said₀ .answer ≡ answering accepted
-    → AfterCheck (bookIn memory₀) calls said memory
+    → AfterCheck (bookIn memory₀) (treeIn memory₀) calls said memory
 from-check first calls memory₀ memory said₀ said (a-call f rest) e =
-    let t = all-trusting (trusted f e) rest in
+    let start = trusted f e in
+    let r = all-trusting (start .trusts) rest in
+    let t = r .0 .trusts in
     record {
-      trusts = t .0;
-      is-accepted = is-accepted (t .0);
-      never-spoiled = λ r i. t .1 r i spoiled spoiled-is-not;
-      never-loose = λ r i. t .1 r i looseRecord loose-is-not;
-      any-query = λ query some-trace size. of-any-query (t .0) (judgeIn memory) (λ c places typed q. q) query size some-trace;
-      any-batch = λ count run some-trace size. of-any-batch (t .0) (judgeIn memory) (λ c places typed q. q) some-trace count run size;
-      of-stored = of-stored (trusted-stores (t .0));
+      trusts = t;
+      tree-is = r .0 .tree-is ∙ ap (λ (tree : Tree). treeAfter layout (bookIn memory₀) tree calls) (start .tree-is);
+      is-accepted = is-accepted t;
+      never-spoiled = λ s i. r .1 s i spoiled spoiled-is-not;
+      never-loose = λ s i. r .1 s i looseRecord loose-is-not;
+      any-query = λ query some-trace size. of-any-query t (judgeIn memory) (λ c places typed q. q) query size some-trace;
+      any-batch = λ count run some-trace size. of-any-batch t (judgeIn memory) (λ c places typed q. q) some-trace count run size;
+      of-stored = of-stored (trusted-stores t);
     }
 
 pub demands : Demands
@@ -273,5 +277,6 @@ demands = record {
   stored-anywhere = λ memory typed. of-stored (typed-stores memory typed);
   after-list = from-first;
   after-check = from-check;
+  tree-of-book = tree-of-book;
   read-and-written = λ lent bytes memory₀ memory₁ said₁ g d lent′ sheet said₂ memory₂ f blocks again a. written-again-from g d f a;
 }

@@ -18,6 +18,7 @@ pub mod RoundTrips
 pub mod Adds
 pub mod Imports
 pub mod Trusting
+pub mod Trees
 pub mod Queries
 pub mod Batches
 pub mod Demands

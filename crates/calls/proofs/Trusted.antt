@@ -102,6 +102,9 @@ pub whole-trusts : {part memory : Tables} {b : Book} → Begins part memory → 
 whole-trusts {part} {memory} begins k =
     agree-trusts (begins-agree begins (long-in k)) (room-more (begins-within part memory begins) (k .room)) k
 
+pub whole-tree : (part memory : Tables) {b : Book} → Begins part memory → Trusts part b → treeIn memory ≡ treeIn part
+whole-tree part memory begins k = tree-same (begins-agree begins (long-in k)) (k .formed) (long-in k)
+
 -- .. and then they are, long enough
 module _ {memory : Tables} {b : Book} (k : Trusts memory b) {part : Tables} (begins : Begins part memory) where
   module _ (room : Room (lentOf part) (b .measures)) where

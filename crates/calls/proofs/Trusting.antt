@@ -1,6 +1,7 @@
 -- A call on a memory that the check would accept, whichever it is, leaves one that it would accept, with the measures and traces that the
 -- book then has: adding keeps figures exact, an opening and a reading make a library by calls, the others write nothing but search work. So
--- does a list of calls, from a check on that has just accepted; and none of them is refused with 3 or 13.
+-- does a list of calls, from a check on that has just accepted; and none of them is refused with 3 or 13. The tree goes along: adding is
+-- insertion into the one that was there.
 use Prim.Native.Nat.{ℕ, _+_, _≤_, _<_}
 use mathlib.Core.Path.{_≡_, refl, sym, ap, subst, _∙_}
 use mathlib.Core.Bool.{Bool, true, false, not}
@@ -16,6 +17,8 @@ use Rattle.integer.specs.Lists.{In, first, later}
 use Rattle.integer.proofs.Tests.{passes, is-true, test-true}
 use Rattle.integer.proofs.Lists.{in-nil, in-cons, from-every, every-of, strict}
 use Rattle.dstree.specs.Measures.{Trace, Measures, sampleLimit, areSamples, isTrace, isLibrary, workNeeded}
+use Rattle.dstree.specs.Node.{Tree}
+use Rattle.dstree.specs.Adding.{insertion, grown}
 use Rattle.dstree.specs.Refusals.{Refusal, Condition, _refuses_, firstOf, wrongTrace, full, badRecording, looseRecord, numberOf}
 use Rattle.dstree.specs.Claims.{RangesOf}
 use Rattle.dstree.specs.Checking.{isExact}
@@ -23,8 +26,9 @@ use Rattle.dstree.specs.WellFormed as abstract
 use Rattle.dstree.specs.Recording.{Recording, judgeRecording, fileTraces, isBadFile}
 use Rattle.dstree.specs.Sheet.{areBytes}
 use Rattle.dstree.specs.Book.{Lent, Ask, opening, adding, searching, writing, reading, importing, exporting, checking, Call, call}
-use Rattle.dstree.specs.Book.{besideOf, accepted, refusing, answering, Reply, Book, book, Entry, shortConditions, addConditions}
-use Rattle.dstree.specs.Book.{importConditions, addingEntry, writingEntry, importingEntry, exportingEntry, checkingEntry, entryOf, judge}
+use Rattle.dstree.specs.Book.{besideOf, accepted, refusing, answering, Reply, Book, book, bookTree, Entry, shortConditions, addConditions}
+use Rattle.dstree.specs.Book.{importConditions, openingEntry, addingEntry, writingEntry, readingEntry, importingEntry, exportingEntry}
+use Rattle.dstree.specs.Book.{checkingEntry, entryOf, judge}
 use Rattle.dstree.specs.Book.{putUnless, turn, after}
 use Rattle.dstree.proofs.Conditions.{none-first, none-both, first-some, first-none}
 use Rattle.dstree.proofs.Limits.{trace-length}
@@ -43,13 +47,15 @@ use Rattle.tables.proofs.Beginning.{fill-length, left-same, left-begins, first-
 use Rattle.insertion_memory.specs.Memory.{addedTo}
 use Rattle.insertion_memory.proofs.Meaning.{meaning}
 use Rattle.insertion_memory.proofs.Keeps.{keeps-well-formed}
+use Rattle.insertion_memory.proofs.Beginnings.{holds-whole}
 use Rattle.calls.specs.Outcome.{Effect, unlessRefused}
-use Rattle.calls.specs.Trusted.{bookIn, Trusts}
+use Rattle.calls.specs.Trusted.{bookIn, Trusts, treePut, treeUnless, treeAfter}
 use Rattle.calls.specs.Effects.{opens, adds, cleared, writes, reads, imports, exports, checks, effectOf}
 use Rattle.calls.specs.Demands.{trailFound}
 use Rattle.calls.specs.Follows.{Typed, Follows, Ran, no-call, a-call}
+use Rattle.calls.proofs.Library.{library-holds}
 use Rattle.calls.proofs.Stored.{Fine, Stores, lent-stores}
-use Rattle.calls.proofs.Trusted.{long-in, count-in, each-is, whole-trusts, part-trusts, fine-room}
+use Rattle.calls.proofs.Trusted.{long-in, count-in, each-is, whole-trusts, whole-tree, part-trusts, part-tree, fine-room}
 use Rattle.calls.proofs.Trusted.{trusted-same, accepted-same, checked-trusts, kept-trusts}
 use Rattle.calls.proofs.Agrees.{Agrees, opening-agrees, reading-agrees, library-grows}
 use Rattle.calls.proofs.Steps.{reply-is, memory-is}
@@ -58,11 +64,17 @@ use Rattle.calls.proofs.Searches.{laws}
 use Rattle.calls.proofs.NeverSpoiled.{entry-other}
 use Rattle.calls.proofs.OffTrail.{answered}
 
+-- a memory that the check would accept, and its tree
+pub record TrustsTree (memory : Tables) (b : Book) (tree : Tree) : Type 0 where
+  pub trusts : Trusts memory b
+  pub tree-is : treeIn memory ≡ tree
+
 -- ---- adding
 
 -- one trace of n samples, where there is room
-pub add-trusts : {t : Tables} {b : Book} → Trusts t b → (x : Trace) → T (isTrace sampleLimit (b .measures .n) x)
-    → length (b .traces) < b .measures .capacity → Trusts (addedTo t x) (book (b .measures) (b .traces ++ (x ∷ [])))
+add-trusts : {t : Tables} {b : Book} → Trusts t b → (x : Trace) → T (isTrace sampleLimit (b .measures .n) x)
+    → length (b .traces) < b .measures .capacity
+    → TrustsTree (addedTo t x) (book (b .measures) (b .traces ++ (x ∷ []))) (insertion (b .measures) (b .traces) (treeIn t) x)
 unfolding every
 add-trusts {t} {b} k x is-trace less =
     let n-same : b .measures .n ≡ measuresOf t .n = ap (λ (m : Measures). m .n) (sym (k .measures-are)) in
@@ -75,7 +87,7 @@ add-trusts {t} {b} k x is-trace less =
     let passes-it = subst (λ (n : ℕ). T (abstract.wellFormedTree sampleLimit (measuresOf t) n (treeIn t))) (sym (traces-size t))
     (tree-passes t (k .formed)) in
     let a = meaning t x (k .formed) (long-in k) size room in
-    record {
+    let grows : Trusts (addedTo t x) (book (b .measures) (b .traces ++ (x ∷ []))) = record {
       library = library-grows (b .measures) (b .traces) (x ∷ []) (k .library)
           (passes (isTrace sampleLimit (b .measures .n) x) (true ∷ []) (is-trace, tt)) (omega (arith, less));
       room = rw (a .lengths-stay) (k .room);
@@ -84,33 +96,54 @@ add-trusts {t} {b} k x is-trace less =
       traces-are = a .traces ∙ ap (λ (l : List Trace). l ++ (x ∷ [])) (k .traces-are);
       exact = rw (a .traces, a .tree) (adding-accepted sampleLimit (measuresOf t) (tracesIn t) (treeIn t) x passes-it all is
           (omega (arith, room, traces-size t)) (k .exact));
+    } in
+    record {
+      trusts = grows;
+      tree-is = a .tree ∙ (ap (λ (m : Measures). insertion m (tracesIn t) (treeIn t) x) (k .measures-are)
+          ∙ ap (λ (l : List Trace). insertion (b .measures) l (treeIn t) x) (k .traces-are));
     }
 
 -- any number of them
-pub all-trust : (more : List Trace) {t : Tables} {b : Book} → Trusts t b → T (every (isTrace sampleLimit (b .measures .n)) more)
-    → length (b .traces) + length more ≤ b .measures .capacity → Trusts (foldl addedTo t more) (book (b .measures) (b .traces ++ more))
-all-trust [] {t} {b} k each room = subst (λ (l : List Trace). Trusts t (book (b .measures) l)) (sym (append-nil (b .traces))) k
+all-trust : (more : List Trace) {t : Tables} {b : Book} → Trusts t b → T (every (isTrace sampleLimit (b .measures .n)) more)
+    → length (b .traces) + length more ≤ b .measures .capacity
+    → TrustsTree (foldl addedTo t more) (book (b .measures) (b .traces ++ more)) (grown (b .measures) (b .traces) (treeIn t) more)
+unfolding grown
+all-trust [] {t} {b} k each room = record {
+  trusts = subst (λ (l : List Trace). Trusts t (book (b .measures) l)) (sym (append-nil (b .traces))) k;
+  tree-is = refl;
+}
 all-trust (x ∷ more) {t} {b} k each room =
     let is = isTrace sampleLimit (b .measures .n) in
     let next = add-trusts k x (from-every is (x ∷ more) each first) (omega (arith, room)) in
-    subst (λ (l : List Trace). Trusts (foldl addedTo (addedTo t x) more) (book (b .measures) l)) (append-assoc (b .traces) (x ∷ []) more)
-    (all-trust more next (every-of is more (λ y i. from-every is (x ∷ more) each (later i)))
-    (omega (arith, room, length-append (b .traces) (x ∷ []))))
+    let others = all-trust more (next .trusts) (every-of is more (λ y i. from-every is (x ∷ more) each (later i)))
+    (omega (arith, room, length-append (b .traces) (x ∷ []))) in
+    record {
+      trusts = subst (λ (l : List Trace). Trusts (foldl addedTo (addedTo t x) more) (book (b .measures) l))
+          (append-assoc (b .traces) (x ∷ []) more) (others .trusts);
+      tree-is = others .tree-is ∙ ap (λ (tree : Tree). grown (b .measures) (b .traces ++ (x ∷ [])) tree more) (next .tree-is);
+    }
 
 -- ---- one call
 
--- what an effect leaves of a memory that the check would accept, beside what the book puts
-record Leads (memory : Tables) (b : Book) (e : Effect) (n : Entry) : Type 0 where
+-- what an effect leaves of a memory that the check would accept, beside what the book puts, and the tree that is put
+record Leads (memory : Tables) (b : Book) (e : Effect) (n : Entry) (put : Tree) : Type 0 where
   -- refused or not, the book has the same after it. (A short trail is judged by the leaves of the tables' own tree, and puts nothing)
   puts-same : putUnless (firstOf (n .conditions)) b n ≡ putUnless (firstOf (e .conditions)) b n
-  trusts : firstOf (e .conditions) ≡ none → Trusts (left (e .after) memory) (n .puts)
+  tree-same : treeUnless (firstOf (n .conditions)) (treeIn memory) put ≡ treeUnless (firstOf (e .conditions)) (treeIn memory) put
+  trusts : firstOf (e .conditions) ≡ none → TrustsTree (left (e .after) memory) (n .puts) put
   by-arguments : T (ifAny ofArguments (firstOf (e .conditions)))
 
 -- what agrees with a library that calls made: an opening, a reading
-of-agrees : {memory : Tables} {b : Book} {e : Effect} {n : Entry} → Agrees memory e n → T (every other (n .conditions)) → Leads memory b e n
-of-agrees {b = b} {n = n} a all = record {
+of-agrees : {memory : Tables} {b : Book} {e : Effect} {n : Entry} → Agrees memory e n → T (every other (n .conditions))
+    → Leads memory b e n (bookTree (n .puts))
+of-agrees {memory} {b} {n = n} a all = record {
   puts-same = ap (λ (o : Option Refusal). putUnless o b n) (sym (a .judged));
-  trusts = λ f. kept-trusts (a .puts (sym (a .judged) ∙ f));
+  tree-same = ap (λ (o : Option Refusal). treeUnless o (treeIn memory) (bookTree (n .puts))) (sym (a .judged));
+  trusts = λ f. let k = a .puts (sym (a .judged) ∙ f) in
+      record {
+        trusts = kept-trusts k;
+        tree-is = holds-whole (k .needed-places) (library-holds (n .puts .measures) (n .puts .traces) (k .library)) .tree-is;
+      };
   by-arguments = subst (λ (o : Option Refusal). T (ifAny ofArguments o)) (sym (a .judged)) (first-other (n .conditions) all);
 }
 
@@ -120,6 +153,11 @@ unfolding putUnless
 put-stays (some why) b n e = refl
 put-stays none b n e = e
 
+tree-stays : (o : Option Refusal) (tree : Tree) → treeUnless o tree tree ≡ tree
+unfolding treeUnless
+tree-stays (some why) tree = refl
+tree-stays none tree = refl
+
 module _ (memory part : Tables) (begins : Begins part memory) (b : Book) (k : Trusts memory b) where
   -- a call on tables that it is lent is refused by its own conditions and by lengths
   by-own : (rest : List Condition) → T (every other (shortConditions layout (lentOf part) (b .measures) ++ rest))
@@ -128,50 +166,64 @@ module _ (memory part : Tables) (begins : Begins part memory) (b : Book) (k : Tr
       (first-other (shortConditions layout (lentOf part) (b .measures) ++ rest) all)
 
   -- where it is not refused, its tables are accepted
-  lent-trusts : (rest : List Condition) → firstOf (madeConditions part ++ rest) ≡ none → Trusts part b
-  lent-trusts rest f = part-trusts k begins (fine-room k begins (none-both (madeConditions part) rest f .0))
+  lent-trusts : (rest : List Condition) → firstOf (madeConditions part ++ rest) ≡ none → TrustsTree part b (treeIn memory)
+  lent-trusts rest f =
+      let room = fine-room k begins (none-both (madeConditions part) rest f .0) in
+      record { trusts = part-trusts k begins room; tree-is = part-tree k begins room }
 
-  left-trusts : {after : Tables} {b′ : Book} → Trusts after b′ → Trusts (left after memory) b′
-  left-trusts {after} t = whole-trusts (left-begins after memory) t
+  left-trusts : {after : Tables} {b′ : Book} {tree : Tree} → TrustsTree after b′ tree → TrustsTree (left after memory) b′ tree
+  left-trusts {after} t =
+      let on = left-begins after memory in
+      record { trusts = whole-trusts on (t .trusts); tree-is = whole-tree after (left after memory) on (t .trusts) ∙ t .tree-is }
 
   -- a search leaves search work zero, and all else
-  cleared-trusts : Trusts part b → Trusts (cleared part) b
+  cleared-trusts : {tree : Tree} → TrustsTree part b tree → TrustsTree (cleared part) b tree
   unfolding wellFormed kindsNamed treeIn tracesIn
-  cleared-trusts t =
+  cleared-trusts {tree} r =
+      let t : Trusts part b = r .trusts in
       let w : ℕ = workNeeded (measuresOf part) in
       let room : workNeeded (measuresOf part) ≤ length (part .work) = rw (t .measures-are) (t .room .work-room) in
       record {
-        library = t .library;
-        room = rw (fill-length {A = ℕ} w 0 (part .work) room) (t .room);
-        formed = t .formed;
-        measures-are = t .measures-are;
-        traces-are = t .traces-are;
-        exact = t .exact;
+        trusts = record {
+          library = t .library;
+          room = rw (fill-length {A = ℕ} w 0 (part .work) room) (t .room);
+          formed = t .formed;
+          measures-are = t .measures-are;
+          traces-are = t .traces-are;
+          exact = t .exact;
+        };
+        tree-is = r .tree-is;
       }
 
   -- an effect whose own conditions are `rest`
   search-leads : (rest : List Condition) (e : Effect) (n : Entry) → e .conditions ≡ madeConditions part ++ rest → n .puts ≡ b
-      → e .after ≡ cleared part → T (every other (shortConditions layout (lentOf part) (b .measures) ++ rest)) → Leads memory b e n
+      → e .after ≡ cleared part → T (every other (shortConditions layout (lentOf part) (b .measures) ++ rest))
+      → Leads memory b e n (treeIn memory)
   search-leads rest e n c p l all = record {
     puts-same = put-stays _ b n p ∙ sym (put-stays _ b n p);
+    tree-same = tree-stays _ (treeIn memory) ∙ sym (tree-stays _ (treeIn memory));
     trusts = λ f. rw (l, p) (left-trusts (cleared-trusts (lent-trusts rest (ap firstOf (sym c) ∙ f))));
     by-arguments = rw c (by-own rest all);
   }
 
-  staying : (e : Effect) (n : Entry) → n .puts ≡ b → e .after ≡ part → T (ifAny ofArguments (firstOf (e .conditions))) → Leads memory b e n
+  staying : (e : Effect) (n : Entry) → n .puts ≡ b → e .after ≡ part → T (ifAny ofArguments (firstOf (e .conditions)))
+      → Leads memory b e n (treeIn memory)
   staying e n p l args = record {
     puts-same = put-stays _ b n p ∙ sym (put-stays _ b n p);
-    trusts = λ f. rw (l, p, left-same part memory begins) k;
+    tree-same = tree-stays _ (treeIn memory) ∙ sym (tree-stays _ (treeIn memory));
+    trusts = λ f. rw (l, p, left-same part memory begins) (record { trusts = k; tree-is = refl });
     by-arguments = args;
   }
 
   abbrev m : Measures
   m = b .measures
 
-  adding-leads : (x : Trace) → T (areSamples x) → Leads memory b (adds part x) (addingEntry layout (lentOf part) b x)
+  adding-leads : (x : Trace) → T (areSamples x)
+      → Leads memory b (adds part x) (addingEntry layout (lentOf part) b x) (insertion m (b .traces) (treeIn memory) x)
   unfolding adds addingEntry isLibrary isTrace every ofArguments numberOf
   adding-leads x samples = record {
     puts-same = ap (λ (o : Option Refusal). putUnless o b (addingEntry layout (lentOf part) b x)) (sym judged);
+    tree-same = ap (λ (o : Option Refusal). treeUnless o (treeIn memory) (insertion m (b .traces) (treeIn memory) x)) (sym judged);
     trusts = λ f. left-trusts (added f);
     by-arguments = by-own _ tt;
   }
@@ -186,25 +238,35 @@ module _ (memory part : Tables) (begins : Begins part memory) (b : Book) (k : Tr
         count-in t,
       ))
 
-      added : firstOf (adds part x .conditions) ≡ none → Trusts (addedTo part x) (book m (b .traces ++ (x ∷ [])))
+      added : firstOf (adds part x .conditions) ≡ none
+          → TrustsTree (addedTo part x) (book m (b .traces ++ (x ∷ []))) (insertion m (b .traces) (treeIn memory) x)
       added f =
+          let t = lent-trusts _ f in
           let own = none-both (shortConditions layout (lentOf part) m) rest (sym judged ∙ f) .1 in
           let one = none-first (not (eqb (length x) (m .n))) wrongTrace _ own in
           let two = none-first (eqb (length (b .traces)) (m .capacity)) full _ (one .1) in
           let most = library-of sampleLimit m (b .traces) (k .library) .room in
-          add-trusts (lent-trusts _ f) x (passes (eqb (length x) (m .n)) (areSamples x ∷ []) (is-true {b = eqb (length x) (m .n)} (not-false _ (one .0)), samples))
-          (strict most (λ q. eqb-false (length (b .traces)) (m .capacity) (two .0) q))
+          subst (λ (tree : Tree). TrustsTree (addedTo part x) (book m (b .traces ++ (x ∷ []))) (insertion m (b .traces) tree x)) (t .tree-is)
+          (add-trusts (t .trusts) x (passes (eqb (length x) (m .n)) (areSamples x ∷ []) (is-true {b = eqb (length x) (m .n)} (not-false _ (one .0)), samples))
+          (strict most (λ q. eqb-false (length (b .traces)) (m .capacity) (two .0) q)))
 
-  importing-leads : (bytes : List ℕ) → T (areBytes bytes) → Leads memory b (imports part bytes) (importingEntry layout (lentOf part) b bytes)
+  importing-leads : (bytes : List ℕ) → T (areBytes bytes)
+      → Leads memory b (imports part bytes) (importingEntry layout (lentOf part) b bytes)
+      (grown m (b .traces) (treeIn memory) (fileTraces (judgeRecording (m .n) bytes)))
   unfolding imports importingEntry every ofArguments numberOf
   importing-leads bytes typed = record {
     puts-same = ap (λ (o : Option Refusal). putUnless o b (importingEntry layout (lentOf part) b bytes)) (sym judged);
+    tree-same = ap (λ (o : Option Refusal). treeUnless o (treeIn memory) (grown m (b .traces) (treeIn memory) (fileTraces file))) (sym judged);
     trusts = λ f. left-trusts (added f);
     by-arguments = by-own _ tt;
   }
     where
       file : Option Recording
       file = judgeRecording (m .n) bytes
+
+      Grows : Option Recording → Tree → Type 0
+      Grows o tree =
+          TrustsTree (foldl addedTo part (fileTraces o)) (book m (b .traces ++ fileTraces file)) (grown m (b .traces) tree (fileTraces file))
 
       same-file : Trusts part b → judgeRecording (measuresOf part .n) bytes ≡ file
       same-file t = ap (λ (k : Measures). judgeRecording (k .n) bytes) (t .measures-are)
@@ -214,19 +276,21 @@ module _ (memory part : Tables) (begins : Begins part memory) (b : Book) (k : Tr
       judged = trusted-same k begins _ (importConditions m (length (b .traces)) file)
           (λ t. rw (same-file t, ap (λ (k : Measures). k .capacity) (t .measures-are), count-in t))
 
-      added : firstOf (imports part bytes .conditions) ≡ none
-          → Trusts (foldl addedTo part (fileTraces (judgeRecording (measuresOf part .n) bytes))) (book m (b .traces ++ fileTraces file))
+      added : firstOf (imports part bytes .conditions) ≡ none → Grows (judgeRecording (measuresOf part .n) bytes) (treeIn memory)
       added f =
           let own = none-both (shortConditions layout (lentOf part) m) (importConditions m (length (b .traces)) file) (sym judged ∙ f) .1 in
           let two = none-first (ltb (m .capacity) (length (b .traces) + length (fileTraces file))) full _
           (none-first (isBadFile file) badRecording _ own .1) in
           let t = lent-trusts _ f in
-          subst (λ (o : Option Recording). Trusts (foldl addedTo part (fileTraces o)) (book m (b .traces ++ fileTraces file))) (sym (same-file t))
-          (all-trust (fileTraces file) t (file-traces (m .n) bytes typed)
-          (ltb-false (m .capacity) (length (b .traces) + length (fileTraces file)) (two .0)))
+          subst (λ (o : Option Recording). Grows o (treeIn memory)) (sym (same-file (t .trusts)))
+          (subst (Grows file) (t .tree-is)
+          (all-trust (fileTraces file) (t .trusts) (file-traces (m .n) bytes typed)
+          (ltb-false (m .capacity) (length (b .traces) + length (fileTraces file)) (two .0))))
 
-  leads : (ask : Ask) → Typed ask part → Leads memory b (effectOf ask part) (entryOf layout (lentOf part) b ask)
-  unfolding effectOf entryOf Typed writes exports checks writingEntry exportingEntry checkingEntry every ofArguments numberOf
+  leads : (ask : Ask) → Typed ask part
+      → Leads memory b (effectOf ask part) (entryOf layout (lentOf part) b ask) (treePut b (treeIn memory) ask)
+  unfolding effectOf entryOf Typed writes exports checks openingEntry readingEntry writingEntry exportingEntry checkingEntry every ofArguments
+      numberOf treePut grown
   leads (opening x) typed = of-agrees (opening-agrees memory part b x) (entry-other layout (lentOf part) b (opening x))
   leads (adding x) typed = adding-leads x typed
   leads (searching q) typed = search-leads _ _ _ refl refl refl (laws q .by-arguments (measuresOf part) (traceCount part) (treeIn part))
@@ -244,12 +308,12 @@ module _ (memory part : Tables) (begins : Begins part memory) (b : Book) (k : Tr
 abbrev pub NotOfTables : Reply → Type 0
 NotOfTables said = (w : Refusal) → (T (ofArguments w) → ⊥) → said .answer ≡ refusing w → ⊥
 
-module _ {memory : Tables} {b : Book} {e : Effect} {n : Entry} (l : Leads memory b e n) (part : Tables) (begins : Begins part memory)
-    (beside : List (List ℕ)) where
+module _ {memory : Tables} {b : Book} {e : Effect} {n : Entry} {put : Tree} (l : Leads memory b e n put) (part : Tables)
+    (begins : Begins part memory) (beside : List (List ℕ)) where
   leads-by : Trusts memory b → (o : Option Refusal) → firstOf (e .conditions) ≡ o
-      → Trusts (left (unlessRefused o part beside e .after) memory) (putUnless o b n)
-  unfolding unlessRefused putUnless
-  leads-by k (some why) q = rw (left-same part memory begins) k
+      → TrustsTree (left (unlessRefused o part beside e .after) memory) (putUnless o b n) (treeUnless o (treeIn memory) put)
+  unfolding unlessRefused putUnless treeUnless
+  leads-by k (some why) q = rw (left-same part memory begins) (record { trusts = k; tree-is = refl })
   leads-by k none q = l .trusts q
 
   says-by : (o : Option Refusal) → T (ifAny ofArguments o) → (w : Refusal) → (T (ofArguments w) → ⊥)
@@ -259,15 +323,17 @@ module _ {memory : Tables} {b : Book} {e : Effect} {n : Entry} (l : Leads memory
   says-by none t w never q = let z : _≡_ {A = ℕ} 0 1 = cc in absurd (omega arith)
 
 pub trusting : {c : Call} {memory memory′ : Tables} {said : Reply} {b : Book} → Follows c memory said memory′ → Trusts memory b
-    → Trusts memory′ (turn layout b c) × NotOfTables said
+    → TrustsTree memory′ (turn layout b c) (treeUnless (judge layout b c) (treeIn memory) (treePut b (treeIn memory) (c .ask)))
+    × NotOfTables said
 unfolding turn judge
 trusting {c} {memory} {memory′} {said} {b} f k =
     let part = firstPlaces (c .lent) memory in
     let begins = first-begins (c .lent) memory in
-    let l : Leads memory b (effectOf (c .ask) part) (entryOf layout (c .lent) b (c .ask)) =
-    subst (λ (l : Lent). Leads memory b (effectOf (c .ask) part) (entryOf layout l b (c .ask))) (f .has-places)
+    let put : Tree = treePut b (treeIn memory) (c .ask) in
+    let l : Leads memory b (effectOf (c .ask) part) (entryOf layout (c .lent) b (c .ask)) put =
+    subst (λ (l : Lent). Leads memory b (effectOf (c .ask) part) (entryOf layout l b (c .ask)) put) (f .has-places)
     (leads memory part begins b k (c .ask) (f .typed)) in (
-      rw (memory-is f, l .puts-same) (leads-by l part begins (besideOf (c .ask)) k (firstOf (effectOf (c .ask) part .conditions)) refl),
+      rw (memory-is f, l .puts-same, l .tree-same) (leads-by l part begins (besideOf (c .ask)) k (firstOf (effectOf (c .ask) part .conditions)) refl),
       λ w never q. says-by l part begins (besideOf (c .ask)) (firstOf (effectOf (c .ask) part .conditions)) (l .by-arguments) w never
           (sym (ap (λ (r : Reply). r .answer) (reply-is f)) ∙ q),
     )
@@ -275,13 +341,15 @@ trusting {c} {memory} {memory′} {said} {b} f k =
 -- ---- a list of calls
 
 pub all-trusting : {b : Book} {memory memory′ : Tables} {calls : List Call} {said : List Reply} → Trusts memory b
-    → Ran memory calls said memory′ → Trusts memory′ (after layout b calls) × ((r : Reply) → In r said → NotOfTables r)
-unfolding after
-all-trusting k no-call = (k, λ r i. absurd (in-nil i))
-all-trusting k (a-call {said = said} {others = others} f rest) =
+    → Ran memory calls said memory′
+    → TrustsTree memory′ (after layout b calls) (treeAfter layout b (treeIn memory) calls) × ((r : Reply) → In r said → NotOfTables r)
+unfolding after treeAfter
+all-trusting k no-call = (record { trusts = k; tree-is = refl }, λ r i. absurd (in-nil i))
+all-trusting {b} {memory} {memory′} k (a-call {c = c} {said = said} {rest = calls} {others = others} f rest) =
     let s = trusting f k in
-    let t = all-trusting (s .0) rest in
-    (t .0, λ r i. by r (in-cons i) (s .1) (t .1 r))
+    let t = all-trusting (s .0 .trusts) rest in
+    let b₁ : Book = turn layout b c in
+    (subst (λ (tree : Tree). TrustsTree memory′ (after layout b₁ calls) (treeAfter layout b₁ tree calls)) (s .0 .tree-is) (t .0), λ r i. by r (in-cons i) (s .1) (t .1 r))
   where
     by : (r : Reply) → (r ≡ said) ⊎ In r others → NotOfTables said → (In r others → NotOfTables r) → NotOfTables r
     by r (inl e) one rest = rw e one
@@ -400,11 +468,11 @@ module _ {lent : Lent} {memory memory′ : Tables} {said : Reply} (f : Follows (
 
 -- a memory on which a call has just answered so
 pub trusted : {c : Call} {memory memory′ : Tables} {said : Reply} → Follows c memory said memory′ → said .answer ≡ answering accepted
-    → Trusts memory′ (bookIn memory)
+    → TrustsTree memory′ (bookIn memory) (treeIn memory)
 trusted {c} {memory} {memory′} {said} f a =
     let part = firstPlaces (c .lent) memory in
     let e = effectOf (c .ask) part in
     let is = answered (firstOf (e .conditions)) part (besideOf (c .ask)) e accepted (sym (ap (λ (r : Reply). r .answer) (reply-is f)) ∙ a) .1 in
     let g : Follows (call (c .lent) checking) memory said memory′ =
     subst (λ (d : Call). Follows d memory said memory′) (ap (call (c .lent)) (only-check (c .ask) part is)) f in
-    rw (check-stays g) (whole-checked g a)
+    rw (check-stays g) (record { trusts = whole-checked g a; tree-is = refl })

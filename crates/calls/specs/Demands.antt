@@ -36,7 +36,7 @@ use Rattle.tables.specs.Answers.{madeConditions}
 use Rattle.tables.specs.Holds.{Holds}
 use Rattle.calls.specs.Outcome.{Effect}
 use Rattle.calls.specs.Library.{Keeps, beyond}
-use Rattle.calls.specs.Trusted.{bookIn, Trusts}
+use Rattle.calls.specs.Trusted.{bookIn, Trusts, treeAfter}
 use Rattle.calls.specs.Effects.{cleared, effectOf}
 use Rattle.calls.specs.Follows.{Follows, Ran}
 
@@ -422,11 +422,13 @@ IsWritten lent memory = (sheet : List ℕ) (said : Reply) (memory′ : Tables) �
 -- ---- document 02, §6
 
 -- document 02, §6: what holds after a list of calls that a check started which has just accepted, "whatever made the tables". The book
--- starts with what these hold
-pub record AfterCheck (b : Book) (calls : List Call) (said : List Reply) (memory : Tables) : Type 0 where
-  -- "What is stored, a book says", refused calls included: the tables have its measures and its traces, and every recorded figure is exact.
-  -- The tree is their own
+-- and the tree start with what these hold
+pub record AfterCheck (b : Book) (tree : Tree) (calls : List Call) (said : List Reply) (memory : Tables) : Type 0 where
+  -- "What is stored, a book says", refused calls included: the tables have its measures and its traces, and every recorded figure is exact
   pub trusts : Trusts memory (after layout b calls)
+  -- the tree is what document 01's insertion makes of the accepted one by the traces added since, in order; after an opening or a reading
+  -- it is that of the library put there
+  pub tree-is : treeIn memory ≡ treeAfter layout b tree calls
   -- so that it goes on accepting: each of these calls leaves "libraries it would accept"
   pub is-accepted : IsAccepted (after layout b calls .measures) memory
   -- 3 and 13 never arise from these tables
@@ -487,7 +489,9 @@ pub record Demands : Type 0 where
   -- document 02, §6: a check has just accepted when it starts: the first call is one that answers `accepted`
   pub after-check : (first : Call) (calls : List Call) (memory₀ memory : Tables) (said₀ : Reply) (said : List Reply)
       → Ran memory₀ (first ∷ calls) (said₀ ∷ said) memory → said₀ .answer ≡ answering accepted
-      → AfterCheck (bookIn memory₀) calls said memory
+      → AfterCheck (bookIn memory₀) (treeIn memory₀) calls said memory
+  -- the tree that goes along there is the book's own, where it was at the start: of a library made by calls
+  pub tree-of-book : (b : Book) (calls : List Call) → treeAfter layout b (bookTree b) calls ≡ bookTree (after layout b calls)
   -- demand 2: "an accepted sheet is written again byte for byte"
   pub read-and-written : (lent : Lent) (bytes : List ℕ) (memory₀ memory₁ : Tables) (said₁ : Reply)
       → Follows (call lent (reading bytes)) memory₀ said₁ memory₁ → said₁ .answer ≡ answering done

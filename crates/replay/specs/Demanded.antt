@@ -4,6 +4,7 @@ use mathlib.Core.List.{List, [], _∷_}
 use Rattle.dstree.specs.Book.{Call, Reply, answering, done, accepted, start}
 use Rattle.tables.specs.Layout.{layout}
 use Rattle.tables.specs.Tables.{Tables}
+use Rattle.tables.specs.View.{treeIn}
 use Rattle.calls.specs.Trusted.{bookIn}
 use Rattle.calls.specs.Demands.{AfterList, AfterCheck}
 
@@ -15,4 +16,4 @@ Demanded memory₀ [] said memory = Unit
 Demanded memory₀ (first ∷ calls) [] memory = ⊥
 Demanded memory₀ (first ∷ calls) (said₀ ∷ said) memory =
     (said₀ .answer ≡ answering done → AfterList (start layout first) calls said memory)
-    × (said₀ .answer ≡ answering accepted → AfterCheck (bookIn memory₀) calls said memory)
+    × (said₀ .answer ≡ answering accepted → AfterCheck (bookIn memory₀) (treeIn memory₀) calls said memory)

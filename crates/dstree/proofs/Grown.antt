@@ -185,7 +185,7 @@ insertion-inner m stored (root ∷ rest) x k test l r e =
     let met : List ℕ = way tree x in
     let all : List Trace = stored ++ (x ∷ []) in
     let joined : Tree = join (length stored) (lastOf met) (widenAll x met tree) in
-    new-inner (2 * length all) (m .leafSize) all (split (m .leafSize) all joined (lastOf met)) (length joined) k test l r
+    new-inner (2 * length all) (m .leafSize) all (split (m .leafSize) all joined (lastOf met)) _ k test l r
     (split-inner (m .leafSize) all joined (lastOf met) k test l r (join-inner (length stored) (lastOf met) (widenAll x met tree) k test l r (widen-kind x met tree k ∙ e)))
 
 module _ (m : Measures) (stored : List Trace) (root : Node) (rest : Tree) (x : Trace) (s : Shape (m .n) (length stored) (root ∷ rest)) where
@@ -223,7 +223,7 @@ module _ (m : Measures) (stored : List Trace) (root : Node) (rest : Tree) (x : T
   added-whole : ((k : ℕ) → LeafWhole (m .leafSize) stored (root ∷ rest) k) → (k : ℕ) → LeafWhole (m .leafSize) all (insertion m stored (root ∷ rest) x) k
   unfolding insertion
   added-whole whole =
-      new-whole (m .n) (2 * length all) (m .leafSize) all (split (m .leafSize) all with-x at) (length with-x) after-split (omega arith) (λ k h. by k h (same-or-not k at))
+      new-whole (m .n) (2 * length all) (m .leafSize) all (split (m .leafSize) all with-x at) _ after-split (omega arith) (λ k h. by k (omega (arith, h)) (same-or-not k at))
     where
       by : (k : ℕ) → k < length with-x → Dec (k ≡ at) → LeafWhole (m .leafSize) all (split (m .leafSize) all with-x at) k
       by k h (yes e) = rw e (split-whole (m .leafSize) all with-x at (omega arith))

@@ -255,8 +255,7 @@ module _ (limit : ℕ) (m : Measures) where
   added P stored root rest x fits keeps p =
       let all : List Trace = stored ++ (x ∷ []) in
       let joined : Tree = join (length stored) (lastOf (way (root ∷ rest) x)) (widenAll x (way (root ∷ rest) x) (root ∷ rest)) in
-      pass-keeps (m .n) (m .leafSize) all P fits keeps (2 * length all) (split (m .leafSize) all joined (lastOf (way (root ∷ rest) x)))
-      (length joined)
+      pass-keeps (m .n) (m .leafSize) all P fits keeps (2 * length all) (split (m .leafSize) all joined (lastOf (way (root ∷ rest) x))) _
       (split-keeps (m .n) (m .leafSize) all P fits keeps joined (lastOf (way (root ∷ rest) x)) p)
 
   more-traces : (stored : List Trace) (x : Trace) → T (every (isTrace limit (m .n)) stored) → T (isTrace limit (m .n) x)

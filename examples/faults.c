@@ -15,27 +15,14 @@
 /* Traces of 8 samples, room for 16, leaves of up to 4. */
 enum { N = 8, CAPACITY = 16, LEAF_SIZE = 4 };
 
-/* The library's five tables. Nothing is allocated: they may lie wherever the linker puts them. */
-static uint16_t control[SILKENDOZ_CONTROL];
-static int16_t samples[SILKENDOZ_SAMPLES(N, CAPACITY)];
-static int64_t nodes[SILKENDOZ_NODES(CAPACITY)];
-static uint16_t links[SILKENDOZ_LINKS(CAPACITY)];
-static uint64_t work[SILKENDOZ_WORK(CAPACITY)];
-
-/* Every call is lent them all, each with its length in elements. */
-static const struct silkendoz_tables tables = {
-    .control = control, .control_len = SILKENDOZ_CONTROL,
-    .samples = samples, .samples_len = SILKENDOZ_SAMPLES(N, CAPACITY),
-    .nodes = nodes, .nodes_len = SILKENDOZ_NODES(CAPACITY),
-    .links = links, .links_len = SILKENDOZ_LINKS(CAPACITY),
-    .work = work, .work_len = SILKENDOZ_WORK(CAPACITY),
-};
+/* The library's tables, and `tables`, the struct over them that every call is lent. Nothing is allocated. */
+SILKENDOZ_LIBRARY(tables, N, CAPACITY);
 
 static uint16_t trail[SILKENDOZ_TRAIL(CAPACITY)];
 static uint64_t out[SILKENDOZ_OUT];
 
 /* One byte more than the largest sheet of this library: a longer file is then refused by its length. */
-static uint8_t sheet[SILKENDOZ_SHEET(CAPACITY, N) + 1];
+static uint8_t sheet[SILKENDOZ_SHEET(N, CAPACITY) + 1];
 
 /* A recording of one trace, as a WAV file has it. */
 static uint8_t recording[SILKENDOZ_RECORDING_BYTES(N)];

@@ -178,7 +178,7 @@ static void answers(const struct silkendoz_tables *t, const int16_t *trace, uint
 static void lengths(void)
 {
     static struct tables t;
-    static uint8_t sheet[SILKENDOZ_SHEET(1, N)];
+    static uint8_t sheet[SILKENDOZ_SHEET(N, 1)];
     const int16_t trace[N] = {1, -2, 3, -4};
     struct silkendoz_tables just = lent(&t), less;
     uint64_t numbers[CALLS];
@@ -233,7 +233,7 @@ static void measures_of_sheets(void)
 {
     static struct tables t;
     const int16_t trace[N] = {1, -2, 3, -4};
-    uint8_t sheet[SILKENDOZ_SHEET(1, N)];
+    uint8_t sheet[SILKENDOZ_SHEET(N, 1)];
     uint64_t out[SILKENDOZ_OUT];
     size_t n = 77, c = 78, at;
 
@@ -566,7 +566,7 @@ static void checks(void)
     const int16_t traces[3][N] = {{0, 0, 0, 0}, {4, 4, 4, 4}, {0, 8, 0, 8}};
     const int16_t query[N] = {1, 1, 1, 1};
     uint16_t trail[TRAIL];
-    uint8_t sheet[SILKENDOZ_SHEET(3, N)];
+    uint8_t sheet[SILKENDOZ_SHEET(N, 3)];
     uint64_t out[SILKENDOZ_OUT] = {9, 9, 9, 9};
     int node, figure, i;
 

@@ -13,19 +13,13 @@
 
 enum { N = 256, C = 1024, K = SILKENDOZ_MAX_K, STACK = 1 << 20, PATTERN = 0xa5, TRACES = 1000 };
 
-static uint16_t control[SILKENDOZ_CONTROL];
-static int16_t samples[SILKENDOZ_SAMPLES(N, C)];
-static int64_t nodes[SILKENDOZ_NODES(C)];
-static uint16_t links[SILKENDOZ_LINKS(C)];
-static uint64_t work[SILKENDOZ_WORK(C)];
-static const struct silkendoz_tables tables = {control, SILKENDOZ_CONTROL, samples, SILKENDOZ_SAMPLES(N, C), nodes, SILKENDOZ_NODES(C),
-    links, SILKENDOZ_LINKS(C), work, SILKENDOZ_WORK(C)};
+SILKENDOZ_LIBRARY(tables, N, C);
 
 static uint16_t trail[SILKENDOZ_TRAIL(C)];
 static struct silkendoz_neighbour list[K];
 static int16_t queries[SILKENDOZ_MAX_BATCH * N];
 static struct silkendoz_answer answers[SILKENDOZ_MAX_BATCH];
-static uint8_t sheet[SILKENDOZ_SHEET(C, N)];
+static uint8_t sheet[SILKENDOZ_SHEET(N, C)];
 static uint8_t recording[SILKENDOZ_RECORDING_BYTES(N)];
 static uint64_t out[SILKENDOZ_OUT];
 static int16_t trace[N];
@@ -155,7 +149,7 @@ int main(void)
         measure(&calls[7], stack, before);
         measure(&calls[8], stack, before);
         for (at = 0; at < SILKENDOZ_MAX_BATCH; at++)
-            memcpy(queries + N * at, samples + N * at, N * sizeof *queries);
+            memcpy(queries + N * at, tables.samples + N * at, N * sizeof *queries);
         measure(&calls[9], stack, before);
     }
     free(stack);

@@ -11,10 +11,7 @@
 
 enum { N = 32, C = 400, LEAF_SIZE = 4, THREADS = 8, QUERIES = 300, K = 5, MANY = 2 };
 
-static uint16_t control[SILKENDOZ_CONTROL];
-static int16_t samples[SILKENDOZ_SAMPLES(N, C)];
-static int64_t nodes[SILKENDOZ_NODES(C)];
-static uint16_t links[SILKENDOZ_LINKS(C)];
+SILKENDOZ_LIBRARY(library, N, C);
 
 /* What a search is lent that nobody else may touch, and what it left there. */
 struct own {
@@ -37,8 +34,8 @@ static void stop(const char *what)
 
 static struct silkendoz_tables with(uint64_t *work)
 {
-    struct silkendoz_tables t = {control, SILKENDOZ_CONTROL, samples, SILKENDOZ_SAMPLES(N, C), nodes, SILKENDOZ_NODES(C),
-        links, SILKENDOZ_LINKS(C), work, SILKENDOZ_WORK(C)};
+    struct silkendoz_tables t = library;
+    t.work = work;
     return t;
 }
 
@@ -84,9 +81,8 @@ static int16_t next(uint32_t *state)
 
 int main(void)
 {
-    static uint64_t work[SILKENDOZ_WORK(C)];
     static int16_t kept[SILKENDOZ_SAMPLES(N, C)];
-    struct silkendoz_tables t = with(work);
+    struct silkendoz_tables t = library;
     pthread_t threads[THREADS];
     size_t numbers[THREADS], i, j;
     uint64_t out[SILKENDOZ_OUT];
@@ -101,10 +97,10 @@ int main(void)
         if (silkendoz_add_in(&t, trace, N, out, SILKENDOZ_OUT) != SILKENDOZ_DONE)
             stop("not added");
     }
-    memcpy(kept, samples, sizeof samples);
+    memcpy(kept, t.samples, sizeof kept);
     for (i = 0; i < QUERIES; i++) {
         for (j = 0; j < N; j++)
-            queries[i][j] = (int16_t)(samples[i * N + j] + next(&state) / 64);
+            queries[i][j] = (int16_t)(t.samples[i * N + j] + next(&state) / 64);
         if (!search(&alone[i], queries[i]))
             stop("not found alone");
     }
@@ -118,7 +114,7 @@ int main(void)
     for (i = 0; i < THREADS; i++)
         if (failed[i])
             stop("another answer than alone");
-    if (memcmp(kept, samples, sizeof samples) != 0)
+    if (memcmp(kept, t.samples, sizeof kept) != 0)
         stop("the tables changed");
     printf("C: %d searches by each of %d threads at once, as alone\n", 3 * QUERIES, THREADS);
     return 0;

@@ -20,36 +20,21 @@
 //! # Ok::<(), silkendoz::Refusal>(())
 //! ```
 //!
-//! [`calls`] has the calls themselves, over slices that the caller lends.
+//! [`calls`] has the calls themselves, over slices that the caller lends; [`scan`] reads every trace, which is as good for few of them.
 
 #![deny(missing_docs)]
 
 pub mod calls;
 mod library;
 mod refusal;
-mod shape;
-
-// For the tests, the benchmark and the programs of this crate, and no part of what it promises: `model` is documents 01 and 02 in plain
-// Rust, which tests hold the calls to; `scan` reads every trace; `random` makes test data, `example` the sheet under `examples/`; `script`
-// plays scripts of calls, over `lending`; `program` runs the program that reads a sheet.
-#[doc(hidden)]
-pub mod example;
-#[doc(hidden)]
-pub mod lending;
-#[doc(hidden)]
-pub mod model;
-#[doc(hidden)]
-pub mod program;
-#[doc(hidden)]
-pub mod random;
-#[doc(hidden)]
 pub mod scan;
-#[doc(hidden)]
-pub mod script;
+mod shape;
+mod tables;
 
-pub use library::{Batch, KNearest, Nearest, Neighbour, Tables, TraceLibrary};
+pub use library::{Batch, KNearest, Nearest, Neighbour, TraceLibrary};
 pub use refusal::{Lengths, Refusal};
 pub use shape::Leaf;
+pub use tables::Tables;
 
 /// The Rust program of `docs/GUIDE.md`, as a test.
 #[cfg(doctest)]

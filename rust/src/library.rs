@@ -1,6 +1,6 @@
 //! A library that owns its tables.
 
-use crate::calls::{self, Lent};
+use crate::calls::{self, Lent, Tables};
 use crate::Refusal;
 use std::fmt;
 use std::slice::ChunksExact;
@@ -11,6 +11,9 @@ pub(crate) const RECORD_PLACES: usize = 87;
 
 /// As many traces as a search lists at most.
 const MOST_LISTED: usize = 16;
+
+/// As many queries as are matched together at most.
+const MOST_TOGETHER: usize = 16;
 
 /// Stored traces, and the tree by which the nearest is found.
 ///
@@ -118,19 +121,6 @@ pub struct Neighbour {
     pub distance: u64,
 }
 
-/// The tables of a library, as `docs/LAYOUT.md` has them, for memory that outlives the program. Search work is no part of them.
-#[derive(Clone, Copy, Debug, PartialEq, Eq)]
-pub struct Tables<'a> {
-    /// n, capacity, leaf size, how many traces and how many nodes there are.
-    pub control: &'a [u16],
-    /// The traces, one behind another.
-    pub samples: &'a [i16],
-    /// The tree's nodes, a record each.
-    pub nodes: &'a [i64],
-    /// For each trace the next one of its leaf.
-    pub links: &'a [u16],
-}
-
 impl TraceLibrary {
     /// Opens an empty library for up to `capacity` traces (1 to 4,096) of `n` samples (1 to 256), in leaves of up to `leaf_size` traces (1 to 64).
     ///
@@ -165,14 +155,13 @@ impl TraceLibrary {
     }
 
     fn lent(&mut self) -> Lent<'_> {
-        Lent { control: &mut self.control, samples: &mut self.samples, nodes: &mut self.nodes, links: &mut self.links, work: &mut self.work }
+        Lent::new(&mut self.control, &mut self.samples, &mut self.nodes, &mut self.links, &mut self.work)
     }
 
     /// Adds a trace of n samples. Its number is the answer.
     pub fn add(&mut self, trace: &[i16]) -> Result<usize, Refusal> {
         let n = self.n();
-        let added = calls::add(&mut self.control, &mut self.samples, &mut self.nodes, &mut self.links, &self.work, trace);
-        added.map(|number| number as usize).map_err(|why| why.with_lengths(trace.len(), n))
+        calls::add(self.lent(), trace).map(|number| number as usize).map_err(|why| why.with_lengths(trace.len(), n))
     }
 
     /// Search work and a trail, of a search's own.
@@ -183,8 +172,7 @@ impl TraceLibrary {
     /// Finds the stored trace that is nearest to a query of n samples: the lowest number among equals.
     pub fn nearest(&self, query: &[i16]) -> Result<Nearest, Refusal> {
         let (mut work, mut trail) = self.room();
-        let found = calls::nearest(&self.control, &self.samples, &self.nodes, &self.links, &mut work, &mut trail, query)
-            .map_err(|why| why.with_lengths(query.len(), self.n()))?;
+        let found = calls::nearest(self.tables(), &mut work, &mut trail, query).map_err(|why| why.with_lengths(query.len(), self.n()))?;
         trail.truncate(found.leaves as usize);
         Ok(Nearest { trace: found.trace as usize, distance: found.distance, leaves: found.leaves as usize, traces: found.traces as usize, trail })
     }
@@ -210,8 +198,7 @@ impl TraceLibrary {
         let (mut work, mut trail) = self.room();
         // a larger k is refused before the list is looked at
         let mut list = vec![0; 2 * k.min(MOST_LISTED)];
-        let (control, samples) = (&self.control, &self.samples);
-        let found = calls::k_nearest(control, samples, &self.nodes, &self.links, &mut work, &mut trail, &mut list, query, k as u64)
+        let found = calls::k_nearest(self.tables(), &mut work, &mut trail, &mut list, query, k as u64)
             .map_err(|why| why.with_lengths(query.len(), self.n()))?;
         trail.truncate(found.leaves as usize);
         let listed = list.chunks_exact(2).take(found.listed as usize);
@@ -242,10 +229,10 @@ impl TraceLibrary {
         let n = self.n();
         // the call sees one run: queries of other lengths might make one of the right length, and a run of no samples never is
         let unlike = queries.iter().find(|query| query.len() != n);
-        let run = if unlike.is_some() { Vec::new() } else { queries.concat() };
+        // too many are refused before their samples are looked at, so that these are not even put together
+        let run = if unlike.is_some() || queries.len() > MOST_TOGETHER { Vec::new() } else { queries.concat() };
         let mut answers = vec![calls::Answer::default(); queries.len()];
-        let (control, samples) = (&self.control, &self.samples);
-        let leaves = calls::match_batch(control, samples, &self.nodes, &self.links, &mut work, &mut trail, &run, queries.len(), &mut answers)
+        let leaves = calls::match_batch(self.tables(), &mut work, &mut trail, &run, queries.len(), &mut answers)
             .map_err(|why| why.with_lengths(unlike.map_or(n, |query| query.len()), n))?;
         trail.truncate(leaves as usize);
         let answers = answers.iter().map(|near| Neighbour { trace: near.trace as usize, distance: near.distance }).collect();
@@ -268,7 +255,7 @@ impl TraceLibrary {
     pub fn write_sheet(&self) -> Result<Vec<u8>, Refusal> {
         let blocks = 1 + (self.len() * self.n()).div_ceil(253);
         let mut sheet = vec![0; 512 * blocks];
-        calls::write_sheet(&self.control, &self.samples, &self.nodes, &self.links, &self.work, &mut sheet)?;
+        calls::write_sheet(self.tables(), &self.work, &mut sheet)?;
         Ok(sheet)
     }
 
@@ -316,7 +303,7 @@ impl TraceLibrary {
     /// # Ok::<(), Refusal>(())
     /// ```
     pub fn import_recording(&mut self, bytes: &[u8]) -> Result<usize, Refusal> {
-        calls::import_recording(&mut self.control, &mut self.samples, &mut self.nodes, &mut self.links, &self.work, bytes).map(|count| count as usize)
+        calls::import_recording(self.lent(), bytes).map(|count| count as usize)
     }
 
     /// A stored trace as a WAV recording, at a rate (0 to 2^31 − 1) that is written into its header and changes nothing else.
@@ -338,7 +325,7 @@ impl TraceLibrary {
     pub fn export_recording(&self, number: usize, rate: u32) -> Result<Vec<u8>, Refusal> {
         let mut file = vec![0; 44 + 2 * self.n()];
         let (number, rate) = (number as u64, rate.into());
-        calls::export_recording(&self.control, &self.samples, &self.nodes, &self.links, &self.work, &mut file, number, rate)?;
+        calls::export_recording(self.tables(), &self.work, &mut file, number, rate)?;
         Ok(file)
     }
 
@@ -356,13 +343,13 @@ impl TraceLibrary {
     /// # Ok::<(), silkendoz::Refusal>(())
     /// ```
     pub fn check(&self) -> Result<(), Refusal> {
-        calls::check_tables(&self.control, &self.samples, &self.nodes, &self.links, &self.work)
+        calls::check_tables(self.tables(), &self.work)
     }
 
     /// The tables, to be kept somewhere and taken back by [`TraceLibrary::from_tables`]. A sheet ([`TraceLibrary::write_sheet`]) is smaller and
     /// has check bytes; tables need no time to be read.
     pub fn tables(&self) -> Tables<'_> {
-        Tables { control: &self.control, samples: &self.samples, nodes: &self.nodes, links: &self.links }
+        Tables::new(&self.control, &self.samples, &self.nodes, &self.links)
     }
 
     /// A library from tables that nobody vouches for, such as those of a controller that was switched off: they are taken, as far as their
@@ -380,12 +367,12 @@ impl TraceLibrary {
     /// // a sample that changed
     /// let mut samples = kept.samples.to_vec();
     /// samples[2] = 3;
-    /// assert_eq!(TraceLibrary::from_tables(Tables { samples: &samples, ..kept }), Err(Refusal::LooseRecord));
+    /// assert_eq!(TraceLibrary::from_tables(Tables::new(kept.control, &samples, kept.nodes, kept.links)), Err(Refusal::LooseRecord));
     /// // a kind of node that there is not
     /// let mut nodes = kept.nodes.to_vec();
     /// nodes[0] = 7;
-    /// assert_eq!(TraceLibrary::from_tables(Tables { nodes: &nodes, ..kept }), Err(Refusal::Spoiled));
-    /// assert_eq!(TraceLibrary::from_tables(Tables { links: &kept.links[1..], ..kept }), Err(Refusal::ShortTable));
+    /// assert_eq!(TraceLibrary::from_tables(Tables::new(kept.control, kept.samples, &nodes, kept.links)), Err(Refusal::Spoiled));
+    /// assert_eq!(TraceLibrary::from_tables(Tables::new(kept.control, kept.samples, kept.nodes, &kept.links[1..])), Err(Refusal::ShortTable));
     /// # Ok::<(), Refusal>(())
     /// ```
     pub fn from_tables(tables: Tables<'_>) -> Result<TraceLibrary, Refusal> {
@@ -393,7 +380,7 @@ impl TraceLibrary {
         let field = |place: usize| control.get(place).copied().map_or(0, usize::from);
         let (n, capacity) = (field(0), field(1));
         let work = vec![0; (2 * capacity).saturating_sub(1)];
-        calls::check_tables(control, samples, nodes, links, &work)?;
+        calls::check_tables(tables, &work)?;
         // nothing was refused, so that measures are in range and each table has the places that are taken here
         let (samples, nodes) = (samples[..n * capacity].to_vec(), nodes[..work.len() * RECORD_PLACES].to_vec());
         Ok(TraceLibrary { control: control[..CONTROL_FIELDS].to_vec(), samples, nodes, links: links[..capacity].to_vec(), work })

@@ -3,10 +3,10 @@
 mod common;
 
 use common::{check_add, check_batch, check_checked, check_export, check_import, check_k_nearest, check_nearest, check_read_back, measures};
-use silkendoz::model::recording;
-use silkendoz::model::tables::{Tables, RECORD_PLACES};
-use silkendoz::model::{runs, segments_of, width, Figure, Kind, Library, Node, Segment, Test, Trace};
-use silkendoz::random::{query, traces, Random, Shape, SHAPES};
+use testing::model::recording;
+use testing::model::tables::{Tables, RECORD_PLACES};
+use testing::model::{runs, segments_of, width, Figure, Kind, Library, Node, Segment, Test, Trace};
+use testing::random::{query, traces, Random, Shape, SHAPES};
 
 /// Ends that include the given ones, the last n.
 fn more_ends(random: &mut Random, ends: &[usize], n: usize) -> Vec<usize> {

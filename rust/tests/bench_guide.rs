@@ -1,10 +1,10 @@
 //! The commands of `docs/GUIDE.md`, run one after another in a folder with the recordings that the page speaks of. What they print is what
 //! the page says, and the picture that they leave is the one that stands there.
 
-use silkendoz::example;
 use std::fs;
 use std::path::{Path, PathBuf};
 use std::process::Command;
+use testing::example;
 
 fn repository() -> PathBuf {
     Path::new(env!("CARGO_MANIFEST_DIR")).join("..")

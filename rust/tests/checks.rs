@@ -4,11 +4,11 @@
 mod common;
 
 use common::{check_add, check_checked, check_import, check_k_nearest, check_list, check_nearest, check_read_back, check_scan, measures};
-use silkendoz::model::recording;
-use silkendoz::model::tables::{segment_place, Tables, RECORD_PLACES};
-use silkendoz::model::{segments_of, Kind, Library, Trace};
-use silkendoz::random::{query, traces, Random, Shape, SHAPES};
 use silkendoz::{Refusal, Tables as Kept, TraceLibrary};
+use testing::model::recording;
+use testing::model::tables::{segment_place, Tables, RECORD_PLACES};
+use testing::model::{segments_of, Kind, Library, Trace};
+use testing::random::{query, traces, Random, Shape, SHAPES};
 
 fn made(random: &mut Random, shape: Shape, n: usize, count: usize, leaf_size: usize) -> Library {
     let stored = traces(random, shape, n, count);
@@ -203,7 +203,7 @@ fn tables_from_elsewhere() {
     }
     let t = library.tables();
     let longer = ([t.control, &[9; 3]].concat(), [t.samples, &[9; 3]].concat(), [t.nodes, &[9; 3]].concat(), [t.links, &[9; 3]].concat());
-    let kept = |control| Kept { control, samples: &longer.1, nodes: &longer.2, links: &longer.3 };
+    let kept = |control| Kept::new(control, &longer.1, &longer.2, &longer.3);
     let mut taken = TraceLibrary::from_tables(kept(&longer.0)).unwrap();
     assert_eq!(taken, library);
     assert_eq!(taken.add(&[1, 1, 1, 1]), library.add(&[1, 1, 1, 1]));

@@ -3,10 +3,10 @@
 mod common;
 
 use common::{check_add, check_batch, check_checked, check_export, check_import, check_k_nearest, check_nearest, measures};
-use silkendoz::model::recording;
-use silkendoz::model::tables::{Tables, RECORD_PLACES};
-use silkendoz::model::{Library, Trace};
-use silkendoz::random::{query, traces, Random, Shape};
+use testing::model::recording;
+use testing::model::tables::{Tables, RECORD_PLACES};
+use testing::model::{Library, Trace};
+use testing::random::{query, traces, Random, Shape};
 
 struct Case {
     tables: Tables,

@@ -2,9 +2,10 @@
 
 mod common;
 
-use silkendoz::model::Trace;
-use silkendoz::{example, TraceLibrary};
+use silkendoz::TraceLibrary;
 use std::path::PathBuf;
+use testing::example;
+use testing::model::Trace;
 
 #[test]
 fn the_files_are_as_made() {

@@ -1,9 +1,9 @@
 //! What `docs/GUIDE.md` and the README say in tables and in passing is what the library does. The programs of the guide are tests of their own: the one in
 //! Rust with the documentation (`src/lib.rs`), the one in C by `tools/guide_c`.
 
-use silkendoz::model::sheet::{blocks_needed, program_line};
-use silkendoz::{Refusal, TraceLibrary};
+use silkendoz::{calls, Refusal, TraceLibrary};
 use std::path::PathBuf;
+use testing::model::sheet::{blocks_needed, program_line};
 
 fn file(name: &str) -> Vec<u8> {
     std::fs::read(PathBuf::from(env!("CARGO_MANIFEST_DIR")).join("..").join(name)).unwrap()
@@ -124,6 +124,13 @@ fn refusals_of_the_program() {
 fn version() {
     let header = text("include/silkendoz.h");
     assert!(header.contains(&format!("#define SILKENDOZ_VERSION \"{}\"\n", env!("CARGO_PKG_VERSION"))));
+}
+
+/// One layout for the header, the crate and the archive.
+#[test]
+fn layout() {
+    assert_eq!(calls::layout(), calls::LAYOUT);
+    assert!(text("include/silkendoz.h").contains(&format!("#define SILKENDOZ_LAYOUT {}\n", calls::LAYOUT)));
 }
 
 /// The page's program in Rust is the one under `examples/`.

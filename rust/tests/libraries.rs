@@ -3,10 +3,10 @@
 mod common;
 
 use common::{check_add, check_batch, check_k_nearest, check_list, check_nearest, check_open, check_scan, junk, longer, measures};
-use silkendoz::model::tables::{needs, Tables};
-use silkendoz::model::{KNearest, Library, Measures, Trace};
-use silkendoz::random::{query, traces, Random, Shape, SHAPES};
 use silkendoz::TraceLibrary;
+use testing::model::tables::{needs, Tables};
+use testing::model::{KNearest, Library, Measures, Trace};
+use testing::random::{query, traces, Random, Shape, SHAPES};
 
 /// Opens, adds and matches; every call is held to the model, every match to the scan.
 fn run(random: &mut Random, shape: Shape, n: usize, capacity: usize, leaf_size: usize, count: usize, queries: usize) {
@@ -46,7 +46,7 @@ fn run_on(random: &mut Random, shape: Shape, stored: &[Trace], m: Measures, quer
 }
 
 /// A match, and a list whose first is its answer and which begins with every shorter one.
-fn ask(random: &mut Random, t: &mut Tables, l: silkendoz::model::tables::Lengths, library: &Library, q: &[i16]) {
+fn ask(random: &mut Random, t: &mut Tables, l: testing::model::tables::Lengths, library: &Library, q: &[i16]) {
     let mut trail = vec![0xbeef; library.leaves().len() + 1];
     let found = check_nearest(t, l, &mut trail, q).expect("a trace is stored");
     check_scan(library, q, &found);
@@ -61,7 +61,7 @@ fn ask(random: &mut Random, t: &mut Tables, l: silkendoz::model::tables::Lengths
 }
 
 /// A batch of these queries, whose answers are the matches' and whose leaves are theirs together; and of one of them alone, which reads that match's.
-fn ask_together(t: &mut Tables, l: silkendoz::model::tables::Lengths, library: &Library, queries: &[Trace]) {
+fn ask_together(t: &mut Tables, l: testing::model::tables::Lengths, library: &Library, queries: &[Trace]) {
     let mut trail = vec![0xbeef; library.leaves().len() + 1];
     let many = queries.len();
     check_batch(t, l, &mut trail, &queries.concat(), many, many).expect("a trace is stored");
@@ -176,7 +176,7 @@ fn samples_off_the_trail() {
             let mut trail = vec![9; count];
             let found = check_nearest(&mut t, l, &mut trail, &q).expect("traces are stored");
             for (j, node) in library.nodes.iter().enumerate() {
-                if let (silkendoz::model::Kind::Leaf(numbers), false) = (&node.kind, found.trail.contains(&j)) {
+                if let (testing::model::Kind::Leaf(numbers), false) = (&node.kind, found.trail.contains(&j)) {
                     for &number in numbers {
                         // the query itself, which would be at distance 0
                         t.samples[number * n..(number + 1) * n].copy_from_slice(&q);

@@ -5,10 +5,10 @@ mod common;
 
 use common::{check_add, check_batch, check_checked, check_export, check_import, check_k_nearest, check_list, check_nearest, check_open};
 use common::{junk, longer, measures};
-use silkendoz::model::recording;
-use silkendoz::model::tables::{judge_opening, needs, Lengths, Tables};
-use silkendoz::model::{Library, Measures, Refused, Trace};
-use silkendoz::random::{query, traces, uniform, Random, Shape, SHAPES};
+use testing::model::recording;
+use testing::model::tables::{judge_opening, needs, Lengths, Tables};
+use testing::model::{Library, Measures, Refused, Trace};
+use testing::random::{query, traces, uniform, Random, Shape, SHAPES};
 
 /// What is stored, by the calls' arguments alone.
 struct Book(Option<Library>);
@@ -76,7 +76,7 @@ const BATCH_CALLS: usize = 4;
 
 /// A writing, whose sheet is as the book's; or a reading of a sheet, sound or damaged.
 fn sheet_step(random: &mut Random, shape: Shape, t: &mut Tables, book: &mut Book, l: Lengths) {
-    use silkendoz::model::sheet::{blocks_needed, read, seal, write};
+    use testing::model::sheet::{blocks_needed, read, seal, write};
     let library = book.library().clone();
     if random.once_in(2) {
         let need = 512 * blocks_needed(library.traces.len() as u64, library.measures.n);

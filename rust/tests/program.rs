@@ -3,10 +3,10 @@
 mod common;
 
 use common::sheet_vectors;
-use silkendoz::model::sheet::{program_line, write};
-use silkendoz::model::Measures;
-use silkendoz::program::{self, repository};
-use silkendoz::random::{query, traces, Random, SHAPES};
+use testing::model::sheet::{program_line, write};
+use testing::model::Measures;
+use testing::program::{self, repository};
+use testing::random::{query, traces, Random, SHAPES};
 
 /// What the program prints of these bytes.
 fn printed(input: &[u8]) -> String {

@@ -4,16 +4,16 @@
 mod common;
 
 use common::{check_add, check_export, check_import, junk, longer, measures};
-use silkendoz::model::recording::{read, size, write};
-use silkendoz::model::tables::{needs, Tables};
-use silkendoz::model::{Library, Trace};
-use silkendoz::program::repository;
-use silkendoz::random::{traces, Random, Shape, SHAPES};
 use silkendoz::{Refusal, TraceLibrary};
 use std::fs;
 use std::io::Write;
 use std::path::{Path, PathBuf};
 use std::process::Command;
+use testing::model::recording::{read, size, write};
+use testing::model::tables::{needs, Tables};
+use testing::model::{Library, Trace};
+use testing::program::repository;
+use testing::random::{traces, Random, Shape, SHAPES};
 
 const BAD: Result<Library, (u64, u64)> = Err((12, 0));
 const FULL: Result<Library, (u64, u64)> = Err((5, 0));

@@ -4,8 +4,8 @@
 mod common;
 
 use common::vectors;
-use silkendoz::program;
-use silkendoz::script::{Session, STAGE};
+use testing::program;
+use testing::script::{Session, STAGE};
 
 /// A script from a file of vectors: its calls, each with the reply.
 struct Case {

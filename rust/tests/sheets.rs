@@ -3,11 +3,11 @@
 mod common;
 
 use common::{check_add, check_nearest, check_open, check_read, check_write, junk, longer, measures, sheet_vectors};
-use silkendoz::model::sheet::{blocks_needed, check, seal, write};
-use silkendoz::model::tables::{needs, Lengths, Tables};
-use silkendoz::model::{Library, Measures, Trace};
-use silkendoz::random::{query, traces, Random, Shape, SHAPES};
 use silkendoz::{Refusal, TraceLibrary};
+use testing::model::sheet::{blocks_needed, check, seal, write};
+use testing::model::tables::{needs, Lengths, Tables};
+use testing::model::{Library, Measures, Trace};
+use testing::random::{query, traces, Random, Shape, SHAPES};
 
 fn made(random: &mut Random, shape: Shape, m: Measures, count: usize) -> (Library, Tables) {
     let library = Library::of(m, &traces(random, shape, m.n as usize, count));

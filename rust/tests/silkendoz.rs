@@ -1,11 +1,11 @@
 //! The program for the bench, run as it is built, on files in a folder of its own.
 
-use silkendoz::example;
 use silkendoz::TraceLibrary;
 use std::ffi::OsStr;
 use std::fs;
 use std::path::{Path, PathBuf};
 use std::process::{Command, Stdio};
+use testing::example;
 
 const N: usize = 64;
 
@@ -505,7 +505,7 @@ faults.sheet: sound. 11 blocks, 36 traces of 64 samples.
 fn what_is_wrong_with_a_sheet() {
     let folder = shelf("wrong");
     let sheet = folder.read("faults.sheet");
-    let seal = |bytes: &mut [u8]| silkendoz::model::sheet::seal(bytes);
+    let seal = |bytes: &mut [u8]| testing::model::sheet::seal(bytes);
     let altered = |at: usize, byte: u8| {
         let mut bytes = sheet.clone();
         bytes[at] = byte;

@@ -1,7 +1,7 @@
 //! Several matches at once over one library: each has search work and a trail of its own, and the library is only read.
 
-use silkendoz::random::{query, traces, Random, Shape};
 use silkendoz::{scan, KNearest, Nearest, TraceLibrary};
+use testing::random::{query, traces, Random, Shape};
 
 const THREADS: usize = 8;
 

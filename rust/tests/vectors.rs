@@ -3,9 +3,9 @@
 mod common;
 
 use common::{check_add, check_nearest, check_open, junk, measures, sheet_vectors, vectors};
-use silkendoz::model::sheet::program_line;
-use silkendoz::model::tables::needs;
-use silkendoz::model::{gaps, runs, scatter, sum, width, Figure, Kind, Library, Trace};
+use testing::model::sheet::program_line;
+use testing::model::tables::needs;
+use testing::model::{gaps, runs, scatter, sum, width, Figure, Kind, Library, Trace};
 
 /// Every number of a line, in order; a number's sign stands right before it.
 fn numbers(line: &str) -> Vec<i128> {
@@ -60,7 +60,7 @@ impl Vector {
             } else if line.starts_with("trace ") {
                 if asked.is_some() {
                     let [t, d, ..] = numbers(line)[..] else { panic!() };
-                    assert_eq!(silkendoz::model::distance(&library.traces[t as usize], query), d, "{}: {line}", self.name);
+                    assert_eq!(testing::model::distance(&library.traces[t as usize], query), d, "{}: {line}", self.name);
                 }
             } else if line.starts_with("node ") {
                 node = numbers(line)[0] as usize;

@@ -5,6 +5,8 @@
 // leaves read, a refusal its place; an opening, a reading and a check have none. A shorter `out` takes the first of them, and places behind
 // them stay.
 
+pub mod version; // which layout of the tables this is for
+
 use batching::AnswerRecord;
 ghost use mathlib.Core.Path.{_≡_};
 ghost use mathlib.Core.List.{[], _∷_};

@@ -2,12 +2,12 @@
 //! machine's.
 
 use super::arguments::Arguments;
+use super::noise::Noise;
 use super::numbers::median;
 use super::progress::Progress;
 use super::shelf::Shelf;
 use super::table::{self, Column};
 use super::{done, refused, Answer};
-use silkendoz::random::{near, Random};
 use silkendoz::{scan, TraceLibrary};
 use std::hint::black_box;
 use std::path::Path;
@@ -68,8 +68,8 @@ struct Scanned {
 
 impl Trial<'_> {
     fn of(traces: &[Vec<i16>]) -> Trial<'_> {
-        let random = &mut Random::seeded(2026);
-        let noisy = traces.iter().map(|trace| near(random, trace, noise_for(trace))).collect();
+        let noise = &mut Noise::seeded(2026);
+        let noisy = traces.iter().map(|trace| noise.near(trace, noise_for(trace))).collect();
         let groups = if traces.len() <= MOST_ALONE { traces.len() } else { 10 };
         Trial { traces, noisy, groups }
     }

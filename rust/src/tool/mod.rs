@@ -16,6 +16,7 @@ mod info;
 mod json;
 mod matching;
 mod names;
+mod noise;
 mod numbers;
 mod plot;
 mod progress;

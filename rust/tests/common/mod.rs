@@ -2,12 +2,12 @@
 #![allow(dead_code)]
 
 use silkendoz::calls::Answer;
-pub use silkendoz::lending::{add, check_tables, export_recording, import_recording, k_nearest, match_batch, nearest, open, read_sheet, write_sheet};
-use silkendoz::model::sheet::blocks_needed;
-use silkendoz::model::tables::{judge_opening, Lengths, Tables};
-use silkendoz::model::{Batch, KNearest, Kind, Library, Match, Measures, Refused};
-use silkendoz::program::repository;
-use silkendoz::script::bytes;
+pub use testing::lending::{add, check_tables, export_recording, import_recording, k_nearest, match_batch, nearest, open, read_sheet, write_sheet};
+use testing::model::sheet::blocks_needed;
+use testing::model::tables::{judge_opening, Lengths, Tables};
+use testing::model::{Batch, KNearest, Kind, Library, Match, Measures, Refused};
+use testing::program::repository;
+use testing::script::bytes;
 
 pub fn measures(n: usize, capacity: usize, leaf_size: usize) -> Measures {
     Measures { n: n as u64, capacity: capacity as u64, leaf_size: leaf_size as u64 }
@@ -147,7 +147,7 @@ pub fn check_k_nearest(t: &mut Tables, l: Lengths, trail: &mut [u16], list: &mut
 /// A call that takes a query leaves the needed search work zero and all else as it was.
 fn searched(before: &Tables, after: &Tables, m: Measures) {
     let mut expected = before.clone();
-    expected.work[..silkendoz::model::tables::needs(m).work].fill(0);
+    expected.work[..testing::model::tables::needs(m).work].fill(0);
     assert_eq!(*after, expected, "a search leaves the needed search work zero and all else as it was");
 }
 
@@ -164,7 +164,7 @@ where
 
 /// Places behind those that the measures need are as before.
 fn unneeded_stay(before: &Tables, after: &Tables, m: Measures) {
-    let need = silkendoz::model::tables::needs(m);
+    let need = testing::model::tables::needs(m);
     assert_eq!(before.control[need.control..], after.control[need.control..]);
     assert_eq!(before.samples[need.samples..], after.samples[need.samples..]);
     assert_eq!(before.nodes[need.nodes..], after.nodes[need.nodes..]);
@@ -180,7 +180,7 @@ pub fn check_scan(library: &Library, query: &[i16], found: &Match) {
 /// A list of k in a library that calls made: it is the beginning of the scan's, and the leaves read are "those with a bound at most the last listed
 /// distance, or every leaf when fewer than k traces are stored".
 pub fn check_list(library: &Library, query: &[i16], k: usize, found: &KNearest) {
-    let mut nearest = silkendoz::model::scan(&library.traces, query);
+    let mut nearest = testing::model::scan(&library.traces, query);
     nearest.truncate(k);
     assert_eq!(found.list, nearest);
     let (bounds, last) = (library.bounds(query), nearest[nearest.len() - 1].1);
@@ -206,7 +206,7 @@ pub fn check_write(t: &Tables, l: Lengths, sheet: &mut [u8]) -> Result<u64, Refu
             assert_eq!(sheet, before, "a refused writing leaves the sheet");
         }
         Ok(library) => {
-            let written = silkendoz::model::sheet::write(library.measures, &library.traces);
+            let written = testing::model::sheet::write(library.measures, &library.traces);
             assert_eq!(answer, Ok(written.len() as u64 / 512));
             assert_eq!(sheet, [&written[..], &before[written.len()..]].concat());
         }
@@ -218,7 +218,7 @@ pub fn check_write(t: &Tables, l: Lengths, sheet: &mut [u8]) -> Result<u64, Refu
 pub fn check_read(t: &mut Tables, l: Lengths, sheet: &[u8]) -> Result<Library, Refused> {
     let before = t.clone();
     let answer = read_sheet(t, l, sheet);
-    let judged = silkendoz::model::tables::judge_reading(l, sheet);
+    let judged = testing::model::tables::judge_reading(l, sheet);
     match &judged {
         Err(refused) => {
             assert_eq!(answer, Err(*refused));
@@ -269,7 +269,7 @@ pub fn check_export(t: &Tables, l: Lengths, buffer: &mut [u8], number: u64, rate
             assert_eq!(buffer, before, "a refused export leaves the buffer");
         }
         Ok(library) => {
-            let written = silkendoz::model::recording::write(rate, &library.traces[number as usize]);
+            let written = testing::model::recording::write(rate, &library.traces[number as usize]);
             assert_eq!(answer, Ok(written.len() as u64));
             assert_eq!(buffer, [&written[..], &before[written.len()..]].concat());
         }

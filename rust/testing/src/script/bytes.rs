@@ -9,7 +9,7 @@ const SHORTENED: usize = 5;
 /// The bytes that a word stands for; nothing if it stands for none, or for more than a script may lend.
 ///
 /// ```
-/// use silkendoz::script::bytes::parse;
+/// use testing::script::bytes::parse;
 ///
 /// assert_eq!(parse("0a00*3.ff"), Some(vec![10, 0, 0, 0, 255]));
 /// assert_eq!(parse("-"), Some(vec![]));
@@ -57,7 +57,7 @@ fn times(digits: &[u8]) -> Option<usize> {
 /// The word for these bytes, runs of five and more shortened.
 ///
 /// ```
-/// use silkendoz::script::bytes::told;
+/// use testing::script::bytes::told;
 ///
 /// assert_eq!(told(&[1, 7, 7, 7, 7]), "0107070707");
 /// assert_eq!(told(&[1, 7, 7, 7, 7, 7]), "0107*5.");

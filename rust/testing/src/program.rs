@@ -6,7 +6,7 @@ use std::process::{Command, Stdio};
 
 /// The repository's folder, beside which the kit builds.
 pub fn repository() -> PathBuf {
-    PathBuf::from(env!("CARGO_MANIFEST_DIR")).join("..")
+    PathBuf::from(env!("CARGO_MANIFEST_DIR")).join("../..")
 }
 
 /// Where `rt check` and `rt ci` build the program.

@@ -6,14 +6,14 @@
 //! Machines differ, and so do runs; within a line the columns belong together, and the ratios are what counts. Every answer is compared
 //! with the scan's.
 
-use silkendoz::lending;
-use silkendoz::model::tables::{needs, Tables};
-use silkendoz::model::{recording, segments_of, sheet, Figure, Kind, Library, Measures, Node, Segment, Test, Trace};
-use silkendoz::random::{near, noisy_sine, uniform, walk, Random};
 use silkendoz::{scan, TraceLibrary};
 use std::fmt::Debug;
 use std::hint::black_box;
 use std::time::Instant;
+use testing::lending;
+use testing::model::tables::{needs, Tables};
+use testing::model::{recording, segments_of, sheet, Figure, Kind, Library, Measures, Node, Segment, Test, Trace};
+use testing::random::{near, noisy_sine, uniform, walk, Random};
 
 const N: usize = 256;
 const CAPACITY: usize = 4096;

@@ -4,7 +4,7 @@
 //! (`memory.rs`). What is looked at between the calls is worked out by the model from what the tables record (`looking.rs`).
 //!
 //! ```
-//! use silkendoz::script::Session;
+//! use testing::script::Session;
 //!
 //! let mut session = Session::new();
 //! assert_eq!(session.play("open 1 8 2").as_deref(), Some("done"));

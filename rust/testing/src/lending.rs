@@ -1,23 +1,30 @@
 //! The calls on a memory, each lent the first so many places of its tables, as tests and the script driver make them.
 
-use crate::calls::{self, Answer, Found, Lent, Listed};
 use crate::model::tables::{Lengths, Tables};
 use crate::model::{Measures, Refused};
-use crate::Refusal;
+use silkendoz::calls::{self, Answer, Found, Lent, Listed};
+use silkendoz::Refusal;
 
 /// Number and place.
 fn told<T>(answer: Result<T, Refusal>) -> Result<T, Refused> {
     answer.map_err(|why| (why.number(), why.place()))
 }
 
+/// Lent to be written.
 fn lent(t: &mut Tables, l: Lengths) -> Lent<'_> {
-    Lent {
-        control: &mut t.control[..l.control],
-        samples: &mut t.samples[..l.samples],
-        nodes: &mut t.nodes[..l.nodes],
-        links: &mut t.links[..l.links],
-        work: &mut t.work[..l.work],
-    }
+    Lent::new(&mut t.control[..l.control], &mut t.samples[..l.samples], &mut t.nodes[..l.nodes], &mut t.links[..l.links], &mut t.work[..l.work])
+}
+
+/// Lent to be read, and search work that may be written.
+fn searched(t: &mut Tables, l: Lengths) -> (silkendoz::Tables<'_>, &mut [u64]) {
+    let tables = silkendoz::Tables::new(&t.control[..l.control], &t.samples[..l.samples], &t.nodes[..l.nodes], &t.links[..l.links]);
+    (tables, &mut t.work[..l.work])
+}
+
+/// Lent to be read.
+fn read(t: &Tables, l: Lengths) -> (silkendoz::Tables<'_>, &[u64]) {
+    let tables = silkendoz::Tables::new(&t.control[..l.control], &t.samples[..l.samples], &t.nodes[..l.nodes], &t.links[..l.links]);
+    (tables, &t.work[..l.work])
 }
 
 pub fn open(t: &mut Tables, l: Lengths, m: Measures) -> Result<(), Refused> {
@@ -25,22 +32,22 @@ pub fn open(t: &mut Tables, l: Lengths, m: Measures) -> Result<(), Refused> {
 }
 
 pub fn add(t: &mut Tables, l: Lengths, trace: &[i16]) -> Result<u64, Refused> {
-    let t = lent(t, l);
-    told(calls::add(t.control, t.samples, t.nodes, t.links, t.work, trace))
+    told(calls::add(lent(t, l), trace))
 }
 
 pub fn nearest(t: &mut Tables, l: Lengths, trail: &mut [u16], query: &[i16]) -> Result<Found, Refused> {
-    let t = lent(t, l);
-    told(calls::nearest(t.control, t.samples, t.nodes, t.links, t.work, trail, query))
+    let (t, work) = searched(t, l);
+    told(calls::nearest(t, work, trail, query))
 }
 
 pub fn k_nearest(t: &mut Tables, l: Lengths, trail: &mut [u16], list: &mut [u64], query: &[i16], k: u64) -> Result<Listed, Refused> {
-    let t = lent(t, l);
-    told(calls::k_nearest(t.control, t.samples, t.nodes, t.links, t.work, trail, list, query, k))
+    let (t, work) = searched(t, l);
+    told(calls::k_nearest(t, work, trail, list, query, k))
 }
 
 pub fn write_sheet(t: &Tables, l: Lengths, sheet: &mut [u8]) -> Result<u64, Refused> {
-    told(calls::write_sheet(&t.control[..l.control], &t.samples[..l.samples], &t.nodes[..l.nodes], &t.links[..l.links], &t.work[..l.work], sheet))
+    let (t, work) = read(t, l);
+    told(calls::write_sheet(t, work, sheet))
 }
 
 pub fn read_sheet(t: &mut Tables, l: Lengths, sheet: &[u8]) -> Result<(), Refused> {
@@ -48,20 +55,20 @@ pub fn read_sheet(t: &mut Tables, l: Lengths, sheet: &[u8]) -> Result<(), Refuse
 }
 
 pub fn import_recording(t: &mut Tables, l: Lengths, bytes: &[u8]) -> Result<u64, Refused> {
-    let t = lent(t, l);
-    told(calls::import_recording(t.control, t.samples, t.nodes, t.links, t.work, bytes))
+    told(calls::import_recording(lent(t, l), bytes))
 }
 
 pub fn export_recording(t: &Tables, l: Lengths, buffer: &mut [u8], number: u64, rate: u64) -> Result<u64, Refused> {
-    let (nodes, links, work) = (&t.nodes[..l.nodes], &t.links[..l.links], &t.work[..l.work]);
-    told(calls::export_recording(&t.control[..l.control], &t.samples[..l.samples], nodes, links, work, buffer, number, rate))
+    let (t, work) = read(t, l);
+    told(calls::export_recording(t, work, buffer, number, rate))
 }
 
 pub fn check_tables(t: &Tables, l: Lengths) -> Result<(), Refused> {
-    told(calls::check_tables(&t.control[..l.control], &t.samples[..l.samples], &t.nodes[..l.nodes], &t.links[..l.links], &t.work[..l.work]))
+    let (t, work) = read(t, l);
+    told(calls::check_tables(t, work))
 }
 
 pub fn match_batch(t: &mut Tables, l: Lengths, trail: &mut [u16], queries: &[i16], many: usize, answers: &mut [Answer]) -> Result<u64, Refused> {
-    let t = lent(t, l);
-    told(calls::match_batch(t.control, t.samples, t.nodes, t.links, t.work, trail, queries, many, answers))
+    let (t, work) = searched(t, l);
+    told(calls::match_batch(t, work, trail, queries, many, answers))
 }

@@ -1,9 +1,9 @@
 //! What calls are lent, and what they may do to it: every place that a call may not write is held to what it was before.
 
 use super::{malformed, Line, Unanswered};
-use crate::calls::Answer;
 use crate::model::tables::{needs, Lengths, Tables, CONTROL_FIELDS};
 use crate::model::{Library, Measures, Refused};
+use silkendoz::calls::Answer;
 
 /// Places behind those that are lent: more than a node's record.
 const BEHIND: usize = 100;

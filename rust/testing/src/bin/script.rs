@@ -1,7 +1,7 @@
 //! Plays a script of calls from standard input by the protocol of `vectors/PROTOCOL.md`, and prints the replies.
 
-use silkendoz::script::Session;
 use std::io::{self, BufRead, Write};
+use testing::script::Session;
 
 fn main() -> io::Result<()> {
     let mut session = Session::new();

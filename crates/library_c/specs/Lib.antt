@@ -1,0 +1,2 @@
+-- Which layout of the tables the exported calls are for.
+pub mod Layout

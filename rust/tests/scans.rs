@@ -1,0 +1,27 @@
+//! The scans that the index is compared with find what the documents say.
+
+use silkendoz::scan::{distance, k_nearest, k_nearest_abandoning, nearest, nearest_abandoning};
+use testing::model;
+use testing::random::{query, traces, Random, SHAPES};
+
+#[test]
+fn every_scan_is_the_plain_one() {
+    let random = &mut Random::seeded(61);
+    for shape in SHAPES {
+        for n in [1, 2, 15, 16, 17, 256] {
+            let stored = traces(random, shape, n, 20);
+            let q = query(random, shape, n, &stored);
+            let samples = stored.concat();
+            let ranked: Vec<(usize, u64)> = model::scan(&stored, &q).into_iter().map(|(t, d)| (t, d as u64)).collect();
+            assert_eq!(nearest(&samples, n, &q), ranked.first().copied());
+            assert_eq!(nearest_abandoning(&samples, n, &q), ranked.first().copied());
+            for k in [1, 2, 5, 16, 21] {
+                assert_eq!(k_nearest(&samples, n, &q, k), ranked[..k.min(20)]);
+                assert_eq!(k_nearest_abandoning(&samples, n, &q, k), ranked[..k.min(20)]);
+            }
+        }
+    }
+    assert_eq!(distance(&[i16::MIN; 256], &[i16::MAX; 256]), 1_099_478_073_600);
+    assert_eq!(nearest(&[], 4, &[0; 4]), None);
+    assert_eq!(k_nearest(&[], 4, &[0; 4], 5), []);
+}

@@ -1,0 +1,62 @@
+// The header from C++: tables declared by its macro, a search, a list of records. Compiled with old-style casts and every other warning an
+// error. Prints one line, and fails at the first difference.
+
+#include "silkendoz.h"
+
+#include <cstdio>
+
+namespace {
+
+constexpr size_t n = 4, capacity = 8;
+
+SILKENDOZ_LIBRARY(library, n, capacity);
+SILKENDOZ_LIBRARY(other, 2, 1);
+
+uint16_t trail[SILKENDOZ_TRAIL(capacity)];
+uint8_t sheet[SILKENDOZ_SHEET(n, capacity)];
+uint8_t recording[SILKENDOZ_RECORDING_BYTES(n)];
+uint64_t out[SILKENDOZ_OUT];
+
+bool lists()
+{
+    const int16_t traces[3][n] = {{0, 0, 0, 0}, {4, 4, 4, 4}, {0, 8, 0, 8}};
+    const int16_t query[n] = {1, 1, 1, 1};
+    silkendoz_neighbour list[2];
+    if (silkendoz_open_in(&library, n, capacity, 2, out, SILKENDOZ_OUT) != SILKENDOZ_DONE)
+        return false;
+    for (const auto &trace : traces)
+        if (silkendoz_add_in(&library, trace, n, out, SILKENDOZ_OUT) != SILKENDOZ_DONE)
+            return false;
+    // a list of one record is too short for two
+    if (silkendoz_k_nearest_in(&library, trail, capacity, list, 1, query, n, 2, out, SILKENDOZ_OUT) != SILKENDOZ_SHORT_TRAIL)
+        return false;
+    if (silkendoz_k_nearest_in(&library, trail, capacity, list, 2, query, n, 2, out, SILKENDOZ_OUT) != SILKENDOZ_DONE)
+        return false;
+    return list[0].trace == 0 && list[0].distance == 4 && list[1].trace == 1 && list[1].distance == 36;
+}
+
+bool measures()
+{
+    size_t said_n = 0, said_capacity = 0;
+    if (silkendoz_write_sheet_in(&library, sheet, sizeof sheet, out, SILKENDOZ_OUT) != SILKENDOZ_DONE)
+        return false;
+    if (silkendoz_sheet_measures(sheet, 512 * static_cast<size_t>(out[0]), &said_n, &said_capacity) != SILKENDOZ_DONE)
+        return false;
+    // the second library has room for none of these
+    if (silkendoz_read_sheet_in(&other, sheet, 512 * 2, out, SILKENDOZ_OUT) != SILKENDOZ_SHORT_TABLE)
+        return false;
+    return said_n == n && said_capacity == capacity
+        && silkendoz_export_recording_in(&library, recording, sizeof recording, 1, 8000, out, SILKENDOZ_OUT) == SILKENDOZ_DONE;
+}
+
+} // namespace
+
+int main()
+{
+    if (!lists() || !measures() || silkendoz_layout_2() != SILKENDOZ_LAYOUT) {
+        std::fprintf(stderr, "C++: another answer\n");
+        return 1;
+    }
+    std::printf("C++: the header, layout %d\n", SILKENDOZ_LAYOUT);
+    return 0;
+}

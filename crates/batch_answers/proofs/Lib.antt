@@ -1,3 +1,3 @@
--- Storing records in the caller's list, and the whole call.
+-- Storing records in the caller's list, and the batch with its list.
 pub mod Over
 pub mod Whole

@@ -19,7 +19,6 @@ use Rattle.calls.specs.Effects.{outcomeOn}
 use Rattle.batching.specs.Answered.{answerBy, answerAt, listBy, listAfter}
 use Rattle.batching.specs.declared.AnswerRecord.{AnswerRecord}
 use Rattle.batching.specs.declared.BatchFound.{BatchFound}
-use Rattle.batching.specs.declared.Batched.{Batched}
 use Rattle.batch_answers.specs.Over.{withFirstValues}
 use Rattle.batch_answers.specs.AnswerRecords.{StoreOutcome, storeOutcome, storeIf, storeOf, asNear, nearsOf}
 use Rattle.batch_answers.proofs.Over.{over-all}
@@ -52,17 +51,17 @@ list-stored found list = rw (length-map list asNear) (by (eqb (length list) (fou
         ap nearsOf (over-all (answerAt found) list (found .count) (omega (arith, eqb-true (length list) (found .count) e)))
         ∙ map-map asNear (answerAt found) (recordAt (found .bests)) (λ i. refl) (counting (found .count) 0)
 
--- ---- the whole call
+-- ---- a batch and its list
 
-module _ (before after : Tables) (many : ℕ) (run : Trace) (trail trail′ : List ℕ) (list list′ : List AnswerRecord) (found : BatchFound)
+-- what is left in the caller's list, with what the search for that list's length left, is the batch
+pub whole : (before after : Tables) (many : ℕ) (run : Trace) (trail trail′ : List ℕ) (list list′ : List AnswerRecord) (found : BatchFound)
     (done : Bool)
-    (r : Batched) where
-  pub whole : ((l : List Near) → length l ≡ length list
-      → outcome (answerBy (found .outcome) (listAfter found l) trail′) after (trail′ ∷ listPlaces (listAfter found l) ∷ [])
-      ≡ outcomeOn (book.batching many run trail l) before)
-      → storeOutcome done list′ ≡ storeOf found list → r ≡ found .outcome
-      → outcome (answerBy r (nearsOf list′) trail′) after (trail′ ∷ listPlaces (nearsOf list′) ∷ [])
-      ≡ outcomeOn (book.batching many run trail (nearsOf list)) before
-  whole c s e =
-      let l : nearsOf list′ ≡ listAfter found (nearsOf list) = ap (λ (x : StoreOutcome). nearsOf (x .list)) s ∙ list-stored found list in
-      rw (e, l) (c (nearsOf list) (length-map list asNear))
+    → ((l : List Near) → length l ≡ length list
+    → outcome (answerBy (found .outcome) (listAfter found l) trail′) after (trail′ ∷ listPlaces (listAfter found l) ∷ [])
+    ≡ outcomeOn (book.batching many run trail l) before)
+    → storeOutcome done list′ ≡ storeOf found list
+    → outcome (answerBy (found .outcome) (nearsOf list′) trail′) after (trail′ ∷ listPlaces (nearsOf list′) ∷ [])
+    ≡ outcomeOn (book.batching many run trail (nearsOf list)) before
+whole before after many run trail trail′ list list′ found done c s =
+    let l : nearsOf list′ ≡ listAfter found (nearsOf list) = ap (λ (x : StoreOutcome). nearsOf (x .list)) s ∙ list-stored found list in
+    rw l (c (nearsOf list) (length-map list asNear))

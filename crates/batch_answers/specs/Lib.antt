@@ -1,3 +1,3 @@
--- What storing a batch's records leaves, and the whole call.
+-- What storing a batch's records leaves.
 pub mod Over
 pub mod AnswerRecords

@@ -1,6 +1,6 @@
 -- A call by its contract follows its definition: the contract's claim is the definition's equation on the tables that were lent.
 use Prim.Native.Nat.{ℕ}
-use mathlib.Core.Path.{_≡_, ap, subst}
+use mathlib.Core.Path.{_≡_, ap, subst, _∙_}
 use mathlib.Core.List.{List}
 use Rattle.dstree.specs.Book.{Ask, Call, Answer, Reply}
 use Rattle.tables.specs.Tables.{Tables, lentOf}
@@ -8,6 +8,7 @@ use Rattle.tables.specs.Beginning.{left}
 use Rattle.calls.specs.Outcome.{Outcome, outcome}
 use Rattle.calls.specs.Effects.{outcomeOn}
 use Rattle.calls.specs.Follows.{Follows}
+use Rattle.batch_answers.proofs.Whole.{whole}
 use Rattle.demands.specs.Did.{CallMade, Did, by-open, by-add, by-nearest, by-write, by-read, by-list, by-import}
 use Rattle.demands.specs.Did.{by-export, by-check, by-batch}
 
@@ -31,4 +32,6 @@ follows c memory memory′ said (by-list d) = by-claim (d .made) (d .claim)
 follows c memory memory′ said (by-import d) = by-claim (d .made) (d .claim)
 follows c memory memory′ said (by-export d) = by-claim (d .made) (d .claim)
 follows c memory memory′ said (by-check d) = by-claim (d .made) (d .claim)
-follows c memory memory′ said (by-batch d) = by-claim (d .made) (d .claim)
+follows c memory memory′ said (by-batch d) =
+    by-claim (d .searched .made)
+    (whole _ _ _ _ _ _ (d .list) (d .list′) (d .searched .result) (d .done) (λ l size. d .searched .claim l (size ∙ d .so-long)) (d .stored))

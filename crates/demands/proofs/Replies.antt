@@ -3,15 +3,16 @@
 use Prim.Native.Nat.{ℕ, zero, suc, _*_}
 use mathlib.Core.Path.{_≡_, refl, sym, ap, subst, _∙_}
 use mathlib.Core.Option.{Option, none, some}
-use mathlib.Core.List.{List, [], _∷_, map, foldl}
+use mathlib.Core.List.{List, [], _∷_, _++_, map, foldl, append-nil}
 use native.Mathlib.Omega.{arith}
-use lib.ListN.{length, getD, drop}
+use lib.ListN.{length, getD, take, drop, length-map}
 use lib.Seq.{take-at}
 use denote.Ref.{RefT}
 use denote.Triple.Clauses.{AtExit}
 use borrow.Fn.Kinds.{PK, RK, Dens, endedOf, Out, resT}
 use contract.Lifetimes.{Lfts}
 use Rattle.dstree.specs.Measures.{Trace, Measures}
+use Rattle.dstree.specs.Node.{Tree}
 use Rattle.dstree.specs.Matching.{Near, searched, Match}
 use Rattle.dstree.specs.KNearest.{KNearest, listPlaces, kNearestBySteps}
 use Rattle.dstree.specs.Batch.{queriesIn, Batch, batchBySteps}
@@ -21,12 +22,13 @@ use Rattle.dstree.specs.Sheet.{blockSize, blocksNeeded, sheetOf}
 use Rattle.dstree.specs.Book.{Ask, opening, adding, searching, writing, reading, importing, exporting, checking, Call}
 use Rattle.dstree.specs.Book.{aMatch, aListing, aBatch, matchSeen, matching, listing, batching, besideOf, Answer, answering, imported, Reply, reply, over}
 use Rattle.dstree.specs.Recording.{recordingSize, recordingOf, judgeRecording, fileTraces}
+use Rattle.dstree.proofs.SheetPieces.{pieces-length}
 use Rattle.dstree.proofs.RoundTrips.{sheet-length}
 use Rattle.dstree.proofs.Recordings.{recording-length}
 use Rattle.tables.specs.Tables.{Tables, tables, lentOf, measuresOf, traceCount}
 use Rattle.tables.specs.View.{treeIn, tracesIn}
 use Rattle.tables.specs.Beginning.{firstPlaces, left}
-use Rattle.tables.specs.Answers.{wordOf}
+use Rattle.tables.specs.Answers.{wordOf, foundBy, madeConditions}
 use Rattle.tables.specs.declared.Refusal.{Refusal}
 use Rattle.tables.specs.declared.Refusal.the-variants as r
 use Rattle.tables.proofs.Views.{trace-at}
@@ -35,7 +37,7 @@ use Rattle.insertion_memory.specs.Memory.{addedTo}
 use Rattle.insertion_memory.proofs.Made.{count-is}
 use Rattle.calls.specs.Outcome.{Outcome, outcome, unlessRefused}
 use Rattle.calls.specs.Effects.{opens, adds, matches, writes, reads, lists, imports, exports, checks}
-use Rattle.calls.specs.Effects.{batches, effectOf, outcomeOn}
+use Rattle.calls.specs.Effects.{batches, batchConditionsIn, cleared, effectOf, outcomeOn}
 use Rattle.calls.specs.Follows.{Typed}
 use Rattle.calls.proofs.Library.{work-stays}
 use Rattle.checking.specs.declared.Checked.{Checked}
@@ -47,15 +49,19 @@ use Rattle.opening.specs.Opened as opening-answer
 use Rattle.adding.specs.declared.Added.{Added}
 use Rattle.adding.specs.declared.Added.the-variants as a
 use Rattle.adding.specs.Answered as adding-answer
+use Rattle.reading.specs.Listed.{nearsIn}
 use Rattle.reading.proofs.Places.{nears-in}
 use Rattle.matching.specs.declared.Found.{Found}
 use Rattle.matching.specs.declared.Found.the-variants as f
 use Rattle.matching.specs.Answered as matching-answer
 use Rattle.batching.specs.declared.AnswerRecord as batch-record
-use Rattle.batching.specs.declared.Batched.{Batched as BatchOutcome}
+use Rattle.batching.specs.declared.BatchFound.{BatchFound}
 use Rattle.batching.specs.declared.Batched.the-variants as b
 use Rattle.batching.specs.Answered as batching-answer
-use Rattle.batch_answers.specs.AnswerRecords.{nearsOf}
+use Rattle.batching.specs.Answered.{listBy, listAfter}
+use Rattle.batching.proofs.Taken.{taken}
+use Rattle.batching.proofs.Answers.{list-filled, batch-refused}
+use Rattle.batch_answers.specs.AnswerRecords.{storeOf, nearsOf}
 use Rattle.listing.specs.declared.Listed.{Listed}
 use Rattle.listing.specs.declared.Listed.the-variants as l
 use Rattle.listing.specs.Answered as listing-answer
@@ -247,16 +253,64 @@ unfolding unlessRefused checks checking-answer.answerBy
 checking-said t (some why) = record { result = k.Refused (caseOf why); beside = []; is = rw (case-word why) }
 checking-said t none = record { result = k.Accepted; beside = []; is = refl }
 
+leaves-are : (stored : List Trace) (tree : Tree) (queries : List Trace)
+    → length (batchBySteps stored tree queries .trail) ≡ batchBySteps stored tree queries .leaves
+unfolding batchBySteps
+leaves-are stored tree queries = refl
+
+-- what the search of a batch finds and leaves, for every list of this length
+record BatchSaid (t : Tables) (many : ℕ) (run : Trace) (trail : List ℕ) (places : ℕ) (work : List ℕ) : Type 0 where
+  found : BatchFound
+  trail′ : List ℕ
+  is : (l : List Near) → length l ≡ places
+      → outcome (batching-answer.answerBy (found .outcome) (listAfter found l) trail′)
+      (tables (t .control) (t .samples) (t .nodes) (t .links) work) (trail′ ∷ listPlaces (listAfter found l) ∷ [])
+      ≡ outcomeOn (batching many run trail l) t
+
+-- the places of the answers hold them
+answers-back : (stored : List Trace) (tree : Tree) (queries : List Trace) → let answers = batchBySteps stored tree queries .answers in
+    nearsIn (length queries) (listPlaces answers) ≡ answers
+unfolding batchBySteps
+answers-back stored tree queries =
+    let answers = batchBySteps stored tree queries .answers in
+    subst (λ (k : ℕ). nearsIn k (listPlaces answers) ≡ answers) (length-map queries _)
+    (ap (nearsIn (length answers)) (sym (append-nil (listPlaces answers))) ∙ nears-in answers [])
+
+batch-done : (t : Tables) (many : ℕ) (run : Trace) (trail : List ℕ) (l : List Near)
+    → firstOf (madeConditions t ++ batchConditionsIn t many (length l) run trail) ≡ none → length l ≡ many
+    → let m = batchBySteps (tracesIn t) (treeIn t) (queriesIn (measuresOf t .n) many run) in
+    let list = listBy many (listPlaces (m .answers)) l in
+    outcome (batching-answer.answerBy (b.Done (m .leaves)) list (over (m .trail) trail))
+    (tables (t .control) (t .samples) (t .nodes) (t .links) (cleared t .work)) (over (m .trail) trail ∷ listPlaces list ∷ [])
+    ≡ outcomeOn (batching many run trail l) t
+unfolding batching-answer.answerBy outcomeOn effectOf besideOf unlessRefused
+batch-done t many run trail l q size =
+    let queries = queriesIn (measuresOf t .n) many run in
+    let m = batchBySteps (tracesIn t) (treeIn t) queries in
+    let back : nearsIn many (listPlaces (m .answers)) ≡ m .answers =
+    subst (λ (k : ℕ). nearsIn k (listPlaces (m .answers)) ≡ m .answers) (pieces-length (measuresOf t .n) many run)
+    (answers-back (tracesIn t) (treeIn t) queries) in
+    let first : take (m .leaves) (over (m .trail) trail) ≡ m .trail = take-at (m .trail) (drop (length (m .trail)) trail) (m .leaves) (leaves-are (tracesIn t) (treeIn t) queries) in
+    rw (q, list-filled many (listPlaces (m .answers)) l size, back, first)
+
 batching-said : (t : Tables) (many : ℕ) (run : Trace) (trail : List ℕ) (list : List Near) (o : Option word.Refusal)
+    → firstOf (madeConditions t ++ batchConditionsIn t many (length list) run trail) ≡ o
     → let e = unlessRefused o t (trail ∷ listPlaces list ∷ []) (batches t many run trail list) in
-    Said (λ (r : BatchOutcome) (s : List ℕ × List Near). outcome (batching-answer.answerBy r (s .1) (s .0))
-    (tables (t .control) (t .samples) (t .nodes) (t .links) (e .after .work)) (s .0 ∷ listPlaces (s .1) ∷ [])) e
-unfolding unlessRefused batching-answer.answerBy batchBySteps
-batching-said t many run trail list (some why) = record { result = b.Refused (caseOf why); beside = (trail, list); is = rw (case-word why) }
-batching-said t many run trail list none = record {
-  result = b.Done (m .leaves);
-  beside = (over (m .trail) trail, m .answers);
-  is = rw (take-at (m .trail) (drop (length (m .trail)) trail) (m .leaves) refl);
+    BatchSaid t many run trail (length list) (e .after .work)
+unfolding unlessRefused foundBy
+batching-said t many run trail list (some why) q = record {
+  found = record { outcome = b.Refused (caseOf why); count = 0; bests = [] };
+  trail′ = trail;
+  is = λ l size.
+      batch-refused (t .control) (t .samples) (t .nodes) (t .links) (t .work) many run trail l (caseOf why) []
+      (ap (λ (p : ℕ). firstOf (madeConditions t ++ batchConditionsIn t many p run trail)) size ∙ q ∙ ap some (sym (case-word why)));
+}
+batching-said t many run trail list none q = record {
+  found = record { outcome = b.Done (m .leaves); count = many; bests = listPlaces (m .answers) };
+  trail′ = over (m .trail) trail;
+  is = λ l size.
+      batch-done t many run trail l (ap (λ (p : ℕ). firstOf (madeConditions t ++ batchConditionsIn t many p run trail)) size ∙ q)
+      (size ∙ taken t many (length list) run trail q .1);
 }
   where
     m : Batch
@@ -352,22 +406,28 @@ module _ (c : Call) (memory : Tables) (places : lentOf (firstPlaces (c .lent) me
       (slices (outcomeOn (listing k query trail list) t .after) (slice (s .beside .0), (slice (s .beside .1), (slice query, (k, tt)))))
       (s .result) (s .is) asked typed refl
   by-ask (searching (aBatch many run trail list)) asked typed =
-      let s = batching-said t many run trail list (firstOf (batches t many run trail list .conditions)) in
+      let s = batching-said t many run trail list (firstOf (batches t many run trail list .conditions)) refl in
       let after = outcomeOn (batching many run trail list) t .after in
-      let kept = tables (t .control) (t .samples) (t .nodes) (t .links) (after .work) in
-      let left-trail = s .beside .0 in
-      let left-list = nearsOf (recordsOf (s .beside .1)) in
+      let stored = storeOf (s .found) (recordsOf list) in
+      let left-list = nearsOf (stored .list) in
       record {
-        said = reply (batching-answer.answerBy (s .result) left-list left-trail) (left-trail ∷ listPlaces left-list ∷ []);
-        memory′ = left kept memory;
+        said = reply (batching-answer.answerBy (s .found .outcome) left-list (s .trail′)) (s .trail′ ∷ listPlaces left-list ∷ []);
+        memory′ = left (tables (t .control) (t .samples) (t .nodes) (t .links) (after .work)) memory;
         did = by-batch (record {
-          κs = lifetimes 8;
-          args = slices t (slice trail, (slice run, (many, (slice (recordsOf list), tt))));
-          exits = slices after (slice left-trail, (slice run, (many, (slice (recordsOf (s .beside .1)), tt))));
-          result = s .result;
-          claim = rw (nears-back (s .beside .1), nears-back list) (s .is);
-          made = in-place (asked ∙ ap (batching many run trail) (sym (nears-back list)))
-              (subst (λ (l : List Near). Typed (batching many run trail l) t) (sym (nears-back list)) typed) refl;
+          list = recordsOf list;
+          list′ = stored .list;
+          searched = record {
+            κs = lifetimes 7;
+            args = slices t (slice trail, (slice run, (many, (length list, tt))));
+            exits = slices after (slice (s .trail′), (slice run, (many, (length list, tt))));
+            result = s .found;
+            claim = s .is;
+            made = in-place (asked ∙ ap (batching many run trail) (sym (nears-back list)))
+                (subst (λ (l : List Near). Typed (batching many run trail l) t) (sym (nears-back list)) typed) refl;
+          };
+          so-long = length-map list _;
+          done = stored .done;
+          stored = refl;
         });
       }
 

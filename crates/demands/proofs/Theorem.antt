@@ -8,7 +8,8 @@ use Rattle.sheet_reading.proofs.read_sheet.Met as read-met
 use Rattle.importing.proofs.import_recording.Met as import-met
 use Rattle.exporting.proofs.export_recording.Met as export-met
 use Rattle.checking.proofs.check_tables.Met as check-met
-use Rattle.batch_answers.proofs.match_batch.Met as batch-met
+use Rattle.batching.proofs.match_all.Met as batch-met
+use Rattle.batch_answers.proofs.store.Met as store-met
 use mathlib.Core.Path.{refl}
 use Rattle.calls.proofs.Demands.{demands}
 use Rattle.demands.specs.Theorem.{Theorem}
@@ -27,6 +28,7 @@ theorem = record {
   export-meets = export-met.met;
   check-meets = check-met.met;
   batch-meets = batch-met.met;
+  store-meets = store-met.met;
   open-clause = λ M 𝓤 H A mem run κs args. refl;
   add-clause = λ M 𝓤 H A mem run κs args. refl;
   nearest-clause = λ M 𝓤 H A mem run κs args. refl;
@@ -37,6 +39,7 @@ theorem = record {
   export-clause = λ M 𝓤 H A mem run κs args. refl;
   check-clause = λ M 𝓤 H A mem run κs args. refl;
   batch-clause = λ M 𝓤 H A mem run κs args. refl;
+  store-clause = λ M 𝓤 H A mem run κs args. refl;
   follows = follows;
   replies = replies;
   demands = demands;

@@ -1,10 +1,11 @@
 -- What a call of the code did: its arguments and what it left, of which its contract speaks, and where its slices lie in a memory.
 use Prim.Native.Nat.{ℕ}
 use mathlib.Core.Path.{_≡_}
+use mathlib.Core.Bool.{Bool}
 use mathlib.Core.List.{List, [], _∷_}
 use lib.IntN.{ℤ}
+use lib.ListN.{length}
 use denote.Ref.{RefT, now}
-use denote.Triple.Entry.{Args}
 use denote.Triple.Clauses.{AtExit}
 use borrow.Fn.Kinds.{PK, RK, Dens, endedOf, Out, resT}
 use contract.Lifetimes.{Lfts}
@@ -14,8 +15,6 @@ use Rattle.dstree.specs.Book.{Ask, opening, adding, matching, writing, reading,
 use Rattle.dstree.specs.Book.{batching, Reply, reply}
 use Rattle.tables.specs.Tables.{Tables, tables, lentOf}
 use Rattle.tables.specs.Beginning.{firstPlaces, left}
-use Rattle.calls.specs.Outcome.{outcome}
-use Rattle.calls.specs.Effects.{outcomeOn}
 use Rattle.calls.specs.Follows.{Typed}
 use Rattle.opening.specs.Opened as opening-answer
 use Rattle.opening.proofs.open.Kinds as open-kinds
@@ -44,10 +43,12 @@ use Rattle.exporting.proofs.export_recording.Reads as export-reads
 use Rattle.checking.specs.Answered as checking-answer
 use Rattle.checking.proofs.check_tables.Kinds as check-kinds
 use Rattle.checking.proofs.check_tables.Reads as check-reads
-use Rattle.batching.specs.declared.Batched.{Batched}
+use Rattle.batching.specs.declared.AnswerRecord.{AnswerRecord}
+use Rattle.batching.specs.declared.BatchFound.{BatchFound}
 use Rattle.batching.specs.Answered as batching-answer
-use Rattle.batch_answers.specs.AnswerRecords.{nearsOf}
-use Rattle.batch_answers.proofs.match_batch as batch
+use Rattle.batching.proofs.match_all.Kinds as batch-kinds
+use Rattle.batching.proofs.match_all.Reads as batch-reads
+use Rattle.batch_answers.specs.AnswerRecords.{storeOutcome, storeOf, nearsOf}
 
 -- ---- slices
 
@@ -172,37 +173,25 @@ abbrev pub Checks : Call → Tables → Reply → Tables → Type 0
 Checks = Made check-kinds.ps check-kinds.r check-reads.Learnt (λ κs args r exits.
     exchange checking (tablesOf args) (checking-answer.answerBy r) (tablesOf args) [])
 
--- what a batch asks
-abbrev pub batchAsk : (κs : Lfts 8) → Args batch.signature κs → Ask
-batchAsk κs args =
-    let trail = now (own args .0) in
-    let run = now (own args .1 .0) in
-    let count = own args .1 .1 .0 in
-    let list = nearsOf (now (own args .1 .1 .1 .0)) in
-    batching count run trail list
+-- what storing a batch's records leaves in the caller's list. A list of structs is stored by a function that is proved by a walk of its
+-- code, and no `Learnt` is generated: the claim is written here, and it is the clause of the contract (`Theorem`: `store-clause`)
+abbrev pub StoreLearnt : BatchFound → List AnswerRecord → Bool → List AnswerRecord → Type 0
+StoreLearnt found list done list′ = storeOutcome done list′ ≡ storeOf found list
 
--- what a batch's contract says. It is lent a list of structs, so that it is proved by a walk of its code, and no `Learnt` is generated: the
--- claim is written here, and it is the clause of the contract (`Theorem`: `batch-clause`)
-abbrev pub BatchLearnt : (κs : Lfts 8) → Args batch.signature κs → Batched → AtExit batch.ended κs → Type 0
-BatchLearnt κs args r exits =
-    let trail′ = now (own exits .0) in
-    let list′ = nearsOf (now (own exits .1 .1 .1 .0)) in
-    outcome (batching-answer.answerBy r list′ trail′) (tables (control args) (samples args) (nodes args) (links args) (work exits))
-    (trail′ ∷ listPlaces list′ ∷ [])
-    ≡ outcomeOn (batchAsk κs args) (tablesOf args)
-
--- a batch is lent all but search work, trail and its list of records to read
+-- a batch is a search for a list of so many records, and a storing of what it found: it is lent all but search work, trail and its list of
+-- records to read
 pub record Batches (c : Call) (memory : Tables) (said : Reply) (memory′ : Tables) : Type 0 where
-  pub κs : Lfts 8
-  pub args : Args batch.signature κs
-  pub exits : AtExit batch.ended κs
-  pub result : Batched
-  pub claim : BatchLearnt κs args result exits
-  pub made : let trail′ = now (own exits .0) in
-      let list′ = nearsOf (now (own exits .1 .1 .1 .0)) in
-      CallMade (batchAsk κs args) (tablesOf args)
-      (batching-answer.answerBy result list′ trail′) (tables (control args) (samples args) (nodes args) (links args) (work exits))
-      (trail′ ∷ listPlaces list′ ∷ []) c memory said memory′
+  pub list : List AnswerRecord
+  pub list′ : List AnswerRecord
+  pub searched : Made batch-kinds.ps batch-kinds.r batch-reads.Learnt (λ κs args r exits.
+      let trail′ = now (own exits .0) in
+      exchange (batching (own args .1 .1 .0) (now (own args .1 .0)) (now (own args .0)) (nearsOf list)) (tablesOf args)
+      (batching-answer.answerBy (r .outcome) (nearsOf list′) trail′)
+      (tables (control args) (samples args) (nodes args) (links args) (work exits))
+      (trail′ ∷ listPlaces (nearsOf list′) ∷ [])) c memory said memory′
+  pub so-long : length list ≡ own (searched .args) .1 .1 .1 .0
+  pub done : Bool
+  pub stored : StoreLearnt (searched .result) list done list′
 
 -- a call on a memory, what it answered, and the memory after it
 pub data Did (c : Call) (memory : Tables) (said : Reply) (memory′ : Tables) : Type 0 where

@@ -9,6 +9,7 @@ use prog.Wp.{Heap}
 use ghost.Atoms.{Atoms}
 use contract.Lifetimes.{Lfts}
 use contract.Monad.{Fun, fact}
+use denote.Ref.{now}
 use denote.Triple.Entry.{Args, Res}
 use denote.Triple.Clauses.{Ended, AtExit}
 use denote.Triple.Spec.{Spec, exits}
@@ -42,11 +43,14 @@ use Rattle.exporting.proofs.export_recording.Reads as export-reads
 use Rattle.checking.proofs.check_tables as check
 use Rattle.checking.proofs.check_tables.Statement as check-statement
 use Rattle.checking.proofs.check_tables.Reads as check-reads
-use Rattle.batch_answers.proofs.match_batch as batch
-use Rattle.batch_answers.proofs.match_batch.Statement as batch-statement
+use Rattle.batching.proofs.match_all as batch
+use Rattle.batching.proofs.match_all.Statement as batch-statement
+use Rattle.batching.proofs.match_all.Reads as batch-reads
+use Rattle.batch_answers.proofs.store
+use Rattle.batch_answers.proofs.store.Statement as store-statement
 use Rattle.calls.specs.Follows.{Typed, Follows}
 use Rattle.calls.specs.Demands.{Demands}
-use Rattle.demands.specs.Did.{BatchLearnt, Did}
+use Rattle.demands.specs.Did.{StoreLearnt, Did}
 
 -- a reply to a call on a memory, and the memory after it
 pub record Replied (c : Call) (memory : Tables) : Type 0 where
@@ -79,6 +83,7 @@ pub record Theorem : Type 2 where
   pub export-meets : {M : Type 1} → export-statement.statement M
   pub check-meets : {M : Type 1} → check-statement.statement M
   pub batch-meets : {M : Type 1} → batch-statement.statement M
+  pub store-meets : {M : Type 1} → store-statement.statement M
   -- what `Did` claims of a call is what its contract ensures, and no more is asked
   pub open-clause : Clause open.ended (λ M 𝓤. open.spec 𝓤) open-reads.Learnt
   pub add-clause : Clause add.ended (λ M 𝓤. add.spec 𝓤) add-reads.Learnt
@@ -89,7 +94,9 @@ pub record Theorem : Type 2 where
   pub import-clause : Clause import-call.ended (λ M 𝓤. import-call.spec 𝓤) import-reads.Learnt
   pub export-clause : Clause export-call.ended (λ M 𝓤. export-call.spec 𝓤) export-reads.Learnt
   pub check-clause : Clause check.ended (λ M 𝓤. check.spec 𝓤) check-reads.Learnt
-  pub batch-clause : Clause batch.ended (λ M 𝓤. batch.spec 𝓤) BatchLearnt
+  pub batch-clause : Clause batch.ended (λ M 𝓤. batch.spec 𝓤) batch-reads.Learnt
+  pub store-clause : Clause store.ended (λ M 𝓤. store.spec 𝓤)
+      (λ κs args r exits. StoreLearnt (args .0) (now (args .1 .0)) r (now (exits .1 .0)))
   -- demand 1: the reply and the memory after are those that the definition makes of the call and the memory before
   pub follows : (c : Call) (memory memory′ : Tables) (said : Reply) → Did c memory said memory′ → Follows c memory said memory′
   -- every call that its types allow has a reply and a memory after it, on every memory that has the places that it is lent

@@ -263,7 +263,8 @@ pub extern "C" fn silkendoz_match_batch(
         (tables (now (control .entry)) (now (samples .entry)) (now (nodes .entry)) (now (links .entry)) (now (work .entry))))
         (now (out .entry)) ⌝ }
 {
-    let answer = batch_answers::match_batch(
+    let places = answers.len();
+    let found = batching::match_all(
         control,
         samples,
         nodes,
@@ -272,7 +273,8 @@ pub extern "C" fn silkendoz_match_batch(
         trail,
         queries,
         many,
-        answers,
+        places,
     );
-    telling::tell_batched(answer, out)
+    batch_answers::store(found, answers);
+    telling::tell_batched(found, out)
 }

@@ -1,6 +1,7 @@
 // An answer as numbers: its code is given back, its values go into a lent slice.
 
 use adding::Added;
+use batching::BatchFound;
 use batching::Batched;
 use checking::Checked;
 use exporting::Exported;
@@ -159,10 +160,11 @@ pub fn tell_checked(answer: Checked, out: &mut [u64]) -> u64
 }
 
 // Records and trail are told by the slices that the batch leaves them in.
-pub fn tell_batched(answer: Batched, out: &mut [u64]) -> u64
+pub fn tell_batched(found: BatchFound, out: &mut [u64]) -> u64
     ensures { λ r. ⌜ ((records : List Near) (trail : List ℕ)
-        → returned r (now (out .exit)) ≡ returnedOf (batching.answerBy answer records trail) (now (out .entry))) ⌝ }
+        → returned r (now (out .exit)) ≡ returnedOf (batching.answerBy (found .outcome) records trail) (now (out .entry))) ⌝ }
 {
+    let answer = found.outcome;
     match answer {
         Batched::Done(leaves) => {
             put(out, 0, leaves);

@@ -5,6 +5,7 @@
 -- Assumes nothing.
 use mathlib.Core.Path.{_≡_, refl}
 use Prim.Native.Nat.{ℕ, _<_, _^_}
+use mathlib.Core.Bool.{Bool}
 use mathlib.Core.List.{[], _∷_, List}
 use lib.ListN.{length}
 use lib.IntN.{ℤ}
@@ -21,19 +22,19 @@ use contract.Monad.{Fun, fact}
 use contract.Running.{givenOf, tables, tablesOf}
 use types.Kit.{Given, Item, ‵, raw, _⊛_, some, later, ⋆, _$_, _∵_, !, qed, by, move, keep, drop, use1, group, split, join, pick, fsplit}
 use types.Kit.{fjoin, feqL, suffices, frame, await, done}
-use types.Run.{look, init, forget, stop, hop, fld, from, load, addr, and-then, no-more, assigns, land, returns, enter, alloc1, alloc0}
-use types.Run.{params1, pass1, pass0, free1, free0}
+use types.Run.{look, init, forget, stop, hop, fld, from, load, addr, of-opd, and-then, no-more, assigns, land, returns, enter, alloc1}
+use types.Run.{alloc0, params1, pass1, pass0, free1, free0}
 use types.Part.{agg, whole, sub, look-in}
 use sound.WpLaws.{FmC, fmOf, WpFn-mono}
 use denote.RattleType.{owns}
 use denote.Laws.{Is, shows}
-use denote.Plain.{uint-makes, uint-vals, uint-tells, uint-lawful}
-use denote.Builtin.{i16, i64, u16, u64, usize}
+use denote.Plain.{uint-makes, uint-vals, uint-tells, uint-lawful, bool-lawful}
+use denote.Builtin.{bool, i16, i64, u16, u64, usize}
 use denote.Ref.{RefT}
 use denote.Slice.{sliceVal, ShrSlice, MutSlice, Room, finally, slice-vals, shr-slice-tells, shr-slice-copy, mut-slice-tells}
 use denote.Steps.{owned, peeks, heard, nothing}
 use denote.Signature.{plain}
-use denote.Enum.Laws as EL
+use denote.Struct.Laws as LL
 use denote.Triple.Entry.{onEntry}
 use denote.Triple.Spec.{Meets, tripleOf}
 use denote.Triple.Statement.{Contract, Triple}
@@ -44,24 +45,29 @@ use denote.Triple.Walked.{says, Stays, stay-none, stay-none-slice, gave-slice, w
 use denote.Triple.Walked.{ends-at, walked, walk-meets}
 use denote.Exit.{yes}
 use Rattle.batching.specs.declared.AnswerRecord.{AnswerRecord}
-use Rattle.batching.specs.declared.Batched.{Batched}
+use Rattle.batching.specs.declared.BatchFound.{BatchFound}
 use Rattle.dstree.specs.Matching.{Near}
 use Rattle.dstree.specs.KNearest.{listPlaces}
 use Rattle.dstree.specs.Book as book
 use Rattle.tables.specs.Tables as lent
 use Rattle.calls.specs.Outcome.{outcome}
 use Rattle.calls.specs.Effects.{outcomeOn}
-use Rattle.batching.specs.Answered.{answerBy}
-use Rattle.batch_answers.specs.AnswerRecords.{nearsOf}
+use Rattle.batching.specs.Answered.{answerBy, listAfter}
+use Rattle.batch_answers.specs.AnswerRecords.{storeOutcome, storeOf, nearsOf}
+use Rattle.batch_answers.proofs.Whole as laws
 use Rattle.telling.specs.COutcome.{returned, returnedOf, cOutcome, cOutcomeOf}
 use Rattle.library_c.proofs.Answers.{exported-call}
 use Rattle.batching.proofs.AnswerRecord as T
-use Rattle.batching.proofs.Batched as O
-use Rattle.batching.proofs.Batched.Laws as O′
-use Rattle.batch_answers.proofs.match_batch as all′
-use Rattle.batch_answers.proofs.match_batch.Symbol as all-def
-use Rattle.batch_answers.proofs.match_batch.Symbol.{name as #all}
-use Rattle.batch_answers.proofs.match_batch.Met as all-thm
+use Rattle.batching.proofs.BatchFound as F
+use Rattle.batching.proofs.BatchFound.Laws as F′
+use Rattle.batching.proofs.match_all as search′
+use Rattle.batching.proofs.match_all.Symbol as search-def
+use Rattle.batching.proofs.match_all.Symbol.{name as #search}
+use Rattle.batching.proofs.match_all.Met as search-thm
+use Rattle.batch_answers.proofs.store as store′
+use Rattle.batch_answers.proofs.store.Symbol as store-def
+use Rattle.batch_answers.proofs.store.Symbol.{name as #store}
+use Rattle.batch_answers.proofs.store.Met as store-thm
 use Rattle.telling.proofs.tell_batched as tell′
 use Rattle.telling.proofs.tell_batched.Symbol as tell-def
 use Rattle.telling.proofs.tell_batched.Symbol.{name as #tell}
@@ -103,8 +109,11 @@ stayed = (
 
 module _ {M : Type 1} (𝓤 : URA M) (H : Heap 𝓤) (A : Atoms 𝓤) (mem : Memory → SProp 𝓤) (run : Routine → Fun 𝓤) where
   -- the contracts that the proof cites
-  abbrev All : Contract 𝓤
-  All = tripleOf 𝓤 H A all′.signature (all′.spec 𝓤 H A mem run)
+  abbrev Search : Contract 𝓤
+  Search = tripleOf 𝓤 H A search′.signature (search′.spec 𝓤 H A mem run)
+
+  abbrev Store : Contract 𝓤
+  Store = tripleOf 𝓤 H A store′.signature (store′.spec 𝓤 H A mem run)
 
   abbrev Tell : Contract 𝓤
   Tell = tripleOf 𝓤 H A tell′.signature (tell′.spec 𝓤 H A mem run)
@@ -203,14 +212,18 @@ module _ {M : Type 1} (𝓤 : URA M) (H : Heap 𝓤) (A : Atoms 𝓤) (W : Given
   )
 
   -- what is ensured, by the callees and by the whole
-  abbrev Answers : Batched → List ℕ → List ℕ → List AnswerRecord → Type 0
-  Answers r work′ trail′ list′ = outcome (answerBy r (nearsOf list′) trail′)
-      (lent.tables (control .now) (samples .now) (nodes .now) (links .now) work′) (trail′ ∷ listPlaces (nearsOf list′) ∷ []) ≡ outcomeOn
-      (book.batching many (queries .now) (trail .now) (nearsOf (list .now)))
+  abbrev Searched : BatchFound → List ℕ → List ℕ → Type 0
+  Searched found work′ trail′ = (l : List Near) → length l ≡ length (list .now) → outcome
+      (answerBy (found .outcome) (listAfter found l) trail′) (lent.tables (control .now) (samples .now) (nodes .now) (links .now) work′)
+      (trail′ ∷ listPlaces (listAfter found l) ∷ []) ≡ outcomeOn (book.batching many (queries .now) (trail .now) l)
       (lent.tables (control .now) (samples .now) (nodes .now) (links .now) (work .now))
 
-  abbrev Tells : Batched → ℕ → List ℕ → Type 0
-  Tells r code out′ = (records : List Near) (read : List ℕ) → returned code out′ ≡ returnedOf (answerBy r records read) (out .now)
+  abbrev Stored : BatchFound → Bool → List AnswerRecord → Type 0
+  Stored found done list′ = storeOutcome done list′ ≡ storeOf found (list .now)
+
+  abbrev Tells : BatchFound → ℕ → List ℕ → Type 0
+  Tells found code out′ =
+      (records : List Near) (read : List ℕ) → returned code out′ ≡ returnedOf (answerBy (found .outcome) records read) (out .now)
 
   abbrev Ensured : ℕ → List ℕ → List ℕ → List AnswerRecord → List ℕ → Type 0
   Ensured code work′ trail′ list′ out′ = cOutcome code out′ (lent.tables (control .now) (samples .now) (nodes .now) (links .now) work′)
@@ -243,17 +256,17 @@ module _ {M : Type 1} (𝓤 : URA M) (H : Heap 𝓤) (A : Atoms 𝓤) (W : Given
       move ! (6 ∷ 0 ∷ []) $ fjoin ! $ move ! (5 ∷ 0 ∷ []) $ fjoin ! $ move ! (4 ∷ 0 ∷ []) $ fjoin ! $ move ! (3 ∷ 0 ∷ []) $ fjoin ! $
       move ! (2 ∷ 0 ∷ []) $ fjoin ! $ move ! (1 ∷ 0 ∷ []) $ fjoin ! $ done !
 
-  abbrev to-list : RefT (List ℕ) × (RefT (List ℤ) × (RefT (List ℤ) ×
-      (RefT (List ℕ) × (RefT (List ℕ) × (RefT (List ℕ) × (RefT (List ℤ) × (ℕ × (RefT (List AnswerRecord) × Unit {0}))))))))
-  to-list = (control, (samples, (nodes, (links, (work, (trail, (queries, (many, (list, tt)))))))))
+  abbrev to : RefT (List ℕ) × (RefT (List ℤ) × (RefT (List ℤ) ×
+      (RefT (List ℕ) × (RefT (List ℕ) × (RefT (List ℕ) × (RefT (List ℤ) × (ℕ × (ℕ × Unit {0}))))))))
+  to = (control, (samples, (nodes, (links, (work, (trail, (queries, (many, ((length (list .now)), tt)))))))))
 
-  abbrev to-all : All 𝓤 H A mem run .Ghost
-  to-all = (
+  abbrev to-search : Search 𝓤 H A mem run .Ghost
+  to-search = (
     (
-      (κ₀, (κ₁, (κ₂, (κ₃, (κ₄, (κ₅, (κ₆, (κ₇, tt)))))))),
-      (q₀, (q₁, (q₂, (q₃, (q₄, (q₅, (q₆, (q₇, tt)))))))),
+      (κ₀, (κ₁, (κ₂, (κ₃, (κ₄, (κ₅, (κ₆, tt))))))),
+      (q₀, (q₁, (q₂, (q₃, (q₄, (q₅, (q₆, tt))))))),
       tt,
-      to-list,
+      to,
       (
         v-control ∷ [],
         (
@@ -262,7 +275,7 @@ module _ {M : Type 1} (𝓤 : URA M) (H : Heap 𝓤) (A : Atoms 𝓤) (W : Given
             v-nodes ∷ [],
             (
               v-links ∷ [],
-              (v-work ∷ [], (v-trail ∷ [], (v-queries ∷ [], (vint w64 many ∷ [], (v-list ∷ [], tt))))),
+              (v-work ∷ [], (v-trail ∷ [], (v-queries ∷ [], (vint w64 many ∷ [], (vint w64 (length (list .now)) ∷ [], tt))))),
             ),
           ),
         ),
@@ -271,30 +284,38 @@ module _ {M : Type 1} (𝓤 : URA M) (H : Heap 𝓤) (A : Atoms 𝓤) (W : Given
     tt,
   )
 
-  goes-all : ent 𝓤 (⋆ 𝓤 H A (‵ (flft κ₀ q₀) ∷ ‵ (flft κ₁ q₁) ∷ ‵ (flft κ₂ q₂) ∷ ‵ (flft κ₃ q₃) ∷ ‵ (flft κ₄ q₄) ∷ ‵ (flft κ₅ q₅) ∷ ‵
-      (flft κ₆ q₆) ∷ ‵
-      (flft κ₇ q₇) ∷ ‵ Own-control ∷ ‵ Own-samples ∷ ‵ Own-nodes ∷ ‵ Own-links
-      ∷ ‵ Own-work ∷ ‵ Own-trail ∷ ‵ Own-queries ∷ ‵ Own-list ∷ [])) (All 𝓤 H A mem run .pre to-all)
-  goes-all =
-      qed W (‵ (flft κ₀ q₀) ∷ ‵ (flft κ₁ q₁) ∷ ‵ (flft κ₂ q₂) ∷ ‵ (flft κ₃ q₃) ∷ ‵ (flft κ₄ q₄) ∷ ‵ (flft κ₅ q₅) ∷ ‵ (flft κ₆ q₆) ∷ ‵
-      (flft κ₇ q₇) ∷ ‵ Own-control ∷ ‵ Own-samples ∷ ‵ Own-nodes ∷ ‵ Own-links
-      ∷ ‵ Own-work ∷ ‵ Own-trail ∷ ‵ Own-queries ∷ ‵ Own-list ∷ []) ∵ nothing ! $
-      move ! (16 ∷ 0 ∷ []) $ fjoin ! $ owned ! usize (Is usize) (uint-makes 𝓤 H A W w64) many _ (refl, many-fits) $ fjoin ! $
-      move ! (15 ∷ 0 ∷ []) $ fjoin ! $ move ! (14 ∷ 0 ∷ []) $ fjoin ! $ move ! (13 ∷ 0 ∷ []) $ fjoin ! $ move ! (12 ∷ 0 ∷ []) $ fjoin ! $
-      move ! (11 ∷ 0 ∷ []) $ fjoin ! $ move ! (10 ∷ 0 ∷ []) $ fjoin ! $ move ! (9 ∷ 0 ∷ []) $ fjoin ! $ nothing ! $ move ! (9 ∷ 0 ∷ []) $
-      join ! $ move ! (8 ∷ 0 ∷ []) $ join ! $ move ! (7 ∷ 0 ∷ []) $ join ! $ move ! (6 ∷ 0 ∷ []) $ join ! $ move ! (5 ∷ 0 ∷ []) $ join ! $
-      move ! (4 ∷ 0 ∷ []) $ join ! $ move ! (3 ∷ 0 ∷ []) $ join ! $ move ! (2 ∷ 0 ∷ []) $ join ! $ join ! $ frame ! $ done !
+  goes-search : Room T.the-row (length (list .now)) → ent 𝓤 (⋆ 𝓤 H A
+      (‵ (flft κ₀ q₀) ∷ ‵ (flft κ₁ q₁) ∷ ‵ (flft κ₂ q₂) ∷ ‵ (flft κ₃ q₃) ∷ ‵ (flft κ₄ q₄) ∷ ‵ (flft κ₅ q₅) ∷ ‵
+      (flft κ₆ q₆) ∷ ‵ Own-control ∷ ‵ Own-samples ∷ ‵ Own-nodes ∷ ‵ Own-links ∷ ‵ Own-work ∷ ‵ Own-trail ∷ ‵ Own-queries ∷ []))
+      (Search 𝓤 H A mem run .pre to-search)
+  goes-search room =
+      qed W (‵ (flft κ₀ q₀) ∷ ‵ (flft κ₁ q₁) ∷ ‵ (flft κ₂ q₂) ∷ ‵ (flft κ₃ q₃) ∷ ‵ (flft κ₄ q₄) ∷ ‵ (flft κ₅ q₅) ∷ ‵
+      (flft κ₆ q₆) ∷ ‵ Own-control ∷ ‵ Own-samples ∷ ‵ Own-nodes ∷ ‵ Own-links ∷ ‵ Own-work ∷ ‵ Own-trail ∷ ‵ Own-queries ∷ []) ∵ nothing ! $
+      owned ! usize (Is usize) (uint-makes 𝓤 H A W w64) (length (list .now)) _ (refl, room .0) $ fjoin ! $
+      owned ! usize (Is usize) (uint-makes 𝓤 H A W w64) many _ (refl, many-fits) $ fjoin ! $ move ! (14 ∷ 0 ∷ []) $ fjoin ! $
+      move ! (13 ∷ 0 ∷ []) $ fjoin ! $ move ! (12 ∷ 0 ∷ []) $ fjoin ! $ move ! (11 ∷ 0 ∷ []) $ fjoin ! $ move ! (10 ∷ 0 ∷ []) $ fjoin ! $
+      move ! (9 ∷ 0 ∷ []) $ fjoin ! $ move ! (8 ∷ 0 ∷ []) $ fjoin ! $ nothing ! $ move ! (8 ∷ 0 ∷ []) $ join ! $ move ! (7 ∷ 0 ∷ []) $
+      join ! $ move ! (6 ∷ 0 ∷ []) $ join ! $ move ! (5 ∷ 0 ∷ []) $ join ! $ move ! (4 ∷ 0 ∷ []) $ join ! $ move ! (3 ∷ 0 ∷ []) $ join ! $
+      move ! (2 ∷ 0 ∷ []) $ join ! $ join ! $ frame ! $ done !
 
-  abbrev to-tell : Batched → Val → Tell 𝓤 H A mem run .Ghost
-  to-tell = λ r w. (((κ₈, tt), (q₈, tt), tt, (r, (out, tt)), (w ∷ [], (v-out ∷ [], tt))), tt)
+  abbrev to-store : BatchFound → Val → Store 𝓤 H A mem run .Ghost
+  to-store = λ found w. (((κ₇, tt), (q₇, tt), tt, (found, (list, tt)), (w ∷ [], (v-list ∷ [], tt))), tt)
 
-  goes-tell : (r : Batched) (w : Val) → ent 𝓤 (⋆ 𝓤 H A (‵ (flft κ₈ q₈) ∷ ‵ (O.the-row .own r (w ∷ [])) ∷ ‵ Own-out ∷ []))
-      (Tell 𝓤 H A mem run .pre (to-tell r w))
-  goes-tell r w = qed W (‵ (flft κ₈ q₈) ∷ ‵ (O.the-row .own r (w ∷ [])) ∷ ‵ Own-out ∷ []) ∵ nothing ! $ move ! (3 ∷ 0 ∷ []) $ fjoin ! $
-      move ! (2 ∷ 0 ∷ []) $ fjoin ! $ nothing ! $ move ! (2 ∷ 0 ∷ []) $ join ! $ join ! $ frame ! $ done !
+  goes-store : (found : BatchFound) (w : Val) → ent 𝓤 (⋆ 𝓤 H A (‵ (flft κ₇ q₇) ∷ ‵ (F.the-row .own found (w ∷ [])) ∷ ‵ Own-list ∷ []))
+      (Store 𝓤 H A mem run .pre (to-store found w))
+  goes-store found w = qed W (‵ (flft κ₇ q₇) ∷ ‵ (F.the-row .own found (w ∷ [])) ∷ ‵ Own-list ∷ []) ∵ nothing ! $ move ! (3 ∷ 0 ∷ []) $
+      fjoin ! $ move ! (2 ∷ 0 ∷ []) $ fjoin ! $ nothing ! $ move ! (2 ∷ 0 ∷ []) $ join ! $ join ! $ frame ! $ done !
 
-  module _ (C : Calls 𝓤 H) (Λ : Loops 𝓤 H) (fm : FmC 𝓤 H (W .laws) C) (known-all : Triple 𝓤 (C #all) (All 𝓤 H A mem run))
-      (known-tell : Triple 𝓤 (C #tell) (Tell 𝓤 H A mem run)) where
+  abbrev to-tell : BatchFound → Val → Tell 𝓤 H A mem run .Ghost
+  to-tell = λ found w. (((κ₈, tt), (q₈, tt), tt, (found, (out, tt)), (w ∷ [], (v-out ∷ [], tt))), tt)
+
+  goes-tell : (found : BatchFound) (w : Val) → ent 𝓤 (⋆ 𝓤 H A (‵ (flft κ₈ q₈) ∷ ‵ (F.the-row .own found (w ∷ [])) ∷ ‵ Own-out ∷ []))
+      (Tell 𝓤 H A mem run .pre (to-tell found w))
+  goes-tell found w = qed W (‵ (flft κ₈ q₈) ∷ ‵ (F.the-row .own found (w ∷ [])) ∷ ‵ Own-out ∷ []) ∵ nothing ! $ move ! (3 ∷ 0 ∷ []) $
+      fjoin ! $ move ! (2 ∷ 0 ∷ []) $ fjoin ! $ nothing ! $ move ! (2 ∷ 0 ∷ []) $ join ! $ join ! $ frame ! $ done !
+
+  module _ (C : Calls 𝓤 H) (Λ : Loops 𝓤 H) (fm : FmC 𝓤 H (W .laws) C) (known-search : Triple 𝓤 (C #search) (Search 𝓤 H A mem run))
+      (known-store : Triple 𝓤 (C #store) (Store 𝓤 H A mem run)) (known-tell : Triple 𝓤 (C #tell) (Tell 𝓤 H A mem run)) where
     walk : Room u16 (length (control .now)) → Room i16 (length (samples .now)) → Room i64 (length (nodes .now)) → Room u16
         (length (links .now)) → Room u64 (length (work .now)) → Room u16 (length (trail .now)) → Room i16 (length (queries .now))
         → Room T.the-row (length (list .now)) → Room u64 (length (out .now))
@@ -307,40 +328,35 @@ module _ {M : Type 1} (𝓤 : URA M) (H : Heap 𝓤) (A : Atoms 𝓤) (W : Given
         (named 3) κ₃ u16 ∷ MutSlice (named 4) κ₄ u64 ∷ MutSlice (named 5) κ₅ u16 ∷ ShrSlice (named 6) κ₆ i16 ∷ usize ∷ MutSlice
         (named 7) κ₇ T.the-row ∷ MutSlice (named 8) κ₈ u64 ∷ []) a vals) ∷ []) ∵ enter ! C Λ code.function
         (v-control ∷ v-samples ∷ v-nodes ∷ v-links ∷ v-work ∷ v-trail ∷ v-queries ∷ vint w64 many ∷ v-list ∷ v-out ∷ []) _ $
-        alloc1 ! (λ l₀. alloc1 ! (λ l₁. alloc1 ! (λ l₂. alloc1 !
-        (λ l₃. alloc1 ! (λ l₄. alloc1 ! (λ l₅. alloc1 ! (λ l₆. alloc1 !
-        (λ l₇. alloc1 ! (λ l₈. alloc1 ! (λ l₉. alloc1 ! (λ l₁₀. alloc1 !
-        (λ l₁₁. alloc1 ! (λ l₁₂. alloc1 ! (λ l₁₃. alloc1 ! (λ l₁₄. alloc1 !
-        (λ l₁₅. alloc1 ! (λ l₁₆. alloc1 ! (λ l₁₇. alloc1 ! (λ l₁₈. alloc1 ! (λ l₁₉. alloc0 ! $
+        alloc1 ! (λ l₀. alloc1 ! (λ l₁. alloc1 ! (λ l₂. alloc1 ! (λ l₃. alloc1 ! (λ l₄. alloc1 ! (λ l₅. alloc1 ! (λ l₆. alloc1 ! (λ l₇.
+        alloc1 ! (λ l₈. alloc1 ! (λ l₉. alloc1 ! (λ l₁₀. alloc1 ! (λ l₁₁. alloc1 ! (λ l₁₂. alloc1 ! (λ l₁₃. alloc1 ! (λ l₁₄.
+        alloc1 ! (λ l₁₅. alloc1 ! (λ l₁₆. alloc1 ! (λ l₁₇. alloc1 ! (λ l₁₈. alloc1 ! (λ l₁₉. alloc1 ! (λ l₂₀. alloc1 ! (λ l₂₁. alloc0 ! $
         params1 ! $
-        pass1 ! (init ! 36 refl (tt, (tt, (record { fits = room-control .0 }, tt)))) $
-        pass1 ! (init ! 34 refl (tt, (tt, (record { fits = room-samples .0 }, tt)))) $
-        pass1 ! (init ! 32 refl (tt, (tt, (record { fits = room-nodes .0 }, tt)))) $
-        pass1 ! (init ! 30 refl (tt, (tt, (record { fits = room-links .0 }, tt)))) $
-        pass1 ! (init ! 28 refl (tt, (tt, (record { fits = room-work .0 }, tt)))) $
-        pass1 ! (init ! 26 refl (tt, (tt, (record { fits = room-trail .0 }, tt)))) $
-        pass1 ! (init ! 24 refl (tt, (tt, (record { fits = room-queries .0 }, tt)))) $
-        pass1 ! (init ! 22 refl (tt, record { fits = many-fits })) $
-        pass1 ! (init ! 20 refl (tt, (tt, (record { fits = room-list .0 }, tt)))) $
-        pass1 ! (init ! 18 refl (tt, (tt, (record { fits = room-out .0 }, tt)))) $ pass0 ! $
+        pass1 ! (init ! 40 refl (tt, (tt, (record { fits = room-control .0 }, tt)))) $
+        pass1 ! (init ! 38 refl (tt, (tt, (record { fits = room-samples .0 }, tt)))) $
+        pass1 ! (init ! 36 refl (tt, (tt, (record { fits = room-nodes .0 }, tt)))) $
+        pass1 ! (init ! 34 refl (tt, (tt, (record { fits = room-links .0 }, tt)))) $
+        pass1 ! (init ! 32 refl (tt, (tt, (record { fits = room-work .0 }, tt)))) $
+        pass1 ! (init ! 30 refl (tt, (tt, (record { fits = room-trail .0 }, tt)))) $
+        pass1 ! (init ! 28 refl (tt, (tt, (record { fits = room-queries .0 }, tt)))) $
+        pass1 ! (init ! 26 refl (tt, record { fits = many-fits })) $
+        pass1 ! (init ! 24 refl (tt, (tt, (record { fits = room-list .0 }, tt)))) $
+        pass1 ! (init ! 22 refl (tt, (tt, (record { fits = room-out .0 }, tt)))) $ pass0 ! $
         -- [the last local; …; … _1; …; room for _0; …; the tokens; what the arguments own]
-        assigns ! (addr ! (from ! (fld ! refl (hop ! (look-in ! 28 (sub ! 0 refl (whole !))) (stop !))))) (from ! (stop !))
-        (init ! 14 refl (tt, tt)) $
-        assigns ! (agg ! (and-then ! (load ! (from ! (stop !)) (look ! 14 refl))
-        (and-then ! (load ! (from ! (fld ! refl (stop !))) (look-in ! 28 (sub ! 1 refl (whole !)))) (no-more !)))) (from ! (stop !))
-        (init ! 12 refl (tt, (tt, (record { fits = room-work .0 }, tt)))) $
-        assigns ! (addr ! (from ! (fld ! refl (hop ! (look-in ! 26 (sub ! 0 refl (whole !))) (stop !))))) (from ! (stop !))
-        (init ! 10 refl (tt, tt)) $
-        assigns ! (agg ! (and-then ! (load ! (from ! (stop !)) (look ! 10 refl))
-        (and-then ! (load ! (from ! (fld ! refl (stop !))) (look-in ! 26 (sub ! 1 refl (whole !)))) (no-more !)))) (from ! (stop !))
-        (init ! 8 refl (tt, (tt, (record { fits = room-trail .0 }, tt)))) $
-        assigns ! (addr ! (from ! (fld ! refl (hop ! (look-in ! 20 (sub ! 0 refl (whole !))) (stop !))))) (from ! (stop !))
-        (init ! 6 refl (tt, tt)) $
-        assigns ! (agg ! (and-then ! (load ! (from ! (stop !)) (look ! 6 refl))
-        (and-then ! (load ! (from ! (fld ! refl (stop !))) (look-in ! 20 (sub ! 1 refl (whole !)))) (no-more !)))) (from ! (stop !))
-        (init ! 4 refl (tt, (tt, (record { fits = room-list .0 }, tt)))) $
+        assigns ! (of-opd ! (load ! (from ! (fld ! refl (stop !))) (look-in ! 24 (sub ! 1 refl (whole !))))) (from ! (stop !))
+        (init ! 20 refl (tt, record { fits = room-list .0 })) $
+        assigns ! (addr ! (from ! (fld ! refl (hop ! (look-in ! 32 (sub ! 0 refl (whole !))) (stop !))))) (from ! (stop !))
+        (init ! 16 refl (tt, tt)) $
+        assigns ! (agg ! (and-then ! (load ! (from ! (stop !)) (look ! 16 refl))
+        (and-then ! (load ! (from ! (fld ! refl (stop !))) (look-in ! 32 (sub ! 1 refl (whole !)))) (no-more !)))) (from ! (stop !))
+        (init ! 14 refl (tt, (tt, (record { fits = room-work .0 }, tt)))) $
+        assigns ! (addr ! (from ! (fld ! refl (hop ! (look-in ! 30 (sub ! 0 refl (whole !))) (stop !))))) (from ! (stop !))
+        (init ! 12 refl (tt, tt)) $
+        assigns ! (agg ! (and-then ! (load ! (from ! (stop !)) (look ! 12 refl))
+        (and-then ! (load ! (from ! (fld ! refl (stop !))) (look-in ! 30 (sub ! 1 refl (whole !)))) (no-more !)))) (from ! (stop !))
+        (init ! 10 refl (tt, (tt, (record { fits = room-trail .0 }, tt)))) $
         -- what the arguments own, one by one, a `&` twice; and the tokens
-        move ! (41 ∷ []) $ fsplit ! $
+        move ! (45 ∷ []) $ fsplit ! $
         use1 W (‵ Own-control ⊛ ‵ Own-control) (shr-slice-copy 𝓤 H A W (named 0) κ₀ u16 .twice control (v-control ∷ [])) $ split ! $
         move ! (2 ∷ []) $ fsplit ! $
         use1 W (‵ Own-samples ⊛ ‵ Own-samples) (shr-slice-copy 𝓤 H A W (named 1) κ₁ i16 .twice samples (v-samples ∷ [])) $ split ! $
@@ -351,82 +367,108 @@ module _ {M : Type 1} (𝓤 : URA M) (H : Heap 𝓤) (A : Atoms 𝓤) (W : Given
         move ! (2 ∷ []) $ fsplit ! $ move ! (1 ∷ []) $ fsplit ! $ move ! (1 ∷ []) $ fsplit ! $
         use1 W (‵ Own-queries ⊛ ‵ Own-queries) (shr-slice-copy 𝓤 H A W (named 6) κ₆ i16 .twice queries (v-queries ∷ [])) $ split ! $
         move ! (2 ∷ []) $ fsplit ! $ drop ! $ fsplit ! $ move ! (1 ∷ []) $ fsplit ! $ move ! (1 ∷ []) $ drop ! $
-        move ! (54 ∷ []) $ split ! $ move ! (1 ∷ []) $ split ! $ move ! (1 ∷ []) $ split ! $ move ! (1 ∷ []) $ split ! $ move ! (1 ∷ []) $
+        move ! (58 ∷ []) $ split ! $ move ! (1 ∷ []) $ split ! $ move ! (1 ∷ []) $ split ! $ move ! (1 ∷ []) $ split ! $ move ! (1 ∷ []) $
         split ! $ move ! (1 ∷ []) $ split ! $ move ! (1 ∷ []) $ split ! $ move ! (1 ∷ []) $ split ! $ move ! (1 ∷ []) $ split ! $
         move ! (1 ∷ []) $ drop ! $
         -- the first call
-        move ! (8 ∷ 7 ∷ 6 ∷ 5 ∷ 4 ∷ 3 ∷ 2 ∷ 1 ∷ 21 ∷ 19 ∷ 17 ∷ 15 ∷ 14 ∷ 13 ∷ 11 ∷ 10 ∷ []) $ group ! 16 $
-        use1 W (raw (All 𝓤 H A mem run .pre to-all)) goes-all $
-        calls-at ! fm (All 𝓤 H A mem run) known-all to-all (and-then ! (load ! (from ! (stop !)) (look ! 44 refl))
-        (and-then ! (load ! (from ! (stop !)) (look ! 42 refl))
-        (and-then ! (load ! (from ! (stop !)) (look ! 40 refl))
-        (and-then ! (load ! (from ! (stop !)) (look ! 38 refl))
+        move ! (8 ∷ 7 ∷ 6 ∷ 5 ∷ 4 ∷ 3 ∷ 2 ∷ 21 ∷ 19 ∷ 17 ∷ 15 ∷ 14 ∷ 13 ∷ 11 ∷ []) $ group ! 14 $
+        use1 W (raw (Search 𝓤 H A mem run .pre to-search)) (goes-search room-list) $
+        calls-at ! fm (Search 𝓤 H A mem run) known-search to-search
+        (and-then ! (load ! (from ! (stop !)) (look ! 50 refl))
+        (and-then ! (load ! (from ! (stop !)) (look ! 48 refl))
+        (and-then ! (load ! (from ! (stop !)) (look ! 46 refl))
+        (and-then ! (load ! (from ! (stop !)) (look ! 44 refl))
+        (and-then ! (load ! (from ! (stop !)) (look ! 24 refl))
         (and-then ! (load ! (from ! (stop !)) (look ! 20 refl))
-        (and-then ! (load ! (from ! (stop !)) (look ! 16 refl))
-        (and-then ! (load ! (from ! (stop !)) (look ! 32 refl))
-        (and-then ! (load ! (from ! (stop !)) (look ! 30 refl))
-        (and-then ! (load ! (from ! (stop !)) (look ! 12 refl)) (no-more !)))))))))) (λ w₁.
-        use1 W (later (some (λ (r : Batched). ((‵ (flft κ₀ q₀) ⊛
+        (and-then ! (load ! (from ! (stop !)) (look ! 38 refl))
+        (and-then ! (load ! (from ! (stop !)) (look ! 36 refl))
+        (and-then ! (load ! (from ! (stop !)) (look ! 30 refl)) (no-more !)))))))))) (λ w₁.
+        use1 W (later (some (λ (found : BatchFound). ((‵ (flft κ₀ q₀) ⊛
         (‵ (flft κ₁ q₁) ⊛ (‵ (flft κ₂ q₂) ⊛ (‵ (flft κ₃ q₃) ⊛
-        (‵ (flft κ₄ q₄) ⊛ (‵ (flft κ₅ q₅) ⊛ (‵ (flft κ₆ q₆) ⊛ (‵ (flft κ₇ q₇) ⊛ (‵ ftrue))))))))) ⊛ ‵
-        (O.the-row .own r (w₁ ∷ []))) ⊛ raw (ensured 𝓤 H A all′.ended (all′.clauses 𝓤 H A mem run)
-        (κ₀, (κ₁, (κ₂, (κ₃, (κ₄, (κ₅, (κ₆, (κ₇, tt)))))))) to-list tt r)))) (id⊢ 𝓤 _) $
-        await ! tt $ pick ! (λ r.
+        (‵ (flft κ₄ q₄) ⊛ (‵ (flft κ₅ q₅) ⊛ (‵ (flft κ₆ q₆) ⊛ (‵ ftrue)))))))) ⊛ ‵ (F.the-row .own found (w₁ ∷ []))) ⊛ raw
+        (ensured 𝓤 H A search′.ended (search′.clauses 𝓤 H A mem run) (κ₀, (κ₁, (κ₂, (κ₃, (κ₄, (κ₅, (κ₆, tt))))))) to tt found))))
+        (id⊢ 𝓤 _) $
+        await ! tt $ pick ! (λ found.
         split ! $ move ! (1 ∷ []) $
         use1 W (some (λ (ts : Unit {0} × (Unit {0} × (Unit {0} ×
-        (Unit {0} × (List ℕ × (List ℕ × (Unit {0} × (Unit {0} × (List AnswerRecord × Unit {0}))))))))). ‵
-        (lasts all′.ended (κ₀, (κ₁, (κ₂, (κ₃, (κ₄, (κ₅, (κ₆, (κ₇, tt)))))))) to-list ts) ⊛ raw
-        (fact 𝓤 (Answers r (ts .1 .1 .1 .1 .0) (ts .1 .1 .1 .1 .1 .0) (ts .1 .1 .1 .1 .1 .1 .1 .1 .0))))) (id⊢ 𝓤 _) $
+        (Unit {0} × (List ℕ × (List ℕ × (Unit {0} × (Unit {0} × (Unit {0} × Unit {0}))))))))). ‵
+        (lasts search′.ended (κ₀, (κ₁, (κ₂, (κ₃, (κ₄, (κ₅, (κ₆, tt))))))) to ts) ⊛ raw
+        (fact 𝓤 (Searched found (ts .1 .1 .1 .1 .0) (ts .1 .1 .1 .1 .1 .0))))) (id⊢ 𝓤 _) $
         pick ! (λ ts.
-        split ! $ move ! (1 ∷ []) $ heard ! (Answers r (ts .1 .1 .1 .1 .0) (ts .1 .1 .1 .1 .1 .0) (ts .1 .1 .1 .1 .1 .1 .1 .1 .0)) (λ e₁.
+        split ! $ move ! (1 ∷ []) $ heard ! (Searched found (ts .1 .1 .1 .1 .0) (ts .1 .1 .1 .1 .1 .0)) (λ e₁.
         fsplit ! $ drop ! $ fsplit ! $ drop ! $ fsplit ! $ drop ! $ fsplit ! $ drop ! $ fsplit ! $ fsplit ! $ move ! (1 ∷ []) $
         feqL ! (λ long-work. move ! (1 ∷ []) $ fsplit ! $ fsplit ! $ move ! (1 ∷ []) $ feqL ! (λ long-trail. move ! (1 ∷ []) $ fsplit ! $
-        drop ! $ fsplit ! $ drop ! $ fsplit ! $ fsplit ! $ move ! (1 ∷ []) $ feqL ! (λ long-list. move ! (1 ∷ []) $ drop ! $
-        move ! (3 ∷ []) $ split ! $
+        drop ! $ fsplit ! $ drop ! $ fsplit ! $ drop ! $ drop ! $ move ! (2 ∷ []) $ split ! $
         split ! $ move ! (1 ∷ []) $ split ! $ move ! (1 ∷ []) $ split ! $ move ! (1 ∷ []) $ split ! $ move ! (1 ∷ []) $ split ! $
-        move ! (1 ∷ []) $ split ! $ move ! (1 ∷ []) $ split ! $ move ! (1 ∷ []) $ split ! $ move ! (1 ∷ []) $ drop ! $ move ! (8 ∷ []) $
-        peeks ! O.the-row (Is O.the-row) (shows 𝓤 H A O.the-row) r (w₁ ∷ []) (λ is.
-        land ! (from ! (stop !)) (init ! 35 refl (EL.lawful O.the-type O′.the-laws 𝓤 H A W tt .typed r _ is .0)) $
+        move ! (1 ∷ []) $ split ! $ move ! (1 ∷ []) $ split ! $ move ! (1 ∷ []) $ drop ! $ move ! (7 ∷ []) $
+        peeks ! F.the-row (Is F.the-row) (shows 𝓤 H A F.the-row) found (w₁ ∷ []) (λ is.
+        land ! (from ! (stop !)) (init ! 37 refl (LL.lawful F.the-type F′.the-laws 𝓤 H A W .typed found _ is .0)) $
         -- the second call
-        assigns ! (addr ! (from ! (fld ! refl (hop ! (look-in ! 37 (sub ! 0 refl (whole !))) (stop !))))) (from ! (stop !))
-        (init ! 21 refl (tt, tt)) $
-        assigns ! (agg ! (and-then ! (load ! (from ! (stop !)) (look ! 21 refl))
-        (and-then ! (load ! (from ! (fld ! refl (stop !))) (look-in ! 37 (sub ! 1 refl (whole !)))) (no-more !)))) (from ! (stop !))
-        (init ! 19 refl (tt, (tt, (record { fits = room-out .0 }, tt)))) $
-        move ! (12 ∷ 0 ∷ 13 ∷ []) $ group ! 3 $ use1 W (raw (Tell 𝓤 H A mem run .pre (to-tell r w₁))) (goes-tell r w₁) $
-        calls-at ! fm (Tell 𝓤 H A mem run) known-tell (to-tell r w₁)
-        (and-then ! (load ! (from ! (stop !)) (look ! 33 refl)) (and-then ! (load ! (from ! (stop !)) (look ! 17 refl)) (no-more !)))
+        assigns ! (addr ! (from ! (fld ! refl (hop ! (look-in ! 43 (sub ! 0 refl (whole !))) (stop !))))) (from ! (stop !))
+        (init ! 25 refl (tt, tt)) $
+        assigns ! (agg ! (and-then ! (load ! (from ! (stop !)) (look ! 25 refl))
+        (and-then ! (load ! (from ! (fld ! refl (stop !))) (look-in ! 43 (sub ! 1 refl (whole !)))) (no-more !)))) (from ! (stop !))
+        (init ! 23 refl (tt, (tt, (record { fits = room-list .0 }, tt)))) $
+        move ! (11 ∷ 0 ∷ 13 ∷ []) $ group ! 3 $ use1 W (raw (Store 𝓤 H A mem run .pre (to-store found w₁))) (goes-store found w₁) $
+        calls-at ! fm (Store 𝓤 H A mem run) known-store (to-store found w₁)
+        (and-then ! (load ! (from ! (stop !)) (look ! 35 refl)) (and-then ! (load ! (from ! (stop !)) (look ! 21 refl)) (no-more !)))
         (λ w₂.
-        use1 W (later (some (λ (code′ : ℕ). ((‵ (flft κ₈ q₈) ⊛ ‵ ftrue) ⊛ ‵ (u64 .own code′ (w₂ ∷ []))) ⊛ raw
-        (ensured 𝓤 H A tell′.ended (tell′.clauses 𝓤 H A mem run) (κ₈, tt) (r, (out, tt)) tt code′)))) (id⊢ 𝓤 _) $
+        use1 W (later (some (λ (stored′ : Bool). ((‵ (flft κ₇ q₇) ⊛ ‵ ftrue) ⊛ ‵ (bool .own stored′ (w₂ ∷ []))) ⊛ raw
+        (ensured 𝓤 H A store′.ended (store′.clauses 𝓤 H A mem run) (κ₇, tt) (found, (list, tt)) tt stored′)))) (id⊢ 𝓤 _) $
+        await ! tt $ pick ! (λ stored′.
+        split ! $ move ! (1 ∷ []) $
+        use1 W (some (λ (zs : Unit {0} × (List AnswerRecord × Unit {0})). ‵ (lasts store′.ended (κ₇, tt) (found, (list, tt)) zs) ⊛ raw
+        (fact 𝓤 (Stored found stored′ (zs .1 .0))))) (id⊢ 𝓤 _) $
+        pick ! (λ zs.
+        split ! $ move ! (1 ∷ []) $ heard ! (Stored found stored′ (zs .1 .0)) (λ e₂.
+        fsplit ! $ drop ! $ fsplit ! $ fsplit ! $ move ! (1 ∷ []) $ feqL ! (λ long-list. move ! (1 ∷ []) $ drop ! $ move ! (1 ∷ []) $
+        split ! $ split ! $ move ! (1 ∷ []) $ drop ! $ move ! (1 ∷ []) $
+        peeks ! bool (Is bool) (shows 𝓤 H A bool) stored′ (w₂ ∷ []) (λ is-bool.
+        land ! (from ! (stop !)) (init ! 27 refl (bool-lawful 𝓤 H A W .typed stored′ _ is-bool .0)) $ drop ! $
+        -- the third call: what was found is plain data, and is had again for nothing
+        assigns ! (addr ! (from ! (fld ! refl (hop ! (look-in ! 40 (sub ! 0 refl (whole !))) (stop !))))) (from ! (stop !))
+        (init ! 20 refl (tt, tt)) $
+        assigns ! (agg ! (and-then ! (load ! (from ! (stop !)) (look ! 20 refl))
+        (and-then ! (load ! (from ! (fld ! refl (stop !))) (look-in ! 40 (sub ! 1 refl (whole !)))) (no-more !)))) (from ! (stop !))
+        (init ! 18 refl (tt, (tt, (record { fits = room-out .0 }, tt)))) $
+        owned ! F.the-row (Is F.the-row) (LL.makes F.the-type F′.the-plain 𝓤 H A) found (w₁ ∷ []) is $
+        move ! (12 ∷ 0 ∷ 13 ∷ []) $ group ! 3 $ use1 W (raw (Tell 𝓤 H A mem run .pre (to-tell found w₁))) (goes-tell found w₁) $
+        calls-at ! fm (Tell 𝓤 H A mem run) known-tell (to-tell found w₁)
+        (and-then ! (load ! (from ! (stop !)) (look ! 35 refl)) (and-then ! (load ! (from ! (stop !)) (look ! 17 refl)) (no-more !)))
+        (λ w₃.
+        use1 W (later (some (λ (code′ : ℕ). ((‵ (flft κ₈ q₈) ⊛ ‵ ftrue) ⊛ ‵ (u64 .own code′ (w₃ ∷ []))) ⊛ raw
+        (ensured 𝓤 H A tell′.ended (tell′.clauses 𝓤 H A mem run) (κ₈, tt) (found, (out, tt)) tt code′)))) (id⊢ 𝓤 _) $
         await ! tt $ pick ! (λ code′.
         split ! $ move ! (1 ∷ []) $
-        use1 W (some (λ (zs : Unit {0} × (List ℕ × Unit {0})). ‵ (lasts tell′.ended (κ₈, tt) (r, (out, tt)) zs) ⊛ raw
-        (fact 𝓤 (Tells r code′ (zs .1 .0))))) (id⊢ 𝓤 _) $
-        pick ! (λ zs.
-        split ! $ move ! (1 ∷ []) $ heard ! (Tells r code′ (zs .1 .0)) (λ e₂.
+        use1 W (some (λ (os : Unit {0} × (List ℕ × Unit {0})). ‵ (lasts tell′.ended (κ₈, tt) (found, (out, tt)) os) ⊛ raw
+        (fact 𝓤 (Tells found code′ (os .1 .0))))) (id⊢ 𝓤 _) $
+        pick ! (λ os.
+        split ! $ move ! (1 ∷ []) $ heard ! (Tells found code′ (os .1 .0)) (λ e₃.
         fsplit ! $ drop ! $ fsplit ! $ fsplit ! $ move ! (1 ∷ []) $ feqL ! (λ long-out. move ! (1 ∷ []) $ drop ! $ move ! (1 ∷ []) $
         split ! $ split ! $ move ! (1 ∷ []) $ drop ! $ move ! (1 ∷ []) $
-        peeks ! u64 (Is u64) (shows 𝓤 H A u64) code′ (w₂ ∷ []) (λ is-u64.
-        land ! (from ! (stop !)) (init ! 57 refl (uint-lawful 𝓤 H A W w64 .typed code′ _ is-u64 .0)) $ returns ! (look ! 57 refl) $
-        forget ! 57 refl $ forget ! 55 refl $ forget ! 53 refl $ forget ! 51 refl $ forget ! 49 refl $ forget ! 47 refl $
-        forget ! 45 refl $ forget ! 43 refl $ forget ! 41 refl $ forget ! 39 refl $ forget ! 37 refl $ forget ! 35 refl $
-        forget ! 33 refl $ forget ! 31 refl $ forget ! 29 refl $ forget ! 27 refl $ forget ! 25 refl $ forget ! 23 refl $
-        forget ! 21 refl $ forget ! 19 refl $
-        move ! (57 ∷ 58 ∷ []) $ free1 ! $ move ! (55 ∷ 56 ∷ []) $ free1 ! $ move ! (53 ∷ 54 ∷ []) $ free1 ! $ move ! (51 ∷ 52 ∷ []) $
-        free1 ! $ move ! (49 ∷ 50 ∷ []) $ free1 ! $ move ! (47 ∷ 48 ∷ []) $ free1 ! $ move ! (45 ∷ 46 ∷ []) $ free1 ! $
-        move ! (43 ∷ 44 ∷ []) $ free1 ! $ move ! (41 ∷ 42 ∷ []) $ free1 ! $ move ! (39 ∷ 40 ∷ []) $ free1 ! $ move ! (37 ∷ 38 ∷ []) $
-        free1 ! $ move ! (35 ∷ 36 ∷ []) $ free1 ! $ move ! (33 ∷ 34 ∷ []) $ free1 ! $ move ! (31 ∷ 32 ∷ []) $ free1 ! $
-        move ! (29 ∷ 30 ∷ []) $ free1 ! $ move ! (27 ∷ 28 ∷ []) $ free1 ! $ move ! (25 ∷ 26 ∷ []) $ free1 ! $ move ! (23 ∷ 24 ∷ []) $
-        free1 ! $ move ! (21 ∷ 22 ∷ []) $ free1 ! $ move ! (19 ∷ 20 ∷ []) $ free1 ! $ free0 ! $
-        keep ! (10 ∷ 9 ∷ 8 ∷ 7 ∷ 6 ∷ 5 ∷ 4 ∷ 3 ∷ 1 ∷ 18 ∷ 17 ∷ 16 ∷ 15 ∷ 14 ∷ 13 ∷ 12 ∷ 11 ∷ 2 ∷ 0 ∷ []) $
-        by ! (exits code′ w₂ (ts .1 .1 .1 .1 .0) (ts .1 .1 .1 .1 .1 .0) (ts .1 .1 .1 .1 .1 .1 .1 .1 .0) (zs .1 .0)
-        (exported-call code′ (out .now) (zs .1 .0) _ _ _ _ (e₂ (nearsOf (ts .1 .1 .1 .1 .1 .1 .1 .1 .0))
-        (ts .1 .1 .1 .1 .1 .0)) e₁) long-work long-trail long-list long-out)))))))))))))))))))))))))))))))))))
+        peeks ! u64 (Is u64) (shows 𝓤 H A u64) code′ (w₃ ∷ []) (λ is-u64.
+        land ! (from ! (stop !)) (init ! 61 refl (uint-lawful 𝓤 H A W w64 .typed code′ _ is-u64 .0)) $ returns ! (look ! 61 refl) $
+        forget ! 61 refl $ forget ! 59 refl $ forget ! 57 refl $ forget ! 55 refl $ forget ! 53 refl $ forget ! 51 refl $
+        forget ! 49 refl $ forget ! 47 refl $ forget ! 45 refl $ forget ! 43 refl $ forget ! 41 refl $ forget ! 39 refl $
+        forget ! 37 refl $ forget ! 35 refl $ forget ! 33 refl $ forget ! 31 refl $ forget ! 29 refl $ forget ! 27 refl $
+        forget ! 25 refl $ forget ! 23 refl $ forget ! 21 refl $ forget ! 19 refl $
+        move ! (61 ∷ 62 ∷ []) $ free1 ! $ move ! (59 ∷ 60 ∷ []) $ free1 ! $ move ! (57 ∷ 58 ∷ []) $ free1 ! $ move ! (55 ∷ 56 ∷ []) $
+        free1 ! $ move ! (53 ∷ 54 ∷ []) $ free1 ! $ move ! (51 ∷ 52 ∷ []) $ free1 ! $ move ! (49 ∷ 50 ∷ []) $ free1 ! $
+        move ! (47 ∷ 48 ∷ []) $ free1 ! $ move ! (45 ∷ 46 ∷ []) $ free1 ! $ move ! (43 ∷ 44 ∷ []) $ free1 ! $ move ! (41 ∷ 42 ∷ []) $
+        free1 ! $ move ! (39 ∷ 40 ∷ []) $ free1 ! $ move ! (37 ∷ 38 ∷ []) $ free1 ! $ move ! (35 ∷ 36 ∷ []) $ free1 ! $
+        move ! (33 ∷ 34 ∷ []) $ free1 ! $ move ! (31 ∷ 32 ∷ []) $ free1 ! $ move ! (29 ∷ 30 ∷ []) $ free1 ! $ move ! (27 ∷ 28 ∷ []) $
+        free1 ! $ move ! (25 ∷ 26 ∷ []) $ free1 ! $ move ! (23 ∷ 24 ∷ []) $ free1 ! $ move ! (21 ∷ 22 ∷ []) $ free1 ! $
+        move ! (19 ∷ 20 ∷ []) $ free1 ! $ free0 ! $
+        keep ! (11 ∷ 10 ∷ 9 ∷ 8 ∷ 7 ∷ 6 ∷ 5 ∷ 3 ∷ 1 ∷ 18 ∷ 17 ∷ 16 ∷ 15 ∷ 14 ∷ 13 ∷ 12 ∷ 4 ∷ 2 ∷ 0 ∷ []) $
+        by ! (exits code′ w₃ (ts .1 .1 .1 .1 .0) (ts .1 .1 .1 .1 .1 .0) (zs .1 .0) (os .1 .0)
+        (exported-call code′ (out .now) (os .1 .0) _ _ _ _ (e₃ (nearsOf (zs .1 .0)) (ts .1 .1 .1 .1 .1 .0))
+        (laws.whole (lent.tables (control .now) (samples .now) (nodes .now) (links .now) (work .now)) _ many (queries .now) (trail .now)
+        (ts .1 .1 .1 .1 .1 .0) (list .now) (zs .1 .0) found stored′ e₁ e₂)) long-work long-trail long-list long-out))))))))))))))))))))))))))))))))))))))))))
 
 module _ {M : Type 1} (𝓤 : URA M) (H : Heap 𝓤) (A : Atoms 𝓤) (W : Given 𝓤 H A) (mem : Memory → SProp 𝓤) (run : Routine → Fun 𝓤)
     (𝓣 : Tables 𝓤 H)
-    (known-all : Triple 𝓤 (𝓣 .C #all) (All 𝓤 H A mem run)) (known-tell : Triple 𝓤 (𝓣 .C #tell) (Tell 𝓤 H A mem run)) where
+    (known-search : Triple 𝓤 (𝓣 .C #search) (Search 𝓤 H A mem run)) (known-store : Triple 𝓤 (𝓣 .C #store) (Store 𝓤 H A mem run))
+    (known-tell : Triple 𝓤 (𝓣 .C #tell) (Tell 𝓤 H A mem run)) where
   call-walks : Walks 𝓤 H A f.ended stayed (WpFn 𝓤 H (𝓣 .C) (𝓣 .Λ) code.function) (f.clauses 𝓤 H A mem run)
   call-walks = walked 𝓤 H A f.ended stayed (f.clauses 𝓤 H A mem run) (WpFn 𝓤 H (𝓣 .C) (𝓣 .Λ) code.function)
       (λ κs. (
@@ -477,7 +519,7 @@ module _ {M : Type 1} (𝓤 : URA M) (H : Heap 𝓤) (A : Atoms 𝓤) (W : Given
       (qs .1 .1 .1 .1 .1 .1 .1 .1 .0) (a .0) (a .1 .0) (a .1 .1 .0) (a .1 .1 .1 .0) (a .1 .1 .1 .1 .0) (a .1 .1 .1 .1 .1 .0)
       (a .1 .1 .1 .1 .1 .1 .0) (a .1 .1 .1 .1 .1 .1 .1 .0) (a .1 .1 .1 .1 .1 .1 .1 .1 .0) (a .1 .1 .1 .1 .1 .1 .1 .1 .1 .0)
       (are .1 .1 .1 .1 .1 .1 .1 .0 .1)
-      (𝓣 .C) (𝓣 .Λ) (fmOf 𝓤 H (W .laws) 𝓣) known-all known-tell (are .0 .0 .1) (are .1 .0 .0 .1) (are .1 .1 .0 .0 .1)
+      (𝓣 .C) (𝓣 .Λ) (fmOf 𝓤 H (W .laws) 𝓣) known-search known-store known-tell (are .0 .0 .1) (are .1 .0 .0 .1) (are .1 .1 .0 .0 .1)
       (are .1 .1 .1 .0 .0 .1) (are .1 .1 .1 .1 .0 .0 .1) (are .1 .1 .1 .1 .1 .0 .0 .1) (are .1 .1 .1 .1 .1 .1 .0 .0 .1)
       (are .1 .1 .1 .1 .1 .1 .1 .1 .0 .0 .1) (are .1 .1 .1 .1 .1 .1 .1 .1 .1 .0 .0 .1)))
 
@@ -515,7 +557,9 @@ silkendoz-match-batch-spec 𝓤 H 𝓜 𝓖 𝓡 =
     entered 𝓤 H (tripleOf 𝓤 H (𝓖 .A) f.signature (f.spec 𝓤 H (𝓖 .A) (𝓜 .mem) (𝓡 .run)))
     (tables 𝓤 H 𝓜 𝓡 code.env .C) (tables 𝓤 H 𝓜 𝓡 code.env .Λ) #call code.function (code.unfolded 𝓤 H 𝓜 𝓡)
     (call-meets 𝓤 H (𝓖 .A) (givenOf 𝓤 H 𝓜 𝓖) (𝓜 .mem) (𝓡 .run) (tablesOf 𝓤 H 𝓜 (tables 𝓤 H 𝓜 𝓡 code.env))
-    (cited 𝓤 H (All 𝓤 H (𝓖 .A) (𝓜 .mem) (𝓡 .run)) 𝓜 𝓡 code.env #all all-def.routine code.calls-batch-answers·match-batch
-    (all-thm.met 𝓤 H 𝓜 𝓖 𝓡))
+    (cited 𝓤 H (Search 𝓤 H (𝓖 .A) (𝓜 .mem) (𝓡 .run)) 𝓜 𝓡 code.env #search search-def.routine code.calls-batching·match-all
+    (search-thm.met 𝓤 H 𝓜 𝓖 𝓡))
+    (cited 𝓤 H (Store 𝓤 H (𝓖 .A) (𝓜 .mem) (𝓡 .run)) 𝓜 𝓡 code.env #store store-def.routine code.calls-batch-answers·store
+    (store-thm.met 𝓤 H 𝓜 𝓖 𝓡))
     (cited 𝓤 H (Tell 𝓤 H (𝓖 .A) (𝓜 .mem) (𝓡 .run)) 𝓜 𝓡 code.env #tell tell-def.routine code.calls-telling·tell-batched
     (tell-thm.met 𝓤 H 𝓜 𝓖 𝓡)))

@@ -11,7 +11,7 @@ CHOSEN (vectors/cases.txt) says which of them the table holds, in which order: a
 a colon and what that library shows, in plain words, which becomes the comment in front of its
 case. Empty lines and lines that begin with `#` are skipped.
 
-CASES (crates/dstree/proofs/Cases.antt) has them as two tables, those with a query and those
+CASES (crates/worked/proofs/Cases.antt) has them as two tables, those with a query and those
 without, each with its theorem: the definitions, computed, give the same. Nothing is computed
 here; figures are carried over as they stand.
 """

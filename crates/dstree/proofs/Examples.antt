@@ -1,6 +1,12 @@
--- The starred examples of document 01: one table, one theorem, by computation.
-use mathlib.Core.Path.{refl}
+-- The starred examples of document 01: one table, one theorem, by computation. Behind them gains below zero, which no starred one has.
+use Prim.Native.Nat.{ℕ}
+use mathlib.Core.Path.{_≡_, refl}
+use mathlib.Core.List.{List, [], _∷_, map}
+use Rattle.integer.specs.Words.{those}
+use Rattle.dstree.specs.Measures.{Trace}
+use Rattle.dstree.specs.Adding.{candidates, splitBy, parts, gain}
 use Rattle.dstree.specs.Examples.{StarredExamples}
+use Rattle.dstree.proofs.Notation.{+, −}
 use Rattle.dstree.proofs.Everything.{everything}
 
 pub starred-examples : StarredExamples
@@ -29,3 +35,15 @@ starred-examples = record {
   one-leaf = refl;
   checks = refl;
 }
+
+-- three traces of sum 1 and scatter 35
+abbrev pub spread-thin : List Trace
+spread-thin = (+ 2 ∷ + 0 ∷ − 2 ∷ + 1 ∷ []) ∷ (+ 1 ∷ + 0 ∷ − 2 ∷ + 2 ∷ []) ∷ (− 2 ∷ + 2 ∷ + 1 ∷ + 0 ∷ []) ∷ []
+
+abbrev pub all-three : List ℕ
+all-three = 0 ∷ 1 ∷ 2 ∷ []
+
+-- "The gain is a signed number and may be below zero": of the four candidates that part them, every gain is
+pub below-zero : map (gain spread-thin (4 ∷ []) all-three) (those parts (map (splitBy spread-thin all-three) (candidates (4 ∷ [])))) ≡ − 6 ∷ − 2 ∷ − 2 ∷ − 2 ∷ []
+unfolding everything
+below-zero = refl

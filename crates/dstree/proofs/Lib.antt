@@ -7,8 +7,7 @@
 pub mod Everything
 pub mod Notation
 pub mod Examples
-pub mod Cases
-pub mod Exercises
+pub mod Unsplit
 pub mod BookExamples
 pub mod Parting
 pub mod Looking
@@ -55,9 +54,6 @@ pub mod Laws
 pub mod KLaws
 pub mod BatchLaws
 pub mod KExamples
-pub mod BatchExamples
-pub mod RecordingExamples
-pub mod CheckingExamples
 pub mod TracesBelow
 pub mod BelowOnce
 pub mod Recomputed

@@ -14,22 +14,22 @@ use Rattle.segment.specs.Roots.{floorRoot, ceilingRoot}
 use Rattle.segment.specs.Terms.{sumGap, scatterGap, boundTerm, spreadTerm}
 use Rattle.segment.specs.Limits.{sumLimit, scatterLimit, largestDistance}
 use Rattle.segment.specs.Partition.{Ranges, totalBound}
 use Rattle.dstree.specs.Measures.{Trace, measures, sampleLimit, inRange, samplesNeeded, recordsNeeded, linksNeeded, workNeeded, isTrace, isLibrary}
 use Rattle.dstree.specs.Figures.{run, width, samplesOn}
 use Rattle.dstree.specs.Node.{Segment, bySum, byScatter, Test, Kind, leaf, inner, Node, node, Tree, nodeAt, changeAt, goesLeft}
-use Rattle.dstree.specs.Adding.{way, widen, join, byEither, cutAt, leftHalfEnd, candidates, spread, thresholdOf, testOf, splitBy, parts, best, splitInto, insertion, treeOf}
+use Rattle.dstree.specs.Adding.{way, widen, join, byEither, cutAt, leftHalfEnd, candidates, spread, thresholdOf, testOf, splitBy, parts, best, splitInto, treeOf}
 use Rattle.dstree.specs.Adding.{Candidate, tracesOf, goesBy, showSides, fewestFirst}
 use Rattle.dstree.specs.Matching.{ownBound, parentFrom, bound, LeafBound, leaves, before, readingOrder, Near, bestWith, isAbove, matchBySteps, leastDistance, lowestAt}
 use Rattle.dstree.specs.Claims.{numbersAmong}
 use Rattle.dstree.specs.WellFormed.{wellFormedTree}
 use Rattle.dstree.specs.Refusals.{Refusal, measure, shortTable, spoiled, wrongTrace, full, empty, shortTrail, sheetLength, tornBlock}
 use Rattle.dstree.specs.Refusals.{badSheet, badK, badRecording, looseRecord, badBatch, numberOf, placeOf, _refuses_, firstOf}
 use Rattle.dstree.specs.Sheet.{bytesOf, numberIn, part, narrow, kindOf, weighted, checkOf, block, headOf, coded, blocksNeeded}
 use Rattle.dstree.specs.Sheet.{blocksOf, sheetOf, decoded, isWrongLength, isTorn, refused, holds, judgeSheet}
 use Rattle.dstree.specs.Program as program
 use Rattle.dstree.specs.Examples.{level, ABC, tree, gains, matchWith, twins}
 use Rattle.dstree.proofs.Notation.{+, −, seg, test}
 use Rattle.dstree.proofs.Everything.{everything}
 
 -- ---- "Measures"
 
@@ -129,21 +129,6 @@ sixteen = counting 15 1 ++ (256 ∷ [])
 abbrev nine : List Trace
 nine = (+ 0 ∷ []) ∷ (+ 1 ∷ []) ∷ (+ 9 ∷ []) ∷ []
 
--- traces of one sample, 0, 1 and 10, in a tree that adding does not make: at a leaf size of 1 leaf 1 has two, which their sum parts
-abbrev ten : List Trace
-ten = (+ 0 ∷ []) ∷ (+ 1 ∷ []) ∷ (+ 10 ∷ []) ∷ []
-
-abbrev unsplit : Tree
-unsplit =
-    node (seg 1 (+ 0) (+ 10) 0 0 ∷ []) (inner (test 1 1 bySum (+ 10)) 1 2)
-    ∷ node (seg 1 (+ 0) (+ 1) 0 0 ∷ []) (leaf (0 ∷ 1 ∷ []))
-    ∷ node (seg 1 (+ 10) (+ 10) 0 0 ∷ []) (leaf (2 ∷ []))
-    ∷ []
-
--- the nodes of that tree once a trace of one sample has joined it
-abbrev kindsWith : ℕ → List Kind
-kindsWith x = map (λ (a : Node). a .kind) (insertion (measures 1 8 1) ten unsplit (pos x ∷ []))
-
 -- which of a leaf's traces go left by a candidate
 abbrev sidesOf : List Trace → List ℕ → Candidate → ℕ → Bool
 sidesOf stored numbers c = goesBy stored (testOf c (tracesOf stored numbers))
@@ -198,15 +183,6 @@ pub record AddingExamples : Type 0 where
   pub six-gains : gains ≡ + 192 ∷ + 128 ∷ + 192 ∷ + 128 ∷ + 192 ∷ + 128 ∷ []
   -- "A leaf that no candidate parts stays whole"
   pub stays-whole : splitInto ABC tree 1 none ≡ tree
-  -- ".. and is tried again when a trace joins it", and at no other time: leaf 1 of a well-formed tree, which a candidate parts, stays whole
-  -- when 12 joins leaf 2, and only that one splits
-  pub unsplit-formed : wellFormedTree sampleLimit (measures 1 8 1) 3 unsplit ≡ true
-  pub other-leaf-whole : kindsWith 12
-      ≡ inner (test 1 1 bySum (+ 10)) 1 2 ∷ leaf (0 ∷ 1 ∷ []) ∷ inner (test 1 1 bySum (+ 22)) 3 4 ∷ leaf (2 ∷ []) ∷ leaf (3 ∷ []) ∷ []
-  -- when 2 joins leaf 1, it splits, and the new leaf of 0 and 1 in turn
-  pub joined-leaf-tried : kindsWith 2
-      ≡ inner (test 1 1 bySum (+ 10)) 1 2 ∷ inner (test 1 1 bySum (+ 2)) 3 4 ∷ leaf (2 ∷ []) ∷ inner (test 1 1 bySum (+ 1)) 5 6
-      ∷ leaf (3 ∷ []) ∷ leaf (0 ∷ []) ∷ leaf (1 ∷ []) ∷ []
 
 pub adding-examples : AddingExamples
 unfolding everything
@@ -242,9 +218,6 @@ adding-examples = record {
   spread-of-two = refl;
   six-gains = refl;
   stays-whole = refl;
-  unsplit-formed = refl;
-  other-leaf-whole = refl;
-  joined-leaf-tried = refl;
 }
 
 -- ---- "Matching"

@@ -33,10 +33,12 @@ pub fn judge(
     match made {
         Verdict::Refused(why) => Verdict::Refused(why),
         Verdict::Fine => {
-            if trace.len() != n {
+            let wrong = trace.len() != n;
+            let full = k == capacity;
+            if wrong {
                 return Verdict::Refused(Refusal::WrongTrace);
             }
-            if k == capacity {
+            if full {
                 return Verdict::Refused(Refusal::Full);
             }
             Verdict::Fine

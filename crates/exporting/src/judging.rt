@@ -36,11 +36,12 @@ fn judge_own(control: &[u16], buffer: &[u8], number: u64, rate: u64) -> Verdict
         (traceCount (tables (now (control .entry)) [] [] [] [])) number rate (now (buffer .entry))) ⌝ }
 {
     let need = 44 + 2 * wide(field(control, N));
-    let fits = in_range(wider(field(control, TRACE_COUNT)), number, rate);
-    if !fits {
+    let bad = !in_range(wider(field(control, TRACE_COUNT)), number, rate);
+    let short = buffer.len() < need;
+    if bad {
         return Verdict::Refused(Refusal::BadRecording);
     }
-    if buffer.len() < need {
+    if short {
         return Verdict::Refused(Refusal::SheetLength);
     }
     Verdict::Fine

@@ -30,10 +30,12 @@ pub fn judge_run(control: &[u16], nodes: &[i64], run: &[i16], size: usize, trail
         (tables (now (control .entry)) samples (now (nodes .entry)) links work) size (now (run .entry)) (now (trail .entry)))) ⌝ }
 {
     let stored = field(control, TRACE_COUNT);
-    if run.len() != size {
+    let wrong = run.len() != size;
+    let empty = stored == 0;
+    if wrong {
         return Verdict::Refused(Refusal::WrongTrace);
     }
-    if stored == 0 {
+    if empty {
         return Verdict::Refused(Refusal::Empty);
     }
     let m = wide(field(control, NODE_COUNT));

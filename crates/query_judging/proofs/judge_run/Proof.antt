@@ -1,7 +1,6 @@
 -- `query_judging::judge_run` meets its contract: each return answers for one condition, the ones before it being false.
 use Prim.Native.Nat.{ℕ}
 use mathlib.Core.Path.{_≡_, sym, ap, _∙_}
-use mathlib.Core.Bool.{true, false}
 use mathlib.Core.List.{List}
 use native.Mathlib.Omega.{arith}
 use lib.IntN.{ℤ}
@@ -9,7 +8,7 @@ use lib.ListN.{length}
 use lib.Dec.{eqb}
 use denote.Ref.{now}
 use borrow.Author.Needs.{needs}
-use borrow.Author.Tests.{eq-eqb, ne-eqb, lt-ltb, le-ltb}
+use borrow.Author.Tests.{lt-ltb, le-ltb}
 use Rattle.dstree.specs.Matching.{leaves}
 use Rattle.dstree.specs.Refusals.{firstOf}
 use Rattle.tables.specs.Tables.{Tables, tables, traceCount}
@@ -23,9 +22,6 @@ use Rattle.query_judging.proofs.judge_run.Tie as tie
 abbrev start : tie.After-field → tie.Start
 start f = f .before .before .before
 
-same-length : (e : tie.Else1) → eqb (length (now (start (e .before) .args .run))) (start (e .before) .args .size) ≡ true
-same-length e = eq-eqb (length (now (start (e .before) .args .run))) (start (e .before) .args .size) (e .if1 .left)
-
 -- whatever samples, links and search work the tables have
 module _ (samples : List ℤ) (links work : List ℕ) where
   module _ (f : tie.After-field) where
@@ -38,8 +34,8 @@ module _ (samples : List ℤ) (links work : List ℕ) where
     abbrev leafs : ℕ
     leafs = length (leaves (treeIn t))
 
-  some-trace : (e : tie.Else2) → eqb (traceCount (t (e .before .before))) 0 ≡ false
-  some-trace e = let f = e .before .before in ne-eqb (traceCount (t f)) 0 (λ q. e .if2 .left (f .field .ensures ∙ q))
+    stored-is : eqb (traceCount t) 0 ≡ eqb (f .field .result) 0
+    stored-is = ap (λ (k : ℕ). eqb k 0) (sym (f .field .ensures))
 
   -- the leaves counted are the tree's
   module _ (l : tie.After-leaf-count) where
@@ -59,16 +55,11 @@ leaf-count-requires c κs =
 
 returns : tie.Need-returns
 unfolding foundBy wordOf firstOf
-returns c samples links work =
-    let a = start (c .before) .args in
-    rw (ne-eqb (length (now (a .run))) (a .size) (c .if1 .taken))
+returns c samples links work = rw (stored-is samples links work (c .before), c .if1 .taken)
 
 returns-2 : tie.Need-returns-2
 unfolding foundBy wordOf firstOf
-returns-2 c samples links work =
-    let f = c .before .before in
-    let stored = eq-eqb (traceCount (t samples links work f)) 0 (sym (f .field .ensures) ∙ c .if2 .taken) in
-    rw (same-length (c .before), stored)
+returns-2 c samples links work = rw (stored-is samples links work (c .before .before), c .before .if1 .left, c .if2 .taken)
 
 returns-3 : tie.Need-returns-3
 unfolding foundBy wordOf firstOf
@@ -77,7 +68,7 @@ returns-3 c samples links work =
     let e = l .before .before .before in
     let r : ℕ = room samples links work (f samples links work l) in
     let short = lt-ltb r (leafs samples links work (f samples links work l)) (omega (arith, c .if3 .taken, counted samples links work l)) in
-    rw (same-length (e .before), some-trace samples links work e, short)
+    rw (stored-is samples links work (e .before .before), e .before .if1 .left, e .if2 .left, short)
 
 returns-4 : tie.Need-returns-4
 unfolding foundBy firstOf
@@ -86,7 +77,7 @@ returns-4 c samples links work =
     let e = l .before .before .before in
     let r : ℕ = room samples links work (f samples links work l) in
     let long = le-ltb r (leafs samples links work (f samples links work l)) (omega (arith, c .if3 .left, counted samples links work l)) in
-    rw (same-length (e .before), some-trace samples links work e, long)
+    rw (stored-is samples links work (e .before .before), e .before .if1 .left, e .if2 .left, long)
 
 pub judge-run-spec : {M : Type 1} → statement M
 judge-run-spec =

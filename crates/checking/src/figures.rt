@@ -2,7 +2,7 @@
 
 use leaf_figures::sides::SideRange;
 use leaf_figures::sides::widened;
-use segment::terms::larger;
+use segment_bound::terms::larger;
 use tables::numbers::greater;
 use tables::numbers::lesser;
 use tables::numbers::smaller;

@@ -1,7 +1,7 @@
 // The least and greatest figures of a leaf's traces on a run of samples, or of one side of them. Each trace has a mark, and a side is the
 // traces with one mark.
 
-use segment::terms::larger;
+use segment_bound::terms::larger;
 use tables::numbers::greater;
 use tables::numbers::lesser;
 use tables::numbers::smaller;

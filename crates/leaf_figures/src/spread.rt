@@ -45,7 +45,7 @@ fn segment_spread(
         last,
     );
     let w = (last - first + 1) as u64;
-    segment::terms::spread_term(w, f.least_sum, f.greatest_sum, f.greatest_scatter)
+    segment_bound::terms::spread_term(w, f.least_sum, f.greatest_sum, f.greatest_scatter)
 }
 
 // The column that segment i may have, among those of segments of which the one at `halved` is cut into its halves; none is from 16 on.

@@ -26,7 +26,7 @@ pub fn node_key(
 {
     let record = tables::records::record_at(nodes, j);
     let own = query::bound::own_bound(record, query, sums, squares);
-    segment::terms::larger(own, above) * KEY_BASE + j as u64
+    segment_bound::terms::larger(own, above) * KEY_BASE + j as u64
 }
 
 // The bound is above the limit, if there is one. An equal bound is not.

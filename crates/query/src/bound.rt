@@ -46,7 +46,7 @@ fn segment_term(
     let greatest_sum = value_at(record, at + GREATEST_SUM);
     let least = scatter(value_at(record, at + LEAST_SCATTER));
     let greatest = scatter(value_at(record, at + GREATEST_SCATTER));
-    segment::terms::segment_bound(
+    segment_bound::terms::segment_bound(
         w,
         f.sum,
         f.scatter,

@@ -1,6 +1,4 @@
-// A segment's figures, its roots, and its part in a node's bound and spread.
+// A segment's figures, the distance of two, and the distance with a limit.
 pub mod figures;
-pub mod roots;
 pub mod samples;
-pub mod terms;
 pub mod within;

@@ -174,7 +174,7 @@ fn root_of(scatter: u64) -> i64
     requires { ⌜ scatter ≤ scatterMost mostSamples ⌝ }
     ensures { λ r. ⌜ (r ≡ pos (floorRoot scatter)) × (natAbs r ≤ scatterMost mostSamples) ⌝ }
 {
-    segment::roots::floor_root(scatter) as i64
+    segment_bound::roots::floor_root(scatter) as i64
 }
 
 // A run tried by sum. The least and greatest of both figures are taken at once, and two roots a run.

@@ -1,4 +1,4 @@
-// Numbers made wider, and the lesser and greater of two. (The larger of two without a sign is `segment::terms::larger`.)
+// Numbers made wider, and the lesser and greater of two. (The larger of two without a sign is `segment_bound::terms::larger`.)
 
 ghost use mathlib.Core.Path.{_≡_};
 ghost use Prim.Native.Nat.{min};

@@ -43,7 +43,7 @@ pub fn is_left(sum: i64, scatter: u64, by_scatter: bool, threshold: i64) -> bool
     ensures { λ r. ⌜ r ≡ leZ (pos 2 *ℤ (if «by_scatter» then pos (floorRoot scatter) else sum)) threshold ⌝ }
 {
     if by_scatter {
-        return segment::roots::twice_root_within(scatter, threshold);
+        return segment_bound::roots::twice_root_within(scatter, threshold);
     }
     2 * sum <= threshold
 }

@@ -23,7 +23,7 @@ use Rattle.tables.specs.View.{smallAt, treeIn, traceIn, tracesIn, wellFormed}
 use Rattle.tables.specs.Holds.{Long}
 use Rattle.tables.proofs.Views.{tree-size, tree-segments, tree-inside, trace-at, tree-formed, measures-fit, kind-named}
 use Rattle.tables.proofs.Linked.{tables-rise}
-use Rattle.well_formed.proofs.Once.{every-same}
+use Rattle.numbers_fit.proofs.Once.{every-same}
 use Rattle.leaf_figures.specs.Rows.{tracesAt}
 use Rattle.checking.specs.Laid.{treeBy, Walks, LaidOut, numbersLaidAt, ReadyToCompare}
 use Rattle.checking.specs.Compared.{exactIn}

@@ -22,10 +22,10 @@ ghost use Rattle.dstree.specs.Measures.{sampleLimit, mostSamples};
 ghost use Rattle.dstree.specs.Figures.{run};
 ghost use Rattle.dstree.specs.Node.{inner, mostSegments};
 ghost use Rattle.dstree.specs.WellFormed.{segmentFits, testFits};
-ghost use Rattle.tables.specs.Layout.{segmentsPlace, recordPlaces};
-ghost use Rattle.tables.specs.View.{smallMost, smallOf, smallAt, segmentIn, segmentsIn};
+ghost use Rattle.tables.specs.Layout.{recordPlaces};
+ghost use Rattle.tables.specs.View.{smallMost, smallOf, segmentIn};
 ghost use Rattle.records_fit.specs.Fits.{figureNamed, between, childFits, headFits, segmentsHold, recordFits, segmentsInFrom};
-ghost use Rattle.records_fit.specs.Fits.{restHolds, endsIn, EndsRise};
+ghost use Rattle.records_fit.specs.Fits.{restHolds};
 
 // ---- segments
 
@@ -175,43 +175,4 @@ pub fn record_fits(places: &[i64], j: usize, m: usize, n: usize) -> bool
         return false;
     }
     segments_fit(places, n)
-}
-
-// ---- ends of a node and its child
-
-// The first `many` ends of the parent are among the first `count` of the child. Both rise, so that one pass over the child's is enough:
-// each end of the parent is passed when it is met, in order, and any other end of the child is one to spare.
-fn ends_in(child: &[i64], count: usize, parent: &[i64], many: usize) -> bool
-    requires { ⌜ (length (now child) ≡ recordPlaces) × EndsRise (now child) count
-        × (length (now parent) ≡ recordPlaces) × EndsRise (now parent) many ⌝ }
-    ensures { λ r. ⌜ r ≡ endsIn (segmentsInFrom (now (child .entry)) count 0) (segmentsInFrom (now (parent .entry)) many 0) ⌝ }
-{
-    if count < many {
-        return false;
-    }
-    let mut p: usize = 0;
-    let mut i: usize = 0;
-    while p < many {
-        if end_at(child, i) == end_at(parent, p) {
-            p += 1;
-            i += 1;
-            continue;
-        }
-        if count + p <= many + i {
-            return false;
-        }
-        i += 1;
-    }
-    true
-}
-
-// A child's ends include its parent's. Both records were tested by themselves.
-pub fn ends_kept(child: &[i64], parent: &[i64]) -> bool
-    requires { ⌜ (length (now child) ≡ recordPlaces) × EndsRise (now child) (smallAt (now child) segmentsPlace)
-        × (length (now parent) ≡ recordPlaces) × EndsRise (now parent) (smallAt (now parent) segmentsPlace) ⌝ }
-    ensures { λ r. ⌜ r ≡ endsIn (segmentsIn (now (child .entry))) (segmentsIn (now (parent .entry))) ⌝ }
-{
-    let count = small_at(child, SEGMENTS);
-    let many = small_at(parent, SEGMENTS);
-    ends_in(child, count, parent, many)
 }

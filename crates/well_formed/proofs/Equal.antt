@@ -23,8 +23,9 @@ use Rattle.tables.specs.Tables.{Tables, tables, measuresOf, traceCount, nodeCou
 use Rattle.tables.specs.View.{smallAt, segmentsIn, kindIn, nodeIn, treeIn, kindsNamed, wellFormed}
 use Rattle.tables.proofs.Views.{tree-size, tree-segments}
 use Rattle.records_fit.specs.Fits.{kindAlone, childFits, headFits, segmentsHold, recordFits, endsIn, keptAt, recordsFit, allKept}
-use Rattle.well_formed.specs.Tests.{countsFit, childrenAt, childrenOnce, leafFitsAt, numbersAt, numbersOfFirst, leavesHold, treeFits}
-use Rattle.well_formed.proofs.Once.{every-same}
+use Rattle.numbers_fit.specs.Tests.{childrenAt, childrenOnce, leafFitsAt, numbersAt, numbersOfFirst, leavesHold}
+use Rattle.well_formed.specs.Whole.{countsFit, treeFits}
+use Rattle.numbers_fit.proofs.Once.{every-same}
 
 -- ---- lists made for the numbers below m
 

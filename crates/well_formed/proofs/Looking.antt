@@ -16,11 +16,11 @@ use Rattle.tables.specs.Tables.{recordOf}
 use Rattle.records_fit.specs.Fits.{segmentsHold, recordFits, recordsFit, keptAt, allKept}
 use Rattle.records_fit.proofs.Limits.{passing}
 use Rattle.records_fit.proofs.Loops.{all-passed, each-passes}
-use Rattle.well_formed.specs.Marks.{NodeVisited, VisitedFirst, RecordsPassed}
-use Rattle.well_formed.specs.Tests.{childrenAt, childrenOfFirst, childrenOnce, firstAt, markedOnce}
-use Rattle.well_formed.proofs.Growth.{grown-firsts, firsts-none}
-use Rattle.well_formed.proofs.Taking.{marked-start, marked-more, marked-end}
-use Rattle.well_formed.proofs.Once.{noMarks, marked-is}
+use Rattle.well_formed.specs.Visits.{NodeVisited, VisitedFirst, RecordsPassed}
+use Rattle.numbers_fit.specs.Tests.{childrenAt, childrenOfFirst, childrenOnce, firstAt, markedOnce}
+use Rattle.numbers_fit.proofs.Growth.{grown-firsts, firsts-none}
+use Rattle.numbers_fit.proofs.Taking.{marked-start, marked-more, marked-end}
+use Rattle.numbers_fit.proofs.Once.{noMarks, marked-is}
 
 module _ (n m k : ℕ) (nodes : List ℤ) where
   pub visited-none : (marks named : List ℕ) → VisitedFirst n m k nodes 0 marks marks named named

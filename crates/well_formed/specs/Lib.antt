@@ -1,3 +1,3 @@
--- The rules for whole tables, and the marks by which code tests them.
-pub mod Tests
-pub mod Marks
+-- The rules for whole tables, and what a first look at records shows.
+pub mod Whole
+pub mod Visits

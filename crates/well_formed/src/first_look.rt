@@ -7,8 +7,8 @@ ghost use Prim.Native.Nat.{_*_, _≤_, _<_};
 ghost use lib.ListN.{length};
 ghost use Rattle.dstree.specs.Measures.{mostSamples, mostTraces, mostNodes};
 ghost use Rattle.tables.specs.Layout.{recordPlaces, nodePlaces};
-ghost use Rattle.well_formed.specs.Tests.{treeFits, TreeLent};
-ghost use Rattle.well_formed.specs.Marks.{NodeVisited, VisitedFirst, RecordsPassed};
+ghost use Rattle.well_formed.specs.Whole.{treeFits, TreeLent};
+ghost use Rattle.well_formed.specs.Visits.{NodeVisited, VisitedFirst, RecordsPassed};
 
 // Node j, of m: its head, and its first trace number if it is a leaf, else the numbers and the records of its children.
 fn node_passes(
@@ -25,16 +25,16 @@ fn node_passes(
     ensures { λ r. ⌜ (r ≡ true →
         NodeVisited n m k (now (nodes .entry)) j (now (marks .entry)) (now (marks .exit)) (now (named .entry)) (now (named .exit))) ⌝ }
 {
-    if !records_fit::nodes::head_fits(nodes, j, m, n) {
+    if !nodes_fit::nodes::head_fits(nodes, j, m, n) {
         return false;
     }
-    if !crate::leaves::mark_first(nodes, j, k, named) {
+    if !numbers_fit::leaves::mark_first(nodes, j, k, named) {
         return false;
     }
-    if !crate::children::mark_children(nodes, j, marks) {
+    if !numbers_fit::children::mark_children(nodes, j, marks) {
         return false;
     }
-    records_fit::nodes::children_fit(nodes, j, n)
+    nodes_fit::nodes::children_fit(nodes, j, n)
 }
 
 // Every node.
@@ -70,14 +70,14 @@ fn records_pass(nodes: &[i64], m: usize, n: usize, k: usize, named: &mut [u8; 40
     if m == 0 {
         return false;
     }
-    if !records_fit::nodes::segments_fit(nodes, 0, n) {
+    if !nodes_fit::nodes::segments_fit(nodes, 0, n) {
         return false;
     }
     let mut marks = [0u8; 8192];
     if !nodes_pass(nodes, m, n, k, &mut marks, named) {
         return false;
     }
-    crate::marks::all_marked(&marks, 1, m - 1)
+    numbers_fit::marks::all_marked(&marks, 1, m - 1)
 }
 
 pub fn passes(nodes: &[i64], links: &[u16], m: usize, n: usize, k: usize) -> bool
@@ -88,5 +88,5 @@ pub fn passes(nodes: &[i64], links: &[u16], m: usize, n: usize, k: usize) -> boo
     if !records_pass(nodes, m, n, k, &mut named) {
         return false;
     }
-    crate::leaves::links_name(links, k, m, &mut named)
+    numbers_fit::leaves::links_name(links, k, m, &mut named)
 }

@@ -1,9 +1,6 @@
 // Well-formed tables: the test that every call on made tables makes before it trusts them. It takes tables of any contents, reads each used
 // record and link a fixed number of times, and writes none of them: its marks are its own.
 
-pub mod marks; // numbers met, in a table of their own
-pub mod children; // every node but 0 a child once
-pub mod leaves; // every trace number in one leaf
 pub mod first_look; // all of it in one pass, for tables as calls leave them
 pub mod judging; // what lent tables are refused for
 
@@ -20,7 +17,7 @@ ghost use Rattle.dstree.specs.Measures.{mostTraces};
 ghost use Rattle.tables.specs.Tables.{tables};
 ghost use Rattle.tables.specs.View.{wellFormed};
 ghost use Rattle.tables.specs.Answers.{Lends};
-ghost use Rattle.well_formed.specs.Tests.{countsFit, treeFits, TreeLent};
+ghost use Rattle.well_formed.specs.Whole.{countsFit, treeFits, TreeLent};
 
 // The counts, before any record is read: of k traces there are 2k − 1 nodes at most, and a table holds as many records.
 fn counts_fit(m: usize, k: usize, capacity: usize) -> bool
@@ -44,16 +41,16 @@ fn one_by_one(nodes: &[i64], links: &[u16], m: usize, n: usize, k: usize) -> boo
     requires { ⌜ TreeLent n m (now nodes) k (now links) ⌝ }
     ensures { λ r. ⌜ r ≡ treeFits n m (now (nodes .entry)) k (now (links .entry)) ⌝ }
 {
-    if !records_fit::nodes::records_fit(nodes, m, n) {
+    if !nodes_fit::nodes::records_fit(nodes, m, n) {
         return false;
     }
-    if !records_fit::nodes::ends_kept(nodes, m) {
+    if !nodes_fit::nodes::ends_kept(nodes, m) {
         return false;
     }
-    if !crate::children::children_once(nodes, m) {
+    if !numbers_fit::children::children_once(nodes, m) {
         return false;
     }
-    crate::leaves::leaves_hold(nodes, m, links, k)
+    numbers_fit::leaves::leaves_hold(nodes, m, links, k)
 }
 
 // A first look passes what calls made. What it does not pass may still be well formed, or not.

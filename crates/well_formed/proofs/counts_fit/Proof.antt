@@ -2,7 +2,7 @@
 use mathlib.Core.Path.{sym}
 use native.Mathlib.Omega.{arith}
 use borrow.Author.Needs.{needs}
-use Rattle.well_formed.proofs.ByKind.{too-many, no-trace, no-node, some-nodes}
+use Rattle.well_formed.proofs.Counts.{too-many, no-trace, no-node, some-nodes}
 use Rattle.well_formed.proofs.counts_fit.Statement.{statement}
 use Rattle.well_formed.proofs.counts_fit.Tie as tie
 

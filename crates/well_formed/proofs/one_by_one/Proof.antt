@@ -6,7 +6,8 @@ use lib.IntN.{ℤ}
 use denote.Ref.{now}
 use borrow.Author.Tests.{not-true, not-false}
 use Rattle.records_fit.specs.Fits.{recordsFit, allKept, AllFit}
-use Rattle.well_formed.specs.Tests.{childrenOnce, treeFits}
+use Rattle.numbers_fit.specs.Tests.{childrenOnce}
+use Rattle.well_formed.specs.Whole.{treeFits}
 use Rattle.well_formed.proofs.one_by_one.Statement.{statement}
 use Rattle.well_formed.proofs.one_by_one.Tie as tie
 

@@ -14,7 +14,7 @@ use Rattle.tables.specs.Layout.{nPlace, capacityPlace, traceCountPlace, nodeCou
 use Rattle.tables.specs.Tables.{tables, field, measuresOf}
 use Rattle.tables.specs.Judge.{InRange}
 use Rattle.tables.proofs.Range.{in-range}
-use Rattle.well_formed.specs.Tests.{countsFit, treeFits}
+use Rattle.well_formed.specs.Whole.{countsFit, treeFits}
 use Rattle.well_formed.proofs.Equal.{counts-refuse, tree-decides, counted}
 use Rattle.well_formed.proofs.well_formed.Statement.{statement}
 use Rattle.well_formed.proofs.well_formed.Tie as tie

@@ -7,7 +7,7 @@ use borrow.Author.Tests.{not-false}
 use Rattle.integer.proofs.Tests.{clash}
 use Rattle.tables.specs.Tables.{recordOf}
 use Rattle.records_fit.specs.Fits.{headFits, HeadFits}
-use Rattle.well_formed.proofs.Taking.{named-yes}
+use Rattle.numbers_fit.proofs.Taking.{named-yes}
 use Rattle.well_formed.proofs.first_look.node_passes.Statement.{statement}
 use Rattle.well_formed.proofs.first_look.node_passes.Tie as tie
 

@@ -5,7 +5,7 @@ use native.Mathlib.Omega.{arith}
 use denote.Ref.{now}
 use borrow.Author.Tests.{not-false}
 use Rattle.integer.proofs.Tests.{clash}
-use Rattle.well_formed.specs.Marks.{VisitedFirst}
+use Rattle.well_formed.specs.Visits.{VisitedFirst}
 use Rattle.well_formed.proofs.Looking.{visited-none, visited-more}
 use Rattle.well_formed.proofs.first_look.nodes_pass.Statement.{statement}
 use Rattle.well_formed.proofs.first_look.nodes_pass.Tie as tie

@@ -6,8 +6,9 @@ use lib.ListN.{length-replicate}
 use denote.Ref.{now}
 use borrow.Author.Tests.{not-false}
 use Rattle.integer.proofs.Tests.{clash}
-use Rattle.well_formed.specs.Tests.{leavesHold, treeFits}
-use Rattle.well_formed.proofs.Holding.{links-decide}
+use Rattle.numbers_fit.specs.Tests.{leavesHold}
+use Rattle.well_formed.specs.Whole.{treeFits}
+use Rattle.numbers_fit.proofs.Holding.{links-decide}
 use Rattle.well_formed.proofs.first_look.passes.Statement.{statement}
 use Rattle.well_formed.proofs.first_look.passes.Tie as tie
 

@@ -1,109 +1,12 @@
 //! The program for the bench, run as it is built, on files in a folder of its own.
 
+mod bench;
+
+use bench::*;
 use silkendoz::TraceLibrary;
 use std::ffi::OsStr;
 use std::fs;
-use std::path::{Path, PathBuf};
 use std::process::{Command, Stdio};
-use testing::example;
-
-const N: usize = 64;
-
-/// A folder of its own for a test, empty at the beginning.
-struct Folder(PathBuf);
-
-/// What the program printed, and its exit status.
-struct Ran {
-    status: i32,
-    out: String,
-    err: String,
-}
-
-impl Folder {
-    fn new(name: &str) -> Folder {
-        let path = Path::new(env!("CARGO_TARGET_TMPDIR")).join("silkendoz").join(name);
-        let _ = fs::remove_dir_all(&path);
-        fs::create_dir_all(&path).unwrap();
-        Folder(path)
-    }
-
-    fn run<S: AsRef<OsStr>>(&self, words: &[S]) -> Ran {
-        let ran = Command::new(env!("CARGO_BIN_EXE_silkendoz")).current_dir(&self.0).args(words).output().unwrap();
-        let text = |bytes| String::from_utf8(bytes).unwrap();
-        Ran { status: ran.status.code().unwrap(), out: text(ran.stdout), err: text(ran.stderr) }
-    }
-
-    /// Runs a line of words; it has to be done.
-    fn done(&self, line: &str) -> String {
-        let ran = self.line(line);
-        assert_eq!((ran.status, ran.err.as_str()), (0, ""), "{line}");
-        ran.out
-    }
-
-    /// It has to be refused, with something said and nothing printed.
-    fn refused(&self, line: &str) -> String {
-        let ran = self.line(line);
-        assert_eq!((ran.status, ran.out.as_str()), (1, ""), "{line}: {}", ran.err);
-        assert!(ran.err.starts_with("silkendoz: "), "{line}");
-        ran.err
-    }
-
-    fn line(&self, line: &str) -> Ran {
-        self.run(&line.split(' ').collect::<Vec<_>>())
-    }
-
-    fn write(&self, name: &str, bytes: impl AsRef<[u8]>) {
-        fs::write(self.0.join(name), bytes).unwrap();
-    }
-
-    fn read(&self, name: &str) -> Vec<u8> {
-        fs::read(self.0.join(name)).unwrap()
-    }
-
-    fn text(&self, name: &str) -> String {
-        String::from_utf8(self.read(name)).unwrap()
-    }
-
-    /// Every file that is there, sorted.
-    fn files(&self) -> Vec<String> {
-        let name = |entry: std::io::Result<fs::DirEntry>| entry.unwrap().file_name().to_string_lossy().into_owned();
-        let mut names: Vec<String> = fs::read_dir(&self.0).unwrap().map(name).collect();
-        names.sort();
-        names
-    }
-
-    fn library(&self, name: &str) -> TraceLibrary {
-        TraceLibrary::read_sheet(&self.read(name)).unwrap()
-    }
-}
-
-/// The example's faults with their names, and the sweep of today.
-fn faults() -> (Vec<(String, Vec<i16>)>, Vec<i16>) {
-    let mut all = example::traces();
-    let (_, today) = all.pop().unwrap();
-    (all, today)
-}
-
-fn joined(trace: &[i16], separator: &str) -> String {
-    trace.iter().map(i16::to_string).collect::<Vec<_>>().join(separator)
-}
-
-/// A folder with the faults as CSV, with names, and today's sweep.
-fn bench(name: &str) -> Folder {
-    let folder = Folder::new(name);
-    let (faults, today) = faults();
-    let lines: Vec<String> = faults.iter().map(|(name, trace)| format!("\"{name}\",{}\n", joined(trace, ","))).collect();
-    folder.write("faults.csv", lines.concat());
-    folder.write("today.csv", joined(&today, " "));
-    folder
-}
-
-/// The same with the library built.
-fn shelf(name: &str) -> Folder {
-    let folder = bench(name);
-    folder.done("build faults.sheet --samples 64 --capacity 64 --leaf-size 4 faults.csv");
-    folder
-}
 
 // ---- building and adding
 
@@ -116,8 +19,8 @@ fn built_from_text_with_names() {
     for (number, (_, trace)) in faults.iter().enumerate() {
         assert_eq!(library.trace(number), Some(&trace[..]));
     }
-    let lines: Vec<String> = faults.iter().enumerate().map(|(number, (name, _))| format!("{number}\t{name}\tfaults.csv\n")).collect();
-    assert_eq!(folder.text("faults.names"), lines.concat());
+    let lines: Vec<String> = faults.iter().enumerate().map(|(number, (name, _))| format!("{number}\t{name}\tfaults.csv\t-")).collect();
+    assert_eq!(named(&folder.text("faults.names")), lines);
     assert_eq!(folder.files(), ["faults.csv", "faults.names", "faults.sheet", "today.csv"]);
 }
 
@@ -128,7 +31,8 @@ fn built_from_text_without_names() {
     folder.write("one.txt", "\u{feff}9;10;11;12\r\n");
     let out = folder.done("build all --samples=4 two.txt one.txt");
     assert_eq!(out, "all: 3 traces of 4 samples, room for 64, leaf size 16.\n");
-    assert_eq!(folder.text("all.names"), "0\ttwo, line 2\ttwo.txt\n1\ttwo, line 4\ttwo.txt\n2\tone\tone.txt\n");
+    let names = ["0\ttwo, line 2\ttwo.txt\t-", "1\ttwo, line 4\ttwo.txt\t-", "2\tone\tone.txt\t-"];
+    assert_eq!(named(&folder.text("all.names")), names);
     assert_eq!(folder.library("all").trace(2), Some(&[9, 10, 11, 12][..]));
 }
 
@@ -137,8 +41,8 @@ fn a_larger_library_from_a_smaller_one() {
     let folder = shelf("larger");
     folder.done("build large.sheet --samples 64 --capacity 100 faults.sheet");
     assert_eq!(folder.library("large.sheet").capacity(), 100);
-    let names = |file: &str| folder.text(file).lines().map(|l| l.split('\t').nth(1).unwrap().to_string()).collect::<Vec<_>>();
-    assert_eq!(names("large.names"), names("faults.names"));
+    // with the files that the traces came from
+    assert_eq!(folder.text("large.names"), folder.text("faults.names"));
 }
 
 #[test]
@@ -154,7 +58,8 @@ fn added_all_or_none() {
 
     let out = folder.done("add faults.sheet more.csv today.csv");
     assert_eq!(out, "faults.sheet: 3 traces added, numbers 36 to 38; 39 of 64 are taken.\n");
-    assert!(folder.text("faults.names").ends_with("36\tnew fault\tmore.csv\n37\tworn brush\tmore.csv\n38\ttoday\ttoday.csv\n"));
+    let names = ["36\tnew fault\tmore.csv\t-", "37\tworn brush\tmore.csv\t-", "38\ttoday\ttoday.csv\t-"];
+    assert_eq!(named(&folder.text("faults.names"))[36..], names);
     assert_eq!(folder.library("faults.sheet").trace(38), Some(&today[..]));
 
     let before = (folder.read("faults.sheet"), folder.read("faults.names"));
@@ -228,80 +133,6 @@ fn one_trace_has_no_runner_up() {
     assert!(folder.done("match same.sheet nine.csv").contains("the runner-up is off by 7.5 a sample"));
 }
 
-/// Enough of JSON to see that it is well formed and to take values from it.
-#[derive(Debug, PartialEq)]
-enum Json {
-    Null,
-    Number(f64),
-    Text(String),
-    List(Vec<Json>),
-    Object(Vec<(String, Json)>),
-}
-
-impl Json {
-    fn of(text: &str) -> Json {
-        let mut rest = text;
-        let value = Json::take(&mut rest);
-        assert_eq!(rest.trim(), "");
-        value
-    }
-
-    fn take(rest: &mut &str) -> Json {
-        *rest = rest.trim_start();
-        match rest.chars().next().unwrap() {
-            '[' => Json::List(Json::items(rest, ']', Json::take)),
-            '{' => Json::Object(Json::items(rest, '}', |rest| {
-                let Json::Text(name) = Json::take(rest) else { panic!("a field has a name") };
-                *rest = rest.trim_start().strip_prefix(':').unwrap();
-                (name, Json::take(rest))
-            })),
-            '"' => {
-                let end = (1..rest.len()).find(|&at| rest.as_bytes()[at] == b'"' && rest.as_bytes()[at - 1] != b'\\').unwrap();
-                let text = rest[1..end].replace("\\\"", "\"").replace("\\\\", "\\");
-                *rest = &rest[end + 1..];
-                Json::Text(text)
-            }
-            _ => {
-                let end = rest.find([',', ']', '}', '\n']).unwrap();
-                let word = &rest[..end];
-                *rest = &rest[end..];
-                if word == "null" {
-                    Json::Null
-                } else {
-                    Json::Number(word.parse().unwrap())
-                }
-            }
-        }
-    }
-
-    fn items<T>(rest: &mut &str, end: char, one: impl Fn(&mut &str) -> T) -> Vec<T> {
-        *rest = rest[1..].trim_start();
-        let mut items = Vec::new();
-        while !rest.starts_with(end) {
-            items.push(one(rest));
-            *rest = rest.trim_start();
-            *rest = rest.strip_prefix(',').unwrap_or(rest).trim_start();
-        }
-        *rest = &rest[1..];
-        items
-    }
-
-    fn at(&self, name: &str) -> &Json {
-        let Json::Object(fields) = self else { panic!("no object: {self:?}") };
-        &fields.iter().find(|(field, _)| field == name).unwrap_or_else(|| panic!("no field {name}")).1
-    }
-
-    fn list(&self) -> &[Json] {
-        let Json::List(items) = self else { panic!("no list: {self:?}") };
-        items
-    }
-
-    fn number(&self) -> u64 {
-        let Json::Number(number) = self else { panic!("no number: {self:?}") };
-        *number as u64
-    }
-}
-
 #[test]
 fn matched_for_programs() {
     let folder = shelf("json");
@@ -339,7 +170,7 @@ fn names_that_are_not_there() {
         ("0\ta\tb\n36\tc\td\n", "line 2: names trace 36, and the sheet has 36"),
         ("0\ta\tb\n0\tc\td\n", "line 2: names trace 0 a second time"),
         ("zero\ta\tb\n", "line 1: `zero` is no trace's number"),
-        ("a name\n", "line 1: has to be number, name and file"),
+        ("a name\n", "line 1: has to be number, name, file, rate and hash"),
     ] {
         folder.write("faults.names", names);
         assert!(folder.refused("match faults.sheet today.csv").contains(why), "{why}");
@@ -461,15 +292,6 @@ fn normalised(at: usize) -> String {
 
 // ---- torn sheets
 
-/// Changes a byte in each of these blocks.
-fn damage(sheet: &[u8], blocks: &[usize]) -> Vec<u8> {
-    let mut damaged = sheet.to_vec();
-    for block in blocks {
-        damaged[512 * block + 77] ^= 0x10;
-    }
-    damaged
-}
-
 #[test]
 fn every_torn_block_is_shown() {
     let folder = shelf("torn");
@@ -553,10 +375,10 @@ fn repaired_from_two_copies() {
     assert!(folder.read("whole.sheet") == sheet);
     assert!(folder.read("whole.names") == folder.read("faults.names"));
 
-    // a copy is repaired in place only if that is meant
-    folder.refused("repair a.sheet b.sheet -o a.sheet");
-    folder.done("repair a.sheet b.sheet -o a.sheet --force");
-    assert!(folder.read("a.sheet") == sheet);
+    // a copy is never overwritten
+    for line in ["repair a.sheet b.sheet -o a.sheet", "repair a.sheet b.sheet -o a.sheet --force"] {
+        assert!(folder.refused(line).contains("a.sheet: is read here too"));
+    }
 }
 
 #[test]
@@ -598,12 +420,15 @@ fn recordings_go_both_ways() {
     let library = folder.library("w.sheet");
     let stored: Vec<&[i16]> = (0..4).map(|number| library.trace(number).unwrap()).collect();
     assert_eq!(stored, [&faults[16].1[..], &faults[16].1, &faults[3].1, &faults[3].1]);
-    assert_eq!(folder.text("w.names"), "0\tdry\tdry.wav\n1\tboth, trace 1\tboth.wav\n2\tboth, trace 2\tboth.wav\n3\tloose\tloose.wav\n");
+    let names = ["0\tdry\tdry.wav\t2000", "1\tboth, trace 1\tboth.wav\t2000", "2\tboth, trace 2\tboth.wav\t2000", "3\tloose\tloose.wav\t8000"];
+    assert_eq!(named(&folder.text("w.names")), names);
     assert!(folder.done("match faults.sheet dry.wav -k 1").contains("dry rail, right, fast sweep         0       0.0"));
     assert_eq!(folder.done("match faults.sheet both.wav").lines().count(), 4);
-    // the same samples at the same rate are the same file
-    folder.done("export w.sheet 2 -o again.wav");
+    // the same samples at the rate that they were recorded at are the same file
+    folder.done("export w.sheet 3 -o again.wav");
     assert!(folder.read("again.wav") == folder.read("loose.wav"));
+    folder.done("export w.sheet 0 -o again-dry.wav");
+    assert!(folder.read("again-dry.wav") == folder.read("dry.wav"));
 }
 
 #[test]
@@ -629,17 +454,15 @@ fn what_is_wrong_with_a_recording() {
         (altered(34, 24), "it has 24 bits a sample"),
         (good[..good.len() - 2].to_vec(), "its header says 128 bytes of data, and there are 126"),
         ([&good[..], b"LIST"].concat(), "its header says 128 bytes of data, and there are 132"),
-        (short, "it has 63 samples, which is no multiple of 64"),
+        (short, "it has 63 samples, and a trace has 64. It is too short"),
         (altered(28, 1), "a number of its header does not fit the others"),
     ] {
         folder.write("bad.wav", bytes);
         let err = folder.refused("match faults.sheet bad.wav");
         assert!(err.contains("bad.wav: ") && err.contains(why), "{why}: {err}");
     }
-    for words in ["36 -o x.wav", "0 -o x.wav --rate 2147483648", "0 -o x.wav --rate 4294967296"] {
-        let err = folder.refused(&format!("export faults.sheet {words}"));
-        assert!(err.contains("it holds traces 0 to 35, and a rate is 0 to 2147483647"), "{err}");
-    }
+    let err = folder.refused("export faults.sheet 36 -o x.wav");
+    assert!(err.ends_with("there is no trace 36; it holds traces 0 to 35.\n"), "{err}");
     assert!(!folder.files().contains(&"x.wav".to_string()));
 }
 
@@ -662,16 +485,12 @@ fn refused_with_what_and_where() {
         ("match faults.sheet heading.csv", "heading.csv, line 1: `s0` in column 2"),
         ("match faults.sheet long.csv", "long.csv, line 1: 65 samples, and 64 are wanted. If the first column is a name"),
         ("match faults.sheet nothing.csv", "nothing.csv: holds no trace"),
-        ("match faults.sheet bytes.csv", "bytes.csv: is neither a WAV recording nor text"),
+        ("match faults.sheet bytes.csv", "bytes.csv: is no WAV recording, and is text in UTF-16"),
         ("match faults.sheet other.sheet", "other.sheet: a library of traces of 3 samples, and 64 are wanted"),
         ("match faults.sheet today.csv -k 17", "refused 11, bad k: a search lists 1 to 16 traces"),
         ("match faults.sheet today.csv -k 0", "refused 11, bad k"),
         ("match empty.sheet today.csv", "refused 6, empty: the library holds no trace"),
-        ("match . today.csv", ".: cannot be read"),
-        ("build new.sheet --samples 257 today.csv", "257 samples, capacity 1, leaf size 16: refused 1, measure"),
-        ("build new.sheet --samples 0 today.csv", "refused 1, measure"),
-        ("build new.sheet --samples 64 --capacity 4097 today.csv", "refused 1, measure"),
-        ("build new.sheet --samples 64 --leaf-size 65 today.csv", "refused 1, measure"),
+        ("match . today.csv", ".: is a folder, and has to be a file"),
         ("build new.sheet --samples 64 --capacity 35 faults.csv", "refused 5, full: there is room for 35 traces, and there would be 36"),
         ("build nowhere/new.sheet --samples 64 today.csv", "nowhere/new.sheet: cannot be written"),
         ("export faults.sheet 0 -o nowhere/x.wav", "nowhere/x.wav: cannot be written"),
@@ -699,6 +518,11 @@ fn wrong_usage() {
         ("build out.sheet faults.csv --samples 4 --samples 4", "`--samples` stands there twice"),
         ("build out.sheet faults.csv --samples 4 --quick", "`--quick` is no option of this command"),
         ("build out.sheet faults.csv --samples 4 --force=yes", "`--force=yes` is no option of this command"),
+        ("build out.sheet --samples 257 today.csv", "257 samples: refused 1, measure"),
+        ("build out.sheet --samples 0 today.csv", "0 samples: refused 1, measure"),
+        ("build out.sheet --samples 64 --capacity 4097 today.csv", "64 samples, capacity 4097: refused 1, measure"),
+        ("build out.sheet --samples 64 --leaf-size 65 today.csv", "64 samples, leaf size 65: refused 1, measure"),
+        ("export faults.sheet 0 -o x.wav --rate 2147483648", "--rate: a rate is 0 to 2147483647"),
         ("add faults.sheet", "a FILE with recordings is missing"),
         ("add", "LIBRARY is missing"),
         ("match faults.sheet", "a FILE with a sweep is missing"),
@@ -754,7 +578,7 @@ fn nothing_is_overwritten() {
         assert_ne!(folder.read(file), b"mine");
     }
     // names of the library that was there before do not stay
-    assert_eq!(folder.text("names-only.names"), "0\ttoday\ttoday.csv\n");
+    assert_eq!(named(&folder.text("names-only.names")), ["0\ttoday\ttoday.csv\t-"]);
     assert!(!folder.files().iter().any(|name| name.ends_with(".part")));
 }
 

@@ -1,25 +1,43 @@
 //! `add`: more traces into a library, all of them or none.
 
 use super::arguments::Arguments;
-use super::shelf::Shelf;
-use super::{done, numbers, reading, refused, Answer, Failure};
+use super::reading::{self, Wanted};
+use super::shelf::{Held, Shelf};
+use super::{files, notes, numbers, plain, refused, saved, Answer, Failure};
 
 pub fn run(a: &Arguments) -> Answer {
     let (path, sources) = a.one_and_more("LIBRARY", "a FILE with recordings")?;
-    let mut shelf = Shelf::load(path)?;
-    let before = shelf.library.len();
-    let sweeps = reading::all(&sources, shelf.library.n())?;
-    if let Err(Failure::Refused(why)) = shelf.put(&sweeps) {
-        let (shown, n) = (path.display(), shelf.library.n());
-        let hint = format!("`silkendoz build NEW.sheet --samples {n} --capacity C {shown}` makes a larger one of it, with its names");
-        return refused(format!("{shown}: {why} Nothing was added. {hint}."));
+    if sources.iter().any(|source| reading::is_standard(source)) {
+        // nobody waits for a lock while somebody types
+        files::read_standard()?;
     }
-    shelf.save_again()?;
-    let added = numbers::count(sweeps.len(), "trace");
+    let held = Held::of(path, !a.has("--no-wait"))?;
+    let mut shelf = Shelf::load(path)?;
+    held.must_take(true, &[])?;
+    let before = shelf.library.len();
+    let shown = plain::path(path);
+    let found = reading::all(&sources, &Wanted::of(a, shelf.library.n()))?;
+    let known = shelf.names.rates();
+    if let Err(Failure::Refused(why)) = shelf.put(&found.sweeps) {
+        return refused(format!("{shown}: {why} Nothing was added. {}", larger(&shelf, before + found.sweeps.len())));
+    }
+    let trouble = held.save(&shelf)?;
+    let added = numbers::count(found.sweeps.len(), "trace");
     let now = format!("{} of {} are taken", shelf.library.len(), shelf.library.capacity());
-    let first = match sweeps.len() {
+    let first = match found.sweeps.len() {
         1 => format!("number {before}"),
         _ => format!("numbers {before} to {}", shelf.library.len() - 1),
     };
-    done(format!("{}: {added} added, {first}; {now}.\n", path.display()))
+    let rates = reading::other_rates(&found.sweeps, &known);
+    saved(format!("{}{shown}: {added} added, {first}; {now}.\n{rates}", notes(&found)), trouble)
+}
+
+/// What to do about a library without room.
+fn larger(shelf: &Shelf, wanted: usize) -> String {
+    if wanted > reading::MOST_TRACES {
+        let hint = "Begin another library for these, or take one with `build --without` that leaves out what you need no more";
+        return format!("No library holds more than {} traces. {hint}.", reading::MOST_TRACES);
+    }
+    let (shown, n) = (plain::path(&shelf.path), shelf.library.n());
+    format!("`silkendoz build NEW.sheet --samples {n} --capacity {wanted} {shown}` makes a larger one of it, with its names.")
 }

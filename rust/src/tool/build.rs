@@ -1,11 +1,12 @@
 //! `build`: recordings into a library, with their names.
 
 use super::arguments::Arguments;
-use super::names::{self, Names};
-use super::shelf::Shelf;
-use super::{done, files, numbers, reading, refused, words, Answer, Failure};
+use super::names::Names;
+use super::reading::{self, Found, Wanted, MOST_TRACES};
+use super::shelf::{Held, Shelf};
+use super::{notes, numbers, plain, refused, saved, words, wrong, Answer, Failure};
 use silkendoz::TraceLibrary;
-use std::path::Path;
+use std::path::{Path, PathBuf};
 
 /// What the leaf size is unless it is said.
 const LEAF_SIZE: usize = 16;
@@ -15,34 +16,82 @@ pub fn run(a: &Arguments) -> Answer {
     let n = a.needed_number("--samples")?;
     let leaf_size = a.number("--leaf-size")?.unwrap_or(LEAF_SIZE);
     let said = a.number("--capacity")?;
+    let without = a.numbers("--without")?;
     let over = a.has("--force");
-    if !over {
-        files::must_be_free(out)?;
-        files::must_be_free(&names::beside(out))?;
+    // measures and the place are judged before a file is looked at, the place again when it is written
+    measures(a, n, said, leaf_size)?;
+    let inputs = inputs(&sources);
+    let inputs: Vec<&Path> = inputs.iter().map(PathBuf::as_path).collect();
+    Held::of(out, !a.has("--no-wait"))?.must_take(over, &inputs)?;
+    let mut found = reading::all(&sources, &Wanted::of(a, n))?;
+    leave_out(&mut found, &without)?;
+    let capacity = said.unwrap_or_else(|| room_for(found.sweeps.len()));
+    let library = TraceLibrary::open(n, capacity, leaf_size).or_else(|why| refused(words::of_call(why)))?;
+    let mut shelf = Shelf { path: out.to_path_buf(), library, names: Names::default() };
+    let shown = plain::path(out);
+    if let Err(Failure::Refused(why)) = shelf.put(&found.sweeps) {
+        return refused(format!("{shown}: {why} Say `--capacity {}` or more, or leave some out.", found.sweeps.len()));
     }
-    // measures are judged before a file is looked at
-    open(out, n, said.unwrap_or(1), leaf_size)?;
-    let sweeps = reading::all(&sources, n)?;
-    let mut shelf = open(out, n, said.unwrap_or_else(|| room_for(sweeps.len())), leaf_size)?;
-    if let Err(Failure::Refused(why)) = shelf.put(&sweeps) {
-        return refused(format!("{}: {why} Say `--capacity` for all of them, or leave some out.", out.display()));
-    }
-    shelf.save_new(over)?;
-    let (traces, room) = (numbers::count(shelf.library.len(), "trace"), shelf.library.capacity());
-    done(format!("{}: {traces} of {n} samples, room for {room}, leaf size {leaf_size}.\n", out.display()))
+    let held = Held::of(out, !a.has("--no-wait"))?;
+    held.must_take(over, &found.files.iter().map(PathBuf::as_path).chain(inputs).collect::<Vec<_>>())?;
+    let trouble = held.save(&shelf)?;
+    let traces = numbers::count(shelf.library.len(), "trace");
+    let samples = numbers::count(n, "sample");
+    let rates = mixed_rates(&shelf.names);
+    saved(format!("{}{shown}: {traces} of {samples}, room for {capacity}, leaf size {leaf_size}.\n{rates}", notes(&found)), trouble)
 }
 
 /// As many again as there are, 64 at least. If that is more than a library holds, as many as it holds.
 fn room_for(traces: usize) -> usize {
-    (2 * traces).clamp(64, 4096)
+    (2 * traces).clamp(64, MOST_TRACES)
 }
 
-fn open(out: &Path, n: usize, capacity: usize, leaf_size: usize) -> Result<Shelf, Failure> {
-    match TraceLibrary::open(n, capacity, leaf_size) {
-        Ok(library) => Ok(Shelf { path: out.to_path_buf(), library, names: Names::default() }),
+/// Refuses measures that no library has, naming those that were given.
+fn measures(a: &Arguments, n: usize, capacity: Option<usize>, leaf_size: usize) -> Result<(), Failure> {
+    match TraceLibrary::open(n, capacity.unwrap_or(1), leaf_size) {
+        Ok(_) => Ok(()),
         Err(why) => {
-            let said = format!("{n} samples, capacity {capacity}, leaf size {leaf_size}");
-            refused(format!("{}: {said}: {}", out.display(), words::of_call(why)))
+            let mut said = vec![numbers::count(n, "sample")];
+            said.extend(capacity.map(|capacity| format!("capacity {capacity}")));
+            said.extend(a.number("--leaf-size")?.map(|leaf_size| format!("leaf size {leaf_size}")));
+            wrong(format!("{}: {}", said.join(", "), words::of_call(why)))
+        }
+    }
+}
+
+/// The files that are read, with the names beside those that are libraries.
+fn inputs(sources: &[&Path]) -> Vec<PathBuf> {
+    sources.iter().flat_map(|source| [source.to_path_buf(), super::names::beside(source)]).collect()
+}
+
+/// Leaves out traces by their place among all that were read, counted from 0: the numbers that they have in a sheet read alone.
+fn leave_out(found: &mut Found, without: &[usize]) -> Result<(), Failure> {
+    let count = found.sweeps.len();
+    if let Some(none) = without.iter().find(|number| **number >= count) {
+        return refused(format!("--without: there is no trace {none}; the files hold {count}, counted from 0."));
+    }
+    let mut at = 0;
+    found.sweeps.retain(|sweep| {
+        let stays = !without.contains(&at);
+        if !stays {
+            found.notes.push(format!("without trace {at}, {}.", sweep.name));
+        }
+        at += 1;
+        stays
+    });
+    match found.sweeps.is_empty() {
+        true => refused("--without: no trace is left.".to_string()),
+        false => Ok(()),
+    }
+}
+
+/// Traces of different rates do not compare sample by sample.
+fn mixed_rates(names: &Names) -> String {
+    match names.rates().as_slice() {
+        [] | [_] => String::new(),
+        many => {
+            let many: Vec<String> = many.iter().map(u32::to_string).collect();
+            format!("Its recordings are of different rates: {} samples a second. Traces of different rates do not compare.\n", many.join(", "))
         }
     }
 }

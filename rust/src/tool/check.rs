@@ -1,13 +1,14 @@
 //! `check`: whether sheets are sound, and all that is wrong with one that is not.
 
 use super::arguments::Arguments;
+use super::files::Place;
 use super::names::Names;
-use super::{blocks, files, numbers, words, Answer, Failure, Told};
+use super::{blocks, done, files, numbers, plain, words, Answer, Failure};
 use silkendoz::{Refusal, TraceLibrary};
 use std::path::Path;
 
 pub fn run(a: &Arguments) -> Answer {
-    let mut told = Told { text: String::new(), fine: true };
+    let mut told = done(String::new())?;
     for path in a.some("a FILE with a sheet")? {
         let (text, fine) = one(path)?;
         told.text.push_str(&text);
@@ -22,10 +23,10 @@ fn one(path: &Path) -> Result<(String, bool), Failure> {
         Err(Failure::Refused(why)) => return Ok((format!("{why}\n"), false)),
         Err(other) => return Err(other),
     };
-    let shown = path.display();
+    let shown = plain::path(path);
     Ok(match TraceLibrary::read_sheet(&bytes) {
         Ok(library) => {
-            let (names, fine) = names_of(path, library.len());
+            let (names, fine) = names_of(path, &library);
             let traces = numbers::count(library.len(), "trace");
             let block = numbers::count(bytes.len() / blocks::BLOCK, "block");
             (format!("{shown}: sound. {block}, {traces} of {} samples.\n{names}", library.n()), fine)
@@ -36,11 +37,21 @@ fn one(path: &Path) -> Result<(String, bool), Failure> {
     })
 }
 
-/// Names that do not go with the sheet are a fault too.
-fn names_of(path: &Path, count: usize) -> (String, bool) {
-    match Names::beside(path, count) {
-        Ok(_) => (String::new(), true),
+/// Names that cannot be read are a fault, and so are traces whose lines do not fit them. Lines that an interrupted writing left are none.
+fn names_of(path: &Path, library: &TraceLibrary) -> (String, bool) {
+    let names = Place::of(path).and_then(|place| Names::beside(&place.path, library));
+    match names {
         Err(Failure::Refused(why) | Failure::Usage(why)) => (format!("  names: {why}\n"), false),
+        Ok(names) if names.left() == 0 => (String::new(), true),
+        Ok(names) => {
+            let left = numbers::count(names.left(), "line");
+            let nameless = library.len() - names.known();
+            let what = format!("  names: {left} that fit no trace, and are not shown; the next adding drops them.\n");
+            match nameless {
+                0 => (what, true),
+                _ => (format!("{what}  names: {} without a name.\n", numbers::count(nameless, "trace")), false),
+            }
+        }
     }
 }
 

@@ -1,5 +1,8 @@
 //! Traces as text: a trace a line, commas (semicolons, tabs) or spaces between the samples, with or without a name in the first column.
 
+use super::numbers;
+use super::plain::short;
+
 /// A line that holds a trace.
 #[derive(Debug, PartialEq, Eq)]
 pub struct Line {
@@ -16,23 +19,56 @@ pub struct Wrong {
     pub what: String,
 }
 
-/// All lines that hold a trace: not those that are empty or begin with `#`.
-pub fn lines(text: &str) -> Result<Vec<Line>, Wrong> {
+/// All lines that hold a trace: not those that are empty or begin with `#`. Each has n samples, and there are no more than so many.
+pub fn lines(text: &str, n: usize, most: usize) -> Result<Vec<Line>, Wrong> {
     let text = text.strip_prefix('\u{feff}').unwrap_or(text);
     let numbered = (1..).zip(text.lines());
-    let kept = numbered.filter(|(_, line)| !line.trim().is_empty() && !line.trim_start().starts_with('#'));
-    kept.map(|(number, line)| match trace(line) {
-        Ok((name, samples)) => Ok(Line { number, name, samples }),
-        Err(what) => Err(Wrong { line: number, what }),
-    })
-    .collect()
+    let mut kept = numbered.filter(|(_, line)| !line.trim().is_empty() && !line.trim_start().starts_with('#'));
+    let mut lines = Vec::new();
+    let wrong = |line, what| Err(Wrong { line, what });
+    while let Some((number, line)) = kept.next() {
+        if lines.len() == most {
+            return wrong(number, format!("more than {most} traces, and no library holds more. Leave some out."));
+        }
+        let alone = |line: &str| sample(line.trim()).is_some();
+        if n > 1 && lines.is_empty() && alone(line) && kept.all(|(_, line)| alone(line)) {
+            return wrong(number, one_a_line(n));
+        }
+        match trace(line, n) {
+            Ok((name, samples)) => lines.push(Line { number, name, samples }),
+            Err(what) => return wrong(number, what),
+        }
+    }
+    Ok(lines)
 }
 
-fn trace(line: &str) -> Result<(Option<String>, Vec<i16>), String> {
-    let columns = columns(line)?;
+fn one_a_line(n: usize) -> String {
+    let hint = "A trace is one line, with its samples one behind another: `paste -sd, FILE` turns a column into such a line";
+    format!("1 sample, and {n} are wanted, and so in all lines. {hint}.")
+}
+
+type Trace = (Option<String>, Vec<i16>);
+
+fn trace(line: &str, n: usize) -> Result<Trace, String> {
+    let columns = columns(line, n + 2)?;
     let named = columns.first().is_some_and(|first| first.quoted || sample(&first.text).is_none() && !looks_like_a_number(&first.text));
-    let samples = columns.iter().enumerate().skip(usize::from(named)).map(|(at, column)| read(at + 1, column)).collect::<Result<_, _>>()?;
-    Ok((named.then(|| columns[0].text.clone()), samples))
+    let count = (separators(line) + 1).max(columns.len()) - usize::from(named);
+    if columns.len() > n + 1 {
+        return Err(wrong_count(count, n, named));
+    }
+    let samples: Vec<i16> = columns.iter().enumerate().skip(usize::from(named)).map(|(at, column)| read(at + 1, column)).collect::<Result<_, _>>()?;
+    match samples.len() == n {
+        true => Ok((named.then(|| columns[0].text.clone()), samples)),
+        false => Err(wrong_count(samples.len(), n, named)),
+    }
+}
+
+fn wrong_count(count: usize, n: usize, named: bool) -> String {
+    let hint = match !named && count == n + 1 {
+        true => "If the first column is a name, put it in double quotes.",
+        false => "Record all sweeps alike, or bring this one to the length of the others.",
+    };
+    format!("{}, and {n} are wanted. {hint}", numbers::count(count, "sample"))
 }
 
 fn read(column: usize, found: &Column) -> Result<i16, String> {
@@ -41,16 +77,20 @@ fn read(column: usize, found: &Column) -> Result<i16, String> {
         return Err(format!("column {column} is empty. Remove the separator, or put a sample there."));
     } else if looks_like_a_number(text) {
         "Scale the recording to whole numbers of 16 bits first."
+    } else if looks_like_a_number(&text.replacen(',', ".", 1)) {
+        "It looks like a number with a decimal comma: scale the recording to whole numbers of 16 bits first."
     } else if column == 2 {
         "A name of several words is put in double quotes; a line of headings begins with `#`."
     } else {
         "Only the first column may be a name; a line of headings begins with `#`."
     };
-    sample(text).ok_or_else(|| format!("`{text}` in column {column} is no whole number from -32768 to 32767. {hint}"))
+    sample(text).ok_or_else(|| format!("`{}` in column {column} is no whole number from -32768 to 32767. {hint}", short(text, 40)))
 }
 
+/// A whole number, with nothing but zeros behind a point or comma.
 fn sample(text: &str) -> Option<i16> {
-    text.parse().ok()
+    let whole = text.split_once(['.', ',']).filter(|(_, behind)| behind.bytes().all(|digit| digit == b'0')).map_or(text, |(whole, _)| whole);
+    whole.parse().ok()
 }
 
 fn looks_like_a_number(text: &str) -> bool {
@@ -63,21 +103,39 @@ struct Column {
     quoted: bool,
 }
 
-fn columns(line: &str) -> Result<Vec<Column>, String> {
-    let separator = outside_quotes(line).find(|(_, c)| matches!(c, ',' | ';' | '\t')).map(|(_, c)| c);
+/// What stands between columns. Where there are semicolons or tabs, a comma is a decimal one.
+fn separator(line: &str) -> Option<char> {
+    let found = |wanted: char| outside_quotes(line).any(|(_, c)| c == wanted).then_some(wanted);
+    found(';').or(found('\t')).or(found(','))
+}
+
+/// How many separators a line has, at least; several spaces are one.
+fn separators(line: &str) -> usize {
+    match separator(line) {
+        Some(separator) => outside_quotes(line).filter(|(_, c)| *c == separator).count(),
+        None => line.split_whitespace().count().saturating_sub(1),
+    }
+}
+
+/// The first columns, no more than so many.
+fn columns(line: &str, most: usize) -> Result<Vec<Column>, String> {
+    let separator = separator(line);
     let mut columns = Vec::new();
     let mut start = 0;
     let is_end = |c: char| separator.map_or(c == ' ', |s| s == c);
-    for (at, c) in outside_quotes(line) {
-        if is_end(c) {
-            columns.push(&line[start..at]);
-            start = at + c.len_utf8();
+    let ends = outside_quotes(line).filter(|(_, c)| is_end(*c)).chain([(line.len(), ' ')]);
+    for (at, c) in ends {
+        let text = &line[start..at];
+        start = at + c.len_utf8();
+        // several spaces are one
+        if separator.is_some() || !text.is_empty() {
+            columns.push(column(text.trim())?);
+        }
+        if columns.len() == most {
+            break;
         }
     }
-    columns.push(&line[start..]);
-    // several spaces are one
-    let kept = columns.into_iter().filter(|text| separator.is_some() || !text.is_empty());
-    kept.map(|text| column(text.trim())).collect()
+    Ok(columns)
 }
 
 fn outside_quotes(line: &str) -> impl Iterator<Item = (usize, char)> + '_ {
@@ -94,7 +152,7 @@ fn column(text: &str) -> Result<Column, String> {
     };
     match behind.strip_suffix('"') {
         Some(inner) => Ok(Column { text: inner.replace("\"\"", "\""), quoted: true }),
-        None => Err(format!("the quotation marks of `{text}` do not fit.")),
+        None => Err(format!("the quotation marks of `{}` do not fit.", short(text, 40))),
     }
 }
 
@@ -102,48 +160,64 @@ fn column(text: &str) -> Result<Column, String> {
 mod tests {
     use super::*;
 
-    fn only(text: &str) -> (Option<String>, Vec<i16>) {
-        let mut all = lines(text).unwrap();
+    fn only(text: &str, n: usize) -> Trace {
+        let mut all = lines(text, n, 9).unwrap();
         assert_eq!(all.len(), 1);
         let line = all.remove(0);
         (line.name, line.samples)
     }
 
     fn what(text: &str) -> String {
-        lines(text).unwrap_err().what
+        lines(text, 2, 9).unwrap_err().what
     }
 
     #[test]
     fn columns_of_every_kind() {
         for text in ["1,-2,3", "1 -2 3", " 1   -2 3 ", "1;-2;3", "1\t-2\t3", "1, -2 ,3\r\n", "\u{feff}1,-2,+3\n\n# none\n"] {
-            assert_eq!(only(text), (None, vec![1, -2, 3]), "{text:?}");
+            assert_eq!(only(text, 3), (None, vec![1, -2, 3]), "{text:?}");
+        }
+        for text in ["1.0,-2.,3.00", "1,0;-2;3,00", "1,0\t-2\t3", "1.0 -2 3"] {
+            assert_eq!(only(text, 3), (None, vec![1, -2, 3]), "{text:?}");
         }
         for text in ["dry,1,2", "dry 1 2", "\"dry\" 1 2", "\"dry\",1,2", "dry;1;2"] {
-            assert_eq!(only(text), (Some("dry".to_string()), vec![1, 2]), "{text:?}");
+            assert_eq!(only(text, 2), (Some("dry".to_string()), vec![1, 2]), "{text:?}");
         }
-        assert_eq!(only("\"dry rail, right\",1,2").0.unwrap(), "dry rail, right");
-        assert_eq!(only("dry rail right,1,2").0.unwrap(), "dry rail right");
-        assert_eq!(only("\"17\" 1 2").0.unwrap(), "17");
-        assert_eq!(only("\"the \"\"wheel\"\"\" 1 2").0.unwrap(), "the \"wheel\"");
-        assert_eq!(only("32767,-32768"), (None, vec![32767, -32768]));
+        assert_eq!(only("\"dry rail, right\",1,2", 2).0.unwrap(), "dry rail, right");
+        assert_eq!(only("dry rail right,1,2", 2).0.unwrap(), "dry rail right");
+        assert_eq!(only("\"17\" 1 2", 2).0.unwrap(), "17");
+        assert_eq!(only("\"the \"\"wheel\"\"\" 1 2", 2).0.unwrap(), "the \"wheel\"");
+        assert_eq!(only("32767,-32768", 2), (None, vec![32767, -32768]));
+        assert_eq!(only("7", 1), (None, vec![7]));
     }
 
     #[test]
     fn numbers_of_lines() {
-        let all = lines("# a heading\n1 2\n\n   \nname 3 4\n").unwrap();
+        let all = lines("# a heading\n1 2\n\n   \nname 3 4\n", 2, 9).unwrap();
         assert_eq!(all.iter().map(|line| line.number).collect::<Vec<_>>(), [2, 5]);
     }
 
     #[test]
     fn what_is_wrong() {
-        assert_eq!(lines("1 2\n1 x").unwrap_err().line, 2);
-        assert!(what("1,2,").starts_with("column 3 is empty"));
+        assert_eq!(lines("1 2\n1 x", 2, 9).unwrap_err().line, 2);
+        assert!(what("dry,1,").starts_with("column 3 is empty"));
         assert!(what("1,32768").contains("`32768` in column 2"));
         assert!(what("32768,1").contains("`32768` in column 1"));
         assert!(what("1.5,1").contains("Scale"));
-        assert!(what("dry rail 1 2").contains("double quotes"));
+        assert!(what("1,5;2,5").contains("decimal comma"));
+        assert!(what("dry rail 1").contains("double quotes"));
         assert!(what("name,s0,s1").contains("begins with `#`"));
-        assert!(what("1,2,x").contains("Only the first column"));
+        assert!(what("dry,2,x").contains("Only the first column"));
         assert!(what("\"dry,1,2").contains("quotation marks"));
+        assert!(what("1\n2\n3\n").contains("paste -sd,"));
+        assert!(what("1,2,3").starts_with("3 samples, and 2 are wanted. If the first column is a name"));
+        assert!(what("dry,1").starts_with("1 sample, and 2 are wanted. Record"));
+    }
+
+    #[test]
+    fn no_more_is_read_than_can_be_stored() {
+        assert!(what(&"1 2\n".repeat(10)).contains("more than 9 traces"));
+        assert_eq!(lines(&"1 2\n".repeat(9), 2, 9).unwrap().len(), 9);
+        assert!(what(&"1,".repeat(100_000)).starts_with("100001 samples"));
+        assert!(what(&format!("x,{}", "1 ".repeat(100_000))).contains("` in column 2"));
     }
 }

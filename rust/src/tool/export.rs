@@ -1,23 +1,27 @@
 //! `export`: a stored trace as a recording.
 
 use super::arguments::{number, Arguments};
+use super::files::Output;
 use super::shelf::Shelf;
-use super::{done, files, recordings, refused, Answer};
+use super::{names, numbers, plain, recordings, refused, written, wrong, Answer};
 use std::path::Path;
 
-/// Samples a second unless it is said.
+/// Samples a second unless it is said or known.
 const RATE: usize = 8000;
+const MOST_RATE: usize = (1 << 31) - 1;
 
 pub fn run(a: &Arguments) -> Answer {
     let [library, trace] = a.exactly(["LIBRARY", "the trace's NUMBER"])?;
-    let trace = number("NUMBER", trace)?;
-    let rate = a.number("--rate")?.unwrap_or(RATE);
-    let out = a.needed_path("-o")?;
-    let over = a.has("--force");
-    if !over {
-        files::must_be_free(&out)?;
+    let (library, trace) = (Path::new(library), number("NUMBER", trace)?);
+    let said = a.number("--rate")?;
+    if said.is_some_and(|rate| rate > MOST_RATE) {
+        return wrong(format!("--rate: a rate is 0 to {MOST_RATE}."));
     }
-    let shelf = Shelf::load(Path::new(library))?;
+    let out = a.needed_path("-o")?;
+    let output = Output::of(&out, a.has("--force"), &[library, &names::beside(library)])?;
+    let shelf = Shelf::load(library)?;
+    let known = shelf.names.rate_of(trace).map(|rate| rate as usize);
+    let rate = said.or(known).unwrap_or(RATE);
     let bytes = match recordings::export(&shelf.library, trace, rate) {
         Ok(bytes) => bytes,
         Err(why) => {
@@ -25,11 +29,11 @@ pub fn run(a: &Arguments) -> Answer {
                 0 => "it holds no trace".to_string(),
                 many => format!("it holds traces 0 to {}", many - 1),
             };
-            let asked = format!("{}: trace {trace} at rate {rate}", shelf.path.display());
-            return refused(format!("{asked}: refused {}: {stored}, and a rate is 0 to 2147483647.", why.number()));
+            return refused(format!("{}: refused {}: there is no trace {trace}; {stored}.", plain::path(library), why.number()));
         }
     };
-    files::write(&out, &bytes, over)?;
     let name = shelf.names.shown(trace);
-    done(format!("{}: trace {trace}, {name}, {} samples at {rate} a second.\n", out.display(), shelf.library.n()))
+    let samples = numbers::count(shelf.library.n(), "sample");
+    let how = if said.or(known).is_none() { ", which nobody said" } else { "" };
+    written(format!("{}: trace {trace}, {name}, {samples} at {rate} a second{how}.\n", plain::path(&out)), output.write(&bytes)?)
 }

@@ -1,7 +1,7 @@
 //! `help`, and the table of commands.
 
 use super::arguments::Arguments;
-use super::{add, advise, build, check, done, export, info, matching, plot, repair, wrong, Answer, Command};
+use super::{add, advise, build, check, done, export, info, matching, plain, plot, repair, wrong, Answer, Command};
 use std::path::Path;
 
 const COMMANDS: [Command; 10] = [
@@ -23,8 +23,8 @@ a trace a line, with commas or spaces between the samples, with or without a nam
 separators or looks like a number; lines that begin with # are passed over); or the sheet of another library, whose names come along.
 A trace without a name is called by its file.
 ",
-        values: &["--samples", "--capacity", "--leaf-size"],
-        flags: &["--force"],
+        values: &["--samples", "--capacity", "--leaf-size", "--without"],
+        flags: &["--force", "--cut", "--convert", "--no-wait"],
         run: build::run,
     },
     Command {
@@ -36,7 +36,7 @@ Adds all traces in the FILEs to the library, in their order, with their names. I
 nothing is added. FILEs are those of `silkendoz help build`.
 ",
         values: &[],
-        flags: &[],
+        flags: &["--cut", "--convert", "--no-wait"],
         run: add::run,
     },
     Command {
@@ -58,7 +58,7 @@ of K: `number`, `name`, `distance`, `a_sample`), `runner_up` (the second of them
 What there is none of is null: a name, a runner-up, how many times as far it is as nothing.
 ",
         values: &["-k"],
-        flags: &["--json"],
+        flags: &["--json", "--tsv", "--cut", "--convert"],
         run: matching::run,
     },
     Command {
@@ -112,7 +112,7 @@ that is sound in neither cannot be had. Nothing is written unless the whole is s
   --force   overwrite it
 ",
         values: &["-o"],
-        flags: &["--force"],
+        flags: &["--force", "--no-wait"],
         run: repair::run,
     },
     Command {
@@ -165,9 +165,14 @@ fn run(a: &Arguments) -> Answer {
         return done(overview());
     };
     match word.to_str().and_then(command) {
-        Some(command) => done(format!("silkendoz {} {}\n\n{}", command.name, command.usage, command.text)),
-        None => wrong(format!("there is no command `{}`.", Path::new(word).display())),
+        Some(command) => done(about(command)),
+        None => wrong(format!("there is no command `{}`.", plain::path(Path::new(word)))),
     }
+}
+
+/// All about a command.
+pub fn about(command: &Command) -> String {
+    format!("silkendoz {} {}\n\n{}", command.name, command.usage, command.text)
 }
 
 fn overview() -> String {

@@ -3,7 +3,7 @@
 use super::arguments::Arguments;
 use super::shelf::Shelf;
 use super::table::{self, Column};
-use super::{done, names, numbers, Answer};
+use super::{done, names, numbers, plain, Answer};
 use silkendoz::TraceLibrary;
 use std::path::Path;
 
@@ -11,11 +11,12 @@ pub fn run(a: &Arguments) -> Answer {
     let [library] = a.exactly(["LIBRARY"])?;
     let shelf = Shelf::load(Path::new(library))?;
     let l = &shelf.library;
-    let mut text = format!("{}\n", shelf.path.display());
+    let mut text = format!("{}\n", plain::path(&shelf.path));
     let mut line = |what: &str, value: String| text.push_str(&format!("  {what:<18}{value}\n"));
     line("samples a trace", l.n().to_string());
     line("traces", format!("{} of {}", l.len(), l.capacity()));
     line("names", named(&shelf));
+    line("rate", rates(&shelf));
     line("leaf size", l.leaf_size().to_string());
     line("tree", tree(l));
     text.push_str("Memory for a controller, in bytes:\n");
@@ -24,9 +25,23 @@ pub fn run(a: &Arguments) -> Answer {
 }
 
 fn named(shelf: &Shelf) -> String {
+    let path = plain::path(&names::beside(&shelf.path));
+    let left = match shelf.names.left() {
+        0 => String::new(),
+        left => format!("; {} there fit no trace", numbers::count(left, "line")),
+    };
     match shelf.names.known() {
-        0 => format!("none ({} is not there, or is empty)", names::beside(&shelf.path).display()),
-        known => format!("{known}, in {}", names::beside(&shelf.path).display()),
+        0 => format!("none (no line of {path} fits, or it is not there){left}"),
+        known => format!("{known}, in {path}{left}"),
+    }
+}
+
+/// The rates of its recordings, as far as they are known.
+fn rates(shelf: &Shelf) -> String {
+    let rates: Vec<String> = shelf.names.rates().iter().map(u32::to_string).collect();
+    match rates.is_empty() {
+        true => "not known".to_string(),
+        false => format!("{} samples a second", rates.join(", ")),
     }
 }
 

@@ -8,37 +8,52 @@ mod arguments;
 mod blocks;
 mod build;
 mod check;
+mod convert;
 mod csv;
+mod disk;
 mod export;
 mod files;
+mod hash;
 mod help;
 mod info;
 mod json;
+mod lock;
 mod matching;
 mod names;
 mod noise;
 mod numbers;
+mod plain;
 mod plot;
 mod progress;
 mod reading;
 mod recordings;
 mod repair;
 mod shelf;
+mod standard;
 mod svg;
 mod table;
 mod words;
 
 use arguments::{Arguments, Options};
+use files::{Put, Written};
 use std::ffi::OsString;
 use std::io::{self, Write};
 use std::path::Path;
 use std::process::ExitCode;
 
-/// What a command did: a text for standard output, and whether something was found to be wrong.
+/// What a command did.
 #[derive(Debug)]
 struct Told {
+    /// For standard output.
     text: String,
+    /// Whether nothing was found to be wrong.
     fine: bool,
+    /// Something was written: whatever comes behind, that is so.
+    wrote: bool,
+    /// Standard output has the file that was asked for, and so the text goes to standard error.
+    aside: bool,
+    /// All was done, and then something went wrong: exit status 3.
+    trouble: Option<String>,
 }
 
 /// Why a command did nothing.
@@ -54,7 +69,22 @@ type Answer = Result<Told, Failure>;
 
 /// All was well.
 fn done(text: String) -> Answer {
-    Ok(Told { text, fine: true })
+    Ok(Told { text, fine: true, wrote: false, aside: false, trouble: None })
+}
+
+/// All was well, and something was written.
+fn written(text: String, output: Written) -> Answer {
+    Ok(Told { text, fine: true, wrote: true, aside: output.standard, trouble: output.trouble })
+}
+
+/// A library was written.
+fn saved(text: String, trouble: Put) -> Answer {
+    written(text, Written { standard: false, trouble })
+}
+
+/// What was done to files to get their traces, a line each.
+fn notes(found: &reading::Found) -> String {
+    found.notes.iter().map(|note| format!("{note}\n")).collect()
 }
 
 fn refused<T>(text: String) -> Result<T, Failure> {
@@ -81,14 +111,11 @@ struct Command {
 
 /// Runs the program with these words behind its name.
 pub fn run(words: Vec<OsString>) -> ExitCode {
-    match answer(words) {
-        Ok(told) => {
-            print(&told.text);
-            ExitCode::from(u8::from(!told.fine))
-        }
+    let code = match answer(words) {
+        Ok(told) => tell(&told),
         Err((Failure::Refused(why), _)) => {
             complain(&why);
-            ExitCode::from(1)
+            REFUSED
         }
         Err((Failure::Usage(why), command)) => {
             let hint = match command {
@@ -96,8 +123,36 @@ pub fn run(words: Vec<OsString>) -> ExitCode {
                 None => "`silkendoz help` lists the commands.".to_string(),
             };
             complain(&format!("{why}\n{hint}"));
-            ExitCode::from(2)
+            USAGE
         }
+    };
+    ExitCode::from(code)
+}
+
+const DONE: u8 = 0;
+const REFUSED: u8 = 1;
+const USAGE: u8 = 2;
+const DONE_WITH_TROUBLE: u8 = 3;
+
+/// Prints what a command did, and gives its exit status. What was written is not called unwritten because a line could not be printed.
+fn tell(told: &Told) -> u8 {
+    let printed = if told.aside { print_aside(&told.text) } else { print(&told.text) };
+    if let Some(why) = &told.trouble {
+        complain(why);
+    }
+    match printed {
+        Err(why) => {
+            let done = if told.wrote { " The command was done all the same." } else { "" };
+            complain(&format!("standard output cannot be written: {}.{done}", plain::why(&why)));
+            if told.wrote {
+                DONE_WITH_TROUBLE
+            } else {
+                REFUSED
+            }
+        }
+        Ok(()) if told.trouble.is_some() => DONE_WITH_TROUBLE,
+        Ok(()) if told.fine => DONE,
+        Ok(()) => REFUSED,
     }
 }
 
@@ -114,24 +169,33 @@ fn answer(words: Vec<OsString>) -> Result<Told, (Failure, Option<&'static Comman
         None => "",
     };
     let Some(command) = help::command(name) else {
-        return wrong(format!("there is no command `{}`.", Path::new(&first).display())).map_err(|why| (why, None));
+        return wrong(format!("there is no command `{}`.", plain::path(Path::new(&first)))).map_err(|why| (why, None));
     };
-    let arguments = Arguments::of(words, command.values, command.flags);
+    let words: Vec<OsString> = words.collect();
+    let asked = words.iter().take_while(|word| *word != "--").any(|word| word == "--help" || word == "-h");
+    if asked {
+        return done(help::about(command)).map_err(|why| (why, None));
+    }
+    let arguments = Arguments::of(words.into_iter(), command.values, command.flags);
     arguments.and_then(|arguments| (command.run)(&arguments)).map_err(|why| (why, Some(command)))
 }
 
 /// To standard output. A reader that has seen enough, as `head`, is no fault.
-fn print(text: &str) {
+fn print(text: &str) -> io::Result<()> {
+    standard::must_be_open()?;
     let mut out = io::stdout().lock();
-    if let Err(why) = out.write_all(text.as_bytes()).and_then(|()| out.flush()) {
-        if why.kind() != io::ErrorKind::BrokenPipe {
-            complain(&format!("standard output cannot be written: {why}."));
-            std::process::exit(1);
-        }
+    match out.write_all(plain::for_terminal(text).as_bytes()).and_then(|()| out.flush()) {
+        Err(why) if why.kind() == io::ErrorKind::BrokenPipe => Ok(()),
+        printed => printed,
     }
+}
+
+fn print_aside(text: &str) -> io::Result<()> {
+    let _ = io::stderr().write_all(plain::for_terminal(text).as_bytes());
+    Ok(())
 }
 
 /// To standard error, the program's name before the first line.
 fn complain(text: &str) {
-    let _ = writeln!(io::stderr(), "silkendoz: {text}");
+    let _ = writeln!(io::stderr(), "silkendoz: {}", plain::for_terminal(text));
 }

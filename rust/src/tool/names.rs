@@ -1,17 +1,27 @@
-//! The names of a library's traces: a text file beside the sheet, a line a trace: number, name, file, a tab between them.
+//! The names of a library's traces: a text file beside the sheet, a line a trace, with tabs between its columns: number, name, file, rate,
+//! and a hash of the trace's samples. A name is shown only where the hash fits: two files cannot change at one moment, and may be mixed up.
 
-use super::{files, refused, Failure};
+use super::plain::{clean, short, LONGEST};
+use super::{files, hash, plain, refused, Failure};
+use silkendoz::TraceLibrary;
+use std::collections::HashSet;
 use std::path::{Path, PathBuf};
 
 #[derive(Clone, Debug, PartialEq, Eq)]
 pub struct Name {
     pub name: String,
     pub file: String,
+    /// Samples a second that the recording says, if it does.
+    pub rate: Option<u32>,
 }
 
-/// By number. A trace may have none.
+/// By number, as they fit a library. A trace may have none.
 #[derive(Clone, Debug, Default, PartialEq, Eq)]
-pub struct Names(Vec<Option<Name>>);
+pub struct Names {
+    fitting: Vec<Option<Name>>,
+    /// Lines that fit no trace: what an interrupted writing leaves, or another library's.
+    left: usize,
+}
 
 /// `faults.sheet` has its names in `faults.names`, a sheet of another ending in a file with `.names` behind it.
 pub fn beside(sheet: &Path) -> PathBuf {
@@ -24,62 +34,152 @@ pub fn beside(sheet: &Path) -> PathBuf {
     }
 }
 
-/// One line of text: what would break the line, the column or a terminal becomes a space.
-pub fn clean(text: &str) -> String {
-    let spaced: String = text.chars().map(|c| if c.is_control() { ' ' } else { c }).collect();
-    spaced.trim().to_string()
+/// A line of the file. One without a hash is from an older version, or somebody's: it is taken as it is.
+#[derive(Clone, Debug, PartialEq, Eq)]
+pub struct Line {
+    /// Counted from 1.
+    at: usize,
+    number: usize,
+    name: Name,
+    hash: Option<String>,
 }
 
-impl Names {
-    /// The names beside a sheet of so many traces; none if there is no such file.
-    pub fn beside(sheet: &Path, count: usize) -> Result<Names, Failure> {
-        let path = beside(sheet);
-        if !files::exists(&path) {
-            return Ok(Names(vec![None; count]));
+/// All lines of a file, whatever they fit.
+#[derive(Clone, Debug, Default)]
+pub struct Lines {
+    path: PathBuf,
+    all: Vec<Line>,
+}
+
+impl Lines {
+    /// The file of this path; no line if there is no such file.
+    pub fn read(path: &Path) -> Result<Lines, Failure> {
+        match files::read_if_there(path)? {
+            Some(bytes) => Lines::of(path, bytes),
+            None => Ok(Lines::default()),
         }
-        let Ok(text) = String::from_utf8(files::read(&path)?) else {
-            return refused(format!("{}: is no text (UTF-8). {}", path.display(), GO_ON));
-        };
-        let mut names = Names(vec![None; count]);
-        for (line, text) in (1..).zip(text.lines()) {
-            if let Err(why) = names.take(text) {
-                return refused(format!("{}, line {line}: {why} {}", path.display(), GO_ON));
-            }
+    }
+
+    /// What the file of this path holds.
+    pub fn of(path: &Path, bytes: Vec<u8>) -> Result<Lines, Failure> {
+        let text = plain::text_of(bytes).or_else(|why| refused(format!("{}: {why} {GO_ON}", plain::path(path))))?;
+        let numbered = (1..).zip(text.lines()).filter(|(_, line)| !line.trim().is_empty());
+        let all = numbered.map(|(at, line)| taken(at, line).or_else(|why| wrong_line(path, at, &why))).collect::<Result<_, _>>()?;
+        Ok(Lines { path: path.to_path_buf(), all })
+    }
+
+    pub fn is_empty(&self) -> bool {
+        self.all.is_empty()
+    }
+
+    /// Whether every line has a hash.
+    pub fn all_hashed(&self) -> bool {
+        self.all.iter().all(|line| line.hash.is_some())
+    }
+
+    /// Those that fit the library's traces. Of several lines of one trace the first that fits counts. A line without a hash has to name
+    /// a trace that is there, and be the only one.
+    pub fn fit(&self, library: &TraceLibrary) -> Result<Names, Failure> {
+        let count = library.len();
+        let mut names = Names::none(count);
+        let mut unproved = vec![false; count];
+        for line in &self.all {
+            let trace = library.trace(line.number);
+            let place = names.fitting.get_mut(line.number);
+            let why = match (place, &line.hash) {
+                (Some(place), Some(hash)) if place.is_none() && trace.is_some_and(|trace| hash::of_trace(trace) == *hash) => {
+                    *place = Some(line.name.clone());
+                    continue;
+                }
+                (_, Some(_)) => {
+                    names.left += 1;
+                    continue;
+                }
+                (Some(place), None) if place.is_none() => {
+                    unproved[line.number] = true;
+                    *place = Some(line.name.clone());
+                    continue;
+                }
+                (Some(_), None) if !unproved[line.number] => {
+                    names.left += 1;
+                    continue;
+                }
+                (Some(_), None) => format!("names trace {} a second time.", line.number),
+                (None, None) => format!("names trace {}, and the sheet has {count}, from 0: it belongs to another sheet.", line.number),
+            };
+            return wrong_line(&self.path, line.at, &why);
         }
         Ok(names)
     }
 
-    fn take(&mut self, line: &str) -> Result<(), String> {
-        if line.trim().is_empty() {
-            return Ok(());
-        }
-        let columns: Vec<&str> = line.split('\t').collect();
-        let (number, name, file) = match columns.as_slice() {
-            [number, name] => (*number, *name, ""),
-            [number, name, file] => (*number, *name, *file),
-            _ => return Err("has to be number, name and file, with a tab between them.".to_string()),
-        };
-        let Ok(at) = number.trim().parse::<usize>() else {
-            return Err(format!("`{}` is no trace's number.", clean(number)));
-        };
-        let count = self.0.len();
-        let Some(place) = self.0.get_mut(at) else {
-            return Err(format!("names trace {at}, and the sheet has {count}, from 0: it belongs to another sheet."));
-        };
-        if place.is_some() {
-            return Err(format!("names trace {at} a second time."));
-        }
-        *place = Some(Name { name: clean(name), file: clean(file) });
-        Ok(())
+    /// The lines that have a hash, as they stand in the file.
+    pub fn hashed(&self) -> String {
+        self.all.iter().filter_map(|line| Some(written(line.number, &line.name, line.hash.as_ref()?))).collect()
+    }
+}
+
+fn wrong_line<T>(path: &Path, at: usize, why: &str) -> Result<T, Failure> {
+    refused(format!("{}, line {at}: {why} {GO_ON}", plain::path(path)))
+}
+
+const GO_ON: &str = "Correct it, or move it away to go on without names.";
+
+fn taken(at: usize, line: &str) -> Result<Line, String> {
+    let columns: Vec<&str> = line.splitn(6, '\t').collect();
+    let (number, name, file, rate, hash) = match columns.as_slice() {
+        [number, name] => (*number, *name, "", NO_RATE, None),
+        [number, name, file] => (*number, *name, *file, NO_RATE, None),
+        [number, name, file, rate, hash] => (*number, *name, *file, rate.trim(), Some(hash.trim())),
+        _ => return Err("has to be number, name, file, rate and hash, with a tab between them.".to_string()),
+    };
+    let Ok(number) = number.trim().parse::<usize>() else {
+        return Err(format!("`{}` is no trace's number.", short(number, 40)));
+    };
+    let rate = match rate {
+        NO_RATE => None,
+        rate => Some(rate.parse::<u32>().map_err(|_| format!("`{}` is no rate; `{NO_RATE}` stands for none.", short(rate, 40)))?),
+    };
+    if hash.is_some_and(|hash| hash.len() != 16 || !hash.bytes().all(|byte| byte.is_ascii_hexdigit())) {
+        return Err("the last column has to be 16 digits, 0 to 9 and a to f, as they were written there.".to_string());
+    }
+    let name = Name { name: named(name)?, file: short(file, LONGEST), rate };
+    Ok(Line { at, number, name, hash: hash.map(str::to_lowercase) })
+}
+
+/// A name as it may be shown.
+pub fn named(text: &str) -> Result<String, String> {
+    let letters = text.chars().count();
+    match letters > LONGEST {
+        true => Err(format!("the name `{}` has {letters} letters, and may have {LONGEST}. Shorten it.", short(text, 40))),
+        false => Ok(clean(text)),
+    }
+}
+
+const NO_RATE: &str = "-";
+
+fn written(number: usize, name: &Name, hash: &str) -> String {
+    let rate = name.rate.map_or(NO_RATE.to_string(), |rate| rate.to_string());
+    format!("{number}\t{}\t{}\t{rate}\t{hash}\n", clean(&name.name), clean(&name.file))
+}
+
+impl Names {
+    /// The names beside a sheet that fit its library; none if there is no such file.
+    pub fn beside(sheet: &Path, library: &TraceLibrary) -> Result<Names, Failure> {
+        Lines::read(&beside(sheet))?.fit(library)
     }
 
     /// How many traces have a name.
     pub fn known(&self) -> usize {
-        self.0.iter().flatten().count()
+        self.fitting.iter().flatten().count()
+    }
+
+    /// How many lines of the file fit no trace.
+    pub fn left(&self) -> usize {
+        self.left
     }
 
     pub fn of(&self, number: usize) -> Option<&Name> {
-        self.0.get(number)?.as_ref()
+        self.fitting.get(number)?.as_ref()
     }
 
     /// The name to show.
@@ -87,16 +187,64 @@ impl Names {
         self.of(number).map_or("(no name)", |name| &name.name)
     }
 
-    /// The next trace's name.
-    pub fn push(&mut self, name: Name) {
-        self.0.push(Some(name));
+    /// Samples a second of a trace's recording, if it is known.
+    pub fn rate_of(&self, number: usize) -> Option<u32> {
+        self.of(number)?.rate
     }
 
-    /// The file.
-    pub fn text(&self) -> String {
-        let lines = self.0.iter().enumerate().filter_map(|(number, name)| Some((number, name.as_ref()?)));
-        lines.map(|(number, name)| format!("{number}\t{}\t{}\n", clean(&name.name), clean(&name.file))).collect()
+    /// All rates that are known of the library's traces, rising, each once.
+    pub fn rates(&self) -> Vec<u32> {
+        let mut rates: Vec<u32> = self.fitting.iter().flatten().filter_map(|name| name.rate).collect();
+        rates.sort_unstable();
+        rates.dedup();
+        rates
+    }
+
+    /// The library's rate: the one that all traces of a known rate have.
+    pub fn rate(&self) -> Option<u32> {
+        match self.rates().as_slice() {
+            [one] => Some(*one),
+            _ => None,
+        }
+    }
+
+    /// The next trace's name.
+    pub fn push(&mut self, name: Option<Name>) {
+        self.fitting.push(name);
+    }
+
+    /// Gives a trace that is there another name.
+    pub fn set(&mut self, number: usize, name: Name) {
+        self.fitting[number] = Some(name);
+    }
+
+    /// For so many traces, none of which has a name.
+    pub fn none(count: usize) -> Names {
+        Names { fitting: vec![None; count], left: 0 }
+    }
+
+    /// Takes the names of others where there are none yet; how many there were.
+    pub fn fill_from(&mut self, others: &Names) -> usize {
+        let mut taken = 0;
+        for (own, other) in self.fitting.iter_mut().zip(&others.fitting) {
+            if own.is_none() && other.is_some() {
+                own.clone_from(other);
+                taken += 1;
+            }
+        }
+        taken
+    }
+
+    /// The file, for this library; nothing if no trace has a name.
+    pub fn text(&self, library: &TraceLibrary) -> String {
+        let known = self.fitting.iter().enumerate().filter_map(|(number, name)| Some((number, name.as_ref()?, library.trace(number)?)));
+        known.map(|(number, name, trace)| written(number, name, &hash::of_trace(trace))).collect()
     }
 }
 
-const GO_ON: &str = "Correct it, or move it away to go on without names.";
+/// The lines of a library, and behind them those of one that it replaces: so each has its names, whichever of them the sheet is.
+pub fn with_old(new: &str, old: &str) -> String {
+    let known: HashSet<&str> = new.lines().collect();
+    let others = old.lines().filter(|line| !known.contains(line)).map(|line| format!("{line}\n"));
+    new.to_string() + &others.collect::<String>()
+}

@@ -1,25 +1,86 @@
 //! WAV files: what they hold and how they are written is the proved calls' to say. Here is the way there and back, and words for a refusal.
 
+use super::reading::{Wanted, MOST_TRACES};
+use super::{convert, numbers};
 use silkendoz::{Refusal, TraceLibrary};
 
-/// As many traces as a library holds at most.
-const MOST_TRACES: usize = 4096;
-const HEADER: usize = 44;
+pub const HEADER: usize = 44;
+
+/// What a recording holds.
+pub struct Taken {
+    pub traces: Vec<Vec<i16>>,
+    /// Samples a second, as its header says.
+    pub rate: u32,
+    /// What was done to it.
+    pub notes: Vec<String>,
+}
 
 /// Whether a file means to be a recording.
 pub fn is_meant(bytes: &[u8]) -> bool {
     bytes.starts_with(b"RIFF")
 }
 
+/// The traces of a recording. If that is wanted, it is brought to the plain form first, and cut to whole traces.
+pub fn take(bytes: &[u8], wanted: &Wanted) -> Result<Taken, String> {
+    let mut notes = Vec::new();
+    let converted = if wanted.convert { convert::to_plain(bytes)? } else { None };
+    let plain = converted.as_ref().map_or(bytes, |made| {
+        notes.push(made.note.clone());
+        &made.bytes
+    });
+    let cut = if wanted.cut { cut(plain, wanted.n) } else { None };
+    let whole = cut.as_ref().map_or(plain, |(whole, note)| {
+        notes.push(note.clone());
+        whole
+    });
+    let traces = import(whole, wanted.n)?;
+    Ok(Taken { traces, rate: field(whole, 24, 4) as u32, notes })
+}
+
 /// The traces of n samples that a recording holds, by a library of their own.
-pub fn import(bytes: &[u8], n: usize) -> Result<Vec<Vec<i16>>, String> {
+fn import(bytes: &[u8], n: usize) -> Result<Vec<Vec<i16>>, String> {
     let room = (bytes.len() / 2 / n.max(1)).clamp(1, MOST_TRACES);
     let mut library = TraceLibrary::open(n, room, 64).map_err(|why| why.to_string())?;
     match library.import_recording(bytes) {
         Ok(_) => Ok(library.traces().map(<[i16]>::to_vec).collect()),
-        Err(Refusal::Full) => Err(format!("holds more than {MOST_TRACES} traces of {n} samples, which no library does. Cut it.")),
+        Err(Refusal::Full) => {
+            let samples = numbers::count(n, "sample");
+            Err(format!("holds more than {MOST_TRACES} traces of {samples}, which no library does. Cut it."))
+        }
         Err(why) => Err(format!("refused {}, no recording that can be taken: {}", why.number(), in_words(bytes, n))),
     }
+}
+
+/// A recording of these samples under the plain header.
+pub fn plain(rate: u32, data: &[u8]) -> Vec<u8> {
+    let size = data.len() as u32;
+    let mut bytes = Vec::with_capacity(HEADER + data.len());
+    bytes.extend(b"RIFF");
+    bytes.extend((size + 36).to_le_bytes());
+    bytes.extend(b"WAVEfmt ");
+    bytes.extend(16u32.to_le_bytes());
+    bytes.extend([1, 0, 1, 0]);
+    bytes.extend(rate.to_le_bytes());
+    bytes.extend(rate.wrapping_mul(2).to_le_bytes());
+    bytes.extend([2, 0, 16, 0]);
+    bytes.extend(b"data");
+    bytes.extend(size.to_le_bytes());
+    bytes.extend(data);
+    bytes
+}
+
+/// The whole traces of a plain recording that ends in the midst of one, and what was left out. One that holds none is left as it is.
+fn cut(bytes: &[u8], n: usize) -> Option<(Vec<u8>, String)> {
+    let data = bytes.get(HEADER..)?;
+    let (samples, left) = (data.len() / 2, data.len() / 2 % n.max(1));
+    let is_plain = &bytes[36..40] == b"data" && field(bytes, 40, 4) == data.len() as u64;
+    if !is_plain || left == 0 || left == samples {
+        return None;
+    }
+    let kept = samples - left;
+    let traces = numbers::count(kept / n, "trace");
+    let note = format!("cut into {traces}; {} at its end left out.", numbers::count(left, "sample"));
+    Some((plain(field(bytes, 24, 4) as u32, &data[..2 * kept]), note))
 }
 
 /// One stored trace as a recording. A rate that is out of range is refused by the call, one that is far out as the greatest.
@@ -27,36 +88,48 @@ pub fn export(library: &TraceLibrary, number: usize, rate: usize) -> Result<Vec<
     library.export_recording(number, u32::try_from(rate).unwrap_or(u32::MAX))
 }
 
+/// A number of a file, low byte first.
+pub fn field(bytes: &[u8], at: usize, size: usize) -> u64 {
+    bytes[at..at + size].iter().rev().fold(0, |sum, &byte| 256 * sum + u64::from(byte))
+}
+
+const CONVERT: &str = "`--convert` brings it to that form";
+
 /// What keeps a file from being a recording, for people: the call itself only says that it is none.
 fn in_words(bytes: &[u8], n: usize) -> String {
-    let field = |at: usize, size: usize| bytes[at..at + size].iter().rev().fold(0u64, |sum, &byte| 256 * sum + u64::from(byte));
     if bytes.len() < HEADER {
         return format!("it has {} bytes, and the header alone takes {HEADER}. It was cut off: record it again.", bytes.len());
     }
     if &bytes[8..12] != b"WAVE" {
         return "it is of the family RIFF, but no WAV. Save it as WAV.".to_string();
     }
-    if &bytes[12..16] != b"fmt " || field(16, 4) != 16 || &bytes[36..40] != b"data" {
-        return format!("its header is not WAV's usual {HEADER} bytes. Save it without tags, as plain 16-bit PCM.");
+    let format = field(bytes, 20, 2);
+    if &bytes[12..16] != b"fmt " || field(bytes, 16, 4) != 16 || &bytes[36..40] != b"data" {
+        return format!("its header is not WAV's usual {HEADER} bytes. Save it without tags, as plain 16-bit PCM; {CONVERT}.");
     }
-    if field(20, 2) != 1 {
-        return format!("its format is {}, and has to be 1. Save it as plain PCM.", field(20, 2));
+    if format != 1 {
+        return format!("its format is {format}, and has to be 1. Save it as plain PCM; {CONVERT}, if it is floating point.");
     }
-    if field(22, 2) != 1 {
-        return format!("it has {} channels, and has to have one. Save it as mono.", field(22, 2));
+    let channels = field(bytes, 22, 2);
+    if channels != 1 {
+        return format!("it has {channels} channels, and has to have one. Save it as mono; {CONVERT}, by its first channel.");
     }
-    if field(34, 2) != 16 {
-        return format!("it has {} bits a sample, and has to have 16. Save it as 16-bit PCM.", field(34, 2));
+    let bits = field(bytes, 34, 2);
+    if bits != 16 {
+        return format!("it has {bits} bits a sample, and has to have 16. Save it as 16-bit PCM; {CONVERT}.");
     }
-    in_sizes(field(40, 4), (bytes.len() - HEADER) as u64, n as u64)
+    in_sizes(field(bytes, 40, 4), (bytes.len() - HEADER) as u64, n as u64)
 }
 
 /// The header says so many bytes of data, and so many are there.
 fn in_sizes(said: u64, there: u64, n: u64) -> String {
+    let samples = said / 2;
     if said != there {
         format!("its header says {said} bytes of data, and there are {there}. It was cut off, or something stands behind: save it again.")
-    } else if said.is_multiple_of(2) && !(said / 2).is_multiple_of(n) {
-        format!("it has {} samples, which is no multiple of {n}. Cut it to whole traces.", said / 2)
+    } else if said.is_multiple_of(2) && samples < n {
+        format!("it has {}, and a trace has {n}. It is too short: record it again.", numbers::count(samples as usize, "sample"))
+    } else if said.is_multiple_of(2) && !samples.is_multiple_of(n) {
+        format!("it has {samples} samples, which is no multiple of {n}. `--cut` takes its whole traces, and leaves out the rest.")
     } else {
         "a number of its header does not fit the others (sizes, rates, block align). Save it again as 16-bit PCM, mono.".to_string()
     }

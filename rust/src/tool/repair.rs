@@ -2,28 +2,64 @@
 
 use super::arguments::Arguments;
 use super::blocks::{self, BLOCK};
-use super::{done, files, names, numbers, refused, words, Answer, Failure};
+use super::files::{Output, Place};
+use super::names::{self, Lines, Names};
+use super::shelf::{Held, Shelf};
+use super::{files, numbers, plain, refused, saved, words, written, Answer, Failure};
 use silkendoz::TraceLibrary;
-use std::path::Path;
+use std::path::{Path, PathBuf};
 
 pub fn run(a: &Arguments) -> Answer {
     let [first, second] = a.exactly(["the first copy A", "the second copy B"])?.map(Path::new);
     let out = a.needed_path("-o")?;
     let over = a.has("--force");
-    if !over {
-        files::must_be_free(&out)?;
-    }
+    let inputs = [first.to_path_buf(), second.to_path_buf(), names_beside(first)?, names_beside(second)?];
+    let inputs = inputs.each_ref().map(PathBuf::as_path);
+    let stream = match Output::of(&out, over, &inputs)? {
+        Output::File(..) => None,
+        stream => Some(stream),
+    };
     let copies = [Copy::of(first)?, Copy::of(second)?];
     let (sheet, taken) = joined(&copies)?;
-    if let Err(why) = TraceLibrary::read_sheet(&sheet) {
-        return refused(format!("the sound blocks of both together: {} Nothing was written.", words::of_sheet(&sheet, why)));
-    }
-    files::write(&out, &sheet, over)?;
-    let names = keep_names([first, second], &out, over)?;
+    let library = match TraceLibrary::read_sheet(&sheet) {
+        Ok(library) => library,
+        Err(why) => return refused(format!("the sound blocks of both together: {} Nothing was written.", words::of_sheet(&sheet, why))),
+    };
     let all = numbers::count(sheet.len() / BLOCK, "block");
-    let Taken { same, first, second } = taken;
-    let from = format!("{same} sound in both copies and the same, {first} from the first alone, {second} from the second alone");
-    done(format!("{}: sound. {all}: {from}.\n{names}", out.display()))
+    let Taken { same, first: from_first, second: from_second } = taken;
+    let from = format!("{same} sound in both copies and the same, {from_first} from the first alone, {from_second} from the second alone");
+    let text = format!("{}: sound. {all}: {from}.\n", plain::path(&out));
+    if let Some(stream) = stream {
+        return written(text, stream.write(&sheet)?);
+    }
+    let (names, kept) = kept_names([first, second], &library, &out)?;
+    let held = Held::of(&out, !a.has("--no-wait"))?;
+    held.must_take(over, &inputs)?;
+    let trouble = held.save(&Shelf { path: out, library, names })?;
+    saved(text + &kept, trouble)
+}
+
+/// Where the names of a sheet stand, even if a link leads to it.
+fn names_beside(sheet: &Path) -> Result<PathBuf, Failure> {
+    Ok(names::beside(&Place::of(sheet)?.path))
+}
+
+/// The names of the first copy, and where it has none, those of the second.
+fn kept_names(copies: [&Path; 2], library: &TraceLibrary, out: &Path) -> Result<(Names, String), Failure> {
+    let mut names = Names::none(library.len());
+    let mut from = Vec::new();
+    for copy in copies {
+        let path = names_beside(copy)?;
+        let others = Lines::read(&path)?.fit(library)?;
+        if names.fill_from(&others) > 0 {
+            from.push(plain::path(&names::beside(copy)));
+        }
+    }
+    let told = match from.is_empty() {
+        true => String::new(),
+        false => format!("{}: from {}.\n", plain::path(&names::beside(out)), from.join(" and ")),
+    };
+    Ok((names, told))
 }
 
 /// A copy, and which of its whole blocks are torn.
@@ -40,7 +76,7 @@ impl Copy {
         for block in blocks::torn(&bytes) {
             sound[block] = false;
         }
-        Ok(Copy { name: path.display().to_string(), bytes, sound })
+        Ok(Copy { name: plain::path(path), bytes, sound })
     }
 
     /// A sound block. One that is cut off or missing is none.
@@ -80,20 +116,4 @@ fn joined([a, b]: &[Copy; 2]) -> Result<(Vec<u8>, Taken), Failure> {
         sheet.extend_from_slice(block);
     }
     Ok((sheet, taken))
-}
-
-/// The names of the first copy that has any go beside the new sheet, unless names are there already.
-fn keep_names(copies: [&Path; 2], out: &Path, over: bool) -> Result<String, Failure> {
-    let place = names::beside(out);
-    if files::exists(&place) && !over {
-        return Ok(format!("{}: was there already, and stays.\n", place.display()));
-    }
-    let Some(from) = copies.map(names::beside).into_iter().find(|path| files::exists(path)) else {
-        return Ok(String::new());
-    };
-    if from == place {
-        return Ok(String::new());
-    }
-    files::write(&place, &files::read(&from)?, over)?;
-    Ok(format!("{}: from {}.\n", place.display(), from.display()))
 }

@@ -1,10 +1,12 @@
 //! A library as it stands on the disk: the sheet, and the names beside it.
 
-use super::files::{self, Staged};
-use super::names::{self, Names};
+use super::files::{self, Place, Put, Staged};
+use super::lock::Lock;
+use super::names::{self, Lines, Names};
+use super::plain;
 use super::progress::Progress;
 use super::reading::{is_sheet, Sweep};
-use super::{recordings, refused, words, Failure};
+use super::{hash, recordings, refused, words, Failure};
 use silkendoz::{Refusal, TraceLibrary};
 use std::path::{Path, PathBuf};
 
@@ -17,26 +19,32 @@ pub struct Shelf {
 impl Shelf {
     pub fn load(path: &Path) -> Result<Shelf, Failure> {
         let bytes = files::read(path)?;
+        let shown = plain::path(path);
         let library = match TraceLibrary::read_sheet(&bytes) {
             Ok(library) => library,
             Err(_) if recordings::is_meant(&bytes) => {
-                return refused(format!("{}: is a recording, and a library's sheet has to stand here.", path.display()))
+                return refused(format!("{shown}: is a recording, and a library's sheet has to stand here."));
             }
             Err(_) if !bytes.is_empty() && !is_sheet(&bytes) && std::str::from_utf8(&bytes).is_ok() => {
-                return refused(format!("{}: is text, and a library's sheet has to stand here.", path.display()))
+                return refused(format!("{shown}: is text, and a library's sheet has to stand here."));
             }
             Err(why) => {
                 let found = words::of_sheet(&bytes, why);
-                return refused(format!("{0}: {found} `silkendoz check {0}` shows all that is wrong.", path.display()));
+                return refused(format!("{shown}: {found} `silkendoz check {shown}` shows all that is wrong."));
             }
         };
-        let names = Names::beside(path, library.len())?;
+        let names = Names::beside(&Place::of(path)?.path, &library)?;
         Ok(Shelf { path: path.to_path_buf(), library, names })
     }
 
     /// A stored trace; there is one for each number below the library's length.
     pub fn trace(&self, number: usize) -> &[i16] {
         self.library.trace(number).unwrap_or_default()
+    }
+
+    /// The SHA-256 of the sheet, as `sha256sum` says it.
+    pub fn hash(&self) -> String {
+        self.library.write_sheet().map_or_else(|_| String::new(), |sheet| hash::of_bytes(&sheet))
     }
 
     /// Adds traces with their names. If one is refused, the shelf is not to be saved.
@@ -46,7 +54,7 @@ impl Shelf {
         for (done, sweep) in sweeps.iter().enumerate() {
             progress.show(done);
             match self.library.add(&sweep.samples) {
-                Ok(_) => self.names.push(sweep.named()),
+                Ok(_) => self.names.push(Some(sweep.named())),
                 Err(Refusal::Full) => {
                     let room = self.library.capacity();
                     let all = before + sweeps.len();
@@ -58,29 +66,108 @@ impl Shelf {
         Ok(())
     }
 
-    /// Writes sheet and names. Names of a library that is overwritten go before its sheet does: no trace ever has another's name.
-    pub fn save_new(&self, over: bool) -> Result<(), Failure> {
-        let names = names::beside(&self.path);
-        let (sheet, list) = self.staged()?;
-        if over {
-            files::remove(&names)?;
+    fn sheet(&self) -> Result<Vec<u8>, Failure> {
+        self.library.write_sheet().or_else(|why| refused(format!("{}: {}", plain::path(&self.path), words::of_call(why))))
+    }
+}
+
+/// A library's two places, locked: nobody else writes there.
+#[derive(Debug)]
+pub struct Held {
+    sheet: Place,
+    names: Place,
+    _lock: Lock,
+}
+
+impl Held {
+    /// Waits for another run that writes there, or refuses at once.
+    pub fn of(path: &Path, wait: bool) -> Result<Held, Failure> {
+        let sheet = Place::of(path)?;
+        let lock = Lock::of(&sheet, wait)?;
+        // what is there may have changed meanwhile
+        let sheet = Place::of(path)?;
+        let names = Place::of(&names::beside(&sheet.path))?;
+        files::remove_strays(&[&sheet, &names]);
+        Ok(Held { sheet, names, _lock: lock })
+    }
+
+    /// Refuses what must not be written: what is there unless that is meant, what is protected, and what is also an input.
+    pub fn must_take(&self, over: bool, inputs: &[&Path]) -> Result<(), Failure> {
+        for place in [&self.sheet, &self.names] {
+            place.must_not_be(inputs)?;
+            place.must_take(over)?;
         }
-        sheet.put(over)?;
-        list.put(over)
+        Ok(())
     }
 
-    /// The same for a library to which traces were added: the old names stay right until the new ones are there.
-    pub fn save_again(&self) -> Result<(), Failure> {
-        let (sheet, list) = self.staged()?;
-        sheet.put(true)?;
-        list.put(true)
-    }
-
-    fn staged(&self) -> Result<(Staged, Staged), Failure> {
-        let bytes = match self.library.write_sheet() {
-            Ok(bytes) => bytes,
-            Err(why) => return refused(format!("{}: {}", self.path.display(), words::of_call(why))),
+    /// Writes names, then sheet. While the sheet is still the old one, the names have the old lines too: whenever the power fails, every
+    /// name that is shown is right. If something fails before the sheet has its place, both files are as they were; behind that, both are
+    /// new, and what went wrong comes back in words.
+    pub fn save(self, shelf: &Shelf) -> Result<Put, Failure> {
+        let old = if self.names.is_free() { None } else { Some(files::read(&self.names.path)?) };
+        let new = shelf.names.text(&shelf.library);
+        let both = match &old {
+            Some(bytes) => names::with_old(&new, &self.old_lines(bytes)?),
+            None => new.clone(),
         };
-        Ok((Staged::write(&self.path, &bytes)?, Staged::write(&names::beside(&self.path), self.names.text().as_bytes())?))
+        let stage = |bytes: &[u8]| Staged::write(&self.names, bytes, Some(&self.sheet));
+        let sheet = Staged::write(&self.sheet, &shelf.sheet()?, None)?;
+        let first = (old.is_some() || !both.is_empty()).then(|| stage(both.as_bytes())).transpose()?;
+        let last = (new != both && !new.is_empty()).then(|| stage(new.as_bytes())).transpose()?;
+        let back = old.map(|bytes| stage(&bytes)).transpose()?;
+
+        let put = match first.map_or(Ok(None), |first| first.put(!self.names.is_free()))? {
+            None => sheet.put(!self.sheet.is_free()),
+            // names that may not stay do not precede a sheet
+            Some(why) => refused(why),
+        };
+        match put {
+            Ok(unsure) => Ok(unsure.or(self.finish(last, new.is_empty()))),
+            Err(Failure::Refused(why)) => refused(format!("{why}{}", self.go_back(back))),
+            Err(other) => Err(other),
+        }
+    }
+
+    /// The lines of the names that are there, each with a hash. What cannot be read as names has none; a line without a hash gets one by
+    /// the sheet that is there.
+    fn old_lines(&self, bytes: &[u8]) -> Result<String, Failure> {
+        let Ok(lines) = Lines::of(&self.names.path, bytes.to_vec()) else {
+            return Ok(String::new());
+        };
+        let stored = match self.sheet.is_free() || lines.all_hashed() {
+            true => None,
+            false => TraceLibrary::read_sheet(&files::read(&self.sheet.path)?).ok(),
+        };
+        let known = stored.and_then(|library| Some(lines.fit(&library).ok()?.text(&library)));
+        Ok(names::with_old(&known.unwrap_or_default(), &lines.hashed()))
+    }
+
+    /// The new names alone. If that fails, lines of the old library stay that nobody is shown.
+    fn finish(&self, last: Option<Staged>, none: bool) -> Put {
+        let done = match last {
+            Some(last) => last.put(true),
+            None if none => files::remove(&self.names),
+            None => return None,
+        };
+        match done {
+            Ok(unsure) => unsure,
+            Err(Failure::Refused(why) | Failure::Usage(why)) => {
+                Some(format!("{why} The library is written; lines of the one before it stay among the names, and are not shown."))
+            }
+        }
+    }
+
+    /// The names as they were.
+    fn go_back(&self, back: Option<Staged>) -> String {
+        let done = match back {
+            Some(back) => back.put(true),
+            None => files::remove(&self.names),
+        };
+        match done {
+            Ok(_) => String::new(),
+            Err(_) => {
+                format!(" {} has lines of traces that were not stored; they are not shown.", plain::path(&self.names.said))
+            }
+        }
     }
 }

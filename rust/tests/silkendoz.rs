@@ -309,7 +309,7 @@ torn.sheet: refused 9, torn block.
   blocks 5 to 6 (samples of traces 15 to 23): every byte is 255: it was never written, or was erased.
   block 8 (samples of traces 27 to 31): it says that it is block 3: it stands in the wrong place, or changed.
   block 9 (samples of traces 31 to 35): its check does not fit: something in it changed.
-  5 of 11 whole blocks torn. With another copy of the same writing: `silkendoz repair A B -o OUT`.
+  5 of 11 whole blocks torn. With another copy of the same writing: `silkendoz repair A B -o OUT`; without one: `silkendoz salvage FILE -o OUT`.
 faults.sheet: sound. 11 blocks, 36 traces of 64 samples.
 ";
     assert_eq!(ran.out, expected);
@@ -533,7 +533,7 @@ fn wrong_usage() {
         ("plot faults.sheet today.csv -k 7", "-k: 7 traces cannot be drawn. Take 1 to 6"),
         ("plot faults.sheet today.csv -k 0", "-k: 0 traces cannot be drawn"),
         ("info", "LIBRARY is missing"),
-        ("info faults.sheet --json", "`--json` is no option of this command"),
+        ("info faults.sheet --tsv", "`--tsv` is no option of this command"),
         ("check", "a FILE with a sheet is missing"),
         ("repair a.sheet", "the second copy B is missing"),
         ("repair a.sheet b.sheet", "`-o` is missing"),
@@ -597,9 +597,14 @@ fn help_of_every_command() {
     let overview = folder.done("help");
     assert_eq!(overview, folder.done("--help"));
     assert!(folder.done("--version").starts_with("silkendoz "));
-    for command in ["build", "add", "match", "plot", "info", "check", "repair", "advise", "export", "help"] {
-        assert!(overview.contains(&format!("\n  {command} ")), "{command}");
-        assert!(folder.done(&format!("help {command}")).starts_with(&format!("silkendoz {command} ")));
+    let commands: Vec<&str> = overview.lines().filter_map(|line| line.strip_prefix("  ")?.split(' ').next()).collect();
+    for command in ["build", "add", "match", "plot", "info", "list", "rename", "check", "repair", "salvage", "advise", "export", "help"] {
+        assert!(commands.contains(&command), "{command}");
+    }
+    for command in commands {
+        let about = folder.done(&format!("help {command}"));
+        assert!(about.starts_with(&format!("silkendoz {command} ")));
+        assert_eq!(folder.done(&format!("{command} --help")), about);
     }
 }
 

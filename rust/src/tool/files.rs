@@ -129,9 +129,8 @@ impl Place {
     pub fn must_not_be(&self, inputs: &[&Path]) -> Result<(), Failure> {
         let Some(here) = &self.there else { return Ok(()) };
         for input in inputs.iter().filter(|input| **input != Path::new("-")) {
-            // one that cannot be looked at is refused when it is read
-            let same = disk::follow(input).is_ok_and(|found| found.is_some_and(|it| (it.dev(), it.ino()) == (here.dev(), here.ino())));
-            if same {
+            let found = or_refused(input, "cannot be looked at", disk::follow(input))?;
+            if found.is_some_and(|it| (it.dev(), it.ino()) == (here.dev(), here.ino())) {
                 let both = format!("{}: is read here too, and is not overwritten", plain::path(&self.said));
                 return refused(format!("{both}, `--force` or not. Take another name."));
             }
@@ -281,7 +280,12 @@ fn is_stray_of(place: &Place, name: &OsStr) -> bool {
     let inner = name.strip_prefix('.').and_then(|rest| rest.strip_prefix(own)?.strip_prefix('.')?.strip_suffix(PART));
     let Some((process, tries)) = inner.map(|inner| inner.split_once('-').unwrap_or((inner, "0"))) else { return false };
     let is_number = |word: &str| !word.is_empty() && word.bytes().all(|byte| byte.is_ascii_digit());
-    is_number(process) && is_number(tries) && !Path::new("/proc").join(process).exists()
+    is_number(process) && is_number(tries) && !is_alive(process)
+}
+
+/// In a test, whose runs are of one process, that a file is locked has to do.
+fn is_alive(process: &str) -> bool {
+    cfg!(not(test)) && Path::new("/proc").join(process).exists()
 }
 
 /// Where a command writes something that is no library.

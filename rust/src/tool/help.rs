@@ -1,27 +1,34 @@
 //! `help`, and the table of commands.
 
 use super::arguments::Arguments;
-use super::{add, advise, build, check, done, export, info, matching, plain, plot, repair, wrong, Answer, Command};
+use super::{
+    add, advise, build, check, done, export, info, list, matching, pages, plain, plot, rename, repair, salvage, wrong, Answer, Command, Failure,
+};
 use std::path::Path;
 
-const COMMANDS: [Command; 10] = [
+pub const COMMANDS: [Command; 15] = [
     Command {
         name: "build",
-        usage: "OUT.sheet --samples N [--capacity C] [--leaf-size S] [--force] FILE..",
+        usage: "OUT.sheet --samples N [--capacity C] [--leaf-size S] [--cut] [--convert] [--without N,M] [--force] FILE..",
         about: "recordings into a library",
         text: "\
-Makes a library of all traces in the FILEs, in their order: the sheet OUT.sheet, and OUT.names beside it, a line a trace: its number,
-its name, its file.
+Makes a library of all traces in the FILEs, in their order: the sheet OUT.sheet, and OUT.names beside it, a line a trace: its number, its
+name, its file, its rate in samples a second, and a hash of its samples, by which a name is only ever shown beside its own trace.
 
   --samples N     samples a trace, 1 to 256. Every trace has to have just as many
   --capacity C    room for so many traces, 1 to 4096; unless said, for as many again as there are, 64 at least
   --leaf-size S   traces a leaf of the tree holds before it splits, 1 to 64; 16 unless said. `silkendoz advise` tries others
-  --force         overwrite OUT.sheet and OUT.names
+  --cut           a recording may end in the midst of a trace: its whole traces are taken, and what is left over is named
+  --convert       a WAV of several channels, of 8, 24 or 32 bits, of floating point or with tags is brought to the plain form: the first
+                  channel, the upper 16 bits; what was done is said
+  --without N,M   leave out these traces, counted from 0 through all FILEs: of one sheet alone, by their numbers there
+  --force         overwrite OUT.sheet and OUT.names; never a FILE that is read
+  --no-wait       if another run is writing there, refuse; unless said, wait for it
 
 A FILE is a WAV recording (16-bit PCM, one channel, the usual header of 44 bytes), of one trace or of many, one behind another; or text,
 a trace a line, with commas or spaces between the samples, with or without a name in the first column (in double quotes, if it has
-separators or looks like a number; lines that begin with # are passed over); or the sheet of another library, whose names come along.
-A trace without a name is called by its file.
+separators or looks like a number; lines that begin with # are passed over); or the sheet of another library, whose names come along; or a
+folder, for all files in it that end in .wav, .csv, .tsv or .txt; or -, for standard input. A trace without a name is called by its file.
 ",
         values: &["--samples", "--capacity", "--leaf-size", "--without"],
         flags: &["--force", "--cut", "--convert", "--no-wait"],
@@ -29,11 +36,15 @@ A trace without a name is called by its file.
     },
     Command {
         name: "add",
-        usage: "LIBRARY FILE..",
+        usage: "LIBRARY [--cut] [--convert] [--no-wait] FILE..",
         about: "more recordings into a library, all or none",
         text: "\
 Adds all traces in the FILEs to the library, in their order, with their names. If one of them cannot be taken, or there is no room for all,
-nothing is added. FILEs are those of `silkendoz help build`.
+nothing is added. FILEs and options are those of `silkendoz help build`.
+
+  --cut       whole traces of a recording that ends in the midst of one
+  --convert   recordings of other forms
+  --no-wait   if another run is writing the library, refuse; unless said, wait for it
 ",
         values: &[],
         flags: &["--cut", "--convert", "--no-wait"],
@@ -79,41 +90,90 @@ Draws the sweep in FILE and its nearest stored traces one over the other, with t
     },
     Command {
         name: "info",
-        usage: "LIBRARY",
+        usage: "LIBRARY [--json]",
         about: "what a library holds, and the memory it needs",
         text: "\
 Shows the measures of a library, how many traces and names it holds, what its tree looks like, and how much memory a controller needs.
+
+  --json   one object for programs, with the SHA-256 of the sheet
 ",
         values: &[],
-        flags: &[],
+        flags: &["--json"],
         run: info::run,
     },
     Command {
+        name: "list",
+        usage: "LIBRARY [--json]",
+        about: "the traces of a library with their names",
+        text: "\
+Lists the traces of a library: number, name, file, and the rate in samples a second, as far as these are known.
+
+  --json   one object for programs: `file`, `samples`, and `traces`, a list: of each its `number`, `name`, `file`, `rate` and `hash`
+",
+        values: &[],
+        flags: &["--json"],
+        run: list::run,
+    },
+    Command {
+        name: "rename",
+        usage: "LIBRARY NUMBER NAME [--no-wait]",
+        about: "another name for a trace",
+        text: "\
+Gives the trace of this NUMBER another NAME. The sheet stays as it is.
+
+  --no-wait   if another run is writing the library, refuse; unless said, wait for it
+",
+        values: &[],
+        flags: &["--no-wait"],
+        run: rename::run,
+    },
+    Command {
         name: "check",
-        usage: "FILE..",
+        usage: "[--json] FILE..",
         about: "whether sheets are sound, and every torn block",
         text: "\
 Says of each sheet whether it is sound. Of one that is not, every torn block is shown with the traces whose samples stand there, and what
-is wrong with a sheet whose blocks are sound. Exit status 1 if one of them is not sound.
+is wrong with a sheet whose blocks are sound. Exit status 1 if one of them is not sound, or has names that do not fit.
+
+  --json   a list for programs: of each file `file`, `sound`, `names_fit`, `refusal`, `torn_blocks`, `samples`, `traces`, and `lines`
 ",
         values: &[],
-        flags: &[],
+        flags: &["--json"],
         run: check::run,
     },
     Command {
         name: "repair",
-        usage: "A B -o OUT [--force]",
+        usage: "A B -o OUT [--force] [--no-wait]",
         about: "a sheet from the sound blocks of two copies",
         text: "\
 Puts a sheet together from the sound blocks of two copies of one writing. A block that is sound in both has to be the same in both; one
-that is sound in neither cannot be had. Nothing is written unless the whole is sound. If OUT has no names yet, it gets those of A or B.
+that is sound in neither cannot be had. Nothing is written unless the whole is sound. OUT gets the names of A, and where A has none, those
+of B.
 
-  -o OUT    where the sheet goes
-  --force   overwrite it
+  -o OUT      where the sheet goes; never A or B. `-` is standard output, without names
+  --force     overwrite it, and its names
+  --no-wait   if another run is writing there, refuse; unless said, wait for it
 ",
         values: &["-o"],
         flags: &["--force", "--no-wait"],
         run: repair::run,
+    },
+    Command {
+        name: "salvage",
+        usage: "TORN -o OUT [--samples N] [--force] [--no-wait]",
+        about: "the traces of a torn sheet's sound blocks",
+        text: "\
+Makes a library of those traces whose samples stand in sound blocks of a torn sheet, with their names, and says which traces are lost. The
+numbers of those behind a lost one change. With a second copy of the same writing take `silkendoz repair`, which loses nothing.
+
+  -o OUT        where the library goes; `-` is standard output, without names
+  --samples N   samples a trace, if block 0, which says it, is torn
+  --force       overwrite OUT and its names
+  --no-wait     if another run is writing there, refuse; unless said, wait for it
+",
+        values: &["-o", "--samples"],
+        flags: &["--force", "--no-wait"],
+        run: salvage::run,
     },
     Command {
         name: "advise",
@@ -134,13 +194,35 @@ leaves that a match reads and what it takes, beside a plain scan, says which lea
         text: "\
 Writes one stored trace as a WAV recording.
 
-  -o OUT.wav   where it goes
-  --rate R     samples a second that the file says, 0 to 2147483647; 8000 unless said
+  -o OUT.wav   where it goes; `-` is standard output
+  --rate R     samples a second that the file says, 0 to 2147483647; unless said, those of the recording, and if nobody knows them, 8000
   --force      overwrite it
 ",
         values: &["-o", "--rate"],
         flags: &["--force"],
         run: export::run,
+    },
+    Command {
+        name: "completions",
+        usage: "",
+        about: "what bash needs to complete commands and options",
+        text: "\
+Prints a script for bash. `source <(silkendoz completions)` takes it at once; in a file of its own, as bash-completion has them, for good.
+",
+        values: &[],
+        flags: &[],
+        run: pages::completions,
+    },
+    Command {
+        name: "man",
+        usage: "",
+        about: "all of this as a manual page",
+        text: "\
+Prints a manual page: `silkendoz man > silkendoz.1` and `man ./silkendoz.1`.
+",
+        values: &[],
+        flags: &[],
+        run: pages::manual,
     },
     Command {
         name: "help",
@@ -156,7 +238,7 @@ Lists the commands, or says all about one.
 ];
 
 pub fn command(name: &str) -> Option<&'static Command> {
-    static ALL: [Command; 10] = COMMANDS;
+    static ALL: [Command; 15] = COMMANDS;
     ALL.iter().find(|command| command.name == name)
 }
 
@@ -166,8 +248,14 @@ fn run(a: &Arguments) -> Answer {
     };
     match word.to_str().and_then(command) {
         Some(command) => done(about(command)),
-        None => wrong(format!("there is no command `{}`.", plain::path(Path::new(word)))),
+        None => refuse_command(&plain::path(Path::new(word))),
     }
+}
+
+/// There is no such command; what there is, in a line.
+fn refuse_command<T>(word: &str) -> Result<T, Failure> {
+    let names: Vec<&str> = COMMANDS.iter().map(|command| command.name).collect();
+    wrong(format!("there is no command `{word}`. There are {}.", names.join(", ")))
 }
 
 /// All about a command.
@@ -178,13 +266,14 @@ pub fn about(command: &Command) -> String {
 fn overview() -> String {
     let mut text = String::from("silkendoz: the nearest stored trace, exactly\n\n");
     for command in &COMMANDS {
-        text.push_str(&format!("  {:<8} {}\n", command.name, command.about));
+        text.push_str(&format!("  {:<12} {}\n", command.name, command.about));
     }
-    text.push_str(
-        "
-`silkendoz help COMMAND` says all about one. A LIBRARY is a sheet, the names of its traces in a file beside it.
-Exit status: 0 done; 1 refused or not found; 2 wrong usage. Files are written beside their place, synced and renamed.
-",
-    );
-    text
+    format!("{text}\n{}", FOOT)
 }
+
+/// What holds for every command.
+pub const FOOT: &str = "\
+`silkendoz help COMMAND` or `silkendoz COMMAND --help` says all about one. A LIBRARY is a sheet, the names of its traces in a file beside it.
+Exit status: 0 done; 1 refused, not found or not sound; 2 wrong usage; 3 done, but then something failed, which is said. Files are written
+beside their place, synced and renamed; a device or a FIFO is written to as it is.
+";

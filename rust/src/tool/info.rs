@@ -3,7 +3,7 @@
 use super::arguments::Arguments;
 use super::shelf::Shelf;
 use super::table::{self, Column};
-use super::{done, names, numbers, plain, Answer};
+use super::{done, json, names, numbers, plain, Answer};
 use silkendoz::TraceLibrary;
 use std::path::Path;
 
@@ -11,6 +11,9 @@ pub fn run(a: &Arguments) -> Answer {
     let [library] = a.exactly(["LIBRARY"])?;
     let shelf = Shelf::load(Path::new(library))?;
     let l = &shelf.library;
+    if a.has("--json") {
+        return done(in_json(&shelf));
+    }
     let mut text = format!("{}\n", plain::path(&shelf.path));
     let mut line = |what: &str, value: String| text.push_str(&format!("  {what:<18}{value}\n"));
     line("samples a trace", l.n().to_string());
@@ -60,13 +63,38 @@ fn tree(l: &TraceLibrary) -> String {
     }
 }
 
-/// As the guide's table of memory needs.
-fn memory(l: &TraceLibrary) -> String {
+/// As the guide's table of memory needs: each table, all of them with the control record, the trail, a full sheet.
+fn needs(l: &TraceLibrary) -> [usize; 7] {
     let (n, c) = (l.n(), l.capacity());
-    let tables = [2 * c * n, 8 * (2 * c - 1) * 87, 2 * c, 8 * (2 * c - 1)];
-    let all = tables.iter().sum::<usize>() + 10;
-    let full_sheet = 512 * (1 + (c * n).div_ceil(253));
+    let [samples, nodes, links, work] = [2 * c * n, 8 * (2 * c - 1) * 87, 2 * c, 8 * (2 * c - 1)];
+    [samples, nodes, links, work, samples + nodes + links + work + 10, 2 * c, 512 * (1 + (c * n).div_ceil(253))]
+}
+
+fn memory(l: &TraceLibrary) -> String {
     let columns = ["samples", "node records", "links", "search work", "in all, with the control record", "trail", "sheet, when full"];
-    let cells: Vec<String> = tables.into_iter().chain([all, 2 * c, full_sheet]).map(numbers::grouped).collect();
-    table::text(&columns.map(|name| Column(name, true)), &[cells])
+    table::text(&columns.map(|name| Column(name, true)), &[needs(l).map(numbers::grouped).to_vec()])
+}
+
+fn in_json(shelf: &Shelf) -> String {
+    let l = &shelf.library;
+    let depth = l.leaves().iter().map(|leaf| leaf.depth).max().unwrap_or_default();
+    let columns = ["samples", "node_records", "links", "search_work", "all", "trail", "full_sheet"];
+    let memory: Vec<(&str, String)> = columns.into_iter().zip(needs(l).map(|bytes| bytes.to_string())).collect();
+    let rates: Vec<String> = shelf.names.rates().iter().map(u32::to_string).collect();
+    let fields = [
+        ("file", json::text(&plain::path(&shelf.path))),
+        ("hash", json::text(&shelf.hash())),
+        ("samples", l.n().to_string()),
+        ("traces", l.len().to_string()),
+        ("capacity", l.capacity().to_string()),
+        ("leaf_size", l.leaf_size().to_string()),
+        ("names", shelf.names.known().to_string()),
+        ("lines_that_fit_no_trace", shelf.names.left().to_string()),
+        ("rates", json::array(&rates)),
+        ("nodes", l.node_count().to_string()),
+        ("leaves", l.leaf_count().to_string()),
+        ("depth", depth.to_string()),
+        ("memory", json::object(&memory)),
+    ];
+    format!("{}\n", json::object(&fields))
 }

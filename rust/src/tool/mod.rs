@@ -12,22 +12,28 @@ mod convert;
 mod csv;
 mod disk;
 mod export;
+#[cfg(test)]
+mod faults;
 mod files;
 mod hash;
 mod help;
 mod info;
 mod json;
+mod list;
 mod lock;
 mod matching;
 mod names;
 mod noise;
 mod numbers;
+mod pages;
 mod plain;
 mod plot;
 mod progress;
 mod reading;
 mod recordings;
+mod rename;
 mod repair;
+mod salvage;
 mod shelf;
 mod standard;
 mod svg;
@@ -119,6 +125,7 @@ pub fn run(words: Vec<OsString>) -> ExitCode {
         }
         Err((Failure::Usage(why), command)) => {
             let hint = match command {
+                Some(c) if c.name == "help" => "`silkendoz help` lists the commands.".to_string(),
                 Some(c) => format!("usage: silkendoz {} {}\n`silkendoz help {}` says more.", c.name, c.usage, c.name),
                 None => "`silkendoz help` lists the commands.".to_string(),
             };

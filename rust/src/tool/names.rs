@@ -68,10 +68,6 @@ impl Lines {
         Ok(Lines { path: path.to_path_buf(), all })
     }
 
-    pub fn is_empty(&self) -> bool {
-        self.all.is_empty()
-    }
-
     /// Whether every line has a hash.
     pub fn all_hashed(&self) -> bool {
         self.all.iter().all(|line| line.hash.is_some())
@@ -110,6 +106,15 @@ impl Lines {
             return wrong_line(&self.path, line.at, &why);
         }
         Ok(names)
+    }
+
+    /// What names a trace of these samples; of a trace whose samples are lost, what names its number.
+    pub fn name_of(&self, number: usize, samples: Option<&[i16]>) -> Option<Name> {
+        let fits = |line: &&Line| match (&line.hash, samples) {
+            (Some(hash), Some(samples)) => *hash == hash::of_trace(samples),
+            _ => true,
+        };
+        self.all.iter().filter(|line| line.number == number).find(fits).map(|line| line.name.clone())
     }
 
     /// The lines that have a hash, as they stand in the file.

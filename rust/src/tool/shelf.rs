@@ -128,6 +128,12 @@ impl Held {
         }
     }
 
+    /// Writes the names alone, of a library whose sheet is there.
+    pub fn save_names(self, shelf: &Shelf) -> Result<Put, Failure> {
+        let text = shelf.names.text(&shelf.library);
+        Staged::write(&self.names, text.as_bytes(), Some(&self.sheet))?.put(!self.names.is_free())
+    }
+
     /// The lines of the names that are there, each with a hash. What cannot be read as names has none; a line without a hash gets one by
     /// the sheet that is there.
     fn old_lines(&self, bytes: &[u8]) -> Result<String, Failure> {

@@ -41,6 +41,16 @@ fn field(bytes: &[u8], at: usize) -> usize {
     usize::from(u16::from_le_bytes([bytes[at], bytes[at + 1]]))
 }
 
+/// n, capacity, leaf size and count, as block 0 has them.
+pub fn measures(bytes: &[u8]) -> [usize; 4] {
+    [8, 10, 12, 14].map(|at| field(bytes, at))
+}
+
+/// The number that a block says it has.
+pub fn said_number(bytes: &[u8], block: usize) -> usize {
+    field(bytes, BLOCK * block)
+}
+
 /// What is wrong with a torn block, as far as it shows.
 pub fn torn(bytes: &[u8], block: usize) -> String {
     let bytes = &bytes[BLOCK * block..][..BLOCK];
@@ -66,7 +76,7 @@ pub fn traces_in(bytes: &[u8], block: usize) -> Option<(usize, usize)> {
 
 /// What is wrong with a sheet whose blocks are all sound.
 fn bad(bytes: &[u8]) -> String {
-    let (n, capacity, leaf_size, count) = (field(bytes, 8), field(bytes, 10), field(bytes, 12), field(bytes, 14));
+    let [n, capacity, leaf_size, count] = measures(bytes);
     let needed = 1 + (n * count).div_ceil(SAMPLES);
     let blocks = bytes.len() / BLOCK;
     let what = if &bytes[4..8] != b"TRCL" {

@@ -1,0 +1,114 @@
+//! `salvage`: a library of the traces whose samples stand in sound blocks of a torn sheet, with their names.
+
+use super::arguments::Arguments;
+use super::blocks::{self, BLOCK, SAMPLES};
+use super::files::{Output, Place};
+use super::names::{self, Lines, Names};
+use super::shelf::{Held, Shelf};
+use super::{files, numbers, plain, reading, refused, saved, words, written, Answer, Failure};
+use silkendoz::TraceLibrary;
+use std::path::Path;
+
+pub fn run(a: &Arguments) -> Answer {
+    let [torn] = a.exactly(["TORN, a sheet"])?.map(Path::new);
+    let out = a.needed_path("-o")?;
+    let over = a.has("--force");
+    let beside = names::beside(&Place::of(torn)?.path);
+    let inputs = [torn, beside.as_path()];
+    let output = Output::of(&out, over, &inputs)?;
+    let sheet = Torn::of(torn, a)?;
+    let lines = Lines::read(&beside)?;
+    let mut library = TraceLibrary::open(sheet.n, sheet.capacity, sheet.leaf_size).or_else(|why| refused(words::of_call(why)))?;
+    let mut kept = Names::default();
+    let mut lost = Vec::new();
+    for number in 0..sheet.count {
+        match sheet.trace(number) {
+            Some(samples) => {
+                library.add(&samples).or_else(|why| refused(words::of_call(why)))?;
+                kept.push(lines.name_of(number, Some(&samples)));
+            }
+            None => lost.push((number, lines.name_of(number, None))),
+        }
+    }
+    if library.is_empty() {
+        return refused(format!("{}: no trace stands in sound blocks alone. Nothing was written.", plain::path(torn)));
+    }
+    let shelf = Shelf { path: out.clone(), library, names: kept };
+    let text = told(&out, &shelf, &sheet, &lost);
+    if !matches!(output, Output::File(..)) {
+        let bytes = shelf.library.write_sheet().or_else(|why| refused(words::of_call(why)))?;
+        return written(text, output.write(&bytes)?);
+    }
+    let held = Held::of(&out, !a.has("--no-wait"))?;
+    held.must_take(over, &inputs)?;
+    let trouble = held.save(&shelf)?;
+    saved(text, trouble)
+}
+
+/// A sheet of which some blocks are sound.
+struct Torn {
+    bytes: Vec<u8>,
+    sound: Vec<bool>,
+    n: usize,
+    capacity: usize,
+    leaf_size: usize,
+    count: usize,
+}
+
+impl Torn {
+    fn of(path: &Path, a: &Arguments) -> Result<Torn, Failure> {
+        let bytes = files::read(path)?;
+        let shown = plain::path(path);
+        let mut sound = vec![true; blocks::whole(&bytes)];
+        for block in blocks::torn(&bytes) {
+            sound[block] = false;
+        }
+        if sound.is_empty() {
+            return refused(format!("{shown}: has no whole block of {BLOCK} bytes. It is no sheet, or was cut off."));
+        }
+        let said = a.number("--samples")?;
+        // measures that are no library's are refused as opening refuses them
+        match (sound[0] && reading::is_sheet(&bytes), said) {
+            (true, _) => {
+                let [n, capacity, leaf_size, count] = words::measures(&bytes);
+                Ok(Torn { bytes, sound, n, capacity, leaf_size, count: count.min(capacity) })
+            }
+            (false, Some(n)) if n > 0 => {
+                let count = (sound.len() - 1) * SAMPLES / n;
+                let capacity = count.clamp(1, reading::MOST_TRACES);
+                Ok(Torn { bytes, sound, n, capacity, leaf_size: 16, count: count.min(capacity) })
+            }
+            _ => refused(format!(
+                "{shown}: block 0, which says how long a trace is, is torn. If you know it, say `--samples N`; traces of zeros may come at the end."
+            )),
+        }
+    }
+
+    /// The samples of a trace, if all of its blocks are sound.
+    fn trace(&self, number: usize) -> Option<Vec<i16>> {
+        let sample = |at: usize| {
+            let block = 1 + at / SAMPLES;
+            let place = BLOCK * block + 4 + 2 * (at % SAMPLES);
+            self.sound.get(block).copied().unwrap_or(false).then(|| i16::from_le_bytes([self.bytes[place], self.bytes[place + 1]]))
+        };
+        (number * self.n..(number + 1) * self.n).map(sample).collect()
+    }
+}
+
+/// So many are named when some are lost.
+const MOST_NAMED: usize = 20;
+
+fn told(out: &Path, shelf: &Shelf, sheet: &Torn, lost: &[(usize, Option<names::Name>)]) -> String {
+    let mut text = format!("{}: {} of {}", plain::path(out), shelf.library.len(), numbers::count(sheet.count, "trace"));
+    if lost.is_empty() {
+        return text + ", all there were.\n";
+    }
+    text.push_str(&format!(". Lost, by their old numbers: {}\n", numbers::count(lost.len(), "trace")));
+    for (number, name) in lost.iter().take(MOST_NAMED) {
+        text.push_str(&format!("  {number}  {}\n", name.as_ref().map_or("(no name)", |name| &name.name)));
+    }
+    if lost.len() > MOST_NAMED {
+        text.push_str(&format!("  .. and {} more\n", lost.len() - MOST_NAMED));
+    }
+    text
+}

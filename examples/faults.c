@@ -1,7 +1,7 @@
 /* The program of docs/GUIDE.md: faults with names, a match, the runner-up, and two copies of the library on the disk. tools/guide_c
  * compiles it, runs it, and holds it to the page. */
 
-/* for fileno and fsync, which standard C does not have */
+/* for fileno, fsync and ftruncate, which standard C does not have */
 #define _POSIX_C_SOURCE 200809L
 
 #include "silkendoz.h"
@@ -83,19 +83,29 @@ static int sync_folder(void)
     return folder >= 0 && close(folder) == 0 && fine;
 }
 
-/* When this gives back 1, the copy is on the disk, not only on its way there. */
+/* When this gives back 1, the bytes are on the disk, not only on their way there. */
+static int put(FILE *file, long place, const uint8_t *bytes, size_t size)
+{
+    return fseek(file, place, SEEK_SET) == 0 && fwrite(bytes, 1, size, file) == size && fflush(file) == 0 && fsync(fileno(file)) == 0;
+}
+
+/* Block 0 is blanked before all others and written behind them: a copy whose writing is cut off is refused, whatever it holds. */
 static int save(const char *name)
 {
+    static const uint8_t blank[512];
     FILE *file;
     size_t size;
     int fine;
     if (!done(name, silkendoz_write_sheet_in(&tables, sheet, sizeof sheet, out, SILKENDOZ_OUT)))
         return 0;
     size = 512 * (size_t)out[0];
-    file = fopen(name, "wb");
+    file = fopen(name, "r+b");
+    if (!file)
+        file = fopen(name, "w+b");
     if (!file)
         return 0;
-    fine = fwrite(sheet, 1, size, file) == size && fflush(file) == 0 && fsync(fileno(file)) == 0;
+    fine = put(file, 0, blank, 512) && ftruncate(fileno(file), (off_t)size) == 0 && put(file, 512, sheet + 512, size - 512)
+        && put(file, 0, sheet, 512);
     return fclose(file) == 0 && fine && sync_folder();
 }
 
@@ -111,15 +121,37 @@ static int load(const char *name)
     return done(name, silkendoz_read_sheet_in(&tables, sheet, size, out, SILKENDOZ_OUT));
 }
 
-/* Reads copy A; if it is refused, copy B, and writes A again: there are two whole copies then. */
+/* Whether a copy is, byte for byte, what the tables hold. */
+static int holds(const char *name)
+{
+    FILE *file = fopen(name, "rb");
+    int same = file && done(name, silkendoz_write_sheet_in(&tables, sheet, sizeof sheet, out, SILKENDOZ_OUT));
+    size_t at;
+    for (at = 0; same && at < 512 * (size_t)out[0]; at++)
+        same = fgetc(file) == sheet[at];
+    same = same && fgetc(file) == EOF;
+    if (file)
+        fclose(file);
+    return same;
+}
+
+static int written_again(const char *name)
+{
+    if (holds(name))
+        return 1;
+    if (!save(name))
+        return 0;
+    printf("%s: written again\n", name);
+    return 1;
+}
+
+/* At the start, before any saving. B is read, then A: A is saved first, and so is never the older one. If A is refused, the tables still
+ * hold B. Then each copy that is not this library is written again. */
 static int restore(const char *a, const char *b)
 {
-    if (load(a))
-        return 1;
-    if (!load(b) || !save(a))
-        return 0;
-    printf("%s: written again\n", a);
-    return 1;
+    int whole_b = load(b);
+    int whole_a = load(a);
+    return (whole_a || whole_b) && written_again(a) && written_again(b);
 }
 
 /* A fault of the disk, for this example: one byte of the second block changes. */
@@ -160,7 +192,7 @@ int main(void)
     /* one sample is missing: refused, and nothing has changed */
     find(today, N - 1);
 
-    /* two copies are kept; one is damaged, so the other is read, and the first is written again */
+    /* two copies are kept, A saved before B; one is damaged, so the other is read, and the first is written again */
     if (!save("faults-a.sheet") || !save("faults-b.sheet") || !damage("faults-a.sheet"))
         return EXIT_FAILURE;
     if (!restore("faults-a.sheet", "faults-b.sheet") || !load("faults-a.sheet"))

@@ -2,8 +2,8 @@
 
 use silkendoz::{Refusal, TraceLibrary};
 use std::error::Error;
-use std::fs::{self, File};
-use std::io::{self, Write};
+use std::fs::{self, File, OpenOptions};
+use std::io::{self, Seek, Write};
 use std::path::{Path, PathBuf};
 
 /// The library keeps no names. Trace 0 is the first one added, and so on.
@@ -17,12 +17,20 @@ fn name_of(trace: usize) -> &'static str {
     FAULTS.get(trace).map_or("no name", |(name, _)| name)
 }
 
-/// When this is back, the copy is on the disk, not only on its way there; the folder that names it too.
-fn save(sheet: &[u8], copy: &Path) -> io::Result<()> {
-    let mut file = File::create(copy)?;
-    file.write_all(sheet)?;
+/// When this is back, the copy is on the disk, not only on its way there; the folder that names it too. Block 0 is blanked before all
+/// others and written behind them: a copy whose writing is cut off is refused, whatever it holds.
+pub fn save(sheet: &[u8], copy: &Path) -> io::Result<()> {
+    let mut file = OpenOptions::new().write(true).create(true).truncate(false).open(copy)?;
+    file.write_all(&[0; 512])?;
     file.sync_all()?;
-    File::open(copy.parent().unwrap_or(Path::new(".")))?.sync_all()
+    file.write_all(&sheet[512..])?;
+    file.set_len(sheet.len() as u64)?;
+    file.sync_all()?;
+    file.rewind()?;
+    file.write_all(&sheet[..512])?;
+    file.sync_all()?;
+    let folder = copy.parent().filter(|folder| !folder.as_os_str().is_empty());
+    File::open(folder.unwrap_or(Path::new(".")))?.sync_all()
 }
 
 /// A file that is not there is a sheet of 0 bytes, which is refused.
@@ -31,13 +39,17 @@ fn load(copy: &Path) -> Option<TraceLibrary> {
     read.inspect_err(|why| println!("{}: refused {}, {why}", copy.display(), why.number())).ok()
 }
 
-/// Reads the first copy; if it is refused, the second, and writes the first again: there are two whole copies then.
-fn restore(copies: &[PathBuf; 2]) -> Result<TraceLibrary, Box<dyn Error>> {
-    if let Some(library) = load(&copies[0]) {
-        return Ok(library);
+/// At the start, before any saving: both copies are judged, and each that is not the library is written again. The first is saved before
+/// the second, and so is never the older one.
+pub fn restore(copies: &[PathBuf; 2]) -> Result<TraceLibrary, Box<dyn Error>> {
+    let [first, second] = copies.each_ref().map(|copy| load(copy));
+    let library = first.or(second).ok_or("no copy can be read")?;
+    let sheet = library.write_sheet()?;
+    for copy in copies {
+        if fs::read(copy).unwrap_or_default() != sheet {
+            save(&sheet, copy)?;
+        }
     }
-    let library = load(&copies[1]).ok_or("no copy can be read")?;
-    save(&library.write_sheet()?, &copies[0])?;
     Ok(library)
 }
 
@@ -61,7 +73,7 @@ fn main() -> Result<(), Box<dyn Error>> {
     let why = library.nearest(&today[..7]).unwrap_err();
     assert_eq!((why.number(), why.to_string().as_str()), (4, "wrong trace: 7 samples, and n is 8"));
 
-    // two copies are kept; one is damaged, so the other is read, and the first is written again
+    // two copies are kept, the first saved before the second; one is damaged, so the other is read, and the first is written again
     let folder = std::env::temp_dir().join(format!("faults-{}", std::process::id()));
     fs::create_dir_all(&folder)?;
     let copies = [folder.join("a.sheet"), folder.join("b.sheet")];

@@ -7,7 +7,7 @@ use super::numbers::median;
 use super::progress::Progress;
 use super::shelf::Shelf;
 use super::table::{self, Column};
-use super::{done, refused, Answer};
+use super::{done, numbers, plain, refused, Answer};
 use silkendoz::{scan, TraceLibrary};
 use std::hint::black_box;
 use std::path::Path;
@@ -23,19 +23,22 @@ pub fn run(a: &Arguments) -> Answer {
     let shelf = Shelf::load(Path::new(library))?;
     let count = shelf.library.len();
     if count < 2 {
-        return refused(format!("{}: holds {count} of the 2 traces that it takes to leave one out. Add some.", shelf.path.display()));
+        return refused(format!("{}: holds {count} of the 2 traces that it takes to leave one out. Add some.", plain::path(&shelf.path)));
     }
     let traces: Vec<Vec<i16>> = shelf.library.traces().map(<[i16]>::to_vec).collect();
     let trial = Trial::of(&traces);
-    let sizes: Vec<Tried> = LEAF_SIZES.into_iter().map(|leaf_size| trial.tried(leaf_size)).collect();
+    let mut progress = Progress::new("leaving traces out, by group and leaf size", trial.groups * LEAF_SIZES.len());
+    let tried = LEAF_SIZES.into_iter().enumerate().map(|(at, leaf_size)| trial.tried(leaf_size, at, &mut progress));
+    let sizes: Vec<Tried> = tried.collect();
+    drop(progress);
     let scans = trial.scanned();
-    let now = shelf.library.leaf_size();
+    let samples = numbers::count(shelf.library.n(), "sample");
     done(format!(
-        "{}: {count} traces of {} samples, leaf size {now}\n{}\n{}\n{}",
-        shelf.path.display(),
-        shelf.library.n(),
+        "{}: {count} traces of {samples}, leaf size {}\n{}\n{}\n{}",
+        plain::path(&shelf.path),
+        shelf.library.leaf_size(),
         shown(&sizes, &scans, trial.groups == count),
-        advice(&sizes, &scans, now),
+        advice(&shelf, &sizes, &scans),
         level_and_swing(&traces)
     ))
 }
@@ -82,11 +85,11 @@ impl Trial<'_> {
         self.traces.iter().skip(group).step_by(self.groups)
     }
 
-    fn tried(&self, leaf_size: usize) -> Tried {
-        let mut progress = Progress::new("leaving traces out, by group", self.groups);
+    /// With a leaf size, the one at this place among all.
+    fn tried(&self, leaf_size: usize, at: usize, progress: &mut Progress) -> Tried {
         let mut found = Vec::new();
         for group in 0..self.groups {
-            progress.show(group);
+            progress.show(at * self.groups + group);
             let library = library(self.without(group), leaf_size);
             found.extend(self.left_out(group).map(|query| lookup(&library, query)));
         }
@@ -157,27 +160,46 @@ fn shown(sizes: &[Tried], scans: &Scanned, alone: bool) -> String {
         let [left_out, noisy] = times.map(|time| format!("{time:.1}"));
         rows.push(vec![name.to_string(), "-".to_string(), left_out, "-".to_string(), noisy]);
     }
-    let heads = [("", false), ("left out: leaves read", true), ("µs", true), ("noisy copy: leaves read", true), ("µs", true)];
+    let heads = [("", false), ("like none stored: leaves read", true), ("µs", true), ("like a stored one: leaves read", true), ("µs", true)];
     let columns = heads.map(|(head, right)| Column(head, right));
     let how = if alone { "alone" } else { "with a tenth of the others" };
-    let left_out = format!("left out: each trace, looked up in a library without it ({how})");
-    format!("{}  Medians, on this machine. {left_out}; noisy copy: each trace, its samples moved a little.\n", table::text(&columns, &rows))
+    let fresh = format!("like none stored: each trace, looked up in a library without it ({how})");
+    format!("{}  Medians, on this machine. {fresh}; like a stored one: each trace, its samples moved a little.\n", table::text(&columns, &rows))
 }
 
-/// The leaf size with the least time; of those that are nearly as fast, the largest, which makes the fewest nodes.
-fn advice(sizes: &[Tried], scans: &Scanned, now: usize) -> String {
-    let time = |tried: &Tried| tried.left_out.micros + tried.noisy.micros;
-    let least = sizes.iter().map(time).fold(f64::INFINITY, f64::min);
-    let best = sizes.iter().rev().find(|tried| time(tried) <= 1.1 * least).map_or(now, |tried| tried.leaf_size);
-    let scan = scans.leaving[0] + scans.leaving[1];
-    let plain = scans.plain[0] + scans.plain[1];
-    let take = if best == now { format!("Leaf size {best} is as good as any.") } else { format!("Take leaf size {best}.") };
-    let hint = "Build the library again to change it. It changes how much is read, never which trace is found";
-    if scan.min(plain) <= least {
-        let when = "with few traces, or traces that differ in nothing but noise, the tree saves little";
-        format!("{take} {hint}.\nA scan of all traces is as fast here: {when}.\n")
-    } else {
-        format!("{take} {hint}.\nA match is {:.1} times as fast as a scan that leaves traces early.\n", scan / least)
+/// The leaf size that is nearest to the best for both kinds of sweep; of those that are nearly as good, the largest, which makes the fewest
+/// nodes.
+fn best<'a>(sizes: &'a [Tried]) -> &'a Tried {
+    let least = |of: fn(&Tried) -> f64| sizes.iter().map(of).fold(f64::INFINITY, f64::min);
+    let (fresh, near) = (least(|tried| tried.left_out.micros), least(|tried| tried.noisy.micros));
+    let worse = |tried: &Tried| tried.left_out.micros / fresh + tried.noisy.micros / near;
+    let good = sizes.iter().map(worse).fold(f64::INFINITY, f64::min);
+    sizes.iter().rev().find(|tried| worse(tried) <= 1.1 * good).unwrap_or(&sizes[0])
+}
+
+/// What to take, and for each kind of sweep what a match is worth beside a scan.
+fn advice(shelf: &Shelf, sizes: &[Tried], scans: &Scanned) -> String {
+    let library = &shelf.library;
+    let best = best(sizes);
+    let take = match best.leaf_size == library.leaf_size() {
+        true => format!("Leaf size {} is as good as any.", best.leaf_size),
+        false => {
+            let measures = format!("--samples {} --capacity {} --leaf-size {}", library.n(), library.capacity(), best.leaf_size);
+            let command = format!("`silkendoz build NEW.sheet {measures} {}`", plain::path(&shelf.path));
+            format!("Take leaf size {}: {command}.", best.leaf_size)
+        }
+    };
+    let fresh = beside_scan("A sweep like none stored", &best.left_out, scans.plain[0].min(scans.leaving[0]));
+    let near = beside_scan("A sweep like a stored one", &best.noisy, scans.plain[1].min(scans.leaving[1]));
+    format!("{take}\nIt changes how much is read, never which trace is found.\n{near}{fresh}")
+}
+
+/// A match beside the faster of the two scans.
+fn beside_scan(what: &str, found: &Lookup, scan: f64) -> String {
+    let read = format!("{what}: a match reads {:.0} % of the leaves, in {:.1} µs; a scan takes {scan:.1} µs", found.leaves, found.micros);
+    match scan / found.micros {
+        times if times < 1.2 => format!("{read}. A scan is as good here.\n"),
+        times => format!("{read}, {times:.1} times as long.\n"),
     }
 }
 
@@ -196,7 +218,7 @@ fn level_and_swing(traces: &[Vec<i16>]) -> String {
         }
         (true, false) => "All traces have the same level: it looks taken away. The tree parts them by swing, and reads more than it would.",
         (false, true) => "All traces have the same swing: it looks taken away. The tree parts them by level, and reads more than it would.",
-        (false, false) => "The traces do not look normalised: they differ in level and in swing, and the tree can tell them apart.",
+        (false, false) => "The traces do not look normalised: they differ in level and in swing, by which the tree parts them.",
     };
     format!("{found}\n")
 }

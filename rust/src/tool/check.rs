@@ -124,7 +124,7 @@ fn all_torn(bytes: &[u8], torn: &[usize]) -> String {
         let what = words::torn(bytes, block);
         let shift = block.checked_sub(words::said_number(bytes, block)).filter(|shift| *shift > 0);
         match runs.last_mut() {
-            Some(run) if run.last + 1 == block && (run.what == what || shift.is_some() && run.shift == shift) => run.last = block,
+            Some(run) if run.last + 1 == block && run.shift == shift && (run.what == what || shift.is_some()) => run.last = block,
             _ => runs.push(Run { first: block, last: block, what, shift }),
         }
     }

@@ -75,10 +75,10 @@ fn read(column: usize, found: &Column) -> Result<i16, String> {
     let text = &found.text;
     let hint = if text.is_empty() {
         return Err(format!("column {column} is empty. Remove the separator, or put a sample there."));
+    } else if looks_like_a_number(text) && text.contains(',') {
+        "It looks like a number with a decimal comma: scale the recording to whole numbers of 16 bits first."
     } else if looks_like_a_number(text) {
         "Scale the recording to whole numbers of 16 bits first."
-    } else if looks_like_a_number(&text.replacen(',', ".", 1)) {
-        "It looks like a number with a decimal comma: scale the recording to whole numbers of 16 bits first."
     } else if column == 2 {
         "A name of several words is put in double quotes; a line of headings begins with `#`."
     } else {
@@ -93,8 +93,9 @@ fn sample(text: &str) -> Option<i16> {
     whole.parse().ok()
 }
 
+/// With a decimal point or comma.
 fn looks_like_a_number(text: &str) -> bool {
-    text.is_empty() || text.parse::<f64>().is_ok_and(f64::is_finite)
+    text.is_empty() || text.replacen(',', ".", 1).parse::<f64>().is_ok_and(f64::is_finite)
 }
 
 #[derive(Debug)]

@@ -180,8 +180,9 @@ numbers of those behind a lost one change. With a second copy of the same writin
         usage: "LIBRARY",
         about: "which leaf size suits the traces",
         text: "\
-Tries leaf sizes 4 to 64 on the library's own traces: each is left out and looked up, and so is a noisy copy of each. It shows the part of
-leaves that a match reads and what it takes, beside a plain scan, says which leaf size to take, and whether the traces look normalised.
+Tries leaf sizes 4 to 64 on the library's own traces: each is left out and looked up, as a sweep that is like none stored, and so is a
+noisy copy of each, as one that is like a stored one. It shows the part of leaves that a match reads and what it takes, beside scans, says
+which leaf size to take and where a scan is as good, and whether the traces look normalised.
 ",
         values: &[],
         flags: &[],

@@ -61,7 +61,7 @@ fn the_commands_print_what_the_page_says() {
     let page = fs::read_to_string(repository().join("docs/GUIDE.md")).unwrap();
     let folder = recordings();
     let commands = commands(&page);
-    for command in ["build", "match", "plot", "add", "info", "export", "check", "repair"] {
+    for command in ["build", "match", "plot", "add", "info", "export", "rename", "list", "check", "repair", "salvage"] {
         let shown = commands.iter().any(|(line, _)| line.starts_with(&format!("silkendoz {command} ")));
         assert!(shown, "the page shows {command}");
     }

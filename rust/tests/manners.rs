@@ -192,7 +192,7 @@ fn the_rate_of_a_recording_stays() {
     assert!(folder.done("export l.sheet 0 -o again.wav").ends_with("8 samples at 11025 a second.\n"));
     assert!(folder.read("again.wav") == folder.read("a.wav"));
     folder.done("export l.sheet 0 -o slow.wav --rate 2000");
-    let out = folder.done("add l.sheet slow.wav");
+    let out = folder.done("add l.sheet slow.wav --again");
     assert!(out.contains("slow.wav: recorded at 2000 samples a second; the library's are of 11025."), "{out}");
     folder.write("b.csv", "1 2 3 4 5 6 7 8");
     assert!(folder.done("build mixed.sheet --samples 8 a.wav slow.wav b.csv").contains("of different rates: 2000, 11025"));
@@ -230,6 +230,21 @@ fn listed_and_renamed() {
     fs::remove_file(folder.0.join("faults.names")).unwrap();
     folder.done("rename faults.sheet 5 worn");
     assert_eq!(named(&folder.text("faults.names")), ["5\tworn\t\t-"]);
+}
+
+#[test]
+fn a_trace_that_is_stored_already() {
+    let folder = shelf("again");
+    let (faults, _) = faults();
+    let before = (folder.read("faults.sheet"), folder.read("faults.names"));
+    folder.write("known.csv", format!("{}\n", joined(&faults[7].1, ",")));
+    let err = folder.refused("add faults.sheet today.csv known.csv");
+    let stored = format!("known.csv: is stored already, as trace 7, {}.\nNothing was added. Say `--again`", faults[7].0);
+    assert!(err.contains(&stored), "{err}");
+    assert!(folder.refused("add faults.sheet faults.csv").contains("26 more are stored already"));
+    assert!(before == (folder.read("faults.sheet"), folder.read("faults.names")));
+    folder.done("add faults.sheet --again known.csv");
+    assert_eq!(folder.library("faults.sheet").trace(36), Some(&faults[7].1[..]));
 }
 
 #[test]

@@ -107,7 +107,7 @@ fn killed_in_the_midst() {
     let folder = numbered("killed", 9);
     let mut before = 1;
     for round in 0..60u64 {
-        let mut child = start(&folder, &format!("add l.sheet {}.csv", 1 + round % 9));
+        let mut child = start(&folder, &format!("add l.sheet --again {}.csv", 1 + round % 9));
         std::thread::sleep(Duration::from_micros(120 * round % 7919));
         let _ = child.kill();
         child.wait().unwrap();
@@ -115,7 +115,7 @@ fn killed_in_the_midst() {
         assert!(after == before || after == before + 1);
         before = after;
     }
-    folder.done("add l.sheet 1.csv");
+    folder.done("add l.sheet 1.csv --again");
     assert_eq!(every_name_its_own(&folder), before + 1);
     assert!(strays(&folder).is_empty(), "{:?}", strays(&folder));
     assert_eq!(folder.text("l.names").lines().count(), before + 1);

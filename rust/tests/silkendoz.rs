@@ -63,7 +63,7 @@ fn added_all_or_none() {
     assert_eq!(folder.library("faults.sheet").trace(38), Some(&today[..]));
 
     let before = (folder.read("faults.sheet"), folder.read("faults.names"));
-    let err = folder.refused("add faults.sheet faults.csv");
+    let err = folder.refused("add faults.sheet --again faults.csv");
     assert!(err.contains("refused 5, full: there is room for 64 traces, and there would be 75"), "{err}");
     assert!(err.contains("Nothing was added"), "{err}");
     assert!(before == (folder.read("faults.sheet"), folder.read("faults.names")));

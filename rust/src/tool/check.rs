@@ -91,7 +91,7 @@ impl Checked {
 
 /// Names that cannot be read are a fault, and so are traces whose lines do not fit them. Lines that an interrupted writing left are none.
 fn names_of(path: &Path, library: &TraceLibrary) -> (String, bool) {
-    let names = Place::of(path).and_then(|place| Names::beside(&place.path, library));
+    let names = Place::of(path).and_then(|place| Names::beside(place.real(), library));
     match names {
         Err(Failure::Refused(why) | Failure::Usage(why)) => (format!("  names: {why}\n"), false),
         Ok(names) if names.left() == 0 => (String::new(), true),

@@ -9,14 +9,12 @@ use std::path::{Path, PathBuf};
 
 /// What a link is, if something is there. Only "not found" means that nothing is.
 pub fn look(path: &Path) -> io::Result<Option<Metadata>> {
-    fault::step()?;
-    found(path.symlink_metadata())
+    found(fault::step().and_then(|()| path.symlink_metadata()))
 }
 
 /// What a link leads to.
 pub fn follow(path: &Path) -> io::Result<Option<Metadata>> {
-    fault::step()?;
-    found(path.metadata())
+    found(fault::step().and_then(|()| path.metadata()))
 }
 
 fn found(metadata: io::Result<Metadata>) -> io::Result<Option<Metadata>> {

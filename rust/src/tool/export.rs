@@ -3,8 +3,8 @@
 use super::arguments::{number, Arguments};
 use super::files::Output;
 use super::shelf::Shelf;
-use super::{names, numbers, plain, recordings, refused, written, wrong, Answer};
-use std::path::Path;
+use super::{numbers, plain, recordings, refused, written, wrong, Answer};
+use std::path::{Path, PathBuf};
 
 /// Samples a second unless it is said or known.
 const RATE: usize = 8000;
@@ -18,8 +18,8 @@ pub fn run(a: &Arguments) -> Answer {
         return wrong(format!("--rate: a rate is 0 to {MOST_RATE}."));
     }
     let out = a.needed_path("-o")?;
-    let output = Output::of(&out, a.has("--force"), &[library, &names::beside(library)])?;
     let shelf = Shelf::load(library)?;
+    let output = Output::of(&out, a.has("--force"), &shelf.files()?.each_ref().map(PathBuf::as_path))?;
     let known = shelf.names.rate_of(trace).map(|rate| rate as usize);
     let rate = said.or(known).unwrap_or(RATE);
     let bytes = match recordings::export(&shelf.library, trace, rate) {

@@ -118,7 +118,7 @@ fn every_fault(bench: &Bench, line: &str) {
         let seen = bench.seen("l.sheet");
         assert!(seen == old || seen == new, "{line}: killed at step {at}: {seen:?}");
         // the next run goes on from there, and clears up
-        let next = if seen.is_some() { "add l.sheet b.csv" } else { "build l.sheet --samples 3 b.csv --force" };
+        let next = if seen.is_some() { "add l.sheet b.csv --again" } else { "build l.sheet --samples 3 b.csv --force" };
         assert!(bench.run(next, Plan::Count).is_ok(), "{line}: killed at step {at}, and {next} fails");
         let mut expected = seen.unwrap_or_default();
         expected.push((vec![7, 8, 9], "worn".to_string()));
@@ -132,7 +132,7 @@ fn every_fault(bench: &Bench, line: &str) {
 fn faults_of_add() {
     let bench = Bench::new("add");
     laid(&bench);
-    every_fault(&bench, "add l.sheet c.csv b.csv");
+    every_fault(&bench, "add l.sheet c.csv b.csv --again");
 }
 
 /// Names without hashes, as an older version wrote them.
@@ -141,7 +141,7 @@ fn faults_of_add_to_old_names() {
     let bench = Bench::new("old-names");
     laid(&bench);
     fs::write(bench.0.join("l.names"), "0\tdry\ta.csv\n1\tloose\ta.csv\n").unwrap();
-    every_fault(&bench, "add l.sheet c.csv");
+    every_fault(&bench, "add l.sheet c.csv --again");
 }
 
 #[test]

@@ -80,25 +80,33 @@ pub struct Place {
     /// Without links: what a link leads to is replaced, not the link.
     pub path: PathBuf,
     there: Option<Metadata>,
+    is_link: bool,
 }
 
 impl Place {
     pub fn of(said: &Path) -> Result<Place, Failure> {
         let look = |result| or_refused(said, "cannot be looked at", result);
         let there = look(disk::follow(said))?;
+        let is_link = look(disk::look(said))?.is_some_and(|it| it.is_symlink());
         let path = match &there {
             Some(_) => or_refused(said, "cannot be looked at", disk::canonical(said))?,
-            None if look(disk::look(said))?.is_some() => {
-                return refused(format!("{}: is a link that leads nowhere. Remove it, or take another name.", plain::path(said)))
-            }
+            None if is_link => return refused(format!("{}: is a link that leads nowhere. Remove it, or take another name.", plain::path(said))),
             None => said.to_path_buf(),
         };
-        let place = Place { said: said.to_path_buf(), path, there };
+        let place = Place { said: said.to_path_buf(), path, there, is_link };
         match &place.there {
             Some(found) if found.is_dir() => refused(format!("{}: is a folder, and has to be a file.", plain::path(said))),
             _ if place.path.file_name().is_none() => refused(format!("{}: is no file's name.", plain::path(said))),
             Some(found) if !found.is_file() => refused(format!("{}: is no plain file, and is not replaced.", plain::path(said))),
             _ => Ok(place),
+        }
+    }
+
+    /// As it was said; of a link, what it leads to. What stands beside the file is found from here.
+    pub fn real(&self) -> &Path {
+        match self.is_link {
+            true => &self.path,
+            false => &self.said,
         }
     }
 
@@ -343,5 +351,51 @@ impl Output {
                 Ok(Written { standard: false, trouble })
             }
         }
+    }
+}
+
+#[cfg(test)]
+mod tests {
+    use super::*;
+    use std::fs;
+
+    fn folder(name: &str) -> PathBuf {
+        let folder = std::env::temp_dir().join(format!("silkendoz-{}-{name}", std::process::id()));
+        fs::create_dir_all(&folder).unwrap();
+        folder
+    }
+
+    /// A name that is taken is another's: it stays, and another is found.
+    #[test]
+    fn a_staging_name_that_is_taken() {
+        let folder = folder("staged");
+        let path = folder.join("x.wav");
+        let taken = folder.join(format!(".x.wav.{}-0.part", std::process::id()));
+        fs::write(&taken, "mine").unwrap();
+        let held = File::open(&taken).unwrap();
+        held.lock().unwrap();
+        Output::of(&path, false, &[]).unwrap().write(b"new").unwrap();
+        assert_eq!((fs::read(&path).unwrap(), fs::read(&taken).unwrap()), (b"new".to_vec(), b"mine".to_vec()));
+        assert_eq!(fs::read_dir(&folder).unwrap().count(), 2);
+        fs::remove_dir_all(folder).unwrap();
+    }
+
+    /// What nobody else may read is not to be read while it is staged either.
+    #[test]
+    fn staged_with_the_rights_of_its_place() {
+        let folder = folder("rights");
+        let path = folder.join("l.sheet");
+        fs::write(&path, "old").unwrap();
+        fs::set_permissions(&path, fs::Permissions::from_mode(0o600)).unwrap();
+        let place = Place::of(&path).unwrap();
+        let staged = Staged::create(&place, place.there.as_ref()).unwrap();
+        let mode = |path: &Path| fs::metadata(path).unwrap().permissions().mode() & 0o777;
+        assert_eq!(mode(&staged.beside), 0o600, "from its beginning");
+        drop(staged);
+        let staged = Staged::write(&place, b"new", None).unwrap();
+        assert_eq!(mode(&staged.beside), 0o600);
+        assert_eq!(staged.put(true).unwrap(), None);
+        assert_eq!((mode(&path), fs::read(&path).unwrap()), (0o600, b"new".to_vec()));
+        fs::remove_dir_all(folder).unwrap();
     }
 }

@@ -36,18 +36,19 @@ folder, for all files in it that end in .wav, .csv, .tsv or .txt; or -, for stan
     },
     Command {
         name: "add",
-        usage: "LIBRARY [--cut] [--convert] [--no-wait] FILE..",
+        usage: "LIBRARY [--again] [--cut] [--convert] [--no-wait] FILE..",
         about: "more recordings into a library, all or none",
         text: "\
 Adds all traces in the FILEs to the library, in their order, with their names. If one of them cannot be taken, or there is no room for all,
-nothing is added. FILEs and options are those of `silkendoz help build`.
+nothing is added; nor if one of them is stored already, sample by sample. FILEs are those of `silkendoz help build`.
 
+  --again     add traces that are stored already, too
   --cut       whole traces of a recording that ends in the midst of one
   --convert   recordings of other forms
   --no-wait   if another run is writing the library, refuse; unless said, wait for it
 ",
         values: &[],
-        flags: &["--cut", "--convert", "--no-wait"],
+        flags: &["--again", "--cut", "--convert", "--no-wait"],
         run: add::run,
     },
     Command {

@@ -3,7 +3,7 @@
 use super::arguments::Arguments;
 use super::shelf::Shelf;
 use super::table::{self, Column};
-use super::{done, json, names, numbers, plain, Answer};
+use super::{done, json, numbers, plain, Answer, Failure};
 use silkendoz::TraceLibrary;
 use std::path::Path;
 
@@ -18,7 +18,7 @@ pub fn run(a: &Arguments) -> Answer {
     let mut line = |what: &str, value: String| text.push_str(&format!("  {what:<18}{value}\n"));
     line("samples a trace", l.n().to_string());
     line("traces", format!("{} of {}", l.len(), l.capacity()));
-    line("names", named(&shelf));
+    line("names", named(&shelf)?);
     line("rate", rates(&shelf));
     line("leaf size", l.leaf_size().to_string());
     line("tree", tree(l));
@@ -27,16 +27,16 @@ pub fn run(a: &Arguments) -> Answer {
     done(text)
 }
 
-fn named(shelf: &Shelf) -> String {
-    let path = plain::path(&names::beside(&shelf.path));
+fn named(shelf: &Shelf) -> Result<String, Failure> {
+    let [_, path] = shelf.files()?.map(|path| plain::path(&path));
     let left = match shelf.names.left() {
         0 => String::new(),
         left => format!("; {} there fit no trace", numbers::count(left, "line")),
     };
-    match shelf.names.known() {
+    Ok(match shelf.names.known() {
         0 => format!("none (no line of {path} fits, or it is not there){left}"),
         known => format!("{known}, in {path}{left}"),
-    }
+    })
 }
 
 /// The rates of its recordings, as far as they are known.

@@ -39,7 +39,8 @@ pub fn manual(a: &Arguments) -> Answer {
     let version = env!("CARGO_PKG_VERSION");
     let mut page = format!(".TH SILKENDOZ 1 \"\" \"silkendoz {version}\"\n.SH NAME\nsilkendoz \\- the nearest stored trace, exactly\n.SH SYNOPSIS\n");
     for command in &COMMANDS {
-        page.push_str(&format!(".B silkendoz {}\n{}\n.br\n", command.name, roff(command.usage)));
+        let usage = if command.usage.is_empty() { String::new() } else { roff(command.usage) + "\n" };
+        page.push_str(&format!(".B silkendoz {}\n{usage}.br\n", command.name));
     }
     page.push_str(".SH COMMANDS\n");
     for command in &COMMANDS {

@@ -41,7 +41,7 @@ pub fn run(a: &Arguments) -> Answer {
 
 /// Where the names of a sheet stand, even if a link leads to it.
 fn names_beside(sheet: &Path) -> Result<PathBuf, Failure> {
-    Ok(names::beside(&Place::of(sheet)?.path))
+    Ok(names::beside(Place::of(sheet)?.real()))
 }
 
 /// The names of the first copy, and where it has none, those of the second.
@@ -52,7 +52,7 @@ fn kept_names(copies: [&Path; 2], library: &TraceLibrary, out: &Path) -> Result<
         let path = names_beside(copy)?;
         let others = Lines::read(&path)?.fit(library)?;
         if names.fill_from(&others) > 0 {
-            from.push(plain::path(&names::beside(copy)));
+            from.push(plain::path(&path));
         }
     }
     let told = match from.is_empty() {

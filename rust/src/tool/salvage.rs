@@ -13,7 +13,7 @@ pub fn run(a: &Arguments) -> Answer {
     let [torn] = a.exactly(["TORN, a sheet"])?.map(Path::new);
     let out = a.needed_path("-o")?;
     let over = a.has("--force");
-    let beside = names::beside(&Place::of(torn)?.path);
+    let beside = names::beside(Place::of(torn)?.real());
     let inputs = [torn, beside.as_path()];
     let output = Output::of(&out, over, &inputs)?;
     let sheet = Torn::of(torn, a)?;

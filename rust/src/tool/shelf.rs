@@ -33,8 +33,13 @@ impl Shelf {
                 return refused(format!("{shown}: {found} `silkendoz check {shown}` shows all that is wrong."));
             }
         };
-        let names = Names::beside(&Place::of(path)?.path, &library)?;
+        let names = Names::beside(Place::of(path)?.real(), &library)?;
         Ok(Shelf { path: path.to_path_buf(), library, names })
+    }
+
+    /// Its two files, neither of which an output may overwrite.
+    pub fn files(&self) -> Result<[PathBuf; 2], Failure> {
+        Ok([self.path.clone(), names::beside(Place::of(&self.path)?.real())])
     }
 
     /// A stored trace; there is one for each number below the library's length.
@@ -86,7 +91,7 @@ impl Held {
         let lock = Lock::of(&sheet, wait)?;
         // what is there may have changed meanwhile
         let sheet = Place::of(path)?;
-        let names = Place::of(&names::beside(&sheet.path))?;
+        let names = Place::of(&names::beside(sheet.real()))?;
         files::remove_strays(&[&sheet, &names]);
         Ok(Held { sheet, names, _lock: lock })
     }

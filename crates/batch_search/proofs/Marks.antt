@@ -10,7 +10,7 @@ use lib.Dec.{eqb}
 use borrow.Author.Tests.{eqb-true}
 use lib.Seq.{drop-set-lt, take-suc-set, getD-set-same, getD-set-other}
 use Rattle.integer.specs.Words.{if_then_else_, counting, those}
-use Rattle.integer.proofs.Lists.{drop-more, those-none, those-lengths, in-counting, from-counting, counting-up}
+use Rattle.integer.proofs.Lists.{same-or-not, drop-more, those-none, those-lengths, in-counting, from-counting, counting-up}
 use Rattle.integer.proofs.Times.{up-once, counting-length, those-more}
 use Rattle.batch_search.specs.Batched.{isMarked, markedOf, Noted, TrailBegins}
 
@@ -46,6 +46,15 @@ marked-more marks count j h room e =
           (counting count 0),
       up-once (counting-up count 0) (in-counting count 0 j (omega arith) (omega arith)),
     )
+
+-- .. and no mark is above 1 yet
+pub once-more : (marks : List ℕ) (count j : ℕ) → j < length marks → ((k : ℕ) → k < count → getD marks k 0 ≤ 1)
+    → (k : ℕ) → k < count → getD (set marks j 1) k 0 ≤ 1
+once-more marks count j room once k h = by (same-or-not k j)
+  where
+    by : Dec (k ≡ j) → getD (set marks j 1) k 0 ≤ 1
+    by (yes e) = rw e (omega (arith, getD-set-same marks j 1 0 room))
+    by (no f) = omega (arith, getD-set-other marks j k 1 0 f, once k h)
 
 -- ---- how they are written
 

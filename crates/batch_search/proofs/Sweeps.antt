@@ -151,14 +151,14 @@ module _ (t : Tables) (run : Trace) (many : ℕ) where
     unfolding batchBySteps answer
     batch-found counted work work′ trail trail′ w room zeroed =
         let T = those (λ number. isIn number read) (leaves (treeIn t)) in
-        let are : take out trail′ ≡ T = ap (λ (m : ℕ). take m trail′) counted ∙ w .are ∙ marked-are in
-        let many-are : out ≡ length T = counted ∙ ap length marked-are in
+        let are : take out trail′ ≡ T = ap (λ (m : ℕ). take m trail′) (counted .as-many) ∙ w .are ∙ marked-are in
+        let many-are : out ≡ length T = counted .as-many ∙ ap length marked-are in
         record {
           found =
               ap (λ (l : List Near). batch l out (take out trail′)) answers-are
               ∙ ap (λ (m : ℕ). batch (map answer (queriesOf t run many)) m (take out trail′)) many-are
               ∙ ap (batch (map answer (queriesOf t run many)) (length T)) are;
-          within = omega (arith, counted, marked-few, room);
-          trail-rest = subst (λ (m : ℕ). drop m trail′ ≡ drop m trail) (sym counted) (w .rest);
+          within = omega (arith, counted .as-many, marked-few, room);
+          trail-rest = subst (λ (m : ℕ). drop m trail′ ≡ drop m trail) (sym (counted .as-many)) (w .rest);
           work-zero = zeroed;
         }

@@ -45,10 +45,10 @@ isMarked marks j = not (eqb (getD marks j 0) 0)
 abbrev pub markedOf : List ℕ → ℕ → List ℕ
 markedOf marks count = those (isMarked marks) (counting count 0)
 
--- so many leaves were read, as many as nodes have a mark: each reading is counted, and a leaf that is read again gets no second mark, so
--- that the count would be above the marks
-abbrev pub CountedOnce : Tables → List ℕ → ℕ → Type 0
-CountedOnce t marks leaves = leaves ≡ length (markedOf marks (nodeCount t))
+-- "no leaf is read twice": a mark counts the readings of its leaf, and so many leaves were read, as many as nodes have a mark
+pub record CountedOnce (t : Tables) (marks : List ℕ) (leaves : ℕ) : Type 0 where
+  pub once : (j : ℕ) → j < nodeCount t → getD marks j 0 ≤ 1
+  pub as-many : leaves ≡ length (markedOf marks (nodeCount t))
 
 -- ---- what is kept
 

@@ -1,5 +1,5 @@
-// A leaf read for all queries at once, and counted. Each query keeps its nearest trace so far in a record of two places, trace number and
-// distance.
+// A leaf read for all queries at once, marked and counted. Each query keeps its nearest trace so far in a record of two places, trace
+// number and distance.
 use tables::control::field;
 use tables::numbers::wide;
 use tables::places::FIRST;
@@ -8,7 +8,7 @@ use tables::places::TRACE_COUNT;
 ghost use mathlib.Core.Path.{_≡_};
 ghost use mathlib.Core.List.{map};
 ghost use Prim.Native.Nat.{_+_, _*_, _≤_, _<_, min};
-ghost use lib.ListN.{length};
+ghost use lib.ListN.{length, getD, set};
 ghost use Rattle.dstree.specs.Batch.{mostQueries, readOnce};
 ghost use Rattle.tables.specs.Layout.{kindPlace};
 ghost use Rattle.tables.specs.Tables.{nodeCount, recordOf};
@@ -53,7 +53,8 @@ fn read_for(
     bests[at + 1] = one[1];
 }
 
-// .. for all queries of the run. Answers how many leaves were read, this one too, so that each reading comes with its count.
+// .. for all queries of the run, with one more in the mark of the leaf, node j. Answers how many leaves were read, this one too. So a
+// reading shows in the caller's marks, whatever becomes of its answer.
 fn read_for_all(
     samples: &[i16],
     links: &[u16],
@@ -63,13 +64,17 @@ fn read_for_all(
     queries: &[i16],
     many: usize,
     bests: &mut [u64],
+    marks: &mut [u8],
+    j: usize,
     leaves: usize,
 ) -> usize
     requires { ⌜ Stored (now samples) (now links) n count head × (length (now queries) ≡ n * many) × (many ≤ mostQueries)
         × (2 * many ≤ length (now bests)) × (leaves ≤ smallMost) ⌝ }
+    requires mark { ⌜ (j < length (now marks)) × (getD (now marks) j 0 ≤ 1) ⌝ }
     ensures { λ _. ⌜ AllRead leaves many
         (λ i. map (nearOf (now (samples .entry)) n (traceIn (now (queries .entry)) n i)) (numbersOf (now (links .entry)) count head))
         (now (bests .entry)) (now (bests .exit)) ⌝ }
+    ensures marked { λ _. ⌜ now (marks .exit) ≡ set (now (marks .entry)) j (getD (now (marks .entry)) j 0 + 1) ⌝ }
     ensures more { λ r. ⌜ r ≡ leaves + 1 ⌝ }
 {
     let mut i: usize = 0;
@@ -78,13 +83,14 @@ fn read_for_all(
         read_for(samples, links, n, count, head, query, bests, i, leaves);
         i += 1;
     }
+    marks[j] += 1;
     leaves + 1
 }
 
 // Leaf j, unless it was read before: then it has a mark. Answers how many leaves were read so far.
 //
 // Two wrong programs that the contract rules out: one that reads the leaf for the query alone that asks for it, since the others' bests
-// then lack its traces; and one that reads a leaf with a mark again, since one more is then counted and none more marked.
+// then lack its traces; and one that reads a leaf with a mark again, since the mark is then above 1, be the answer kept or not.
 pub fn read_once(
     control: &[u16],
     samples: &[i16],
@@ -111,7 +117,6 @@ pub fn read_once(
     if marks[j] != 0 {
         return leaves;
     }
-    marks[j] = 1;
     let n = wide(field(control, N));
     let count = wide(field(control, TRACE_COUNT));
     let first = tables::records::node_small(nodes, j, FIRST);
@@ -124,6 +129,8 @@ pub fn read_once(
         queries,
         many,
         bests,
+        marks,
+        j,
         leaves,
     )
 }

@@ -3,6 +3,7 @@ use mathlib.Core.Path.{_≡_, refl, ap, subst, _∙_}
 use mathlib.Core.List.{List, map}
 use Prim.Native.Nat.{ℕ, _+_, _*_, _-_, _≤_}
 use native.Mathlib.Omega.{arith}
+use borrow.Author.Needs.{needs}
 use lib.IntN.{ℤ}
 use lib.ListN.{length}
 use denote.Ref.{now}
@@ -23,18 +24,18 @@ abbrev more : List ℤ → List ℕ → ℕ → ℕ → ℕ → List ℤ → ℕ
 more samples links n count head queries i = map (nearOf samples n (traceIn queries n i)) (numbersOf links count head)
 
 abbrev Inv-loop : tie.InvT-loop
-Inv-loop samples links n count head queries many bests₀ leaves i₀ bests i =
+Inv-loop samples links n count head queries many bests₀ marks j leaves i₀ bests i =
     (i ≤ many) × (length bests ≡ length bests₀) × Reading leaves i (more samples links n count head queries) bests₀ bests
 
 abbrev μ-loop : tie.MeasureT-loop
-μ-loop samples links n count head queries many bests₀ leaves i₀ bests i = many - i
+μ-loop samples links n count head queries many bests₀ marks j leaves i₀ bests i = many - i
 
 abbrev given : tie.At-loop Inv-loop μ-loop → tie.Start Inv-loop μ-loop
-given l = l .before .before .before
+given l = l .before .before .before .before
 
 loop-holds : tie.Need-loop-holds Inv-loop μ-loop
 loop-holds c =
-    let a = c .before .before .args in
+    let a = c .before .before .before .args in
     let all = more (now (a .samples)) (now (a .links)) (a .n) (a .count) (a .head) (now (a .queries)) in
     (omega arith, refl, reading-start (a .leaves) all (now (a .bests)))
 
@@ -45,7 +46,7 @@ module _ (c : tie.In-loop Inv-loop μ-loop) where
 
   room : c .before .loop .i * start .args .n + start .args .n ≤ length (now (start .args .queries))
   room = query-room (c .before .loop .i) (start .args .many) (start .args .n) (now (start .args .queries)) (c .loop-test .taken)
-      (start .pre .1)
+      (start .pre .0 .1)
 
 read-for-requires : tie.Need-read-for-requires Inv-loop μ-loop
 read-for-requires c κs =
@@ -55,16 +56,16 @@ read-for-requires c κs =
     let i = t .before .loop .i in
     let long : length (now (q .trace-at .result)) ≡ s .args .n =
     ap length (q .trace-at .ensures) ∙ trace-length (now (s .args .queries)) (s .args .n) i (room t) in (
-      s .pre .0,
+      s .pre .0 .0,
       long,
-      omega (arith, t .loop-test .taken, s .pre .2),
-      omega (arith, t .loop-test .taken, s .pre .3, t .before .loop .inv .1),
+      omega (arith, t .loop-test .taken, s .pre .0 .2),
+      omega (arith, t .loop-test .taken, s .pre .0 .3, t .before .loop .inv .1),
     )
 
 add-i : tie.Need-add-i Inv-loop μ-loop
 add-i c =
     let t = c .before .before .before .before .before in
-    omega (arith, t .loop-test .taken, start t .pre .2)
+    omega (arith, t .loop-test .taken, start t .pre .0 .2)
 
 loop-less : tie.Need-loop-less Inv-loop μ-loop
 loop-less c = let t = c .before .before .before .before .before in omega (arith, t .loop-test .taken)
@@ -87,17 +88,30 @@ loop-again c =
       reading-next (a .leaves) (L .i) all (now (a .bests)) (L .bests) bests (L .inv .2) one,
     )
 
+-- the mark
+slice-read-marks : tie.Need-slice-read-marks Inv-loop μ-loop
+slice-read-marks c = omega (arith, given (c .before .before) .pre .1 .0)
+
+add-marks : tie.Need-add-marks Inv-loop μ-loop
+add-marks c = omega (arith, given (c .before .before) .pre .1 .1)
+
+slice-write-marks : tie.Need-slice-write-marks Inv-loop μ-loop
+slice-write-marks c = omega (arith, given (c .before .before) .pre .1 .0)
+
 add-result : tie.Need-add-result Inv-loop μ-loop
-add-result c = omega (arith, given (c .before) .pre .4)
+add-result c = omega (arith, given (c .before .before) .pre .0 .4)
 
 same-length : tie.Need-same-length Inv-loop μ-loop
-same-length c = c .before .loop .inv .1
+same-length c = c .before .before .loop .inv .1
 
 returns : tie.Need-returns Inv-loop μ-loop
-returns c = let L = c .before .loop in (λ i h. L .inv .2 .done i (omega (arith, h, c .loop-test .left)), refl)
+returns c =
+    let L = c .before .before .loop in
+    (λ i h. L .inv .2 .done i (omega (arith, h, c .before .loop-test .left)), (refl, refl))
 
 pub read-for-all-spec : {M : Type 1} → statement M
 read-for-all-spec =
     tie.close
     (tie.spec
-    Inv-loop μ-loop loop-holds (λ c κs. room c) read-for-requires add-i loop-less loop-again add-result same-length returns)
+    Inv-loop μ-loop loop-holds (λ c κs. room c) read-for-requires add-i loop-less loop-again slice-read-marks add-marks
+    slice-write-marks add-result same-length (λ c. search needs) returns)

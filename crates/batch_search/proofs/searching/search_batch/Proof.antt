@@ -42,7 +42,10 @@ search-marks-requires c κs =
       record {
         bests-long = omega (arith, s .pre .0 .few, length-replicate {A = ℕ} 32 0);
         marks-long = omega (arith, few s, length-replicate {A = ℕ} 8192 0);
-        counted = marked-none blank (nodeCount (given s)) (no-mark s);
+        counted = record {
+          once = λ j h. omega (arith, no-mark s j h);
+          as-many = marked-none blank (nodeCount (given s)) (no-mark s);
+        };
       },
       s .pre .1,
     )

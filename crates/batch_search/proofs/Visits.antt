@@ -13,10 +13,10 @@ use Rattle.dstree.specs.Node.{Tree}
 use Rattle.dstree.specs.Matching.{LeafBound, readingOrder, readOn, Near, isAbove}
 use Rattle.dstree.specs.Batch.{bestAmong, readOnce, readFor}
 use Rattle.tables.specs.Tables.{Tables, nodeCount}
-use Rattle.tables.specs.View.{treeIn, tracesIn}
+use Rattle.tables.specs.View.{treeIn, shapeIn, tracesIn}
 use Rattle.reading.specs.Listed.{recordAt}
 use Rattle.best_first.proofs.Alike.{order-alike}
-use Rattle.leaf_order.specs.Waits.{shapeIn, Waits, remaining, Begun}
+use Rattle.leaf_order.specs.Waits.{Waits, remaining, Begun}
 use Rattle.leaf_order.specs.Handed.{isPast, Past, HandedLeaf}
 use Rattle.search.proofs.Facts.{shape-alike}
 use Rattle.search.proofs.Turns.{read-next, read-end}

@@ -6,25 +6,23 @@ use mathlib.Core.List.{List, [], _∷_, map}
 use Prim.Native.Nat.{ℕ, zero, suc, _+_, _*_, _-_, _≤_, _<_}
 use native.Mathlib.Omega.{arith}
 use lib.IntN.{ℤ}
-use lib.ListN.{length, length-map}
+use lib.ListN.{length}
 use lib.Dec.{eqb}
 use Rattle.integer.specs.Words.{if_then_else_, counting, lastOf}
-use Rattle.integer.proofs.Times.{counting-length}
-use Rattle.integer.proofs.Rows.{getD-table}
 use Rattle.dstree.specs.Measures.{Trace}
-use Rattle.dstree.specs.Node.{leaf, Node, node, Tree, goesLeft, nodeAt}
+use Rattle.dstree.specs.Node.{Node, Tree, goesLeft, nodeAt}
 use Rattle.dstree.specs.Adding.{nextNode, wayFrom, way}
 use Rattle.dstree.proofs.Change.{way-stops, way-goes, last-behind, way-alike}
 use Rattle.tables.specs.Layout.{kindPlace, segmentsPlace, firstPlace, rightPlace, recordPlaces}
 use Rattle.tables.specs.Tables.{Tables, traceCount, nodeCount, recordOf}
-use Rattle.tables.specs.View.{smallAt, testIn, kindIn, nodeIn, treeIn}
+use Rattle.tables.specs.View.{smallAt, testIn, kindIn, nodeIn, treeIn, shapeIn}
 use Rattle.tables.specs.Runs.{figureBy}
-use Rattle.tables.proofs.Views.{tree-size}
+use Rattle.tables.proofs.Views.{shape-size, shape-node, tree-size}
 use Rattle.tables.proofs.Frame.{with-length, record-other, record-length}
 use Rattle.insertion_memory.specs.Records.{widenRecord}
 use Rattle.insertion_memory.specs.Memory.{onRecord, widenedOn}
 use Rattle.insertion.specs.Widening.{Readable}
-use Rattle.insertion.specs.Way.{nextIn, orZero, nodesIn, wayIn, Descendable}
+use Rattle.insertion.specs.Way.{nextIn, orZero, wayIn, Descendable}
 use Rattle.insertion.proofs.Widened.{partly-all, partly-length}
 
 -- ---- the child by the kind
@@ -54,9 +52,6 @@ from-some : (o : Option ℕ) → (orZero o ≡ 0 → ⊥) → o ≡ some (orZero
 from-some none f = absurd (f refl)
 from-some (some c) f = refl
 
-nodes-size : (nodes : List ℤ) (count : ℕ) → length (nodesIn nodes count) ≡ count
-nodes-size nodes count = length-map (counting count 0) (λ j. nodeIn [] 0 (recordOf nodes j)) ∙ counting-length count 0
-
 -- ---- by the tree that the tables stand for: where a trace goes on, no leaf's list is looked at
 
 module _ (t : Tables) (x : Trace) where
@@ -74,15 +69,15 @@ module _ (t : Tables) (x : Trace) where
   list-same (i ∷ l) zero = kind-same (recordOf (t .nodes) i) (smallAt (recordOf (t .nodes) i) kindPlace)
   list-same (i ∷ l) (suc j) = list-same l j
 
-  pub next-same : (j : ℕ) → nextNode (nodeAt (nodesIn (t .nodes) (nodeCount t)) j .kind) x ≡ nextNode (nodeAt (treeIn t) j .kind) x
-  unfolding treeIn
+  pub next-same : (j : ℕ) → nextNode (nodeAt (shapeIn (t .nodes) (nodeCount t)) j .kind) x ≡ nextNode (nodeAt (treeIn t) j .kind) x
+  unfolding treeIn shapeIn
   next-same j = list-same (counting (nodeCount t) 0) j
 
   -- the nodes that code meets are those that document 01 says
   pub way-same : wayIn (t .nodes) (nodeCount t) x ≡ way (treeIn t) x
   way-same =
-      way-alike (nodesIn (t .nodes) (nodeCount t)) (treeIn t) x next-same (length (nodesIn (t .nodes) (nodeCount t))) 0
-      ∙ ap (λ (fuel : ℕ). wayFrom fuel (treeIn t) x 0) (nodes-size (t .nodes) (nodeCount t) ∙ sym (tree-size t))
+      way-alike (shapeIn (t .nodes) (nodeCount t)) (treeIn t) x next-same (length (shapeIn (t .nodes) (nodeCount t))) 0
+      ∙ ap (λ (fuel : ℕ). wayFrom fuel (treeIn t) x 0) (shape-size (t .nodes) (nodeCount t) ∙ sym (tree-size t))
 
 -- ---- going down
 
@@ -96,12 +91,12 @@ pub record GoingDown (nodes : List ℤ) (count : ℕ) (x : Trace) (now : List �
   pub same : (j : ℕ) → at ≤ j → j < count → recordOf now j ≡ recordOf nodes j
   pub fuel : ℕ
   pub enough : count ≤ fuel + at
-  pub left : widenedOn x now (wayFrom fuel (nodesIn nodes count) x at) ≡ widenedOn x nodes (wayIn nodes count x)
-  pub last : lastOf (wayFrom fuel (nodesIn nodes count) x at) ≡ lastOf (wayIn nodes count x)
+  pub left : widenedOn x now (wayFrom fuel (shapeIn nodes count) x at) ≡ widenedOn x nodes (wayIn nodes count x)
+  pub last : lastOf (wayFrom fuel (shapeIn nodes count) x at) ≡ lastOf (wayIn nodes count x)
 
 module _ {nodes : List ℤ} {count n : ℕ} (ok : Descendable nodes count n) (x : Trace) where
   abbrev tree : Tree
-  tree = nodesIn nodes count
+  tree = shapeIn nodes count
 
   pub going-starts : GoingDown nodes count x nodes 0
   going-starts = record {
@@ -109,17 +104,14 @@ module _ {nodes : List ℤ} {count n : ℕ} (ok : Descendable nodes count n) (x 
     same-length = refl;
     same = λ j a b. refl;
     fuel = length tree;
-    enough = omega (arith, nodes-size nodes count);
+    enough = omega (arith, shape-size nodes count);
     left = refl;
     last = refl;
   }
 
   next-at : (at : ℕ) → at < count → nextNode (nodeAt tree at .kind) x ≡ nextIn (recordOf nodes at) x
   unfolding nodeIn
-  next-at at h =
-      let e : 0 + at ≡ at = omega arith in
-      ap (λ (a : Node). nextNode (a .kind) x) (getD-table (λ j. nodeIn [] 0 (recordOf nodes j)) count 0 at (node [] (leaf [])) h)
-      ∙ ap (λ (j : ℕ). nextIn (recordOf nodes j) x) e
+  next-at at h = ap (λ (a : Node). nextNode (a .kind) x) (shape-node nodes count at h)
 
   module _ {now : List ℤ} {at : ℕ} (g : GoingDown nodes count x now at) where
     pub fits : at * recordPlaces + recordPlaces ≤ length now

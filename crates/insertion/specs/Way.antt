@@ -3,17 +3,16 @@
 use Prim.Native.Nat.{ℕ, _*_, _≤_, _<_}
 use mathlib.Core.Path.{_≡_}
 use mathlib.Core.Option.{Option, none, some}
-use mathlib.Core.List.{List, [], map}
+use mathlib.Core.List.{List, []}
 use lib.IntN.{ℤ}
 use lib.ListN.{length}
 use lib.Dec.{eqb}
-use Rattle.integer.specs.Words.{counting}
 use Rattle.dstree.specs.Measures.{Trace, mostSamples, mostNodes}
-use Rattle.dstree.specs.Node.{Figure, Tree, nodeAt}
+use Rattle.dstree.specs.Node.{Figure, nodeAt}
 use Rattle.dstree.specs.Adding.{nextNode, way}
 use Rattle.tables.specs.Layout.{kindPlace, runFirstPlace, runLastPlace, recordPlaces}
 use Rattle.tables.specs.Tables.{recordOf}
-use Rattle.tables.specs.View.{smallAt, kindIn, nodeIn}
+use Rattle.tables.specs.View.{smallAt, kindIn, shapeIn}
 use Rattle.tables.specs.Runs.{figureBy, Inside}
 use Rattle.insertion.specs.Widening.{Readable}
 
@@ -30,12 +29,9 @@ abbrev pub orZero : Option ℕ → ℕ
 orZero none = 0
 orZero (some child) = child
 
--- the nodes that the first records have, and those of them that a trace meets
-abbrev pub nodesIn : List ℤ → ℕ → Tree
-nodesIn nodes count = map (λ j. nodeIn [] 0 (recordOf nodes j)) (counting count 0)
-
+-- the nodes that a trace meets
 abbrev pub wayIn : List ℤ → ℕ → Trace → List ℕ
-wayIn nodes count x = way (nodesIn nodes count) x
+wayIn nodes count x = way (shapeIn nodes count) x
 
 -- ---- what has to hold so that code can go down
 
@@ -54,4 +50,4 @@ pub record Descendable (nodes : List ℤ) (count n : ℕ) : Type 0 where
   pub kind : (j : ℕ) → j < count → smallAt (recordOf nodes j) kindPlace ≤ 2
   pub test : (j : ℕ) → j < count → 1 ≤ smallAt (recordOf nodes j) kindPlace → TestReadable (recordOf nodes j) n
   -- "inner children numbered above their parent", and so the node that a trace goes to
-  pub child : (x : Trace) (p c : ℕ) → nextNode (nodeAt (nodesIn nodes count) p .kind) x ≡ some c → (p < c) × (c < count)
+  pub child : (x : Trace) (p c : ℕ) → nextNode (nodeAt (shapeIn nodes count) p .kind) x ≡ some c → (p < c) × (c < count)

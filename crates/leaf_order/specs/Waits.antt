@@ -1,10 +1,9 @@
 -- Keys that wait in search work, and the leaves that they stand for: those still to come, in the order of reading.
 use Prim.Native.Nat.{ℕ, _+_, _*_, _≤_, _<_}
 use mathlib.Core.Path.{_≡_}
-use mathlib.Core.List.{List, [], map}
+use mathlib.Core.List.{List, map}
 use lib.IntN.{ℤ}
 use lib.ListN.{length, take}
-use Rattle.integer.specs.Words.{counting}
 use Rattle.heap.specs.Keys.{sortedOf}
 use Rattle.heap.specs.Heap.{IsHeap, Pushed, Sunk}
 use Rattle.dstree.specs.Measures.{Trace}
@@ -12,17 +11,13 @@ use Rattle.dstree.specs.Node.{Tree}
 use Rattle.dstree.specs.Matching.{LeafBound, readingOrder}
 use Rattle.tables.specs.Layout.{kindPlace, firstPlace, rightPlace, recordPlaces}
 use Rattle.tables.specs.Tables.{recordOf}
-use Rattle.tables.specs.View.{smallAt, nodeIn}
+use Rattle.tables.specs.View.{smallAt, shapeIn}
 use Rattle.query.specs.Bounded.{Bounded}
 use Rattle.best_first.specs.NodeKeys.{keyLeaf, childKey}
 use Rattle.best_first.specs.Branching.{Branching}
 use Rattle.best_first.specs.Waiting.{toCome, nodesWaiting, Keyed}
 
 -- ---- records
-
--- the tree of the first m records. What a leaf holds does not bear on the order of reading, so that no links are asked for
-unfoldable pub shapeIn : List ℤ → ℕ → Tree
-shapeIn nodes m = map (λ j. nodeIn [] 0 (recordOf nodes j)) (counting m 0)
 
 -- records that a search may go through
 pub record Walkable (nodes : List ℤ) (m : ℕ) (query : Trace) : Type 0 where

@@ -9,10 +9,10 @@ ghost use lib.ListN.{length, getD};
 ghost use Rattle.heap.specs.Heap.{IsHeap};
 ghost use Rattle.tables.specs.Layout.{kindPlace};
 ghost use Rattle.tables.specs.Tables.{recordOf};
-ghost use Rattle.tables.specs.View.{smallAt};
+ghost use Rattle.tables.specs.View.{smallAt, shapeIn};
 ghost use Rattle.prefixes.specs.Prefixes.{Prefixes};
 ghost use Rattle.best_first.specs.NodeKeys.{keyOf, boundsBelow};
-ghost use Rattle.leaf_order.specs.Waits.{shapeIn, Walkable, Waits, Begun, ChildrenPushed};
+ghost use Rattle.leaf_order.specs.Waits.{Walkable, Waits, Begun, ChildrenPushed};
 ghost use Rattle.leaf_order.specs.Handed.{Handed};
 
 // The next leaf: its bound, its number, and how many keys wait then. Or the end: no leaf comes whose bound is within the limit, and so many

@@ -17,7 +17,7 @@ use Rattle.dstree.proofs.Formed.{Formed, well-formed}
 use Rattle.dstree.proofs.Nodes.{nodes-at-most}
 use Rattle.tables.specs.Layout.{kindPlace, firstPlace, recordPlaces}
 use Rattle.tables.specs.Tables.{Tables, measuresOf, traceCount, nodeCount, recordOf}
-use Rattle.tables.specs.View.{smallAt, numbersFrom, kindIn, nodeIn, treeIn}
+use Rattle.tables.specs.View.{smallAt, numbersFrom, kindIn, nodeIn, treeIn, shapeIn}
 use Rattle.tables.specs.Judge.{InRange}
 use Rattle.tables.specs.Walk.{numbersOf, Stored}
 use Rattle.tables.proofs.Views.{tree-size, tree-numbers, tree-formed, measures-fit, kind-named}
@@ -28,7 +28,7 @@ use Rattle.reading.proofs.Meaning.{LeafInTables}
 use Rattle.best_first.specs.Branching.{Branching}
 use Rattle.best_first.proofs.Branching.{branching}
 use Rattle.best_first.proofs.Alike.{AlikeKind, both-leaves, same-inner, Alike, alike-none, alike-more, branching-alike}
-use Rattle.leaf_order.specs.Waits.{shapeIn, Walkable}
+use Rattle.leaf_order.specs.Waits.{Walkable}
 use Rattle.search.specs.Searched.{Ready}
 
 -- by its kind field, a node is a leaf or an inner one whatever the links are

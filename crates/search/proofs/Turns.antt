@@ -21,14 +21,14 @@ use Rattle.dstree.proofs.Reading.{reading-length}
 use Rattle.dstree.proofs.Ranks.{linear}
 use Rattle.tables.specs.Layout.{firstPlace}
 use Rattle.tables.specs.Tables.{Tables, measuresOf, traceCount, nodeCount, recordOf}
-use Rattle.tables.specs.View.{smallAt, treeIn, tracesIn}
+use Rattle.tables.specs.View.{smallAt, treeIn, shapeIn, tracesIn}
 use Rattle.tables.specs.Walk.{numbersOf, Stored}
 use Rattle.reading.specs.Nearest.{near, nearOf}
 use Rattle.reading.specs.Listed.{recordAt, nearsIn, ListRoom, ListBegins}
 use Rattle.reading.proofs.Records.{nears-length, nears-none, nears-at}
 use Rattle.reading.proofs.Meaning.{LeafInTables, answer-is}
 use Rattle.best_first.proofs.Alike.{order-alike}
-use Rattle.leaf_order.specs.Waits.{shapeIn, Waits, remaining, Begun}
+use Rattle.leaf_order.specs.Waits.{Waits, remaining, Begun}
 use Rattle.leaf_order.specs.Handed.{isPast, Past, HandedLeaf}
 use Rattle.search.specs.Searched.{Ready, listingBy, Visited}
 use Rattle.search.proofs.Facts.{shape-alike}

@@ -20,7 +20,7 @@ use Rattle.dstree.specs.WellFormed as abstract
 use Rattle.dstree.proofs.Formed.{Formed, formed}
 use Rattle.tables.specs.Layout.{kindPlace, segmentsPlace, firstPlace, segmentAt}
 use Rattle.tables.specs.Tables.{Tables, measuresOf, traceCount, nodeCount, recordOf}
-use Rattle.tables.specs.View.{smallAt, segmentIn, segmentsIn, kindIn, nodeIn, treeIn, traceIn, tracesIn, kindsNamed, wellFormed}
+use Rattle.tables.specs.View.{smallAt, segmentIn, segmentsIn, kindIn, nodeIn, treeIn, shapeIn, traceIn, tracesIn, kindsNamed, wellFormed}
 use Rattle.tables.specs.Judge.{InRange}
 use Rattle.tables.specs.Walk.{numbersOf}
 use Rattle.tables.proofs.Range.{in-range}
@@ -37,6 +37,19 @@ segments-length r = length-map (counting (smallAt r segmentsPlace) 0) (segmentIn
 
 pub ends-length : (r : List ℤ) → length (ends (segmentsIn r)) ≡ smallAt r segmentsPlace
 ends-length r = length-map (segmentsIn r) (λ (a : Segment). a .end) ∙ segments-length r
+
+-- the tree of the records alone
+module _ (nodes : List ℤ) (count : ℕ) where
+  abbrev bare : ℕ → Node
+  bare j = nodeIn [] 0 (recordOf nodes j)
+
+  pub shape-size : length (shapeIn nodes count) ≡ count
+  unfolding shapeIn
+  shape-size = length-map (counting count 0) bare ∙ counting-length count 0
+
+  pub shape-node : (j : ℕ) → j < count → nodeAt (shapeIn nodes count) j ≡ nodeIn [] 0 (recordOf nodes j)
+  unfolding shapeIn
+  shape-node j h = let e : 0 + j ≡ j = omega arith in getD-table bare count 0 j (node [] (leaf [])) h ∙ ap bare e
 
 module _ (t : Tables) where
   abbrev made : ℕ → Node

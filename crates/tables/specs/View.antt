@@ -81,6 +81,10 @@ nodeIn links count r = node (segmentsIn r) (kindIn links count r (smallAt r kind
 unfoldable pub treeIn : Tables → Tree
 treeIn t = map (λ j. nodeIn (t .links) (traceCount t) (recordOf (t .nodes) j)) (counting (nodeCount t) 0)
 
+-- the tree of the first records alone, no leaf with its list: neither the way down nor the order of reading depends on what leaves hold
+unfoldable pub shapeIn : List ℤ → ℕ → Tree
+shapeIn nodes count = map (λ j. nodeIn [] 0 (recordOf nodes j)) (counting count 0)
+
 -- trace i from i × n on
 unfoldable pub traceIn : List ℤ → ℕ → ℕ → Trace
 traceIn samples n i = take n (drop (i * n) samples)

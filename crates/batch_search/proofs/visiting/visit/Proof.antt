@@ -12,12 +12,13 @@ use Rattle.dstree.specs.Measures.{Trace}
 use Rattle.dstree.specs.Node.{Tree}
 use Rattle.dstree.specs.Matching.{leaves}
 use Rattle.tables.specs.Tables.{Tables, measuresOf, nodeCount}
-use Rattle.tables.specs.View.{treeIn, traceIn}
+use Rattle.tables.specs.View.{treeIn, shapeIn, traceIn}
+use Rattle.tables.proofs.Views.{shape-size}
 use Rattle.reading.specs.Listed.{recordAt}
-use Rattle.leaf_order.specs.Waits.{shapeIn, Walkable, Begun, remaining}
+use Rattle.leaf_order.specs.Waits.{Walkable, Begun, remaining}
 use Rattle.leaf_order.specs.Handed.{HandedLeaf, Handed}
 use Rattle.leaf_order.specs.declared.leaves.Next.{Next}
-use Rattle.leaf_order.proofs.Records.{leaf-kind, shape-length}
+use Rattle.leaf_order.proofs.Records.{leaf-kind}
 use Rattle.search.specs.Searched.{withoutWork, Ready}
 use Rattle.search.proofs.Facts.{walkable}
 use Rattle.batch_search.specs.Batched.{queryAt}
@@ -195,7 +196,7 @@ module _ (c : tie.After-known-told Inv-loop μ-loop) where
   leaf = subst (Answers call) (c .before .next .given .1) (handed call)
 
   inside : number < nodes (from call)
-  inside = omega (arith, leaf .inside, shape-length (given (from call) .nodes) (nodes (from call)))
+  inside = omega (arith, leaf .inside, shape-size (given (from call) .nodes) (nodes (from call)))
 
 read-once-requires : tie.Need-read-once-requires Inv-loop μ-loop
 read-once-requires c κs =

@@ -7,8 +7,9 @@ use lib.ListN.{length}
 use denote.Ref.{now}
 use Rattle.heap.specs.Heap.{Pushed}
 use Rattle.best_first.specs.NodeKeys.{firstKey}
-use Rattle.leaf_order.specs.Waits.{shapeIn}
-use Rattle.leaf_order.proofs.Records.{shape-length, key-is, some-node}
+use Rattle.tables.specs.View.{shapeIn}
+use Rattle.tables.proofs.Views.{shape-size}
+use Rattle.leaf_order.proofs.Records.{key-is, some-node}
 use Rattle.leaf_order.proofs.Turns.{begun}
 use Rattle.leaf_order.proofs.leaves.begin.Statement.{statement}
 use Rattle.leaf_order.proofs.leaves.begin.Tie as tie
@@ -36,7 +37,7 @@ returns c =
     let h = some-node nodes m query (s .pre .0) in
     let e = k .node-key .ensures ∙ key-is nodes m query 0 0 h in
     let first : Pushed 0 (firstKey (shapeIn nodes m) query) (now (s .args .work)) (p .push .last .0) = rw (← e) (p .push .ensures) in
-    begun (shapeIn nodes m) (s .pre .0 .branching) query (now (s .args .work)) (p .push .last .0) (shape-length nodes m ∙ sym (p .push .kept .0)) first
+    begun (shapeIn nodes m) (s .pre .0 .branching) query (now (s .args .work)) (p .push .last .0) (shape-size nodes m ∙ sym (p .push .kept .0)) first
 
 pub begin-spec : {M : Type 1} → statement M
 begin-spec =

@@ -12,12 +12,13 @@ use Rattle.heap.proofs.Popping.{least-at}
 use Rattle.dstree.specs.Node.{Tree}
 use Rattle.tables.specs.Layout.{kindPlace}
 use Rattle.tables.specs.Tables.{recordOf}
-use Rattle.tables.specs.View.{smallAt}
+use Rattle.tables.specs.View.{smallAt, shapeIn}
+use Rattle.tables.proofs.Views.{shape-size}
 use Rattle.best_first.specs.NodeKeys.{keyBound, keyNumber}
 use Rattle.best_first.specs.Waiting.{nodesWaiting}
-use Rattle.leaf_order.specs.Waits.{shapeIn, Walkable, keysIn, Waits, remaining, ChildrenPushed}
+use Rattle.leaf_order.specs.Waits.{Walkable, keysIn, Waits, remaining, ChildrenPushed}
 use Rattle.leaf_order.specs.Handed.{Past, Handed}
-use Rattle.leaf_order.proofs.Records.{InnerAt, shape-length, is-leaf, number-fits, inner-at}
+use Rattle.leaf_order.proofs.Records.{InnerAt, is-leaf, number-fits, inner-at}
 use Rattle.leaf_order.proofs.Turns.{none-remain, least-number, least-past, KeyTaken, same-least, took-leaf}
 use Rattle.leaf_order.proofs.Turns.{inner-room, inner-less, inner-waits, inner-same}
 use Rattle.leaf_order.proofs.leaves.next_leaf.Statement.{statement}
@@ -97,7 +98,7 @@ module _ (a : tie.After-least Inv-loop μ-loop) where
   number-in =
       omega (
         arith,
-        least-number waits (a .least .ensures .keys) (walkable from .branching) (shape-length (nodes from) (places from) ∙ sym long),
+        least-number waits (a .least .ensures .keys) (walkable from .branching) (shape-size (nodes from) (places from) ∙ sym long),
         long,
       )
 
@@ -182,7 +183,7 @@ add-n : tie.Need-add-n Inv-loop μ-loop
 add-n c =
     let e = c .before .before .before .before in
     let s = from (top e) in
-    omega (arith, more e, walkable s .branching .few, shape-length (nodes s) (places s))
+    omega (arith, more e, walkable s .branching .few, shape-size (nodes s) (places s))
 
 -- both keys are in
 module _ (o : tie.After-open-node Inv-loop μ-loop) where

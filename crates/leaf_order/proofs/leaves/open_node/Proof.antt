@@ -7,9 +7,9 @@ use lib.ListN.{length}
 use denote.Ref.{now}
 use Rattle.tables.specs.Layout.{firstPlace, rightPlace}
 use Rattle.tables.specs.Tables.{recordOf}
-use Rattle.tables.specs.View.{smallAt}
+use Rattle.tables.specs.View.{smallAt, shapeIn}
 use Rattle.best_first.specs.NodeKeys.{childKey}
-use Rattle.leaf_order.specs.Waits.{shapeIn, Walkable}
+use Rattle.leaf_order.specs.Waits.{Walkable}
 use Rattle.leaf_order.proofs.Records.{key-is, number-fits, left-in, right-in, right-over}
 use Rattle.leaf_order.proofs.leaves.open_node.Statement.{statement}
 use Rattle.leaf_order.proofs.leaves.open_node.Tie as tie

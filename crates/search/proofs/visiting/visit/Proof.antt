@@ -13,10 +13,12 @@ use Rattle.dstree.specs.Node.{Tree}
 use Rattle.tables.specs.Tables.{Tables, traceCount, nodeCount}
 use Rattle.reading.specs.Listed.{recordAt}
 use Rattle.reading.proofs.Meaning.{LeafInTables}
-use Rattle.leaf_order.specs.Waits.{shapeIn, Walkable, Begun, remaining}
+use Rattle.tables.specs.View.{shapeIn}
+use Rattle.tables.proofs.Views.{shape-size}
+use Rattle.leaf_order.specs.Waits.{Walkable, Begun, remaining}
 use Rattle.leaf_order.specs.Handed.{HandedLeaf, Handed}
 use Rattle.leaf_order.specs.declared.leaves.Next.{Next}
-use Rattle.leaf_order.proofs.Records.{number-fits, leaf-kind, shape-length}
+use Rattle.leaf_order.proofs.Records.{number-fits, leaf-kind}
 use Rattle.search.specs.Searched.{withoutWork, Ready}
 use Rattle.search.proofs.Facts.{walkable, leaf-at, leaves-few}
 use Rattle.search.proofs.Turns.{SearchState, state-start, out-most, state-end, stored-as, leaf-room, leaf-less, state-leaf}
@@ -179,7 +181,7 @@ module _ (c : tie.After-known-told Inv-loop μ-loop) where
   leaf = subst (Answers call) (c .before .next .given .1) (handed call)
 
   inside : number < nodes start
-  inside = omega (arith, leaf .inside, shape-length (lent .nodes) (nodes start))
+  inside = omega (arith, leaf .inside, shape-size (lent .nodes) (nodes start))
 
   fits : number ≤ 8191
   fits = number-fits (lent .nodes) (nodes start) (query start) (walks start) number inside

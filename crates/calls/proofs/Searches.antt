@@ -49,7 +49,8 @@ some-of k e = strict (omega arith) (λ q. eqb-false k 0 e (sym q))
 
 -- ---- a match
 
-seen-is : (s : Search) (best : Option Near) (m : Match) → matchFrom s best ≡ some m → matchSeen s best ≡ m
+-- what the steps end with is the match that they give
+pub seen-is : (s : Search) (best : Option Near) (m : Match) → matchFrom s best ≡ some m → matchSeen s best ≡ m
 unfolding matchFrom nearOrZero
 seen-is s (some a) m e = cc
 seen-is s none m e = let z : _≡_ {A = ℕ} 0 1 = cc in absurd (omega arith)

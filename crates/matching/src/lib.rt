@@ -51,12 +51,9 @@ pub fn nearest(
                 work,
                 trail,
             );
-            if !seen.best.found {
-                return Found::Refused(Refusal::Empty);
-            }
             Found::At(
-                seen.best.trace,
-                seen.best.distance,
+                seen.trace,
+                seen.distance,
                 seen.out as u64,
                 seen.traces as u64,
             )

@@ -1,4 +1,3 @@
 // Reading a leaf: the distances of its traces, and the nearest of them so far.
-pub mod best;
 pub mod leaf;
 pub mod list;

@@ -1,5 +1,4 @@
 // The whole search: the query's sums, the loop, and search work left zero. The match is the one nearest.
-use reading::best::Best;
 use tables::control::field;
 use tables::places::CAPACITY;
 use tables::places::NODE_COUNT;
@@ -7,7 +6,6 @@ ghost use Prim.Native.Nat.{_*_, _≤_};
 ghost use lib.ListN.{length};
 ghost use Rattle.dstree.specs.Measures.{workNeeded};
 ghost use Rattle.tables.specs.Tables.{measuresOf};
-ghost use Rattle.reading.specs.Nearest.{nearBy};
 ghost use Rattle.search.specs.Searched.{withoutWork, Ready, ListSearched, Searched};
 
 // Lists the k nearest: two places a record, trace number and distance, from the list's first place on; the places behind them stay. The
@@ -53,14 +51,16 @@ pub fn search_list(
     seen
 }
 
-// The nearest trace, the leaves read, which the trail begins with, and the traces read.
+// The nearest trace and its distance, the leaves read, which the trail begins with, and the traces read.
 pub struct Matched {
-    pub best: Best,
+    pub trace: u64,
+    pub distance: u64,
     pub out: usize,
     pub traces: usize,
 }
 
-// The match: one nearest, in a list of its own.
+// The match: one nearest, in a list of its own. Where nothing is found the list keeps its zeros, as the definition has it; no test is
+// needed.
 pub fn search_all(
     control: &[u16],
     samples: &[i16],
@@ -73,8 +73,8 @@ pub fn search_all(
     requires { ⌜ Ready (withoutWork (now control) (now samples) (now nodes) (now links)) (now query) (length (now trail))
         × (workNeeded (measuresOf (withoutWork (now control) (now samples) (now nodes) (now links))) ≤ length (now work)) ⌝ }
     ensures { λ r. ⌜ Searched (withoutWork (now (control .entry)) (now (samples .entry)) (now (nodes .entry)) (now (links .entry)))
-        (now (query .entry)) (now (work .entry)) (now (work .exit)) (now (trail .entry)) (now (trail .exit)) (nearBy (r .best)) (r .out)
-        (r .traces) ⌝ }
+        (now (query .entry)) (now (work .entry)) (now (work .exit)) (now (trail .entry)) (now (trail .exit)) (r .trace) (r .distance)
+        (r .out) (r .traces) ⌝ }
 {
     let mut list: [u64; 2] = [0; 2];
     let seen = search_list(
@@ -89,11 +89,8 @@ pub fn search_all(
         1,
     );
     Matched {
-        best: Best {
-            found: seen.listed == 1,
-            trace: list[0],
-            distance: list[1],
-        },
+        trace: list[0],
+        distance: list[1],
         out: seen.out,
         traces: seen.traces,
     }

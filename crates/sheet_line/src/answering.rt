@@ -5,7 +5,6 @@ use opening::put_empty;
 use sheet_judging::contents::head_of;
 use sheet_judging::traces::read_trace;
 use sheet_reading::loading::load;
-use tables::Refusal;
 ghost use mathlib.Core.Path.{_≡_};
 ghost use mathlib.Core.List.{[]};
 ghost use mathlib.Core.Option.{none};
@@ -42,12 +41,9 @@ fn match_query(
 {
     read_trace(sheet, last, query);
     let seen = search::searching::search_all(control, samples, nodes, links, query, work, trail);
-    if !seen.best.found {
-        return Found::Refused(Refusal::Empty);
-    }
     Found::At(
-        seen.best.trace,
-        seen.best.distance,
+        seen.trace,
+        seen.distance,
         seen.out as u64,
         seen.traces as u64,
     )

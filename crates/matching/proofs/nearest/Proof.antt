@@ -2,26 +2,20 @@
 -- searched.
 use Prim.Native.Nat.{ℕ}
 use mathlib.Core.Path.{_≡_, sym, ap, _∙_}
-use mathlib.Core.Bool.{true}
 use mathlib.Core.Option.{none}
 use mathlib.Core.List.{List, [], _∷_}
 use denote.Ref.{now}
 use borrow.Author.Needs.{needs}
-use borrow.Author.Tests.{not-true}
-use Rattle.integer.proofs.Tests.{never-both}
 use Rattle.dstree.specs.Refusals.{firstOf}
 use Rattle.dstree.specs.Book.{besideOf}
-use Rattle.dstree.specs.Matching.{searched}
 use Rattle.tables.specs.Tables.{Tables, tables}
-use Rattle.tables.specs.View.{treeIn, tracesIn}
 use Rattle.tables.specs.Answers.{foundBy}
 use Rattle.calls.specs.Effects.{matches, effectOf, outcomeOn}
 use Rattle.calls.proofs.Ends.{ends-refused}
-use Rattle.calls.proofs.Finds.{Some, found}
 use Rattle.query_judging.proofs.Taken.{QueryAccepted}
 use Rattle.matching.specs.Answered.{answerBy}
 use Rattle.matching.proofs.Conditions.{may-search}
-use Rattle.matching.proofs.Answers.{found-one, found-answer}
+use Rattle.matching.proofs.Answers.{found-answer}
 use Rattle.matching.proofs.nearest.Statement.{statement}
 use Rattle.matching.proofs.nearest.Tie as tie
 
@@ -44,13 +38,10 @@ module _ (e : tie.After-enum-told) where
   may : QueryAccepted (lentTables s) (now (s .args .query)) (now (s .args .trail))
   may = may-search (lentTables s) (now (s .args .query)) (now (s .args .trail)) nothing
 
-  finds : Some (searched (tracesIn (lentTables s)) (treeIn (lentTables s)) (now (s .args .query)) .best)
-  finds = found (lentTables s) (now (s .args .query)) (now (s .args .trail)) nothing
-
 search-all-requires : tie.Need-search-all-requires
 search-all-requires c κs = let m = may (c .before .before) in (m .ready, m .work-room)
 
--- the search, and that it found a trace
+-- what the search leaves
 module _ (q : tie.After-search-all) where
   abbrev workAfter : List ℕ
   workAfter = q .search-all .last .1 .1 .1 .1 .1 .0
@@ -58,47 +49,27 @@ module _ (q : tie.After-search-all) where
   abbrev trailAfter : List ℕ
   trailAfter = q .search-all .last .1 .1 .1 .1 .1 .1 .0
 
-  one : q .search-all .result .best .found ≡ true
-  one =
-      let e = q .before .before .before in
-      let a = s e .args in
-      let r = q .search-all .result in
-      found-one (now (a .control)) (now (a .samples)) (now (a .nodes)) (now (a .links)) (now (a .work)) (now (a .query)) (now (a .trail))
-      workAfter trailAfter (r .best) (r .out) (r .traces) (q .search-all .kept .1 .1 .1 .1 .1 .1 .0) (q .search-all .ensures) (finds e)
-
-same-length : tie.Need-same-length
-same-length c = c .before .before .before .before .before .before .search-all .kept .1 .1 .1 .1 .1 .0
-
-same-length-2 : tie.Need-same-length-2
-same-length-2 c = c .before .before .before .before .before .before .search-all .kept .1 .1 .1 .1 .1 .1 .0
-
 returns : tie.Need-returns
-returns c =
-    let q = c .before .before .before .before .before .before in
-    let r = q .search-all .result in
-    never-both (one q) (not-true (r .best .found) (c .if1 .taken))
-
-returns-2 : tie.Need-returns-2
 unfolding answerBy outcomeOn effectOf besideOf
-returns-2 c =
+returns c =
     let j = c .before .before .before in
     let t = lentTables (start j) in
     let a = start j .args in
     ends-refused t (now (a .trail) ∷ []) (matches t (now (a .query)) (now (a .trail))) _ (sym (j .judge .ensures) ∙ ap foundBy (c .before .verdict .given .1))
 
-returns-3 : tie.Need-returns-3
-returns-3 c =
-    let q = c .before .before .before .before .before .before in
+returns-2 : tie.Need-returns-2
+returns-2 c =
+    let q = c .before .before .before .before in
     let e = q .before .before .before in
     let a = s e .args in
     let r = q .search-all .result in
     found-answer (now (a .control)) (now (a .samples)) (now (a .nodes)) (now (a .links)) (now (a .work)) (now (a .query)) (now (a .trail))
-    (workAfter q) (trailAfter q) (r .best) (r .out) (r .traces) (q .search-all .kept .1 .1 .1 .1 .1 .1 .0) (q .search-all .ensures)
-    (one q) (nothing e)
+    (workAfter q) (trailAfter q) (r .trace) (r .distance) (r .out) (r .traces) (q .search-all .kept .1 .1 .1 .1 .1 .1 .0)
+    (q .search-all .ensures) (nothing e)
 
 pub nearest-spec : {M : Type 1} → statement M
 nearest-spec =
     tie.close
     (tie.spec
-    (λ c κs. tt) (λ c. search needs) (λ c. search needs) search-all-requires same-length same-length-2 returns (λ c. search needs)
-    (λ c. search needs) returns-2 (λ c. search needs) (λ c. search needs) returns-3)
+    (λ c κs. tt) (λ c. search needs) (λ c. search needs) search-all-requires (λ c. search needs) (λ c. search needs) returns
+    (λ c. search needs) (λ c. search needs) returns-2)

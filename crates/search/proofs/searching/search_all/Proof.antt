@@ -14,18 +14,18 @@ search-list-requires c κs =
 
 returns : tie.Need-returns
 returns c =
-    let q = c .before .before .before .before .before .before in
+    let q = c .before .before .before .before .before in
     let a = q .before .before .before .before .before .before .before .before .args in
     let l = q .search-list in
     one-found (withoutWork (now (a .control)) (now (a .samples)) (now (a .nodes)) (now (a .links))) (now (a .query)) (now (a .work))
-    (l .last .1 .1 .1 .1 .1 .0) (now (a .trail)) (l .last .1 .1 .1 .1 .1 .1 .0) _ (l .last .1 .1 .1 .1 .1 .1 .1 .0)
-    (l .result .listed) (l .result .out) (l .result .traces) (l .ensures)
+    (l .last .1 .1 .1 .1 .1 .0) (now (a .trail)) (l .last .1 .1 .1 .1 .1 .1 .0) (l .last .1 .1 .1 .1 .1 .1 .1 .0)
+    (l .result .listed) (l .result .out) (l .result .traces) (l .kept .1 .1 .1 .1 .1 .1 .0) (l .ensures)
 
 pub search-all-spec : {M : Type 1} → statement M
 search-all-spec =
     tie.close
     (tie.spec
     (λ c. search needs) search-list-requires (λ c. search needs) (λ c. search needs)
-    (λ c. c .before .before .before .before .before .before .search-list .kept .1 .1 .1 .1 .1 .0)
-    (λ c. c .before .before .before .before .before .before .search-list .kept .1 .1 .1 .1 .1 .1 .0)
+    (λ c. c .before .before .before .before .before .search-list .kept .1 .1 .1 .1 .1 .0)
+    (λ c. c .before .before .before .before .before .search-list .kept .1 .1 .1 .1 .1 .1 .0)
     returns)

@@ -10,7 +10,6 @@ use lib.Seq.{length-take-le}
 use lib.Dec.{T}
 use denote.Ref.{now}
 use borrow.Author.Needs.{needs}
-use borrow.Author.Tests.{not-true, not-false}
 use Rattle.dstree.specs.Measures.{Trace, sampleLimit, isLibrary, recordsNeeded, workNeeded}
 use Rattle.dstree.specs.Refusals.{firstOf}
 use Rattle.dstree.specs.Sheet.{areBytes, sheetConditions}
@@ -23,7 +22,7 @@ use Rattle.dstree.proofs.SheetFields.{known-bytes}
 use Rattle.sheet_reading.proofs.Library.{traces-count, first-library, trace-size}
 use Rattle.sheet_line.specs.Stored.{most}
 use Rattle.sheet_line.proofs.Judged.{sound, capacity-small, two-traces}
-use Rattle.sheet_line.proofs.Matched.{ready, found-line, none-line}
+use Rattle.sheet_line.proofs.Matched.{ready, found-line}
 use Rattle.sheet_line.proofs.answering.match_query.Statement.{statement}
 use Rattle.sheet_line.proofs.answering.match_query.Tie as tie
 
@@ -97,29 +96,17 @@ search-all-requires c κs =
 
 returns : tie.Need-returns
 returns c =
-    let q = c .before .before .before .before .before .before in
+    let q = c .before .before .before .before in
     let r = q .before .before .before .before .before in
     let k = at r in
     let s = q .search-all in
     let found = s .result in
-    none-line (lent k) (said (bytes k)) (earlier k) (query r) (start k .pre .0 .earlier) (library k) (one k) (query-size r) (found .best) (found .out) (found .traces) (s .last .1 .1 .1 .1 .1 .1 .0)
-    (omega (arith, s .ensures .within, s .kept .1 .1 .1 .1 .1 .1 .0)) (s .ensures .found) (not-true (found .best .found) (c .if1 .taken))
-    ∙ ap (lineOf (said (bytes k)) (earlier k)) (query-is r)
-
-returns-2 : tie.Need-returns-2
-returns-2 c =
-    let q = c .before .before .before .before .before .before in
-    let r = q .before .before .before .before .before in
-    let k = at r in
-    let s = q .search-all in
-    let found = s .result in
-    found-line (lent k) (said (bytes k)) (earlier k) (query r) (start k .pre .0 .earlier) (library k) (one k) (query-size r) (found .best) (found .out) (found .traces) (s .last .1 .1 .1 .1 .1 .1 .0)
-    (omega (arith, s .ensures .within, s .kept .1 .1 .1 .1 .1 .1 .0)) (s .ensures .found) (not-false (found .best .found) (c .if1 .left))
+    found-line (lent k) (said (bytes k)) (earlier k) (query r) (start k .pre .0 .earlier) (library k) (one k) (query-size r)
+    (found .trace) (found .distance) (found .out) (found .traces) (s .last .1 .1 .1 .1 .1 .1 .0) (s .ensures .found)
     ∙ ap (lineOf (said (bytes k)) (earlier k)) (query-is r)
 
 pub match-query-spec : {M : Type 1} → statement M
 match-query-spec =
     tie.close
     (tie.spec
-    read-trace-requires search-all-requires (λ c. search needs) (λ c. search needs) (λ c. search needs) returns (λ c. search needs)
-    (λ c. search needs) (λ c. search needs) returns-2)
+    read-trace-requires search-all-requires (λ c. search needs) (λ c. search needs) (λ c. search needs) returns)

@@ -1,17 +1,17 @@
 // The walk along a leaf by a candidate's test, document 02's §3: whether both sides are seen, and how many traces it takes.
 
+use candidate::parting::Look;
+use candidate::parting::look_along;
+use candidate::siding::Trial;
 use leaf_figures::lists::list_leaf;
 use leaf_figures::lists::place_list;
-use split_choice::choice::Trial;
-use split_choice::parting::Look;
-use split_choice::parting::look_along;
 ghost use mathlib.Core.Path.{_≡_};
 ghost use mathlib.Core.Bool.{false};
 ghost use mathlib.Core.List.{[], _∷_};
 ghost use lib.IntN.{pos};
 ghost use Rattle.tables.specs.Walk.{storedIn, numbersOf, Stored};
 ghost use Rattle.tables.specs.Runs.{testBy};
-ghost use Rattle.split_choice.specs.Parting.{lookOf};
+ghost use Rattle.candidate.specs.Parting.{lookOf};
 ghost use Rattle.examples.specs.Steps.{nineTraces, twinTraces};
 
 // The whole run of n samples, by its sum or by its scatter. No figures are kept: they are taken from the samples.

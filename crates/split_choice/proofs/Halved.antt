@@ -13,7 +13,7 @@ use Rattle.dstree.specs.Figures.{run}
 use Rattle.dstree.specs.Adding.{byEither, leftHalfEnd, halves}
 use Rattle.leaf_figures.specs.Ends.{endsOf, EndsRoom}
 use Rattle.leaf_figures.specs.declared.ends.Ends.{Ends}
-use Rattle.split_choice.specs.Choosing.{childEnds}
+use Rattle.candidate.specs.Trials.{childEnds}
 
 -- no more ends than places
 pub ends-count : (e : Ends) → EndsRoom e → length (endsOf e) ≡ e .count

@@ -1,8 +1,4 @@
--- A leaf's candidates as code tries them: sides, thresholds, cuts, and the best of those tried.
-pub mod Marked
-pub mod Sided
-pub mod Seen
-pub mod Threshold
+-- A leaf's candidates as code tries them: cuts, halves, and the best of those tried.
 pub mod Cuts
 pub mod Tried
 pub mod Halved

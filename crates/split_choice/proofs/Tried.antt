@@ -15,8 +15,9 @@ use Rattle.dstree.specs.Node.{figureOf}
 use Rattle.dstree.specs.Adding.{Candidate, candidates, candidatesFrom, byEither, halves, Split, thresholdOf, testOf, splitByTest, splitBy, parts, gain, bestOf, best, tracesOf}
 use Rattle.dstree.proofs.Parting.{parting}
 use Rattle.tables.specs.Runs.{figureBy, testBy}
-use Rattle.split_choice.specs.Choosing.{childEnds, candidateBy, splitOf, chosenBy, choiceOf, betterOf, betterSplit, tryOne, tried, TrialFits, ChoiceFound, ChoiceSound}
-use Rattle.split_choice.specs.declared.choice.Trial.{Trial}
+use Rattle.split_choice.specs.Choosing.{splitOf, chosenBy, choiceOf, betterOf, betterSplit, tryOne, tried, ChoiceFound, ChoiceSound}
+use Rattle.candidate.specs.Trials.{childEnds, candidateBy, TrialFits}
+use Rattle.candidate.specs.declared.siding.Trial.{Trial}
 use Rattle.split_choice.specs.declared.choice.Choice.{Choice}
 
 -- ---- all candidates tried

@@ -1,4 +1,5 @@
 // The candidate with the greatest gain.
+use candidate::siding::Trial;
 use leaf_figures::along::figures_along;
 use leaf_figures::ends::Ends;
 use leaf_figures::filling::fill_rows;
@@ -24,18 +25,11 @@ ghost use Rattle.tables.specs.Walk.{storedIn, numbersOf, Stored};
 ghost use Rattle.tables.specs.Runs.{Inside};
 ghost use Rattle.leaf_figures.specs.Ends.{endsOf, EndsRoom};
 ghost use Rattle.leaf_figures.specs.Rows.{TracesListed, Rows};
-ghost use Rattle.split_choice.specs.Choosing.{nothing, choiceOf, betterOf, trialBy, candidateBy, childEnds, chosenBy, chosenIn};
+ghost use Rattle.split_choice.specs.Choosing.{nothing, choiceOf, betterOf, chosenBy, chosenIn};
+ghost use Rattle.candidate.specs.Trials.{trialBy, candidateBy, childEnds};
 ghost use Rattle.split_choice.specs.Choosing.{ChoiceSound, ChoiceSoundIn};
-ghost use Rattle.split_choice.specs.Choosing.{After, TrialFits, Leaf, TrialExtremes};
-
-// A candidate: a run, its figure, and where the children's segments are cut, 0 for nowhere. Its column in the table of figures is a guess.
-pub struct Trial {
-    pub first: usize,
-    pub last: usize,
-    pub by_scatter: bool,
-    pub cut: usize,
-    pub column: usize,
-}
+ghost use Rattle.split_choice.specs.Choosing.{After};
+ghost use Rattle.candidate.specs.Trials.{TrialFits, Leaf, TrialExtremes};
 
 // The best candidate so far, if one parts the leaf.
 pub struct Choice {
@@ -110,7 +104,7 @@ fn try_one(
         (candidateBy (endsOf e) c ∷ []) r ⌝ }
     ensures room { λ _. ⌜ length (now (side .exit)) ≡ mostTraces ⌝ }
 {
-    let seen = crate::parting::look_at(
+    let seen = candidate::parting::look_at(
         samples,
         n,
         k,
@@ -126,7 +120,7 @@ fn try_one(
     );
     if seen.both {
         let threshold = low + high;
-        let g = crate::gains::gain_of(
+        let g = candidate::gains::gain_of(
             samples,
             n,
             k,

@@ -1,6 +1,2 @@
-// Which split a leaf takes: the sides of a candidate's test, whether both are seen, its gain, and the candidate with the greatest gain.
+// Which split a leaf takes: the candidate with the greatest gain, the earliest among equals.
 pub mod choice;
-pub mod gains;
-pub mod marking;
-pub mod parting;
-pub mod siding;

@@ -12,7 +12,7 @@ use Rattle.integer.proofs.Lists.{In, in-getD, from-those}
 use Rattle.tables.specs.Walk.{Rising, behindOf, numbersOf}
 use Rattle.leaf_figures.specs.Sides.{marked}
 use Rattle.tables.proofs.Listed.{metFrom, met-more, met-end, numbers-below}
-use Rattle.split_choice.proofs.Sided.{withOne}
+use Rattle.candidate.proofs.Sided.{withOne}
 use Rattle.insertion_memory.specs.Links.{linked}
 
 pub side-more : (links : List ℕ) (k : ℕ) → Rising links k → (marks : List ℕ) (mark t : ℕ) → t < k

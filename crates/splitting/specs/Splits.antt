@@ -16,7 +16,8 @@ use Rattle.tables.specs.View.{smallAt, segmentsIn}
 use Rattle.tables.specs.Walk.{storedIn, numbersOf, Stored}
 use Rattle.leaf_figures.specs.Ends.{endsOf, EndsRoom}
 use Rattle.leaf_figures.specs.declared.ends.Ends.{Ends}
-use Rattle.split_choice.specs.Choosing.{TrialFits, splitOf}
+use Rattle.split_choice.specs.Choosing.{splitOf}
+use Rattle.candidate.specs.Trials.{TrialFits}
 use Rattle.split_choice.specs.declared.choice.Choice.{Choice}
 
 -- both sides have a trace, and there is room for two nodes more

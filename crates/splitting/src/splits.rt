@@ -68,7 +68,7 @@ fn split_by(
     let by_scatter = c.by_scatter;
     let threshold = c.threshold;
     let mut marks = [0u8; 4096];
-    split_choice::marking::mark_sides(
+    candidate::marking::mark_sides(
         samples,
         links,
         n,
@@ -80,7 +80,7 @@ fn split_by(
         threshold,
         &mut marks,
     );
-    let child = split_choice::gains::child_ends(e, c.cut);
+    let child = candidate::gains::child_ends(e, c.cut);
     let right = count + 1;
     become_inner(nodes, at, by_scatter, count, right, first, last, threshold);
     write_sides(nodes, count, samples, links, n, k, head, &marks, child);

@@ -11,7 +11,7 @@ use Rattle.integer.specs.Words.{counting}
 use Rattle.tables.specs.View.{traceIn, numbersFrom}
 use Rattle.tables.specs.Walk.{Rising}
 use Rattle.tables.specs.Runs.{testBy}
-use Rattle.split_choice.specs.Parting.{lookOf}
+use Rattle.candidate.specs.Parting.{lookOf}
 use Rattle.examples.specs.Steps.{nineTraces}
 use Rattle.examples.proofs.walks.nine.Statement.{statement}
 use Rattle.examples.proofs.walks.nine.Tie as tie

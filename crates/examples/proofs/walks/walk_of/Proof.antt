@@ -13,7 +13,7 @@ use Rattle.tables.specs.Runs.{testBy}
 use Rattle.tables.proofs.Listed.{numbers-below, run-in}
 use Rattle.leaf_figures.specs.Rows.{TracesListed}
 use Rattle.leaf_figures.proofs.Filled.{no-columns, rows-of}
-use Rattle.split_choice.specs.Parting.{lookOf}
+use Rattle.candidate.specs.Parting.{lookOf}
 use Rattle.examples.proofs.walks.walk_of.Statement.{statement}
 use Rattle.examples.proofs.walks.walk_of.Tie as tie
 

@@ -11,7 +11,7 @@ use Rattle.tables.specs.Walk.{storedIn}
 use Rattle.leaf_figures.specs.Ends.{endsOf}
 use Rattle.leaf_figures.proofs.Placed.{end-at, no-end}
 use Rattle.split_choice.specs.declared.choice.Choice.{Choice}
-use Rattle.split_choice.proofs.Sided.{list-traces}
+use Rattle.candidate.proofs.Sided.{list-traces}
 use Rattle.split_choice.proofs.Going.{Going, going-start, going-end, SegmentTurn, turn}
 use Rattle.split_choice.proofs.choice.best_along.Statement.{statement}
 use Rattle.split_choice.proofs.choice.best_along.Tie as tie

@@ -13,8 +13,9 @@ use Rattle.dstree.specs.Measures.{Trace}
 use Rattle.dstree.specs.Adding.{Split, byEither, tracesOf}
 use Rattle.tables.specs.Walk.{storedIn}
 use Rattle.leaf_figures.specs.Ends.{endsOf}
-use Rattle.split_choice.specs.Choosing.{trialBy, candidateBy, tried, After, TrialExtremes}
-use Rattle.split_choice.specs.declared.choice.Trial.{Trial}
+use Rattle.split_choice.specs.Choosing.{tried, After}
+use Rattle.candidate.specs.Trials.{trialBy, candidateBy, TrialExtremes}
+use Rattle.candidate.specs.declared.siding.Trial.{Trial}
 use Rattle.split_choice.proofs.choice.try_both.Statement.{statement}
 use Rattle.split_choice.proofs.choice.try_both.Tie as tie
 

@@ -12,7 +12,8 @@ use Rattle.dstree.specs.Adding.{Candidate, Split, byEither, halves}
 use Rattle.dstree.specs.Formed.{Rises}
 use Rattle.tables.specs.Walk.{storedIn}
 use Rattle.leaf_figures.specs.Ends.{endsOf}
-use Rattle.split_choice.specs.Choosing.{chosenBy, childEnds, tryOne, tried}
+use Rattle.split_choice.specs.Choosing.{chosenBy, tryOne, tried}
+use Rattle.candidate.specs.Trials.{childEnds}
 use Rattle.split_choice.proofs.Halved.{ends-count, middle, middle-in, both-halves}
 use Rattle.split_choice.proofs.choice.try_halves.Statement.{statement}
 use Rattle.split_choice.proofs.choice.try_halves.Tie as tie

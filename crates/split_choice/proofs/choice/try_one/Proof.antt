@@ -18,9 +18,9 @@ use Rattle.tables.specs.Walk.{storedIn}
 use Rattle.tables.specs.Runs.{figureBy}
 use Rattle.leaf_figures.specs.Ends.{endsOf}
 use Rattle.split_choice.specs.Choosing.{chosenBy, choiceOf, betterOf, ChoiceSound}
-use Rattle.split_choice.specs.declared.parting.Look.{Look}
-use Rattle.split_choice.proofs.Seen.{seen-below}
-use Rattle.split_choice.proofs.Threshold.{low-back, high-back, sum-small, sum-fits, sum-back}
+use Rattle.candidate.specs.declared.parting.Look.{Look}
+use Rattle.candidate.proofs.Seen.{seen-below}
+use Rattle.candidate.proofs.Threshold.{low-back, high-back, sum-small, sum-fits, sum-back}
 use Rattle.split_choice.proofs.Tried.{one-whole, one-chosen, one-sound}
 use Rattle.split_choice.proofs.choice.try_one.Statement.{statement}
 use Rattle.split_choice.proofs.choice.try_one.Tie as tie

@@ -18,9 +18,10 @@ use Rattle.tables.specs.Walk.{storedIn}
 use Rattle.leaf_figures.specs.Sides.{segmentBy}
 use Rattle.leaf_figures.specs.Ends.{endsOf}
 use Rattle.leaf_figures.proofs.Ranged.{least-sum-is, greatest-sum-is, least-root-is, greatest-root-is}
-use Rattle.split_choice.specs.Choosing.{trialBy, candidateBy, After, TrialExtremes}
-use Rattle.split_choice.specs.declared.choice.Trial.{Trial}
-use Rattle.split_choice.proofs.Sided.{list-traces}
+use Rattle.split_choice.specs.Choosing.{After}
+use Rattle.candidate.specs.Trials.{trialBy, candidateBy, TrialExtremes}
+use Rattle.candidate.specs.declared.siding.Trial.{Trial}
+use Rattle.candidate.proofs.Sided.{list-traces}
 use Rattle.split_choice.proofs.choice.try_sum.Statement.{statement}
 use Rattle.split_choice.proofs.choice.try_sum.Tie as tie
 

@@ -11,7 +11,7 @@ use Rattle.integer.specs.Words.{if_then_else_}
 use Rattle.tables.specs.Walk.{numbersOf, behindOf}
 use Rattle.leaf_figures.specs.Sides.{marked}
 use Rattle.tables.proofs.Listed.{metFrom, met-start, behind-rises}
-use Rattle.split_choice.proofs.Sided.{withOne, listed-more, counted-most}
+use Rattle.candidate.proofs.Sided.{withOne, listed-more, counted-most}
 use Rattle.splitting.proofs.Walks.{side-more, side-end}
 use Rattle.splitting.proofs.lists.list_side.Statement.{statement}
 use Rattle.splitting.proofs.lists.list_side.Tie as tie

@@ -29,9 +29,9 @@ use Rattle.insertion_memory.specs.Records.{leafRecord, innerRecord}
 use Rattle.insertion_memory.specs.Links.{linked}
 use Rattle.insertion_memory.specs.Memory.{treeTables, onRecord, splitTo}
 use Rattle.tables.specs.Runs.{testBy}
-use Rattle.split_choice.specs.Marking.{marksBy}
-use Rattle.split_choice.specs.Choosing.{childEnds}
-use Rattle.split_choice.proofs.Marked.{left-side, right-side}
+use Rattle.candidate.specs.Marking.{marksBy}
+use Rattle.candidate.specs.Trials.{childEnds}
+use Rattle.candidate.proofs.Marked.{left-side, right-side}
 use Rattle.splitting.proofs.splits.split_by.Statement.{statement}
 use Rattle.splitting.proofs.splits.split_by.Tie as tie
 

@@ -8,7 +8,7 @@ use lib.ListN.{length, getD, set, drop, length-set}
 use lib.Seq.{getD-set-same, getD-set-other}
 use Rattle.integer.proofs.Lists.{same-or-not}
 use Rattle.checking.specs.Laid.{PutFrom}
-use Rattle.checking.proofs.Steps.{NextIs, next-is}
+use Rattle.figures_below.proofs.Steps.{NextIs, next-is}
 
 pub record Putting (before now : List ℕ) (at : ℕ) (numbers : List ℕ) (place : ℕ) (rest : List ℕ) : Type 0 where
   pub size : length now ≡ length before

@@ -25,8 +25,9 @@ use Rattle.tables.proofs.Views.{tree-size, tree-segments, tree-inside, trace-at
 use Rattle.tables.proofs.Linked.{tables-rise}
 use Rattle.numbers_fit.proofs.Once.{every-same}
 use Rattle.leaf_figures.specs.Rows.{tracesAt}
-use Rattle.checking.specs.Laid.{treeBy, Walks, LaidOut, numbersLaidAt, ReadyToCompare}
-use Rattle.checking.specs.Compared.{exactIn}
+use Rattle.checking.specs.Laid.{treeBy, Walks, LaidOut}
+use Rattle.figures_below.specs.Compared.{numbersLaidAt, ReadyToCompare}
+use Rattle.figures_below.specs.Compared.{exactIn}
 use Rattle.checking.proofs.ByKind.{left-above, right-above, inner-below}
 
 module _ (t : Tables) (w : T (wellFormed t)) (long : Long t) where

@@ -5,18 +5,18 @@ use mathlib.Core.Path.{_≡_}
 use mathlib.Core.Logic.{_⊎_}
 use mathlib.Core.List.{List, [], _∷_, _++_}
 use lib.IntN.{ℤ}
-use lib.ListN.{length, getD, take, drop}
+use lib.ListN.{length, getD, drop}
 use lib.Dec.{T}
-use Rattle.integer.specs.Lists.{In}
-use Rattle.dstree.specs.Node.{Test, inner, Tree, nodeAt, ends}
+use Rattle.dstree.specs.Node.{Test, inner, Tree, nodeAt}
 use Rattle.dstree.specs.Matching.{hasChild, isLeaf}
-use Rattle.dstree.specs.Formed.{Fits, Shape}
+use Rattle.dstree.specs.Formed.{Shape}
 use Rattle.dstree.specs.Checking.{tracesBelow}
-use Rattle.dstree.specs.Measures.{mostNodes, mostSamples, mostTraces}
-use Rattle.tables.specs.Layout.{kindPlace, firstPlace, rightPlace, recordPlaces, nodePlaces}
+use Rattle.dstree.specs.Measures.{mostNodes, mostTraces}
+use Rattle.tables.specs.Layout.{kindPlace, recordPlaces, nodePlaces}
 use Rattle.tables.specs.Tables.{Tables, tables, recordOf}
-use Rattle.tables.specs.View.{smallAt, segmentsIn, treeIn}
+use Rattle.tables.specs.View.{smallAt, treeIn}
 use Rattle.tables.specs.Walk.{Rising}
+use Rattle.figures_below.specs.Compared.{numbersLaidAt}
 
 -- tables of which only nodes, links and both counts are told
 abbrev pub countedTables : List ℤ → List ℕ → ℕ → ℕ → Tables
@@ -62,10 +62,6 @@ pub record LaidTo (tree : Tree) (to : ℕ) (starts order : List ℕ) : Type 0 wh
   pub filled : (j : ℕ) → j < to → j < length tree → T (isLeaf (nodeAt tree j .kind)) → (x : ℕ) → x < length (tracesBelow tree j)
       → getD order (getD starts j 0 + x) 0 ≡ getD (tracesBelow tree 0) (getD starts j 0 + x) 0
 
--- the numbers of node j
-abbrev pub numbersLaidAt : List ℕ → List ℕ → List ℕ → ℕ → List ℕ
-numbersLaidAt sizes starts order j = take (getD sizes j 0) (drop (getD starts j 0) order)
-
 -- every node's numbers are in their places, and are those of the traces below it
 pub record LaidOut (tree : Tree) (sizes starts order : List ℕ) : Type 0 where
   pub sizes-places : length sizes ≡ nodePlaces
@@ -73,23 +69,3 @@ pub record LaidOut (tree : Tree) (sizes starts order : List ℕ) : Type 0 where
   pub order-places : length order ≡ mostTraces
   pub inside : (j : ℕ) → j < length tree → getD starts j 0 + getD sizes j 0 ≤ mostTraces
   pub below : (j : ℕ) → j < length tree → numbersLaidAt sizes starts order j ≡ tracesBelow tree j
-
--- what is told of m nodes and their numbers where figures are compared: an inner node's numbers are those of its children
-pub record ReadyToCompare (samples nodes : List ℤ) (n m : ℕ) (sizes starts order : List ℕ) : Type 0 where
-  pub narrow : n ≤ mostSamples
-  pub nodes-few : m ≤ mostNodes
-  pub nodes-room : m * recordPlaces ≤ length nodes
-  pub sizes-places : length sizes ≡ nodePlaces
-  pub starts-places : length starts ≡ nodePlaces
-  pub order-places : length order ≡ mostTraces
-  pub inside : (j : ℕ) → j < m → getD starts j 0 + getD sizes j 0 ≤ mostTraces
-  pub stored : (j t : ℕ) → j < m → In t (numbersLaidAt sizes starts order j) → t * n + n ≤ length samples
-  pub some : (j : ℕ) → j < m → 0 < length (numbersLaidAt sizes starts order j)
-  pub fits : (j : ℕ) → j < m → Fits n (ends (segmentsIn (recordOf nodes j)))
-  pub left-in : (j : ℕ) → j < m → 1 ≤ smallAt (recordOf nodes j) kindPlace
-      → (j < smallAt (recordOf nodes j) firstPlace) × (smallAt (recordOf nodes j) firstPlace < m)
-  pub right-in : (j : ℕ) → j < m → 1 ≤ smallAt (recordOf nodes j) kindPlace
-      → (j < smallAt (recordOf nodes j) rightPlace) × (smallAt (recordOf nodes j) rightPlace < m)
-  pub of-both : (j : ℕ) → j < m → 1 ≤ smallAt (recordOf nodes j) kindPlace → numbersLaidAt sizes starts order j
-      ≡ numbersLaidAt sizes starts order (smallAt (recordOf nodes j) firstPlace) ++ numbersLaidAt sizes starts order
-      (smallAt (recordOf nodes j) rightPlace)

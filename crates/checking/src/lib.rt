@@ -3,8 +3,6 @@
 
 pub mod sizes; // how many traces are below each node
 pub mod order; // the traces below every node, in one array
-pub mod figures; // figures of the traces below a node, from samples or from a child's record
-pub mod nodes; // records compared, node by node
 pub mod judging; // what the check refuses
 
 use tables::Refusal;
@@ -49,7 +47,7 @@ pub fn is_exact(control: &[u16], samples: &[i16], nodes: &[i64], links: &[u16]) 
     let mut order = [0u16; 4096];
     sizes::fill_sizes(nodes, links, k, m, &mut sizes);
     order::lay_out(nodes, links, k, m, &sizes, &mut starts, &mut order);
-    nodes::all_exact(samples, nodes, n, m, &sizes, &starts, &order)
+    figures_below::nodes::all_exact(samples, nodes, n, m, &sizes, &starts, &order)
 }
 
 // Checks tables that nobody vouches for. All five are lent only to be read and to be long enough: they stay as they were, search work

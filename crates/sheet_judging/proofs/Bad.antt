@@ -12,8 +12,8 @@ use Rattle.dstree.specs.Refusals.{badSheet, Condition, _refuses_, firstOf}
 use Rattle.dstree.specs.Sheet.{blockSize, part, letters, blocksIn, measuresIn, countIn, sampleBlocksNeeded, narrow, areZero, zerosIn}
 use Rattle.dstree.specs.Sheet.{badConditions}
 use Rattle.dstree.proofs.SheetPieces.{pieces-length}
-use Rattle.sheet_judging.specs.Blocks.{blockCount, InBlocks, blockAt, laterBlocks}
-use Rattle.sheet_judging.proofs.Places.{blocks-are}
+use Rattle.sheet_blocks.specs.Blocks.{blockCount, InBlocks, blockAt, laterBlocks}
+use Rattle.sheet_blocks.proofs.Places.{blocks-are}
 use Rattle.sheet_judging.proofs.Heads.{first-letters}
 
 abbrev pub badBy : Bool → Bool → Bool → Bool → Bool → List Condition

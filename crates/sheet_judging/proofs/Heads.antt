@@ -9,7 +9,7 @@ use lib.Seq.{drop-cons}
 use borrow.Author.Tests.{eq-eqb, ne-eqb}
 use Rattle.integer.specs.Words.{same}
 use Rattle.dstree.specs.Sheet.{blockSize, part, numberIn, letters, measuresIn, countIn}
-use Rattle.sheet_judging.specs.Blocks.{blockAt}
+use Rattle.sheet_blocks.specs.Blocks.{blockAt}
 use Rattle.sheet_judging.specs.HeadBlock.{HeadSays}
 use Rattle.dstree.proofs.SheetPieces.{part-part, part-cons}
 

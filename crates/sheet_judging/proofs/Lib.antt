@@ -1,9 +1,4 @@
--- The conditions of a sheet, block by block, and where its samples stand.
-pub mod Places
-pub mod Torn
-pub mod AllZero
-pub mod Carried
+-- What a sheet's head says, what is bad in it, and the traces of an accepted one.
 pub mod Heads
-pub mod Left
 pub mod Bad
 pub mod Samples

@@ -19,12 +19,12 @@ use Rattle.dstree.proofs.SheetFormat.{narrow-sound, needed-room}
 use Rattle.dstree.proofs.SheetRead.{GoodSheet, none-good}
 use Rattle.tables.specs.Judge.{InRange}
 use Rattle.tables.proofs.Range.{in-range}
-use Rattle.sheet_judging.specs.Blocks.{blockCount, InBlocks, blockAt, laterBlocks}
-use Rattle.sheet_judging.specs.Traces.{sizeOf, countOf, sheetTraces, IsAt, samplePlace, samplesFrom}
+use Rattle.sheet_blocks.specs.Blocks.{blockCount, InBlocks, blockAt, laterBlocks}
+use Rattle.sheet_blocks.specs.Traces.{sizeOf, countOf, sheetTraces, IsAt, samplePlace, samplesFrom}
 use Rattle.sheet.specs.Codes.{samplesIn}
 use Rattle.sheet.proofs.SamplesIn.{samples-add, samples-first, trace-at}
-use Rattle.sheet_judging.proofs.Places.{blocks-are}
-use Rattle.sheet_judging.proofs.Carried.{carriedFrom, carriedAt, carried-length, carried-on}
+use Rattle.sheet_blocks.proofs.Places.{blocks-are}
+use Rattle.sheet_blocks.proofs.Carried.{carriedFrom, carriedAt, carried-length, carried-on}
 
 abbrev width : ℕ
 width = narrow .sampleBytes

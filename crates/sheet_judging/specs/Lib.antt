@@ -1,4 +1,2 @@
--- What a sheet of any bytes says: its blocks, its head, its traces.
-pub mod Blocks
+-- What block 0 of a sheet says.
 pub mod HeadBlock
-pub mod Traces

@@ -1,8 +1,8 @@
 // What a sheet of whole blocks says, and what of it is refused.
 
-use crate::zeros::all_zero;
 use sheet::fields::two_bytes;
 use sheet::letters::LETTERS;
+use sheet_blocks::zeros::all_zero;
 use tables::Refusal;
 use tables::Verdict;
 use tables::control::measures_fit;
@@ -13,7 +13,7 @@ ghost use Rattle.integer.specs.Words.{same};
 ghost use Rattle.dstree.specs.Refusals.{firstOf};
 ghost use Rattle.dstree.specs.Sheet.{part, blockSize, narrow, letters, blocksIn, badConditions};
 ghost use Rattle.tables.specs.Answers.{foundBy};
-ghost use Rattle.sheet_judging.specs.Blocks.{InBlocks, blockAt};
+ghost use Rattle.sheet_blocks.specs.Blocks.{InBlocks, blockAt};
 ghost use Rattle.sheet_judging.specs.HeadBlock.{HeadSays};
 
 // Bytes 4 to 7 are the letters.

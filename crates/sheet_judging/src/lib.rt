@@ -1,7 +1,5 @@
 // What a sheet of any bytes says: the refusals 8, 9 and 10, and what an accepted sheet holds.
 
-pub mod blocks; // the position in a sheet, and torn blocks
-pub mod zeros; // bytes that must be 0
 pub mod contents; // letters, measures, count, number of blocks
 pub mod traces; // the traces that an accepted sheet holds
 
@@ -35,7 +33,7 @@ pub fn judge_sheet(sheet: &[u8]) -> Verdict
     if wrong_length(sheet.len()) {
         return Verdict::Refused(Refusal::SheetLength);
     }
-    let torn = crate::blocks::first_torn(sheet);
+    let torn = sheet_blocks::blocks::first_torn(sheet);
     match torn {
         Verdict::Refused(why) => Verdict::Refused(why),
         Verdict::Fine => crate::contents::judge_contents(sheet),

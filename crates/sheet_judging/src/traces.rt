@@ -1,7 +1,7 @@
 // The traces that an accepted sheet holds, one at a time.
 
-use crate::blocks::Cursor;
 use sheet::samples::copy_samples;
+use sheet_blocks::blocks::Cursor;
 ghost use mathlib.Core.Path.{_≡_};
 ghost use mathlib.Core.List.{[]};
 ghost use mathlib.Core.Option.{none};
@@ -9,8 +9,8 @@ ghost use Prim.Native.Nat.{_+_, _*_, _-_, _≤_, _<_};
 ghost use lib.ListN.{length, getD};
 ghost use Rattle.dstree.specs.Refusals.{firstOf};
 ghost use Rattle.dstree.specs.Sheet.{narrow, sheetConditions};
-ghost use Rattle.sheet_judging.specs.Blocks.{InBlocks, blockCount};
-ghost use Rattle.sheet_judging.specs.Traces.{sizeOf, countOf, sheetTraces, sampleNumber, IsAt, samplesFrom};
+ghost use Rattle.sheet_blocks.specs.Blocks.{InBlocks, blockCount};
+ghost use Rattle.sheet_blocks.specs.Traces.{sizeOf, countOf, sheetTraces, sampleNumber, IsAt, samplesFrom};
 
 // As many samples as there are places, from the cursor on; and the cursor behind them. They are read by stretches, each in one block.
 pub fn read_samples(sheet: &[u8], from: Cursor, places: &mut [i16]) -> Cursor

@@ -22,7 +22,7 @@ use Rattle.tables.specs.declared.Verdict.the-variants as v
 use Rattle.tables.specs.Judge.{LongEnough}
 use Rattle.dstree.proofs.Conditions.{none-first, first-some, first-none, none-both}
 use Rattle.matching.specs.declared.Found.the-variants as f
-use Rattle.sheet_judging.specs.Traces.{countOf, sheetTraces}
+use Rattle.sheet_blocks.specs.Traces.{countOf, sheetTraces}
 use Rattle.sheet_judging.proofs.Samples.{range, fine as good}
 use Rattle.sheet_reading.proofs.Ends.{said, judged-holds}
 use Rattle.sheet_reading.proofs.Library.{traces-count}

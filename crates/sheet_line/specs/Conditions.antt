@@ -8,7 +8,7 @@ use Rattle.dstree.specs.Measures.{Measures}
 use Rattle.dstree.specs.Refusals.{Condition, _refuses_, shortTable, empty, sheetLength}
 use Rattle.dstree.specs.Sheet.{measuresIn, countIn, sheetConditions}
 use Rattle.dstree.specs.Program.{programMost, mostBytes}
-use Rattle.sheet_judging.specs.Blocks.{blockAt}
+use Rattle.sheet_blocks.specs.Blocks.{blockAt}
 
 -- "with tables for n ≤ 64 and capacity ≤ 64; .. a larger n or capacity refusal 2"; "No earlier trace is refusal 6"
 unfoldable pub smallConditions : Measures → ℕ → List Condition

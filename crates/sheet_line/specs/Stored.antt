@@ -13,8 +13,8 @@ use Rattle.dstree.specs.Book.{Lent}
 use Rattle.tables.specs.Tables.{tables}
 use Rattle.tables.specs.Judge.{Room}
 use Rattle.tables.specs.Holds.{Holds}
-use Rattle.sheet_judging.specs.Blocks.{blockAt}
-use Rattle.sheet_judging.specs.Traces.{sizeOf, countOf, sheetTraces}
+use Rattle.sheet_blocks.specs.Blocks.{blockAt}
+use Rattle.sheet_blocks.specs.Traces.{sizeOf, countOf, sheetTraces}
 use Rattle.sheet_line.specs.Conditions.{programConditions}
 
 -- the measures that the program has tables for. (What tables need does not depend on the leaf size)

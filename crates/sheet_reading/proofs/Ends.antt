@@ -17,9 +17,9 @@ use Rattle.tables.specs.declared.Verdict.the-variants as v
 use Rattle.dstree.proofs.Conditions.{none-first}
 use Rattle.tables.specs.Judge.{LongEnough}
 use Rattle.tables.proofs.Judged.{room-of}
-use Rattle.sheet_judging.specs.Blocks.{blockAt}
-use Rattle.sheet_judging.specs.Traces.{sheetTraces}
-use Rattle.sheet_judging.proofs.Places.{blocks-are}
+use Rattle.sheet_blocks.specs.Blocks.{blockAt}
+use Rattle.sheet_blocks.specs.Traces.{sheetTraces}
+use Rattle.sheet_blocks.proofs.Places.{blocks-are}
 use Rattle.sheet_judging.proofs.Samples.{fine, range}
 use Rattle.calls.specs.Outcome.{outcome}
 use Rattle.calls.specs.Effects.{loaded, loadedBy, reads, effectOf, outcomeOn}

@@ -19,7 +19,7 @@ use Rattle.tables.specs.Tables.{Tables, tables, traceCount}
 use Rattle.insertion_memory.specs.Memory.{addedTo}
 use Rattle.insertion_memory.proofs.Made.{Holds, count-is, room, is-trace, shorter, holds-all}
 use Rattle.adding.specs.Putting.{Takes}
-use Rattle.sheet_judging.specs.Traces.{sizeOf, countOf, sheetTraces}
+use Rattle.sheet_blocks.specs.Traces.{sizeOf, countOf, sheetTraces}
 use Rattle.sheet_reading.proofs.Ends.{said, judged-holds}
 
 pub traces-count : (bytes : List ℕ) → length (sheetTraces bytes) ≡ countOf bytes

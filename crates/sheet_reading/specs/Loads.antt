@@ -9,8 +9,8 @@ use Rattle.dstree.specs.Sheet.{narrow, measuresIn, sheetConditions}
 use Rattle.tables.specs.Tables.{tables}
 use Rattle.tables.specs.Holds.{Holds}
 use Rattle.adding.specs.Putting.{Takes}
-use Rattle.sheet_judging.specs.Blocks.{blockCount, blockAt}
-use Rattle.sheet_judging.specs.Traces.{sizeOf, countOf, sampleNumber, IsAt, samplesFrom}
+use Rattle.sheet_blocks.specs.Blocks.{blockCount, blockAt}
+use Rattle.sheet_blocks.specs.Traces.{sizeOf, countOf, sampleNumber, IsAt, samplesFrom}
 
 -- tables that refuse nothing of the n samples from a place of a sheet on; the sheet is not refused, and has so many there
 pub record NextInSheet (control : List ℕ) (samples nodes : List ℤ) (links sheet : List ℕ) (n number used : ℕ) : Type 0 where

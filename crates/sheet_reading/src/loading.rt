@@ -1,7 +1,7 @@
 // The traces of a sheet that is not refused, added in order to an empty library with its measures.
 
 use adding::putting::put;
-use sheet_judging::blocks::Cursor;
+use sheet_blocks::blocks::Cursor;
 use sheet_judging::traces::read_samples;
 ghost use mathlib.Core.Path.{_≡_};
 ghost use mathlib.Core.List.{List, foldl};
@@ -9,7 +9,7 @@ ghost use Prim.Native.Nat.{ℕ, _+_};
 ghost use lib.ListN.{length, take};
 ghost use Rattle.tables.specs.Tables.{tables};
 ghost use Rattle.insertion_memory.specs.Memory.{addedTo};
-ghost use Rattle.sheet_judging.specs.Traces.{sheetTraces, sampleNumber, IsAt, samplesFrom};
+ghost use Rattle.sheet_blocks.specs.Traces.{sheetTraces, sampleNumber, IsAt, samplesFrom};
 ghost use Rattle.sheet_reading.specs.Loads.{NextInSheet, LoadsSheet};
 
 // The trace that the cursor is at, into tables that refuse nothing of it; and the cursor behind it. `trace` is a place for its samples.

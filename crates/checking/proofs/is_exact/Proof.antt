@@ -7,8 +7,9 @@ use lib.ListN.{length-replicate}
 use borrow.Author.Needs.{needs}
 use Rattle.integer.specs.Words.{every, counting}
 use Rattle.tables.specs.Tables.{Tables, tables, measuresOf, traceCount, nodeCount}
-use Rattle.checking.specs.Laid.{treeBy, Walks, LaidOut, ReadyToCompare}
-use Rattle.checking.specs.Compared.{exactIn}
+use Rattle.checking.specs.Laid.{treeBy, Walks, LaidOut}
+use Rattle.figures_below.specs.Compared.{ReadyToCompare}
+use Rattle.figures_below.specs.Compared.{exactIn}
 use Rattle.checking.proofs.Trusted.{walks, ready, all-same}
 use Rattle.checking.proofs.is_exact.Statement.{statement}
 use Rattle.checking.proofs.is_exact.Tie as tie

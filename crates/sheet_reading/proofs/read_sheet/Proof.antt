@@ -18,8 +18,8 @@ use Rattle.tables.specs.Answers.{foundBy, opened}
 use Rattle.tables.specs.Judge.{LongEnough}
 use Rattle.insertion_memory.specs.Memory.{addedTo}
 use Rattle.calls.specs.Library.{loaded}
-use Rattle.sheet_judging.specs.Traces.{sheetTraces}
-use Rattle.sheet_judging.proofs.Places.{first-inside}
+use Rattle.sheet_blocks.specs.Traces.{sheetTraces}
+use Rattle.sheet_blocks.proofs.Places.{first-inside}
 use Rattle.sheet_judging.proofs.Samples.{fine}
 use Rattle.sheet_reading.proofs.Ends.{said, sheet-fine, accepted, refused-answer, done-answer}
 use Rattle.sheet_reading.proofs.Library.{traces-count}

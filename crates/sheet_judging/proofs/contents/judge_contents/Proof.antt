@@ -16,8 +16,8 @@ use Rattle.dstree.specs.Sheet.{narrow, part, letters, blocksIn, measuresIn, cou
 use Rattle.tables.specs.Answers.{wordOf, foundBy}
 use Rattle.tables.specs.Judge.{InRange}
 use Rattle.tables.proofs.Range.{in-range, samples-fit}
-use Rattle.sheet_judging.specs.Blocks.{blockCount, blockAt, laterBlocks}
-use Rattle.sheet_judging.proofs.Places.{blocks, first-inside}
+use Rattle.sheet_blocks.specs.Blocks.{blockCount, blockAt, laterBlocks}
+use Rattle.sheet_blocks.proofs.Places.{blocks, first-inside}
 use Rattle.sheet_judging.proofs.Bad.{badBy, bad-are, bad-letters, bad-measures, bad-count, bad-blocks, bad-zeros, none-bad}
 use Rattle.sheet_judging.proofs.contents.judge_contents.Statement.{statement}
 use Rattle.sheet_judging.proofs.contents.judge_contents.Tie as tie

@@ -10,11 +10,11 @@ use lib.Seq.{take-all, take-at, length-take-le}
 use denote.Ref.{now}
 use borrow.Rule.Slice.PartMut.{postOf, mid-len, same-len-mid}
 use Rattle.dstree.specs.Sheet.{mostBlocks, narrow, part, sampleBytesIn}
-use Rattle.sheet_judging.specs.Blocks.{blockCount, laterBlocks}
-use Rattle.sheet_judging.specs.Traces.{sampleNumber, IsAt, samplePlace, samplesFrom}
+use Rattle.sheet_blocks.specs.Blocks.{blockCount, laterBlocks}
+use Rattle.sheet_blocks.specs.Traces.{sampleNumber, IsAt, samplePlace, samplesFrom}
 use Rattle.sheet.specs.Codes.{samplesIn}
 use Rattle.sheet.proofs.SamplesIn.{samples-none}
-use Rattle.sheet_judging.proofs.Places.{blocks, block-inside}
+use Rattle.sheet_blocks.proofs.Places.{blocks, block-inside}
 use Rattle.sheet_judging.proofs.Samples.{samples-on, samples-at, block-in}
 use Rattle.sheet_judging.proofs.traces.read_samples.Statement.{statement}
 use Rattle.sheet_judging.proofs.traces.read_samples.Tie as tie

@@ -8,8 +8,8 @@ use lib.ListN.{length}
 use denote.Ref.{now}
 use borrow.Author.Needs.{needs}
 use Rattle.dstree.specs.Sheet.{narrow}
-use Rattle.sheet_judging.specs.Blocks.{blockCount}
-use Rattle.sheet_judging.specs.Traces.{sizeOf, sampleNumber, IsAt, samplesFrom}
+use Rattle.sheet_blocks.specs.Blocks.{blockCount}
+use Rattle.sheet_blocks.specs.Traces.{sizeOf, sampleNumber, IsAt, samplesFrom}
 use Rattle.sheet_judging.proofs.Samples.{SoundSheet, fine, trace-is, trace-inside, number-few, size-few}
 use Rattle.sheet_judging.proofs.traces.read_trace.Statement.{statement}
 use Rattle.sheet_judging.proofs.traces.read_trace.Tie as tie

@@ -15,8 +15,8 @@ use Rattle.tables.specs.Tables.{Tables, tables, lentOf}
 use Rattle.tables.specs.Answers.{opened}
 use Rattle.tables.specs.Judge.{LongEnough}
 use Rattle.insertion_memory.proofs.Made.{Holds}
-use Rattle.sheet_judging.specs.Traces.{countOf, sheetTraces}
-use Rattle.sheet_judging.proofs.Places.{first-inside}
+use Rattle.sheet_blocks.specs.Traces.{countOf, sheetTraces}
+use Rattle.sheet_blocks.proofs.Places.{first-inside}
 use Rattle.sheet_judging.proofs.Samples.{fine}
 use Rattle.sheet_reading.proofs.Ends.{said}
 use Rattle.dstree.proofs.SheetFields.{known-bytes}

@@ -15,7 +15,7 @@ use Rattle.dstree.specs.Refusals.{firstOf}
 use Rattle.dstree.specs.Sheet.{areBytes, sheetConditions}
 use Rattle.dstree.specs.Program.{lineOf}
 use Rattle.tables.specs.Tables.{Tables, tables}
-use Rattle.sheet_judging.specs.Traces.{countOf, sheetTraces}
+use Rattle.sheet_blocks.specs.Traces.{countOf, sheetTraces}
 use Rattle.sheet_judging.proofs.Samples.{fine}
 use Rattle.sheet_reading.proofs.Ends.{said}
 use Rattle.dstree.proofs.SheetFields.{known-bytes}

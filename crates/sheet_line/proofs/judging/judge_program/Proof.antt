@@ -13,8 +13,8 @@ use Rattle.dstree.specs.Sheet.{measuresIn, countIn, sheetConditions}
 use Rattle.dstree.specs.Program.{mostBytes}
 use Rattle.dstree.proofs.Conditions.{first-some, first-none}
 use Rattle.tables.specs.Answers.{wordOf, foundBy}
-use Rattle.sheet_judging.specs.Blocks.{blockAt}
-use Rattle.sheet_judging.proofs.Places.{first-inside}
+use Rattle.sheet_blocks.specs.Blocks.{blockAt}
+use Rattle.sheet_blocks.proofs.Places.{first-inside}
 use Rattle.sheet_judging.proofs.Samples.{fine}
 use Rattle.sheet_line.specs.Conditions.{smallConditions, programConditions}
 use Rattle.sheet_line.proofs.judging.judge_program.Statement.{statement}

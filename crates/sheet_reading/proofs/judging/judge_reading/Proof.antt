@@ -13,7 +13,7 @@ use Rattle.dstree.specs.Book.{Lent, shortConditions}
 use Rattle.tables.specs.Layout.{layout}
 use Rattle.tables.specs.Judge.{lent}
 use Rattle.tables.specs.Answers.{foundBy}
-use Rattle.sheet_judging.proofs.Places.{first-inside}
+use Rattle.sheet_blocks.proofs.Places.{first-inside}
 use Rattle.sheet_judging.proofs.Samples.{fine, range}
 use Rattle.sheet_reading.proofs.Ends.{refused-first, short-only}
 use Rattle.sheet_reading.proofs.judging.judge_reading.Statement.{statement}

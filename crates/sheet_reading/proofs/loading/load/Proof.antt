@@ -14,7 +14,7 @@ use Rattle.tables.specs.Tables.{Tables, tables}
 use Rattle.insertion_memory.specs.Memory.{addedTo}
 use Rattle.insertion_memory.proofs.Keeps.{one-more}
 use Rattle.adding.specs.Putting.{Takes}
-use Rattle.sheet_judging.specs.Traces.{sizeOf, countOf, sheetTraces, sampleNumber, IsAt, samplesFrom}
+use Rattle.sheet_blocks.specs.Traces.{sizeOf, countOf, sheetTraces, sampleNumber, IsAt, samplesFrom}
 use Rattle.sheet_judging.proofs.Samples.{fine, trace-is, trace-inside}
 use Rattle.sheet_reading.proofs.Library.{traces-count, takes-next}
 use Rattle.sheet_reading.proofs.loading.load.Statement.{statement}

@@ -8,7 +8,7 @@ use Rattle.dstree.specs.Measures.{Trace}
 use Rattle.tables.specs.Tables.{tables}
 use Rattle.insertion_memory.specs.Memory.{addedTo}
 use Rattle.adding.specs.Putting.{Takes}
-use Rattle.sheet_judging.specs.Traces.{sampleNumber, samplesFrom}
+use Rattle.sheet_blocks.specs.Traces.{sampleNumber, samplesFrom}
 use Rattle.sheet_judging.proofs.Samples.{fine}
 use Rattle.sheet_reading.proofs.loading.put_next.Statement.{statement}
 use Rattle.sheet_reading.proofs.loading.put_next.Tie as tie

@@ -9,7 +9,7 @@ use denote.Ref.{now}
 use borrow.Author.Needs.{needs}
 use Rattle.tables.specs.Tables.{tables}
 use Rattle.insertion_memory.specs.Memory.{addedTo}
-use Rattle.sheet_judging.specs.Traces.{sampleNumber, IsAt, samplesFrom}
+use Rattle.sheet_blocks.specs.Traces.{sampleNumber, IsAt, samplesFrom}
 use Rattle.sheet_judging.proofs.Samples.{fine, size-few}
 use Rattle.sheet_reading.specs.Loads.{NextInSheet}
 use Rattle.sheet_reading.proofs.loading.put_one.Statement.{statement}

@@ -1,0 +1,2 @@
+-- Figures of the traces below a node, and records that have exactly these.
+pub mod Compared

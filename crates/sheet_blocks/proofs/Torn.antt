@@ -1,0 +1,29 @@
+-- Torn blocks, in the order of their numbers.
+use Prim.Native.Nat.{ℕ, suc, _≤_, _<_}
+use mathlib.Core.Path.{_≡_, ap}
+use mathlib.Core.Bool.{true, false}
+use mathlib.Core.Option.{none, some}
+use mathlib.Core.List.{List}
+use Rattle.dstree.specs.Refusals.{tornBlock, firstOf}
+use Rattle.dstree.specs.Sheet.{narrow, isTorn, tornConditions, blocksIn}
+use Rattle.sheet_blocks.specs.Blocks.{blockCount, blockAt, laterBlocks}
+use Rattle.sheet_blocks.proofs.Places.{all-blocks, next-block, no-block}
+
+module _ (bytes : List ℕ) where
+  pub torn-first : firstOf (tornConditions narrow 0 (blocksIn bytes)) ≡ firstOf (tornConditions narrow 0 (laterBlocks bytes 0))
+  torn-first = ap (λ (l : List (List ℕ)). firstOf (tornConditions narrow 0 l)) (all-blocks bytes)
+
+  pub torn-here : (number : ℕ) → number < blockCount bytes → isTorn narrow number (blockAt bytes number) ≡ true
+      → firstOf (tornConditions narrow number (laterBlocks bytes number)) ≡ some (tornBlock number)
+  unfolding tornConditions firstOf
+  torn-here number h e = rw (next-block bytes number h, e)
+
+  pub torn-later : (number : ℕ) → number < blockCount bytes → isTorn narrow number (blockAt bytes number) ≡ false
+      → firstOf (tornConditions narrow number (laterBlocks bytes number))
+      ≡ firstOf (tornConditions narrow (suc number) (laterBlocks bytes (suc number)))
+  unfolding tornConditions firstOf
+  torn-later number h e = rw (next-block bytes number h, e)
+
+  pub torn-none : (number : ℕ) → blockCount bytes ≤ number → firstOf (tornConditions narrow number (laterBlocks bytes number)) ≡ none
+  unfolding tornConditions firstOf
+  torn-none number h = rw (no-block bytes number h)

@@ -1,7 +1,7 @@
 //! `export`: a stored trace as a recording.
 
 use super::arguments::{number, Arguments};
-use super::files::Output;
+use super::files::{shown, Output};
 use super::shelf::Shelf;
 use super::{numbers, plain, recordings, refused, written, wrong, Answer};
 use std::path::{Path, PathBuf};
@@ -35,5 +35,5 @@ pub fn run(a: &Arguments) -> Answer {
     let name = shelf.names.shown(trace);
     let samples = numbers::count(shelf.library.n(), "sample");
     let how = if said.or(known).is_none() { ", which nobody said" } else { "" };
-    written(format!("{}: trace {trace}, {name}, {samples} at {rate} a second{how}.\n", plain::path(&out)), output.write(&bytes)?)
+    written(format!("{}: trace {trace}, {name}, {samples} at {rate} a second{how}.\n", shown(&out)), output.write(&bytes)?)
 }

@@ -5,6 +5,7 @@ use super::{plain, refused, Failure};
 use std::ffi::{OsStr, OsString};
 use std::fs::{File, Metadata};
 use std::io::{self, Read, Write};
+use std::os::unix::ffi::OsStrExt;
 use std::os::unix::fs::{fchown, FileTypeExt, MetadataExt, PermissionsExt};
 use std::path::{Path, PathBuf};
 use std::sync::OnceLock;
@@ -96,7 +97,9 @@ impl Place {
         let place = Place { said: said.to_path_buf(), path, there, is_link };
         match &place.there {
             Some(found) if found.is_dir() => refused(format!("{}: is a folder, and has to be a file.", plain::path(said))),
-            _ if place.path.file_name().is_none() => refused(format!("{}: is no file's name.", plain::path(said))),
+            _ if place.path.file_name().is_none() || said.as_os_str().as_bytes().ends_with(b"/") => {
+                refused(format!("`{}` is no file's name.", plain::path(said)))
+            }
             Some(found) if !found.is_file() => refused(format!("{}: is no plain file, and is not replaced.", plain::path(said))),
             _ => Ok(place),
         }
@@ -304,6 +307,14 @@ pub enum Output {
     /// A device, a FIFO or a socket: written to as it is.
     Stream(PathBuf),
     File(Place, bool),
+}
+
+/// An output for a message.
+pub fn shown(out: &Path) -> String {
+    match out == Path::new("-") {
+        true => "standard output".to_string(),
+        false => plain::path(out),
+    }
 }
 
 /// What was written, and where: whether it went to standard output, and what may be wrong behind it.

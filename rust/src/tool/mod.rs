@@ -15,6 +15,8 @@ mod export;
 #[cfg(test)]
 mod faults;
 mod files;
+#[cfg(test)]
+mod fuzzed;
 mod hash;
 mod help;
 mod info;

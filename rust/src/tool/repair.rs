@@ -28,7 +28,7 @@ pub fn run(a: &Arguments) -> Answer {
     let all = numbers::count(sheet.len() / BLOCK, "block");
     let Taken { same, first: from_first, second: from_second } = taken;
     let from = format!("{same} sound in both copies and the same, {from_first} from the first alone, {from_second} from the second alone");
-    let text = format!("{}: sound. {all}: {from}.\n", plain::path(&out));
+    let text = format!("{}: sound. {all}: {from}.\n", files::shown(&out));
     if let Some(stream) = stream {
         return written(text, stream.write(&sheet)?);
     }

@@ -99,7 +99,7 @@ impl Torn {
 const MOST_NAMED: usize = 20;
 
 fn told(out: &Path, shelf: &Shelf, sheet: &Torn, lost: &[(usize, Option<names::Name>)]) -> String {
-    let mut text = format!("{}: {} of {}", plain::path(out), shelf.library.len(), numbers::count(sheet.count, "trace"));
+    let mut text = format!("{}: {} of {}", files::shown(out), shelf.library.len(), numbers::count(sheet.count, "trace"));
     if lost.is_empty() {
         return text + ", all there were.\n";
     }

@@ -1,26 +1,32 @@
 -- A call by its contract follows its definition: the contract's claim is the definition's equation on the tables that were lent.
 use Prim.Native.Nat.{ℕ}
-use mathlib.Core.Path.{_≡_, ap, subst, _∙_}
+use mathlib.Core.Path.{_≡_, sym, ap, subst, _∙_}
 use mathlib.Core.List.{List}
-use Rattle.dstree.specs.Book.{Ask, Call, Answer, Reply}
+use Rattle.dstree.specs.Book.{Ask, Call, Answer, Reply, reply}
 use Rattle.tables.specs.Tables.{Tables, lentOf}
 use Rattle.tables.specs.Beginning.{left}
 use Rattle.calls.specs.Outcome.{Outcome, outcome}
 use Rattle.calls.specs.Effects.{outcomeOn}
 use Rattle.calls.specs.Follows.{Follows}
 use Rattle.batch_answers.proofs.Whole.{whole}
-use Rattle.demands.specs.Did.{CallMade, Did, by-open, by-add, by-nearest, by-write, by-read, by-list, by-import}
+use Rattle.demands.specs.Did.{Placed, CallMade, Did, by-open, by-add, by-nearest, by-write, by-read, by-list, by-import}
 use Rattle.demands.specs.Did.{by-export, by-check, by-batch}
+
+pub placed-follows : {ask : Ask} {before after memory memory′ : Tables} {c : Call} {answer : Answer} {beside : List (List ℕ)}
+    → Placed ask before after c memory memory′ → outcome answer after beside ≡ outcomeOn ask before
+    → Follows c memory (reply answer beside) memory′
+placed-follows {memory = memory} {c = c} d claim = record {
+  has-places = subst (λ (t : Tables). lentOf t ≡ c .lent) (d .first-places) (d .so-many);
+  typed = rw (d .asks, ← d .first-places) (d .typed);
+  follows = rw (d .leaves, d .asks, ← d .first-places)
+      (ap (λ (o : Outcome). outcome (o .answer) (left (o .after) memory) (o .beside)) claim);
+}
 
 by-claim : {ask : Ask} {before after memory memory′ : Tables} {answer : Answer} {beside : List (List ℕ)} {c : Call} {said : Reply}
     → CallMade ask before answer after beside c memory said memory′ → outcome answer after beside ≡ outcomeOn ask before
     → Follows c memory said memory′
-by-claim {memory = memory} {c = c} d claim = record {
-  has-places = subst (λ (t : Tables). lentOf t ≡ c .lent) (d .first-places) (d .so-many);
-  typed = rw (d .asks, ← d .first-places) (d .typed);
-  follows = rw (d .says, d .leaves, d .asks, ← d .first-places)
-      (ap (λ (o : Outcome). outcome (o .answer) (left (o .after) memory) (o .beside)) claim);
-}
+by-claim {memory = memory} {memory′ = memory′} {c = c} d claim =
+    subst (λ (s : Reply). Follows c memory s memory′) (sym (d .says)) (placed-follows (d .placed) claim)
 
 pub follows : (c : Call) (memory memory′ : Tables) (said : Reply) → Did c memory said memory′ → Follows c memory said memory′
 follows c memory memory′ said (by-open d) = by-claim (d .made) (d .claim)

@@ -85,7 +85,7 @@ use Rattle.demands.specs.Theorem.{Replied}
 -- ---- slices
 
 -- a slice that holds this, somewhere
-abbrev slice : {A : Type 0} → List A → RefT (List A)
+abbrev pub slice : {A : Type 0} → List A → RefT (List A)
 slice l = record { ptr = (0, 0); name = 0; now = l }
 
 abbrev slices : {Own : Type 0} → Tables → Own → WithTables Own
@@ -327,7 +327,7 @@ nears-back (a ∷ l) = rw (nears-back l)
 -- ---- any call
 
 -- lifetimes, whichever
-abbrev lifetimes : (n : ℕ) → Lfts n
+abbrev pub lifetimes : (n : ℕ) → Lfts n
 lifetimes zero = tt
 lifetimes (suc n) = ([], lifetimes n)
 
@@ -338,12 +338,8 @@ module _ (c : Call) (memory : Tables) (places : lentOf (firstPlaces (c .lent) me
   in-place : {ask : Ask} {before : Tables} {answer : Answer} {after : Tables} {beside : List (List ℕ)} → c .ask ≡ ask → Typed ask before
       → before ≡ t → CallMade ask before answer after beside c memory (reply answer beside) (left after memory)
   in-place asked typed before = record {
-    asks = asked;
-    typed = typed;
-    first-places = before;
-    so-many = ap lentOf before ∙ places;
+    placed = record { asks = asked; typed = typed; first-places = before; so-many = ap lentOf before ∙ places; leaves = refl };
     says = refl;
-    leaves = refl;
   }
 
   -- a call of the code that its contract claims, on slices that hold what the memory has

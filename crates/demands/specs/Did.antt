@@ -83,15 +83,19 @@ module _ {Own : Type 0} (s : WithTables Own) where
 
 -- a call c on a memory is this ask of tables that held `before` and then `after`: "Each call gets the tables as the last one left them",
 -- the first so many places of each
-pub record CallMade (ask : Ask) (before : Tables) (answer : Answer) (after : Tables) (beside : List (List ℕ))
-    (c : Call) (memory : Tables) (said : Reply) (memory′ : Tables) : Type 0 where
+pub record Placed (ask : Ask) (before after : Tables) (c : Call) (memory memory′ : Tables) : Type 0 where
   pub asks : c .ask ≡ ask
   -- what the types of lent slices say of it
   pub typed : Typed ask before
   pub first-places : before ≡ firstPlaces (c .lent) memory
   pub so-many : lentOf before ≡ c .lent
-  pub says : said ≡ reply answer beside
   pub leaves : memory′ ≡ left after memory
+
+-- .. which answered this
+pub record CallMade (ask : Ask) (before : Tables) (answer : Answer) (after : Tables) (beside : List (List ℕ))
+    (c : Call) (memory : Tables) (said : Reply) (memory′ : Tables) : Type 0 where
+  pub placed : Placed ask before after c memory memory′
+  pub says : said ≡ reply answer beside
 
 -- ---- call by call, with the claim of its contract (`claim`), which the code meets (`Theorem`)
 

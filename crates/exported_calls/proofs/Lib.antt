@@ -1,0 +1,4 @@
+-- An exported call by its contract follows its definition, and the theorem.
+pub mod Follows
+pub mod Linked
+pub mod Theorem

@@ -1,0 +1,43 @@
+-- The theorem of the exported calls, from the contracts that they meet.
+use mathlib.Core.Path.{refl}
+use Rattle.library_c.proofs.silkendoz_open.Met as open-met
+use Rattle.library_c.proofs.silkendoz_add.Met as add-met
+use Rattle.library_c.proofs.silkendoz_nearest.Met as nearest-met
+use Rattle.library_c.proofs.silkendoz_write_sheet.Met as write-met
+use Rattle.library_c.proofs.silkendoz_read_sheet.Met as read-met
+use Rattle.library_c.proofs.silkendoz_k_nearest.Met as list-met
+use Rattle.library_c.proofs.silkendoz_import_recording.Met as import-met
+use Rattle.library_c.proofs.silkendoz_export_recording.Met as export-met
+use Rattle.library_c.proofs.silkendoz_check_tables.Met as check-met
+use Rattle.library_c.proofs.silkendoz_match_batch.Met as batch-met
+use Rattle.demands.proofs.Theorem.{theorem}
+use Rattle.exported_calls.specs.Theorem.{ExportedTheorem}
+use Rattle.exported_calls.proofs.Follows.{follows}
+use Rattle.exported_calls.proofs.Linked.{linked}
+
+pub exported-theorem : ExportedTheorem
+exported-theorem = record {
+  theorem = theorem;
+  open-meets = open-met.met;
+  add-meets = add-met.met;
+  nearest-meets = nearest-met.met;
+  write-meets = write-met.met;
+  read-meets = read-met.met;
+  list-meets = list-met.met;
+  import-meets = import-met.met;
+  export-meets = export-met.met;
+  check-meets = check-met.met;
+  batch-meets = batch-met.met;
+  open-clause = λ M 𝓤 H A mem run κs args. refl;
+  add-clause = λ M 𝓤 H A mem run κs args. refl;
+  nearest-clause = λ M 𝓤 H A mem run κs args. refl;
+  write-clause = λ M 𝓤 H A mem run κs args. refl;
+  read-clause = λ M 𝓤 H A mem run κs args. refl;
+  list-clause = λ M 𝓤 H A mem run κs args. refl;
+  import-clause = λ M 𝓤 H A mem run κs args. refl;
+  export-clause = λ M 𝓤 H A mem run κs args. refl;
+  check-clause = λ M 𝓤 H A mem run κs args. refl;
+  batch-clause = λ M 𝓤 H A mem run κs args. refl;
+  follows = follows;
+  linked = linked;
+}

@@ -112,11 +112,3 @@ pub fn answer_at(found: BatchFound, i: usize) -> AnswerRecord
         }
     }
 }
-
-// How a batch ended.
-pub fn outcome_of(found: BatchFound) -> Batched
-    ensures { λ r. ⌜ r ≡ found .outcome ⌝ }
-{
-    let outcome = found.outcome;
-    outcome
-}

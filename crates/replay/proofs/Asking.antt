@@ -14,14 +14,14 @@ use Rattle.integer.proofs.Tests.{passed, is-true}
 use Rattle.integer.proofs.Lists.{every-take, every-drop}
 use Rattle.dstree.specs.Measures.{sampleLimit, areSamples}
 use Rattle.dstree.specs.Sheet.{areBytes}
-use Rattle.dstree.specs.Book.{Lent, Ask, Call}
+use Rattle.dstree.specs.Book.{Lent}
 use Rattle.tables.specs.Tables.{Tables, lentOf}
 use Rattle.tables.specs.Beginning.{LentWithin}
 use Rattle.calls.specs.Follows.{Typed}
 use Rattle.replay.specs.declared.Amounts.{Amounts}
 use Rattle.replay.specs.declared.Wanted.{Wanted}
 use Rattle.replay.specs.declared.Plan.{Plan}
-use Rattle.replay.specs.Script.{State, numberAt, lentBy, nextOf, aheadOf, CallKind, kinds, callKindAt, fitsIn, enough, ifEnough, playable}
+use Rattle.replay.specs.Script.{State, RowAsk, askOf, numberAt, lentBy, nextOf, aheadOf, CallKind, kinds, callKindAt, fitsIn, enough, ifEnough, playable}
 use Rattle.replay.specs.Script.{askedBy, asks}
 use Rattle.replay.specs.Script.{takesOf, moved, movedBy, wantedBy, plannedBy, takenBy, stateAfter}
 use Rattle.replay.proofs.OfKind.{of-kind}
@@ -52,7 +52,6 @@ pub record Playable (lengths : Lent) (ahead : Amounts) (row : List ℕ) (k : Cal
   pub samples-there : k .takes row .samples ≤ ahead .samples
   pub trails-there : k .takes row .trails ≤ ahead .trails
   pub sheets-there : k .takes row .sheets ≤ ahead .sheets
-  pub lists-there : k .takes row .lists ≤ ahead .lists
 
 if-enough : (o : Option CallKind) (row : List ℕ) (ahead : Amounts) (k : CallKind) → ifEnough o row ahead ≡ some k → (o
     ≡ some k) × (enough (k .takes row) ahead ≡ true)
@@ -63,16 +62,14 @@ if-enough (some k₀) row ahead k e =
     (f .1, subst (λ (k : CallKind). enough (k .takes row) ahead ≡ true) (Option·some-injective k₀ k (f .1)) (f .0))
 
 pub enough-is : (size ahead : Amounts) → enough size ahead ≡ true
-    → (size .samples ≤ ahead .samples) × (size .trails ≤ ahead .trails) × (size .sheets ≤ ahead .sheets) × (size .lists ≤ ahead .lists)
+    → (size .samples ≤ ahead .samples) × (size .trails ≤ ahead .trails) × (size .sheets ≤ ahead .sheets)
 unfolding enough
 enough-is size ahead e =
-    let p = passed (leb (size .samples) (ahead .samples)) (leb (size .trails) (ahead .trails) ∷ leb (size .sheets) (ahead .sheets)
-    ∷ leb (size .lists) (ahead .lists) ∷ [])
+    let p = passed (leb (size .samples) (ahead .samples)) (leb (size .trails) (ahead .trails) ∷ leb (size .sheets) (ahead .sheets) ∷ [])
     (is-true e) in (
       leb→le (size .samples) (ahead .samples) (p .0),
       leb→le (size .trails) (ahead .trails) (p .1 .0),
-      leb→le (size .sheets) (ahead .sheets) (p .1 .1 .0),
-      leb→le (size .lists) (ahead .lists) (p .1 .1 .1),
+      leb→le (size .sheets) (ahead .sheets) (p .1 .1),
     )
 
 pub playable-is : (lengths : Lent) (ahead : Amounts) (row : List ℕ) (k : CallKind) → playable lengths ahead row ≡ some k
@@ -88,7 +85,6 @@ playable-is lengths ahead row k e =
       samples-there = there .0;
       trails-there = there .1;
       sheets-there = there .2;
-      lists-there = there .3;
     }
 
 -- .. by how much is taken behind it
@@ -180,12 +176,12 @@ module _ (lengths : Lent) (ahead : Amounts) (row : List ℕ) (at : Amounts) (len
 
 -- ---- the call that is asked for
 
-record Asked (lengths : Lent) (row : List ℕ) (s : State) (ask : Ask) : Type 0 where
+record Asked (lengths : Lent) (row : List ℕ) (s : State) (ask : RowAsk) : Type 0 where
   pub kind : CallKind
   pub can : playable lengths (aheadOf s) row ≡ some kind
   pub ask-is : kind .ask row (nextOf (kind .takes row) s) ≡ ask
 
-asked-is : (lengths : Lent) (row : List ℕ) (s : State) (ask : Ask) → asks lengths row s ≡ some ask → Asked lengths row s ask
+asked-is : (lengths : Lent) (row : List ℕ) (s : State) (ask : RowAsk) → asks lengths row s ≡ some ask → Asked lengths row s ask
 unfolding asks askedBy
 asked-is lengths row s ask e = by (playable lengths (aheadOf s) row) refl e
   where
@@ -207,30 +203,30 @@ isSample sample = ltb (mag sample) sampleLimit
 abbrev pub isByte : ℕ → Bool
 isByte byte = ltb byte 256
 
-pub asked-typed : (lengths : Lent) (row : List ℕ) (s : State) → SoundState lengths s → (ask : Ask) → asks lengths row s ≡ some ask
-    → (t : Tables) → T (areSamples (t .samples)) → Typed ask t
+pub asked-typed : (lengths : Lent) (row : List ℕ) (s : State) → SoundState lengths s → (ask : RowAsk) → asks lengths row s ≡ some ask
+    → (t : Tables) → Typed (askOf ask) t
 unfolding areBytes
-asked-typed lengths row s sound ask e t known =
+asked-typed lengths row s sound ask e t =
     let a = asked-is lengths row s ask e in
     let k = a .kind in
     let size = k .takes row in
-    subst (λ (ask : Ask). Typed ask t) (a .ask-is)
+    subst (λ (ask : RowAsk). Typed (askOf ask) t) (a .ask-is)
     (of-kind (numberAt row 0) k (playable-is lengths (aheadOf s) row k (a .can) .is-kind) .typed row (nextOf size s) t
     (every-take isSample (size .samples) (s .samples) (sound .of-samples)) (every-take isByte (size .sheets) (s .sheets .ahead) (sound
-    .of-bytes)) known)
+    .of-bytes)))
 
 -- a call is asked for only where it is lent no more than there is
-pub asked-within : (lengths : Lent) (row : List ℕ) (s : State) (ask : Ask) → asks lengths row s ≡ some ask → LentWithin (lentBy row) lengths
+pub asked-within : (lengths : Lent) (row : List ℕ) (s : State) (ask : RowAsk) → asks lengths row s ≡ some ask → LentWithin (lentBy row) lengths
 asked-within lengths row s ask e =
     let a = asked-is lengths row s ask e in
     playable-is lengths (aheadOf s) row (a .kind) (a .can) .within
 
 -- a call takes from what is ahead
-pub sound-after : (lengths : Lent) (s : State) → SoundState lengths s → (c : Call) → lentOf (stateAfter c s .memory) ≡ lengths
-    → SoundState lengths (stateAfter c s)
+pub sound-after : (lengths : Lent) (s : State) → SoundState lengths s → (lent : Lent) (ask : RowAsk)
+    → lentOf (stateAfter lent ask s .memory) ≡ lengths → SoundState lengths (stateAfter lent ask s)
 unfolding stateAfter areBytes
-sound-after lengths s sound c e = record {
+sound-after lengths s sound lent ask e = record {
   as-long = e;
-  of-samples = every-drop isSample (length (takenBy (c .ask) .samples)) (s .samples) (sound .of-samples);
-  of-bytes = every-drop isByte (length (takenBy (c .ask) .sheet)) (s .sheets .ahead) (sound .of-bytes);
+  of-samples = every-drop isSample (length (takenBy ask .samples)) (s .samples) (sound .of-samples);
+  of-bytes = every-drop isByte (length (takenBy ask .sheet)) (s .sheets .ahead) (sound .of-bytes);
 }

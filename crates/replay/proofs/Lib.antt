@@ -1,6 +1,5 @@
 -- How a script is played: rows read back, the calls that they ask for, the state that these leave; and that every list of calls has one.
 pub mod ReadBack
-pub mod Records
 pub mod OfKind
 pub mod Asking
 pub mod Lending

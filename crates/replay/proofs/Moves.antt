@@ -7,14 +7,14 @@ use mathlib.Core.List.{List, [], _∷_, _++_}
 use native.Mathlib.Omega.{arith}
 use lib.IntN.{ℤ}
 use lib.ListN.{length, take, drop, length-drop}
-use Rattle.dstree.specs.Book.{Lent, Ask}
+use Rattle.dstree.specs.Book.{Lent}
 use Rattle.tables.specs.Tables.{Tables, lentOf}
 use Rattle.tables.specs.Beginning.{firstPlaces, left}
 use Rattle.calls.specs.Effects.{outcomeOn}
 use Rattle.replay.specs.declared.Amounts.{Amounts}
 use Rattle.replay.specs.declared.Turn.{Turn}
 use Rattle.replay.specs.ReplyRows.{replyRow}
-use Rattle.replay.specs.Script.{State, supplyAt, stateAt, AmountsInside, lentBy, amounts, Taken, taken, amountsOf, nextOf, aheadOf, CallKind}
+use Rattle.replay.specs.Script.{State, RowAsk, askOf, supplyAt, stateAt, AmountsInside, lentBy, amounts, Taken, taken, amountsOf, nextOf, aheadOf, CallKind}
 use Rattle.replay.specs.Script.{playable, asks, moved}
 use Rattle.replay.specs.Script.{takenBy, leftBy, used, stateAfter, Called, called, calledBy, turned, turnMade, turnOf}
 use Rattle.replay.proofs.OfKind.{of-kind, taken-same}
@@ -27,43 +27,39 @@ use Rattle.replay.proofs.Lending.{next-places, so-many, ahead-moved, su
 abbrev pub stays : Amounts → Turn
 stays at = record { made = false; numbers = 0 ∷ 0 ∷ 0 ∷ 0 ∷ 0 ∷ []; at = at }
 
-pub none-is : (r : Turn) (at : Amounts) → r ≡ stays at → (lent : Lent) (memory : Tables) (pool : List ℤ) (trails sheets lists : List ℕ) (o :
-    Option Ask) → o ≡ none
-    → turnOf r memory pool trails sheets lists ≡ turnMade lent o (stateAt memory pool trails sheets lists at)
+pub none-is : (r : Turn) (at : Amounts) → r ≡ stays at → (lent : Lent) (memory : Tables) (pool : List ℤ) (trails sheets : List ℕ) (o :
+    Option RowAsk) → o ≡ none
+    → turnOf r memory pool trails sheets ≡ turnMade lent o (stateAt memory pool trails sheets at)
 unfolding turnMade
-none-is r at e lent memory pool trails sheets lists o n = rw (e, n) refl
+none-is r at e lent memory pool trails sheets o n = rw (e, n) refl
 
 -- ---- how much is ahead
 
-pub ahead-is : (memory : Tables) (pool : List ℤ) (trails sheets lists : List ℕ) (at : Amounts)
-    → amounts (length pool - at .samples) (length trails - at .trails) (length sheets - at .sheets) (length lists - at .lists)
-    ≡ aheadOf (stateAt memory pool trails sheets lists at)
-ahead-is memory pool trails sheets lists at = rw (
+pub ahead-is : (memory : Tables) (pool : List ℤ) (trails sheets : List ℕ) (at : Amounts)
+    → amounts (length pool - at .samples) (length trails - at .trails) (length sheets - at .sheets)
+    ≡ aheadOf (stateAt memory pool trails sheets at)
+ahead-is memory pool trails sheets at = rw (
   length-drop (at .samples) pool,
   length-drop (at .trails) trails,
   length-drop (at .sheets) sheets,
-  length-drop (at .lists) lists,
 ) refl
 
 -- ---- a call that is made
 
 -- by the numbers of its reply, the memory that it leaves, and how far it has come
-made-is : (lent : Lent) (at at′ : Amounts) (memory memory′ : Tables) (pool : List ℤ) (trails trails′ sheets sheets′ lists lists′ : List ℕ)
-    (ask : Ask)
+made-is : (lent : Lent) (at at′ : Amounts) (memory memory′ : Tables) (pool : List ℤ) (trails trails′ sheets sheets′ : List ℕ)
+    (ask : RowAsk)
     (numbers : List ℕ)
-    → numbers ≡ replyRow (outcomeOn ask (firstPlaces lent memory) .answer) → memory′
-    ≡ left (outcomeOn ask (firstPlaces lent memory) .after) memory
+    → numbers ≡ replyRow (outcomeOn (askOf ask) (firstPlaces lent memory) .answer) → memory′
+    ≡ left (outcomeOn (askOf ask) (firstPlaces lent memory) .after) memory
     → drop (at′ .samples) pool ≡ drop (length (takenBy ask .samples)) (drop (at .samples) pool)
-    → supplyAt (at′ .trails) trails′ ≡ used (supplyAt (at .trails) trails) (takenBy ask .trail) (leftBy ask (outcomeOn ask (firstPlaces
+    → supplyAt (at′ .trails) trails′ ≡ used (supplyAt (at .trails) trails) (takenBy ask .trail) (leftBy ask (outcomeOn (askOf ask) (firstPlaces
     lent memory) .beside) .trail)
-    → supplyAt (at′ .sheets) sheets′ ≡ used (supplyAt (at .sheets) sheets) (takenBy ask .sheet) (leftBy ask (outcomeOn ask (firstPlaces
+    → supplyAt (at′ .sheets) sheets′ ≡ used (supplyAt (at .sheets) sheets) (takenBy ask .sheet) (leftBy ask (outcomeOn (askOf ask) (firstPlaces
     lent memory) .beside) .sheet)
-    → supplyAt (at′ .lists) lists′ ≡ used (supplyAt (at .lists) lists) (takenBy ask .list) (leftBy ask (outcomeOn ask (firstPlaces
-    lent memory) .beside) .list)
-    → turned (some numbers) (stateAt memory′ pool trails′ sheets′ lists′ at′) ≡ turnMade lent (some ask) (stateAt memory pool trails sheets
-    lists at)
+    → turned (some numbers) (stateAt memory′ pool trails′ sheets′ at′) ≡ turnMade lent (some ask) (stateAt memory pool trails sheets at)
 unfolding turnMade stateAfter
-made-is lent at at′ memory memory′ pool trails trails′ sheets sheets′ lists lists′ ask numbers a m p t s l = rw (a, m, p, t, s, l)
+made-is lent at at′ memory memory′ pool trails trails′ sheets sheets′ ask numbers a m p t s = rw (a, m, p, t, s)
 
 -- a supply of which a call took the next places and left them so
 abbrev pub putOver : ℕ → ℕ → List ℕ → List ℕ → List ℕ
@@ -74,13 +70,13 @@ moved-on : (from many : ℕ) (l taken left part : List ℕ) → from ≤ length 
     → supplyAt (from + many) (putOver from (from + many) part l) ≡ used (supplyAt from l) taken left
 moved-on from many l taken left part h g t p n = rw (t, ← p) (supply-moved from many l part h g n)
 
-module _ (memory : Tables) (pool : List ℤ) (trails sheets lists : List ℕ) (at : Amounts)
-    (inside : AmountsInside at pool trails sheets lists)
+module _ (memory : Tables) (pool : List ℤ) (trails sheets : List ℕ) (at : Amounts)
+    (inside : AmountsInside at pool trails sheets)
     (row : List ℕ)
     (k : CallKind)
-    (can : playable (lentOf memory) (aheadOf (stateAt memory pool trails sheets lists at)) row ≡ some k) where
+    (can : playable (lentOf memory) (aheadOf (stateAt memory pool trails sheets at)) row ≡ some k) where
   abbrev here : State
-  here = stateAt memory pool trails sheets lists at
+  here = stateAt memory pool trails sheets at
 
   abbrev size : Amounts
   size = k .takes row
@@ -88,9 +84,8 @@ module _ (memory : Tables) (pool : List ℤ) (trails sheets lists : List ℕ) (a
   abbrev next : Taken
   next = nextOf size here
 
-  pub is : Playable (lentOf memory) (amounts (length pool - at .samples) (length trails - at .trails) (length sheets - at .sheets) (length
-      lists - at .lists)) row k
-  is = playable-is (lentOf memory) _ row k (ap (λ (a : Amounts). playable (lentOf memory) a row) (ahead-is memory pool trails sheets lists
+  pub is : Playable (lentOf memory) (amounts (length pool - at .samples) (length trails - at .trails) (length sheets - at .sheets)) row k
+  is = playable-is (lentOf memory) _ row k (ap (λ (a : Amounts). playable (lentOf memory) a row) (ahead-is memory pool trails sheets
       at)
       ∙ can)
 
@@ -99,30 +94,28 @@ module _ (memory : Tables) (pool : List ℤ) (trails sheets lists : List ℕ) (a
     so-many (at .samples) (size .samples) pool (is .samples-there),
     so-many (at .trails) (size .trails) trails (is .trails-there),
     so-many (at .sheets) (size .sheets) sheets (is .sheets-there),
-    so-many (at .lists) (size .lists) lists (is .lists-there),
   ) refl
 
-  pub inside-then : AmountsInside (moved at size) pool trails sheets lists
+  pub inside-then : AmountsInside (moved at size) pool trails sheets
   inside-then = record {
     samples-inside = omega (arith, inside .samples-inside, is .samples-there);
     trails-inside = omega (arith, inside .trails-inside, is .trails-there);
     sheets-inside = omega (arith, inside .sheets-inside, is .sheets-there);
-    lists-inside = omega (arith, inside .lists-inside, is .lists-there);
   }
 
   -- by what the call left of what it was lent
-  played-is : (numbers : List ℕ) (after memory′ : Tables) (trail sheet list : List ℕ)
-      → (amountsOf next ≡ size → called numbers after (taken (next .samples) trail sheet list)
+  played-is : (numbers : List ℕ) (after memory′ : Tables) (trail sheet : List ℕ)
+      → (amountsOf next ≡ size → called numbers after (taken (next .samples) trail sheet)
       ≡ calledBy (k .ask row next) (firstPlaces (lentBy row) memory))
-      → memory′ ≡ left after memory → length trail ≡ size .trails → length sheet ≡ size .sheets → length list ≡ size .lists
+      → memory′ ≡ left after memory → length trail ≡ size .trails → length sheet ≡ size .sheets
       → turned (some numbers) (stateAt memory′ pool (putOver (at .trails) (at .trails + size .trails) trail trails)
       (putOver (at .sheets) (at
-      .sheets + size .sheets) sheet sheets) (putOver (at .lists) (at .lists + size .lists) list lists) (moved at size))
+      .sheets + size .sheets) sheet sheets) (moved at size))
       ≡ turnMade (lentBy row) (asks (lentOf memory) row here) here
-  played-is numbers after memory′ trail sheet list does m t s l =
+  played-is numbers after memory′ trail sheet does m t s =
       let c = does next-size in
       let took : takenBy (k .ask row next) ≡ next = of-kind _ k (is .is-kind) .takes-all row next next-size in
-      made-is (lentBy row) at (moved at size) memory memory′ pool trails _ sheets _ lists _ (k .ask row next) numbers
+      made-is (lentBy row) at (moved at size) memory memory′ pool trails _ sheets _ (k .ask row next) numbers
       (ap (λ (x : Called). x .numbers) c)
       (m ∙ ap (λ (x : Called). left (x .after) memory) c)
       (ahead-moved (at .samples) (size .samples) pool (is .samples-there)
@@ -131,32 +124,30 @@ module _ (memory : Tables) (pool : List ℤ) (trails sheets lists : List ℕ) (a
       took) (ap (λ (x : Called). x .left .trail) c) t)
       (moved-on (at .sheets) (size .sheets) sheets _ _ sheet (inside .sheets-inside) (is .sheets-there) (ap (λ (x : Taken). x .sheet)
       took) (ap (λ (x : Called). x .left .sheet) c) s)
-      (moved-on (at .lists) (size .lists) lists _ _ list (inside .lists-inside) (is .lists-there) (ap (λ (x : Taken). x .list) took)
-      (ap (λ (x : Called). x .left .list) c) l)
-      ∙ ap (λ (o : Option Ask). turnMade (lentBy row) o here) (sym (asks-it (lentOf memory) row here k can))
+      ∙ ap (λ (o : Option RowAsk). turnMade (lentBy row) o here) (sym (asks-it (lentOf memory) row here k can))
 
   -- .. as code has it, which knows how far the row goes
   module _ (to : Amounts) (e : to ≡ moved at size) where
     pub next-is : taken (take (to .samples - at .samples) (drop (at .samples) pool)) (take (to .trails - at .trails) (drop (at .trails)
         trails))
-        (take (to .sheets - at .sheets) (drop (at .sheets) sheets)) (take (to .lists - at .lists) (drop (at .lists) lists)) ≡ next
+        (take (to .sheets - at .sheets) (drop (at .sheets) sheets)) ≡ next
     next-is = subst (λ (z : Amounts). taken (take (z .samples - at .samples) (drop (at .samples) pool)) (take (z .trails - at .trails)
         (drop (at .trails) trails))
-        (take (z .sheets - at .sheets) (drop (at .sheets) sheets)) (take (z .lists - at .lists) (drop (at .lists) lists)) ≡ next) (sym e)
+        (take (z .sheets - at .sheets) (drop (at .sheets) sheets)) ≡ next) (sym e)
         (taken-same (next-places (at .samples) (size .samples) pool) (next-places (at .trails) (size .trails) trails) (next-places (at
-        .sheets) (size .sheets) sheets) (next-places (at .lists) (size .lists) lists))
+        .sheets) (size .sheets) sheets))
 
-    pub played-to : (numbers : List ℕ) (after memory′ : Tables) (trail sheet list : List ℕ)
-        → (amountsOf next ≡ size → called numbers after (taken (next .samples) trail sheet list)
+    pub played-to : (numbers : List ℕ) (after memory′ : Tables) (trail sheet : List ℕ)
+        → (amountsOf next ≡ size → called numbers after (taken (next .samples) trail sheet)
         ≡ calledBy (k .ask row next) (firstPlaces (lentBy row) memory))
-        → memory′ ≡ left after memory → length trail ≡ size .trails → length sheet ≡ size .sheets → length list ≡ size .lists
+        → memory′ ≡ left after memory → length trail ≡ size .trails → length sheet ≡ size .sheets
         → turned (some numbers) (stateAt memory′ pool (putOver (at .trails) (to .trails) trail trails)
         (putOver (at .sheets) (to .sheets) sheet
-        sheets) (putOver (at .lists) (to .lists) list lists) to)
+        sheets) to)
         ≡ turnMade (lentBy row) (asks (lentOf memory) row here) here
-    played-to numbers after memory′ trail sheet list does m t s l =
+    played-to numbers after memory′ trail sheet does m t s =
         subst (λ (z : Amounts). turned (some numbers) (stateAt memory′ pool (putOver (at .trails) (z .trails) trail trails)
         (putOver (at .sheets) (z
-        .sheets) sheet sheets) (putOver (at .lists) (z .lists) list lists) z)
+        .sheets) sheet sheets) z)
         ≡ turnMade (lentBy row) (asks (lentOf memory) row here) here) (sym e)
-        (played-is numbers after memory′ trail sheet list does m t s l)
+        (played-is numbers after memory′ trail sheet does m t s)

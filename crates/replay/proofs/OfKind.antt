@@ -1,5 +1,5 @@
 -- The kinds of rows: what holds of each, and how a call of one follows its definition.
-use Prim.Native.Nat.{ℕ, zero, suc, _/_, _≤_, _<_}
+use Prim.Native.Nat.{ℕ, zero, suc, _≤_, _<_}
 use mathlib.Core.Path.{_≡_, refl, sym, ap, subst, _∙_}
 use mathlib.Core.Bool.{Bool, true, false}
 use mathlib.Core.Option.{Option, none, some, Option·none-ne-some, Option·some-injective}
@@ -12,7 +12,7 @@ use Rattle.integer.specs.Lists.{All, all-none, all-more}
 use Rattle.integer.proofs.Tests.{never-both}
 use Rattle.dstree.specs.Measures.{areSamples}
 use Rattle.dstree.specs.Sheet.{areBytes}
-use Rattle.dstree.specs.Book.{Ask, Answer}
+use Rattle.dstree.specs.Book.{Answer}
 use Rattle.tables.specs.Tables.{Tables}
 use Rattle.calls.specs.Outcome.{Outcome, outcome}
 use Rattle.calls.specs.Effects.{outcomeOn}
@@ -20,10 +20,8 @@ use Rattle.calls.specs.Follows.{Typed}
 use Rattle.replay.specs.declared.Amounts.{Amounts}
 use Rattle.replay.specs.declared.Wanted.{Wanted}
 use Rattle.replay.specs.ReplyRows.{replyRow}
-use Rattle.replay.specs.Script.{ownNumber, amounts, Taken, taken, amountsOf, CallKind, openingCalls, addingCalls, matchingCalls, writingCalls, readingCalls}
-use Rattle.replay.specs.Script.{listingCalls, importingCalls, exportingCalls, checkingCalls, batchingCalls, kinds, callKindAt}
-use Rattle.replay.specs.Script.{takesOf, wantedBy, takenBy, leftBy, Called, called, calledBy, RepliesTo, Plays}
-use Rattle.replay.proofs.Records.{places-back}
+use Rattle.replay.specs.Script.{ownNumber, RowAsk, askOf, amounts, Taken, taken, amountsOf, CallKind, openingCalls, addingCalls, matchingCalls, writingCalls}
+use Rattle.replay.specs.Script.{readingCalls, kinds, callKindAt, takesOf, wantedBy, takenBy, leftBy, Called, called, calledBy, RepliesTo, Plays}
 
 -- ---- what nothing is taken of is empty
 
@@ -31,10 +29,9 @@ empty : {A : Type 0} (l : List A) → length l ≡ 0 → l ≡ []
 empty [] e = refl
 empty (x ∷ l) e = absurd (omega arith)
 
-pub taken-same : {samples samples′ : List ℤ} {trail trail′ sheet sheet′ list list′ : List ℕ} → samples ≡ samples′ → trail ≡ trail′
-    → sheet ≡ sheet′ → list ≡ list′
-    → taken samples trail sheet list ≡ taken samples′ trail′ sheet′ list′
-taken-same a b c d = rw (a, b, c, d)
+pub taken-same : {samples samples′ : List ℤ} {trail trail′ sheet sheet′ : List ℕ} → samples ≡ samples′ → trail ≡ trail′ → sheet ≡ sheet′
+    → taken samples trail sheet ≡ taken samples′ trail′ sheet′
+taken-same a b c = rw (a, b, c)
 
 module _ (x : Taken) where
   no-samples : {c : Amounts} → amountsOf x ≡ c → c .samples ≡ 0 → x .samples ≡ []
@@ -46,98 +43,47 @@ module _ (x : Taken) where
   no-sheet : {c : Amounts} → amountsOf x ≡ c → c .sheets ≡ 0 → x .sheet ≡ []
   no-sheet e z = empty (x .sheet) (ap (λ (c : Amounts). c .sheets) e ∙ z)
 
-  no-list : {c : Amounts} → amountsOf x ≡ c → c .lists ≡ 0 → x .list ≡ []
-  no-list e z = empty (x .list) (ap (λ (c : Amounts). c .lists) e ∙ z)
-
   -- a row that takes bytes alone
-  bytes-only : {n : ℕ} {sheet sheet′ : List ℕ} → amountsOf x ≡ amounts 0 0 n 0 → sheet ≡ sheet′
-      → taken (x .samples) (x .trail) sheet (x .list) ≡ taken [] [] sheet′ []
-  bytes-only e s = taken-same (no-samples e refl) (no-trail e refl) s (no-list e refl)
+  bytes-only : {n : ℕ} {sheet sheet′ : List ℕ} → amountsOf x ≡ amounts 0 0 n → sheet ≡ sheet′
+      → taken (x .samples) (x .trail) sheet ≡ taken [] [] sheet′
+  bytes-only e s = taken-same (no-samples e refl) (no-trail e refl) s
 
 -- ---- what holds of each kind
 
 pub record KindLaws (k : CallKind) : Type 0 where
   -- its call takes all that its row takes
   pub takes-all : (row : List ℕ) (x : Taken) → amountsOf x ≡ k .takes row → takenBy (k .ask row x) ≡ x
-  -- and what it brings, and the tables, are as the slices' types say
-  pub typed : (row : List ℕ) (x : Taken) (t : Tables) → T (areSamples (x .samples)) → T (areBytes (x .sheet)) → T (areSamples
-      (t .samples)) → Typed (k .ask row x) t
+  -- and what it brings is as the slices' types say
+  pub typed : (row : List ℕ) (x : Taken) (t : Tables) → T (areSamples (x .samples)) → T (areBytes (x .sheet)) → Typed (askOf (k .ask row x)) t
 
 of-openings : KindLaws openingCalls
-unfolding takenBy Typed
+unfolding takenBy Typed askOf
 of-openings = record {
-  takes-all = λ row x e. taken-same (sym (no-samples x e refl)) (sym (no-trail x e refl)) (sym (no-sheet x e refl)) (sym (no-list x e
-      refl));
-  typed = λ row x t s b u. tt;
+  takes-all = λ row x e. taken-same (sym (no-samples x e refl)) (sym (no-trail x e refl)) (sym (no-sheet x e refl));
+  typed = λ row x t s b. tt;
 }
 
 of-addings : KindLaws addingCalls
-unfolding takenBy Typed
+unfolding takenBy Typed askOf
 of-addings = record {
-  takes-all = λ row x e. taken-same refl (sym (no-trail x e refl)) (sym (no-sheet x e refl)) (sym (no-list x e refl));
-  typed = λ row x t s b u. s;
+  takes-all = λ row x e. taken-same refl (sym (no-trail x e refl)) (sym (no-sheet x e refl));
+  typed = λ row x t s b. s;
 }
 
 of-matchings : KindLaws matchingCalls
-unfolding takenBy Typed
-of-matchings = record {
-  takes-all = λ row x e. taken-same refl refl (sym (no-sheet x e refl)) (sym (no-list x e refl));
-  typed = λ row x t s b u. tt;
-}
+unfolding takenBy Typed askOf
+of-matchings = record { takes-all = λ row x e. taken-same refl refl (sym (no-sheet x e refl)); typed = λ row x t s b. tt }
 
 of-writings : KindLaws writingCalls
-unfolding takenBy Typed
-of-writings = record {
-  takes-all = λ row x e. sym (bytes-only x e refl);
-  typed = λ row x t s b u. tt;
-}
+unfolding takenBy Typed askOf
+of-writings = record { takes-all = λ row x e. sym (bytes-only x e refl); typed = λ row x t s b. tt }
 
 of-readings : KindLaws readingCalls
-unfolding takenBy Typed
-of-readings = record {
-  takes-all = λ row x e. sym (bytes-only x e refl);
-  typed = λ row x t s b u. b;
-}
-
-of-listings : KindLaws listingCalls
-unfolding takenBy Typed
-of-listings = record { takes-all = λ row x e. taken-same refl refl (sym (no-sheet x e refl)) refl; typed = λ row x t s b u. tt }
-
-of-importings : KindLaws importingCalls
-unfolding takenBy Typed
-of-importings = record {
-  takes-all = λ row x e. sym (bytes-only x e refl);
-  typed = λ row x t s b u. (b, u);
-}
-
-of-exportings : KindLaws exportingCalls
-unfolding takenBy Typed
-of-exportings = record {
-  takes-all = λ row x e. sym (bytes-only x e refl);
-  typed = λ row x t s b u. tt;
-}
-
-of-checkings : KindLaws checkingCalls
-unfolding takenBy Typed
-of-checkings = record {
-  takes-all = λ row x e. taken-same (sym (no-samples x e refl)) (sym (no-trail x e refl)) (sym (no-sheet x e refl)) (sym (no-list x e
-      refl));
-  typed = λ row x t s b u. u;
-}
-
-of-batchings : KindLaws batchingCalls
-unfolding takenBy Typed
-of-batchings = record {
-  takes-all = λ row x e. taken-same refl refl (sym (no-sheet x e refl))
-      (places-back (ownNumber row 2 / 2) (x .list) (ap (λ (c : Amounts). c .lists) e));
-  typed = λ row x t s b u. tt;
-}
+unfolding takenBy Typed askOf
+of-readings = record { takes-all = λ row x e. sym (bytes-only x e refl); typed = λ row x t s b. b }
 
 of-kinds : All KindLaws kinds
-of-kinds =
-    all-more of-openings
-    (all-more of-addings (all-more of-matchings (all-more of-writings (all-more of-readings (all-more of-listings
-    (all-more of-importings (all-more of-exportings (all-more of-checkings (all-more of-batchings all-none)))))))))
+of-kinds = all-more of-openings (all-more of-addings (all-more of-matchings (all-more of-writings (all-more of-readings all-none))))
 
 of-some : {P : CallKind → Type 0} (among : List CallKind) → All P among → (number : ℕ) (k : CallKind) → callKindAt among number ≡ some k
     → P k
@@ -154,39 +100,24 @@ of-kind = of-some kinds of-kinds
 kind-is : (k₀ k : CallKind) → some k₀ ≡ some k → k .changes ≡ k₀ .changes
 kind-is k₀ k e = ap (λ (k : CallKind). k .changes) (sym (Option·some-injective k₀ k e))
 
-no-change : (number : ℕ) (k : CallKind) → (number ≡ 0 → ⊥) → (number ≡ 1 → ⊥) → (number ≡ 4 → ⊥) → (number ≡ 6 → ⊥)
-    → callKindAt kinds number ≡ some k → k .changes ≡ true → ⊥
+no-change : (number : ℕ) (k : CallKind) → (number ≡ 0 → ⊥) → (number ≡ 1 → ⊥) → (number ≡ 4 → ⊥) → callKindAt kinds number ≡ some k
+    → k .changes ≡ true → ⊥
 unfolding callKindAt
-no-change zero k f g h i e b = f refl
-no-change (suc zero) k f g h i e b = g refl
-no-change (suc (suc zero)) k f g h i e b = never-both b (kind-is matchingCalls k e)
-no-change (suc (suc (suc zero))) k f g h i e b = never-both b (kind-is writingCalls k e)
-no-change (suc (suc (suc (suc zero)))) k f g h i e b = h refl
-no-change (suc (suc (suc (suc (suc zero))))) k f g h i e b = never-both b (kind-is listingCalls k e)
-no-change (suc (suc (suc (suc (suc (suc zero)))))) k f g h i e b = i refl
-no-change (suc (suc (suc (suc (suc (suc (suc zero))))))) k f g h i e b = never-both b (kind-is exportingCalls k e)
-no-change (suc (suc (suc (suc (suc (suc (suc (suc zero)))))))) k f g h i e b = never-both b (kind-is checkingCalls k e)
-no-change (suc (suc (suc (suc (suc (suc (suc (suc (suc zero))))))))) k f g h i e b = never-both b (kind-is batchingCalls k e)
-no-change (suc (suc (suc (suc (suc (suc (suc (suc (suc (suc n)))))))))) k f g h i e b = absurd (Option·none-ne-some k e)
+no-change zero k f g h e b = f refl
+no-change (suc zero) k f g h e b = g refl
+no-change (suc (suc zero)) k f g h e b = never-both b (kind-is matchingCalls k e)
+no-change (suc (suc (suc zero))) k f g h e b = never-both b (kind-is writingCalls k e)
+no-change (suc (suc (suc (suc zero)))) k f g h e b = h refl
+no-change (suc (suc (suc (suc (suc n))))) k f g h e b = absurd (Option·none-ne-some k e)
 
-pub changes-if : (number : ℕ) (k : CallKind) → (number ≡ 2 → ⊥) → (number ≡ 3 → ⊥) → (number ≡ 5 → ⊥) → (number ≡ 7 → ⊥) → (number ≡ 8 → ⊥)
-    → (number ≡ 9 → ⊥) → callKindAt kinds number ≡ some k → k .changes ≡ true
+pub changes-if : (number : ℕ) (k : CallKind) → (number ≡ 2 → ⊥) → (number ≡ 3 → ⊥) → callKindAt kinds number ≡ some k → k .changes ≡ true
 unfolding callKindAt
-changes-if zero k f g h i j l e = kind-is openingCalls k e
-changes-if (suc zero) k f g h i j l e = kind-is addingCalls k e
-changes-if (suc (suc zero)) k f g h i j l e = absurd (f refl)
-changes-if (suc (suc (suc zero))) k f g h i j l e = absurd (g refl)
-changes-if (suc (suc (suc (suc zero)))) k f g h i j l e = kind-is readingCalls k e
-changes-if (suc (suc (suc (suc (suc zero))))) k f g h i j l e = absurd (h refl)
-changes-if (suc (suc (suc (suc (suc (suc zero)))))) k f g h i j l e = kind-is importingCalls k e
-changes-if (suc (suc (suc (suc (suc (suc (suc zero))))))) k f g h i j l e = absurd (i refl)
-changes-if (suc (suc (suc (suc (suc (suc (suc (suc zero)))))))) k f g h i j l e = absurd (j refl)
-changes-if (suc (suc (suc (suc (suc (suc (suc (suc (suc zero))))))))) k f g h i j l e = absurd (l refl)
-changes-if (suc (suc (suc (suc (suc (suc (suc (suc (suc (suc n)))))))))) k f g h i j l e = absurd (Option·none-ne-some k e)
-
-no-ask : (number : ℕ) (k : CallKind) → (number ≡ 2 → ⊥) → (number ≡ 3 → ⊥) → (number ≡ 5 → ⊥) → (number ≡ 7 → ⊥) → (number ≡ 8 → ⊥)
-    → (number ≡ 9 → ⊥) → callKindAt kinds number ≡ some k → k .changes ≡ false → ⊥
-no-ask number k f g h i j l e b = never-both (changes-if number k f g h i j l e) b
+changes-if zero k f g e = kind-is openingCalls k e
+changes-if (suc zero) k f g e = kind-is addingCalls k e
+changes-if (suc (suc zero)) k f g e = absurd (f refl)
+changes-if (suc (suc (suc zero))) k f g e = absurd (g refl)
+changes-if (suc (suc (suc (suc zero)))) k f g e = kind-is readingCalls k e
+changes-if (suc (suc (suc (suc (suc n))))) k f g e = absurd (Option·none-ne-some k e)
 
 -- the kind with a number
 pub changes-not : (number : ℕ) (k₀ k : CallKind) → callKindAt kinds number ≡ some k₀ → callKindAt kinds number ≡ some k
@@ -201,12 +132,11 @@ module _ (number : ℕ) (row : List ℕ) (x : Taken) (t : Tables) (c : Called) w
       ≡ calledBy (k .ask row x) t) (Option·some-injective k₀ k (sym i ∙ e)) h s
 
   -- there are no other kinds
-  pub no-other-change : (number ≡ 0 → ⊥) → (number ≡ 1 → ⊥) → (number ≡ 4 → ⊥) → (number ≡ 6 → ⊥) → Plays true number row x t c
-  no-other-change f g h i k e b s = absurd (no-change number k f g h i e b)
+  pub no-other-change : (number ≡ 0 → ⊥) → (number ≡ 1 → ⊥) → (number ≡ 4 → ⊥) → Plays true number row x t c
+  no-other-change f g h k e b s = absurd (no-change number k f g h e b)
 
-  pub no-other-ask : (number ≡ 2 → ⊥) → (number ≡ 3 → ⊥) → (number ≡ 5 → ⊥) → (number ≡ 7 → ⊥) → (number ≡ 8 → ⊥)
-      → (number ≡ 9 → ⊥) → Plays false number row x t c
-  no-other-ask f g h i j l k e b s = absurd (no-ask number k f g h i j l e b)
+  pub no-other-ask : (number ≡ 2 → ⊥) → (number ≡ 3 → ⊥) → Plays false number row x t c
+  no-other-ask f g k e b s = absurd (never-both (changes-if number k f g e) b)
 
 -- ---- what a row takes
 
@@ -218,51 +148,43 @@ wanted-is r row number k size e i s = ap (λ (r : Wanted). wantedBy r) e ∙ (ap
     ∙ sym (ap (λ (o : Option CallKind). takesOf o row) i))
 
 -- the kinds that take bytes alone
-bytes-alone : (row : List ℕ) (number : ℕ) → (number ≡ 0 → ⊥) → (number ≡ 1 → ⊥) → (number ≡ 2 → ⊥) → (number ≡ 5 → ⊥) → number < 8
-    → some (amounts 0 0 (ownNumber row 0) 0) ≡ takesOf (callKindAt kinds number) row
+bytes-alone : (row : List ℕ) (number : ℕ) → (number ≡ 0 → ⊥) → (number ≡ 1 → ⊥) → (number ≡ 2 → ⊥) → number < 5
+    → some (amounts 0 0 (ownNumber row 0)) ≡ takesOf (callKindAt kinds number) row
 unfolding takesOf callKindAt
-bytes-alone row zero f g h i l = absurd (f refl)
-bytes-alone row (suc zero) f g h i l = absurd (g refl)
-bytes-alone row (suc (suc zero)) f g h i l = absurd (h refl)
-bytes-alone row (suc (suc (suc zero))) f g h i l = refl
-bytes-alone row (suc (suc (suc (suc zero)))) f g h i l = refl
-bytes-alone row (suc (suc (suc (suc (suc zero))))) f g h i l = absurd (i refl)
-bytes-alone row (suc (suc (suc (suc (suc (suc zero)))))) f g h i l = refl
-bytes-alone row (suc (suc (suc (suc (suc (suc (suc zero))))))) f g h i l = refl
-bytes-alone row (suc (suc (suc (suc (suc (suc (suc (suc n)))))))) f g h i l = absurd (omega arith)
+bytes-alone row zero f g h l = absurd (f refl)
+bytes-alone row (suc zero) f g h l = absurd (g refl)
+bytes-alone row (suc (suc zero)) f g h l = absurd (h refl)
+bytes-alone row (suc (suc (suc zero))) f g h l = refl
+bytes-alone row (suc (suc (suc (suc zero)))) f g h l = refl
+bytes-alone row (suc (suc (suc (suc (suc n))))) f g h l = absurd (omega arith)
 
-pub wanted-bytes : (r : Wanted) (row : List ℕ) (number first : ℕ) → r ≡ record { known = true; size = amounts 0 0 first 0 }
-    → first ≡ ownNumber row 0 → (number ≡ 0 → ⊥) → (number ≡ 1 → ⊥) → (number ≡ 2 → ⊥) → (number ≡ 5 → ⊥) → number < 8
+pub wanted-bytes : (r : Wanted) (row : List ℕ) (number first : ℕ) → r ≡ record { known = true; size = amounts 0 0 first }
+    → first ≡ ownNumber row 0 → (number ≡ 0 → ⊥) → (number ≡ 1 → ⊥) → (number ≡ 2 → ⊥) → number < 5
     → wantedBy r ≡ takesOf (callKindAt kinds number) row
-wanted-bytes r row number first e o f g h i l =
-    ap (λ (r : Wanted). wantedBy r) e ∙ (ap (λ (x : ℕ). some (amounts 0 0 x 0)) o ∙ bytes-alone row number f g h i l)
+wanted-bytes r row number first e o f g h l =
+    ap (λ (r : Wanted). wantedBy r) e ∙ (ap (λ (x : ℕ). some (amounts 0 0 x)) o ∙ bytes-alone row number f g h l)
 
-pub wanted-not : (row : List ℕ) (number : ℕ) → 10 ≤ number → none ≡ takesOf (callKindAt kinds number) row
+pub wanted-not : (row : List ℕ) (number : ℕ) → 5 ≤ number → none ≡ takesOf (callKindAt kinds number) row
 unfolding takesOf callKindAt
 wanted-not row zero l = absurd (omega arith)
 wanted-not row (suc zero) l = absurd (omega arith)
 wanted-not row (suc (suc zero)) l = absurd (omega arith)
 wanted-not row (suc (suc (suc zero))) l = absurd (omega arith)
 wanted-not row (suc (suc (suc (suc zero)))) l = absurd (omega arith)
-wanted-not row (suc (suc (suc (suc (suc zero))))) l = absurd (omega arith)
-wanted-not row (suc (suc (suc (suc (suc (suc zero)))))) l = absurd (omega arith)
-wanted-not row (suc (suc (suc (suc (suc (suc (suc zero))))))) l = absurd (omega arith)
-wanted-not row (suc (suc (suc (suc (suc (suc (suc (suc zero)))))))) l = absurd (omega arith)
-wanted-not row (suc (suc (suc (suc (suc (suc (suc (suc (suc zero))))))))) l = absurd (omega arith)
-wanted-not row (suc (suc (suc (suc (suc (suc (suc (suc (suc (suc n)))))))))) l = refl
+wanted-not row (suc (suc (suc (suc (suc n))))) l = refl
 
 -- ---- a call follows its definition
 
 -- its own equation, with the reply as numbers
-pub replies : (ask : Ask) (t : Tables) {t′ : Tables} {numbers : List ℕ} {a : Answer} {beside : List (List ℕ)} → numbers ≡ replyRow a
-    → outcome a t′ beside ≡ outcomeOn ask t → RepliesTo ask t numbers t′ beside
+pub replies : (ask : RowAsk) (t : Tables) {t′ : Tables} {numbers : List ℕ} {a : Answer} {beside : List (List ℕ)} → numbers ≡ replyRow a
+    → outcome a t′ beside ≡ outcomeOn (askOf ask) t → RepliesTo ask t numbers t′ beside
 replies ask t h does = (
   h ∙ ap (λ (o : Outcome). replyRow (o .answer)) does,
   ap (λ (o : Outcome). o .after) does,
   ap (λ (o : Outcome). o .beside) does,
 )
 
-called-is : (ask : Ask) (t t′ : Tables) (numbers : List ℕ) (y : Taken) (beside : List (List ℕ)) → RepliesTo ask t numbers t′ beside
+called-is : (ask : RowAsk) (t t′ : Tables) (numbers : List ℕ) (y : Taken) (beside : List (List ℕ)) → RepliesTo ask t numbers t′ beside
     → y ≡ leftBy ask beside → called numbers t′ y ≡ calledBy ask t
 called-is ask t t′ numbers y beside r e = rw (r .0, r .1, e, r .2)
 
@@ -271,25 +193,25 @@ module _ (row : List ℕ) (x : Taken) (t t′ : Tables) (numbers : List ℕ) whe
       → called numbers t′ x ≡ calledBy (openingCalls .ask row x) t
   unfolding leftBy
   opens-it r e = called-is (openingCalls .ask row x) t t′ numbers x [] r
-      (taken-same (no-samples x e refl) (no-trail x e refl) (no-sheet x e refl) (no-list x e refl))
+      (taken-same (no-samples x e refl) (no-trail x e refl) (no-sheet x e refl))
 
   pub adds-it : RepliesTo (addingCalls .ask row x) t numbers t′ [] → amountsOf x ≡ addingCalls .takes row
       → called numbers t′ x ≡ calledBy (addingCalls .ask row x) t
   unfolding leftBy
   adds-it r e = called-is (addingCalls .ask row x) t t′ numbers x [] r
-      (taken-same refl (no-trail x e refl) (no-sheet x e refl) (no-list x e refl))
+      (taken-same refl (no-trail x e refl) (no-sheet x e refl))
 
   pub matches-it : (trail : List ℕ) → RepliesTo (matchingCalls .ask row x) t numbers t′ (trail ∷ [])
       → amountsOf x ≡ matchingCalls .takes row
-      → called numbers t′ (taken (x .samples) trail (x .sheet) (x .list)) ≡ calledBy (matchingCalls .ask row x) t
+      → called numbers t′ (taken (x .samples) trail (x .sheet)) ≡ calledBy (matchingCalls .ask row x) t
   unfolding leftBy
-  matches-it trail r e = called-is (matchingCalls .ask row x) t t′ numbers (taken (x .samples) trail (x .sheet) (x .list)) (trail ∷ []) r
-      (taken-same refl refl (no-sheet x e refl) (no-list x e refl))
+  matches-it trail r e = called-is (matchingCalls .ask row x) t t′ numbers (taken (x .samples) trail (x .sheet)) (trail ∷ []) r
+      (taken-same refl refl (no-sheet x e refl))
 
   pub writes-it : (sheet : List ℕ) → RepliesTo (writingCalls .ask row x) t numbers t′ (sheet ∷ []) → amountsOf x ≡ writingCalls .takes row
-      → called numbers t′ (taken (x .samples) (x .trail) sheet (x .list)) ≡ calledBy (writingCalls .ask row x) t
+      → called numbers t′ (taken (x .samples) (x .trail) sheet) ≡ calledBy (writingCalls .ask row x) t
   unfolding leftBy
-  writes-it sheet r e = called-is (writingCalls .ask row x) t t′ numbers (taken (x .samples) (x .trail) sheet (x .list)) (sheet ∷ []) r
+  writes-it sheet r e = called-is (writingCalls .ask row x) t t′ numbers (taken (x .samples) (x .trail) sheet) (sheet ∷ []) r
       (bytes-only x e refl)
 
   pub reads-it : RepliesTo (readingCalls .ask row x) t numbers t′ [] → amountsOf x ≡ readingCalls .takes row
@@ -297,39 +219,3 @@ module _ (row : List ℕ) (x : Taken) (t t′ : Tables) (numbers : List ℕ) whe
   unfolding leftBy
   reads-it r e = called-is (readingCalls .ask row x) t t′ numbers x [] r
       (bytes-only x e refl)
-
-  pub lists-it : (trail list : List ℕ) → RepliesTo (listingCalls .ask row x) t numbers t′ (trail ∷ list ∷ [])
-      → amountsOf x ≡ listingCalls .takes row
-      → called numbers t′ (taken (x .samples) trail (x .sheet) list) ≡ calledBy (listingCalls .ask row x) t
-  unfolding leftBy
-  lists-it trail list r e = called-is (listingCalls .ask row x) t t′ numbers (taken (x .samples) trail (x .sheet) list)
-      (trail ∷ list ∷ []) r
-      (taken-same refl refl (no-sheet x e refl) refl)
-
-  pub imports-it : RepliesTo (importingCalls .ask row x) t numbers t′ [] → amountsOf x ≡ importingCalls .takes row
-      → called numbers t′ x ≡ calledBy (importingCalls .ask row x) t
-  unfolding leftBy
-  imports-it r e = called-is (importingCalls .ask row x) t t′ numbers x [] r
-      (bytes-only x e refl)
-
-  pub exports-it : (buffer : List ℕ) → RepliesTo (exportingCalls .ask row x) t numbers t′ (buffer ∷ [])
-      → amountsOf x ≡ exportingCalls .takes row
-      → called numbers t′ (taken (x .samples) (x .trail) buffer (x .list)) ≡ calledBy (exportingCalls .ask row x) t
-  unfolding leftBy
-  exports-it buffer r e = called-is (exportingCalls .ask row x) t t′ numbers (taken (x .samples) (x .trail) buffer (x .list))
-      (buffer ∷ []) r
-      (bytes-only x e refl)
-
-  pub checks-it : RepliesTo (checkingCalls .ask row x) t numbers t′ [] → amountsOf x ≡ checkingCalls .takes row
-      → called numbers t′ x ≡ calledBy (checkingCalls .ask row x) t
-  unfolding leftBy
-  checks-it r e = called-is (checkingCalls .ask row x) t t′ numbers x [] r
-      (taken-same (no-samples x e refl) (no-trail x e refl) (no-sheet x e refl) (no-list x e refl))
-
-  pub batches-it : (trail list : List ℕ) → RepliesTo (batchingCalls .ask row x) t numbers t′ (trail ∷ list ∷ [])
-      → amountsOf x ≡ batchingCalls .takes row
-      → called numbers t′ (taken (x .samples) trail (x .sheet) list) ≡ calledBy (batchingCalls .ask row x) t
-  unfolding leftBy
-  batches-it trail list r e = called-is (batchingCalls .ask row x) t t′ numbers (taken (x .samples) trail (x .sheet) list)
-      (trail ∷ list ∷ []) r
-      (taken-same refl refl (no-sheet x e refl) refl)

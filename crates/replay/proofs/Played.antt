@@ -10,10 +10,9 @@ use lib.IntN.{ℤ}
 use lib.ListN.{length, drop, take-append-drop, length-append, drop-of-length-le}
 use lib.Dec.{T}
 use Rattle.integer.specs.Words.{if_then_else_}
-use Rattle.integer.proofs.Lists.{every-take}
 use Rattle.dstree.specs.Measures.{areSamples}
 use Rattle.dstree.specs.Sheet.{areBytes}
-use Rattle.dstree.specs.Book.{Lent, Ask, Call, call, Answer, Reply}
+use Rattle.dstree.specs.Book.{Lent, Call, call, Answer, Reply}
 use Rattle.tables.specs.Tables.{Tables, lentOf}
 use Rattle.tables.specs.Beginning.{LentWithin, firstPlaces}
 use Rattle.tables.proofs.Beginning.{first-lent}
@@ -23,10 +22,10 @@ use Rattle.replay.specs.Demanded.{Demanded}
 use Rattle.replay.specs.declared.Amounts.{Amounts}
 use Rattle.replay.specs.declared.Turn.{Turn}
 use Rattle.replay.specs.ReplyRows.{replyRow, withRow, repliesLaid}
-use Rattle.replay.specs.Script.{rowsIn, rowsOf, lentBy, State, stateAt, AmountsInside, amounts, asks, replyIn, stateAfter, Turned, turned}
+use Rattle.replay.specs.Script.{RowAsk, askOf, rowsIn, rowsOf, lentBy, State, stateAt, AmountsInside, amounts, asks, replyIn, stateAfter, Turned, turned}
 use Rattle.replay.specs.Script.{turnMade, turnOf}
 use Rattle.replay.specs.Script.{Played, begun, playedOne, playedRow, answersOf, played, whole, tellsRow, nextRow}
-use Rattle.replay.proofs.Asking.{SoundState, isSample, asked-typed, asked-within, sound-after}
+use Rattle.replay.proofs.Asking.{SoundState, asked-typed, asked-within, sound-after}
 
 -- ---- one call more
 
@@ -63,41 +62,40 @@ pub record RowsPlayed (t₀ : Tables) (replies₀ : List ℕ) (p : Played) (repl
 
 module _ (t₀ : Tables) (replies₀ : List ℕ) where
   -- by whether the row asks for a call
-  row-fine : (row : List ℕ) (p : Played) (replies : List ℕ) (k : ℕ) (r : Turn) (now′ : State) (o : Option Ask)
+  row-fine : (row : List ℕ) (p : Played) (replies : List ℕ) (k : ℕ) (r : Turn) (now′ : State) (o : Option RowAsk)
       → RowsPlayed t₀ replies₀ p replies k → asks (lentOf t₀) row (p .now) ≡ o
       → turned (if r .made then some (r .numbers) else none) now′ ≡ turnMade
       (lentBy row) o (p .now)
-      → lentOf (now′ .memory) ≡ lentOf t₀ → T (areSamples (p .now .memory .samples))
+      → lentOf (now′ .memory) ≡ lentOf t₀
       → (now′ ≡ playedOne (lentBy row) o p .now) × RowsPlayed t₀ replies₀ (playedOne (lentBy row) o p) (tellsRow r k replies) (nextRow r k)
   unfolding turnMade stateAfter playedOne tellsRow nextRow
-  row-fine row p replies k r now′ none f a e l known = by (r .made) (ap (λ (t : Turned). t .numbers) e)
+  row-fine row p replies k r now′ none f a e l = by (r .made) (ap (λ (t : Turned). t .numbers) e)
     where
       by : (b : Bool) → (if b then some (r .numbers) else none) ≡ none
           → (now′ ≡ p .now) × RowsPlayed t₀ replies₀ p (if b then withRow replies k (r .numbers) else replies) (if b then k + 1 else k)
       by true n = let z : _≡_ {A = ℕ} 0 1 = cc in absurd (omega arith)
       by false n = (ap (λ (t : Turned). t .now) e, f)
-  row-fine row p replies k r now′ (some ask) f a e l known = by (r .made) (ap (λ (t : Turned). t .numbers) e)
+  row-fine row p replies k r now′ (some ask) f a e l = by (r .made) (ap (λ (t : Turned). t .numbers) e)
     where
       c : Call
-      c = call (lentBy row) ask
+      c = call (lentBy row) (askOf ask)
 
-      moved : now′ ≡ stateAfter c (p .now)
+      moved : now′ ≡ stateAfter (lentBy row) ask (p .now)
       moved = ap (λ (t : Turned). t .now) e
 
-      long : lentOf (stateAfter c (p .now) .memory) ≡ lentOf t₀
+      long : lentOf (stateAfter (lentBy row) ask (p .now) .memory) ≡ lentOf t₀
       long = ap (λ (s : State). lentOf (s .memory)) (sym moved) ∙ l
 
-      follows : Follows c (p .now .memory) (replyIn c (p .now .memory)) (stateAfter c (p .now) .memory)
+      follows : Follows c (p .now .memory) (replyIn c (p .now .memory)) (stateAfter (lentBy row) ask (p .now) .memory)
       follows = record {
         has-places = first-lent (lentBy row) (p .now .memory)
             (subst (λ (x : Lent). LentWithin (lentBy row) x) (sym (f .sound .as-long)) (asked-within (lentOf t₀) row (p .now) ask a));
-        typed = asked-typed (lentOf t₀) row (p .now) (f .sound) ask a (firstPlaces (lentBy row) (p .now .memory))
-            (every-take isSample (lentBy row .samples) (p .now .memory .samples) known);
+        typed = asked-typed (lentOf t₀) row (p .now) (f .sound) ask a (firstPlaces (lentBy row) (p .now .memory));
         follows = refl;
       }
 
       by : (b : Bool) → (if b then some (r .numbers) else none) ≡ some (replyRow (replyIn c (p .now .memory) .answer))
-          → (now′ ≡ stateAfter c (p .now)) × RowsPlayed t₀ replies₀ (playedOne (lentBy row) (some ask) p) (if b then withRow replies k
+          → (now′ ≡ stateAfter (lentBy row) ask (p .now)) × RowsPlayed t₀ replies₀ (playedOne (lentBy row) (some ask) p) (if b then withRow replies k
           (r .numbers) else replies) (if b then k + 1 else k)
       by false n = let z : _≡_ {A = ℕ} 0 1 = cc in absurd (omega arith)
       by true n =
@@ -106,7 +104,7 @@ module _ (t₀ : Tables) (replies₀ : List ℕ) where
             moved,
             record {
               ran = ran-more (f .ran) follows;
-              sound = sound-after (lentOf t₀) (p .now) (f .sound) c long;
+              sound = sound-after (lentOf t₀) (p .now) (f .sound) (lentBy row) ask long;
               counted = omega (arith, f .counted, length-append (p .said) (replyIn c (p .now .memory) ∷ []));
               laid =
                   rw (numbers, f .laid, f .counted, answers-more (p .said) (replyIn c (p .now .memory)))
@@ -118,27 +116,27 @@ module _ (t₀ : Tables) (replies₀ : List ℕ) where
 
 -- ---- the loop
 
-module _ (t₀ : Tables) (script : List ℕ) (pool : List ℤ) (trails₀ sheets₀ lists₀ replies₀ : List ℕ) where
+module _ (t₀ : Tables) (script : List ℕ) (pool : List ℤ) (trails₀ sheets₀ replies₀ : List ℕ) where
   abbrev end : Played
-  end = played t₀ script pool trails₀ sheets₀ lists₀
+  end = played t₀ script pool trails₀ sheets₀
 
   -- the rows up to a place are played, and k replies are laid down
-  pub record Playing (t : Tables) (trails sheets lists replies : List ℕ) (at : Amounts) (place k : ℕ) : Type 0 where
+  pub record Playing (t : Tables) (trails sheets replies : List ℕ) (at : Amounts) (place k : ℕ) : Type 0 where
     pub so-far : Played
-    pub state-is : stateAt t pool trails sheets lists at ≡ so-far .now
+    pub state-is : stateAt t pool trails sheets at ≡ so-far .now
     pub fine : RowsPlayed t₀ replies₀ so-far replies k
     pub onward : foldl (playedRow (lentOf t₀)) so-far (rowsOf (drop place script)) ≡ end
-    pub inside : AmountsInside at pool trails sheets lists
+    pub inside : AmountsInside at pool trails sheets
     pub few : k ≤ place
 
-  pub playing-first : T (areSamples pool) → T (areBytes sheets₀) → Playing t₀ trails₀ sheets₀ lists₀ replies₀ (amounts 0 0 0 0) 0 0
+  pub playing-first : T (areSamples pool) → T (areBytes sheets₀) → Playing t₀ trails₀ sheets₀ replies₀ (amounts 0 0 0) 0 0
   unfolding repliesLaid
   playing-first s b = record {
-    so-far = begun t₀ pool trails₀ sheets₀ lists₀;
+    so-far = begun t₀ pool trails₀ sheets₀;
     state-is = refl;
     fine = record { ran = no-call; sound = record { as-long = refl; of-samples = s; of-bytes = b }; counted = refl; laid = refl };
     onward = refl;
-    inside = record { samples-inside = omega arith; trails-inside = omega arith; sheets-inside = omega arith; lists-inside = omega arith };
+    inside = record { samples-inside = omega arith; trails-inside = omega arith; sheets-inside = omega arith };
     few = omega arith;
   }
 
@@ -151,27 +149,26 @@ module _ (t₀ : Tables) (script : List ℕ) (pool : List ℤ) (trails₀ sheets
       by false = omega arith
 
   -- a row that a turn has played
-  pub playing-on : {t t′ : Tables} {trails trails′ sheets sheets′ lists lists′ replies : List ℕ} {at : Amounts} {place k : ℕ} (r : Turn)
+  pub playing-on : {t t′ : Tables} {trails trails′ sheets sheets′ replies : List ℕ} {at : Amounts} {place k : ℕ} (r : Turn)
       (row : List ℕ) (to : ℕ)
-      → Playing t trails sheets lists replies at place k → T (areSamples (t .samples)) → lentOf t ≡ lentOf t₀ → lentOf t′ ≡ lentOf t₀
+      → Playing t trails sheets replies at place k → lentOf t ≡ lentOf t₀ → lentOf t′ ≡ lentOf t₀
       → rowsOf (drop place script) ≡ row ∷ rowsOf (drop to script) → place + 1 ≤ to
-      → turnOf r t′ pool trails′ sheets′ lists′ ≡ turnMade (lentBy row) (asks (lentOf t) row (stateAt t pool trails sheets lists at))
-      (stateAt t pool trails sheets lists at)
-      → AmountsInside (r .at) pool trails sheets lists → length trails′ ≡ length trails → length sheets′ ≡ length sheets → length lists′ ≡
-      length lists
-      → (replies′ : List ℕ) (k′ : ℕ) → replies′ ≡ tellsRow r k replies → k′ ≡ nextRow r k → Playing t′ trails′ sheets′ lists′ replies′
+      → turnOf r t′ pool trails′ sheets′ ≡ turnMade (lentBy row) (asks (lentOf t) row (stateAt t pool trails sheets at))
+      (stateAt t pool trails sheets at)
+      → AmountsInside (r .at) pool trails sheets → length trails′ ≡ length trails → length sheets′ ≡ length sheets
+      → (replies′ : List ℕ) (k′ : ℕ) → replies′ ≡ tellsRow r k replies → k′ ≡ nextRow r k → Playing t′ trails′ sheets′ replies′
       (r .at) to k′
   unfolding playedRow
-  playing-on {t} {t′} {trails} {trails′} {sheets} {sheets′} {lists} {lists′} {replies} {at} {place} {k} r row to h known l l′ next more e
-      i m n o replies′ k′ q u =
+  playing-on {t} {t′} {trails} {trails′} {sheets} {sheets′} {replies} {at} {place} {k} r row to h l l′ next more e
+      i m n replies′ k′ q u =
       let p = h .so-far in
-      let asked : turnOf r t′ pool trails′ sheets′ lists′ ≡ turnMade (lentBy row) (asks (lentOf t₀) row (p .now)) (p .now) =
+      let asked : turnOf r t′ pool trails′ sheets′ ≡ turnMade (lentBy row) (asks (lentOf t₀) row (p .now)) (p .now) =
       e
-      ∙ (ap (λ (x : Lent). turnMade (lentBy row) (asks x row (stateAt t pool trails sheets lists at))
-      (stateAt t pool trails sheets lists at)) l
+      ∙ (ap (λ (x : Lent). turnMade (lentBy row) (asks x row (stateAt t pool trails sheets at))
+      (stateAt t pool trails sheets at)) l
       ∙ ap (λ (x : State). turnMade (lentBy row) (asks (lentOf t₀) row x) x) (h .state-is)) in
-      let g = row-fine t₀ replies₀ row p replies k r (stateAt t′ pool trails′ sheets′ lists′ (r .at)) (asks (lentOf t₀) row (p .now))
-      (h .fine) refl asked l′ (subst (λ (x : State). T (areSamples (x .memory .samples))) (h .state-is) known) in
+      let g = row-fine t₀ replies₀ row p replies k r (stateAt t′ pool trails′ sheets′ (r .at)) (asks (lentOf t₀) row (p .now))
+      (h .fine) refl asked l′ in
       record {
         so-far = playedRow (lentOf t₀) p row;
         state-is = g .0;
@@ -182,20 +179,19 @@ module _ (t₀ : Tables) (script : List ℕ) (pool : List ℤ) (trails₀ sheets
           samples-inside = i .samples-inside;
           trails-inside = subst (λ (x : ℕ). r .at .trails ≤ x) (sym m) (i .trails-inside);
           sheets-inside = subst (λ (x : ℕ). r .at .sheets ≤ x) (sym n) (i .sheets-inside);
-          lists-inside = subst (λ (x : ℕ). r .at .lists ≤ x) (sym o) (i .lists-inside);
         };
         few = subst (λ (j : ℕ). j ≤ to) (sym u) (few-more r k place to (h .few) more);
       }
 
   -- when every row is played
-  module _ {t : Tables} {trails sheets lists replies : List ℕ} {at : Amounts} {place k : ℕ} (h : Playing t trails sheets lists replies at
+  module _ {t : Tables} {trails sheets replies : List ℕ} {at : Amounts} {place k : ℕ} (h : Playing t trails sheets replies at
       place k) (all : length script ≤ place) where
     at-end : h .so-far ≡ end
     unfolding rowsIn
     at-end = ap (λ (l : List ℕ). foldl (playedRow (lentOf t₀)) (h .so-far) (rowsOf l)) (sym (drop-of-length-le script {i = place} all)) ∙
         h .onward
 
-    state-then : stateAt t pool trails sheets lists at ≡ end .now
+    state-then : stateAt t pool trails sheets at ≡ end .now
     state-then = h .state-is ∙ ap (λ (p : Played). p .now) at-end
 
     pub memory-then : t ≡ end .now .memory
@@ -206,9 +202,6 @@ module _ (t₀ : Tables) (script : List ℕ) (pool : List ℤ) (trails₀ sheets
 
     pub sheets-then : sheets ≡ whole (end .now .sheets)
     sheets-then = sym (take-append-drop (at .sheets) sheets) ∙ ap (λ (s : State). whole (s .sheets)) state-then
-
-    pub lists-then : lists ≡ whole (end .now .lists)
-    lists-then = sym (take-append-drop (at .lists) lists) ∙ ap (λ (s : State). whole (s .lists)) state-then
 
     pub replies-then : replies ≡ repliesLaid (answersOf (end .said)) 0 replies₀
     replies-then = h .fine .laid ∙ ap (λ (p : Played). repliesLaid (answersOf (p .said)) 0 replies₀) at-end
@@ -225,12 +218,9 @@ same-lengths t s c p n l w = rw (c, p, n, l, w)
 
 -- ---- the demands
 
--- calls that ran are as document 01 demands, from the first that succeeded on, and as document 02 claims, from a check on that accepted
+-- calls that ran are as document 01 demands, from the first that succeeded on
 pub demanded : (calls : List Call) (said : List Reply) {memory memory′ : Tables} → Ran memory calls said memory′
-    → Demanded memory calls said memory′
+    → Demanded calls said memory′
 unfolding Demanded
 demanded [] said ran = tt
-demanded (first ∷ calls) (said₀ ∷ said) {memory} {memory′} ran = (
-  λ e. demands .after-list first calls memory memory′ said₀ said ran e,
-  λ e. demands .after-check first calls memory memory′ said₀ said ran e,
-)
+demanded (first ∷ calls) (said₀ ∷ said) {memory} {memory′} ran = λ e. demands .after-list first calls memory memory′ said₀ said ran e

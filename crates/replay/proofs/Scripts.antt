@@ -1,6 +1,6 @@
--- Every list of calls that code can be asked to make has a script: the calls' rows, samples, trails, sheets and lists, each one behind
--- another.
-use Prim.Native.Nat.{ℕ, _*_, _<_, _^_}
+-- Every list of document 01's calls that code can be asked to make has a script: the calls' rows, samples, trails and sheets, each one
+-- behind another.
+use Prim.Native.Nat.{ℕ, _<_, _^_}
 use native.Mathlib.Nat.{lt-of-le-of-lt}
 use native.Mathlib.Omega.{arith}
 use mathlib.Core.Path.{_≡_, refl, sym, ap, _∙_}
@@ -17,22 +17,17 @@ use Rattle.integer.proofs.Tests.{passes, test-true}
 use Rattle.integer.specs.Lists.{All, all-none, all-more}
 use Rattle.integer.proofs.Lists.{all-append, every-all, all-every}
 use Rattle.dstree.specs.Sheet.{areBytes}
-use Rattle.dstree.specs.KNearest.{listPlaces}
-use Rattle.dstree.specs.Book.{Lent, Ask, opening, adding, searching, writing, reading, importing, exporting, checking, Call}
-use Rattle.dstree.specs.Book.{aMatch, aListing, aBatch, batching, call}
+use Rattle.dstree.specs.Book.{Lent}
 use Rattle.tables.specs.Tables.{Tables, lentOf}
 use Rattle.tables.specs.Beginning.{LentWithin}
-use Rattle.reading.specs.Listed.{nearsIn}
-use Rattle.reading.proofs.Places.{places-length}
-use Rattle.replay.specs.Script.{State, lentBy, Taken, amountsOf, nextOf, aheadOf, CallKind, openingCalls, addingCalls, matchingCalls, writingCalls}
-use Rattle.replay.specs.Script.{amounts, readingCalls, listingCalls, importingCalls, exportingCalls, checkingCalls, batchingCalls, kinds, callKindAt}
+use Rattle.replay.specs.Script.{RowAsk, anOpening, anAdding, aMatching, aWriting, aReading, State, lentBy, Taken, amountsOf, nextOf, aheadOf, CallKind}
+use Rattle.replay.specs.Script.{openingCalls, addingCalls, matchingCalls, writingCalls, readingCalls, kinds, callKindAt}
 use Rattle.replay.specs.Script.{fitsIn, enough, ifEnough, playable, askedBy, asks, takenBy, stateAfter, turnMade, Played, begun}
 use Rattle.replay.specs.Script.{playedOne, playedRow}
 use Rattle.replay.specs.declared.Amounts.{Amounts}
-use Rattle.replay.specs.Scripts.{Word, Mark, ArgumentsFit, Possible, MachineLengths, Script}
+use Rattle.replay.specs.Scripts.{Word, Mark, ListCall, callOf, ArgumentsFit, Possible, MachineLengths, Script}
 use Rattle.replay.proofs.ReadBack.{scriptOf, rows-of-script}
 use Rattle.replay.proofs.Asking.{isSample, isByte}
-use Rattle.replay.proofs.Records.{nears-back, half}
 
 -- ---- a call's row
 
@@ -40,7 +35,7 @@ lengthsAnd : Lent → List ℕ → List ℕ
 lengthsAnd lent own = lent .control ∷ lent .samples ∷ lent .nodes ∷ lent .links ∷ lent .work ∷ own
 
 -- by the number of its kind and its own numbers
-record Row (ask : Ask) : Type 0 where
+record Row (ask : RowAsk) : Type 0 where
   pub number : ℕ
   pub own : List ℕ
   pub kind : CallKind
@@ -53,11 +48,10 @@ record Row (ask : Ask) : Type 0 where
   pub samples-fit : ArgumentsFit ask → All (λ z. T (isSample z)) (takenBy ask .samples)
   pub marks-fit : ArgumentsFit ask → All Mark (takenBy ask .trail)
   pub bytes-fit : ArgumentsFit ask → All (λ b. T (isByte b)) (takenBy ask .sheet)
-  pub list-fits : ArgumentsFit ask → All Word (takenBy ask .list)
 
-rowFor : (ask : Ask) → Row ask
+rowFor : (ask : RowAsk) → Row ask
 unfolding callKindAt lengthsAnd takenBy ArgumentsFit areBytes
-rowFor (opening m) = record {
+rowFor (anOpening m) = record {
   number = 0;
   own = m .n ∷ m .capacity ∷ m .leafSize ∷ [];
   kind = openingCalls;
@@ -70,9 +64,8 @@ rowFor (opening m) = record {
   samples-fit = λ s. all-none;
   marks-fit = λ s. all-none;
   bytes-fit = λ s. all-none;
-  list-fits = λ s. all-none;
 }
-rowFor (adding x) = record {
+rowFor (anAdding x) = record {
   number = 1;
   own = length x ∷ [];
   kind = addingCalls;
@@ -85,9 +78,8 @@ rowFor (adding x) = record {
   samples-fit = λ s. every-all isSample x (s .0);
   marks-fit = λ s. all-none;
   bytes-fit = λ s. all-none;
-  list-fits = λ s. all-none;
 }
-rowFor (searching (aMatch x trail)) = record {
+rowFor (aMatching x trail) = record {
   number = 2;
   own = length x ∷ length trail ∷ [];
   kind = matchingCalls;
@@ -100,9 +92,8 @@ rowFor (searching (aMatch x trail)) = record {
   samples-fit = λ s. every-all isSample x (s .0);
   marks-fit = λ s. s .2;
   bytes-fit = λ s. all-none;
-  list-fits = λ s. all-none;
 }
-rowFor (writing sheet) = record {
+rowFor (aWriting sheet) = record {
   number = 3;
   own = length sheet ∷ [];
   kind = writingCalls;
@@ -115,9 +106,8 @@ rowFor (writing sheet) = record {
   samples-fit = λ s. all-none;
   marks-fit = λ s. all-none;
   bytes-fit = λ s. every-all isByte sheet (s .0);
-  list-fits = λ s. all-none;
 }
-rowFor (reading bytes) = record {
+rowFor (aReading bytes) = record {
   number = 4;
   own = length bytes ∷ [];
   kind = readingCalls;
@@ -130,106 +120,25 @@ rowFor (reading bytes) = record {
   samples-fit = λ s. all-none;
   marks-fit = λ s. all-none;
   bytes-fit = λ s. every-all isByte bytes (s .0);
-  list-fits = λ s. all-none;
-}
-rowFor (searching (aListing k x trail list)) = record {
-  number = 5;
-  own = length x ∷ length trail ∷ length list ∷ k ∷ [];
-  kind = listingCalls;
-  is-kind = refl;
-  takes-that = λ lent. refl;
-  asks-that = λ lent. refl;
-  short = lit< tt;
-  numbers-fit = λ s. all-more (s .2) (all-more (s .4) (all-more (s .6) (all-more (s .0) all-none)));
-  number-fits = lit< tt;
-  samples-fit = λ s. every-all isSample x (s .1);
-  marks-fit = λ s. s .3;
-  bytes-fit = λ s. all-none;
-  list-fits = λ s. s .5;
-}
-rowFor (importing bytes) = record {
-  number = 6;
-  own = length bytes ∷ [];
-  kind = importingCalls;
-  is-kind = refl;
-  takes-that = λ lent. refl;
-  asks-that = λ lent. refl;
-  short = lit< tt;
-  numbers-fit = λ s. all-more (s .1) all-none;
-  number-fits = lit< tt;
-  samples-fit = λ s. all-none;
-  marks-fit = λ s. all-none;
-  bytes-fit = λ s. every-all isByte bytes (s .0);
-  list-fits = λ s. all-none;
-}
-rowFor (exporting number rate buffer) = record {
-  number = 7;
-  own = length buffer ∷ number ∷ rate ∷ [];
-  kind = exportingCalls;
-  is-kind = refl;
-  takes-that = λ lent. refl;
-  asks-that = λ lent. refl;
-  short = lit< tt;
-  numbers-fit = λ s. all-more (s .3) (all-more (s .0) (all-more (s .1) all-none));
-  number-fits = lit< tt;
-  samples-fit = λ s. all-none;
-  marks-fit = λ s. all-none;
-  bytes-fit = λ s. every-all isByte buffer (s .2);
-  list-fits = λ s. all-none;
-}
-rowFor checking = record {
-  number = 8;
-  own = [];
-  kind = checkingCalls;
-  is-kind = refl;
-  takes-that = λ lent. refl;
-  asks-that = λ lent. refl;
-  short = lit< tt;
-  numbers-fit = λ s. all-none;
-  number-fits = lit< tt;
-  samples-fit = λ s. all-none;
-  marks-fit = λ s. all-none;
-  bytes-fit = λ s. all-none;
-  list-fits = λ s. all-none;
-}
-rowFor (searching (aBatch many x trail list)) = record {
-  number = 9;
-  own = length x ∷ length trail ∷ length (listPlaces list) ∷ many ∷ [];
-  kind = batchingCalls;
-  is-kind = refl;
-  takes-that = λ lent. ap (λ (n : ℕ). amounts (length x) (length trail) 0 n)
-      (ap (λ (n : ℕ). 2 * n) (half list) ∙ sym (places-length list));
-  asks-that = λ lent. ap (batching many x trail)
-      (ap (λ (n : ℕ). nearsIn n (listPlaces list)) (half list) ∙ nears-back (length list) list refl);
-  short = lit< tt;
-  numbers-fit = λ s. all-more (s .2) (all-more (s .4) (all-more (s .6) (all-more (s .0) all-none)));
-  number-fits = lit< tt;
-  samples-fit = λ s. every-all isSample x (s .1);
-  marks-fit = λ s. s .3;
-  bytes-fit = λ s. all-none;
-  list-fits = λ s. s .5;
 }
 
-rowBy : Lent → Ask → List ℕ
+rowBy : Lent → RowAsk → List ℕ
 rowBy lent ask = rowFor ask .number ∷ lengthsAnd lent (rowFor ask .own)
 
-abbrev rowOf : Call → List ℕ
+abbrev rowOf : ListCall → List ℕ
 rowOf c = rowBy (c .lent) (c .ask)
 
-abbrev samplesOf : Ask → List ℤ
+abbrev samplesOf : RowAsk → List ℤ
 samplesOf ask = takenBy ask .samples
 
-abbrev trailOf : Ask → List ℕ
+abbrev trailOf : RowAsk → List ℕ
 trailOf ask = takenBy ask .trail
 
-abbrev sheetOf : Ask → List ℕ
+abbrev sheetOf : RowAsk → List ℕ
 sheetOf ask = takenBy ask .sheet
 
-abbrev listOf : Ask → List ℕ
-listOf ask = takenBy ask .list
-
 -- what the calls of a list take, one behind another
-behind : {A : Type 0} → (Ask → List A) → List Call → List A
+behind : {A : Type 0} → (RowAsk → List A) → List ListCall → List A
 behind f [] = []
 behind f (c ∷ calls) = f (c .ask) ++ behind f calls
 
@@ -255,7 +164,7 @@ within-fits lent lengths w =
       ),
     ))
 
-lent-by : (lent : Lent) (ask : Ask) → lentBy (rowBy lent ask) ≡ lent
+lent-by : (lent : Lent) (ask : RowAsk) → lentBy (rowBy lent ask) ≡ lent
 unfolding rowBy lengthsAnd
 lent-by lent ask = refl
 
@@ -270,14 +179,13 @@ module _ {A : Type 0} (x more all : List A) (e : all ≡ x ++ more) where
   the-rest = ap (drop (length x)) e ∙ drop-append-seam x more
 
 -- what a call takes is next
-record Next (s : State) (ask : Ask) (pool : List ℤ) (trails sheets lists : List ℕ) : Type 0 where
+record Next (s : State) (ask : RowAsk) (pool : List ℤ) (trails sheets : List ℕ) : Type 0 where
   pub samples-next : s .samples ≡ takenBy ask .samples ++ pool
   pub trail-next : s .trails .ahead ≡ takenBy ask .trail ++ trails
   pub sheet-next : s .sheets .ahead ≡ takenBy ask .sheet ++ sheets
-  pub list-next : s .lists .ahead ≡ takenBy ask .list ++ lists
 
-module _ (lent lengths : Lent) (w : LentWithin lent lengths) (s : State) (pool : List ℤ) (trails sheets lists : List ℕ) (ask : Ask)
-    (n : Next s ask pool trails sheets lists) where
+module _ (lent lengths : Lent) (w : LentWithin lent lengths) (s : State) (pool : List ℤ) (trails sheets : List ℕ) (ask : RowAsk)
+    (n : Next s ask pool trails sheets) where
   abbrev x : Taken
   x = takenBy ask
 
@@ -287,7 +195,6 @@ module _ (lent lengths : Lent) (w : LentWithin lent lengths) (s : State) (pool :
     there (x .samples) pool (s .samples) (n .samples-next),
     there (x .trail) trails (s .trails .ahead) (n .trail-next),
     there (x .sheet) sheets (s .sheets .ahead) (n .sheet-next),
-    there (x .list) lists (s .lists .ahead) (n .list-next),
   )
 
   the-next-all : nextOf (amountsOf x) s ≡ x
@@ -295,7 +202,6 @@ module _ (lent lengths : Lent) (w : LentWithin lent lengths) (s : State) (pool :
     the-next (x .samples) pool (s .samples) (n .samples-next),
     the-next (x .trail) trails (s .trails .ahead) (n .trail-next),
     the-next (x .sheet) sheets (s .sheets .ahead) (n .sheet-next),
-    the-next (x .list) lists (s .lists .ahead) (n .list-next),
   ) refl
 
   is-playable : playable lengths (aheadOf s) (rowBy lent ask) ≡ some (rowFor ask .kind)
@@ -315,57 +221,52 @@ module _ (lent lengths : Lent) (w : LentWithin lent lengths) (s : State) (pool :
       let numbers = rowBy lent ask in
       let can : playable lengths (aheadOf s) numbers ≡ some (row .kind) = is-playable in
       ap (λ (o : Option CallKind). askedBy o numbers s) can
-      ∙ ap (λ (a : Ask). some a)
+      ∙ ap (λ (a : RowAsk). some a)
       (ap (λ (size : Amounts). row .kind .ask numbers (nextOf size s)) (row .takes-that lent)
       ∙ (ap (λ (y : Taken). row .kind .ask numbers y) the-next-all ∙ row .asks-that lent))
 
   -- and what is ahead then
-  leaves-rest : (stateAfter (call lent ask) s .samples ≡ pool) × (stateAfter (call lent ask) s .trails .ahead
-      ≡ trails) × (stateAfter (call lent ask) s .sheets .ahead ≡ sheets) × (stateAfter (call lent ask) s .lists .ahead ≡ lists)
+  leaves-rest : (stateAfter lent ask s .samples ≡ pool) × (stateAfter lent ask s .trails .ahead ≡ trails) × (stateAfter lent ask s .sheets
+      .ahead ≡ sheets)
   unfolding stateAfter
   leaves-rest = (
     the-rest (x .samples) pool (s .samples) (n .samples-next),
     the-rest (x .trail) trails (s .trails .ahead) (n .trail-next),
     the-rest (x .sheet) sheets (s .sheets .ahead) (n .sheet-next),
-    the-rest (x .list) lists (s .lists .ahead) (n .list-next),
   )
 
 -- ---- all calls
 
 -- a row that asks for a call is that call, played
-row-played : (lengths : Lent) (c : Call) (p : Played) → asks lengths (rowOf c) (p .now) ≡ some (c .ask) → playedRow lengths p (rowOf c)
+row-played : (lengths : Lent) (c : ListCall) (p : Played) → asks lengths (rowOf c) (p .now) ≡ some (c .ask) → playedRow lengths p (rowOf c)
     ≡ playedOne (c .lent) (some (c .ask)) p
 unfolding playedRow
 row-played lengths c p e =
-    ap (λ (o : Option Ask). playedOne (lentBy (rowOf c)) o p) e
+    ap (λ (o : Option RowAsk). playedOne (lentBy (rowOf c)) o p) e
     ∙ ap (λ (l : Lent). playedOne l (some (c .ask)) p) (lent-by (c .lent) (c .ask))
 
-asks-all : (lengths : Lent) (calls : List Call) (p : Played) → All (Possible lengths) calls
+asks-all : (lengths : Lent) (calls : List ListCall) (p : Played) → All (Possible lengths) calls
     → p .now .samples ≡ behind samplesOf calls → p .now .trails .ahead ≡ behind trailOf calls → p .now .sheets .ahead
-    ≡ behind sheetOf calls → p .now .lists .ahead ≡ behind listOf calls
-    → foldl (playedRow lengths) p (map rowOf calls) .asked ≡ p .asked ++ calls
+    ≡ behind sheetOf calls
+    → foldl (playedRow lengths) p (map rowOf calls) .asked ≡ p .asked ++ map callOf calls
 unfolding behind playedOne turnMade
-asks-all lengths [] p possible a b c d = sym (append-nil (p .asked))
-asks-all lengths (q ∷ calls) p (all-more h others) a b c d =
-    let next : Next (p .now) (q .ask) (behind samplesOf calls) (behind trailOf calls) (behind sheetOf calls)
-    (behind listOf calls) = record {
+asks-all lengths [] p possible a b c = sym (append-nil (p .asked))
+asks-all lengths (q ∷ calls) p (all-more h others) a b c =
+    let next : Next (p .now) (q .ask) (behind samplesOf calls) (behind trailOf calls) (behind sheetOf calls) = record {
       samples-next = a;
       trail-next = b;
       sheet-next = c;
-      list-next = d;
     } in
-    let asked = asks-it (q .lent) lengths (h .within) (p .now) (behind samplesOf calls) (behind trailOf calls) (behind sheetOf calls)
-    (behind listOf calls) (q .ask) next in
-    let rest = leaves-rest (q .lent) lengths (h .within) (p .now) (behind samplesOf calls) (behind trailOf calls) (behind sheetOf calls)
-    (behind listOf calls) (q .ask) next in
+    let asked = asks-it (q .lent) lengths (h .within) (p .now) (behind samplesOf calls) (behind trailOf calls) (behind sheetOf calls) (q .ask) next in
+    let rest = leaves-rest (q .lent) lengths (h .within) (p .now) (behind samplesOf calls) (behind trailOf calls) (behind sheetOf calls) (q .ask) next in
     ap (λ (x : Played). foldl (playedRow lengths) x (map rowOf calls) .asked) (row-played lengths q p asked)
-    ∙ (asks-all lengths calls (playedOne (q .lent) (some (q .ask)) p) others (rest .0) (rest .1) (rest .2) (rest .3)
-    ∙ append-assoc (p .asked) (q ∷ []) calls)
+    ∙ (asks-all lengths calls (playedOne (q .lent) (some (q .ask)) p) others (rest .0) (rest .1) (rest .2)
+    ∙ append-assoc (p .asked) (callOf q ∷ []) (map callOf calls))
 
 -- ---- what the slices hold
 
-behind-all : {A : Type 0} {P : A → Type 0} (lengths : Lent) (f : Ask → List A) → ((c : Call) → Possible lengths c → All P (f (c .ask)))
-    → (calls : List Call) → All (Possible lengths) calls → All P (behind f calls)
+behind-all : {A : Type 0} {P : A → Type 0} (lengths : Lent) (f : RowAsk → List A) → ((c : ListCall) → Possible lengths c → All P (f (c .ask)))
+    → (calls : List ListCall) → All (Possible lengths) calls → All P (behind f calls)
 unfolding behind
 behind-all lengths f each [] all-none = all-none
 behind-all lengths f each (c ∷ calls) (all-more h others) = all-append (each c h) (behind-all lengths f each calls others)
@@ -380,15 +281,15 @@ module _ (lengths : Lent) (long : MachineLengths lengths) where
       (all-more (lt-of-le-of-lt (w .links-within) (long .links-long))
       (all-more (lt-of-le-of-lt (w .work-within) (long .work-long)) h))))
 
-  row-fits : (lent : Lent) (ask : Ask) → LentWithin lent lengths → ArgumentsFit ask → All Word (rowBy lent ask)
+  row-fits : (lent : Lent) (ask : RowAsk) → LentWithin lent lengths → ArgumentsFit ask → All Word (rowBy lent ask)
   unfolding rowBy
   row-fits lent ask w s = all-more (rowFor ask .number-fits) (lengths-fit lent w _ (rowFor ask .numbers-fit s))
 
-  row-short : (lent : Lent) (ask : Ask) → Word (length (rowBy lent ask))
+  row-short : (lent : Lent) (ask : RowAsk) → Word (length (rowBy lent ask))
   unfolding rowBy lengthsAnd
   row-short lent ask = omega (arith, rowFor ask .short)
 
-  script-fits : (calls : List Call) → All (Possible lengths) calls → All Word (scriptOf (map rowOf calls))
+  script-fits : (calls : List ListCall) → All (Possible lengths) calls → All Word (scriptOf (map rowOf calls))
   unfolding scriptOf
   script-fits [] all-none = all-none
   script-fits (c ∷ calls) (all-more h others) =
@@ -396,7 +297,7 @@ module _ (lengths : Lent) (long : MachineLengths lengths) where
 
 -- ---- the lemma
 
-pub every-list : (memory : Tables) (calls : List Call) → MachineLengths (lentOf memory) → All (Possible (lentOf memory)) calls → Script memory calls
+pub every-list : (memory : Tables) (calls : List ListCall) → MachineLengths (lentOf memory) → All (Possible (lentOf memory)) calls → Script memory calls
 unfolding areBytes
 every-list memory calls long possible =
     let lengths = lentOf memory in
@@ -404,20 +305,17 @@ every-list memory calls long possible =
     let pool = behind samplesOf calls in
     let trails = behind trailOf calls in
     let sheets = behind sheetOf calls in
-    let lists = behind listOf calls in
     record {
       numbers = script;
       pool = pool;
       trails = trails;
       sheets = sheets;
-      lists = lists;
       asks-them =
-          ap (λ (rows : List (List ℕ)). foldl (playedRow lengths) (begun memory pool trails sheets lists) rows .asked) (rows-of-script (map
+          ap (λ (rows : List (List ℕ)). foldl (playedRow lengths) (begun memory pool trails sheets) rows .asked) (rows-of-script (map
           rowOf calls))
-          ∙ asks-all lengths calls (begun memory pool trails sheets lists) possible refl refl refl refl;
+          ∙ asks-all lengths calls (begun memory pool trails sheets) possible refl refl refl;
       numbers-fit = script-fits lengths long calls possible;
       pool-fits = all-every isSample (behind-all lengths samplesOf (λ c h. rowFor (c .ask) .samples-fit (h .sized)) calls possible);
       trails-fit = behind-all lengths trailOf (λ c h. rowFor (c .ask) .marks-fit (h .sized)) calls possible;
       sheets-fit = all-every isByte (behind-all lengths sheetOf (λ c h. rowFor (c .ask) .bytes-fit (h .sized)) calls possible);
-      lists-fit = behind-all lengths listOf (λ c h. rowFor (c .ask) .list-fits (h .sized)) calls possible;
     }

@@ -1,9 +1,8 @@
-// Rows whose calls change tables: openings (0), addings (1), readings (4), imports (6). A kind is a reply and a branch.
+// Rows whose calls change tables: openings (0), addings (1), readings (4). A kind is a reply and a branch.
 
 use crate::replies::of_refusal;
 use crate::rows::number_at;
 use adding::Added;
-use importing::Imported;
 use opening::Opened;
 use sheet_reading::Read;
 ghost use mathlib.Core.Path.{_≡_};
@@ -13,7 +12,6 @@ ghost use Prim.Native.Nat.{ℕ};
 ghost use Rattle.opening.specs.Opened as opened;
 ghost use Rattle.adding.specs.Answered as added;
 ghost use Rattle.sheet_reading.specs.Answered as read;
-ghost use Rattle.importing.specs.Answered as imported;
 ghost use Rattle.tables.specs.Tables.{tables};
 ghost use Rattle.replay.specs.ReplyRows.{replyRow};
 ghost use Rattle.replay.specs.Script.{taken, called, Plays};
@@ -45,15 +43,6 @@ fn of_read(answer: Read) -> [u64; 5]
     }
 }
 
-fn of_imported(answer: Imported) -> [u64; 5]
-    ensures { λ r. ⌜ r ≡ replyRow (imported.answerBy answer) ⌝ }
-{
-    match answer {
-        Imported::Traces(count) => [0, count, 0, 0, 0],
-        Imported::Refused(why) => of_refusal(why),
-    }
-}
-
 // A row of such a kind, lent the tables and all that it takes.
 pub fn play(
     control: &mut [u16],
@@ -66,12 +55,12 @@ pub fn play(
     row: &[u64],
     kind: u64,
 ) -> [u64; 5]
-    ensures { λ r. ⌜ ((trail list : List ℕ) → Plays true kind (now (row .entry))
-        (taken (now (query .entry)) trail (now (sheet .entry)) list)
+    ensures { λ r. ⌜ ((trail : List ℕ) → Plays true kind (now (row .entry))
+        (taken (now (query .entry)) trail (now (sheet .entry)))
         (tables (now (control .entry)) (now (samples .entry)) (now (nodes .entry)) (now (links .entry)) (now (work .entry)))
         (called r
         (tables (now (control .exit)) (now (samples .exit)) (now (nodes .exit)) (now (links .exit)) (now (work .exit)))
-        (taken (now (query .entry)) trail (now (sheet .entry)) list))) ⌝ }
+        (taken (now (query .entry)) trail (now (sheet .entry))))) ⌝ }
 {
     if kind == 0 {
         let n = number_at(row, 6);
@@ -93,16 +82,6 @@ pub fn play(
     }
     if kind == 4 {
         return of_read(sheet_reading::read_sheet(control, samples, nodes, links, work, sheet));
-    }
-    if kind == 6 {
-        return of_imported(importing::import_recording(
-            control,
-            samples,
-            nodes,
-            links,
-            work,
-            sheet,
-        ));
     }
     [0; 5]
 }

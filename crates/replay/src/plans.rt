@@ -10,12 +10,12 @@ use crate::rows::places;
 ghost use mathlib.Core.Path.{_≡_};
 ghost use mathlib.Core.Bool.{true, false};
 ghost use mathlib.Core.Option.{some};
-ghost use Prim.Native.Nat.{_-_, _*_, _/_, _≤_};
+ghost use Prim.Native.Nat.{_-_, _≤_};
 ghost use Rattle.replay.specs.Script.{numberAt, lengthsBy, amounts, CallKind, kinds, callKindAt};
 ghost use Rattle.replay.specs.Script.{fitsIn, enough, takesOf, playable, movedBy, wantedBy, plannedBy};
 
-fn size(samples: usize, trails: usize, sheets: usize, lists: usize) -> Wanted
-    ensures { λ r. ⌜ r ≡ record { known = true; size = amounts samples trails sheets lists } ⌝ }
+fn size(samples: usize, trails: usize, sheets: usize) -> Wanted
+    ensures { λ r. ⌜ r ≡ record { known = true; size = amounts samples trails sheets } ⌝ }
 {
     Wanted {
         known: true,
@@ -23,20 +23,11 @@ fn size(samples: usize, trails: usize, sheets: usize, lists: usize) -> Wanted
             samples: samples,
             trails: trails,
             sheets: sheets,
-            lists: lists,
         },
     }
 }
 
-// Places of whole records, two each.
-fn even(places: usize) -> usize
-    ensures { λ r. ⌜ r ≡ 2 * (places / 2) ⌝ }
-{
-    2 * (places / 2)
-}
-
-// By a row's kind and its first three own numbers. Sheets and recordings take bytes alone, a check nothing. (Behind the last kind there is
-// none.)
+// By a row's kind and its first two own numbers. (Behind the last kind there is none.)
 fn wanted(row: &[u64]) -> Wanted
     ensures { λ r. ⌜ wantedBy r ≡ takesOf (callKindAt kinds (numberAt (now (row .entry)) 0)) (now (row .entry)) ⌝ }
 {
@@ -44,25 +35,16 @@ fn wanted(row: &[u64]) -> Wanted
     let first = places(number_at(row, 6));
     let second = places(number_at(row, 7));
     if kind == 0 {
-        return size(0, 0, 0, 0);
+        return size(0, 0, 0);
     }
     if kind == 1 {
-        return size(first, 0, 0, 0);
+        return size(first, 0, 0);
     }
     if kind == 2 {
-        return size(first, second, 0, 0);
+        return size(first, second, 0);
     }
-    if kind == 5 {
-        return size(first, second, 0, places(number_at(row, 8)));
-    }
-    if kind < 8 {
-        return size(0, 0, first, 0);
-    }
-    if kind == 8 {
-        return size(0, 0, 0, 0);
-    }
-    if kind == 9 {
-        return size(first, second, 0, even(places(number_at(row, 8))));
+    if kind < 5 {
+        return size(0, 0, first);
     }
     Wanted {
         known: false,
@@ -70,7 +52,6 @@ fn wanted(row: &[u64]) -> Wanted
             samples: 0,
             trails: 0,
             sheets: 0,
-            lists: 0,
         },
     }
 }
@@ -83,18 +64,6 @@ pub fn changes(kind: u64) -> bool
         return false;
     }
     if kind == 3 {
-        return false;
-    }
-    if kind == 5 {
-        return false;
-    }
-    if kind == 7 {
-        return false;
-    }
-    if kind == 8 {
-        return false;
-    }
-    if kind == 9 {
         return false;
     }
     true
@@ -123,8 +92,8 @@ fn fits(all: Lengths, lent: Lengths) -> bool
 }
 
 // No more is taken than is ahead.
-fn is_enough(size: Amounts, samples: usize, trails: usize, sheets: usize, lists: usize) -> bool
-    ensures { λ r. ⌜ r ≡ enough size (amounts samples trails sheets lists) ⌝ }
+fn is_enough(size: Amounts, samples: usize, trails: usize, sheets: usize) -> bool
+    ensures { λ r. ⌜ r ≡ enough size (amounts samples trails sheets) ⌝ }
 {
     if samples < size.samples {
         return false;
@@ -133,9 +102,6 @@ fn is_enough(size: Amounts, samples: usize, trails: usize, sheets: usize, lists:
         return false;
     }
     if sheets < size.sheets {
-        return false;
-    }
-    if lists < size.lists {
         return false;
     }
     true
@@ -152,10 +118,10 @@ fn not_played(at: Amounts) -> Plan
 
 // On tables of these lengths, where this much of all that there is has been taken.
 pub fn plan(row: &[u64], lent: Lengths, at: Amounts, all: Amounts) -> Plan
-    requires { ⌜ (at .samples ≤ all .samples) × (at .trails ≤ all .trails) × (at .sheets ≤ all .sheets) × (at .lists ≤ all .lists) ⌝ }
+    requires { ⌜ (at .samples ≤ all .samples) × (at .trails ≤ all .trails) × (at .sheets ≤ all .sheets) ⌝ }
     ensures { λ r. ⌜ plannedBy r
         ≡ movedBy (playable (lengthsBy lent)
-        (amounts (all .samples - at .samples) (all .trails - at .trails) (all .sheets - at .sheets) (all .lists - at .lists))
+        (amounts (all .samples - at .samples) (all .trails - at .trails) (all .sheets - at .sheets))
         (now (row .entry))) (now (row .entry)) at ⌝ }
 {
     if !fits(lent, lengths(row)) {
@@ -171,7 +137,6 @@ pub fn plan(row: &[u64], lent: Lengths, at: Amounts, all: Amounts) -> Plan
         all.samples - at.samples,
         all.trails - at.trails,
         all.sheets - at.sheets,
-        all.lists - at.lists,
     ) {
         return not_played(at);
     }
@@ -181,7 +146,6 @@ pub fn plan(row: &[u64], lent: Lengths, at: Amounts, all: Amounts) -> Plan
             samples: at.samples + size.samples,
             trails: at.trails + size.trails,
             sheets: at.sheets + size.sheets,
-            lists: at.lists + size.lists,
         },
     }
 }

@@ -17,7 +17,7 @@ ghost use Rattle.replay.specs.Script.{tellsRow, nextRow};
 pub const REPLY_PLACES: usize = 5;
 
 // Numbers laid over those from a place on.
-fn lay(replies: &mut [u64], at: usize, numbers: &[u64])
+pub fn lay(replies: &mut [u64], at: usize, numbers: &[u64])
     requires { ⌜ at + length (now numbers) ≤ length (now replies) ⌝ }
     ensures { λ _. ⌜ now (replies .exit) ≡ paste (now (replies .entry)) at (now (numbers .entry)) (length (now (numbers .entry))) ⌝ }
 {

@@ -36,17 +36,16 @@ fn call(
     work: &mut [u64],
     trail: &mut [u16],
     sheet: &mut [u8],
-    list: &mut [u64],
     query: &[i16],
     row: &[u64],
     kind: u64,
 ) -> [u64; 5]
     ensures { λ r. ⌜ ((changes : Bool) → Plays changes kind (now (row .entry))
-        (taken (now (query .entry)) (now (trail .entry)) (now (sheet .entry)) (now (list .entry)))
+        (taken (now (query .entry)) (now (trail .entry)) (now (sheet .entry)))
         (tables (now (control .entry)) (now (samples .entry)) (now (nodes .entry)) (now (links .entry)) (now (work .entry)))
         (called r
         (tables (now (control .exit)) (now (samples .exit)) (now (nodes .exit)) (now (links .exit)) (now (work .exit)))
-        (taken (now (query .entry)) (now (trail .exit)) (now (sheet .exit)) (now (list .exit))))) ⌝ }
+        (taken (now (query .entry)) (now (trail .exit)) (now (sheet .exit))))) ⌝ }
 {
     if plans::changes(kind) {
         return changes::play(
@@ -69,15 +68,13 @@ fn call(
         work,
         trail,
         sheet,
-        list,
         query,
-        row,
         kind,
     )
 }
 
-// A row that can be played is lent the first so many places of each table, and the next so many samples, places of a trail,
-// bytes of a sheet and places of a list.
+// A row that can be played is lent the first so many places of each table, and the next so many samples, places of a trail and bytes of a
+// sheet.
 fn lend(
     control: &mut [u16],
     samples: &mut [i16],
@@ -86,26 +83,25 @@ fn lend(
     work: &mut [u64],
     trails: &mut [u16],
     sheets: &mut [u8],
-    lists: &mut [u64],
     pool: &[i16],
     row: &[u64],
     at: Amounts,
     to: Amounts,
 ) -> [u64; 5]
-    requires { ⌜ AmountsInside at (now pool) (now trails) (now sheets) (now lists) ⌝ }
+    requires { ⌜ AmountsInside at (now pool) (now trails) (now sheets) ⌝ }
     requires { ⌜ some to ≡ movedBy (playable (lentOf (tables (now control) (now samples) (now nodes) (now links) (now work)))
         (aheadOf (stateAt (tables (now control) (now samples) (now nodes) (now links) (now work)) (now pool)
-        (now trails) (now sheets) (now lists) at)) (now row)) (now row) at ⌝ }
+        (now trails) (now sheets) at)) (now row)) (now row) at ⌝ }
     ensures { λ r. ⌜ turned (some r) (stateAt
         (tables (now (control .exit)) (now (samples .exit)) (now (nodes .exit)) (now (links .exit)) (now (work .exit)))
-        (now (pool .entry)) (now (trails .exit)) (now (sheets .exit)) (now (lists .exit)) to)
+        (now (pool .entry)) (now (trails .exit)) (now (sheets .exit)) to)
         ≡ turnMade (lentBy (now (row .entry))) (asks (lentOf
         (tables (now (control .entry)) (now (samples .entry)) (now (nodes .entry)) (now (links .entry)) (now (work .entry))))
         (now (row .entry)) (stateAt
         (tables (now (control .entry)) (now (samples .entry)) (now (nodes .entry)) (now (links .entry)) (now (work .entry)))
-        (now (pool .entry)) (now (trails .entry)) (now (sheets .entry)) (now (lists .entry)) at)) (stateAt
+        (now (pool .entry)) (now (trails .entry)) (now (sheets .entry)) at)) (stateAt
         (tables (now (control .entry)) (now (samples .entry)) (now (nodes .entry)) (now (links .entry)) (now (work .entry)))
-        (now (pool .entry)) (now (trails .entry)) (now (sheets .entry)) (now (lists .entry)) at) ⌝ }
+        (now (pool .entry)) (now (trails .entry)) (now (sheets .entry)) at) ⌝ }
 {
     let kind = number_at(row, 0);
     let lent = lengths(row);
@@ -120,8 +116,6 @@ fn lend(
     let last_mark = to.trails;
     let first_byte = at.sheets;
     let last_byte = to.sheets;
-    let first_place = at.lists;
-    let last_place = to.lists;
     call(
         &mut control[..c],
         &mut samples[..s],
@@ -130,7 +124,6 @@ fn lend(
         &mut work[..w],
         &mut trails[first_mark..last_mark],
         &mut sheets[first_byte..last_byte],
-        &mut lists[first_place..last_place],
         &pool[first_sample..last_sample],
         row,
         kind,
@@ -146,23 +139,22 @@ pub fn turn(
     work: &mut [u64],
     trails: &mut [u16],
     sheets: &mut [u8],
-    lists: &mut [u64],
     pool: &[i16],
     row: &[u64],
     at: Amounts,
 ) -> Turn
-    requires { ⌜ AmountsInside at (now pool) (now trails) (now sheets) (now lists) ⌝ }
+    requires { ⌜ AmountsInside at (now pool) (now trails) (now sheets) ⌝ }
     ensures { λ r. ⌜ (turnOf r
         (tables (now (control .exit)) (now (samples .exit)) (now (nodes .exit)) (now (links .exit)) (now (work .exit)))
-        (now (pool .entry)) (now (trails .exit)) (now (sheets .exit)) (now (lists .exit))
+        (now (pool .entry)) (now (trails .exit)) (now (sheets .exit))
         ≡ turnMade (lentBy (now (row .entry))) (asks (lentOf
         (tables (now (control .entry)) (now (samples .entry)) (now (nodes .entry)) (now (links .entry)) (now (work .entry))))
         (now (row .entry)) (stateAt
         (tables (now (control .entry)) (now (samples .entry)) (now (nodes .entry)) (now (links .entry)) (now (work .entry)))
-        (now (pool .entry)) (now (trails .entry)) (now (sheets .entry)) (now (lists .entry)) at)) (stateAt
+        (now (pool .entry)) (now (trails .entry)) (now (sheets .entry)) at)) (stateAt
         (tables (now (control .entry)) (now (samples .entry)) (now (nodes .entry)) (now (links .entry)) (now (work .entry)))
-        (now (pool .entry)) (now (trails .entry)) (now (sheets .entry)) (now (lists .entry)) at))
-        × AmountsInside (r .at) (now (pool .entry)) (now (trails .entry)) (now (sheets .entry)) (now (lists .entry)) ⌝ }
+        (now (pool .entry)) (now (trails .entry)) (now (sheets .entry)) at))
+        × AmountsInside (r .at) (now (pool .entry)) (now (trails .entry)) (now (sheets .entry)) ⌝ }
 {
     let lent = Lengths {
         control: control.len(),
@@ -175,7 +167,6 @@ pub fn turn(
         samples: pool.len(),
         trails: trails.len(),
         sheets: sheets.len(),
-        lists: lists.len(),
     };
     let planned = plans::plan(row, lent, at, all);
     if !planned.made {
@@ -190,7 +181,6 @@ pub fn turn(
         work,
         trails,
         sheets,
-        lists,
         pool,
         row,
         at,

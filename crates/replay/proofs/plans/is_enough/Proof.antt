@@ -23,20 +23,10 @@ returns-3 c = simp (
 returns-4 : tie.Need-returns-4
 unfolding enough
 returns-4 c = simp (
-  le-leb _ _ (c .before .before .before .before .before .before .if1 .left),
-  le-leb _ _ (c .before .before .before .before .if2 .left),
-  le-leb _ _ (c .before .before .if3 .left),
-  lt-leb _ _ (c .if4 .taken),
-)
-
-returns-5 : tie.Need-returns-5
-unfolding enough
-returns-5 c = simp (
-  le-leb _ _ (c .before .before .before .before .before .before .if1 .left),
-  le-leb _ _ (c .before .before .before .before .if2 .left),
-  le-leb _ _ (c .before .before .if3 .left),
-  le-leb _ _ (c .if4 .left),
+  le-leb _ _ (c .before .before .before .before .if1 .left),
+  le-leb _ _ (c .before .before .if2 .left),
+  le-leb _ _ (c .if3 .left),
 )
 
 pub is-enough-spec : {M : Type 1} → statement M
-is-enough-spec = tie.close (tie.spec returns returns-2 returns-3 returns-4 returns-5)
+is-enough-spec = tie.close (tie.spec returns returns-2 returns-3 returns-4)

@@ -29,52 +29,39 @@ returns-2 c =
 returns-3 : tie.Need-returns-3
 returns-3 c =
     let a = c .before .before .before .before .before .before .before .before .before .before .before .before .before .before .before
-    .before .before .before .before .args in
-    let w = c .before .before .before .before .before .before .before .before .before .before .before .before .before .before .wanted in
+    .before .before .args in
+    let w = c .before .before .before .before .before .before .before .before .before .before .before .before .wanted in
     ap (λ (r : Plan). plannedBy r) (c .not-played3 .ensures)
     ∙ too-few (lengthsBy (a .lent)) _ (now (a .row)) (a .at) _
-    (c .before .before .before .before .before .before .before .before .before .before .before .before .before .before .before
-    .before .before .lengths .ensures) (sym (c .before .before .before .before .before .before .before .before .before .before
-    .before .before .before .before .before .before .fits2 .ensures)
-    ∙ not-false (c .before .before .before .before .before .before .before .before .before .before .before .before .before .before
-    .before .before .fits2 .result) (c .before .before .before .before .before .before .before .before .before .before .before
-    .before .before .before .before .if1
+    (c .before .before .before .before .before .before .before .before .before .before .before .before .before .before .before .lengths
+    .ensures) (sym (c .before .before .before .before .before .before .before .before .before .before .before .before .before .before
+    .fits2 .ensures)
+    ∙ not-false (c .before .before .before .before .before .before .before .before .before .before .before .before .before .before .fits2
+    .result) (c .before .before .before .before .before .before .before .before .before .before .before .before .before .if1
     .left))
     (w .result .size) (sym (w .ensures) ∙ wanted-some (w .result) (not-false (w .result .known)
-    (c .before .before .before .before .before .before .before .before .before .before .before .before .if2 .left)))
+    (c .before .before .before .before .before .before .before .before .before .before .if2 .left)))
     (sym (c .before .before .is-enough .ensures) ∙ not-true (c .before .before .is-enough .result) (c .before .if3 .taken))
 
 returns-4 : tie.Need-returns-4
 returns-4 c =
     let a = c .before .before .before .before .before .before .before .before .before .before .before .before .before .before .before
-    .before .before .before .before .before .before .before .before .before .before .before .args in
+    .before .before .before .before .before .before .before .args in
     let w = c .before .before .before .before .before .before .before .before .before .before .before .before .before .before .before
-    .before .before .before .before .before .before .wanted in
+    .before .before .wanted in
     goes (lengthsBy (a .lent)) _ (now (a .row)) (a .at) _ (c .before .before .before .before .before .before .before .before .before
-    .before .before .before .before .before .before .before .before .before .before .before .before .before .before .before .lengths
+    .before .before .before .before .before .before .before .before .before .before .before .lengths
     .ensures) (sym (c .before .before .before .before .before .before .before .before .before .before .before .before .before .before
-    .before .before .before .before .before .before .before .before .before .fits2 .ensures) ∙ not-false
-    (c .before .before .before .before .before .before .before .before .before .before .before .before .before .before .before
-    .before .before .before .before .before .before .before .before .fits2 .result)
-    (c .before .before .before .before .before .before .before .before .before .before .before .before .before .before .before
-    .before .before .before .before .before .before .before .if1 .left))
+    .before .before .before .before .before .fits2 .ensures) ∙ not-false
+    (c .before .before .before .before .before .before .before .before .before .before .before .before .before .before .before .before
+    .before .before .before .fits2 .result)
+    (c .before .before .before .before .before .before .before .before .before .before .before .before .before .before .before .before
+    .before .before .if1 .left))
     (w .result .size) (sym (w .ensures) ∙ wanted-some (w .result) (not-false (w .result .known)
-    (c .before .before .before .before .before .before .before .before .before .before .before .before .before .before .before
-    .before .before .before .before .if2 .left)))
-    (sym (c .before .before .before .before .before .before .before .before .before .is-enough .ensures)
-    ∙ not-false (c .before .before .before .before .before .before .before .before .before .is-enough .result)
-    (c .before .before .before .before .before .before .before .before .if3 .left))
-
--- the length of all lists is far back, so that `omega` is told of it
-fits-lists : tie.Need-add-t12
-fits-lists c =
-    omega (
-      arith,
-      c .before .before .before .before .before .before .before .before .before .before .before .struct-known8 .given,
-      enough-is _ _ (sym (c .before .before .before .before .before .before .before .before .before .is-enough .ensures) ∙ not-false
-          (c .before .before .before .before .before .before .before .before .before .is-enough .result)
-          (c .before .before .before .before .before .before .before .before .if3 .left)) .3,
-    )
+    (c .before .before .before .before .before .before .before .before .before .before .before .before .before .before .before .if2 .left)))
+    (sym (c .before .before .before .before .before .before .before .is-enough .ensures)
+    ∙ not-false (c .before .before .before .before .before .before .before .is-enough .result)
+    (c .before .before .before .before .before .before .if3 .left))
 
 pub plan-spec : {M : Type 1} → statement M
 plan-spec =
@@ -83,31 +70,30 @@ plan-spec =
     (λ c κs. tt) (λ c κs. tt) (λ c κs. tt) returns (λ c κs. tt) (λ c κs. tt) returns-2
     (λ c. omega (arith, c .before .before .before .before .before .before .before .before .before .before .pre .0)) (λ c. omega (
       arith,
-      c .before .before .before .before .before .before .before .before .before .before .before .before .pre .1,
-    )) (λ c. omega (
-      arith,
-      c .before .before .before .before .before .before .before .before .before .before .before .before .before .before .pre .2,
-    )) (λ c.
-    omega (
+      c
+          .before .before .before .before .before .before .before .before .before .before .before .before .pre .1,
+    ))
+    (λ c. omega (
       arith,
       c .before .before .before .before .before .before .before .before .before .before .before .before .before .before
-          .before .before .pre .3,
-    ))
-    (λ c κs. tt) (λ c κs. tt) returns-3
+          .pre .2,
+    )) (λ c κs. tt) (λ c κs. tt) returns-3
     (λ c. omega (
       arith,
-      enough-is _ _ (sym (c .before .before .before .is-enough .ensures) ∙ not-false
-          (c .before .before .before .is-enough .result) (c .before .before .if3 .left)) .0,
-    ))
-    (λ c. omega (
-      arith,
-      enough-is _ _ (sym (c .before .before .before .before .before .is-enough .ensures) ∙ not-false
-          (c .before .before .before .before .before .is-enough .result) (c .before .before .before .before .if3 .left)) .1,
+      enough-is _ _ (sym (c .before .before .before .is-enough .ensures) ∙ not-false (c .before .before .before .is-enough .result) (c
+          .before .before .if3
+          .left)) .0,
     ))
     (λ c. omega (
       arith,
-      enough-is _ _ (sym (c .before .before .before .before .before .before .before .is-enough .ensures) ∙ not-false
-          (c .before .before .before .before .before .before .before .is-enough .result)
-          (c .before .before .before .before .before .before .if3 .left)) .2,
+      enough-is _ _ (sym (c .before .before .before .before .before .is-enough .ensures) ∙ not-false (c .before .before .before .before
+          .before .is-enough .result) (c .before .before .before .before .if3
+          .left)) .1,
     ))
-    fits-lists returns-4)
+    (λ c. omega (
+      arith,
+      enough-is _ _ (sym (c .before .before .before .before .before .before .before .is-enough .ensures) ∙ not-false (c .before .before
+          .before .before .before .before .before .is-enough .result) (c .before .before .before .before .before .before .if3
+          .left)) .2,
+    ))
+    returns-4)

@@ -33,15 +33,13 @@ module _ (s : tie.Start) where
   abbrev to : Amounts
   to = s .args .to
 
-  go : MovedOn (playable (lentOf t) (aheadOf (stateAt t (now (s .args .pool)) (now (s .args .trails)) (now (s .args .sheets))
-      (now (s .args .lists)) at)) (now (s .args .row))) (now (s .args .row)) at to
+  go : MovedOn (playable (lentOf t) (aheadOf (stateAt t (now (s .args .pool)) (now (s .args .trails)) (now (s .args .sheets)) at)) (now (s .args .row))) (now (s .args .row)) at to
   go = moved-is _ (now (s .args .row)) at to (s .pre .1)
 
-  ends : AmountsInside to (now (s .args .pool)) (now (s .args .trails)) (now (s .args .sheets)) (now (s .args .lists))
-  ends = subst (λ (z : Amounts). AmountsInside z (now (s .args .pool)) (now (s .args .trails)) (now (s .args .sheets))
-      (now (s .args .lists)))
+  ends : AmountsInside to (now (s .args .pool)) (now (s .args .trails)) (now (s .args .sheets))
+  ends = subst (λ (z : Amounts). AmountsInside z (now (s .args .pool)) (now (s .args .trails)) (now (s .args .sheets)))
       (sym (go .to-is))
-      (inside-then t (now (s .args .pool)) (now (s .args .trails)) (now (s .args .sheets)) (now (s .args .lists)) at (s .pre .0)
+      (inside-then t (now (s .args .pool)) (now (s .args .trails)) (now (s .args .sheets)) at (s .pre .0)
       (now (s .args .row)) (go .kind) (go .is))
 
   trail-bounds : (at .trails ≤ to .trails) × (to .trails ≤ length (now (s .args .trails)))
@@ -50,19 +48,16 @@ module _ (s : tie.Start) where
   sheet-bounds : (at .sheets ≤ to .sheets) × (to .sheets ≤ length (now (s .args .sheets)))
   sheet-bounds = (omega (arith, ap (λ (z : Amounts). z .sheets) (go .to-is)), ends .sheets-inside)
 
-  list-bounds : (at .lists ≤ to .lists) × (to .lists ≤ length (now (s .args .lists)))
-  list-bounds = (omega (arith, ap (λ (z : Amounts). z .lists) (go .to-is)), ends .lists-inside)
-
   sample-bounds : (at .samples ≤ to .samples) × (to .samples ≤ length (now (s .args .pool)))
   sample-bounds = (omega (arith, ap (λ (z : Amounts). z .samples) (go .to-is)), ends .samples-inside)
 
 -- the row's lengths are within the tables
 within : (k : tie.After-lengths) → LentWithin (lengthsBy (k .lengths .result))
-    (lentOf (t (k .before .before .before .before .before .before .before .before .before)))
+    (lentOf (t (k .before .before .before .before .before .before .before .before)))
 within k =
-    let s = k .before .before .before .before .before .before .before .before .before in
+    let s = k .before .before .before .before .before .before .before .before in
     subst (λ (l : Lent). LentWithin l (lentOf (t s))) (sym (k .lengths .ensures))
-    (is (t s) (now (s .args .pool)) (now (s .args .trails)) (now (s .args .sheets)) (now (s .args .lists)) (at s) (s .pre .0)
+    (is (t s) (now (s .args .pool)) (now (s .args .trails)) (now (s .args .sheets)) (at s) (s .pre .0)
     (now (s .args .row)) (go s .kind) (go s .is) .within)
 
 -- ---- the call
@@ -70,59 +65,63 @@ within k =
 returns : tie.Need-returns
 returns c =
     let s = c .before .before .before .before .before .before .before .before .before .before .before .before .before .before .before
-    .before .before .before .before .before .before .before .before .before .before .before .before .before .before .before .before
-    .before .before in
+    .before .before .before .before .before .before .before .before .before .before .before .before .before .before in
     let a = s .args in
     let row = now (a .row) in
     let pool = now (a .pool) in
     let trails = now (a .trails) in
     let sheets = now (a .sheets) in
-    let lists = now (a .lists) in
     let m : Tables = tables (now (a .control)) (now (a .samples)) (now (a .nodes)) (now (a .links)) (now (a .work)) in
     let k = go s .kind in
     let can = go s .is in
-    let call = c .before .before .before .before .before .before .before .before .before .before .before .before .before .before .call in
-    let lent = lengthsBy (c .before .before .before .before .before .before .before .before .before .before .before .before .before
-    .before .before .before .before .before .before .before .before .before .before .before .lengths .result) in
-    let is-lent = c .before .before .before .before .before .before .before .before .before .before .before .before .before .before
-    .before .before .before .before .before .before .before .before .before .before .lengths .ensures in
+    let call = c .before .before .before .before .before .before .before .before .before .before .before .before .call in
+    let lent = lengthsBy (c .before .before .before .before .before .before .before .before .before .before .before .before .before .before
+    .before .before .before .before .before .before .before .lengths .result) in
+    let is-lent = c .before .before .before .before .before .before .before .before .before .before .before .before .before .before .before
+    .before .before .before .before .before .before .lengths .ensures in
     let after : Tables = tables (call .last .0) (call .last .1 .0) (call .last .1 .1 .0) (call .last .1 .1 .1 .0) (call .last .1 .1 .1 .1
     .0) in
     let trail = call .last .1 .1 .1 .1 .1 .0 in
     let sheet = call .last .1 .1 .1 .1 .1 .1 .0 in
-    let list = call .last .1 .1 .1 .1 .1 .1 .1 .0 in
-    let next = nextOf (k .takes row) (stateAt m pool trails sheets lists (a .at)) in
-    let is-next = next-is m pool trails sheets lists (a .at) (s .pre .0) row k can (a .to) (go s .to-is) in
-    let kept = lengths-kept lent after m (within (c .before .before .before .before .before .before .before .before .before .before
-    .before .before .before .before .before .before .before .before .before .before .before .before .before .before)) (call .kept .0)
+    let next = nextOf (k .takes row) (stateAt m pool trails sheets (a .at)) in
+    let is-next = next-is m pool trails sheets (a .at) (s .pre .0) row k can (a .to) (go s .to-is) in
+    let kept = lengths-kept lent after m (within (c .before .before .before .before .before .before .before .before .before .before .before
+    .before .before .before .before .before .before .before .before .before .before)) (call .kept .0)
     (call .kept .1 .0)
     (call .kept .1 .1 .0) (call .kept .1 .1 .1 .0) (call .kept .1 .1 .1 .1 .0) in
-    let number : callKindAt kinds (c .before .before .before .before .before .before .before .before .before .before .before .before .before
-    .before .before .before .before .before .before .before .before .before .before .before .before .number-at .result) ≡ some k =
-    ap (callKindAt kinds) (c .before .before .before .before .before .before .before .before .before .before .before .before .before .before
-    .before .before .before .before .before .before .before .before .before .before .before .number-at .ensures)
-    ∙ is m pool trails sheets lists (a .at) (s .pre .0) row k can .is-kind in
-    let does : amountsOf next ≡ k .takes row → called (call .result) after (taken (next .samples) trail sheet list)
+    let number : callKindAt kinds (c .before .before .before .before .before .before .before .before .before .before .before .before
+    .before .before .before .before .before .before .before .before .before .before .number-at .result) ≡ some k =
+    ap (callKindAt kinds) (c .before .before .before .before .before .before .before .before .before .before .before .before .before
+    .before .before .before .before .before .before .before .before .before .number-at .ensures)
+    ∙ is m pool trails sheets (a .at) (s .pre .0) row k can .is-kind in
+    let does : amountsOf next ≡ k .takes row → called (call .result) after (taken (next .samples) trail sheet)
     ≡ calledBy (k .ask row next) (firstPlaces (lentBy row) m) =
-    subst (λ (l : Lent). amountsOf next ≡ k .takes row → called (call .result) after (taken (next .samples) trail sheet list)
+    subst (λ (l : Lent). amountsOf next ≡ k .takes row → called (call .result) after (taken (next .samples) trail sheet)
     ≡ calledBy (k .ask row next) (firstPlaces l m)) is-lent
-    (subst (λ (x : Taken). amountsOf x ≡ k .takes row → called (call .result) after (taken (x .samples) trail sheet list)
+    (subst (λ (x : Taken). amountsOf x ≡ k .takes row → called (call .result) after (taken (x .samples) trail sheet)
     ≡ calledBy (k .ask row x) (firstPlaces lent m)) is-next
     (call .ensures (k .changes) k number refl)) in
-    let size = next-size m pool trails sheets lists (a .at) (s .pre .0) row k can in
+    let size = next-size m pool trails sheets (a .at) (s .pre .0) row k can in
     let trail-size = call .kept .1 .1 .1 .1 .1 .0 ∙ (ap (λ (x : Taken). length (x .trail)) is-next
     ∙ ap (λ (z : Amounts). z .trails) size) in
     let sheet-size = call .kept .1 .1 .1 .1 .1 .1 .0 ∙ (ap (λ (x : Taken). length (x .sheet)) is-next
     ∙ ap (λ (z : Amounts). z .sheets) size) in
-    let list-size = call .kept .1 .1 .1 .1 .1 .1 .1 .0 ∙ (ap (λ (x : Taken). length (x .list)) is-next
-    ∙ ap (λ (z : Amounts). z .lists) size) in
     rw (
       post-is (a .at .trails) (a .to .trails) trails (trail-bounds s .0),
       post-is (a .at .sheets) (a .to .sheets) sheets (sheet-bounds s .0),
-      post-is (a .at .lists) (a .to .lists) lists (list-bounds s .0),
     )
-    (played-to m pool trails sheets lists (a .at) (s .pre .0) row k can (a .to) (go s .to-is) (call .result) after _ trail sheet list does
-    (back-is-left lent after m kept) trail-size sheet-size list-size)
+    (played-to m pool trails sheets (a .at) (s .pre .0) row k can (a .to) (go s .to-is) (call .result) after _ trail sheet does
+    (back-is-left lent after m kept) trail-size sheet-size)
+
+-- at entry
+abbrev start5 : tie.After-call-arg5 → tie.Start
+start5 c = c .before .before .before .before .before .before .before .before .before .before .before .before .before
+
+abbrev start6 : tie.After-call-arg6 → tie.Start
+start6 c = start5 (c .before)
+
+abbrev start7 : tie.After-call-arg7 → tie.Start
+start7 c = start6 (c .before)
 
 pub lend-spec : {M : Type 1} → statement M
 lend-spec =
@@ -130,90 +129,27 @@ lend-spec =
     (tie.spec
     (λ c κs. tt) (λ c κs. tt)
     (λ c. omega (arith, within c .control-within))
-    (λ c. sym (length-take-le _ (now (c .before .before .before .before .before .before .before .before .before .before .args .control))
-    (within
-    (c .before) .control-within)))
+    (λ c. sym (length-take-le _ (now (c .before .before .before .before .before .before .before .before .before .args .control)) (within (c
+    .before) .control-within)))
     (λ c. omega (arith, within (c .before) .samples-within))
-    (λ c. sym (length-take-le _ (now (c .before .before .before .before .before .before .before .before .before .before .before .args
-    .samples))
+    (λ c. sym (length-take-le _ (now (c .before .before .before .before .before .before .before .before .before .before .args .samples))
     (within (c .before .before) .samples-within)))
     (λ c. omega (arith, within (c .before .before) .nodes-within))
-    (λ c. sym (length-take-le _ (now (c .before .before .before .before .before .before .before .before .before .before .before .before
-    .args
+    (λ c. sym (length-take-le _ (now (c .before .before .before .before .before .before .before .before .before .before .before .args
     .nodes)) (within (c .before .before .before) .nodes-within)))
     (λ c. omega (arith, within (c .before .before .before) .links-within))
     (λ c. sym (length-take-le _ (now (c .before .before .before .before .before .before .before .before .before .before .before .before
-    .before .args .links)) (within (c .before .before .before .before) .links-within)))
+    .args .links)) (within (c .before .before .before .before) .links-within)))
     (λ c. omega (arith, within (c .before .before .before .before) .work-within))
     (λ c. sym (length-take-le _ (now (c .before .before .before .before .before .before .before .before .before .before .before .before
-    .before .before .args .work)) (within (c .before .before .before .before .before) .work-within)))
+    .before .args .work)) (within (c .before .before .before .before .before) .work-within)))
     (λ c. search needs)
-    (λ c. omega (
-      arith,
-      trail-bounds (c .before .before .before .before .before .before .before .before .before .before .before .before .before .before) .0,
-    ))
-    (λ c. omega (
-      arith,
-      trail-bounds (c .before .before .before .before .before .before .before .before .before .before .before .before .before .before) .0,
-      trail-bounds (c .before .before .before .before .before .before .before .before .before .before .before .before .before .before) .1,
-    ))
-    (λ c. omega (
-      arith,
-      trail-bounds (c .before .before .before .before .before .before .before .before .before .before .before .before .before .before) .1,
-    ))
-    (λ c. omega (
-      arith,
-      sheet-bounds (c .before .before .before .before .before .before .before .before .before .before .before .before .before .before
-          .before) .0,
-    ))
-    (λ c. omega (
-      arith,
-      sheet-bounds (c .before .before .before .before .before .before .before .before .before .before .before .before .before .before
-          .before) .0,
-      sheet-bounds (c .before .before .before .before .before .before .before .before .before .before .before .before .before .before
-          .before) .1,
-    ))
-    (λ c. omega (
-      arith,
-      sheet-bounds (c .before .before .before .before .before .before .before .before .before .before .before .before .before .before
-          .before) .1,
-    ))
+    (λ c. omega (arith, trail-bounds (start5 c) .0)) (λ c. omega (arith, trail-bounds (start5 c) .0, trail-bounds (start5 c) .1))
+    (λ c. omega (arith, trail-bounds (start5 c) .1))
+    (λ c. omega (arith, sheet-bounds (start6 c) .0)) (λ c. omega (arith, sheet-bounds (start6 c) .0, sheet-bounds (start6 c) .1))
+    (λ c. omega (arith, sheet-bounds (start6 c) .1))
     (λ c. search needs)
-    (λ c. omega (
-      arith,
-      list-bounds (c .before .before .before .before .before .before .before .before .before .before .before .before .before .before
-          .before .before) .0,
-    ))
-    (λ c. omega (
-      arith,
-      list-bounds (c .before .before .before .before .before .before .before .before .before .before .before .before .before .before
-          .before .before) .0,
-      list-bounds (c .before .before .before .before .before .before .before .before .before .before .before .before .before .before
-          .before .before) .1,
-    ))
-    (λ c. omega (
-      arith,
-      list-bounds (c .before .before .before .before .before .before .before .before .before .before .before .before .before .before
-          .before .before) .1,
-    ))
-    (λ c. search needs)
-    (λ c. omega (
-      arith,
-      sample-bounds (c .before .before .before .before .before .before .before .before .before .before .before .before .before .before
-          .before .before .before) .0,
-    ))
-    (λ c. omega (
-      arith,
-      sample-bounds (c .before .before .before .before .before .before .before .before .before .before .before .before .before .before
-          .before .before .before) .0,
-      sample-bounds (c .before .before .before .before .before .before .before .before .before .before .before .before .before .before
-          .before .before .before) .1,
-    ))
-    (λ c. omega (
-      arith,
-      sample-bounds (c .before .before .before .before .before .before .before .before .before .before .before .before .before .before
-          .before .before .before) .1,
-    ))
+    (λ c. omega (arith, sample-bounds (start7 c) .0)) (λ c. omega (arith, sample-bounds (start7 c) .0, sample-bounds (start7 c) .1))
+    (λ c. omega (arith, sample-bounds (start7 c) .1))
     (λ c κs. tt) (λ c. search needs) (λ c. search needs) (λ c. search needs) (λ c. search needs) (λ c. search needs) (λ c. search needs)
-    (λ c. search needs) (λ c. search needs)
-    returns)
+    (λ c. search needs) returns)

@@ -18,22 +18,22 @@ use Rattle.replay.proofs.turns.turn.Tie as tie
 -- what is planned on the slices as they are
 module _ (k : tie.After-plan) where
   abbrev s : tie.Start
-  s = k .before .before .before .before .before .before .before .before
+  s = k .before .before .before .before .before .before .before
 
   abbrev memory : Tables
   memory = tables (now (s .args .control)) (now (s .args .samples)) (now (s .args .nodes)) (now (s .args .links)) (now (s .args .work))
 
   abbrev here : State
-  here = stateAt memory (now (s .args .pool)) (now (s .args .trails)) (now (s .args .sheets)) (now (s .args .lists)) (s .args .at)
+  here = stateAt memory (now (s .args .pool)) (now (s .args .trails)) (now (s .args .sheets)) (s .args .at)
 
   abbrev ends : Amounts
   ends = amounts (length (now (s .args .pool)) - s .args .at .samples) (length (now (s .args .trails)) - s .args .at .trails) (length (now
-      (s .args .sheets)) - s .args .at .sheets) (length (now (s .args .lists)) - s .args .at .lists)
+      (s .args .sheets)) - s .args .at .sheets)
 
   plan-ahead : movedBy (playable (lentOf memory) ends (now (s .args .row))) (now (s .args .row)) (s .args .at)
       ≡ movedBy (playable (lentOf memory) (aheadOf here) (now (s .args .row))) (now (s .args .row)) (s .args .at)
   plan-ahead = ap (λ (z : Amounts). movedBy (playable (lentOf memory) z (now (s .args .row))) (now (s .args .row)) (s .args .at))
-      (ahead-is memory (now (s .args .pool)) (now (s .args .trails)) (now (s .args .sheets)) (now (s .args .lists)) (s .args .at))
+      (ahead-is memory (now (s .args .pool)) (now (s .args .trails)) (now (s .args .sheets)) (s .args .at))
 
   going : k .plan .result .made ≡ true → some (k .plan .result .to)
       ≡ movedBy (playable (lentOf memory) (aheadOf here) (now (s .args .row))) (now (s .args .row)) (s .args .at)
@@ -41,43 +41,46 @@ module _ (k : tie.After-plan) where
 
 returns : tie.Need-returns
 returns c =
-    let a = c .before .before .before .before .before .before .before .before .before .before .before .args in
+    let a = c .before .before .before .before .before .before .before .before .before .before .args in
     let k = c .before .before .before in
     let e = c .no-call .ensures in
     let not-made = not-true (k .plan .result .made) (c .before .if1 .taken) in
     let nothing = sym (plan-ahead k) ∙ (sym (k .plan .ensures) ∙ planned-none (k .plan .result) not-made) in (
-      none-is _ (a .at) e (lentBy (now (a .row))) (memory k) (now (a .pool)) (now (a .trails)) (now (a .sheets)) (now (a .lists)) _
+      none-is _ (a .at) e (lentBy (now (a .row))) (memory k) (now (a .pool)) (now (a .trails)) (now (a .sheets)) _
           (asks-not (lentOf
           (memory k)) (now (a .row)) (here k) (a .at) nothing),
-      subst (λ (r : Turn). AmountsInside (r .at) (now (a .pool)) (now (a .trails)) (now (a .sheets)) (now (a .lists))) (sym e)
-          (c .before .before .before .before .before .before .before .before .before .before .before .pre),
+      subst (λ (r : Turn). AmountsInside (r .at) (now (a .pool)) (now (a .trails)) (now (a .sheets))) (sym e)
+          (c .before .before .before .before .before .before .before .before .before .before .pre),
     )
 
 lend-requires : tie.Need-lend-requires
 lend-requires c κs =
-    let k = c .before .before .before .before .before .before .before .before .before .before .before in (
+    let k = c .before .before .before .before .before .before .before .before .before .before in (
       c .before .before .before .before .before .before .before .before .before .before .before .before .before .before .before .before
-          .before .before .before .pre,
-      going k (not-false (k .plan .result .made) (c .before .before .before .before .before .before .before .before .before .if1
+          .before .pre,
+      going k (not-false (k .plan .result .made) (c .before .before .before .before .before .before .before .before .if1
           .left)),
     )
+
+-- the call, as it comes back
+abbrev lent : tie.After-slice-known10 → tie.After-lend
+lent c = c .before .before .before .before .before .before .before .before .before .before .before .before
 
 returns-2 : tie.Need-returns-2
 returns-2 c =
     let a = c .before .before .before .before .before .before .before .before .before .before .before .before .before .before .before
-    .before .before .before .before .before .before .before .before .before .before .before .before .before .before .before .before
-    .before .before .before .args in
+    .before .before .before .before .before .before .before .before .before .before .before .before .before .before .before .args in
     let k = c .before .before .before .before .before .before .before .before .before .before .before .before .before .before .before
-    .before .before .before .before .before .before .before .before .before .before .before in
+    .before .before .before .before .before .before .before .before in
     let go = moved-is _ (now (a .row)) (a .at) (k .plan .result .to) (going k (not-false (k .plan .result .made)
-    (c .before .before .before .before .before .before .before .before .before .before .before .before .before .before .before
-    .before .before .before .before .before .before .before .before .before .if1 .left))) in (
-      c .before .before .before .before .before .before .before .before .before .before .before .before .before .before .lend .ensures,
-      subst (λ (z : Amounts). AmountsInside z (now (a .pool)) (now (a .trails)) (now (a .sheets)) (now (a .lists))) (sym (go .to-is))
-          (inside-then (memory k) (now (a .pool)) (now (a .trails)) (now (a .sheets)) (now (a .lists)) (a .at)
+    (c .before .before .before .before .before .before .before .before .before .before .before .before .before .before .before .before
+    .before .before .before .before .before .if1 .left))) in (
+      c .before .before .before .before .before .before .before .before .before .before .before .before .lend .ensures,
+      subst (λ (z : Amounts). AmountsInside z (now (a .pool)) (now (a .trails)) (now (a .sheets))) (sym (go .to-is))
+          (inside-then (memory k) (now (a .pool)) (now (a .trails)) (now (a .sheets)) (a .at)
           (c .before .before .before .before .before .before .before .before .before .before .before .before .before .before .before
-          .before .before .before .before .before .before .before .before .before .before .before .before .before .before .before
-          .before .before .before .before .pre) (now (a .row)) (go .kind) (go .is)),
+          .before .before .before .before .before .before .before .before .before .before .before .before .before .before .before .pre)
+          (now (a .row)) (go .kind) (go .is)),
     )
 
 pub turn-spec : {M : Type 1} → statement M
@@ -85,26 +88,10 @@ turn-spec =
     tie.close
     (tie.spec
     (λ c κs. (
-      c .before .before .before .before .before .before .before .pre .samples-inside,
-      c .before .before .before .before .before .before .before .pre .trails-inside,
-      c .before .before .before .before .before .before .before .pre .sheets-inside,
-      c .before .before .before .before .before .before .before .pre .lists-inside,
+      c .before .before .before .before .before .before .pre .samples-inside,
+      c .before .before .before .before .before .before .pre .trails-inside,
+      c .before .before .before .before .before .before .pre .sheets-inside,
     )) (λ c κs. tt) returns lend-requires
-    (λ c. c .before .before .before .before .before .before .before .before .before .before .before .before .before .before .lend .kept .0)
-    (λ c. c .before .before .before .before .before .before .before .before .before .before .before .before .before .before .lend .kept
-    .1 .0)
-    (λ c. c .before .before .before .before .before .before .before .before .before .before .before .before .before .before .lend .kept
-    .1 .1 .0)
-    (λ c. c .before .before .before .before .before .before .before .before .before .before .before .before .before .before .lend .kept
-    .1 .1 .1 .0)
-    (λ c. c .before .before .before .before .before .before .before .before .before .before .before .before .before .before .lend .kept
-    .1 .1 .1 .1 .0)
-    (λ c. c .before .before .before .before .before .before .before .before .before .before .before .before .before .before .lend .kept
-    .1 .1 .1 .1 .1 .0)
-    (λ c. c .before .before .before .before .before .before .before .before .before .before .before .before .before .before .lend .kept
-    .1 .1 .1 .1 .1 .1
-    .0)
-    (λ c. c .before .before .before .before .before .before .before .before .before .before .before .before .before .before .lend .kept
-    .1 .1 .1 .1 .1 .1
-    .1 .0)
+    (λ c. lent c .lend .kept .0) (λ c. lent c .lend .kept .1 .0) (λ c. lent c .lend .kept .1 .1 .0) (λ c. lent c .lend .kept .1 .1 .1 .0)
+    (λ c. lent c .lend .kept .1 .1 .1 .1 .0) (λ c. lent c .lend .kept .1 .1 .1 .1 .1 .0) (λ c. lent c .lend .kept .1 .1 .1 .1 .1 .1 .0)
     returns-2)

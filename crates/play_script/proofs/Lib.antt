@@ -1,0 +1,2 @@
+-- Rows laid one behind another.
+pub mod Laid

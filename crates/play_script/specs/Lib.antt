@@ -1,0 +1,2 @@
+-- The scripts that are played.
+pub mod Rows

@@ -1,6 +1,7 @@
 // A stored trace joins the tree: the first one makes leaf 0, a later one goes down, joins a leaf, and leaves above the leaf size split.
 // Its samples stand behind those of the traces before it.
 
+use segment::Sample;
 use tables::control::field;
 use tables::numbers::wide;
 use tables::places::FIRST;
@@ -21,10 +22,10 @@ ghost use Rattle.adding.specs.Putting.{Takes};
 // A later trace. The answer is how many nodes there are then.
 pub fn insert_more(
     control: &[u16],
-    samples: &[i16],
+    samples: &[Sample],
     nodes: &mut [i64],
     links: &mut [u16],
-    trace: &[i16],
+    trace: &[Sample],
 ) -> usize
     requires { ⌜ Takes (now control) (now samples) (now nodes) (now links) (now trace)
         × (traceIn (now samples) (length (now trace)) (t.field (now control) traceCountPlace) ≡ now trace)
@@ -46,10 +47,10 @@ pub fn insert_more(
 // Any trace: with no node yet, it makes leaf 0.
 pub fn insert(
     control: &[u16],
-    samples: &[i16],
+    samples: &[Sample],
     nodes: &mut [i64],
     links: &mut [u16],
-    trace: &[i16],
+    trace: &[Sample],
 ) -> usize
     requires { ⌜ Takes (now control) (now samples) (now nodes) (now links) (now trace)
         × (traceIn (now samples) (length (now trace)) (t.field (now control) traceCountPlace) ≡ now trace) ⌝ }

@@ -1,5 +1,6 @@
 // What adding refuses: what every call on made tables does, then a trace of another length (4), then a full library (5).
 
+use segment::Sample;
 use tables::Refusal;
 use tables::Verdict;
 use tables::control::field;
@@ -16,11 +17,11 @@ ghost use Rattle.calls.specs.Effects.{adds};
 
 pub fn judge(
     control: &[u16],
-    samples: &[i16],
+    samples: &[Sample],
     nodes: &[i64],
     links: &[u16],
     work: &[u64],
-    trace: &[i16],
+    trace: &[Sample],
 ) -> Verdict
     ensures { λ r. ⌜ foundBy r ≡ firstOf (adds
         (tables (now (control .entry)) (now (samples .entry)) (now (nodes .entry)) (now (links .entry)) (now (work .entry)))

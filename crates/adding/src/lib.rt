@@ -4,6 +4,7 @@ pub mod judging; // what adding refuses
 pub mod inserting; // a stored trace joins the tree
 pub mod putting; // a trace put into tables that refuse nothing
 
+use segment::Sample;
 use tables::Refusal;
 use tables::Verdict;
 use tables::control::field;
@@ -29,11 +30,11 @@ pub enum Added {
 // before a trace of another length.
 pub fn add(
     control: &mut [u16],
-    samples: &mut [i16],
+    samples: &mut [Sample],
     nodes: &mut [i64],
     links: &mut [u16],
     work: &[u64],
-    trace: &[i16],
+    trace: &[Sample],
 ) -> Added
     ensures { λ r. ⌜ outcome (answerBy r)
         (tables (now (control .exit)) (now (samples .exit)) (now (nodes .exit)) (now (links .exit)) (now (work .entry)))

@@ -1,5 +1,6 @@
 // A trace put into tables that refuse nothing: its samples are stored, it joins the tree, and the counts are written last.
 
+use segment::Sample;
 use tables::control::field;
 use tables::numbers::wide;
 use tables::places::TRACE_COUNT;
@@ -13,10 +14,10 @@ ghost use Rattle.adding.specs.Putting.{Takes};
 // Search work is not lent: it stays as it was, whatever it holds.
 pub fn put(
     control: &mut [u16],
-    samples: &mut [i16],
+    samples: &mut [Sample],
     nodes: &mut [i64],
     links: &mut [u16],
-    trace: &[i16],
+    trace: &[Sample],
 )
     requires { ⌜ Takes (now control) (now samples) (now nodes) (now links) (now trace) ⌝ }
     ensures { λ _. ⌜ ((work : List ℕ) →

@@ -1,5 +1,6 @@
 // A leaf read for all queries at once, marked and counted. Each query keeps its nearest trace so far in a record of two places, trace
 // number and distance.
+use segment::Sample;
 use tables::control::field;
 use tables::numbers::wide;
 use tables::places::FIRST;
@@ -27,12 +28,12 @@ fn filled(leaves: usize) -> usize
 
 // The leaf whose list starts at `head`, for one query, whose record is record i. So many leaves were read before.
 fn read_for(
-    samples: &[i16],
+    samples: &[Sample],
     links: &[u16],
     n: usize,
     count: usize,
     head: usize,
-    query: &[i16],
+    query: &[Sample],
     bests: &mut [u64],
     i: usize,
     leaves: usize,
@@ -56,12 +57,12 @@ fn read_for(
 // .. for all queries of the run, with one more in the mark of the leaf, node j. Answers how many leaves were read, this one too. So a
 // reading shows in the caller's marks, whatever becomes of its answer.
 fn read_for_all(
-    samples: &[i16],
+    samples: &[Sample],
     links: &[u16],
     n: usize,
     count: usize,
     head: usize,
-    queries: &[i16],
+    queries: &[Sample],
     many: usize,
     bests: &mut [u64],
     marks: &mut [u8],
@@ -93,10 +94,10 @@ fn read_for_all(
 // then lack its traces; and one that reads a leaf with a mark again, since the mark is then above 1, be the answer kept or not.
 pub fn read_once(
     control: &[u16],
-    samples: &[i16],
+    samples: &[Sample],
     nodes: &[i64],
     links: &[u16],
-    queries: &[i16],
+    queries: &[Sample],
     many: usize,
     j: usize,
     bests: &mut [u64],

@@ -1,4 +1,5 @@
 // Query after query, with the sums that each needs, and search work left zero.
+use segment::Sample;
 use tables::control::field;
 use tables::numbers::wide;
 use tables::places::CAPACITY;
@@ -20,10 +21,10 @@ ghost use Rattle.batch_search.specs.Batched.{BatchSearched};
 // Query i: its sums, then its leaves. Answers how many leaves were read so far.
 fn search_query(
     control: &[u16],
-    samples: &[i16],
+    samples: &[Sample],
     nodes: &[i64],
     links: &[u16],
-    queries: &[i16],
+    queries: &[Sample],
     many: usize,
     i: usize,
     work: &mut [u64],
@@ -73,10 +74,10 @@ fn search_query(
 // read.
 fn search_queries(
     control: &[u16],
-    samples: &[i16],
+    samples: &[Sample],
     nodes: &[i64],
     links: &[u16],
-    queries: &[i16],
+    queries: &[Sample],
     many: usize,
     work: &mut [u64],
     bests: &mut [u64],
@@ -122,10 +123,10 @@ fn search_queries(
 // .. with the needed places of search work zero when it ends, whatever they held.
 fn search_marks(
     control: &[u16],
-    samples: &[i16],
+    samples: &[Sample],
     nodes: &[i64],
     links: &[u16],
-    queries: &[i16],
+    queries: &[Sample],
     many: usize,
     work: &mut [u64],
     bests: &mut [u64],
@@ -181,10 +182,10 @@ pub struct BatchRead {
 // leaves in the order in which they were read.
 pub fn search_batch(
     control: &[u16],
-    samples: &[i16],
+    samples: &[Sample],
     nodes: &[i64],
     links: &[u16],
-    queries: &[i16],
+    queries: &[Sample],
     many: usize,
     work: &mut [u64],
     trail: &mut [u16],

@@ -1,5 +1,6 @@
 // The leaves that one query of a batch asks for.
 use leaf_order::leaves::Next;
+use segment::Sample;
 use tables::control::field;
 use tables::numbers::wide;
 use tables::places::N;
@@ -29,10 +30,10 @@ fn distance_at(bests: &[u64], i: usize) -> u64
 // the distance.
 pub fn visit(
     control: &[u16],
-    samples: &[i16],
+    samples: &[Sample],
     nodes: &[i64],
     links: &[u16],
-    queries: &[i16],
+    queries: &[Sample],
     many: usize,
     i: usize,
     sums: &[i64; 257],

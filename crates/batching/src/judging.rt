@@ -2,6 +2,7 @@
 // (14), then a run of another length (4), no trace stored (6), and a trail with fewer places than leaves (7).
 
 use query_judging::judge_run;
+use segment::Sample;
 use tables::Refusal;
 use tables::Verdict;
 use tables::control::field;
@@ -39,7 +40,7 @@ fn is_batch(many: usize, places: usize) -> bool
 fn judge_own(
     control: &[u16],
     nodes: &[i64],
-    queries: &[i16],
+    queries: &[Sample],
     many: usize,
     places: usize,
     trail: &[u16],
@@ -59,11 +60,11 @@ fn judge_own(
 
 pub fn judge(
     control: &[u16],
-    samples: &[i16],
+    samples: &[Sample],
     nodes: &[i64],
     links: &[u16],
     work: &[u64],
-    queries: &[i16],
+    queries: &[Sample],
     many: usize,
     places: usize,
     trail: &[u16],

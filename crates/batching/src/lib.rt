@@ -3,6 +3,7 @@
 
 pub mod judging; // what a batch refuses
 
+use segment::Sample;
 use tables::Refusal;
 use tables::Verdict;
 ghost use mathlib.Core.Path.{_≡_};
@@ -42,12 +43,12 @@ pub struct BatchFound {
 // Two wrong programs that the contract rules out: one that takes a longer list, and one that counts a leaf for each query that needs it.
 pub fn match_all(
     control: &[u16],
-    samples: &[i16],
+    samples: &[Sample],
     nodes: &[i64],
     links: &[u16],
     work: &mut [u64],
     trail: &mut [u16],
-    queries: &[i16],
+    queries: &[Sample],
     many: usize,
     places: usize,
 ) -> BatchFound

@@ -1,4 +1,5 @@
 // The sides that a test parts a leaf's traces into, as marks.
+use segment::Sample;
 ghost use mathlib.Core.Path.{_≡_};
 ghost use mathlib.Core.List.{[]};
 ghost use Prim.Native.Nat.{ℕ};
@@ -13,7 +14,7 @@ ghost use Rattle.candidate.specs.Marking.{sideMark, marksBy};
 
 // 1 if trace t goes left, and 2 if it goes right.
 pub fn side_of(
-    samples: &[i16],
+    samples: &[Sample],
     n: usize,
     t: usize,
     first: usize,
@@ -34,7 +35,7 @@ pub fn side_of(
 
 // The leaf's traces marked by their sides. Marks of other traces stay.
 pub fn mark_sides(
-    samples: &[i16],
+    samples: &[Sample],
     links: &[u16],
     n: usize,
     k: usize,

@@ -16,6 +16,7 @@ use adding::Added;
 use candidate::parting::Look;
 use matching::Found;
 use opening::Opened;
+use segment::Sample;
 use segment::samples::apart;
 use segment::within::Distance;
 use sheet::fields::put_bytes;
@@ -73,7 +74,7 @@ fn print_adding(step: AddingStep) {
 }
 
 // A sample behind a space.
-fn print_sample(x: i16) {
+fn print_sample(x: Sample) {
     if x < 0 {
         io::write_all(1, b" -");
     } else {
@@ -82,7 +83,7 @@ fn print_sample(x: i16) {
     io::print_decimal(1, apart(x, 0) as u64);
 }
 
-fn print_query(samples: &[i16]) {
+fn print_query(samples: &[Sample]) {
     io::write_all(1, b"match");
     let mut i: usize = 0;
     while i < samples.len() {
@@ -174,7 +175,7 @@ fn print_distance(answer: Distance) {
 // contract; with tables of a million places in a contract of its own the prover would compute.
 fn in_largest_tables(n: u64, capacity: u64, leaf_size: u64) -> Opened {
     let mut control = [7u16; 5];
-    let mut samples = [7i16; 1048576];
+    let mut samples: [Sample; 1048576] = [7; 1048576];
     let mut nodes = [7i64; 712617];
     let mut links = [7u16; 4096];
     let mut work = [7u64; 8191];
@@ -231,12 +232,12 @@ fn part_end(length: usize, at: usize, size: usize) -> usize
 // Every n samples added as a trace, the last ones even if they are fewer.
 fn add_all(
     control: &mut [u16],
-    samples: &mut [i16],
+    samples: &mut [Sample],
     nodes: &mut [i64],
     links: &mut [u16],
     work: &[u64],
     n: usize,
-    traces: &[i16],
+    traces: &[Sample],
 )
     requires { ⌜ 0 < n ⌝ }
     ensures { λ _. ⌜ tables (now (control .exit)) (now (samples .exit)) (now (nodes .exit)) (now (links .exit)) (now (work .entry))
@@ -254,12 +255,12 @@ fn add_all(
 // Every n samples matched, in a line that begins with them.
 fn match_all(
     control: &[u16],
-    samples: &[i16],
+    samples: &[Sample],
     nodes: &[i64],
     links: &[u16],
     work: &mut [u64],
     n: usize,
-    queries: &[i16],
+    queries: &[Sample],
 )
     requires { ⌜ 0 < n ⌝ }
     ensures { λ _. ⌜ tables (now (control .entry)) (now (samples .entry)) (now (nodes .entry)) (now (links .entry)) (now (work .exit))
@@ -277,11 +278,11 @@ fn match_all(
 }
 
 // A library with a capacity of 8, in tables with junk in every place.
-fn library(n: u16, leaf_size: u64, traces: &[i16], queries: &[i16])
+fn library(n: u16, leaf_size: u64, traces: &[Sample], queries: &[Sample])
     requires { ⌜ 0 < n ⌝ }
 {
     let mut control = [7u16; 5];
-    let mut samples = [7i16; 32];
+    let mut samples: [Sample; 32] = [7; 32];
     let mut nodes = [7i64; 1305];
     let mut links = [7u16; 8];
     let mut work = [7u64; 15];
@@ -320,13 +321,13 @@ fn run_libraries() {
     library(
         4,
         2,
-        &[0i16, 0, 0, 0, 4, 4, 4, 4, 0, 8, 0, 8, 1, 2, 3],
-        &[1i16, 1, 1, 1, 2, 2, 2, 2, 4, 4, 4, 4],
+        &[0, 0, 0, 0, 4, 4, 4, 4, 0, 8, 0, 8, 1, 2, 3],
+        &[1, 1, 1, 1, 2, 2, 2, 2, 4, 4, 4, 4],
     );
     // "n = 3, stored (0,0,0), query (1,0,0)"
-    library(3, 2, &[0i16, 0, 0], &[1i16, 0, 0]);
+    library(3, 2, &[0, 0, 0], &[1, 0, 0]);
     // "Leaf size 1, (1,2,1,2) and (2,1,2,1): one leaf of two"
-    library(4, 1, &[1i16, 2, 1, 2, 2, 1, 2, 1], &[2i16, 1, 2, 1]);
+    library(4, 1, &[1, 2, 1, 2, 2, 1, 2, 1], &[2, 1, 2, 1]);
 }
 
 // ---- a sheet: written, read back into other tables and searched there; then read damaged
@@ -336,7 +337,7 @@ fn write_to(sheet: &mut [u8], line: &[u8])
     ensures { λ _. ⌜ now (sheet .exit) ∷ [] ≡ outcomeOn (writing (now (sheet .entry))) (starredIn junk) .beside ⌝ }
 {
     let mut control = [7u16; 5];
-    let mut samples = [7i16; 8];
+    let mut samples: [Sample; 8] = [7; 8];
     let mut nodes = [7i64; 1305];
     let mut links = [7u16; 8];
     let mut work = [7u64; 15];
@@ -366,7 +367,7 @@ fn reading_line(number: usize) {
 // A sheet read, and the trace matched in the tables as that leaves them.
 fn read_one(
     control: &mut [u16],
-    samples: &mut [i16],
+    samples: &mut [Sample],
     nodes: &mut [i64],
     links: &mut [u16],
     work: &mut [u64],
@@ -377,14 +378,14 @@ fn read_one(
         (now (sheet .entry)) ⌝ }
 {
     print_reading(sheet_reading::read_sheet(control, samples, nodes, links, work, sheet));
-    match_all(control, samples, nodes, links, work, 1, &[-1i16]);
+    match_all(control, samples, nodes, links, work, 1, &[-1]);
 }
 
 // Sheets of two blocks, the last of them even if it is shorter, read into the same tables: "a refused call changes nothing", so that the
 // trace is found after each.
 fn read_all(
     control: &mut [u16],
-    samples: &mut [i16],
+    samples: &mut [Sample],
     nodes: &mut [i64],
     links: &mut [u16],
     work: &mut [u64],
@@ -405,7 +406,7 @@ fn read_all(
 
 fn read_back(sheets: &[u8]) {
     let mut control = [7u16; 5];
-    let mut samples = [7i16; 8];
+    let mut samples: [Sample; 8] = [7; 8];
     let mut nodes = [7i64; 1305];
     let mut links = [7u16; 8];
     let mut work = [7u64; 15];
@@ -454,7 +455,7 @@ fn run_walks() {
 // ---- distances with a limit: document 02, "Leave a hopeless trace early"
 
 // How far x is from y, in a line that begins with words and the limit.
-fn distance_of(words: &[u8], x: &[i16], y: &[i16], limit: u64)
+fn distance_of(words: &[u8], x: &[Sample], y: &[Sample], limit: u64)
     requires { ⌜ (length (now x) ≡ length (now y)) × (length (now x) ≤ mostSamples) ⌝ }
 {
     item(words, limit);
@@ -464,8 +465,8 @@ fn distance_of(words: &[u8], x: &[i16], y: &[i16], limit: u64)
 
 fn run_distances() {
     let words = b"two samples, 2 apart, limit ";
-    let x = [0i16, 0];
-    let y = [2i16, 2];
+    let x: [Sample; 2] = [0, 0];
+    let y: [Sample; 2] = [2, 2];
     distance_of(words, &x, &y, 3);
     distance_of(words, &x, &y, 4);
     distance_of(words, &x, &y, 8);
@@ -474,8 +475,8 @@ fn run_distances() {
 // More samples than are taken at once.
 fn run_longer_distances() {
     let words = b"twenty samples, 1 apart, limit ";
-    let x = [0i16; 20];
-    let y = [1i16; 20];
+    let x: [Sample; 20] = [0; 20];
+    let y: [Sample; 20] = [1; 20];
     distance_of(words, &x, &y, 15);
     distance_of(words, &x, &y, 16);
     distance_of(words, &x, &y, 20);

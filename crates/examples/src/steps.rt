@@ -2,6 +2,7 @@
 
 use adding::Added;
 use matching::Found;
+use segment::Sample;
 ghost use mathlib.Core.Path.{_≡_};
 ghost use mathlib.Core.List.{[], _∷_};
 ghost use Rattle.dstree.specs.Book.{adding, matching};
@@ -26,11 +27,11 @@ pub struct MatchStep {
 
 pub fn add_to(
     control: &mut [u16],
-    samples: &mut [i16],
+    samples: &mut [Sample],
     nodes: &mut [i64],
     links: &mut [u16],
     work: &[u64],
-    trace: &[i16],
+    trace: &[Sample],
 ) -> AddingStep
     ensures { λ r. ⌜ (outcome (added.answerBy (r .answer))
         (tables (now (control .exit)) (now (samples .exit)) (now (nodes .exit)) (now (links .exit)) (now (work .entry))) []
@@ -50,11 +51,11 @@ pub fn add_to(
 // The trail holds junk, and has places behind its leaves.
 pub fn match_of(
     control: &[u16],
-    samples: &[i16],
+    samples: &[Sample],
     nodes: &[i64],
     links: &[u16],
     work: &mut [u64],
-    query: &[i16],
+    query: &[Sample],
 ) -> MatchStep
     ensures { λ r. ⌜ outcome (found.answerBy (r .answer) (r .trail))
         (tables (now (control .entry)) (now (samples .entry)) (now (nodes .entry)) (now (links .entry)) (now (work .exit))) (r .trail ∷ [])
@@ -72,7 +73,7 @@ pub fn match_of(
 // The library of the starred example of a sheet: "n = 1, capacity 8, leaf size 2, trace (−1): checks 2,130 and 2,812".
 pub fn put_starred(
     control: &mut [u16],
-    samples: &mut [i16],
+    samples: &mut [Sample],
     nodes: &mut [i64],
     links: &mut [u16],
     work: &mut [u64],
@@ -81,5 +82,5 @@ pub fn put_starred(
         ≡ starredIn (tables (now (control .entry)) (now (samples .entry)) (now (nodes .entry)) (now (links .entry)) (now (work .entry))) ⌝ }
 {
     opening::open(control, samples, nodes, links, work, 1, 8, 2);
-    adding::add(control, samples, nodes, links, work, &[-1i16]);
+    adding::add(control, samples, nodes, links, work, &[-1]);
 }

@@ -1,6 +1,7 @@
 // What exporting refuses: what every call on made tables does, then a rate or a trace number out of range (12), then a buffer below the
 // need (8).
 
+use segment::Sample;
 use tables::Refusal;
 use tables::Verdict;
 use tables::control::field;
@@ -49,7 +50,7 @@ fn judge_own(control: &[u16], buffer: &[u8], number: u64, rate: u64) -> Verdict
 
 pub fn judge(
     control: &[u16],
-    samples: &[i16],
+    samples: &[Sample],
     nodes: &[i64],
     links: &[u16],
     work: &[u64],

@@ -3,6 +3,7 @@
 pub mod judging; // what exporting refuses
 
 use recording::writing::write_recording;
+use segment::Sample;
 use tables::Refusal;
 use tables::Verdict;
 use tables::control::field;
@@ -30,7 +31,7 @@ pub enum Exported {
 // buffer behind the recording.
 pub fn export_recording(
     control: &[u16],
-    samples: &[i16],
+    samples: &[Sample],
     nodes: &[i64],
     links: &[u16],
     work: &[u64],

@@ -3,6 +3,7 @@
 pub mod judging; // what importing refuses
 pub mod loading; // the traces of a recording, added in order
 
+use segment::Sample;
 use tables::Refusal;
 use tables::control::field;
 use tables::loops::look;
@@ -30,7 +31,7 @@ pub enum Imported {
 // file whose last trace is short.
 pub fn import_recording(
     control: &mut [u16],
-    samples: &mut [i16],
+    samples: &mut [Sample],
     nodes: &mut [i64],
     links: &mut [u16],
     work: &[u64],

@@ -2,6 +2,7 @@
 
 use adding::putting::put;
 use recording::samples::read_trace;
+use segment::Sample;
 ghost use mathlib.Core.Path.{_≡_};
 ghost use mathlib.Core.List.{List, [], foldl};
 ghost use Prim.Native.Nat.{ℕ};
@@ -14,12 +15,12 @@ ghost use Rattle.importing.specs.Loads.{NextInFile, LoadsFile};
 // The trace with this number, into tables that refuse nothing of it. `trace` is a place for its samples.
 fn put_next(
     control: &mut [u16],
-    samples: &mut [i16],
+    samples: &mut [Sample],
     nodes: &mut [i64],
     links: &mut [u16],
     bytes: &[u8],
     number: usize,
-    trace: &mut [i16],
+    trace: &mut [Sample],
 )
     requires { ⌜ NextInFile (now control) (now samples) (now nodes) (now links) (now bytes) (length (now trace)) number ⌝ }
     ensures { λ _. ⌜ ((work : List ℕ) → tables (now (control .exit)) (now (samples .exit)) (now (nodes .exit)) (now (links .exit)) work
@@ -33,7 +34,7 @@ fn put_next(
 // The same with a place of its own: a trace has 256 samples at most.
 fn put_one(
     control: &mut [u16],
-    samples: &mut [i16],
+    samples: &mut [Sample],
     nodes: &mut [i64],
     links: &mut [u16],
     bytes: &[u8],
@@ -45,7 +46,7 @@ fn put_one(
         ≡ addedTo (tables (now (control .entry)) (now (samples .entry)) (now (nodes .entry)) (now (links .entry)) work)
         (getD (recordedTraces n (now (bytes .entry))) number [])) ⌝ }
 {
-    let mut trace = [0i16; 256];
+    let mut trace: [Sample; 256] = [0; 256];
     put_next(
         control,
         samples,
@@ -60,7 +61,7 @@ fn put_one(
 // All of them. Search work is not lent: adding leaves it as it was.
 pub fn load(
     control: &mut [u16],
-    samples: &mut [i16],
+    samples: &mut [Sample],
     nodes: &mut [i64],
     links: &mut [u16],
     bytes: &[u8],

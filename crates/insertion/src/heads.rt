@@ -1,5 +1,6 @@
 // The heads of records: a leaf's, an inner node's, and the first leaf of all.
 
+use segment::Sample;
 use tables::places::FIRST;
 use tables::places::GREATEST_SCATTER;
 use tables::places::GREATEST_SUM;
@@ -108,7 +109,7 @@ pub fn write_segment(
 }
 
 // The record of a leaf with the first trace alone, and one segment. Least and greatest are that trace's own figures.
-fn first_record(record: &mut [i64], trace: &[i16])
+fn first_record(record: &mut [i64], trace: &[Sample])
     requires { ⌜ (length (now «record») ≡ recordPlaces) × (length (now trace) ≤ mostSamples) ⌝ }
     ensures { λ _. ⌜ now («record» .exit) ≡ leafRecord (segmentsOf (length (now (trace .entry)) ∷ []) (now (trace .entry) ∷ [])) 0 ⌝ }
 {
@@ -120,7 +121,7 @@ fn first_record(record: &mut [i64], trace: &[i16])
 }
 
 // The first trace makes leaf 0 with one segment, and its list is trace 0 alone.
-pub fn first_leaf(nodes: &mut [i64], links: &mut [u16], trace: &[i16])
+pub fn first_leaf(nodes: &mut [i64], links: &mut [u16], trace: &[Sample])
     requires { ⌜ (recordPlaces ≤ length (now nodes)) × (1 ≤ length (now links)) × (length (now trace) ≤ mostSamples) ⌝ }
     ensures { λ _. ⌜ now (nodes .exit)
         ≡ withRecord (now (nodes .entry)) 0 (leafRecord (segmentsOf (length (now (trace .entry)) ∷ []) (now (trace .entry) ∷ [])) 0) ⌝ }

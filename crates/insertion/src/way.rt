@@ -1,6 +1,7 @@
 // The way down by the tests, and the widening of the nodes that are met.
 
 use crate::widening::widen_record;
+use segment::Sample;
 use tables::places::FIRST;
 use tables::places::KIND;
 use tables::places::RIGHT;
@@ -25,7 +26,7 @@ ghost use Rattle.insertion_memory.specs.Memory.{widenedOn};
 ghost use Rattle.insertion.specs.Way.{figureIn, nextIn, orZero, wayIn, TestReadable, Descendable};
 
 // Whether a trace goes left at an inner node's record.
-pub fn goes_left(record: &[i64], trace: &[i16], sums: &[i64; 257], squares: &[u64; 257]) -> bool
+pub fn goes_left(record: &[i64], trace: &[Sample], sums: &[i64; 257], squares: &[u64; 257]) -> bool
     requires { ⌜ Prefixes (now trace) (now sums) (now squares) × TestReadable (now «record») (length (now trace)) ⌝ }
     ensures { λ r. ⌜ r ≡ goesLeft (testIn (now («record» .entry)) (figureIn (now («record» .entry)))) (now (trace .entry)) ⌝ }
 {
@@ -48,7 +49,7 @@ fn either(test: bool, a: usize, b: usize) -> usize
 }
 
 // The child that a trace goes to from a record. It is 0 at a leaf: no node has node 0 for a child.
-pub fn next_of(record: &[i64], trace: &[i16], sums: &[i64; 257], squares: &[u64; 257]) -> usize
+pub fn next_of(record: &[i64], trace: &[Sample], sums: &[i64; 257], squares: &[u64; 257]) -> usize
     requires { ⌜ Prefixes (now trace) (now sums) (now squares) ⌝ }
     requires readable { ⌜ (length (now «record») ≡ recordPlaces) × (smallAt (now «record») kindPlace ≤ 2)
         × (1 ≤ smallAt (now «record») kindPlace → TestReadable (now «record») (length (now trace))) ⌝ }
@@ -68,7 +69,7 @@ pub fn next_of(record: &[i64], trace: &[i16], sums: &[i64; 257], squares: &[u64;
 fn descend_by(
     nodes: &mut [i64],
     count: usize,
-    trace: &[i16],
+    trace: &[Sample],
     sums: &[i64; 257],
     squares: &[u64; 257],
 ) -> usize
@@ -92,7 +93,7 @@ fn descend_by(
 
 // Down from node 0 by the tests, widening every node met, the leaf too. The answer is the leaf's number. The trace's samples are looked at
 // once, whatever the number of nodes.
-pub fn descend(nodes: &mut [i64], count: usize, trace: &[i16]) -> usize
+pub fn descend(nodes: &mut [i64], count: usize, trace: &[Sample]) -> usize
     requires { ⌜ Descendable (now nodes) count (length (now trace)) ⌝ }
     ensures { λ r. ⌜ r ≡ lastOf (wayIn (now (nodes .entry)) count (now (trace .entry))) ⌝ }
     ensures widened { λ _. ⌜ now (nodes .exit)

@@ -1,6 +1,7 @@
 // A node's record widened by a trace: the least and the greatest of each segment's figures. The head is never written, so that no threshold
 // moves.
 
+use segment::Sample;
 use tables::numbers::greater;
 use tables::numbers::lesser;
 use tables::places::HEAD;
@@ -35,7 +36,7 @@ pub fn widen_segment(
     record: &mut [i64],
     i: usize,
     first: usize,
-    trace: &[i16],
+    trace: &[Sample],
     sums: &[i64; 257],
     squares: &[u64; 257],
 )
@@ -55,7 +56,7 @@ pub fn widen_segment(
 }
 
 // Every segment of a record.
-pub fn widen_record(record: &mut [i64], trace: &[i16], sums: &[i64; 257], squares: &[u64; 257])
+pub fn widen_record(record: &mut [i64], trace: &[Sample], sums: &[i64; 257], squares: &[u64; 257])
     requires { ⌜ Prefixes (now trace) (now sums) (now squares) × Readable (now «record») (length (now trace)) ⌝ }
     ensures { λ _. ⌜ now («record» .exit) ≡ widenRecord (now (trace .entry)) (now («record» .entry)) ⌝ }
 {

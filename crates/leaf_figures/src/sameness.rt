@@ -1,5 +1,6 @@
 // Whether all traces of a list are the same, sample by sample.
 
+use segment::Sample;
 use tables::numbers::wide;
 use tables::runs::trace_at;
 ghost use mathlib.Core.Path.{_≡_};
@@ -12,7 +13,7 @@ ghost use Rattle.tables.specs.View.{traceIn};
 ghost use Rattle.leaf_figures.specs.Rows.{TracesListed};
 
 // 0 if two samples are the same, and else 1.
-fn differs(a: i16, b: i16) -> u16
+fn differs(a: Sample, b: Sample) -> u16
     ensures { λ r. ⌜ (r ≡ 0 → a ≡ b) ⌝ }
     ensures size { λ r. ⌜ r ≤ 1 ⌝ }
 {
@@ -20,7 +21,7 @@ fn differs(a: i16, b: i16) -> u16
 }
 
 // Samples that differ are counted, and the loop does not end at the first: so the compiler takes several at a time.
-fn same_trace(x: &[i16], y: &[i16]) -> bool
+fn same_trace(x: &[Sample], y: &[Sample]) -> bool
     requires { ⌜ (length (now x) ≡ length (now y)) × (length (now x) ≤ mostSamples) ⌝ }
     ensures { λ r. ⌜ (r ≡ true → now (x .entry) ≡ now (y .entry)) ⌝ }
 {
@@ -35,7 +36,7 @@ fn same_trace(x: &[i16], y: &[i16]) -> bool
 }
 
 // Yes says that all of the list's traces are its first one. Of fewer than two it says no, which promises nothing.
-pub fn all_same(samples: &[i16], n: usize, list: &[u16; 4096], count: usize) -> bool
+pub fn all_same(samples: &[Sample], n: usize, list: &[u16; 4096], count: usize) -> bool
     requires { ⌜ TracesListed (now samples) n (now list) count ⌝ }
     ensures { λ r. ⌜ (r ≡ true → (t : ℕ) → In t (take count (now (list .entry))) → traceIn (now (samples .entry)) n t
         ≡ traceIn (now (samples .entry)) n (getD (now (list .entry)) 0 0)) ⌝ }

@@ -1,4 +1,5 @@
 // The key that a node waits by, and what is past a limit.
+use segment::Sample;
 ghost use mathlib.Core.Path.{_≡_};
 ghost use Prim.Native.Nat.{_+_, _*_, _≤_, _<_, max};
 ghost use lib.ListN.{length};
@@ -16,7 +17,7 @@ pub fn node_key(
     nodes: &[i64],
     j: usize,
     above: u64,
-    query: &[i16],
+    query: &[Sample],
     sums: &[i64; 257],
     squares: &[u64; 257],
 ) -> u64

@@ -1,5 +1,6 @@
 // The leaves of a tree, by bound and then by number, one at a time.
 use crate::keys::KEY_BASE;
+use segment::Sample;
 use tables::places::FIRST;
 use tables::places::KIND;
 use tables::places::RIGHT;
@@ -25,7 +26,7 @@ pub enum Next {
 // Search work has a place for each node. What stands in it before does not matter; one key waits then, for all leaves.
 pub fn begin(
     nodes: &[i64],
-    query: &[i16],
+    query: &[Sample],
     sums: &[i64; 257],
     squares: &[u64; 257],
     work: &mut [u64],
@@ -41,7 +42,7 @@ pub fn begin(
 // bound is at least its parent's and its number is higher.
 fn open_node(
     nodes: &[i64],
-    query: &[i16],
+    query: &[Sample],
     sums: &[i64; 257],
     squares: &[u64; 257],
     work: &mut [u64],
@@ -70,7 +71,7 @@ fn open_node(
 // inner node with a lesser key.
 pub fn next_leaf(
     nodes: &[i64],
-    query: &[i16],
+    query: &[Sample],
     sums: &[i64; 257],
     squares: &[u64; 257],
     work: &mut [u64],

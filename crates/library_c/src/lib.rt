@@ -8,6 +8,7 @@
 pub mod version; // which layout of the tables this is for
 
 use batching::AnswerRecord;
+use segment::Sample;
 ghost use mathlib.Core.Path.{_≡_};
 ghost use mathlib.Core.List.{[], _∷_};
 ghost use Rattle.dstree.specs.Measures.{measures};
@@ -23,7 +24,7 @@ ghost use Rattle.telling.specs.COutcome.{cOutcome, cOutcomeOf};
 #[no_mangle]
 pub extern "C" fn silkendoz_open(
     control: &mut [u16],
-    samples: &mut [i16],
+    samples: &mut [Sample],
     nodes: &mut [i64],
     links: &mut [u16],
     work: &mut [u64],
@@ -47,11 +48,11 @@ pub extern "C" fn silkendoz_open(
 #[no_mangle]
 pub extern "C" fn silkendoz_add(
     control: &mut [u16],
-    samples: &mut [i16],
+    samples: &mut [Sample],
     nodes: &mut [i64],
     links: &mut [u16],
     work: &[u64],
-    trace: &[i16],
+    trace: &[Sample],
     out: &mut [u64],
 ) -> u64
     ensures { λ r. ⌜ cOutcome r (now (out .exit))
@@ -69,12 +70,12 @@ pub extern "C" fn silkendoz_add(
 #[no_mangle]
 pub extern "C" fn silkendoz_nearest(
     control: &[u16],
-    samples: &[i16],
+    samples: &[Sample],
     nodes: &[i64],
     links: &[u16],
     work: &mut [u64],
     trail: &mut [u16],
-    query: &[i16],
+    query: &[Sample],
     out: &mut [u64],
 ) -> u64
     ensures { λ r. ⌜ cOutcome r (now (out .exit))
@@ -95,13 +96,13 @@ pub extern "C" fn silkendoz_nearest(
 #[no_mangle]
 pub extern "C" fn silkendoz_k_nearest(
     control: &[u16],
-    samples: &[i16],
+    samples: &[Sample],
     nodes: &[i64],
     links: &[u16],
     work: &mut [u64],
     trail: &mut [u16],
     list: &mut [u64],
-    query: &[i16],
+    query: &[Sample],
     k: u64,
     out: &mut [u64],
 ) -> u64
@@ -121,7 +122,7 @@ pub extern "C" fn silkendoz_k_nearest(
 #[no_mangle]
 pub extern "C" fn silkendoz_write_sheet(
     control: &[u16],
-    samples: &[i16],
+    samples: &[Sample],
     nodes: &[i64],
     links: &[u16],
     work: &[u64],
@@ -144,7 +145,7 @@ pub extern "C" fn silkendoz_write_sheet(
 #[no_mangle]
 pub extern "C" fn silkendoz_read_sheet(
     control: &mut [u16],
-    samples: &mut [i16],
+    samples: &mut [Sample],
     nodes: &mut [i64],
     links: &mut [u16],
     work: &mut [u64],
@@ -167,7 +168,7 @@ pub extern "C" fn silkendoz_read_sheet(
 #[no_mangle]
 pub extern "C" fn silkendoz_import_recording(
     control: &mut [u16],
-    samples: &mut [i16],
+    samples: &mut [Sample],
     nodes: &mut [i64],
     links: &mut [u16],
     work: &[u64],
@@ -189,7 +190,7 @@ pub extern "C" fn silkendoz_import_recording(
 #[no_mangle]
 pub extern "C" fn silkendoz_export_recording(
     control: &[u16],
-    samples: &[i16],
+    samples: &[Sample],
     nodes: &[i64],
     links: &[u16],
     work: &[u64],
@@ -222,7 +223,7 @@ pub extern "C" fn silkendoz_export_recording(
 #[no_mangle]
 pub extern "C" fn silkendoz_check_tables(
     control: &[u16],
-    samples: &[i16],
+    samples: &[Sample],
     nodes: &[i64],
     links: &[u16],
     work: &[u64],
@@ -246,12 +247,12 @@ pub extern "C" fn silkendoz_check_tables(
 #[no_mangle]
 pub extern "C" fn silkendoz_match_batch(
     control: &[u16],
-    samples: &[i16],
+    samples: &[Sample],
     nodes: &[i64],
     links: &[u16],
     work: &mut [u64],
     trail: &mut [u16],
-    queries: &[i16],
+    queries: &[Sample],
     many: usize,
     answers: &mut [AnswerRecord],
     out: &mut [u64],

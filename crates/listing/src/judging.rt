@@ -2,6 +2,7 @@
 // its trail, then a list for fewer than k traces (7).
 
 use query_judging::judge_query;
+use segment::Sample;
 use tables::Refusal;
 use tables::Verdict;
 use well_formed::judging::judge_tables;
@@ -32,7 +33,7 @@ fn is_k(k: u64) -> bool
 fn judge_own(
     control: &[u16],
     nodes: &[i64],
-    query: &[i16],
+    query: &[Sample],
     trail: &[u16],
     list: &[u64],
     k: u64,
@@ -60,11 +61,11 @@ fn judge_own(
 
 pub fn judge(
     control: &[u16],
-    samples: &[i16],
+    samples: &[Sample],
     nodes: &[i64],
     links: &[u16],
     work: &[u64],
-    query: &[i16],
+    query: &[Sample],
     trail: &[u16],
     list: &[u64],
     k: u64,

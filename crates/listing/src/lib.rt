@@ -2,6 +2,7 @@
 
 pub mod judging; // what a listing refuses
 
+use segment::Sample;
 use tables::Refusal;
 use tables::Verdict;
 ghost use mathlib.Core.Path.{_≡_};
@@ -26,13 +27,13 @@ pub enum Listed {
 // last one's distance, and one that fills the list up to k where fewer are stored.
 pub fn k_nearest(
     control: &[u16],
-    samples: &[i16],
+    samples: &[Sample],
     nodes: &[i64],
     links: &[u16],
     work: &mut [u64],
     trail: &mut [u16],
     list: &mut [u64],
-    query: &[i16],
+    query: &[Sample],
     k: u64,
 ) -> Listed
     ensures { λ r. ⌜ outcome (answerBy r (now (trail .exit)) (now (list .exit)))

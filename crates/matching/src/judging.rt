@@ -1,6 +1,7 @@
 // What a match refuses: what every call on made tables does, then what every search does of its query and its trail.
 
 use query_judging::judge_query;
+use segment::Sample;
 use tables::Verdict;
 use well_formed::judging::judge_tables;
 ghost use mathlib.Core.Path.{_≡_};
@@ -11,11 +12,11 @@ ghost use Rattle.calls.specs.Effects.{matches};
 
 pub fn judge(
     control: &[u16],
-    samples: &[i16],
+    samples: &[Sample],
     nodes: &[i64],
     links: &[u16],
     work: &[u64],
-    query: &[i16],
+    query: &[Sample],
     trail: &[u16],
 ) -> Verdict
     ensures { λ r. ⌜ foundBy r ≡ firstOf (matches

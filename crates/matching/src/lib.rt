@@ -2,6 +2,7 @@
 
 pub mod judging; // what a match refuses
 
+use segment::Sample;
 use tables::Refusal;
 use tables::Verdict;
 ghost use mathlib.Core.Path.{_≡_};
@@ -25,12 +26,12 @@ pub enum Found {
 // the trail's leaves.
 pub fn nearest(
     control: &[u16],
-    samples: &[i16],
+    samples: &[Sample],
     nodes: &[i64],
     links: &[u16],
     work: &mut [u64],
     trail: &mut [u16],
-    query: &[i16],
+    query: &[Sample],
 ) -> Found
     ensures { λ r. ⌜ outcome (answerBy r (now (trail .exit)))
         (tables (now (control .entry)) (now (samples .entry)) (now (nodes .entry)) (now (links .entry)) (now (work .exit)))

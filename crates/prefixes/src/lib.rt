@@ -1,4 +1,5 @@
 // A trace's sums over its first samples, from which its figures on any run follow without a look at the samples.
+use segment::Sample;
 use segment::figures::Figures;
 ghost use mathlib.Core.Path.{_≡_};
 ghost use Prim.Native.Nat.{_+_, _≤_};
@@ -12,7 +13,7 @@ ghost use Rattle.tables.specs.Runs.{Inside};
 ghost use Rattle.prefixes.specs.Prefixes.{Prefixes, prefixPlaces};
 
 // A sum and one sample more.
-fn with_sample(sum: i64, x: i16) -> i64
+fn with_sample(sum: i64, x: Sample) -> i64
     requires { ⌜ natAbs sum ≤ totalRoom ⌝ }
     ensures { λ r. ⌜ r ≡ sum +ℤ x ⌝ }
 {
@@ -20,7 +21,7 @@ fn with_sample(sum: i64, x: i16) -> i64
 }
 
 // A sum of squares and one sample's more.
-fn with_square(squares: u64, x: i16) -> u64
+fn with_square(squares: u64, x: Sample) -> u64
     requires { ⌜ squares ≤ totalRoom ⌝ }
     ensures { λ r. ⌜ r ≡ squares + square x ⌝ }
 {
@@ -28,7 +29,7 @@ fn with_square(squares: u64, x: i16) -> u64
 }
 
 // The sum and the sum of squares of the first i samples, at place i, from none of them to all. Sums that start at 1 do not meet this.
-pub fn prefix_sums(trace: &[i16], sums: &mut [i64; 257], squares: &mut [u64; 257])
+pub fn prefix_sums(trace: &[Sample], sums: &mut [i64; 257], squares: &mut [u64; 257])
     requires { ⌜ (length (now trace) ≤ mostSamples) × (length (now sums) ≡ prefixPlaces) × (length (now squares) ≡ prefixPlaces) ⌝ }
     ensures { λ _. ⌜ Prefixes (now (trace .entry)) (now (sums .exit)) (now (squares .exit)) ⌝ }
 {
@@ -44,7 +45,7 @@ pub fn prefix_sums(trace: &[i16], sums: &mut [i64; 257], squares: &mut [u64; 257
 
 // The figures on the samples `first` to `last`. The trace is not read: it says whose sums these are.
 pub fn figures_on(
-    trace: &[i16],
+    trace: &[Sample],
     sums: &[i64; 257],
     squares: &[u64; 257],
     first: usize,

@@ -1,4 +1,5 @@
 // A node's own bound for a query, from the node's record and the query's prefix sums.
+use segment::Sample;
 use tables::places::GREATEST_SCATTER;
 use tables::places::GREATEST_SUM;
 use tables::places::HEAD;
@@ -26,7 +27,7 @@ ghost use Rattle.query.specs.Bounded.{Bounded, boundBy, boundLimit};
 // The term of segment i, which is the samples `first` to `last`.
 fn segment_term(
     record: &[i64],
-    query: &[i16],
+    query: &[Sample],
     sums: &[i64; 257],
     squares: &[u64; 257],
     i: usize,
@@ -58,7 +59,7 @@ fn segment_term(
 }
 
 // A node's own bound: the terms of its segments, totalled. Its size is told so that a key that holds it is known to fit 64 bits.
-pub fn own_bound(record: &[i64], query: &[i16], sums: &[i64; 257], squares: &[u64; 257]) -> u64
+pub fn own_bound(record: &[i64], query: &[Sample], sums: &[i64; 257], squares: &[u64; 257]) -> u64
     requires { ⌜ Prefixes (now query) (now sums) (now squares) × Bounded (now «record») (length (now query)) ⌝ }
     ensures { λ r. ⌜ r ≡ boundBy (now (query .entry)) (now («record» .entry)) ⌝ }
     ensures size { λ r. ⌜ r ≤ boundLimit sampleLimit mostSamples ⌝ }

@@ -2,6 +2,7 @@
 
 pub mod leaves; // how many leaves there are
 
+use segment::Sample;
 use tables::Refusal;
 use tables::Verdict;
 use tables::control::field;
@@ -23,7 +24,13 @@ ghost use Rattle.calls.specs.Effects.{runConditionsIn, queryConditionsIn};
 
 // A run of another length than so many samples (4), no trace stored (6), a trail with fewer places than leaves (7). Neither samples nor
 // links nor search work bear on these.
-pub fn judge_run(control: &[u16], nodes: &[i64], run: &[i16], size: usize, trail: &[u16]) -> Verdict
+pub fn judge_run(
+    control: &[u16],
+    nodes: &[i64],
+    run: &[Sample],
+    size: usize,
+    trail: &[u16],
+) -> Verdict
     requires { ⌜ (t.field (now control) nodeCountPlace * recordPlaces ≤ length (now nodes))
         × (t.field (now control) nodeCountPlace ≤ nodePlaces) ⌝ }
     ensures { λ r. ⌜ ((samples : List ℤ) (links work : List ℕ) → foundBy r ≡ firstOf (runConditionsIn
@@ -46,7 +53,7 @@ pub fn judge_run(control: &[u16], nodes: &[i64], run: &[i16], size: usize, trail
 }
 
 // .. of one query, which is as long as a trace.
-pub fn judge_query(control: &[u16], nodes: &[i64], query: &[i16], trail: &[u16]) -> Verdict
+pub fn judge_query(control: &[u16], nodes: &[i64], query: &[Sample], trail: &[u16]) -> Verdict
     requires { ⌜ (t.field (now control) nodeCountPlace * recordPlaces ≤ length (now nodes))
         × (t.field (now control) nodeCountPlace ≤ nodePlaces) ⌝ }
     ensures { λ r. ⌜ ((samples : List ℤ) (links work : List ℕ) → foundBy r ≡ firstOf (queryConditionsIn

@@ -1,6 +1,7 @@
 // The distances of a leaf's traces, each as far as the k-th distance so far.
 use crate::list::kth_distance;
 use crate::list::put_in_list;
+use segment::Sample;
 use segment::within::Distance;
 ghost use mathlib.Core.Path.{_≡_};
 ghost use mathlib.Core.List.{map, foldl};
@@ -16,7 +17,7 @@ ghost use Rattle.reading.specs.Nearest.{nearOf};
 ghost use Rattle.reading.specs.Listed.{nearsIn, ListRoom, ListBegins};
 
 // The distance of stored trace t to the query.
-pub fn trace_distance(samples: &[i16], n: usize, t: usize, query: &[i16]) -> u64
+pub fn trace_distance(samples: &[Sample], n: usize, t: usize, query: &[Sample]) -> u64
     requires { ⌜ (n ≤ mostSamples) × (t * n + n ≤ length (now samples)) × (length (now query) ≡ n) ⌝ }
     ensures { λ r. ⌜ r ≡ figure.distance (now (query .entry)) (traceIn (now (samples .entry)) n t) ⌝ }
 {
@@ -24,7 +25,7 @@ pub fn trace_distance(samples: &[i16], n: usize, t: usize, query: &[i16]) -> u64
 }
 
 // The same with a limit.
-fn trace_within(samples: &[i16], n: usize, t: usize, query: &[i16], limit: u64) -> Distance
+fn trace_within(samples: &[Sample], n: usize, t: usize, query: &[Sample], limit: u64) -> Distance
     requires { ⌜ (n ≤ mostSamples) × (t * n + n ≤ length (now samples)) × (length (now query) ≡ n) ⌝ }
     ensures { λ r. ⌜ r ≡ distanceWithin limit (now (query .entry)) (traceIn (now (samples .entry)) n t) ⌝ }
 {
@@ -38,10 +39,10 @@ fn take_trace(
     list: &mut [u64],
     listed: usize,
     k: usize,
-    samples: &[i16],
+    samples: &[Sample],
     n: usize,
     t: usize,
-    query: &[i16],
+    query: &[Sample],
 ) -> usize
     requires { ⌜ (n ≤ mostSamples) × (t * n + n ≤ length (now samples)) × (length (now query) ≡ n) × ListRoom k listed (now list) ⌝ }
     ensures { λ r. ⌜ ListBegins k r
@@ -73,12 +74,12 @@ pub struct LeafRead {
 // The leaf is the list of traces that starts at `head`. A walk that leaves its last trace out, or that stops at a near one, does not meet
 // this.
 pub fn read_leaf(
-    samples: &[i16],
+    samples: &[Sample],
     links: &[u16],
     n: usize,
     count: usize,
     head: usize,
-    query: &[i16],
+    query: &[Sample],
     list: &mut [u64],
     listed: usize,
     k: usize,

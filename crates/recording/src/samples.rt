@@ -1,5 +1,6 @@
 // The traces of a sound file, one at a time.
 
+use segment::Sample;
 use sheet::samples::copy_samples;
 ghost use mathlib.Core.Path.{_≡_};
 ghost use mathlib.Core.List.{[]};
@@ -8,7 +9,7 @@ ghost use Rattle.dstree.specs.Recording.{recordedTraces};
 ghost use Rattle.recording.specs.HoldsTrace.{HoldsTrace};
 
 // A trace by its number. Its samples stand one behind another.
-pub fn read_trace(bytes: &[u8], number: usize, trace: &mut [i16])
+pub fn read_trace(bytes: &[u8], number: usize, trace: &mut [Sample])
     requires { ⌜ HoldsTrace (length (now trace)) (now bytes) number ⌝ }
     ensures { λ _. ⌜ now (trace .exit) ≡ getD (recordedTraces (length (now (trace .entry))) (now (bytes .entry))) number [] ⌝ }
 {

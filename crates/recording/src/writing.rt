@@ -1,6 +1,7 @@
 // One trace as a file.
 
 use crate::header::put_header;
+use segment::Sample;
 use sheet::samples::put_samples;
 ghost use mathlib.Core.Path.{_≡_};
 ghost use Prim.Native.Nat.{_+_, _*_, _≤_, _<_};
@@ -10,7 +11,7 @@ ghost use Rattle.dstree.specs.Book.{over};
 ghost use Rattle.dstree.specs.Recording.{headerSize, rateLimit, recordingOf};
 
 // The recording of a trace, in the first places of a buffer; the rest of it stays.
-pub fn write_recording(buffer: &mut [u8], rate: u64, trace: &[i16])
+pub fn write_recording(buffer: &mut [u8], rate: u64, trace: &[Sample])
     requires { ⌜ (rate < rateLimit) × (length (now trace) ≤ mostSamples) × (headerSize + 2 * length (now trace) ≤ length (now buffer)) ⌝ }
     ensures { λ _. ⌜ now (buffer .exit) ≡ over (recordingOf rate (now (trace .entry))) (now (buffer .entry)) ⌝ }
 {

@@ -2,6 +2,7 @@
 
 use crate::replies::of_refusal;
 use matching::Found;
+use segment::Sample;
 use sheet_writing::Written;
 ghost use mathlib.Core.Path.{_≡_};
 ghost use mathlib.Core.Bool.{false};
@@ -36,13 +37,13 @@ fn of_written(answer: Written) -> [u64; 5]
 // A row of such a kind, lent the tables and all that it takes.
 pub fn play(
     control: &[u16],
-    samples: &[i16],
+    samples: &[Sample],
     nodes: &[i64],
     links: &[u16],
     work: &mut [u64],
     trail: &mut [u16],
     sheet: &mut [u8],
-    query: &[i16],
+    query: &[Sample],
     kind: u64,
 ) -> [u64; 5]
     ensures { λ r. ⌜ ((row : List ℕ) → Plays false kind row

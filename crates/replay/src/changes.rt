@@ -4,6 +4,7 @@ use crate::replies::of_refusal;
 use crate::rows::number_at;
 use adding::Added;
 use opening::Opened;
+use segment::Sample;
 use sheet_reading::Read;
 ghost use mathlib.Core.Path.{_≡_};
 ghost use mathlib.Core.Bool.{true};
@@ -46,12 +47,12 @@ fn of_read(answer: Read) -> [u64; 5]
 // A row of such a kind, lent the tables and all that it takes.
 pub fn play(
     control: &mut [u16],
-    samples: &mut [i16],
+    samples: &mut [Sample],
     nodes: &mut [i64],
     links: &mut [u16],
     work: &mut [u64],
     sheet: &[u8],
-    query: &[i16],
+    query: &[Sample],
     row: &[u64],
     kind: u64,
 ) -> [u64; 5]

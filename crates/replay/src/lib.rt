@@ -10,6 +10,7 @@ pub mod turns; // a row, played
 use crate::replies::tell;
 use crate::rows::row_end;
 use crate::turns::turn;
+use segment::Sample;
 use tables::loops::look;
 ghost use mathlib.Core.Path.{_≡_};
 ghost use Rattle.tables.specs.Tables.{tables};
@@ -63,14 +64,14 @@ pub struct Turn {
 // out an adding, and one that lends a call a table one place shorter than it asks for.
 pub fn play(
     control: &mut [u16],
-    samples: &mut [i16],
+    samples: &mut [Sample],
     nodes: &mut [i64],
     links: &mut [u16],
     work: &mut [u64],
     trails: &mut [u16],
     sheets: &mut [u8],
     script: &[u64],
-    pool: &[i16],
+    pool: &[Sample],
     replies: &mut [u64],
 )
     ensures { λ _. ⌜ (tables (now (control .exit)) (now (samples .exit)) (now (nodes .exit)) (now (links .exit)) (now (work .exit))

@@ -8,6 +8,7 @@ use crate::changes;
 use crate::plans;
 use crate::rows::lengths;
 use crate::rows::number_at;
+use segment::Sample;
 ghost use mathlib.Core.Path.{_≡_};
 ghost use mathlib.Core.Option.{some};
 ghost use mathlib.Core.List.{[], _∷_};
@@ -30,13 +31,13 @@ fn no_call(at: Amounts) -> Turn
 // A row of any kind, lent the tables and all that it takes.
 fn call(
     control: &mut [u16],
-    samples: &mut [i16],
+    samples: &mut [Sample],
     nodes: &mut [i64],
     links: &mut [u16],
     work: &mut [u64],
     trail: &mut [u16],
     sheet: &mut [u8],
-    query: &[i16],
+    query: &[Sample],
     row: &[u64],
     kind: u64,
 ) -> [u64; 5]
@@ -77,13 +78,13 @@ fn call(
 // sheet.
 fn lend(
     control: &mut [u16],
-    samples: &mut [i16],
+    samples: &mut [Sample],
     nodes: &mut [i64],
     links: &mut [u16],
     work: &mut [u64],
     trails: &mut [u16],
     sheets: &mut [u8],
-    pool: &[i16],
+    pool: &[Sample],
     row: &[u64],
     at: Amounts,
     to: Amounts,
@@ -133,13 +134,13 @@ fn lend(
 // One row of a script. A row that cannot be played makes no call and takes nothing.
 pub fn turn(
     control: &mut [u16],
-    samples: &mut [i16],
+    samples: &mut [Sample],
     nodes: &mut [i64],
     links: &mut [u16],
     work: &mut [u64],
     trails: &mut [u16],
     sheets: &mut [u8],
-    pool: &[i16],
+    pool: &[Sample],
     row: &[u64],
     at: Amounts,
 ) -> Turn

@@ -1,4 +1,5 @@
 // The whole search: the query's sums, the loop, and search work left zero. The match is the one nearest.
+use segment::Sample;
 use tables::control::field;
 use tables::places::CAPACITY;
 use tables::places::NODE_COUNT;
@@ -12,10 +13,10 @@ ghost use Rattle.search.specs.Searched.{withoutWork, Ready, ListSearched
 // needed places of search work are zero when it ends, whatever they held.
 pub fn search_list(
     control: &[u16],
-    samples: &[i16],
+    samples: &[Sample],
     nodes: &[i64],
     links: &[u16],
-    query: &[i16],
+    query: &[Sample],
     work: &mut [u64],
     trail: &mut [u16],
     list: &mut [u64],
@@ -63,10 +64,10 @@ pub struct Matched {
 // needed.
 pub fn search_all(
     control: &[u16],
-    samples: &[i16],
+    samples: &[Sample],
     nodes: &[i64],
     links: &[u16],
-    query: &[i16],
+    query: &[Sample],
     work: &mut [u64],
     trail: &mut [u16],
 ) -> Matched

@@ -1,5 +1,6 @@
 // Leaves are read by bound, then by number, until k traces are listed and the next bound is above the k-th distance.
 use leaf_order::leaves::Next;
+use segment::Sample;
 use tables::control::field;
 use tables::places::FIRST;
 use tables::places::TRACE_COUNT;
@@ -32,10 +33,10 @@ pub fn narrow(j: usize) -> u16
 // number alone.
 pub fn visit(
     control: &[u16],
-    samples: &[i16],
+    samples: &[Sample],
     nodes: &[i64],
     links: &[u16],
-    query: &[i16],
+    query: &[Sample],
     sums: &[i64; 257],
     squares: &[u64; 257],
     work: &mut [u64],

@@ -1,4 +1,5 @@
 // The figures of a segment, and the distance of two. Sizes are bounded by the number of samples, so that a caller's totals fit.
+use crate::Sample;
 ghost use mathlib.Core.Path.{_≡_};
 ghost use Prim.Native.Nat.{_+_, _*_, _-_, _≤_, _/_};
 ghost use lib.ListN.{length, take};
@@ -17,7 +18,7 @@ pub fn square(z: i64) -> u64
 
 // A segment's sum. A sum of the samples' sizes, or one that leaves the first sample out, does not meet this.
 // The total has 32 bits, which hold that of 256 samples: the compiler then adds four at a time, and at 64 bits two.
-pub fn sum(samples: &[i16]) -> i64
+pub fn sum(samples: &[Sample]) -> i64
     requires { do ⌜ (← ⟦samples.len()⟧) ≤ widthMost ⌝ }
     ensures { λ r. ⌜ r ≡ figure.sum (now (samples .entry)) ⌝ }
     ensures size { λ r. ⌜ natAbs r ≤ sumMost (length (now (samples .entry))) ⌝ }
@@ -33,7 +34,7 @@ pub fn sum(samples: &[i16]) -> i64
 
 // The squares of the first 2h samples, each of the first h beside one of the next h. Of such a loop the compiler makes the machine's
 // product that adds pairs; of one that takes neighbours, or one sample a turn, it does not.
-fn squares_beside(samples: &[i16], h: usize) -> u64
+fn squares_beside(samples: &[Sample], h: usize) -> u64
     requires { ⌜ (h + h ≤ length (now samples)) × (h ≤ widthMost / 2) ⌝ }
     ensures { λ r. ⌜ r ≡ figure.sumOfSquares (take (h + h) (now (samples .entry))) ⌝ }
     ensures size { λ r. ⌜ r ≤ squaresMost 2 * h ⌝ }
@@ -49,7 +50,7 @@ fn squares_beside(samples: &[i16], h: usize) -> u64
 
 // The sum of the squares of a segment's samples: of its two halves, and of the last sample where there is an odd one.
 // The square of the sum does not meet this.
-pub fn sum_of_squares(samples: &[i16]) -> u64
+pub fn sum_of_squares(samples: &[Sample]) -> u64
     requires { do ⌜ (← ⟦samples.len()⟧) ≤ widthMost ⌝ }
     ensures { λ r. ⌜ r ≡ figure.sumOfSquares (now (samples .entry)) ⌝ }
     ensures size { λ r. ⌜ r ≤ squaresMost (length (now (samples .entry))) ⌝ }
@@ -79,7 +80,7 @@ pub struct Figures {
 
 // A segment's sum and scatter. The squared deviation times w, and the variance, do not meet this: the scatter has the factor w twice. There
 // is a loop for each total: of one loop with totals of two widths the compiler makes no vector code.
-pub fn figures_of(samples: &[i16]) -> Figures
+pub fn figures_of(samples: &[Sample]) -> Figures
     requires { do ⌜ (← ⟦samples.len()⟧) ≤ widthMost ⌝ }
     ensures sum { λ r. ⌜ (r .sum ≡ figure.sum (now (samples .entry))) × (natAbs (r .sum) ≤ sumMost (length (now (samples .entry)))) ⌝ }
     ensures scatter { λ r. ⌜ r .scatter ≡ figure.scatter (now (samples .entry)) ⌝ }
@@ -96,7 +97,7 @@ pub fn figures_of(samples: &[i16]) -> Figures
 
 // The square of the difference of two samples, taken at 32 bits, which hold it, and widened only then: at 64 bits there is no product
 // of several at a time.
-pub fn square_difference(a: i16, b: i16) -> u64
+pub fn square_difference(a: Sample, b: Sample) -> u64
     ensures { λ r. ⌜ r ≡ words.square (a -ℤ b) ⌝ }
     ensures size { λ r. ⌜ r ≤ distanceMost 1 ⌝ }
 {
@@ -106,7 +107,7 @@ pub fn square_difference(a: i16, b: i16) -> u64
 
 // What the samples from `from` to before `end` add to the distance. Where the compiler sees that they are sixteen, it takes them all
 // at once, eight to a register.
-pub fn stretch_distance(x: &[i16], y: &[i16], from: usize, end: usize) -> u64
+pub fn stretch_distance(x: &[Sample], y: &[Sample], from: usize, end: usize) -> u64
     requires { ⌜ (length (now x) ≡ length (now y)) × (from ≤ end) × (end ≤ length (now x)) × (end ≤ widthMost) ⌝ }
     ensures { λ r. ⌜ figure.distance (take from (now (x .entry))) (take from (now (y .entry))) + r
         ≡ figure.distance (take end (now (x .entry))) (take end (now (y .entry))) ⌝ }
@@ -124,7 +125,7 @@ pub fn stretch_distance(x: &[i16], y: &[i16], from: usize, end: usize) -> u64
 // The distance of two segments of one length: the sum of squared differences. Its root does not meet this, nor does a sum that stops
 // at the first difference above a limit, or after the last sixteen samples. It goes by sixteen because a plain loop with a total of 64
 // bits takes two samples at a time at most.
-pub fn distance(x: &[i16], y: &[i16]) -> u64
+pub fn distance(x: &[Sample], y: &[Sample]) -> u64
     requires { do ⌜ ((← ⟦x.len()⟧) ≡ (← ⟦y.len()⟧)) × ((← ⟦x.len()⟧) ≤ widthMost) ⌝ }
     ensures { λ r. ⌜ r ≡ figure.distance (now (x .entry)) (now (y .entry)) ⌝ }
     ensures size { λ r. ⌜ r ≤ distanceMost (length (now (x .entry))) ⌝ }

@@ -2,3 +2,6 @@
 pub mod figures;
 pub mod samples;
 pub mod within;
+
+// One sample of a trace: a signed number of 16 bits.
+pub type Sample = i16;

@@ -1,4 +1,5 @@
 // The distance of two segments with a limit.
+use crate::Sample;
 ghost use mathlib.Core.Path.{_≡_};
 ghost use Prim.Native.Nat.{_≤_, _<_};
 ghost use lib.ListN.{length, take};
@@ -14,7 +15,7 @@ pub enum Distance {
 
 // By how many samples the limit is passed, which all together pass: sample by sample from the sample `from` on, up to which `start` is the
 // distance. A count without the sample that passes it does not meet this.
-fn passing(x: &[i16], y: &[i16], limit: u64, from: usize, start: u64) -> usize
+fn passing(x: &[Sample], y: &[Sample], limit: u64, from: usize, start: u64) -> usize
     requires { ⌜ (length (now x) ≡ length (now y)) × (length (now x) ≤ widthMost) × (from ≤ length (now x))
         × (start ≡ figure.distance (take from (now x)) (take from (now y))) × (start ≤ distanceMost from) × (start ≤ limit)
         × (limit < figure.distance (now x) (now y)) ⌝ }
@@ -35,7 +36,7 @@ fn passing(x: &[i16], y: &[i16], limit: u64, from: usize, start: u64) -> usize
 // The distance if it is at most the limit, else how many first samples pass the limit. It goes by sixteen, as the distance without a limit
 // does; only the sixteen that pass the limit are gone through one by one. Any limit may be given: one that no distance passes is none.
 // The end of those sixteen in place of the sample does not meet this, nor does a limit that the distance has to stay below.
-pub fn distance_within(x: &[i16], y: &[i16], limit: u64) -> Distance
+pub fn distance_within(x: &[Sample], y: &[Sample], limit: u64) -> Distance
     requires { do ⌜ ((← ⟦x.len()⟧) ≡ (← ⟦y.len()⟧)) × ((← ⟦x.len()⟧) ≤ widthMost) ⌝ }
     ensures { λ r. ⌜ r ≡ distanceWithin limit (now (x .entry)) (now (y .entry)) ⌝ }
 {

@@ -5,6 +5,7 @@ use crate::fields::put_bytes;
 use crate::fields::put_two;
 use crate::letters::LETTERS;
 use crate::samples::put_samples;
+use segment::Sample;
 ghost use mathlib.Core.Path.{_≡_};
 ghost use mathlib.Core.List.{_∷_, [], _++_};
 ghost use Prim.Native.Nat.{_≤_};
@@ -66,7 +67,7 @@ pub fn write_head(part: &mut [u8], n: u16, capacity: u16, leaf_size: u16, count:
 }
 
 // Another block: at most 253 samples from byte 4 on.
-pub fn write_samples(part: &mut [u8], number: u16, samples: &[i16])
+pub fn write_samples(part: &mut [u8], number: u16, samples: &[Sample])
     requires { ⌜ (length (now part) ≡ blockSize) × (length (now samples) ≤ narrow .samplesPerBlock) ⌝ }
     ensures { λ _. ⌜ now (part .exit) ≡ block (narrow .sampleKind) number (codedAll narrow (now (samples .entry))) ⌝ }
 {

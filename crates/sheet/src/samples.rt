@@ -2,6 +2,7 @@
 
 use crate::fields::put_two;
 use crate::fields::two_bytes;
+use segment::Sample;
 ghost use mathlib.Core.Path.{_≡_};
 ghost use mathlib.Core.List.{List};
 ghost use Prim.Native.Nat.{ℕ, _+_, _*_, _^_, _≤_, _<_};
@@ -11,7 +12,7 @@ ghost use Rattle.dstree.specs.Sheet.{bytesOf, numberIn, narrow, coded, codedAll
 ghost use Rattle.sheet.specs.Codes.{samplesIn};
 
 // The number whose two bytes are a sample's: a sample below 0 has 65,536 added.
-pub fn code(sample: i16) -> u16
+pub fn code(sample: Sample) -> u16
     ensures { λ r. ⌜ bytesOf (narrow .sampleBytes) r ≡ coded narrow sample ⌝ }
 {
     if sample < 0 {
@@ -21,7 +22,7 @@ pub fn code(sample: i16) -> u16
 }
 
 // The bytes from a place on become samples', one behind another.
-pub fn put_samples(bytes: &mut [u8], place: usize, samples: &[i16])
+pub fn put_samples(bytes: &mut [u8], place: usize, samples: &[Sample])
     requires { ⌜ place + narrow .sampleBytes * length (now samples) ≤ length (now bytes) ⌝ }
     ensures { λ _. ⌜ now (bytes .exit) ≡ sets (now (bytes .entry)) place (codedAll narrow (now (samples .entry))) ⌝ }
 {
@@ -33,18 +34,18 @@ pub fn put_samples(bytes: &mut [u8], place: usize, samples: &[i16])
 }
 
 // The sample that two bytes are, "two's complement": from 32,768 on, a number stands for itself less 65,536.
-fn decode(v: u64) -> i16
+fn decode(v: u64) -> Sample
     requires { ⌜ v < 256 ^ narrow .sampleBytes ⌝ }
     ensures { λ r. ⌜ ((bytes : List ℕ) → numberIn bytes ≡ v → r ≡ decoded narrow bytes) ⌝ }
 {
     if v < 32768 {
-        return v as i16;
+        return v as Sample;
     }
-    (v as i64 - 65536) as i16
+    (v as i64 - 65536) as Sample
 }
 
 // Samples that stand one behind another. Of this loop the compiler makes one copy.
-pub fn copy_samples(bytes: &[u8], places: &mut [i16])
+pub fn copy_samples(bytes: &[u8], places: &mut [Sample])
     requires { ⌜ narrow .sampleBytes * length (now places) ≤ length (now bytes) ⌝ }
     ensures { λ _. ⌜ now (places .exit) ≡ samplesIn (length (now (places .entry))) (now (bytes .entry)) ⌝ }
 {

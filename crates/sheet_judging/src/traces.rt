@@ -1,5 +1,6 @@
 // The traces that an accepted sheet holds, one at a time.
 
+use segment::Sample;
 use sheet::samples::copy_samples;
 use sheet_blocks::blocks::Cursor;
 ghost use mathlib.Core.Path.{_≡_};
@@ -13,7 +14,7 @@ ghost use Rattle.sheet_blocks.specs.Blocks.{InBlocks, blockCount};
 ghost use Rattle.sheet_blocks.specs.Traces.{sizeOf, countOf, sheetTraces, sampleNumber, IsAt, samplesFrom};
 
 // As many samples as there are places, from the cursor on; and the cursor behind them. They are read by stretches, each in one block.
-pub fn read_samples(sheet: &[u8], from: Cursor, places: &mut [i16]) -> Cursor
+pub fn read_samples(sheet: &[u8], from: Cursor, places: &mut [Sample]) -> Cursor
     requires { ⌜ InBlocks (now sheet) × IsAt (from .number) (from .used) (sampleNumber (from .number) (from .used))
         × (sampleNumber (from .number) (from .used) + length (now places) ≤ (blockCount (now sheet) - 1) * narrow .samplesPerBlock) ⌝ }
     ensures { λ r. ⌜ (now (places .exit)
@@ -34,7 +35,7 @@ pub fn read_samples(sheet: &[u8], from: Cursor, places: &mut [i16]) -> Cursor
 }
 
 // A trace by its number, of a sheet that is not refused.
-pub fn read_trace(sheet: &[u8], number: usize, trace: &mut [i16])
+pub fn read_trace(sheet: &[u8], number: usize, trace: &mut [Sample])
     requires { ⌜ (firstOf (sheetConditions (now sheet)) ≡ none) × (number < countOf (now sheet))
         × (length (now trace) ≡ sizeOf (now sheet)) ⌝ }
     ensures { λ _. ⌜ now (trace .exit) ≡ getD (sheetTraces (now (sheet .entry))) number [] ⌝ }

@@ -2,6 +2,7 @@
 
 use matching::Found;
 use opening::put_empty;
+use segment::Sample;
 use sheet_judging::contents::head_of;
 use sheet_judging::traces::read_trace;
 use sheet_reading::loading::load;
@@ -24,14 +25,14 @@ ghost use Rattle.sheet_line.specs.Stored.{EarlierStored, Roomy, most};
 // The match of the last trace among those that the tables hold. `query` is a place for its samples.
 fn match_query(
     control: &[u16],
-    samples: &[i16],
+    samples: &[Sample],
     nodes: &[i64],
     links: &[u16],
     work: &mut [u64],
     trail: &mut [u16],
     sheet: &[u8],
     last: usize,
-    query: &mut [i16],
+    query: &mut [Sample],
 ) -> Found
     requires { ⌜ EarlierStored (now control) (now samples) (now nodes) (now links) (now work) (now sheet) (length (now query)) last
         × (recordsNeeded most ≤ length (now trail)) ⌝ }
@@ -52,7 +53,7 @@ fn match_query(
 // The same with places of its own: for 64 samples, and for as many leaves as 64 traces can have nodes.
 fn match_last(
     control: &[u16],
-    samples: &[i16],
+    samples: &[Sample],
     nodes: &[i64],
     links: &[u16],
     work: &mut [u64],
@@ -65,7 +66,7 @@ fn match_last(
         ≡ lineOf (measuresIn (blockAt (now (sheet .entry)) 0)) (take last (sheetTraces (now (sheet .entry))))
         (getD (sheetTraces (now (sheet .entry))) last []) ⌝ }
 {
-    let mut query = [0i16; 64];
+    let mut query: [Sample; 64] = [0; 64];
     let mut trail = [0u16; 127];
     match_query(
         control,
@@ -83,7 +84,7 @@ fn match_last(
 // A library of the earlier traces, and the match of the last one in it.
 fn match_in(
     control: &mut [u16],
-    samples: &mut [i16],
+    samples: &mut [Sample],
     nodes: &mut [i64],
     links: &mut [u16],
     work: &mut [u64],
@@ -124,7 +125,7 @@ pub fn match_sound(sheet: &[u8]) -> Found
     ensures { λ r. ⌜ lineBy r ≡ programLine (now (sheet .entry)) ⌝ }
 {
     let mut control = [0u16; 5];
-    let mut samples = [0i16; 4096];
+    let mut samples: [Sample; 4096] = [0; 4096];
     let mut nodes = [0i64; 11049];
     let mut links = [0u16; 64];
     let mut work = [0u64; 127];

@@ -4,6 +4,7 @@ pub mod judging; // what reading refuses
 pub mod loading; // the traces of a sheet, added in order
 
 use opening::put_empty;
+use segment::Sample;
 use sheet_judging::contents::head_of;
 use tables::Refusal;
 use tables::Verdict;
@@ -28,7 +29,7 @@ pub enum Read {
 // tables changed), and one that copies the samples without adding the traces (the tables then hold no tree).
 pub fn read_sheet(
     control: &mut [u16],
-    samples: &mut [i16],
+    samples: &mut [Sample],
     nodes: &mut [i64],
     links: &mut [u16],
     work: &mut [u64],

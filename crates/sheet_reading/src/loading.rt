@@ -1,6 +1,7 @@
 // The traces of a sheet that is not refused, added in order to an empty library with its measures.
 
 use adding::putting::put;
+use segment::Sample;
 use sheet_blocks::blocks::Cursor;
 use sheet_judging::traces::read_samples;
 ghost use mathlib.Core.Path.{_≡_};
@@ -15,12 +16,12 @@ ghost use Rattle.sheet_reading.specs.Loads.{NextInSheet, LoadsSheet};
 // The trace that the cursor is at, into tables that refuse nothing of it; and the cursor behind it. `trace` is a place for its samples.
 fn put_next(
     control: &mut [u16],
-    samples: &mut [i16],
+    samples: &mut [Sample],
     nodes: &mut [i64],
     links: &mut [u16],
     sheet: &[u8],
     from: Cursor,
-    trace: &mut [i16],
+    trace: &mut [Sample],
 ) -> Cursor
     requires { ⌜ NextInSheet (now control) (now samples) (now nodes) (now links) (now sheet) (length (now trace)) (from .number)
         (from .used) ⌝ }
@@ -37,7 +38,7 @@ fn put_next(
 // The same with a place of its own: a trace has 256 samples at most.
 fn put_one(
     control: &mut [u16],
-    samples: &mut [i16],
+    samples: &mut [Sample],
     nodes: &mut [i64],
     links: &mut [u16],
     sheet: &[u8],
@@ -50,14 +51,14 @@ fn put_one(
         (samplesFrom (now (sheet .entry)) (sampleNumber (from .number) (from .used)) n))
         × IsAt (r .number) (r .used) (sampleNumber (from .number) (from .used) + n) ⌝ }
 {
-    let mut trace = [0i16; 256];
+    let mut trace: [Sample; 256] = [0; 256];
     put_next(control, samples, nodes, links, sheet, from, &mut trace[..n])
 }
 
 // The first `count` of them, the cursor going on from trace to trace. Search work is not lent: adding leaves it as it was.
 pub fn load(
     control: &mut [u16],
-    samples: &mut [i16],
+    samples: &mut [Sample],
     nodes: &mut [i64],
     links: &mut [u16],
     sheet: &[u8],

@@ -1,6 +1,7 @@
 // The blocks of a sheet, each filled as its own 512 bytes.
 
 use crate::judging::sample_blocks;
+use segment::Sample;
 use sheet::blocks::write_head;
 use sheet::blocks::write_samples;
 use tables::control::field;
@@ -31,7 +32,7 @@ fn run_end(from: usize, total: usize) -> usize
 }
 
 // Block i + 1, with the samples that it carries.
-fn fill_block(sheet: &mut [u8], samples: &[i16], i: usize, total: usize)
+fn fill_block(sheet: &mut [u8], samples: &[Sample], i: usize, total: usize)
     requires { ⌜ (i < mostBlocks) × (i * narrow .samplesPerBlock ≤ total) × (total ≤ length (now samples))
         × (blockSize * (i + 1) + blockSize ≤ length (now sheet)) ⌝ }
     ensures { λ _. ⌜ now (sheet .exit) ≡ withBlock (now (sheet .entry)) (i + 1) (sampleBlock (take total (now (samples .entry))) i) ⌝ }
@@ -45,7 +46,7 @@ fn fill_block(sheet: &mut [u8], samples: &[i16], i: usize, total: usize)
 }
 
 // The blocks behind block 0.
-fn fill_blocks(sheet: &mut [u8], samples: &[i16], count: usize, total: usize)
+fn fill_blocks(sheet: &mut [u8], samples: &[Sample], count: usize, total: usize)
     requires { ⌜ (count < mostBlocks) × (count * narrow .samplesPerBlock < total + narrow .samplesPerBlock) × (total ≤ length (now samples))
         × (blockSize * count + blockSize ≤ length (now sheet)) ⌝ }
     ensures { λ _. ⌜ now (sheet .exit) ≡ withSamples (now (sheet .entry)) count (take total (now (samples .entry))) ⌝ }
@@ -72,7 +73,7 @@ fn fill_head(sheet: &mut [u8], control: &[u16])
 }
 
 // The whole sheet of a library that the tables hold, and the number of its blocks.
-pub fn fill_sheet(control: &[u16], samples: &[i16], sheet: &mut [u8]) -> u64
+pub fn fill_sheet(control: &[u16], samples: &[Sample], sheet: &mut [u8]) -> u64
     requires { ⌜ Fillable (now control) (now samples) (length (now sheet)) ⌝ }
     ensures { λ r. ⌜ (r ≡ blocksNeeded (traceCount (tables (now (control .entry)) [] [] [] []))
         (measuresOf (tables (now (control .entry)) [] [] [] []) .n))

@@ -1,5 +1,6 @@
 // What writing refuses: what every call on made tables does, then a sheet below the need (8).
 
+use segment::Sample;
 use tables::Refusal;
 use tables::Verdict;
 use tables::control::field;
@@ -26,7 +27,7 @@ pub fn sample_blocks(k: usize, n: usize) -> usize
 
 pub fn judge(
     control: &[u16],
-    samples: &[i16],
+    samples: &[Sample],
     nodes: &[i64],
     links: &[u16],
     work: &[u64],

@@ -3,6 +3,7 @@
 pub mod judging; // what writing refuses
 pub mod filling; // the blocks of a sheet
 
+use segment::Sample;
 use tables::Refusal;
 use tables::Verdict;
 ghost use mathlib.Core.Path.{_≡_};
@@ -26,7 +27,7 @@ pub enum Written {
 // the last block.
 pub fn write_sheet(
     control: &[u16],
-    samples: &[i16],
+    samples: &[Sample],
     nodes: &[i64],
     links: &[u16],
     work: &[u64],

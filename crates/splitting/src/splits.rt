@@ -1,6 +1,7 @@
 // One leaf split by the best candidate that parts it.
 
 use insertion::heads::become_inner;
+use segment::Sample;
 use tables::places::FIRST;
 use tables::places::KIND;
 use tables::records::node_small;
@@ -23,7 +24,7 @@ ghost use Rattle.splitting.specs.Splits.{Parts, Splits};
 fn write_sides(
     nodes: &mut [i64],
     count: usize,
-    samples: &[i16],
+    samples: &[Sample],
     links: &[u16],
     n: usize,
     k: usize,
@@ -49,7 +50,7 @@ fn write_sides(
 fn split_by(
     nodes: &mut [i64],
     links: &mut [u16],
-    samples: &[i16],
+    samples: &[Sample],
     n: usize,
     k: usize,
     count: usize,
@@ -92,7 +93,7 @@ fn split_by(
 pub fn split_at(
     nodes: &mut [i64],
     links: &mut [u16],
-    samples: &[i16],
+    samples: &[Sample],
     n: usize,
     k: usize,
     leaf_size: usize,

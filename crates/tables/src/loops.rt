@@ -1,5 +1,6 @@
 // Zeroing the needed part of a table, copying a trace into the samples, and looking at samples.
 
+use segment::Sample;
 ghost use mathlib.Core.Path.{_≡_};
 ghost use Prim.Native.Nat.{_+_, _≤_};
 ghost use lib.IntN.{pos};
@@ -10,7 +11,7 @@ ghost use Rattle.dstree.specs.Measures.{areSamples};
 ghost use Rattle.tables.specs.Tables.{filled};
 
 // The first k places become 0, and the places behind them stay. A loop for each table, since their numbers differ in width and sign.
-pub fn zero_samples(samples: &mut [i16], k: usize)
+pub fn zero_samples(samples: &mut [Sample], k: usize)
     requires { ⌜ k ≤ length (now samples) ⌝ }
     ensures { λ _. ⌜ now (samples .exit) ≡ filled k (pos 0) (now (samples .entry)) ⌝ }
 {
@@ -55,7 +56,7 @@ pub fn zero_work(work: &mut [u64], k: usize)
 }
 
 // A trace's samples, from a place of the samples on.
-pub fn copy_trace(samples: &mut [i16], at: usize, trace: &[i16])
+pub fn copy_trace(samples: &mut [Sample], at: usize, trace: &[Sample])
     requires { ⌜ at + length (now trace) ≤ length (now samples) ⌝ }
     ensures { λ _. ⌜ now (samples .exit) ≡ paste (now (samples .entry)) at (now (trace .entry)) (length (now (trace .entry))) ⌝ }
 {
@@ -68,7 +69,7 @@ pub fn copy_trace(samples: &mut [i16], at: usize, trace: &[i16])
 
 // Looks at every sample: each is a number of 16 bits, as a lent slice's type says and a look at it shows. Nothing is left of it when it
 // runs.
-pub fn look(samples: &[i16])
+pub fn look(samples: &[Sample])
     ensures { λ _. ⌜ T (areSamples (now (samples .entry))) ⌝ }
 {
     let mut i = 0;

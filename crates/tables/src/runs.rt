@@ -1,6 +1,7 @@
 // A stored trace as a part of the samples, and a trace's figures on a run of its samples, which are numbered from 1. Nothing else computes
 // where a trace lies, or where a run does.
 
+use segment::Sample;
 ghost use mathlib.Core.Path.{_≡_};
 ghost use Prim.Native.Nat.{_+_, _*_, _≤_};
 ghost use lib.IntN.{pos, natAbs, _*ℤ_};
@@ -16,7 +17,7 @@ ghost use Rattle.tables.specs.View.{traceIn};
 ghost use Rattle.tables.specs.Runs.{testBy, RunOf};
 
 // Trace t.
-pub fn trace_at(samples: &[i16], n: usize, t: usize) -> &[i16]
+pub fn trace_at(samples: &[Sample], n: usize, t: usize) -> &[Sample]
     requires { ⌜ t * n + n ≤ length (now samples) ⌝ }
     ensures { λ r. ⌜ now r ≡ traceIn (now (samples .entry)) n t ⌝ }
 {
@@ -26,7 +27,7 @@ pub fn trace_at(samples: &[i16], n: usize, t: usize) -> &[i16]
 }
 
 // Both figures on the samples `first` to `last`.
-pub fn figures_on(trace: &[i16], first: usize, last: usize) -> segment::figures::Figures
+pub fn figures_on(trace: &[Sample], first: usize, last: usize) -> segment::figures::Figures
     requires { ⌜ RunOf (length (now trace)) first last ⌝ }
     ensures sum { λ r. ⌜ (r .sum ≡ sumOn (run first last) (now (trace .entry))) × (natAbs (r .sum) ≤ sumMost mostSamples) ⌝ }
     ensures scatter { λ r. ⌜ (r .scatter ≡ scatterOn (run first last) (now (trace .entry))) × (r .scatter ≤ scatterMost mostSamples) ⌝ }
@@ -49,7 +50,13 @@ pub fn is_left(sum: i64, scatter: u64, by_scatter: bool, threshold: i64) -> bool
 }
 
 // Whether a trace goes left by a test.
-pub fn goes_left(trace: &[i16], first: usize, last: usize, by_scatter: bool, threshold: i64) -> bool
+pub fn goes_left(
+    trace: &[Sample],
+    first: usize,
+    last: usize,
+    by_scatter: bool,
+    threshold: i64,
+) -> bool
     requires { ⌜ RunOf (length (now trace)) first last ⌝ }
     ensures { λ r. ⌜ r ≡ goesLeft (testBy first last «by_scatter» threshold) (now (trace .entry)) ⌝ }
 {

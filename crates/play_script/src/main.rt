@@ -143,7 +143,7 @@ fn main() {
         &mut sheets,
         &made,
         &[
-            9i16,
+            9,
             9,
             9,
             9,

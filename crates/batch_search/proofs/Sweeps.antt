@@ -22,9 +22,9 @@ use Rattle.tables.specs.Tables.{Tables, measuresOf, nodeCount, filled}
 use Rattle.tables.specs.View.{treeIn, traceIn, tracesIn}
 use Rattle.tables.proofs.Views.{tree-size, traces-size, tree-formed}
 use Rattle.reading.specs.Listed.{recordAt, nearsIn}
-use Rattle.batch_search.specs.Batched.{Searchable, queryAt, queriesOf, isMarked, markedOf, CountedOnce, bestBy, BatchRoom, BestsAndMarks, Turns}
+use Rattle.batch_leaves.specs.LeavesRead.{Searchable, queryAt, queriesOf, isMarked, markedOf, CountedOnce, bestBy, BatchRoom, BestsAndMarks, Turns}
 use Rattle.batch_search.specs.Batched.{TrailBegins, batch, BatchSearched}
-use Rattle.batch_search.proofs.Marks.{marked-no}
+use Rattle.batch_leaves.proofs.Marks.{marked-no}
 
 module _ (t : Tables) (run : Trace) (many : ℕ) where
   -- the leaves that the first i queries read

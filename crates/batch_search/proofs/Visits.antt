@@ -20,7 +20,7 @@ use Rattle.leaf_order.specs.Waits.{Waits, remaining, Begun}
 use Rattle.leaf_order.specs.Handed.{isPast, Past, HandedLeaf}
 use Rattle.search.proofs.Facts.{shape-alike}
 use Rattle.search.proofs.Turns.{read-next, read-end}
-use Rattle.batch_search.specs.Batched.{queryAt, bestBy, CountedOnce, BatchRoom, BestsAndMarks, Turns}
+use Rattle.batch_leaves.specs.LeavesRead.{queryAt, bestBy, CountedOnce, BatchRoom, BestsAndMarks, Turns}
 
 -- the limit: the best's distance, once there is one
 past-is : (leaves : ℕ) (a : Near) (bound : ℕ) → isPast (ltb 0 leaves) (a .distance) bound ≡ isAbove bound (bestBy leaves a)

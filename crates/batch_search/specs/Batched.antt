@@ -1,89 +1,16 @@
--- Tables in which a batch may be searched, what is kept while leaves are read for all its queries, and what the search leaves: what is
--- found is what the definitions' steps give, in one equation.
-use Prim.Native.Nat.{ℕ, zero, suc, _+_, _*_, _≤_, _<_}
+-- What the search for a batch leaves: what is found is what the definitions' steps give, in one equation.
+use Prim.Native.Nat.{ℕ, _+_, _≤_}
 use mathlib.Core.Path.{_≡_}
-use mathlib.Core.Bool.{Bool, true, false, not}
-use mathlib.Core.Option.{Option, none, some}
-use mathlib.Core.List.{List, foldl}
-use lib.ListN.{length, getD, take, drop, set}
-use lib.Dec.{T, eqb}
-use Rattle.integer.specs.Words.{counting, those, isIn}
+use mathlib.Core.Bool.{Bool, true, false}
+use mathlib.Core.List.{List}
+use lib.ListN.{length, take, drop, set}
 use Rattle.dstree.specs.Measures.{Trace, workNeeded}
-use Rattle.dstree.specs.Matching.{Near, bestWith}
-use Rattle.dstree.specs.Batch.{mostQueries, queriesIn, Batch, bestAmong, batchBySteps}
-use Rattle.tables.specs.Tables.{Tables, measuresOf, traceCount, nodeCount, filled}
-use Rattle.tables.specs.View.{treeIn, traceIn, tracesIn, wellFormed}
-use Rattle.tables.specs.Holds.{Long}
-use Rattle.reading.specs.Listed.{recordAt, nearsIn}
-
--- ---- what is asked of the tables
-
--- well-formed tables with a trace, and a run of so many queries of their length, 1 to 16
-pub record Searchable (t : Tables) (run : Trace) (many : ℕ) : Type 0 where
-  pub formed : T (wellFormed t)
-  pub long : Long t
-  pub some-trace : 0 < traceCount t
-  pub run-long : length run ≡ measuresOf t .n * many
-  pub some-query : 1 ≤ many
-  pub few : many ≤ mostQueries
-
--- query i of a run
-abbrev pub queryAt : Tables → Trace → ℕ → Trace
-queryAt t run i = traceIn run (measuresOf t .n) i
-
--- the queries of a run
-abbrev pub queriesOf : Tables → Trace → ℕ → List Trace
-queriesOf t run many = queriesIn (measuresOf t .n) many run
-
--- ---- marks
-
--- a node has a mark
-abbrev pub isMarked : List ℕ → ℕ → Bool
-isMarked marks j = not (eqb (getD marks j 0) 0)
-
--- the marked ones of so many nodes, rising
-abbrev pub markedOf : List ℕ → ℕ → List ℕ
-markedOf marks count = those (isMarked marks) (counting count 0)
-
--- "no leaf is read twice": a mark counts the readings of its leaf, and so many leaves were read, as many as nodes have a mark
-pub record CountedOnce (t : Tables) (marks : List ℕ) (leaves : ℕ) : Type 0 where
-  pub once : (j : ℕ) → j < nodeCount t → getD marks j 0 ≤ 1
-  pub as-many : leaves ≡ length (markedOf marks (nodeCount t))
-
--- ---- what is kept
-
--- a query's nearest trace so far: its record, once a leaf was read; before that there is none, whatever the record holds
-abbrev pub bestBy : ℕ → Near → Option Near
-bestBy zero a = none
-bestBy (suc more) a = some a
-
--- room for a record of each query, two places each, and for a mark of each node, with so many leaves read
-pub record BatchRoom (t : Tables) (many : ℕ) (bests marks : List ℕ) (leaves : ℕ) : Type 0 where
-  pub bests-long : 2 * many ≤ length bests
-  pub marks-long : nodeCount t ≤ length marks
-  pub counted : CountedOnce t marks leaves
-
--- with these leaves read: each query's best of the traces in them, and a mark for each of them
-pub record BestsAndMarks (t : Tables) (run : Trace) (many : ℕ) (read bests marks : List ℕ) (leaves : ℕ) : Type 0 where
-  pub best-is : (i : ℕ) → i < many → bestBy leaves (recordAt bests i) ≡ bestAmong (tracesIn t) (treeIn t) (queryAt t run i) read
-  pub mark-is : (j : ℕ) → j < nodeCount t → isMarked marks j ≡ isIn j read
-
--- a function that makes these leaves of those read before, whatever they were
-abbrev pub Turns : Tables → Trace → ℕ → (List ℕ → List ℕ) → List ℕ → List ℕ → ℕ → List ℕ → List ℕ → ℕ → Type 0
-Turns t run many reads bests marks leaves bests′ marks′ leaves′ =
-    (read : List ℕ) → BestsAndMarks t run many read bests marks leaves → BestsAndMarks t run many (reads read) bests′ marks′ leaves′
-
--- ---- a leaf
-
--- record i holds the best of what it held, if a leaf was read before, and some more traces; the other records stay
-pub record OneRead (leaves i : ℕ) (more : List Near) (bests bests′ : List ℕ) : Type 0 where
-  pub best : some (recordAt bests′ i) ≡ foldl bestWith (bestBy leaves (recordAt bests i)) more
-  pub others : (j : ℕ) → (j ≡ i → ⊥) → recordAt bests′ j ≡ recordAt bests j
-
--- .. of each query, the traces with their distances to it
-abbrev pub AllRead : ℕ → ℕ → (ℕ → List Near) → List ℕ → List ℕ → Type 0
-AllRead leaves many more bests bests′ =
-    (i : ℕ) → i < many → some (recordAt bests′ i) ≡ foldl bestWith (bestBy leaves (recordAt bests i)) (more i)
+use Rattle.dstree.specs.Matching.{Near}
+use Rattle.dstree.specs.Batch.{Batch, batchBySteps}
+use Rattle.tables.specs.Tables.{Tables, measuresOf, filled}
+use Rattle.tables.specs.View.{treeIn, tracesIn}
+use Rattle.reading.specs.Listed.{nearsIn}
+use Rattle.batch_leaves.specs.LeavesRead.{queriesOf}
 
 -- ---- the trail
 

@@ -5,7 +5,8 @@ ghost use Prim.Native.Nat.{_≤_, _<_};
 ghost use lib.ListN.{length};
 ghost use Rattle.dstree.specs.Measures.{mostNodes};
 ghost use Rattle.tables.specs.Layout.{nodePlaces};
-ghost use Rattle.batch_search.specs.Batched.{isMarked, markedOf, Noted, TrailBegins};
+ghost use Rattle.batch_leaves.specs.LeavesRead.{isMarked, markedOf};
+ghost use Rattle.batch_search.specs.Batched.{Noted, TrailBegins};
 
 // Node j's number at a place of the trail, if it has a mark. Answers the place behind what is written.
 fn note(marks: &[u8], j: usize, trail: &mut [u16], out: usize) -> usize

@@ -15,7 +15,7 @@ ghost use Rattle.dstree.specs.Batch.{readFor, batchRead};
 ghost use Rattle.tables.specs.Tables.{measuresOf, nodeCount, filled};
 ghost use Rattle.tables.specs.View.{treeIn, tracesIn};
 ghost use Rattle.search.specs.Searched.{withoutWork};
-ghost use Rattle.batch_search.specs.Batched.{Searchable, queryAt, queriesOf, CountedOnce, BatchRoom, BestsAndMarks, Turns};
+ghost use Rattle.batch_leaves.specs.LeavesRead.{Searchable, queryAt, queriesOf, CountedOnce, BatchRoom, BestsAndMarks, Turns};
 ghost use Rattle.batch_search.specs.Batched.{BatchSearched};
 
 // Query i: its sums, then its leaves. Answers how many leaves were read so far.

@@ -13,7 +13,7 @@ ghost use Rattle.tables.specs.View.{treeIn, tracesIn};
 ghost use Rattle.prefixes.specs.Prefixes.{Prefixes};
 ghost use Rattle.reading.specs.Listed.{recordAt};
 ghost use Rattle.search.specs.Searched.{withoutWork};
-ghost use Rattle.batch_search.specs.Batched.{Searchable, queryAt, CountedOnce, BatchRoom, Turns};
+ghost use Rattle.batch_leaves.specs.LeavesRead.{Searchable, queryAt, CountedOnce, BatchRoom, Turns};
 
 // The distance of query i's nearest trace so far.
 fn distance_at(bests: &[u64], i: usize) -> u64
@@ -80,7 +80,7 @@ pub fn visit(
             return read;
         };
         waiting = left;
-        read = crate::leaves::read_once(
+        read = batch_leaves::read_once(
             control,
             samples,
             nodes,

@@ -24,7 +24,8 @@ use Rattle.search.specs.Searched.{withoutWork}
 use Rattle.calls.specs.Outcome.{outcome, unlessRefused}
 use Rattle.calls.specs.Effects.{batchConditionsIn, cleared, effectOf, outcomeOn}
 use Rattle.calls.proofs.Ends.{over-first}
-use Rattle.batch_search.specs.Batched.{queriesOf, batch, BatchSearched}
+use Rattle.batch_leaves.specs.LeavesRead.{queriesOf}
+use Rattle.batch_search.specs.Batched.{batch, BatchSearched}
 use Rattle.batching.specs.Answered.{answerBy, listBy}
 use Rattle.batching.specs.declared.Batched.the-variants as o
 

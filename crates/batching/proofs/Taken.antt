@@ -22,7 +22,7 @@ use Rattle.tables.proofs.Views.{measures-fit}
 use Rattle.calls.specs.Effects.{batchConditionsIn}
 use Rattle.calls.proofs.Finds.{run-fits}
 use Rattle.search.specs.Searched.{withoutWork}
-use Rattle.batch_search.specs.Batched.{Searchable}
+use Rattle.batch_leaves.specs.LeavesRead.{Searchable}
 use Rattle.query_judging.proofs.Taken.{records-fit}
 
 pub batch-range : (many places : ℕ) → isBatch many places ≡ true → (1 ≤ many) × (many ≤ mostQueries)

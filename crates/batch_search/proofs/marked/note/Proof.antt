@@ -4,8 +4,8 @@ use mathlib.Core.Bool.{true}
 use native.Mathlib.Omega.{arith}
 use borrow.Author.Needs.{needs}
 use denote.Ref.{now}
-use Rattle.batch_search.specs.Batched.{isMarked}
-use Rattle.batch_search.proofs.Marks.{marked-yes, marked-no}
+use Rattle.batch_leaves.specs.LeavesRead.{isMarked}
+use Rattle.batch_leaves.proofs.Marks.{marked-yes, marked-no}
 use Rattle.batch_search.proofs.marked.note.Statement.{statement}
 use Rattle.batch_search.proofs.marked.note.Tie as tie
 

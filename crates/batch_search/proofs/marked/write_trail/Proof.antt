@@ -4,7 +4,7 @@ use mathlib.Core.Path.{refl}
 use Prim.Native.Nat.{_-_}
 use native.Mathlib.Omega.{arith}
 use denote.Ref.{now}
-use Rattle.batch_search.specs.Batched.{isMarked}
+use Rattle.batch_leaves.specs.LeavesRead.{isMarked}
 use Rattle.batch_search.proofs.Marks.{Marking, marking-start, marking-end, note-room, marking-next}
 use Rattle.batch_search.proofs.marked.write_trail.Statement.{statement}
 use Rattle.batch_search.proofs.marked.write_trail.Tie as tie

@@ -12,9 +12,10 @@ use Rattle.dstree.specs.Batch.{batchRead}
 use Rattle.tables.specs.Tables.{Tables, nodeCount}
 use Rattle.tables.specs.View.{treeIn, tracesIn}
 use Rattle.search.specs.Searched.{withoutWork}
-use Rattle.batch_search.specs.Batched.{queriesOf, BestsAndMarks, markedOf, TrailBegins}
-use Rattle.batch_search.proofs.Runs.{nodes-few}
-use Rattle.batch_search.proofs.Marks.{marked-none}
+use Rattle.batch_leaves.specs.LeavesRead.{queriesOf, BestsAndMarks, markedOf}
+use Rattle.batch_search.specs.Batched.{TrailBegins}
+use Rattle.batch_leaves.proofs.Runs.{nodes-few}
+use Rattle.batch_leaves.proofs.Marks.{marked-none}
 use Rattle.batch_search.proofs.Sweeps.{keeps-none, marked-few, batch-found}
 use Rattle.batch_search.proofs.searching.search_batch.Statement.{statement}
 use Rattle.batch_search.proofs.searching.search_batch.Tie as tie

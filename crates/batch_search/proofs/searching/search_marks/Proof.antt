@@ -14,8 +14,8 @@ use Rattle.tables.specs.View.{treeIn}
 use Rattle.search.specs.Searched.{withoutWork, Ready}
 use Rattle.search.proofs.Facts.{capacity-fits, nodes-needed}
 use Rattle.search.proofs.Cleared.{as-many, zeroed}
-use Rattle.batch_search.specs.Batched.{queryAt}
-use Rattle.batch_search.proofs.Runs.{ready-for}
+use Rattle.batch_leaves.specs.LeavesRead.{queryAt}
+use Rattle.batch_leaves.proofs.Runs.{ready-for}
 use Rattle.batch_search.proofs.searching.search_marks.Statement.{statement}
 use Rattle.batch_search.proofs.searching.search_marks.Tie as tie
 

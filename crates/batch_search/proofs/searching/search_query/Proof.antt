@@ -12,8 +12,8 @@ use Rattle.tables.specs.View.{treeIn, traceIn}
 use Rattle.prefixes.specs.Prefixes.{Prefixes}
 use Rattle.search.specs.Searched.{withoutWork}
 use Rattle.search.proofs.Facts.{length-fits}
-use Rattle.batch_search.specs.Batched.{queryAt}
-use Rattle.batch_search.proofs.Runs.{query-room, ready-for}
+use Rattle.batch_leaves.specs.LeavesRead.{queryAt}
+use Rattle.batch_leaves.proofs.Runs.{query-room, ready-for}
 use Rattle.batch_search.proofs.searching.search_query.Statement.{statement}
 use Rattle.batch_search.proofs.searching.search_query.Tie as tie
 

@@ -21,8 +21,8 @@ use Rattle.leaf_order.specs.declared.leaves.Next.{Next}
 use Rattle.leaf_order.proofs.Records.{leaf-kind}
 use Rattle.search.specs.Searched.{withoutWork, Ready}
 use Rattle.search.proofs.Facts.{walkable}
-use Rattle.batch_search.specs.Batched.{queryAt}
-use Rattle.batch_search.proofs.Runs.{query-room, ready-for}
+use Rattle.batch_leaves.specs.LeavesRead.{queryAt}
+use Rattle.batch_leaves.proofs.Runs.{query-room, ready-for}
 use Rattle.batch_search.proofs.Visits.{BatchState, state-start, state-end, leaf-less, state-leaf}
 use Rattle.batch_search.proofs.visiting.visit.Statement.{statement}
 use Rattle.batch_search.proofs.visiting.visit.Tie as tie

@@ -11,7 +11,7 @@ use Rattle.tables.specs.View.{treeIn}
 use Rattle.tables.proofs.Parts.{trace-length}
 use Rattle.search.specs.Searched.{Ready}
 use Rattle.search.proofs.Facts.{capacity-fits, nodes-needed}
-use Rattle.batch_search.specs.Batched.{Searchable, queryAt}
+use Rattle.batch_leaves.specs.LeavesRead.{Searchable, queryAt}
 
 pub query-room : (i many n : ℕ) (run : Trace) → i < many → length run ≡ n * many → i * n + n ≤ length run
 query-room i many n run h e = let room : suc i * n ≤ many * n = mul-le-mul-right n h in omega (arith, room, e)

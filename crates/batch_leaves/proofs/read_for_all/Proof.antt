@@ -1,4 +1,4 @@
--- `batch_search::leaves::read_for_all` meets its contract: the first records are read, the others are as they were (`Bests`).
+-- `batch_leaves::read_for_all` meets its contract: the first records are read, the others are as they were (`Bests`).
 use mathlib.Core.Path.{_≡_, refl, ap, subst, _∙_}
 use mathlib.Core.List.{List, map}
 use Prim.Native.Nat.{ℕ, _+_, _*_, _-_, _≤_}
@@ -13,11 +13,11 @@ use Rattle.tables.specs.View.{traceIn}
 use Rattle.tables.specs.Walk.{numbersOf}
 use Rattle.tables.proofs.Parts.{trace-length}
 use Rattle.reading.specs.Nearest.{nearOf}
-use Rattle.batch_search.specs.Batched.{OneRead}
-use Rattle.batch_search.proofs.Bests.{Reading, reading-start, reading-next}
-use Rattle.batch_search.proofs.Runs.{query-room}
-use Rattle.batch_search.proofs.leaves.read_for_all.Statement.{statement}
-use Rattle.batch_search.proofs.leaves.read_for_all.Tie as tie
+use Rattle.batch_leaves.specs.LeavesRead.{OneRead}
+use Rattle.batch_leaves.proofs.Bests.{Reading, reading-start, reading-next}
+use Rattle.batch_leaves.proofs.Runs.{query-room}
+use Rattle.batch_leaves.proofs.read_for_all.Statement.{statement}
+use Rattle.batch_leaves.proofs.read_for_all.Tie as tie
 
 -- the leaf's traces with their distances to query i
 abbrev more : List ℤ → List ℕ → ℕ → ℕ → ℕ → List ℤ → ℕ → List Near

@@ -17,7 +17,7 @@ ghost use Rattle.tables.specs.View.{smallMost, smallAt, traceIn};
 ghost use Rattle.tables.specs.Walk.{numbersOf, Stored};
 ghost use Rattle.reading.specs.Nearest.{nearOf};
 ghost use Rattle.search.specs.Searched.{withoutWork};
-ghost use Rattle.batch_search.specs.Batched.{Searchable, CountedOnce, BatchRoom, Turns, OneRead, AllRead};
+ghost use Rattle.batch_leaves.specs.LeavesRead.{Searchable, CountedOnce, BatchRoom, Turns, OneRead, AllRead};
 
 // How many records a query has: none before a leaf was read.
 fn filled(leaves: usize) -> usize

@@ -1,4 +1,4 @@
--- `batch_search::leaves::read_once` meets its contract: a leaf with a mark is passed over, another is read for all queries (`Kept`), and is
+-- `batch_leaves::read_once` meets its contract: a leaf with a mark is passed over, another is read for all queries (`Kept`), and is
 -- then one more of those with a mark (`Marks`).
 use mathlib.Core.Path.{_≡_, _∙_, ap}
 use mathlib.Core.Bool.{true, false}
@@ -20,12 +20,12 @@ use Rattle.leaf_order.proofs.Records.{number-fits}
 use Rattle.search.specs.Searched.{withoutWork, Ready}
 use Rattle.search.proofs.Facts.{walkable, leaf-at}
 use Rattle.search.proofs.Turns.{stored-as}
-use Rattle.batch_search.specs.Batched.{queryAt, isMarked, AllRead}
-use Rattle.batch_search.proofs.Runs.{ready-for, nodes-few}
-use Rattle.batch_search.proofs.Marks.{marked-yes, marked-no, marked-most, marked-more, once-more}
-use Rattle.batch_search.proofs.Kept.{once-old, once-new}
-use Rattle.batch_search.proofs.leaves.read_once.Statement.{statement}
-use Rattle.batch_search.proofs.leaves.read_once.Tie as tie
+use Rattle.batch_leaves.specs.LeavesRead.{queryAt, isMarked, AllRead}
+use Rattle.batch_leaves.proofs.Runs.{ready-for, nodes-few}
+use Rattle.batch_leaves.proofs.Marks.{marked-yes, marked-no, marked-most, marked-more, once-more}
+use Rattle.batch_leaves.proofs.Kept.{once-old, once-new}
+use Rattle.batch_leaves.proofs.read_once.Statement.{statement}
+use Rattle.batch_leaves.proofs.read_once.Tie as tie
 
 module _ (s : tie.Start) where
   abbrev given : Tables

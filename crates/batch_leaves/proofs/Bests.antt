@@ -19,7 +19,7 @@ use Rattle.tables.specs.Walk.{numbersOf}
 use Rattle.reading.specs.Nearest.{near, nearOf}
 use Rattle.reading.specs.Listed.{recordAt, nearsIn, ListRoom}
 use Rattle.reading.proofs.Records.{nears-length, nears-at, putIn, put-same, put-other}
-use Rattle.batch_search.specs.Batched.{bestBy, OneRead, AllRead}
+use Rattle.batch_leaves.specs.LeavesRead.{bestBy, OneRead, AllRead}
 
 -- ---- one record
 

@@ -1,12 +1,12 @@
--- `batch_search::leaves::read_for` meets its contract: the record is a list of one, which reading a leaf fills (`Bests`).
+-- `batch_leaves::read_for` meets its contract: the record is a list of one, which reading a leaf fills (`Bests`).
 use mathlib.Core.Path.{refl}
 use native.Mathlib.Omega.{arith}
 use borrow.Author.Needs.{needs}
 use lib.ListN.{length-set}
 use denote.Ref.{now}
-use Rattle.batch_search.proofs.Bests.{one-room, some-number, one-read}
-use Rattle.batch_search.proofs.leaves.read_for.Statement.{statement}
-use Rattle.batch_search.proofs.leaves.read_for.Tie as tie
+use Rattle.batch_leaves.proofs.Bests.{one-room, some-number, one-read}
+use Rattle.batch_leaves.proofs.read_for.Statement.{statement}
+use Rattle.batch_leaves.proofs.read_for.Tie as tie
 
 -- back from the call that says how many records there are
 abbrev start : tie.After-filled → tie.Start

@@ -22,7 +22,7 @@ use Rattle.tables.specs.Walk.{numbersOf}
 use Rattle.reading.specs.Nearest.{nearOf}
 use Rattle.reading.specs.Listed.{recordAt}
 use Rattle.reading.proofs.Meaning.{LeafInTables, distances-are}
-use Rattle.batch_search.specs.Batched.{queryAt, bestBy, isMarked, BestsAndMarks, AllRead}
+use Rattle.batch_leaves.specs.LeavesRead.{queryAt, bestBy, isMarked, BestsAndMarks, AllRead}
 
 -- once a leaf was read, there is a record
 best-some : (leaves : ℕ) (a : Near) → 0 < leaves → bestBy leaves a ≡ some a

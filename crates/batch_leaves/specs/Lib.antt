@@ -1,0 +1,2 @@
+-- A leaf read for all queries of a batch.
+pub mod LeavesRead

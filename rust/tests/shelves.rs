@@ -102,6 +102,27 @@ fn a_held_lock() {
     assert!(strays(&folder).is_empty());
 }
 
+/// Who reads while a library is replaced sees the one or the other, with all its names.
+#[test]
+fn read_while_it_is_replaced() {
+    let folder = numbered("replaced", 6);
+    std::thread::scope(|scope| {
+        let writing = scope.spawn(|| {
+            for round in 0..40 {
+                let files = if round % 2 == 0 { "1.csv 2.csv" } else { "3.csv 4.csv 5.csv" };
+                folder.done(&format!("build l.sheet --samples 8 --force {files}"));
+            }
+        });
+        while !writing.is_finished() {
+            let out = folder.done("list l.sheet");
+            let faults: Vec<&str> = out.lines().skip(2).map(|row| row.split_whitespace().nth(2).unwrap()).collect();
+            let whole = [&["0"][..], &["1", "2"], &["3", "4", "5"]].contains(&&faults[..]);
+            assert!(whole, "{out}");
+        }
+    });
+    assert!(strays(&folder).is_empty());
+}
+
 #[test]
 fn killed_in_the_midst() {
     let folder = numbered("killed", 9);

@@ -128,8 +128,10 @@ impl Disk {
 
 #[test]
 fn every_cut_of_two_savings() {
-    let folder = Path::new(env!("CARGO_TARGET_TMPDIR")).join("two-copies");
-    let _ = fs::remove_dir_all(&folder);
+    // in memory, where there is such a place: cuts are played here, not waited for
+    let memory = Path::new("/dev/shm");
+    let base = if memory.is_dir() { memory } else { Path::new(env!("CARGO_TARGET_TMPDIR")) };
+    let folder = base.join(format!("two-copies-{}", std::process::id()));
     fs::create_dir_all(&folder).unwrap();
     let disk = Disk([folder.join("a.sheet"), folder.join("b.sheet")]);
     let random = &mut Random::seeded(2026);
@@ -143,6 +145,7 @@ fn every_cut_of_two_savings() {
     // the very first saving, over nothing
     let taken = cuts(&[], &versions[0], random);
     assert!(taken.iter().all(|cut| *cut == versions[0] || TraceLibrary::read_sheet(cut).is_err()));
+    fs::remove_dir_all(&folder).unwrap();
 }
 
 /// A saving leaves just the sheet, over whatever was there.

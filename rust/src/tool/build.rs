@@ -9,7 +9,7 @@ use silkendoz::TraceLibrary;
 use std::path::{Path, PathBuf};
 
 /// What the leaf size is unless it is said.
-const LEAF_SIZE: usize = 16;
+pub const LEAF_SIZE: usize = 16;
 
 pub fn run(a: &Arguments) -> Answer {
     let (out, sources) = a.one_and_more("OUT.sheet", "a FILE with recordings")?;
@@ -42,7 +42,7 @@ pub fn run(a: &Arguments) -> Answer {
 }
 
 /// As many again as there are, 64 at least. If that is more than a library holds, as many as it holds.
-fn room_for(traces: usize) -> usize {
+pub fn room_for(traces: usize) -> usize {
     (2 * traces).clamp(64, MOST_TRACES)
 }
 

@@ -1,4 +1,4 @@
-//! Every call to the file system of `add`, `build`, `repair` and `rename` fails once, or is the last one before the program is killed. Sheet
+//! Every call to the file system of each command that writes a library fails once, or is the last one before the program is killed. Sheet
 //! and names are then both old or both new, and the answer says which.
 
 use super::disk::fault::{plan, steps, Plan};
@@ -23,7 +23,10 @@ struct Bench(PathBuf);
 
 impl Bench {
     fn new(name: &str) -> Bench {
-        let folder = std::env::temp_dir().join(format!("silkendoz-{}-{name}", std::process::id()));
+        // in memory, where there is such a place: what is synced need not be on a disk here
+        let memory = PathBuf::from("/dev/shm");
+        let base = if memory.is_dir() { memory } else { std::env::temp_dir() };
+        let folder = base.join(format!("silkendoz-{}-{name}", std::process::id()));
         fs::create_dir_all(&folder).unwrap();
         Bench(folder)
     }
@@ -175,6 +178,16 @@ fn faults_of_repair() {
         fs::remove_file(bench.0.join(name)).unwrap();
     }
     every_fault(&bench, "repair one.sheet two.sheet -o l.sheet --force");
+}
+
+#[test]
+fn faults_of_rename_and_salvage() {
+    let bench = Bench::new("rename");
+    laid(&bench);
+    every_fault(&bench, "rename l.sheet 0 bent");
+    bench.lay(&Files::new());
+    laid(&bench);
+    every_fault(&bench, "salvage one.sheet --samples 3 -o l.sheet --force");
 }
 
 /// The same files, with these names beside the first library.

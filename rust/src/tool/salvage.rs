@@ -5,7 +5,7 @@ use super::blocks::{self, BLOCK, SAMPLES};
 use super::files::{Output, Place};
 use super::names::{self, Lines, Names};
 use super::shelf::{Held, Shelf};
-use super::{files, numbers, plain, reading, refused, saved, words, written, Answer, Failure};
+use super::{build, files, numbers, plain, reading, refused, saved, words, written, Answer, Failure};
 use silkendoz::TraceLibrary;
 use std::path::Path;
 
@@ -74,9 +74,8 @@ impl Torn {
                 Ok(Torn { bytes, sound, n, capacity, leaf_size, count: count.min(capacity) })
             }
             (false, Some(n)) if n > 0 => {
-                let count = (sound.len() - 1) * SAMPLES / n;
-                let capacity = count.clamp(1, reading::MOST_TRACES);
-                Ok(Torn { bytes, sound, n, capacity, leaf_size: 16, count: count.min(capacity) })
+                let count = ((sound.len() - 1) * SAMPLES / n).min(reading::MOST_TRACES);
+                Ok(Torn { bytes, sound, n, capacity: build::room_for(count), leaf_size: build::LEAF_SIZE, count })
             }
             _ => refused(format!(
                 "{shown}: block 0, which says how long a trace is, is torn. If you know it, say `--samples N`; traces of zeros may come at the end."

@@ -6,8 +6,9 @@ use super::names::{self, Lines, Names};
 use super::plain;
 use super::progress::Progress;
 use super::reading::{is_sheet, Sweep};
-use super::{hash, recordings, refused, words, Failure};
+use super::{disk, hash, recordings, refused, words, Failure};
 use silkendoz::{Refusal, TraceLibrary};
+use std::os::unix::fs::MetadataExt;
 use std::path::{Path, PathBuf};
 
 pub struct Shelf {
@@ -16,8 +17,24 @@ pub struct Shelf {
     pub names: Names,
 }
 
+/// How often a library is read again that is replaced meanwhile.
+const TRIES: usize = 5;
+
 impl Shelf {
+    /// Sheet and names of one writing: if the sheet was replaced while they were read, both are read again.
     pub fn load(path: &Path) -> Result<Shelf, Failure> {
+        let which = || disk::follow(path).ok().flatten().map(|it| (it.dev(), it.ino(), it.mtime(), it.mtime_nsec()));
+        for _ in 1..TRIES {
+            let before = which();
+            let shelf = Shelf::once(path)?;
+            if which() == before {
+                return Ok(shelf);
+            }
+        }
+        Shelf::once(path)
+    }
+
+    fn once(path: &Path) -> Result<Shelf, Failure> {
         let bytes = files::read(path)?;
         let shown = plain::path(path);
         let library = match TraceLibrary::read_sheet(&bytes) {

@@ -11,8 +11,8 @@ import wave
 
 N = 64
 RATE = 2000
-# belt tensioner seized, dry rail right, encoder wheel slipping, bearing pitted: fast sweeps
-TRACES = [7, 16, 25, 31]
+# belt tensioner seized, dry rail right, encoder wheel slipping, bearing pitted
+TRACES = [7, 19, 25, 1]
 
 
 def stored(sheet):

@@ -66,8 +66,8 @@ fn square(x: i16, y: i16) -> u64 {
     u64::from(apart.wrapping_mul(apart) as u32)
 }
 
-/// The distance, if it is below the limit.
-fn distance_below(a: &[i16], b: &[i16], limit: u64) -> Option<u64> {
+/// The distance, if it is below the limit; it looks every 16 samples.
+pub fn distance_below(a: &[i16], b: &[i16], limit: u64) -> Option<u64> {
     let mut total = 0;
     for (x, y) in a.chunks(16).zip(b.chunks(16)) {
         total += distance(x, y);

@@ -12,6 +12,12 @@ fn the_files_are_as_made() {
     let folder = PathBuf::from(env!("CARGO_MANIFEST_DIR")).join("../examples");
     assert!(std::fs::read(folder.join("faults.sheet")).unwrap() == example::sheet());
     assert_eq!(std::fs::read_to_string(folder.join("faults.txt")).unwrap(), example::text());
+    assert_eq!(std::fs::read_to_string(folder.join("faults.names")).unwrap(), example::names());
+    let recordings = example::recordings();
+    assert_eq!(std::fs::read_dir(folder.join("faults")).unwrap().count() + 1, recordings.len());
+    for (name, bytes) in recordings {
+        assert!(std::fs::read(folder.join(&name)).unwrap() == bytes, "{name}");
+    }
 }
 
 #[test]
@@ -24,6 +30,6 @@ fn the_dry_rail_is_found() {
         library.add(trace).unwrap();
     }
     let found = library.nearest(query).unwrap();
-    assert_eq!(names[found.trace], "dry rail, right, fast sweep");
+    assert_eq!(names[found.trace], "dry rail, right, machine 4119");
     assert!(found.traces < stored.len());
 }

@@ -78,7 +78,7 @@ fn a_name_that_is_no_text() {
     fs::copy(folder.0.join("today.csv"), folder.0.join(odd)).unwrap();
     let ran = folder.run(&[OsStr::new("match"), OsStr::new("faults.sheet"), odd]);
     assert_eq!(ran.status, 0);
-    assert!(ran.out.contains("dry rail, right, fast sweep"));
+    assert!(ran.out.contains("dry rail, right, machine 4119"));
 }
 
 // ---- matching
@@ -92,7 +92,7 @@ fn matched_with_names() {
         let out = folder.done(&format!("match faults.sheet today.csv -k {k}"));
         let found = library.k_nearest(&today, k).unwrap();
         let rows: Vec<&str> = out.lines().skip(2).take(k).collect();
-        assert_eq!(out.lines().count(), 2 + k + 2);
+        assert_eq!(out.lines().count(), 2 + k + 2, "{out}");
         for (row, near) in rows.iter().zip(&found.list) {
             let words: Vec<&str> = row.split_whitespace().collect();
             assert_eq!(words[0], near.trace.to_string());
@@ -101,10 +101,11 @@ fn matched_with_names() {
             assert!(row.contains(&faults[near.trace].0));
         }
     }
-    assert!(folder.done("match faults.sheet today.csv").contains("The runner-up is 6.9 times as far."));
+    assert!(folder.done("match faults.sheet today.csv").contains("The nearest other fault, healthy, is 6.4 times as far (362.6).\n"));
     assert_eq!(folder.done("match faults.sheet today.csv").lines().count(), 9);
-    let found = library.k_nearest(&today, 3).unwrap();
-    let read = format!("Read: {} of {} leaves, {} of 36 traces.", found.leaves, library.leaf_count(), found.traces);
+    // the three nearest are of one fault: so another is looked for among six
+    let found = library.k_nearest(&today, 6).unwrap();
+    let read = format!("Read: {} of {} leaves, {} of 36 traces (for the 6 nearest).", found.leaves, library.leaf_count(), found.traces);
     assert!(folder.done("match faults.sheet today.csv -k 3").contains(&read));
 }
 
@@ -112,25 +113,14 @@ fn matched_with_names() {
 fn a_line_for_each_sweep() {
     let folder = shelf("several");
     let out = folder.done("match faults.sheet faults.csv");
-    assert_eq!(out.lines().count(), 2 + 36);
-    for (number, line) in out.lines().skip(2).enumerate() {
+    // the file, the headings, what verdicts are by, and of each that it is stored already
+    assert_eq!(out.lines().count(), 2 + 36 + 1 + 36, "{out}");
+    assert!(out.starts_with("faults.csv: holds 36 traces of 64 samples\n"));
+    for (number, line) in out.lines().skip(2).take(36).enumerate() {
         let (name, _) = &faults().0[number];
         assert!(line.trim_start().starts_with(name.as_str()), "{line}");
         assert!(line.contains(&format!("  {number}  {name}")), "{line}");
     }
-}
-
-#[test]
-fn one_trace_has_no_runner_up() {
-    let folder = Folder::new("alone");
-    folder.write("one.csv", "1,2\n");
-    folder.write("same.csv", "1,2\n1,2\n9,9\n");
-    folder.done("build one.sheet --samples 2 one.csv");
-    assert!(folder.done("match one.sheet one.csv").contains("There is no runner-up"));
-    folder.done("build same.sheet --samples 2 same.csv");
-    assert!(folder.done("match same.sheet one.csv").contains("The runner-up is the same trace"));
-    folder.write("nine.csv", "9 9");
-    assert!(folder.done("match same.sheet nine.csv").contains("the runner-up is off by 7.5 a sample"));
 }
 
 #[test]
@@ -142,8 +132,8 @@ fn matched_for_programs() {
     assert_eq!((ran.status, ran.err.as_str()), (0, ""));
     let told = Json::of(&ran.out);
     assert_eq!(told.at("library").at("traces").number(), 36);
-    assert_eq!(told.at("file"), &Json::Text("q\"uote.csv".to_string()));
     let sweeps = told.at("sweeps").list();
+    assert_eq!(sweeps[0].at("file"), &Json::Text("q\"uote.csv".to_string()));
     assert_eq!(sweeps.len(), 2);
     assert_eq!(sweeps[0].at("name"), &Json::Text("a \"sweep\" \\ of today".to_string()));
     let found = folder.library("faults.sheet").k_nearest(&today, 4).unwrap();
@@ -152,17 +142,18 @@ fn matched_for_programs() {
         assert_eq!(told.at("name"), &Json::Text(faults[near.trace].0.clone()));
     }
     assert_eq!(sweeps[0].at("leaves_read").number(), found.leaves as u64);
-    assert_eq!(sweeps[0].at("runner_up").at("number").number(), found.list[1].trace as u64);
+    assert_eq!(sweeps[0].at("verdict").at("other_fault_trace").number(), found.list[3].trace as u64);
     // the second sweep is stored
     assert_eq!(sweeps[1].at("nearest").list()[0].at("distance").number(), 0);
-    assert_eq!(sweeps[1].at("runner_up_times_as_far"), &Json::Null);
+    assert_eq!(sweeps[1].at("stored_already_as").number(), 3);
+    assert_eq!(sweeps[1].at("verdict").at("other_fault_times_as_far"), &Json::Null);
 }
 
 #[test]
 fn names_that_are_not_there() {
     let folder = shelf("unnamed");
     fs::remove_file(folder.0.join("faults.names")).unwrap();
-    assert!(folder.done("match faults.sheet today.csv").contains("16  (no name)  "));
+    assert!(folder.done("match faults.sheet today.csv").contains("19  (no name)  "));
     assert!(folder.done("info faults.sheet").contains("names             none"));
     let told = Json::of(&folder.done("match faults.sheet today.csv --json"));
     assert_eq!(told.at("sweeps").list()[0].at("nearest").list()[0].at("name"), &Json::Null);
@@ -178,8 +169,8 @@ fn names_that_are_not_there() {
         assert_eq!(ran.status, 1);
         assert!(ran.out.contains("faults.sheet: sound.") && ran.out.contains(why), "{}", ran.out);
     }
-    folder.write("faults.names", "16\tdry\n\n3\tloose\tx.csv\n");
-    assert!(folder.done("match faults.sheet today.csv").contains("16  dry  "));
+    folder.write("faults.names", "19\tdry\n\n3\tloose\tx.csv\n");
+    assert!(folder.done("match faults.sheet today.csv").contains("19  dry  "));
 }
 
 // ---- drawing
@@ -213,13 +204,15 @@ fn tags(xml: &str, wanted: &str) -> usize {
 fn drawn() {
     let folder = shelf("drawn");
     let (_, today) = faults();
-    assert!(folder.done("plot faults.sheet today.csv").starts_with("today.svg: today and its 3 nearest traces."));
+    assert!(folder.done("plot faults.sheet today.csv").starts_with("today.svg: today and its 3 nearest faults."));
     let drawn = folder.text("today.svg");
     assert_eq!(tags(&drawn, "polyline"), 1 + 3 + 3);
     assert!(drawn.contains("prefers-color-scheme: dark"));
-    for name in ["dry rail, right, fast sweep", "healthy, fast sweep", "encoder wheel slipping, fast sweep"] {
-        assert!(drawn.contains(name));
+    for label in ["dry rail, right: trace 19, machine 4119, off by 56.5 a sample", "healthy: trace 29, ", "encoder wheel slipping: trace 24, "] {
+        assert!(drawn.contains(label), "{label}");
     }
+    // the sample's number below each end of both axes
+    assert_eq!((drawn.matches(">1</text>").count(), drawn.matches(">64</text>").count()), (2, 2));
     // names that XML would take for its own
     folder.write("odd.csv", format!("\"<b> & \"\"c\"\" ]]>\",{}\nsecond,{}\n", joined(&today, ","), joined(&today, ",")));
     folder.done("add faults.sheet odd.csv");
@@ -234,7 +227,7 @@ fn drawn() {
     folder.write("point.csv", "5\n5\n");
     folder.done("build point.sheet --samples 1 point.csv");
     folder.done("plot point.sheet point.csv");
-    assert_eq!(tags(&folder.text("point.svg"), "circle"), 5);
+    assert_eq!(tags(&folder.text("point.svg"), "circle"), 3);
 }
 
 // ---- what a library is like
@@ -404,8 +397,8 @@ fn recordings_go_both_ways() {
     let folder = shelf("recordings");
     let (faults, _) = faults();
     assert!(folder
-        .done("export faults.sheet 16 -o dry.wav --rate 2000")
-        .contains("trace 16, dry rail, right, fast sweep, 64 samples at 2000 a second"));
+        .done("export faults.sheet 19 -o dry.wav --rate 2000")
+        .contains("trace 19, dry rail, right, machine 4119, 64 samples at 2000 a second"));
     let wav = folder.read("dry.wav");
     assert_eq!(wav.len(), 44 + 2 * N);
     assert_eq!((&wav[..4], &wav[24..28]), (&b"RIFF"[..], &2000u32.to_le_bytes()[..]));
@@ -419,11 +412,12 @@ fn recordings_go_both_ways() {
     folder.done("build w.sheet --samples 64 dry.wav both.wav loose.wav");
     let library = folder.library("w.sheet");
     let stored: Vec<&[i16]> = (0..4).map(|number| library.trace(number).unwrap()).collect();
-    assert_eq!(stored, [&faults[16].1[..], &faults[16].1, &faults[3].1, &faults[3].1]);
+    assert_eq!(stored, [&faults[19].1[..], &faults[19].1, &faults[3].1, &faults[3].1]);
     let names = ["0\tdry\tdry.wav\t2000", "1\tboth, trace 1\tboth.wav\t2000", "2\tboth, trace 2\tboth.wav\t2000", "3\tloose\tloose.wav\t8000"];
     assert_eq!(named(&folder.text("w.names")), names);
-    assert!(folder.done("match faults.sheet dry.wav -k 1").contains("dry rail, right, fast sweep         0       0.0"));
-    assert_eq!(folder.done("match faults.sheet both.wav").lines().count(), 4);
+    assert!(folder.done("match faults.sheet dry.wav -k 1").contains("dry rail, right, machine 4119         0       0.0"));
+    // the file, the headings, two sweeps, what verdicts are by, and of each that it is stored already
+    assert_eq!(folder.done("match faults.sheet both.wav").lines().count(), 7);
     // the same samples at the rate that they were recorded at are the same file
     folder.done("export w.sheet 3 -o again.wav");
     assert!(folder.read("again.wav") == folder.read("loose.wav"));
@@ -487,8 +481,6 @@ fn refused_with_what_and_where() {
         ("match faults.sheet nothing.csv", "nothing.csv: holds no trace"),
         ("match faults.sheet bytes.csv", "bytes.csv: is no WAV recording, and is text in UTF-16"),
         ("match faults.sheet other.sheet", "other.sheet: a library of traces of 3 samples, and 64 are wanted"),
-        ("match faults.sheet today.csv -k 17", "refused 11, bad k: a search lists 1 to 16 traces"),
-        ("match faults.sheet today.csv -k 0", "refused 11, bad k"),
         ("match empty.sheet today.csv", "refused 6, empty: the library holds no trace"),
         ("match . today.csv", ".: is a folder, and has to be a file"),
         ("build new.sheet --samples 64 --capacity 35 faults.csv", "refused 5, full: there is room for 35 traces, and there would be 36"),
@@ -526,12 +518,16 @@ fn wrong_usage() {
         ("add faults.sheet", "a FILE with recordings is missing"),
         ("add", "LIBRARY is missing"),
         ("match faults.sheet", "a FILE with a sweep is missing"),
-        ("match faults.sheet today.csv today.csv", "`today.csv` is one word too many"),
+        ("match faults.sheet today.csv -k 17", "-k: 17 traces cannot be listed. Take 1 to 16"),
+        ("match faults.sheet today.csv -k 0", "-k: 0 traces cannot be listed"),
+        ("match faults.sheet today.csv --json --tsv", "`--json` and `--tsv` do not go together"),
+        ("report faults.sheet today.csv today.csv", "`today.csv` is one word too many"),
+        ("report faults.sheet today.csv -k 7", "-k: 7 faults cannot be drawn. Take 1 to 6"),
         ("match faults.sheet today.csv -k", "`-k` has no value"),
         ("match faults.sheet today.csv -k many", "-k: `many` is no whole number"),
         ("plot faults.sheet", "a FILE with a sweep is missing"),
-        ("plot faults.sheet today.csv -k 7", "-k: 7 traces cannot be drawn. Take 1 to 6"),
-        ("plot faults.sheet today.csv -k 0", "-k: 0 traces cannot be drawn"),
+        ("plot faults.sheet today.csv -k 7", "-k: 7 faults cannot be drawn. Take 1 to 6"),
+        ("plot faults.sheet today.csv -k 0", "-k: 0 faults cannot be drawn"),
         ("info", "LIBRARY is missing"),
         ("info faults.sheet --tsv", "`--tsv` is no option of this command"),
         ("check", "a FILE with a sheet is missing"),
@@ -598,7 +594,7 @@ fn help_of_every_command() {
     assert_eq!(overview, folder.done("--help"));
     assert!(folder.done("--version").starts_with("silkendoz "));
     let commands: Vec<&str> = overview.lines().filter_map(|line| line.strip_prefix("  ")?.split(' ').next()).collect();
-    for command in ["build", "add", "match", "plot", "info", "list", "rename", "check", "repair", "salvage", "advise", "export", "help"] {
+    for command in ["build", "add", "match", "plot", "report", "info", "list", "rename", "check", "repair", "salvage", "advise", "export", "help"] {
         assert!(commands.contains(&command), "{command}");
     }
     for command in commands {

@@ -260,16 +260,6 @@ pub fn remove(place: &Place) -> Result<Put, Failure> {
     }
 }
 
-/// Refuses a place where something is.
-pub fn must_be_free(path: &Path) -> Result<(), Failure> {
-    Output::of(path, false, &[]).map(drop)
-}
-
-/// One file, written and put there.
-pub fn write(path: &Path, bytes: &[u8], over: bool) -> Result<(), Failure> {
-    Output::of(path, over, &[])?.write(bytes).map(drop)
-}
-
 const PART: &str = ".part";
 
 /// Removes what dead runs left beside these places: staged files that nobody has open, of processes that are gone.

@@ -2,11 +2,12 @@
 
 use super::arguments::Arguments;
 use super::{
-    add, advise, build, check, done, export, info, list, matching, pages, plain, plot, rename, repair, salvage, wrong, Answer, Command, Failure,
+    add, advise, build, check, done, export, info, list, matching, pages, plain, plot, rename, repair, report, salvage, wrong, Answer, Command,
+    Failure,
 };
 use std::path::Path;
 
-pub const COMMANDS: [Command; 15] = [
+pub const COMMANDS: [Command; 16] = [
     Command {
         name: "build",
         usage: "OUT.sheet --samples N [--capacity C] [--leaf-size S] [--cut] [--convert] [--without N,M] [--force] FILE..",
@@ -53,21 +54,35 @@ nothing is added; nor if one of them is stored already, sample by sample. FILEs 
     },
     Command {
         name: "match",
-        usage: "LIBRARY FILE [-k K] [--json]",
-        about: "the nearest stored traces, with their names",
+        usage: "LIBRARY FILE.. [-k K] [--json | --tsv] [--cut] [--convert]",
+        about: "the nearest stored traces, with their names, and what fits",
         text: "\
-Finds the stored traces that are nearest to the sweep in FILE: exactly those that reading every stored trace would find.
+Finds the stored traces that are nearest to the sweep in FILE: exactly those that reading every stored trace would find. If there are
+several sweeps, each gets a line. A FILE may be a folder; `-` is standard input.
 
-  -k K     list so many, 1 to 16; 5 unless said
-  --json   one object for programs
+  -k K        list so many, 1 to 16; 5 unless said
+  --json      one object for programs
+  --tsv       a line a sweep, with tabs between the columns
+  --cut       leave out what is left over behind the last whole trace of a recording
+  --convert   bring recordings of other forms to the plain one
 
 Each line has the trace's number and name, its distance (the sum of squared sample differences), and how far a sample is off, which is the
-root of the mean square. Below stand how many times as far the runner-up is, and how much of the library was read. If FILE holds several
-sweeps, each gets a line with its nearest trace.
+root of the mean square. Below them stands the verdict, with its figures:
 
-The object has `library` (`file`, `samples`, `traces`, `leaves`), `file`, and `sweeps`, a list: of each sweep its `name`, `nearest` (a list
-of K: `number`, `name`, `distance`, `a_sample`), `runner_up` (the second of them), `runner_up_times_as_far`, `leaves_read`, `traces_read`.
-What there is none of is null: a name, a runner-up, how many times as far it is as nothing.
+  fits                  no farther from the nearest than stored traces of one fault are from the nearest of their own, and every other
+                        fault is farther than that
+  between two faults    another fault is that near too; or none is, but a mixture of the two nearest
+  like nothing stored   the nearest is farther than that
+
+The fault is what a trace's name says before its last comma. If all K nearest are of one fault, twice as many are looked at, up to 16, to
+find another; with `-k 1` no other is looked for. If no fault is stored twice, nothing is judged. Then comes what else is to be known:
+that the sweep is stored already, samples at the converter's limit, another rate than the library's; and how much of the library was read.
+
+The object has `library` (`file`, `samples`, `traces`, `leaves`, `rates`), `sweeps`, a list, and `notes`. Of each sweep: `name`, `file`,
+`rate`; `nearest`, a list of K (`number`, `name`, `distance`, `a_sample`); `verdict` (`word`, `text`, `fault`, `a_sample`, `other_fault`,
+`other_fault_trace`, `other_fault_a_sample`, `other_fault_times_as_far`, `between_share`, `between_a_sample`, `all_of_one_fault`,
+`stored_apart_least`, `stored_apart_greatest`); `clipped_samples`, `stored_already_as`, `remarks`, `nearest_looked_at`, `leaves_read`,
+`traces_read`. What there is none of is null.
 ",
         values: &["-k"],
         flags: &["--json", "--tsv", "--cut", "--convert"],
@@ -75,19 +90,42 @@ What there is none of is null: a name, a runner-up, how many times as far it is 
     },
     Command {
         name: "plot",
-        usage: "LIBRARY FILE [-k K] [--sweep S] [-o OUT.svg] [--force]",
-        about: "the sweep and its nearest traces as a picture",
+        usage: "LIBRARY FILE [-k K] [--sweep S] [-o OUT.svg] [--force] [--cut] [--convert]",
+        about: "the sweep and the nearest faults as a picture",
         text: "\
-Draws the sweep in FILE and its nearest stored traces one over the other, with their names, and the differences below.
+Draws the sweep in FILE and the nearest trace of each of the nearest faults one over the other; below, in a row a fault, the differences.
+Across stand milliseconds, if a rate is known.
 
-  -k K         draw so many, 1 to 6; 3 unless said
+  -k K         draw so many faults, 1 to 6; 3 unless said
   --sweep S    if FILE holds several sweeps, which one, counted from 1; the first unless said
-  -o OUT.svg   where the picture goes; unless said, beside FILE, with the ending .svg
+  -o OUT.svg   where the picture goes; unless said, beside FILE, with the ending .svg; `-` is standard output
   --force      overwrite it
+  --cut, --convert   as for `match`
 ",
         values: &["-k", "--sweep", "-o"],
-        flags: &["--force"],
+        flags: &["--force", "--cut", "--convert"],
         run: plot::run,
+    },
+    Command {
+        name: "report",
+        usage: "LIBRARY FILE [-k K] [--sweep S] [-o OUT.html] [--force] [--cut] [--convert]",
+        about: "the verdict and the picture as a page to mail and print",
+        text: "\
+Writes one page about the sweep in FILE: the verdict of `match`, the picture of `plot`, the 16 nearest traces by fault, and what they were
+found by: the library's hash, how much of it was read, the program's version and the date. The page stands for itself: it has no script and
+asks for nothing from elsewhere.
+
+  -k K          draw so many faults, 1 to 6; 3 unless said
+  --sweep S     if FILE holds several sweeps, which one, counted from 1; the first unless said
+  -o OUT.html   where the page goes; unless said, beside FILE, with the ending .html; `-` is standard output
+  --force       overwrite it
+  --cut, --convert   as for `match`
+
+The date is today's, by UTC, or that of SOURCE_DATE_EPOCH if it is set.
+",
+        values: &["-k", "--sweep", "-o"],
+        flags: &["--force", "--cut", "--convert"],
+        run: report::run,
     },
     Command {
         name: "info",
@@ -240,7 +278,7 @@ Lists the commands, or says all about one.
 ];
 
 pub fn command(name: &str) -> Option<&'static Command> {
-    static ALL: [Command; 15] = COMMANDS;
+    static ALL: [Command; 16] = COMMANDS;
     ALL.iter().find(|command| command.name == name)
 }
 

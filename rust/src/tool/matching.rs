@@ -1,26 +1,36 @@
-//! `match`: the nearest stored traces, with their names.
+//! `match`: the nearest stored traces, with their names, and what they say.
 
 use super::arguments::Arguments;
-use super::reading::{self, Sweep};
+use super::reading::{self, Found, Sweep, Wanted};
 use super::shelf::Shelf;
 use super::table::{self, Column};
-use super::{done, json, numbers, refused, words, Answer, Failure};
+use super::verdict::{self, Faults, Verdict};
+use super::{done, json, notes, numbers, plain, refused, words, wrong, Answer, Failure};
 use silkendoz::{KNearest, Neighbour};
-use std::path::Path;
 
 /// How many are listed unless it is said.
 const LISTED: usize = 5;
+/// How many a search lists at most.
+const MOST_LISTED: usize = 16;
 
 pub fn run(a: &Arguments) -> Answer {
-    let [library, file] = a.exactly(["LIBRARY", "a FILE with a sweep"])?;
+    let (library, files) = a.one_and_more("LIBRARY", "a FILE with a sweep")?;
     let k = a.number("-k")?.unwrap_or(LISTED);
-    let shelf = Shelf::load(Path::new(library))?;
-    let sweeps = reading::sweeps(Path::new(file), shelf.library.n())?;
-    let found = sweeps.iter().map(|sweep| Match::of(&shelf, sweep, k)).collect::<Result<Vec<_>, _>>()?;
+    if !(1..=MOST_LISTED).contains(&k) {
+        return wrong(format!("-k: {k} traces cannot be listed. Take 1 to {MOST_LISTED}."));
+    }
+    if a.has("--json") && a.has("--tsv") {
+        return wrong("`--json` and `--tsv` do not go together.".to_string());
+    }
+    let shelf = Shelf::load(library)?;
+    let read = reading::all(&files, &Wanted::of(a, shelf.library.n()))?;
+    let faults = Faults::of(&shelf);
+    let found = read.sweeps.iter().map(|sweep| Match::of(&shelf, &faults, sweep, k)).collect::<Result<Vec<_>, _>>()?;
     done(match found.as_slice() {
-        _ if a.has("--json") => in_json(&shelf, &found),
-        [one] => one.in_full(&shelf),
-        many => in_lines(&shelf, many),
+        _ if a.has("--json") => in_json(&shelf, &read, &found),
+        many if a.has("--tsv") => in_tsv(&shelf, many),
+        [one] => format!("{}{}", notes(&read), one.in_full(&shelf)),
+        many => format!("{}{}", notes(&read), in_lines(&shelf, many)),
     })
 }
 
@@ -29,53 +39,50 @@ pub struct Match<'a> {
     pub sweep: &'a Sweep,
     /// As many as were asked for.
     pub list: Vec<Neighbour>,
-    /// The second of all, which is looked for even if one was asked for.
-    second: Option<Neighbour>,
-    found: KNearest,
+    /// These, and more if all of these are of one fault.
+    pub found: KNearest,
+    pub verdict: Verdict,
+    pub remarks: Vec<String>,
 }
 
 impl Match<'_> {
-    pub fn of<'a>(shelf: &Shelf, sweep: &'a Sweep, k: usize) -> Result<Match<'a>, Failure> {
-        // a k that is no k is refused as it is
-        let asked = if k == 1 { 2 } else { k };
-        match shelf.library.k_nearest(&sweep.samples, asked) {
-            Ok(found) => Ok(Match { sweep, list: found.list.iter().take(k).copied().collect(), second: found.list.get(1).copied(), found }),
-            Err(why) => refused(format!("{}: {}", shelf.path.display(), words::of_call(why))),
-        }
-    }
-
-    fn nearest(&self) -> Neighbour {
-        self.found.list[0]
-    }
-
-    /// How far the runner-up is, in words.
-    fn runner_up(&self, n: usize) -> String {
-        let Some(second) = self.second else {
-            return "There is no runner-up: one trace is stored.".to_string();
-        };
-        match numbers::times_as_far(self.nearest().distance, second.distance) {
-            Some(times) => format!("The runner-up is {times:.1} times as far."),
-            None if second.distance == 0 => "The runner-up is the same trace, sample by sample.".to_string(),
-            None => {
-                let apart = numbers::per_sample(second.distance, n);
-                format!("The nearest is the same, sample by sample; the runner-up is off by {apart:.1} a sample.")
+    /// The k nearest. If they are all of one fault, twice as many are looked at, until there is another or the list is full; with a k of 1
+    /// that is not asked for. A longer list begins with the shorter one, and its leaves read are among the longer one's.
+    pub fn of<'a>(shelf: &Shelf, faults: &Faults, sweep: &'a Sweep, k: usize) -> Result<Match<'a>, Failure> {
+        let mut asked = k;
+        let found = loop {
+            let found = match shelf.library.k_nearest(&sweep.samples, asked) {
+                Ok(found) => found,
+                Err(why) => return refused(format!("{}: {}", plain::path(&shelf.path), words::of_call(why))),
+            };
+            if asked == 1 || asked == MOST_LISTED || found.list.len() < asked || faults.other(&found.list).is_some() {
+                break found;
             }
-        }
+            asked = (2 * asked).min(MOST_LISTED);
+        };
+        let Some(verdict) = Verdict::of(faults, &shelf.library, &sweep.samples, &found.list) else {
+            return refused(format!("{}: no trace was found.", plain::path(&shelf.path)));
+        };
+        let remarks = verdict::remarks(sweep, verdict.nearest, &shelf.names.rates());
+        Ok(Match { sweep, list: found.list.iter().take(k).copied().collect(), found, verdict, remarks })
+    }
+
+    /// How much of the library was read.
+    pub fn read(&self, shelf: &Shelf) -> String {
+        let leaves = numbers::count(shelf.library.leaf_count(), "leaf");
+        let traces = numbers::count(shelf.library.len(), "trace");
+        let wider = match self.found.list.len() {
+            looked if looked > self.list.len() => format!(" (for the {looked} nearest)"),
+            _ => String::new(),
+        };
+        format!("Read: {} of {leaves}, {} of {traces}{wider}.", self.found.leaves, self.found.traces)
     }
 
     fn in_full(&self, shelf: &Shelf) -> String {
-        let n = shelf.library.n();
         let rows: Vec<Vec<String>> = self.list.iter().map(|near| row(shelf, near)).collect();
         let listed = table::text(&[Column("no.", true), Column("name", false), Column("distance", true), Column("a sample", true)], &rows);
-        let leaves = numbers::count(shelf.library.leaf_count(), "leaf");
-        let traces = numbers::count(shelf.library.len(), "trace");
-        format!(
-            "{}\n{listed}{}\nRead: {} of {leaves}, {} of {traces}.\n",
-            self.sweep.shown(),
-            self.runner_up(n),
-            self.found.leaves,
-            self.found.traces
-        )
+        let remarks: String = self.remarks.iter().map(|remark| format!("{remark}\n")).collect();
+        format!("{}\n{listed}{}\n{remarks}{}\n", self.sweep.shown(), self.verdict.text(), self.read(shelf))
     }
 
     fn in_json(&self, shelf: &Shelf) -> String {
@@ -87,12 +94,18 @@ impl Match<'_> {
             json::object(&[("number", number), ("name", name), ("distance", distance), ("a_sample", apart)])
         };
         let list: Vec<String> = self.list.iter().map(near).collect();
-        let times = self.second.and_then(|second| numbers::times_as_far(self.nearest().distance, second.distance));
+        let remarks: Vec<String> = self.remarks.iter().map(|remark| json::text(remark)).collect();
+        let already = (self.verdict.nearest.distance == 0).then_some(self.verdict.nearest.trace);
         json::object(&[
             ("name", json::text(&self.sweep.name)),
+            ("file", json::text(&self.sweep.file)),
+            ("rate", self.sweep.rate.map_or("null".to_string(), |rate| rate.to_string())),
             ("nearest", json::array(&list)),
-            ("runner_up", self.second.as_ref().map_or("null".to_string(), near)),
-            ("runner_up_times_as_far", times.map_or("null".to_string(), |times| format!("{times:.3}"))),
+            ("verdict", self.verdict.json()),
+            ("clipped_samples", verdict::clipped(&self.sweep.samples).len().to_string()),
+            ("stored_already_as", already.map_or("null".to_string(), |trace| trace.to_string())),
+            ("remarks", json::array(&remarks)),
+            ("nearest_looked_at", self.found.list.len().to_string()),
             ("leaves_read", self.found.leaves.to_string()),
             ("traces_read", self.found.traces.to_string()),
         ])
@@ -105,36 +118,68 @@ fn row(shelf: &Shelf, near: &Neighbour) -> Vec<String> {
     vec![near.trace.to_string(), shelf.names.shown(near.trace).to_string(), near.distance.to_string(), format!("{apart:.1}")]
 }
 
-/// A line a sweep: what it is, its nearest, and how many times as far the runner-up is.
-fn in_lines(shelf: &Shelf, found: &[Match<'_>]) -> String {
-    let columns = [
-        Column("sweep", false),
-        Column("nearest", true),
-        Column("name", false),
-        Column("distance", true),
-        Column("a sample", true),
-        Column("runner-up", true),
-        Column("leaves read", true),
-    ];
-    let line = |one: &Match<'_>| {
-        let times = one.second.and_then(|second| numbers::times_as_far(one.nearest().distance, second.distance));
-        let mut cells = vec![one.sweep.name.clone()];
-        cells.extend(row(shelf, &one.nearest()));
-        cells.push(times.map_or("-".to_string(), |times| format!("{times:.1} x")));
-        cells.push(one.found.leaves.to_string());
-        cells
-    };
-    let rows: Vec<Vec<String>> = found.iter().map(line).collect();
-    format!("{}: {}\n{}", found[0].sweep.file, numbers::count(found.len(), "sweep"), table::text(&columns, &rows))
+const IN_LINES: [Column; 9] = [
+    Column("sweep", false),
+    Column("verdict", false),
+    Column("no.", true),
+    Column("name", false),
+    Column("distance", true),
+    Column("a sample", true),
+    Column("nearest other fault", false),
+    Column("as far", true),
+    Column("leaves read", true),
+];
+
+/// The cells of a sweep's line.
+fn cells(shelf: &Shelf, one: &Match<'_>) -> Vec<String> {
+    let (other, far) = one.verdict.other_in_cells();
+    let mut cells = vec![one.sweep.name.clone(), one.verdict.word.text().to_string()];
+    cells.extend(row(shelf, &one.verdict.nearest));
+    cells.extend([other, far, one.found.leaves.to_string()]);
+    cells
 }
 
-fn in_json(shelf: &Shelf, found: &[Match<'_>]) -> String {
+/// A line a sweep, by its file: its verdict and its nearest, the nearest other fault; then what the verdicts are by, and whatever else is to
+/// be known of one of them.
+fn in_lines(shelf: &Shelf, found: &[Match<'_>]) -> String {
+    let mut text = String::new();
+    for of_one in found.chunk_by(|a, b| a.sweep.file == b.sweep.file) {
+        let (file, count) = (&of_one[0].sweep.file, numbers::count(of_one.len(), "trace"));
+        let cut = if of_one.len() > 1 { format!("{file}: holds {count} of {} samples\n", shelf.library.n()) } else { String::new() };
+        text.push_str(&cut);
+    }
+    let rows: Vec<Vec<String>> = found.iter().map(|one| cells(shelf, one)).collect();
+    text.push_str(&table::text(&IN_LINES, &rows));
+    if let Some(apart) = found.first().and_then(|one| one.verdict.apart()) {
+        text.push_str(&format!("Verdicts: {apart}, a sample.\n"));
+    }
+    for one in found {
+        text.extend(one.remarks.iter().map(|remark| format!("{}: {remark}\n", one.sweep.name)));
+    }
+    text
+}
+
+/// The same cells with tabs between them, the headings first, and each sweep's file and remarks behind.
+fn in_tsv(shelf: &Shelf, found: &[Match<'_>]) -> String {
+    let mut lines = vec![IN_LINES.iter().map(|column| column.0).chain(["file", "remarks"]).collect::<Vec<_>>().join("\t")];
+    for one in found {
+        let mut cells = cells(shelf, one);
+        cells.extend([one.sweep.file.clone(), one.remarks.join(" ")]);
+        lines.push(cells.iter().map(|cell| plain::clean(cell)).collect::<Vec<_>>().join("\t"));
+    }
+    lines.join("\n") + "\n"
+}
+
+fn in_json(shelf: &Shelf, read: &Found, found: &[Match<'_>]) -> String {
+    let rates: Vec<String> = shelf.names.rates().iter().map(u32::to_string).collect();
     let library = json::object(&[
-        ("file", json::text(&shelf.path.display().to_string())),
+        ("file", json::text(&plain::path(&shelf.path))),
         ("samples", shelf.library.n().to_string()),
         ("traces", shelf.library.len().to_string()),
         ("leaves", shelf.library.leaf_count().to_string()),
+        ("rates", json::array(&rates)),
     ]);
     let sweeps: Vec<String> = found.iter().map(|one| one.in_json(shelf)).collect();
-    format!("{}\n", json::object(&[("library", library), ("file", json::text(&found[0].sweep.file)), ("sweeps", json::array(&sweeps))]))
+    let notes: Vec<String> = read.notes.iter().map(|note| json::text(note)).collect();
+    format!("{}\n", json::object(&[("library", library), ("sweeps", json::array(&sweeps)), ("notes", json::array(&notes))]))
 }

@@ -11,6 +11,7 @@ mod check;
 mod convert;
 mod csv;
 mod disk;
+mod drawing;
 mod export;
 #[cfg(test)]
 mod faults;
@@ -35,11 +36,13 @@ mod reading;
 mod recordings;
 mod rename;
 mod repair;
+mod report;
 mod salvage;
 mod shelf;
 mod standard;
 mod svg;
 mod table;
+mod verdict;
 mod words;
 
 use arguments::{Arguments, Options};

@@ -5,9 +5,19 @@ pub fn per_sample(distance: u64, n: usize) -> f64 {
     (distance as f64 / n as f64).sqrt()
 }
 
-/// How many times as far the runner-up is, by roots; nothing if the nearest is at distance 0.
+/// How many times as far a second trace is as the nearest, by roots; nothing if the nearest is at distance 0.
 pub fn times_as_far(nearest: u64, second: u64) -> Option<f64> {
     (nearest > 0).then(|| (second as f64 / nearest as f64).sqrt())
+}
+
+/// The same in words. Times that would be shown as 1.0 say nothing, so that there are words for them.
+pub fn how_far(nearest: u64, second: u64) -> String {
+    match times_as_far(nearest, second) {
+        _ if nearest == second => "just as near".to_string(),
+        Some(times) if times < 1.05 => "nearly as near".to_string(),
+        Some(times) => format!("{times:.1} times as far"),
+        None => "farther".to_string(),
+    }
 }
 
 /// One and several.
@@ -48,6 +58,8 @@ mod tests {
         assert_eq!([count(1, "leaf"), count(2, "leaf"), count(0, "trace")], ["1 leaf", "2 leaves", "0 traces"]);
         assert_eq!(per_sample(400, 4), 10.0);
         assert_eq!((times_as_far(0, 5), times_as_far(4, 16)), (None, Some(2.0)));
+        let words = [(4, 16), (100, 100), (1000, 1001), (10_000, 11_100), (0, 5), (0, 0)].map(|(first, second)| how_far(first, second));
+        assert_eq!(words, ["2.0 times as far", "just as near", "nearly as near", "1.1 times as far", "farther", "just as near"]);
         assert_eq!((median(vec![3.0, 1.0, 2.0]), median(vec![])), (2.0, 0.0));
     }
 }

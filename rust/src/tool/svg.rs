@@ -18,6 +18,14 @@ impl Svg {
         svg
     }
 
+    /// An empty drawing to stand in a page, as wide as there is room; the page has the style.
+    pub fn inside(width: f64, height: f64, title: &str) -> Svg {
+        let mut svg = Svg { text: String::new() };
+        svg.text.push_str(&format!("<svg xmlns=\"http://www.w3.org/2000/svg\" role=\"img\" viewBox=\"0 0 {width} {height}\">\n"));
+        svg.text.push_str(&format!("<title>{}</title>\n", escaped(title)));
+        svg
+    }
+
     pub fn element(&mut self, tag: &str, attributes: &[Attribute<'_>]) {
         self.text.push_str(&format!("<{tag}{}/>\n", written(attributes)));
     }
@@ -58,8 +66,8 @@ fn written(attributes: &[Attribute<'_>]) -> String {
     attributes.iter().map(|(name, value)| format!(" {name}=\"{}\"", escaped(value))).collect()
 }
 
-/// Text as XML takes it.
-fn escaped(text: &str) -> String {
+/// Text as XML takes it, and HTML.
+pub fn escaped(text: &str) -> String {
     let mut safe = String::new();
     for c in text.chars() {
         match c {

@@ -163,10 +163,11 @@ impl Json {
                 let end = rest.find([',', ']', '}', '\n']).unwrap();
                 let word = &rest[..end];
                 *rest = &rest[end..];
-                if word == "null" {
-                    Json::Null
-                } else {
-                    Json::Number(word.parse().unwrap())
+                match word {
+                    "null" => Json::Null,
+                    "true" => Json::Number(1.0),
+                    "false" => Json::Number(0.0),
+                    number => Json::Number(number.parse().unwrap()),
                 }
             }
         }

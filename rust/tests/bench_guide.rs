@@ -1,10 +1,9 @@
-//! The commands of `docs/GUIDE.md`, run one after another in a folder with the recordings that the page speaks of. What they print is what
-//! the page says, and the picture that they leave is the one that stands there.
+//! The commands of `docs/GUIDE.md`, run one after another beside `examples/`, as it is in a fresh clone. What they print is what the page says,
+//! and the picture that they leave is the one that stands there.
 
 use std::fs;
 use std::path::{Path, PathBuf};
 use std::process::Command;
-use testing::example;
 
 fn repository() -> PathBuf {
     Path::new(env!("CARGO_MANIFEST_DIR")).join("..")
@@ -35,42 +34,64 @@ fn printed(folder: &Path, line: &str) -> String {
     String::from_utf8([ran.stdout, ran.stderr].concat()).unwrap()
 }
 
-/// A folder `faults` with a recording of each fault, called by its name, and the sweep of today: exported from a library of text.
-fn recordings() -> PathBuf {
-    let folder = Path::new(env!("CARGO_TARGET_TMPDIR")).join("guide");
+/// A folder with the examples, as a fresh clone has them.
+fn fresh(name: &str) -> PathBuf {
+    let folder = Path::new(env!("CARGO_TARGET_TMPDIR")).join(name);
     let _ = fs::remove_dir_all(&folder);
-    fs::create_dir_all(folder.join("faults")).unwrap();
-    let mut all = example::traces();
-    all.last_mut().unwrap().0 = "today".to_string();
-    let lines: Vec<String> = all.iter().map(|(_, trace)| trace.iter().map(i16::to_string).collect::<Vec<_>>().join(" ") + "\n").collect();
-    fs::write(folder.join("all.txt"), lines.concat()).unwrap();
-    printed(&folder, "silkendoz build all.sheet --samples 64 all.txt");
-    for (number, (name, _)) in all.iter().enumerate() {
-        let file = if name == "today" { "today.wav".to_string() } else { format!("faults/{name}.wav") };
-        let told = printed(&folder, &format!("silkendoz export all.sheet {number} -o '{file}'"));
-        assert!(told.starts_with(&format!("{file}: trace {number},")), "{told}");
-    }
-    for name in ["all.txt", "all.sheet", "all.names"] {
-        fs::remove_file(folder.join(name)).unwrap();
-    }
+    fs::create_dir_all(&folder).unwrap();
+    let copied = Command::new("cp").arg("-r").arg(repository().join("examples")).arg(&folder).status().unwrap();
+    assert!(copied.success());
     folder
 }
 
+/// With GUIDE_WRITE set, the page and its picture become what the commands print.
 #[test]
 fn the_commands_print_what_the_page_says() {
-    let page = fs::read_to_string(repository().join("docs/GUIDE.md")).unwrap();
-    let folder = recordings();
+    let path = repository().join("docs/GUIDE.md");
+    let mut page = fs::read_to_string(&path).unwrap();
+    let mut folder = fresh("guide");
     let commands = commands(&page);
-    for command in ["build", "match", "plot", "add", "info", "export", "rename", "list", "check", "repair", "salvage"] {
+    for command in ["build", "match", "plot", "report", "add", "info", "export", "rename", "list", "check", "repair", "salvage"] {
         let shown = commands.iter().any(|(line, _)| line.starts_with(&format!("silkendoz {command} ")));
         assert!(shown, "the page shows {command}");
     }
+    let write = std::env::var_os("GUIDE_WRITE").is_some();
     for (line, below) in commands {
-        assert_eq!(printed(&folder, &line), below, "{line}");
+        if let Some(inside) = line.strip_prefix("cd ") {
+            folder = folder.join(inside);
+            assert!(folder.is_dir(), "{line}");
+        }
+        let told = printed(&folder, if line.starts_with("cd ") { "true" } else { &line });
+        if write {
+            page = page.replacen(&format!("\n$ {line}\n{below}"), &format!("\n$ {line}\n{told}"), 1);
+        } else {
+            assert_eq!(told, below, "{line}");
+        }
     }
     let picture = fs::read_to_string(folder.join("today.svg")).unwrap();
+    if write {
+        fs::write(path, page).unwrap();
+        fs::write(repository().join("docs/match.svg"), &picture).unwrap();
+    }
     let shown = fs::read_to_string(repository().join("docs/match.svg")).unwrap();
     assert!(picture == shown, "docs/match.svg is the picture of the page's commands");
+    assert!(fs::read_to_string(folder.join("today.html")).unwrap().contains("Fits: dry rail, right"));
     // a command whose times differ from run to run
     assert!(printed(&folder, "silkendoz advise faults.sheet").contains("do not look normalised"));
+}
+
+/// The sheet, its recordings and the page have one numbering: `examples/faults.names` names the traces that the page's commands number so.
+#[test]
+fn one_numbering() {
+    let folder = fresh("numbering");
+    printed(&folder, "silkendoz build built.sheet --samples 64 examples/faults/*.wav");
+    let listed = |sheet: &str| printed(&folder, &format!("silkendoz list {sheet}"));
+    let names = |text: String| -> Vec<String> {
+        let words = |line: &str| line.split("  ").map(str::trim).filter(|cell| !cell.is_empty()).take(2).collect::<Vec<_>>().join(" ");
+        text.lines().map(words).filter(|line| line.contains("machine")).collect()
+    };
+    let built = names(listed("built.sheet"));
+    assert_eq!(built.len(), 36);
+    assert_eq!(built, names(listed("examples/faults.sheet")));
+    assert_eq!(built[19], "19 dry rail, right, machine 4119");
 }

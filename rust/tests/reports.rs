@@ -46,7 +46,7 @@ fn a_page() {
     let folder = shelf("report");
     let said = folder.done("report faults.sheet today.csv");
     let verdict = folder.done("match faults.sheet today.csv").lines().find(|line| line.starts_with("Fits: ")).unwrap().to_string();
-    assert_eq!(said, format!("today.html: today. {verdict}\n"));
+    assert_eq!(said, "today.html: today, fits. A browser shows it, and prints it on one page.\n");
     let page = folder.text("today.html");
     stands_for_itself(&page);
     let (first, rest) = verdict.split_at("Fits: dry rail, right".len());
@@ -65,7 +65,7 @@ fn a_page() {
     let ran = folder.line("report faults.sheet today.csv -o -");
     assert_eq!(ran.status, 0);
     stands_for_itself(&ran.out);
-    assert!(ran.err.contains("Fits: dry rail, right"));
+    assert!(ran.err.contains("today, fits."));
 }
 
 /// A day that is given makes the same page again.

@@ -101,7 +101,7 @@ fn matched_with_names() {
             assert!(row.contains(&faults[near.trace].0));
         }
     }
-    assert!(folder.done("match faults.sheet today.csv").contains("The nearest other fault, healthy, is 6.4 times as far (362.6).\n"));
+    assert!(folder.done("match faults.sheet today.csv").contains("Next fault: healthy, 6.4 times as far (362.6).\n"));
     assert_eq!(folder.done("match faults.sheet today.csv").lines().count(), 9);
     // the three nearest are of one fault: so another is looked for among six
     let found = library.k_nearest(&today, 6).unwrap();

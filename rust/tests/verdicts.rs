@@ -34,13 +34,13 @@ fn fits_between_and_like_nothing_stored() {
     let folder = shelf("verdicts");
     let (stored, today) = faults();
     let (least, greatest) = apart(&stored);
-    let measure = format!("stored traces of one fault lie {} to {} from the nearest of their own", a_sample(least), a_sample(greatest));
+    let measure = format!("traces of one fault lie {} to {} apart", a_sample(least), a_sample(greatest));
 
     let out = folder.done("match faults.sheet today.csv");
     let off = a_sample(distance(&today, &stored[19].1));
     let other = stored.iter().filter(|(name, _)| fault(name) != "dry rail, right").map(|(_, trace)| distance(&today, trace)).min().unwrap();
     let times = (other as f64 / distance(&today, &stored[19].1) as f64).sqrt();
-    let line = format!("Fits: dry rail, right, off by {off} a sample; {measure}. The nearest other fault, healthy, is {times:.1} times as far ");
+    let line = format!("Fits: dry rail, right, off by {off} a sample; {measure}. Next fault: healthy, {times:.1} times as far ");
     assert!(out.contains(&format!("{line}({}).\n", a_sample(other))), "{out}");
 
     // half of one fault and half of another
@@ -53,7 +53,7 @@ fn fits_between_and_like_nothing_stored() {
     folder.write("nothing.csv", joined(&saw, " "));
     let out = folder.done("match faults.sheet nothing.csv");
     assert!(out.contains("Like nothing stored: the nearest, ") && out.contains(&measure), "{out}");
-    assert!(out.contains("is nearly as near ("), "{out}");
+    assert!(out.contains(", nearly as near ("), "{out}");
 
     // all three, a line each
     let lines = folder.done("match faults.sheet today.csv between.csv nothing.csv");
@@ -129,11 +129,11 @@ fn not_judged() {
     assert!(out.contains("No other fault is stored. Whether it fits is not judged: no fault is stored twice."), "{out}");
     assert!(out.contains("It is stored already: trace 0 is the same, sample by sample."), "{out}");
     let out = folder.done("match two.sheet one.csv");
-    assert!(out.contains("Nearest: a, off by 0.0 a sample. The nearest other fault, b, is farther (7.5)."), "{out}");
+    assert!(out.contains("Nearest: a, off by 0.0 a sample. Next fault: b, farther (7.5)."), "{out}");
     folder.write("middle.csv", "5 5");
     folder.write("same.csv", "a,0,5\nb,10,5\n");
     folder.done("build same.sheet --samples 2 same.csv");
-    assert!(folder.done("match same.sheet middle.csv").contains("b, is just as near (3.5)."));
+    assert!(folder.done("match same.sheet middle.csv").contains("Next fault: b, just as near (3.5)."));
 }
 
 /// What else is to be known: the converter's limit, another rate, a file of several traces.

@@ -151,7 +151,7 @@ fn in_lines(shelf: &Shelf, found: &[Match<'_>]) -> String {
     let rows: Vec<Vec<String>> = found.iter().map(|one| cells(shelf, one)).collect();
     text.push_str(&table::text(&IN_LINES, &rows));
     if let Some(apart) = found.first().and_then(|one| one.verdict.apart()) {
-        text.push_str(&format!("Verdicts: {apart}, a sample.\n"));
+        text.push_str(&format!("Verdicts are by this: {apart}.\n"));
     }
     for one in found {
         text.extend(one.remarks.iter().map(|remark| format!("{}: {remark}\n", one.sweep.name)));

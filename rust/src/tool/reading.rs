@@ -65,11 +65,6 @@ pub fn is_sheet(bytes: &[u8]) -> bool {
     bytes.get(4..8) == Some(b"TRCL")
 }
 
-/// The traces of a file, each of n samples, at least one.
-pub fn sweeps(path: &Path, n: usize) -> Result<Vec<Sweep>, Failure> {
-    Ok(one(path, &Wanted { n, cut: false, convert: false })?.sweeps)
-}
-
 /// `-` stands for standard input.
 pub fn is_standard(path: &Path) -> bool {
     path == Path::new("-")

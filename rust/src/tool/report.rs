@@ -31,7 +31,8 @@ pub fn run(a: &Arguments) -> Answer {
     let groups = verdict::by_fault(&faults, &found.list);
     let page = Page { shelf: &shelf, found: &found, groups: &groups, drawn: groups.len().min(many), notes: &read.notes, which: &which };
     let done = output.write(page.html().as_bytes())?;
-    let text = format!("{}{}: {}{which}. {}\n", notes(&read), plain::path(&out), sweep.name, found.verdict.text());
+    let said = format!("{}{which}, {}", sweep.name, found.verdict.word.text());
+    let text = format!("{}{}: {said}. A browser shows it, and prints it on one page.\n", notes(&read), plain::path(&out));
     written(text, done)
 }
 

@@ -94,11 +94,6 @@ pub fn by_fault(faults: &Faults, list: &[Neighbour]) -> Vec<ByFault> {
     groups
 }
 
-/// The number of a stored trace that is the same, sample by sample: the lowest of them.
-pub fn stored_already(library: &TraceLibrary, samples: &[i16]) -> Option<usize> {
-    library.nearest(samples).ok().filter(|found| found.distance == 0).map(|found| found.trace)
-}
-
 /// The samples at the limit of 16 bits, counted from 0: there the current may have been larger.
 pub fn clipped(samples: &[i16]) -> Vec<usize> {
     (0..samples.len()).filter(|&at| [i16::MIN, i16::MAX].contains(&samples[at])).collect()
@@ -194,10 +189,10 @@ impl Verdict {
         format!("{:.1}", per_sample(distance, self.n))
     }
 
-    /// How far stored traces of one fault lie from each other.
+    /// How far stored traces lie from the nearest other one of their fault.
     pub fn apart(&self) -> Option<String> {
         let (least, greatest) = self.apart?;
-        Some(format!("stored traces of one fault lie {} to {} from the nearest of their own", self.a_sample(least), self.a_sample(greatest)))
+        Some(format!("traces of one fault lie {} to {} apart", self.a_sample(least), self.a_sample(greatest)))
     }
 
     /// All of it in one line.
@@ -208,10 +203,10 @@ impl Verdict {
             (Word::Between, Other::Found(near, other), Some(apart)) => {
                 let (second, how) = (self.a_sample(near.distance), how_far(self.nearest.distance, near.distance));
                 let mixture = self.mixture().map_or_else(String::new, |mixture| format!("{mixture}; "));
-                format!("Between two faults: {fault}, off by {off} a sample, and {other}, {second}, {how}; {mixture}{apart}.")
+                format!("Between two faults: {fault}, off by {off} a sample, and {other}, {how} ({second}); {mixture}{apart}.")
             }
             (Word::Nothing, _, Some(apart)) => {
-                format!("Like nothing stored: the nearest, {fault}, is off by {off} a sample, and {apart}. {}", self.about_other())
+                format!("Like nothing stored: the nearest, {fault}, is off by {off} a sample; {apart}. {}", self.about_other())
             }
             (_, _, Some(apart)) => format!("Nearest: {fault}, off by {off} a sample; {apart}. {}", self.about_other()),
             (_, _, None) => {
@@ -243,7 +238,7 @@ impl Verdict {
         match &self.other {
             Other::Found(near, other) => {
                 let (off, how) = (self.a_sample(near.distance), how_far(self.nearest.distance, near.distance));
-                format!("The nearest other fault, {other}, is {how} ({off}).")
+                format!("Next fault: {other}, {how} ({off}).")
             }
             Other::NotAmong(many) => format!("All {many} nearest are of this fault."),
             Other::NoneStored => "No other fault is stored.".to_string(),

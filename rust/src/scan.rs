@@ -67,7 +67,7 @@ fn square(x: i16, y: i16) -> u64 {
 }
 
 /// The distance, if it is below the limit; it looks every 16 samples.
-pub fn distance_below(a: &[i16], b: &[i16], limit: u64) -> Option<u64> {
+fn distance_below(a: &[i16], b: &[i16], limit: u64) -> Option<u64> {
     let mut total = 0;
     for (x, y) in a.chunks(16).zip(b.chunks(16)) {
         total += distance(x, y);

@@ -61,6 +61,12 @@ fn a_page() {
     assert!(folder.refused("report faults.sheet today.csv").contains("today.html: is there already"));
     folder.done("report faults.sheet today.csv --force -k 6");
     assert_eq!(folder.text("today.html").matches("<polyline").count(), 1 + 6 + 6);
+    for own in ["faults.sheet", "faults.names", "today.csv"] {
+        let before = folder.read(own);
+        assert!(folder.refused(&format!("report faults.sheet today.csv --force -o {own}")).contains(own));
+        assert!(folder.refused(&format!("plot faults.sheet today.csv --force -o {own}")).contains(own));
+        assert!(folder.read(own) == before);
+    }
     // to standard output, the words aside
     let ran = folder.line("report faults.sheet today.csv -o -");
     assert_eq!(ran.status, 0);

@@ -24,7 +24,7 @@ pub fn run(a: &Arguments) -> Answer {
     }
     let shelf = Shelf::load(library)?;
     let read = reading::all(&files, &Wanted::of(a, shelf.library.n()))?;
-    let faults = Faults::of(&shelf);
+    let faults = Faults::of(&shelf)?;
     let found = read.sweeps.iter().map(|sweep| Match::of(&shelf, &faults, sweep, k)).collect::<Result<Vec<_>, _>>()?;
     done(match found.as_slice() {
         _ if a.has("--json") => in_json(&shelf, &read, &found),

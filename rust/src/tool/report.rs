@@ -22,11 +22,12 @@ pub fn run(a: &Arguments) -> Answer {
     let [library, file] = a.exactly(["LIBRARY", "a FILE with a sweep"])?.map(Path::new);
     let many = faults_asked(a)?;
     let out = a.path("-o").unwrap_or_else(|| beside(file, "html"));
-    let output = Output::of(&out, a.has("--force"), &[library, file])?;
     let shelf = Shelf::load(library)?;
+    let [sheet, names] = shelf.files()?;
+    let output = Output::of(&out, a.has("--force"), &[&sheet, &names, file])?;
     let read = reading::one(file, &Wanted::of(a, shelf.library.n()))?;
     let (sweep, which) = chosen(a, file, &read.sweeps)?;
-    let faults = Faults::of(&shelf);
+    let faults = Faults::of(&shelf)?;
     let found = Match::of(&shelf, &faults, sweep, LOOKED_AT)?;
     let groups = verdict::by_fault(&faults, &found.list);
     let page = Page { shelf: &shelf, found: &found, groups: &groups, drawn: groups.len().min(many), notes: &read.notes, which: &which };

@@ -4,9 +4,12 @@
 use super::numbers::{how_far, per_sample, times_as_far};
 use super::reading::Sweep;
 use super::shelf::Shelf;
-use super::{json, numbers};
-use silkendoz::{scan, Neighbour, TraceLibrary};
+use super::{json, numbers, plain, refused, words, Failure};
+use silkendoz::{Neighbour, Refusal, TraceLibrary};
 use std::collections::BTreeMap;
+
+/// Large leaves, since each trace is looked up once alone.
+const OWN_LEAF_SIZE: usize = 64;
 
 /// The fault that a trace's name says: what stands before its last comma, as in `dry rail, right, machine 4117`.
 pub fn fault_of(name: &str) -> &str {
@@ -35,7 +38,7 @@ pub struct Faults {
 }
 
 impl Faults {
-    pub fn of(shelf: &Shelf) -> Faults {
+    pub fn of(shelf: &Shelf) -> Result<Faults, Failure> {
         // traces without a name are no fault together
         let named = |t: usize| shelf.names.of(t).map_or_else(|| format!("trace {t} (no name)"), |name| fault_of(&name.name).to_string());
         let names: Vec<String> = (0..shelf.library.len()).map(named).collect();
@@ -43,9 +46,13 @@ impl Faults {
         for (t, name) in names.iter().enumerate() {
             groups.entry(name).or_default().push(shelf.trace(t));
         }
-        let nearest: Vec<u64> = groups.values().filter(|group| group.len() > 1).flat_map(|group| to_own(group)).collect();
+        let several = groups.values().filter(|group| group.len() > 1);
+        let nearest: Vec<u64> = match several.map(|group| to_own(group)).collect::<Result<Vec<_>, _>>() {
+            Ok(each) => each.concat(),
+            Err(why) => return refused(format!("{}: {}", plain::path(&shelf.path), words::of_call(why))),
+        };
         let apart = nearest.iter().min().zip(nearest.iter().max()).map(|(least, greatest)| (*least, *greatest));
-        Faults { names, apart }
+        Ok(Faults { names, apart })
     }
 
     /// The fault of a stored trace.
@@ -60,18 +67,14 @@ impl Faults {
     }
 }
 
-/// The distance of each trace to the nearest other one.
-fn to_own(group: &[&[i16]]) -> Vec<u64> {
-    let mut least = vec![u64::MAX; group.len()];
-    for (i, one) in group.iter().enumerate() {
-        for (j, other) in group.iter().enumerate().skip(i + 1) {
-            if let Some(distance) = scan::distance_below(one, other, least[i].max(least[j])) {
-                least[i] = least[i].min(distance);
-                least[j] = least[j].min(distance);
-            }
-        }
+/// The distance of each trace to the nearest other one: in a library of them all, the second of its two nearest.
+fn to_own(group: &[&[i16]]) -> Result<Vec<u64>, Refusal> {
+    let mut library = TraceLibrary::open(group.first().map_or(0, |trace| trace.len()), group.len(), OWN_LEAF_SIZE)?;
+    for trace in group {
+        library.add(trace)?;
     }
-    least
+    let second = |trace: &&[i16]| library.k_nearest(trace, 2).map(|found| found.list.last().map_or(0, |near| near.distance));
+    group.iter().map(second).collect()
 }
 
 /// The traces of a fault, of a list of nearest ones.
@@ -335,8 +338,8 @@ mod tests {
 
     #[test]
     fn nearest_of_their_own() {
-        assert_eq!(to_own(&[&[0, 0], &[3, 4], &[3, 5], &[100, 0]]), [25, 1, 1, 97 * 97 + 16]);
-        assert_eq!(to_own(&[&[7], &[7]]), [0, 0]);
+        assert_eq!(to_own(&[&[0, 0], &[3, 4], &[3, 5], &[100, 0]]), Ok(vec![25, 1, 1, 97 * 97 + 16]));
+        assert_eq!(to_own(&[&[7], &[7], &[9]]), Ok(vec![0, 0, 4]));
     }
 
     #[test]

@@ -1,13 +1,11 @@
--- Tables that refuse nothing of a file's traces: all of them, and the next one, once some are added.
-use Prim.Native.Nat.{ℕ, suc, _<_}
-use mathlib.Core.Path.{_≡_, refl, sym, ap, _∙_, subst}
+-- An import that is not refused: the file's traces, and tables that take all of them.
+use Prim.Native.Nat.{ℕ}
+use mathlib.Core.Path.{_≡_, refl, ap, _∙_, subst}
 use mathlib.Core.Bool.{Bool, true, false}
 use mathlib.Core.Option.{none, some}
-use mathlib.Core.List.{List, [], _∷_, _++_, foldl}
+use mathlib.Core.List.{List, []}
 use native.Mathlib.Omega.{arith}
-use lib.IntN.{ℤ}
-use lib.ListN.{length, getD, take, drop, take-append-drop}
-use lib.Seq.{drop-cons}
+use lib.ListN.{length}
 use lib.Dec.{T}
 use Rattle.integer.specs.Words.{if_then_else_}
 use Rattle.dstree.specs.Measures.{Trace, areSamples}
@@ -18,34 +16,12 @@ use Rattle.dstree.proofs.Conditions.{none-first, none-both}
 use Rattle.tables.specs.Tables.{Tables, tables, measuresOf}
 use Rattle.tables.specs.View.{treeIn, tracesIn, kindsNamed, wellFormed}
 use Rattle.tables.specs.Answers.{madeConditions}
-use Rattle.insertion_memory.specs.Memory.{addedTo}
 use Rattle.insertion_memory.specs.Takes.{TakesAll}
-use Rattle.insertion_memory.proofs.Keeps.{first-size, takes-rest}
-use Rattle.adding.specs.Putting.{Takes}
+use Rattle.tables.proofs.Views.{measures-fit}
 use Rattle.calls.specs.Effects.{imports}
 use Rattle.calls.proofs.OneCall.{import-takes}
-use Rattle.importing.specs.Loads.{LoadsFile}
-
--- ---- the next one
-
-first-taken : (t : Tables) (x : Trace) (more : List Trace) → TakesAll t (x ∷ more)
-    → (control : List ℕ) (samples nodes : List ℤ) (links : List ℕ) → tables control samples nodes links [] ≡ t
-    → Takes control samples nodes links x
-first-taken t x more k control samples nodes links e =
-    let k′ : TakesAll (tables control samples nodes links []) (x ∷ more) = subst (λ (u : Tables). TakesAll u (x ∷ more)) (sym e) k in
-    record { formed = k′ .formed; long = k′ .long; size = first-size k′; less = omega (arith, k′ .room) }
-
-pub takes-next : (t : Tables) (traces : List Trace) → TakesAll t traces → (i : ℕ) → i < length traces
-    → (control : List ℕ) (samples nodes : List ℤ) (links : List ℕ)
-    → tables control samples nodes links [] ≡ foldl addedTo t (take i traces)
-    → Takes control samples nodes links (getD traces i [])
-takes-next t traces k i inside =
-    let parts : take i traces ++ getD traces i [] ∷ drop (suc i) traces ≡ traces =
-    ap (λ (l : List Trace). take i traces ++ l) (sym (drop-cons traces i [] inside)) ∙ take-append-drop i traces in
-    first-taken (foldl addedTo t (take i traces)) (getD traces i []) (drop (suc i) traces)
-    (takes-rest t (take i traces) (getD traces i [] ∷ drop (suc i) traces) (subst (TakesAll t) (sym parts) k))
-
--- ---- all of them
+use Rattle.loading.specs.Loads.{Loads}
+use Rattle.loading.specs.declared.Source.the-variants as s
 
 is-sound : (b : Bool) (r : Recording) → isBadFile (if b then some r else none) ≡ false → T b
 unfolding isBadFile
@@ -84,10 +60,14 @@ module _ (t : Tables) (bytes : List ℕ) (e : firstOf (imports t bytes .conditio
   traces-are = are-traces (isRecording n bytes) _ sound
 
   pub loads : T (areBytes bytes) → T (areSamples (t .samples)) → (count : ℕ) → count ≡ length (fileTraces (judgeRecording n bytes))
-      → LoadsFile (t .control) (t .samples) (t .nodes) (t .links) bytes n count
-  loads are-bytes typed count counted = record {
-    size = refl;
-    sound = sound;
-    counted = counted ∙ ap (λ (l : List Trace). length l) traces-are;
-    takes = without-work t (recordedTraces n bytes) (subst (TakesAll t) traces-are (import-takes t bytes are-bytes typed e));
-  }
+      → Loads s.Recording (t .control) (t .samples) (t .nodes) (t .links) bytes n count
+  loads are-bytes typed count counted =
+      let all : TakesAll t (recordedTraces n bytes) = subst (TakesAll t) traces-are (import-takes t bytes are-bytes typed e) in
+      let range = measures-fit t (all .formed) in
+      let many : count ≡ length (recordedTraces n bytes) = counted ∙ ap (λ (l : List Trace). length l) traces-are in
+      record {
+        few = range .n-high;
+        counted = omega (arith, many);
+        holds = λ number h. record { some-sample = range .n-low; sound = sound; numbered = omega (arith, h, many) };
+        takes = without-work t (recordedTraces n bytes) all;
+      }

@@ -1,3 +1,2 @@
--- What importing answers, and what has to hold so that the traces of a file can be added.
+-- What importing answers.
 pub mod Answered
-pub mod Loads

@@ -1,8 +1,9 @@
 // Importing a recording into lent tables.
 
 pub mod judging; // what importing refuses
-pub mod loading; // the traces of a recording, added in order
 
+use loading::Source;
+use loading::load;
 use segment::Sample;
 use tables::Refusal;
 use tables::control::field;
@@ -49,7 +50,16 @@ pub fn import_recording(
         Imported::Traces(count) => {
             let n = wide(field(control, N));
             look(samples);
-            loading::load(control, samples, nodes, links, bytes, n, count as usize);
+            load(
+                control,
+                samples,
+                nodes,
+                links,
+                Source::Recording,
+                bytes,
+                n,
+                count as usize,
+            );
             Imported::Traces(count)
         }
     }

@@ -1,11 +1,12 @@
 // The match of a sheet's last trace among the earlier ones.
 
+use loading::Source;
+use loading::load;
 use matching::Found;
 use opening::put_empty;
 use segment::Sample;
 use sheet_judging::contents::head_of;
 use sheet_judging::traces::read_trace;
-use sheet_reading::loading::load;
 ghost use mathlib.Core.Path.{_≡_};
 ghost use mathlib.Core.List.{[]};
 ghost use mathlib.Core.Option.{none};
@@ -96,6 +97,7 @@ fn match_in(
     let head = head_of(sheet);
     let n = head.n;
     let last = head.count as usize - 1;
+    let earlier = last; // so many stand before it
     put_empty(
         control,
         samples,
@@ -106,7 +108,16 @@ fn match_in(
         head.capacity,
         head.leaf,
     );
-    load(control, samples, nodes, links, sheet, n as usize, last);
+    load(
+        control,
+        samples,
+        nodes,
+        links,
+        Source::Sheet,
+        sheet,
+        n as usize,
+        earlier,
+    );
     match_last(
         control,
         samples,

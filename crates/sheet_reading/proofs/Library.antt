@@ -1,25 +1,28 @@
 -- What a sheet that is not refused holds is a library, and so are its first traces.
-use mathlib.Core.Path.{_≡_, sym, ap, _∙_, subst}
+use mathlib.Core.Path.{_≡_, sym, ap, subst}
 use mathlib.Core.Option.{none}
 use mathlib.Core.List.{List, [], _++_, foldl}
-use Prim.Native.Nat.{ℕ, _<_}
+use Prim.Native.Nat.{ℕ, _≤_, _<_}
 use native.Mathlib.Omega.{arith}
 use lib.IntN.{ℤ}
 use lib.ListN.{length, getD, take, drop, take-append-drop}
-use lib.Seq.{length-take-le}
 use lib.Dec.{T}
-use Rattle.integer.proofs.Lists.{in-getD}
-use Rattle.dstree.specs.Measures.{Trace, Measures, sampleLimit, isLibrary}
+use Rattle.integer.specs.Words.{every}
+use Rattle.integer.proofs.Lists.{in-getD, every-of}
+use Rattle.dstree.specs.Measures.{Trace, Measures, sampleLimit, isTrace, isLibrary}
 use Rattle.dstree.specs.Refusals.{firstOf}
 use Rattle.dstree.specs.Sheet.{areBytes, tracesInBlocks, sheetConditions}
 use Rattle.dstree.proofs.Laws.{trace-length}
 use Rattle.dstree.proofs.RoundTrips.{is-library}
 use Rattle.dstree.proofs.SheetPieces.{pieces-length}
-use Rattle.tables.specs.Tables.{Tables, tables, traceCount}
+use Rattle.tables.specs.Tables.{Tables, tables, measuresOf}
 use Rattle.insertion_memory.specs.Memory.{addedTo}
 use Rattle.insertion_memory.proofs.Made.{Holds, count-is, room, is-trace, shorter, holds-all}
-use Rattle.adding.specs.Putting.{Takes}
+use Rattle.insertion_memory.specs.Takes.{TakesAll}
 use Rattle.sheet_blocks.specs.Traces.{sizeOf, countOf, sheetTraces}
+use Rattle.sheet_judging.proofs.Samples.{fine, range}
+use Rattle.loading.specs.Loads.{Loads}
+use Rattle.loading.specs.declared.Source.the-variants as s
 use Rattle.sheet_reading.proofs.Ends.{said, judged-holds}
 
 pub traces-count : (bytes : List ℕ) → length (sheetTraces bytes) ≡ countOf bytes
@@ -46,29 +49,36 @@ module _ (bytes : List ℕ) (sound : firstOf (sheetConditions bytes) ≡ none) (
       trace-length sampleLimit (said bytes .n) (getD traces i [])
       (is-trace sampleLimit (said bytes) [] traces whole (in-getD traces i [] inside))
 
-  -- the first traces, added to an empty library
-  module _ (t : Tables) (empty : Holds t (said bytes) []) (i : ℕ) where
-    pub holds-first : Holds (foldl addedTo t (take i traces)) (said bytes) (take i traces)
-    holds-first = holds-all (said bytes) t [] (take i traces) empty (first-library i)
+  module _ (t : Tables) (empty : Holds t (said bytes) []) where
+    -- the first traces, added to an empty library
+    pub holds-first : (i : ℕ) → Holds (foldl addedTo t (take i traces)) (said bytes) (take i traces)
+    holds-first i = holds-all (said bytes) t [] (take i traces) empty (first-library i)
 
-    module _ (inside : i < countOf bytes) where
-      in-traces : i < length traces
-      in-traces = subst (λ (k : ℕ). i < k) (sym (traces-count bytes)) inside
+    -- it takes all of them
+    takes-all : TakesAll t traces
+    unfolding every
+    takes-all =
+        let n : measuresOf t .n ≡ said bytes .n = ap (λ (m : Measures). m .n) (empty .measures-are) in
+        record {
+          formed = empty .formed;
+          long = empty .long;
+          room = omega (
+            arith,
+            count-is t,
+            ap length (empty .traces-are),
+            room sampleLimit (said bytes) [] traces whole,
+            ap (λ (m : Measures). m .capacity) (empty .measures-are),
+          );
+          stored = rw (empty .traces-are) tt;
+          each = rw n (every-of (isTrace sampleLimit (said bytes .n)) traces (λ x i. is-trace sampleLimit (said bytes) [] traces whole i));
+        }
 
-      next-less : length (take i traces) < said bytes .capacity
-      next-less =
-          omega (arith, room sampleLimit (said bytes) [] traces whole, in-traces, length-take-le i traces (omega (arith, in-traces)))
-
-      -- tables that hold the first traces take the next one
-      pub takes-next : (control : List ℕ) (samples nodes : List ℤ) (links : List ℕ)
-          → tables control samples nodes links [] ≡ foldl addedTo t (take i traces) → Takes control samples nodes links (getD traces i [])
-      takes-next control samples nodes links e =
-          let u = tables control samples nodes links [] in
-          let h : Holds u (said bytes) (take i traces) = subst (λ (x : Tables). Holds x (said bytes) (take i traces)) (sym e) holds-first in
-          let counted : traceCount u ≡ length (take i traces) = count-is u ∙ ap length (h .traces-are) in
-          record {
-            formed = h .formed;
-            long = h .long;
-            size = trace-size i inside ∙ ap (λ (k : Measures). k .n) (sym (h .measures-are));
-            less = omega (arith, counted, next-less, ap (λ (k : Measures). k .capacity) (h .measures-are));
-          }
+  -- so many of the sheet's traces can be added to tables that hold an empty library with its measures
+  pub loads : (control : List ℕ) (samples nodes : List ℤ) (links : List ℕ) → Holds (tables control samples nodes links []) (said bytes) []
+      → (n count : ℕ) → n ≡ sizeOf bytes → count ≤ countOf bytes → Loads s.Sheet control samples nodes links bytes n count
+  loads control samples nodes links empty n count size few = record {
+    few = omega (arith, size, range bytes (fine bytes sound) .n-high);
+    counted = omega (arith, few, traces-count bytes);
+    holds = λ number h. (sound, omega (arith, h, few), size);
+    takes = takes-all (tables control samples nodes links []) empty;
+  }

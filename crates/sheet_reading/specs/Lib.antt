@@ -1,3 +1,2 @@
--- What reading a sheet answers, and what has to hold so that its traces can be added.
+-- What reading a sheet answers.
 pub mod Answered
-pub mod Loads

@@ -1,8 +1,9 @@
 // Reading a sheet into lent tables.
 
 pub mod judging; // what reading refuses
-pub mod loading; // the traces of a sheet, added in order
 
+use loading::Source;
+use loading::load;
 use opening::put_empty;
 use segment::Sample;
 use sheet_judging::contents::head_of;
@@ -65,11 +66,12 @@ pub fn read_sheet(
                 head.capacity,
                 head.leaf,
             );
-            loading::load(
+            load(
                 control,
                 samples,
                 nodes,
                 links,
+                Source::Sheet,
                 sheet,
                 n as usize,
                 count as usize,

@@ -3,11 +3,14 @@
 use mathlib.Core.Path.{_≡_, refl, sym, ap, _∙_, subst}
 use mathlib.Core.Option.{none}
 use mathlib.Core.List.{List, [], foldl}
-use Prim.Native.Nat.{ℕ}
-use lib.ListN.{length}
+use Prim.Native.Nat.{ℕ, _≤_}
+use native.Mathlib.Omega.{arith}
+use lib.ListN.{length, take}
+use lib.Seq.{take-all}
 use lib.Dec.{T}
 use denote.Ref.{now}
 use borrow.Author.Needs.{needs}
+use Rattle.dstree.specs.Measures.{Trace}
 use Rattle.dstree.specs.Refusals.{firstOf}
 use Rattle.dstree.specs.Sheet.{areBytes}
 use Rattle.dstree.specs.Recording.{recordedTraces, judgeRecording, fileTraces}
@@ -19,7 +22,8 @@ use Rattle.insertion_memory.specs.Memory.{addedTo}
 use Rattle.calls.specs.Effects.{imports, effectOf, outcomeOn}
 use Rattle.calls.proofs.Ends.{ends-refused, ends-done}
 use Rattle.importing.specs.Answered.{answerBy}
-use Rattle.importing.specs.Loads.{LoadsFile}
+use Rattle.loading.specs.Loads.{Loads}
+use Rattle.loading.specs.declared.Source.the-variants as s
 use Rattle.importing.proofs.Answers.{refused-first, counted}
 use Rattle.importing.proofs.Takes.{traces-are, loads}
 use Rattle.importing.proofs.import_recording.Statement.{statement}
@@ -69,12 +73,15 @@ module _ (l : tie.After-look) where
   unfolding answerBy
   taken = counted t (bytes judged) count (sym (ap answerBy (fine .judged2 .given .1)) ∙ judged .judge .ensures)
 
+  all-taken : length (recordedTraces (measuresOf t .n) (bytes judged)) ≤ count
+  all-taken = omega (arith, taken .1, ap (λ (l : List Trace). length l) (traces-are t (bytes judged) (taken .0)))
+
 load-requires : tie.Need-load-requires
 load-requires c κs =
     let l = c .before .before .before .before in
     let j = judged l in
     let g = start j .args in
-    subst (λ (k : ℕ). LoadsFile (now (g .control)) (now (g .samples)) (now (g .nodes)) (now (g .links)) (bytes j) k (count l))
+    subst (λ (k : ℕ). Loads s.Recording (now (g .control)) (now (g .samples)) (now (g .nodes)) (now (g .links)) (bytes j) k (count l))
     (sym (n-is l))
     (loads (t l) (bytes j) (taken l .0) (are-bytes j) (l .look .ensures) (count l) (taken l .1))
 
@@ -93,8 +100,9 @@ returns-2 c =
     let j = judged l in
     ends-done (t l) [] (imports (t l) (bytes j)) (imported (count l)) _ [] (taken l .0) (ap imported (taken l .1))
     (d .load .ensures (now (start j .args .work))
-    ∙ (ap (λ (k : ℕ). foldl addedTo (t l) (recordedTraces k (bytes j))) (n-is l)
-    ∙ sym (ap (foldl addedTo (t l)) (traces-are (t l) (bytes j) (taken l .0))))) refl
+    ∙ (ap (λ (k : ℕ). foldl addedTo (t l) (take (count l) (recordedTraces k (bytes j)))) (n-is l)
+    ∙ (ap (foldl addedTo (t l)) (take-all (count l) (recordedTraces (measuresOf (t l) .n) (bytes j)) (all-taken l))
+    ∙ sym (ap (foldl addedTo (t l)) (traces-are (t l) (bytes j) (taken l .0)))))) refl
 
 pub import-recording-spec : {M : Type 1} → statement M
 import-recording-spec =

@@ -6,12 +6,14 @@ use mathlib.Core.List.{List, foldl}
 use Prim.Native.Nat.{ℕ}
 use native.Mathlib.Omega.{arith}
 use lib.Seq.{take-all}
+use lib.Dec.{T}
 use denote.Ref.{now}
 use borrow.Author.Needs.{needs}
 use Rattle.dstree.specs.Measures.{Measures, measures}
 use Rattle.dstree.specs.Refusals.{firstOf}
-use Rattle.dstree.specs.Sheet.{sheetConditions, judgeSheet}
+use Rattle.dstree.specs.Sheet.{areBytes, sheetConditions, judgeSheet}
 use Rattle.dstree.specs.Book.{readingConditions}
+use Rattle.dstree.proofs.SheetFields.{known-bytes}
 use Rattle.tables.specs.Layout.{layout}
 use Rattle.tables.specs.Tables.{Tables, tables, lentOf}
 use Rattle.tables.specs.Answers.{foundBy, opened}
@@ -22,7 +24,7 @@ use Rattle.sheet_blocks.specs.Traces.{sheetTraces}
 use Rattle.sheet_blocks.proofs.Places.{first-inside}
 use Rattle.sheet_judging.proofs.Samples.{fine}
 use Rattle.sheet_reading.proofs.Ends.{said, sheet-fine, accepted, refused-answer, done-answer}
-use Rattle.sheet_reading.proofs.Library.{traces-count}
+use Rattle.sheet_reading.proofs.Library.{traces-count, loads}
 use Rattle.sheet_reading.proofs.Steps.{opened-empty}
 use Rattle.sheet_reading.proofs.read_sheet.Statement.{statement}
 use Rattle.sheet_reading.proofs.read_sheet.Tie as tie
@@ -39,6 +41,9 @@ module _ (j : tie.After-judge-reading) where
   lent =
       tables (now (start .args .control)) (now (start .args .samples)) (now (start .args .nodes)) (now (start .args .links))
       (now (start .args .work))
+
+  known : T (areBytes bytes)
+  known = known-bytes bytes (λ i. j .before .shared-slice-known .given i .fits)
 
   found : firstOf (readingConditions layout (lentOf lent) (judgeSheet bytes)) ≡ foundBy (j .judge-reading .result)
   found = sym (j .judge-reading .ensures)
@@ -93,12 +98,9 @@ load-requires c κs =
     let h = head p in
     let ok = room (passed h) in
     let b = bytes (origin p) in
-    record {
-      sound = sound (passed h);
-      size = ap (λ (m : Measures). m .n) (sym (said-is h));
-      counted = omega (arith, h .head-of .ensures .count-is);
-      empty = opened-empty (lent (origin p)) (said b) (fine b (sound (passed h)) .good .measured) (ok .room) _ _ _ _ _ (opened-is p);
-    }
+    loads b (sound (passed h)) (known (origin p)) _ _ _ _
+    (opened-empty (lent (origin p)) (said b) (fine b (sound (passed h)) .good .measured) (ok .room) _ _ _ _ _ (opened-is p))
+    _ _ (ap (λ (m : Measures). m .n) (sym (said-is h))) (omega (arith, h .head-of .ensures .count-is))
 
 returns : tie.Need-returns
 unfolding foundBy

@@ -20,7 +20,7 @@ use Rattle.sheet_blocks.proofs.Places.{first-inside}
 use Rattle.sheet_judging.proofs.Samples.{fine}
 use Rattle.sheet_reading.proofs.Ends.{said}
 use Rattle.dstree.proofs.SheetFields.{known-bytes}
-use Rattle.sheet_reading.proofs.Library.{holds-first}
+use Rattle.sheet_reading.proofs.Library.{holds-first, loads}
 use Rattle.sheet_reading.proofs.Steps.{opened-empty}
 use Rattle.sheet_line.proofs.Judged.{sound, two-traces, last-line, roomy}
 use Rattle.sheet_line.proofs.answering.match_in.Statement.{statement}
@@ -91,7 +91,8 @@ load-requires : tie.Need-load-requires
 load-requires c κs =
     let p = c .before .before .before .before .before .before .before .before .before .before .before .before in
     let h = head p in
-    record { sound = sheet-fine (origin p); size = ap (λ (m : Measures). m .n) (sym (said-is h)); counted = omega (arith, before-last h); empty = empty p }
+    loads (bytes (origin p)) (sheet-fine (origin p)) (known (origin p)) _ _ _ _ (empty p) _ _ (ap (λ (m : Measures). m .n) (sym (said-is h)))
+    (omega (arith, before-last h))
 
 -- once the earlier traces are added
 module _ (l : tie.After-load) where

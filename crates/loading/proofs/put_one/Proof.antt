@@ -1,4 +1,4 @@
--- `importing::loading::put_one` meets its contract: a trace's samples have room in 256 places.
+-- `loading::put_one` meets its contract: a trace's samples have room in 256 places.
 use mathlib.Core.Path.{_≡_, sym, ap, _∙_, subst}
 use mathlib.Core.List.{[]}
 use Prim.Native.Nat.{ℕ}
@@ -7,12 +7,11 @@ use lib.ListN.{length, getD, take, replicate}
 use lib.Seq.{length-take-le}
 use denote.Ref.{now}
 use borrow.Author.Needs.{needs}
-use Rattle.dstree.specs.Recording.{recordedTraces}
 use Rattle.tables.specs.Tables.{tables}
 use Rattle.insertion_memory.specs.Memory.{addedTo}
-use Rattle.importing.specs.Loads.{NextInFile}
-use Rattle.importing.proofs.loading.put_one.Statement.{statement}
-use Rattle.importing.proofs.loading.put_one.Tie as tie
+use Rattle.loading.specs.Loads.{tracesBy, Next}
+use Rattle.loading.proofs.put_one.Statement.{statement}
+use Rattle.loading.proofs.put_one.Tie as tie
 
 module _ (a : tie.After-put-next-arg4) where
   abbrev start : tie.Start
@@ -25,7 +24,7 @@ put-next-requires : tie.Need-put-next-requires
 put-next-requires c κs =
     let a = c .before in
     let g = start a .args in
-    let ready = NextInFile (now (g .control)) (now (g .samples)) (now (g .nodes)) (now (g .links)) (now (g .bytes)) in
+    let ready = Next (g .source) (now (g .control)) (now (g .samples)) (now (g .nodes)) (now (g .links)) (now (g .bytes)) in
     subst (λ (k : ℕ). ready k (g .number)) (length-is a) (start a .pre)
 
 returns : tie.Need-returns
@@ -35,7 +34,7 @@ returns c = λ work.
     let g = start a .args in
     let before = tables (now (g .control)) (now (g .samples)) (now (g .nodes)) (now (g .links)) work in
     p .put-next .ensures work
-    ∙ ap (λ (k : ℕ). addedTo before (getD (recordedTraces k (now (g .bytes))) (g .number) [])) (sym (length-is a))
+    ∙ ap (λ (k : ℕ). addedTo before (getD (tracesBy (g .source) k (now (g .bytes))) (g .number) [])) (sym (length-is a))
 
 pub put-one-spec : {M : Type 1} → statement M
 put-one-spec =

@@ -1,34 +1,32 @@
--- `importing::loading::load` meets its contract. The loop's invariant: the tables are those that the first traces, added in order, leave.
+-- `loading::load` meets its contract. The loop's invariant: the tables are those that the first traces, added in order, leave.
 use mathlib.Core.Path.{_≡_, refl, sym, ap, _∙_}
 use mathlib.Core.List.{List, [], foldl}
 use Prim.Native.Nat.{ℕ, _-_, _≤_, _<_}
 use native.Mathlib.Numerals.{add-one}
 use native.Mathlib.Omega.{arith}
 use lib.ListN.{length, getD, take}
-use lib.Seq.{take-all}
 use denote.Ref.{now}
 use Rattle.dstree.specs.Measures.{Trace}
-use Rattle.dstree.specs.Recording.{recordedTraces}
 use Rattle.tables.specs.Tables.{Tables, tables}
-use Rattle.tables.proofs.Views.{measures-fit}
 use Rattle.insertion_memory.specs.Memory.{addedTo}
 use Rattle.insertion_memory.proofs.Keeps.{one-more}
-use Rattle.importing.proofs.Takes.{takes-next}
-use Rattle.importing.proofs.loading.load.Statement.{statement}
-use Rattle.importing.proofs.loading.load.Tie as tie
+use Rattle.loading.specs.Loads.{tracesBy}
+use Rattle.loading.proofs.Takes.{takes-next}
+use Rattle.loading.proofs.load.Statement.{statement}
+use Rattle.loading.proofs.load.Tie as tie
 
 abbrev Inv-loop : tie.InvT-loop
-Inv-loop control₀ samples₀ nodes₀ links₀ bytes n count number₀ control samples nodes links number =
+Inv-loop control₀ samples₀ nodes₀ links₀ source bytes n count number₀ control samples nodes links number =
     (number ≤ count)
     × ((work : List ℕ) → tables control samples nodes links work
-    ≡ foldl addedTo (tables control₀ samples₀ nodes₀ links₀ work) (take number (recordedTraces n bytes)))
+    ≡ foldl addedTo (tables control₀ samples₀ nodes₀ links₀ work) (take number (tracesBy source n bytes)))
     × (length control ≡ length control₀)
     × (length samples ≡ length samples₀)
     × (length nodes ≡ length nodes₀)
     × (length links ≡ length links₀)
 
 abbrev μ-loop : tie.MeasureT-loop
-μ-loop control₀ samples₀ nodes₀ links₀ bytes n count number₀ control samples nodes links number = count - number
+μ-loop control₀ samples₀ nodes₀ links₀ source bytes n count number₀ control samples nodes links number = count - number
 
 loop-holds : tie.Need-loop-holds Inv-loop μ-loop
 loop-holds c = (omega arith, (λ work. refl), refl, refl, refl, refl)
@@ -39,7 +37,7 @@ module _ (k : tie.After-shared-slice-known Inv-loop μ-loop) where
   start = k .before .before .before
 
   abbrev traces : List Trace
-  traces = recordedTraces (start .args .n) (now (start .args .bytes))
+  traces = tracesBy (start .args .source) (start .args .n) (now (start .args .bytes))
 
   abbrev lent : List ℕ → Tables
   lent work = tables (now (start .args .control)) (now (start .args .samples)) (now (start .args .nodes)) (now (start .args .links)) work
@@ -60,10 +58,9 @@ put-one-requires c κs =
     let i = c .before .before .before .before in
     let l = i .before .loop in
     let p = start (at i) .pre in
-    let range = measures-fit (lent (at i) []) (p .takes .formed) in
     record {
-      few = omega (arith, range .n-high, p .size);
-      holds = record { some-sample = omega (arith, range .n-low, p .size); sound = p .sound; numbered = inside i };
+      few = p .few;
+      holds = p .holds (number i) (i .loop-test .taken);
       takes = takes-next (lent (at i) []) (traces (at i)) (p .takes) (number i) (inside i) (l .control) (l .samples) (l .nodes) (l .links)
           (l .inv .1 []);
     }
@@ -109,8 +106,8 @@ returns : tie.Need-returns Inv-loop μ-loop
 returns c = λ work.
     let l = c .before in
     let k = l .before in
-    let all = take-all (l .loop .number) (traces k) (omega (arith, c .loop-test .left, l .loop .inv .0, start k .pre .counted)) in
-    l .loop .inv .1 work ∙ ap (foldl addedTo (lent k work)) all
+    let all : l .loop .number ≡ start k .args .count = omega (arith, c .loop-test .left, l .loop .inv .0) in
+    l .loop .inv .1 work ∙ ap (λ (i : ℕ). foldl addedTo (lent k work) (take i (traces k))) all
 
 pub load-spec : {M : Type 1} → statement M
 load-spec =

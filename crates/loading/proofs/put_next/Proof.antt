@@ -1,16 +1,16 @@
--- `importing::loading::put_next` meets its contract: what is put are the samples of the file's trace.
+-- `loading::put_next` meets its contract: what is put are the samples of the trace with this number.
 use mathlib.Core.Path.{_≡_, sym, ap, _∙_, subst}
 use mathlib.Core.List.{[]}
 use lib.ListN.{length, getD}
 use denote.Ref.{now}
 use borrow.Author.Needs.{needs}
 use Rattle.dstree.specs.Measures.{Trace}
-use Rattle.dstree.specs.Recording.{recordedTraces}
 use Rattle.tables.specs.Tables.{tables}
 use Rattle.insertion_memory.specs.Memory.{addedTo}
 use Rattle.adding.specs.Putting.{Takes}
-use Rattle.importing.proofs.loading.put_next.Statement.{statement}
-use Rattle.importing.proofs.loading.put_next.Tie as tie
+use Rattle.loading.specs.Loads.{tracesBy}
+use Rattle.loading.proofs.put_next.Statement.{statement}
+use Rattle.loading.proofs.put_next.Tie as tie
 
 read-trace-requires : tie.Need-read-trace-requires
 read-trace-requires c κs = let s = c .before .before .before .before in s .pre .holds
@@ -21,9 +21,9 @@ module _ (r : tie.After-read-trace) where
   start = r .before .before .before .before .before
 
   abbrev next : Trace
-  next = getD (recordedTraces (length (now (start .args .trace))) (now (start .args .bytes))) (start .args .number) []
+  next = getD (tracesBy (start .args .source) (length (now (start .args .trace))) (now (start .args .bytes))) (start .args .number) []
 
-  trace-is : r .read-trace .last .1 .1 .0 ≡ next
+  trace-is : r .read-trace .last .1 .1 .1 .0 ≡ next
   trace-is = r .read-trace .ensures
 
 put-requires : tie.Need-put-requires

@@ -1,33 +1,49 @@
-// The traces of a sound file, added in order to tables that have room for all of them.
+// The traces that bytes hold, a sheet's or a recording's, added in order to tables that refuse nothing of them.
 
 use adding::putting::put;
-use recording::samples::read_trace;
 use segment::Sample;
 ghost use mathlib.Core.Path.{_≡_};
 ghost use mathlib.Core.List.{List, [], foldl};
 ghost use Prim.Native.Nat.{ℕ};
-ghost use lib.ListN.{length, getD};
-ghost use Rattle.dstree.specs.Recording.{recordedTraces};
+ghost use lib.ListN.{length, getD, take};
 ghost use Rattle.tables.specs.Tables.{tables};
 ghost use Rattle.insertion_memory.specs.Memory.{addedTo};
-ghost use Rattle.importing.specs.Loads.{NextInFile, LoadsFile};
+ghost use Rattle.loading.specs.Loads.{tracesBy, HoldsTrace, Next, Loads};
 
-// The trace with this number, into tables that refuse nothing of it. `trace` is a place for its samples.
+// What the bytes are.
+pub enum Source {
+    Sheet,
+    Recording,
+}
+
+// The trace with this number.
+fn read_trace(source: Source, bytes: &[u8], number: usize, trace: &mut [Sample])
+    requires { ⌜ HoldsTrace source (length (now trace)) (now bytes) number ⌝ }
+    ensures { λ _. ⌜ now (trace .exit) ≡ getD (tracesBy source (length (now (trace .entry))) (now (bytes .entry))) number [] ⌝ }
+{
+    match source {
+        Source::Sheet => sheet_judging::traces::read_trace(bytes, number, trace),
+        Source::Recording => recording::samples::read_trace(bytes, number, trace),
+    }
+}
+
+// It, into tables that refuse nothing of it. `trace` is a place for its samples.
 fn put_next(
     control: &mut [u16],
     samples: &mut [Sample],
     nodes: &mut [i64],
     links: &mut [u16],
+    source: Source,
     bytes: &[u8],
     number: usize,
     trace: &mut [Sample],
 )
-    requires { ⌜ NextInFile (now control) (now samples) (now nodes) (now links) (now bytes) (length (now trace)) number ⌝ }
+    requires { ⌜ Next source (now control) (now samples) (now nodes) (now links) (now bytes) (length (now trace)) number ⌝ }
     ensures { λ _. ⌜ ((work : List ℕ) → tables (now (control .exit)) (now (samples .exit)) (now (nodes .exit)) (now (links .exit)) work
         ≡ addedTo (tables (now (control .entry)) (now (samples .entry)) (now (nodes .entry)) (now (links .entry)) work)
-        (getD (recordedTraces (length (now (trace .entry))) (now (bytes .entry))) number [])) ⌝ }
+        (getD (tracesBy source (length (now (trace .entry))) (now (bytes .entry))) number [])) ⌝ }
 {
-    read_trace(bytes, number, trace);
+    read_trace(source, bytes, number, trace);
     put(control, samples, nodes, links, trace);
 }
 
@@ -37,14 +53,15 @@ fn put_one(
     samples: &mut [Sample],
     nodes: &mut [i64],
     links: &mut [u16],
+    source: Source,
     bytes: &[u8],
     n: usize,
     number: usize,
 )
-    requires { ⌜ NextInFile (now control) (now samples) (now nodes) (now links) (now bytes) n number ⌝ }
+    requires { ⌜ Next source (now control) (now samples) (now nodes) (now links) (now bytes) n number ⌝ }
     ensures { λ _. ⌜ ((work : List ℕ) → tables (now (control .exit)) (now (samples .exit)) (now (nodes .exit)) (now (links .exit)) work
         ≡ addedTo (tables (now (control .entry)) (now (samples .entry)) (now (nodes .entry)) (now (links .entry)) work)
-        (getD (recordedTraces n (now (bytes .entry))) number [])) ⌝ }
+        (getD (tracesBy source n (now (bytes .entry))) number [])) ⌝ }
 {
     let mut trace: [Sample; 256] = [0; 256];
     put_next(
@@ -52,30 +69,32 @@ fn put_one(
         samples,
         nodes,
         links,
+        source,
         bytes,
         number,
         &mut trace[..n],
     );
 }
 
-// All of them. Search work is not lent: adding leaves it as it was.
+// The first `count` of them. Search work is not lent: adding leaves it as it was.
 pub fn load(
     control: &mut [u16],
     samples: &mut [Sample],
     nodes: &mut [i64],
     links: &mut [u16],
+    source: Source,
     bytes: &[u8],
     n: usize,
     count: usize,
 )
-    requires { ⌜ LoadsFile (now control) (now samples) (now nodes) (now links) (now bytes) n count ⌝ }
+    requires { ⌜ Loads source (now control) (now samples) (now nodes) (now links) (now bytes) n count ⌝ }
     ensures { λ _. ⌜ ((work : List ℕ) → tables (now (control .exit)) (now (samples .exit)) (now (nodes .exit)) (now (links .exit)) work
         ≡ foldl addedTo (tables (now (control .entry)) (now (samples .entry)) (now (nodes .entry)) (now (links .entry)) work)
-        (recordedTraces n (now (bytes .entry)))) ⌝ }
+        (take count (tracesBy source n (now (bytes .entry))))) ⌝ }
 {
     let mut number = 0;
     while number < count {
-        put_one(control, samples, nodes, links, bytes, n, number);
+        put_one(control, samples, nodes, links, source, bytes, n, number);
         number += 1;
     }
 }

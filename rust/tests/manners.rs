@@ -217,7 +217,7 @@ fn listed_and_renamed() {
 
     let sheet = folder.read("faults.sheet");
     let ran = folder.run(&["rename", "faults.sheet", "3", "belt too loose"]);
-    assert_eq!(ran.out, "faults.sheet: trace 3, belt tensioner loose, slow sweep, is called belt too loose now.\n");
+    assert_eq!(ran.out, format!("faults.sheet: trace 3, {}, is called belt too loose now.\n", faults[3].0));
     assert!(folder.read("faults.sheet") == sheet);
     assert_eq!(named(&folder.text("faults.names"))[3], "3\tbelt too loose\tfaults.csv\t-");
     assert!(folder.refused("rename faults.sheet 36 x").contains("there is no trace 36; it holds 36, counted from 0"));

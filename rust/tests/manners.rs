@@ -110,6 +110,7 @@ fn wav(format: u16, channels: u16, bits: u16, data: &[u8], before: &[u8]) -> Vec
 
 #[test]
 fn converted_if_that_is_wanted() {
+    const EIGHT: &str = "converted: 8 bits times 256; 2 samples at the converter's limit of 8 bits.";
     let folder = Folder::new("converted");
     let floats = |list: [f32; 4]| list.iter().flat_map(|x| x.to_le_bytes()).collect::<Vec<u8>>();
     let doubles = |list: [f64; 4]| list.iter().flat_map(|x| x.to_le_bytes()).collect::<Vec<u8>>();
@@ -125,7 +126,7 @@ fn converted_if_that_is_wanted() {
         ("32", wav(1, 1, 32, &wide(2), b""), same, "converted: the upper 16 of 32 bits."),
         ("extensible", wav(0xfffe, 1, 16, &plain, b""), same, "converted: under the usual header."),
         ("extensible24", wav(0xfffe, 1, 24, &wide(1), b""), same, "converted: the upper 16 of 24 bits."),
-        ("8", wav(1, 1, 8, &[128, 129, 255, 0], b""), [0, 256, 32512, -32768], "converted: 8 bits times 256."),
+        ("8", wav(1, 1, 8, &[128, 129, 255, 0], b""), [0, 256, 32512, -32768], EIGHT),
         (
             "float",
             wav(3, 1, 32, &floats([0.5, -0.25, 2.0, -1.0]), b"fact\x04\0\0\0\x04\0\0\0"),
@@ -148,10 +149,13 @@ fn converted_if_that_is_wanted() {
     assert!(!folder.done("build plain.sheet --samples 4 --convert plain.wav").contains("converted"));
     // what cannot be converted
     let whole = wav(1, 1, 24, &wide(1), b"");
+    let mut piped = whole.clone();
+    piped[40..44].fill(255);
     for (bytes, why) in [
         (wav(6, 1, 8, &[1, 2, 3, 4], b""), "its format is 6, which is not converted here"),
         (wav(1, 1, 12, &plain, b""), "12 bits, 1 channels and rate 11025 are not converted here"),
         (whole[..whole.len() - 1].to_vec(), "its part `data` says 12 bytes, and 11 are there. It was cut off"),
+        (piped, "its part `data` says 4294967295 bytes, and 12 are there. It was written into a pipe"),
         (whole[..36].to_vec(), "it has no header or no samples"),
         (whole[..20].to_vec(), "was cut off"),
     ] {
@@ -241,8 +245,13 @@ fn a_trace_that_is_stored_already() {
     let err = folder.refused("add faults.sheet today.csv known.csv");
     let stored = format!("known.csv: is stored already, as trace 7, {}.\nNothing was added. Say `--again`", faults[7].0);
     assert!(err.contains(&stored), "{err}");
-    assert!(folder.refused("add faults.sheet faults.csv").contains("26 more are stored already"));
+    assert!(folder.refused("add faults.sheet faults.csv").contains("26 more are there already"));
+    // twice in one command is twice too
+    let err = folder.refused("add faults.sheet today.csv today.csv");
+    assert!(err.contains("today.csv: is the same, sample by sample, as today.csv.\nNothing was added. Say `--again`"), "{err}");
     assert!(before == (folder.read("faults.sheet"), folder.read("faults.names")));
+    let out = folder.done("build twice.sheet --samples 64 known.csv today.csv faults.csv");
+    assert!(out.starts_with(&format!("faults.csv: {}: is the same, sample by sample, as known.csv.\ntwice.sheet: 38 traces", faults[7].0)), "{out}");
     folder.done("add faults.sheet --again known.csv");
     assert_eq!(folder.library("faults.sheet").trace(36), Some(&faults[7].1[..]));
 }
@@ -296,6 +305,8 @@ fn salvaged() {
     assert!(folder.refused("salvage torn.sheet -o torn.sheet --force").contains("is read here too"));
     folder.write("lost.sheet", damage(&sheet, &[1, 2, 3, 4, 5, 6, 7, 8, 9, 10]));
     assert!(folder.refused("salvage lost.sheet -o x.sheet").contains("no trace stands in sound blocks alone"));
+    let err = folder.refused("salvage torn.sheet -o x.sheet --samples 32");
+    assert!(err.contains("torn.sheet: block 0 is sound, and says 64 samples a trace. Leave out `--samples`."), "{err}");
     folder.write("little.sheet", "TRCL");
     assert!(folder.refused("salvage little.sheet -o x.sheet").contains("no whole block"));
 }

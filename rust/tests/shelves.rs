@@ -7,6 +7,7 @@ use std::collections::HashMap;
 use std::fs::{self, File};
 use std::io::{Read, Write};
 use std::os::unix::fs::{symlink, FileTypeExt, MetadataExt, PermissionsExt};
+use std::os::unix::net::UnixListener;
 use std::process::{Child, Command, Stdio};
 use std::time::{Duration, Instant};
 
@@ -100,6 +101,23 @@ fn a_held_lock() {
     assert!(waiting.wait().unwrap().success());
     assert_eq!(every_name_its_own(&folder), 2);
     assert!(strays(&folder).is_empty());
+}
+
+/// What stands at the lock's place and is no file is not waited for, nor followed.
+#[test]
+fn a_lock_that_is_none() {
+    let folder = numbered("no-lock", 1);
+    let lock = folder.0.join(".l.sheet.lock");
+    assert!(Command::new("mkfifo").arg(&lock).status().unwrap().success());
+    for line in ["add l.sheet 1.csv", "rename l.sheet 0 x --no-wait"] {
+        assert!(folder.refused(line).contains("l.sheet: cannot be written: its lock .l.sheet.lock is no plain file; remove it."), "{line}");
+    }
+    fs::remove_file(&lock).unwrap();
+    symlink("elsewhere", &lock).unwrap();
+    assert!(folder.refused("add l.sheet 1.csv").contains("is no plain file"));
+    fs::remove_file(&lock).unwrap();
+    folder.done("add l.sheet 1.csv");
+    assert_eq!(folder.files(), ["0.csv", "1.csv", "l.names", "l.sheet"]);
 }
 
 /// Who reads while a library is replaced sees the one or the other, with all its names.
@@ -306,6 +324,31 @@ fn only_plain_files_are_replaced() {
     assert_eq!((ran.status, ran.err.as_str()), (0, ""));
     let ran = shell(&folder, "bash -c '\"$S\" match l.sheet <(cat 1.csv) -k 1'");
     assert!(ran.out.contains("fault 1"), "{}{}", ran.out, ran.err);
+    // a library too, without the names that stand beside its file
+    for line in ["cat l.sheet | \"$S\" build piped.sheet --samples 8 -", "bash -c '\"$S\" build piped.sheet --force --samples 8 <(cat l.sheet)'"] {
+        let ran = shell(&folder, line);
+        assert_eq!((ran.status, ran.err.as_str()), (0, ""), "{line}");
+        assert!(folder.library("piped.sheet").traces().eq(folder.library("l.sheet").traces()), "{line}");
+    }
+}
+
+#[test]
+fn a_socket_is_written_to() {
+    let folder = numbered("socket", 1);
+    // a socket's path has to be short
+    let path = std::env::temp_dir().join(format!("silkendoz-{}.socket", std::process::id()));
+    let listener = UnixListener::bind(&path).unwrap();
+    let reader = std::thread::spawn(move || {
+        let mut bytes = Vec::new();
+        listener.accept().unwrap().0.read_to_end(&mut bytes).unwrap();
+        bytes
+    });
+    folder.done(&format!("export l.sheet 0 --force -o {}", path.display()));
+    assert_eq!(reader.join().unwrap().len(), 44 + 16);
+    assert!(fs::symlink_metadata(&path).unwrap().file_type().is_socket());
+    // nobody listens any more
+    assert!(folder.refused(&format!("export l.sheet 0 --force -o {}", path.display())).contains("cannot be written: Connection refused"));
+    fs::remove_file(path).unwrap();
 }
 
 #[test]
@@ -354,10 +397,15 @@ fn an_output_that_cannot_be_written() {
         ("\"$S\" add l.sheet 1.csv > /dev/full", 3, 2),
         ("\"$S\" add l.sheet 2.csv >&-", 3, 3),
         ("\"$S\" info l.sheet > /dev/null", 0, 3),
+        ("\"$S\" export l.sheet 0 -o - >&-", 1, 3),
+        ("\"$S\" report l.sheet 1.csv -o - >&-", 1, 3),
+        ("\"$S\" export l.sheet 0 -o - > /dev/full", 1, 3),
+        ("\"$S\" export l.sheet 0 -o /dev/full", 1, 3),
     ] {
         let ran = shell(&folder, line);
         assert_eq!((ran.status, folder.library("l.sheet").len()), (status, stored), "{line}: {}", ran.err);
         assert_eq!(ran.err.contains("was done all the same"), status == 3, "{line}: {}", ran.err);
+        assert_eq!(ran.err.contains("cannot be written"), status != 0, "{line}: {}", ran.err);
     }
     assert_eq!(every_name_its_own(&folder), 3);
 }
@@ -378,6 +426,10 @@ fn no_more_is_read_than_a_library_holds() {
     folder.done("build full.sheet --samples 1 full.csv");
     let err = folder.refused("add full.sheet one.csv");
     assert!(err.contains("No library holds more than 4096 traces. Begin another library") && !err.contains("--capacity"), "{err}");
+    assert!(err.contains("`silkendoz build NEW.sheet --samples 1 --without N,M full.sheet FILE..` leaves out"), "{err}");
+    folder.done("build less.sheet --samples 1 --without 5,7,5 full.sheet one.csv");
+    let library = folder.library("less.sheet");
+    assert_eq!((library.len(), library.trace(4094)), (4095, Some(&[7][..])));
     let err = folder.refused("build more.sheet --samples 1 full.csv one.csv");
     assert!(err.contains("these files hold more than 4096 traces") && err.contains("one.csv"), "{err}");
     let mut input = File::create(folder.0.join("input")).unwrap();

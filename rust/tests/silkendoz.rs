@@ -56,7 +56,7 @@ fn added_all_or_none() {
     assert!(err.contains("short.csv, line 1: 63 samples, and 64 are wanted"), "{err}");
     assert!(before == (folder.read("faults.sheet"), folder.read("faults.names")));
 
-    let out = folder.done("add faults.sheet more.csv today.csv");
+    let out = folder.done("add faults.sheet --again more.csv today.csv");
     assert_eq!(out, "faults.sheet: 3 traces added, numbers 36 to 38; 39 of 64 are taken.\n");
     let names = ["36\tnew fault\tmore.csv\t-", "37\tworn brush\tmore.csv\t-", "38\ttoday\ttoday.csv\t-"];
     assert_eq!(named(&folder.text("faults.names"))[36..], names);
@@ -65,7 +65,8 @@ fn added_all_or_none() {
     let before = (folder.read("faults.sheet"), folder.read("faults.names"));
     let err = folder.refused("add faults.sheet --again faults.csv");
     assert!(err.contains("refused 5, full: there is room for 64 traces, and there would be 75"), "{err}");
-    assert!(err.contains("Nothing was added"), "{err}");
+    let command = "`silkendoz build NEW.sheet --samples 64 --capacity 75 --leaf-size 4 faults.sheet` makes a larger one of it";
+    assert!(err.contains("Nothing was added") && err.contains(command), "{err}");
     assert!(before == (folder.read("faults.sheet"), folder.read("faults.names")));
     assert_eq!(folder.files(), ["faults.csv", "faults.names", "faults.sheet", "more.csv", "short.csv", "today.csv"]);
 }
@@ -215,7 +216,7 @@ fn drawn() {
     assert_eq!((drawn.matches(">1</text>").count(), drawn.matches(">64</text>").count()), (2, 2));
     // names that XML would take for its own
     folder.write("odd.csv", format!("\"<b> & \"\"c\"\" ]]>\",{}\nsecond,{}\n", joined(&today, ","), joined(&today, ",")));
-    folder.done("add faults.sheet odd.csv");
+    folder.done("add faults.sheet --again odd.csv");
     folder.done("plot faults.sheet odd.csv --sweep 2 -k 6 -o picture.svg");
     let drawn = folder.text("picture.svg");
     assert_eq!(tags(&drawn, "polyline"), 1 + 6 + 6);
@@ -309,6 +310,11 @@ faults.sheet: sound. 11 blocks, 36 traces of 64 samples.
     let err = folder.refused("match torn.sheet today.csv");
     assert!(err.contains("torn.sheet: refused 9, torn block: block 2 first"), "{err}");
     assert!(err.contains("`silkendoz check torn.sheet`"), "{err}");
+
+    // a command that can be typed
+    folder.write("the torn.sheet", &damaged);
+    let ran = folder.run(&["match", "the torn.sheet", "today.csv"]);
+    assert!(ran.err.contains("`silkendoz check 'the torn.sheet'`"), "{}", ran.err);
 
     // block 0 is not believed when it is torn
     folder.write("head.sheet", damage(&sheet, &[0, 10]));
@@ -435,6 +441,8 @@ fn what_is_wrong_with_a_recording() {
         bytes[at] = byte;
         bytes
     };
+    let mut piped = good.clone();
+    piped[40..44].fill(255);
     let mut short = good[..good.len() - 2].to_vec();
     short[4] -= 2;
     short[40] -= 2;
@@ -448,6 +456,7 @@ fn what_is_wrong_with_a_recording() {
         (altered(34, 24), "it has 24 bits a sample"),
         (good[..good.len() - 2].to_vec(), "its header says 128 bytes of data, and there are 126"),
         ([&good[..], b"LIST"].concat(), "its header says 128 bytes of data, and there are 132"),
+        (piped, "its header says 4294967295 bytes of data, and there are 128. It was written into a pipe"),
         (short, "it has 63 samples, and a trace has 64. It is too short"),
         (altered(28, 1), "a number of its header does not fit the others"),
     ] {
@@ -537,6 +546,8 @@ fn wrong_usage() {
         ("export faults.sheet", "the trace's NUMBER is missing"),
         ("export faults.sheet one -o x.wav", "NUMBER: `one` is no whole number"),
         ("export faults.sheet 1", "`-o` is missing"),
+        ("salvage faults.sheet -o x.sheet --samples 257", "257 samples: refused 1, measure"),
+        ("salvage faults.sheet -o x.sheet --samples 0", "0 samples: refused 1, measure"),
     ] {
         let before = folder.files();
         let ran = folder.line(line);
@@ -608,14 +619,14 @@ fn help_of_every_command() {
 #[test]
 fn a_closed_pipe() {
     let folder = shelf("pipe");
-    let mut child = Command::new(env!("CARGO_BIN_EXE_silkendoz"))
-        .current_dir(&folder.0)
-        .args(["match", "faults.sheet", "faults.csv"])
-        .stdout(Stdio::piped())
-        .stderr(Stdio::piped())
-        .spawn()
-        .unwrap();
-    drop(child.stdout.take());
-    let ran = child.wait_with_output().unwrap();
-    assert_eq!((ran.status.code(), ran.stderr.as_slice()), (Some(0), &b""[..]));
+    for (line, said) in [("match faults.sheet faults.csv", ""), ("export faults.sheet 0 -o -", "standard output: trace 0, ")] {
+        let mut command = Command::new(env!("CARGO_BIN_EXE_silkendoz"));
+        command.current_dir(&folder.0).args(line.split(' ')).stdout(Stdio::piped()).stderr(Stdio::piped());
+        let mut child = command.spawn().unwrap();
+        drop(child.stdout.take());
+        let ran = child.wait_with_output().unwrap();
+        let err = String::from_utf8(ran.stderr).unwrap();
+        assert_eq!(ran.status.code(), Some(0), "{line}: {err}");
+        assert!(err.starts_with(said) && !err.contains("cannot") && (!said.is_empty() || err.is_empty()), "{line}: {err}");
+    }
 }

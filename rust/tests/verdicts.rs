@@ -62,9 +62,10 @@ fn fits_between_and_like_nothing_stored() {
     assert!(verdict("nothing").contains("  like nothing stored  ") && lines.contains(&measure));
     let rows = folder.done("match faults.sheet today.csv between.csv nothing.csv --tsv");
     let words: Vec<Vec<&str>> = rows.lines().map(|line| line.split('\t').collect()).collect();
-    assert_eq!(words.iter().map(Vec::len).collect::<Vec<_>>(), [11; 4]);
+    assert_eq!(words.iter().map(Vec::len).collect::<Vec<_>>(), [13; 4]);
     assert_eq!(words.iter().map(|cells| cells[1]).collect::<Vec<_>>(), ["verdict", "fits", "between", "like nothing stored"]);
     assert_eq!(words[3][9], "nothing.csv");
+    assert!(words[1..].iter().all(|cells| cells[11..] == [a_sample(least), a_sample(greatest)]), "{rows}");
 }
 
 #[test]
@@ -74,6 +75,10 @@ fn the_same_for_programs() {
     folder.write("sweeps.csv", format!("{}\n{}\n", joined(&today, " "), joined(&blend(&stored[19].1, &stored[28].1), " ")));
     let told = Json::of(&folder.done("match faults.sheet sweeps.csv --json"));
     let verdicts: Vec<&Json> = told.at("sweeps").list().iter().map(|sweep| sweep.at("verdict")).collect();
+    assert_eq!(told.at("notes").list(), [Json::Text("sweeps.csv: holds 2 traces of 64 samples".to_string())]);
+    // one trace, however often the file is given
+    assert_eq!(Json::of(&folder.done("match faults.sheet today.csv today.csv --json")).at("notes").list(), []);
+    assert!(!folder.done("match faults.sheet today.csv today.csv").contains("holds"));
     assert_eq!(verdicts[0].at("word"), &Json::Text("fits".to_string()));
     assert_eq!(verdicts[0].at("other_fault"), &Json::Text("healthy".to_string()));
     let Json::Number(times) = verdicts[0].at("other_fault_times_as_far") else { panic!() };
@@ -156,4 +161,10 @@ fn remarks() {
     assert!(out.contains("It has 500 samples a second, the library's recordings 2000: they do not compare.\n"), "{out}");
     assert!(!folder.done("match rated.sheet fast.wav").contains("compare"));
     assert!(!folder.done("match faults.sheet fast.wav").contains("compare"));
+    // of a library of several rates the nearest trace's counts
+    folder.done("build mixed.sheet --samples 64 fast.wav slow.wav");
+    folder.done("export faults.sheet 1 -o slowed.wav --rate 500");
+    let out = folder.done("match mixed.sheet slowed.wav");
+    assert!(out.contains("It has 500 samples a second, its nearest trace 2000: they do not compare.\n"), "{out}");
+    assert!(!folder.done("match mixed.sheet fast.wav").contains("compare"));
 }

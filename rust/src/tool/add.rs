@@ -3,8 +3,7 @@
 use super::arguments::Arguments;
 use super::reading::{self, Sweep, Wanted};
 use super::shelf::{Held, Shelf};
-use super::{files, notes, numbers, plain, refused, saved, Answer, Failure};
-use std::collections::HashMap;
+use super::{again, files, notes, numbers, plain, refused, saved, Answer, Failure};
 
 pub fn run(a: &Arguments) -> Answer {
     let (path, sources) = a.one_and_more("LIBRARY", "a FILE with recordings")?;
@@ -36,32 +35,22 @@ pub fn run(a: &Arguments) -> Answer {
     saved(format!("{}{shown}: {added} added, {first}; {now}.\n{rates}", notes(&found)), trouble)
 }
 
-/// So many are named that are stored already.
-const MOST_NAMED: usize = 10;
-
-/// Refuses traces that are stored already, sample by sample: who adds one twice mostly did not mean to.
+/// Refuses traces that are stored already, or that come twice.
 fn must_be_new(shelf: &Shelf, sweeps: &[Sweep]) -> Result<(), Failure> {
-    let stored: HashMap<&[i16], usize> = shelf.library.traces().enumerate().map(|(number, trace)| (trace, number)).collect();
-    let known: Vec<(&Sweep, usize)> = sweeps.iter().filter_map(|sweep| Some((sweep, *stored.get(&sweep.samples[..])?))).collect();
-    if known.is_empty() {
-        return Ok(());
+    let again = again::lines(shelf.library.traces(), sweeps, |number| shelf.names.shown(number).to_string());
+    match again.is_empty() {
+        true => Ok(()),
+        false => refused(format!("{}\nNothing was added. Say `--again` to add such traces all the same.", again.join("\n"))),
     }
-    let one =
-        |(sweep, number): &(&Sweep, usize)| format!("{}: is stored already, as trace {number}, {}.\n", sweep.shown(), shelf.names.shown(*number));
-    let more = match known.len().saturating_sub(MOST_NAMED) {
-        0 => String::new(),
-        more => format!("{more} more are stored already.\n"),
-    };
-    let listed: String = known.iter().take(MOST_NAMED).map(one).collect();
-    refused(format!("{listed}{more}Nothing was added. Say `--again` to add such traces all the same."))
 }
 
 /// What to do about a library without room.
 fn larger(shelf: &Shelf, wanted: usize) -> String {
+    let (n, own) = (shelf.library.n(), plain::word(&shelf.path));
     if wanted > reading::MOST_TRACES {
-        let hint = "Begin another library for these, or take one with `build --without` that leaves out what you need no more";
-        return format!("No library holds more than {} traces. {hint}.", reading::MOST_TRACES);
+        let other = format!("`silkendoz build NEW.sheet --samples {n} --without N,M {own} FILE..` leaves out what you need no more");
+        return format!("No library holds more than {} traces. Begin another library for these, or {other}.", reading::MOST_TRACES);
     }
-    let (shown, n) = (plain::path(&shelf.path), shelf.library.n());
-    format!("`silkendoz build NEW.sheet --samples {n} --capacity {wanted} {shown}` makes a larger one of it, with its names.")
+    let measures = format!("--samples {n} --capacity {wanted} --leaf-size {}", shelf.library.leaf_size());
+    format!("`silkendoz build NEW.sheet {measures} {own}` makes a larger one of it, with its names.")
 }

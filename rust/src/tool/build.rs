@@ -1,11 +1,13 @@
 //! `build`: recordings into a library, with their names.
 
 use super::arguments::Arguments;
-use super::names::Names;
+use super::files::Place;
+use super::names::{beside, Names};
 use super::reading::{self, Found, Wanted, MOST_TRACES};
 use super::shelf::{Held, Shelf};
-use super::{notes, numbers, plain, refused, saved, words, wrong, Answer, Failure};
+use super::{again, notes, numbers, plain, refused, saved, words, wrong, Answer, Failure};
 use silkendoz::TraceLibrary;
+use std::collections::BTreeSet;
 use std::path::{Path, PathBuf};
 
 /// What the leaf size is unless it is said.
@@ -16,15 +18,16 @@ pub fn run(a: &Arguments) -> Answer {
     let n = a.needed_number("--samples")?;
     let leaf_size = a.number("--leaf-size")?.unwrap_or(LEAF_SIZE);
     let said = a.number("--capacity")?;
-    let without = a.numbers("--without")?;
+    let without: BTreeSet<usize> = a.numbers("--without")?.into_iter().collect();
     let over = a.has("--force");
     // measures and the place are judged before a file is looked at, the place again when it is written
     measures(a, n, said, leaf_size)?;
     let inputs = inputs(&sources);
     let inputs: Vec<&Path> = inputs.iter().map(PathBuf::as_path).collect();
     Held::of(out, !a.has("--no-wait"))?.must_take(over, &inputs)?;
-    let mut found = reading::all(&sources, &Wanted::of(a, n))?;
+    let mut found = reading::all(&sources, &Wanted { spare: without.len(), ..Wanted::of(a, n) })?;
     leave_out(&mut found, &without)?;
+    found.notes.extend(again::lines(std::iter::empty(), &found.sweeps, |_| String::new()));
     let capacity = said.unwrap_or_else(|| room_for(found.sweeps.len()));
     let library = TraceLibrary::open(n, capacity, leaf_size).or_else(|why| refused(words::of_call(why)))?;
     let mut shelf = Shelf { path: out.to_path_buf(), library, names: Names::default() };
@@ -59,13 +62,14 @@ fn measures(a: &Arguments, n: usize, capacity: Option<usize>, leaf_size: usize) 
     }
 }
 
-/// The files that are read, with the names beside those that are libraries.
+/// The files that are read, with the names beside those that are libraries, also behind a link.
 fn inputs(sources: &[&Path]) -> Vec<PathBuf> {
-    sources.iter().flat_map(|source| [source.to_path_buf(), super::names::beside(source)]).collect()
+    let names = |source: &Path| beside(Place::of(source).as_ref().map_or(source, Place::real));
+    sources.iter().flat_map(|source| [source.to_path_buf(), names(source)]).collect()
 }
 
 /// Leaves out traces by their place among all that were read, counted from 0: the numbers that they have in a sheet read alone.
-fn leave_out(found: &mut Found, without: &[usize]) -> Result<(), Failure> {
+fn leave_out(found: &mut Found, without: &BTreeSet<usize>) -> Result<(), Failure> {
     let count = found.sweeps.len();
     if let Some(none) = without.iter().find(|number| **number >= count) {
         return refused(format!("--without: there is no trace {none}; the files hold {count}, counted from 0."));

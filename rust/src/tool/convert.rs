@@ -1,7 +1,7 @@
 //! WAV files of other forms, brought to the plain one: one channel of 16 bits under the usual header.
 
 use super::numbers;
-use super::recordings::{field, plain};
+use super::recordings::{field, is_unset, plain, UNSET};
 
 /// A recording of the plain form, and what was done to make it.
 pub struct Made {
@@ -33,17 +33,19 @@ pub fn to_plain(bytes: &[u8]) -> Result<Option<Made>, String> {
     let names: Vec<String> = chunks.iter().filter(|chunk| ![b"fmt ", b"data"].contains(&chunk.name)).map(Chunk::shown).collect();
     let frame = form.channels * form.width;
     let mut samples = Vec::with_capacity(data.len() / frame * 2);
-    let mut clipped = 0;
+    let (mut clipped, mut at_limit) = (0, 0);
     for frame in data.chunks_exact(frame) {
         let (sample, beyond) = form.sample(&frame[..form.width]);
         samples.extend(sample.to_le_bytes());
         clipped += usize::from(beyond);
+        // the upper one is none of 16 bits, and would not be seen any more
+        at_limit += usize::from(form.width == 1 && [0, 255].contains(&frame[0]));
     }
     let bytes_made = plain(form.rate, &samples);
     if bytes_made == bytes {
         return Ok(None);
     }
-    Ok(Some(Made { bytes: bytes_made, note: form.note(&names, clipped, data.len() % frame) }))
+    Ok(Some(Made { bytes: bytes_made, note: form.note(&names, [clipped, at_limit, data.len() % frame]) }))
 }
 
 struct Chunk<'a> {
@@ -69,7 +71,8 @@ fn chunks(bytes: &[u8]) -> Result<Vec<Chunk<'_>>, String> {
         let size = field(behind, 0, 4) as usize;
         if size > body.len() {
             let shown = Chunk { name, body }.shown();
-            return Err(format!("its part {shown} says {size} bytes, and {} are there. It was cut off: record it again.", body.len()));
+            let why = if is_unset(size as u64) { UNSET } else { "It was cut off: record it again." };
+            return Err(format!("its part {shown} says {size} bytes, and {} are there. {why}", body.len()));
         }
         chunks.push(Chunk { name, body: &body[..size] });
         // a part of odd size has a byte behind it
@@ -115,7 +118,8 @@ impl Form {
         }
     }
 
-    fn note(&self, others: &[String], clipped: usize, left: usize) -> String {
+    /// What was done: the parts left out, how many samples lay beyond 16 bits or at the limit of 8, how many bytes were left over.
+    fn note(&self, others: &[String], [clipped, at_limit, left]: [usize; 3]) -> String {
         let mut did = Vec::new();
         if self.channels > 1 {
             did.push(format!("the first of {} channels", self.channels));
@@ -131,6 +135,9 @@ impl Form {
         }
         if clipped > 0 {
             did.push(format!("{} beyond 16 bits set to the limit", numbers::count(clipped, "sample")));
+        }
+        if at_limit > 0 {
+            did.push(format!("{} at the converter's limit of 8 bits", numbers::count(at_limit, "sample")));
         }
         if left > 0 {
             did.push(format!("without {} at the end", numbers::count(left, "byte")));

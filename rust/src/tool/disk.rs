@@ -5,6 +5,7 @@ use std::ffi::OsString;
 use std::fs::{self, File, Metadata, OpenOptions, Permissions, TryLockError};
 use std::io::{self, Read, Write};
 use std::os::unix::fs::{OpenOptionsExt, PermissionsExt};
+use std::os::unix::net::UnixStream;
 use std::path::{Path, PathBuf};
 
 /// What a link is, if something is there. Only "not found" means that nothing is.
@@ -44,6 +45,12 @@ pub fn open(path: &Path) -> io::Result<File> {
 pub fn open_stream(path: &Path) -> io::Result<File> {
     fault::step()?;
     OpenOptions::new().write(true).open(path)
+}
+
+/// To whoever listens at a socket.
+pub fn send(path: &Path, bytes: &[u8]) -> io::Result<()> {
+    fault::step()?;
+    UnixStream::connect(path)?.write_all(bytes)
 }
 
 /// A file to be locked, made if it is not there.

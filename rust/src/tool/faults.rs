@@ -162,6 +162,9 @@ fn faults_of_build_over_a_library() {
     let bench = Bench::new("build-over");
     laid(&bench);
     every_fault(&bench, "build l.sheet --samples 3 c.csv b.csv --force");
+    // from another one, whose names come along
+    laid_again(&bench, "0\tdry\ta.csv\n");
+    every_fault(&bench, "build l.sheet --samples 3 copy.sheet b.csv --force");
     // whose names have no hashes
     laid_again(&bench, "0\tdry\ta.csv\n1\tloose\ta.csv\n");
     every_fault(&bench, "build l.sheet --samples 3 c.csv b.csv --force");

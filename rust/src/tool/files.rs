@@ -1,10 +1,10 @@
 //! Files: read up to a size; written beside their place, synced, and given their name there.
 
 use super::disk;
-use super::{plain, refused, Failure};
+use super::{plain, refused, standard, Failure};
 use std::ffi::{OsStr, OsString};
 use std::fs::{File, Metadata};
-use std::io::{self, Read, Write};
+use std::io::{self, Read};
 use std::os::unix::ffi::OsStrExt;
 use std::os::unix::fs::{fchown, FileTypeExt, MetadataExt, PermissionsExt};
 use std::path::{Path, PathBuf};
@@ -28,6 +28,11 @@ pub fn read_if_there(path: &Path) -> Result<Option<Vec<u8>>, Failure> {
     must_end(path, &found)?;
     let bytes = disk::open(path).and_then(|file| disk::read(file, LIMIT));
     within_limit(path, or_refused(path, "cannot be read", bytes)?).map(Some)
+}
+
+/// Whether there is a plain file, which can be read again.
+pub fn is_plain(path: &Path) -> Result<bool, Failure> {
+    Ok(or_refused(path, "cannot be read", disk::follow(path))?.is_some_and(|it| it.is_file()))
 }
 
 /// All of standard input. It is read once, and is the same however often it is asked for.
@@ -294,8 +299,10 @@ fn is_alive(process: &str) -> bool {
 pub enum Output {
     /// `-`
     Standard,
-    /// A device, a FIFO or a socket: written to as it is.
+    /// A device or a FIFO: written to as it is.
     Stream(PathBuf),
+    /// Somebody listens there.
+    Socket(PathBuf),
     File(Place, bool),
 }
 
@@ -318,11 +325,14 @@ impl Output {
     /// Judged before the work: what is there is overwritten only if that is meant, and never if it is one of the command's inputs.
     pub fn of(said: &Path, over: bool, inputs: &[&Path]) -> Result<Output, Failure> {
         if said == Path::new("-") {
-            return Ok(Output::Standard);
+            return or_refused(Path::new("standard output"), "cannot be written", standard::must_be_open()).map(|()| Output::Standard);
         }
         if let Some(found) = or_refused(said, "cannot be looked at", disk::follow(said))? {
             if found.file_type().is_block_device() && !over {
                 return refused(format!("{}: is a disk. Say `--force` to write over what it holds.", plain::path(said)));
+            }
+            if found.file_type().is_socket() {
+                return Ok(Output::Socket(said.to_path_buf()));
             }
             if !found.is_file() && !found.is_dir() {
                 return Ok(Output::Stream(said.to_path_buf()));
@@ -338,12 +348,15 @@ impl Output {
         let streamed = |path: &Path, result| or_refused(path, "cannot be written", result);
         match self {
             Output::Standard => {
-                let mut out = io::stdout().lock();
-                streamed(Path::new("standard output"), out.write_all(bytes).and_then(|()| out.flush()))?;
+                streamed(Path::new("standard output"), standard::write(bytes))?;
                 Ok(Written { standard: true, trouble: None })
             }
             Output::Stream(path) => {
                 streamed(&path, disk::open_stream(&path).and_then(|mut stream| disk::write(&mut stream, bytes)))?;
+                Ok(Written::default())
+            }
+            Output::Socket(path) => {
+                streamed(&path, disk::send(&path, bytes))?;
                 Ok(Written::default())
             }
             Output::File(place, over) => {

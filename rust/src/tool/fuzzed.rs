@@ -42,7 +42,7 @@ fn recordings_of_any_bytes() {
     for file in [recordings::plain(8000, &data), extensible] {
         for _ in 0..ROUNDS {
             let bytes = altered(random, &file);
-            let wanted = Wanted { n: 1 + random.below(9), cut: random.once_in(2), convert: random.once_in(2) };
+            let wanted = Wanted { n: 1 + random.below(9), cut: random.once_in(2), convert: random.once_in(2), spare: 0 };
             match recordings::take(&bytes, &wanted) {
                 Ok(taken) => assert!(taken.traces.iter().all(|trace| trace.len() == wanted.n)),
                 Err(why) => fine(&why),

@@ -38,6 +38,10 @@ impl Lock {
     }
 
     fn once(path: &Path, wait: bool, tell: &mut Option<Instant>, place: &Place) -> io::Result<Taken> {
+        if disk::look(path)?.is_some_and(|it| !it.is_file()) {
+            let name = path.file_name().map_or(path, Path::new);
+            return Err(io::Error::other(format!("its lock {} is no plain file; remove it", plain::path(name))));
+        }
         let file = disk::open_lock(path)?;
         while !disk::try_lock(&file)? {
             if !wait {

@@ -30,7 +30,7 @@ pub fn run(a: &Arguments) -> Answer {
         _ if a.has("--json") => in_json(&shelf, &read, &found),
         many if a.has("--tsv") => in_tsv(&shelf, many),
         [one] => format!("{}{}", notes(&read), one.in_full(&shelf)),
-        many => format!("{}{}", notes(&read), in_lines(&shelf, many)),
+        many => format!("{}{}", notes(&read), in_lines(&shelf, &read, many)),
     })
 }
 
@@ -63,7 +63,7 @@ impl Match<'_> {
         let Some(verdict) = Verdict::of(faults, &shelf.library, &sweep.samples, &found.list) else {
             return refused(format!("{}: no trace was found.", plain::path(&shelf.path)));
         };
-        let remarks = verdict::remarks(sweep, verdict.nearest, &shelf.names.rates());
+        let remarks = verdict::remarks(sweep, verdict.nearest, &shelf.names);
         Ok(Match { sweep, list: found.list.iter().take(k).copied().collect(), found, verdict, remarks })
     }
 
@@ -139,15 +139,10 @@ fn cells(shelf: &Shelf, one: &Match<'_>) -> Vec<String> {
     cells
 }
 
-/// A line a sweep, by its file: its verdict and its nearest, the nearest other fault; then what the verdicts are by, and whatever else is to
-/// be known of one of them.
-fn in_lines(shelf: &Shelf, found: &[Match<'_>]) -> String {
-    let mut text = String::new();
-    for of_one in found.chunk_by(|a, b| a.sweep.file == b.sweep.file) {
-        let (file, count) = (&of_one[0].sweep.file, numbers::count(of_one.len(), "trace"));
-        let cut = if of_one.len() > 1 { format!("{file}: holds {count} of {} samples\n", shelf.library.n()) } else { String::new() };
-        text.push_str(&cut);
-    }
+/// The files of several traces; a line a sweep: its verdict and its nearest, the nearest other fault; then what the verdicts are by, and
+/// whatever else is to be known of one of them.
+fn in_lines(shelf: &Shelf, read: &Found, found: &[Match<'_>]) -> String {
+    let mut text: String = read.several.iter().map(|line| format!("{line}\n")).collect();
     let rows: Vec<Vec<String>> = found.iter().map(|one| cells(shelf, one)).collect();
     text.push_str(&table::text(&IN_LINES, &rows));
     if let Some(apart) = found.first().and_then(|one| one.verdict.apart()) {
@@ -159,12 +154,16 @@ fn in_lines(shelf: &Shelf, found: &[Match<'_>]) -> String {
     text
 }
 
-/// The same cells with tabs between them, the headings first, and each sweep's file and remarks behind.
+/// What stands behind those cells for programs: the last two are what the verdict is by.
+const BEHIND: [&str; 4] = ["file", "remarks", "stored apart, least", "stored apart, greatest"];
+
+/// The same cells with tabs between them, the headings first.
 fn in_tsv(shelf: &Shelf, found: &[Match<'_>]) -> String {
-    let mut lines = vec![IN_LINES.iter().map(|column| column.0).chain(["file", "remarks"]).collect::<Vec<_>>().join("\t")];
+    let mut lines = vec![IN_LINES.iter().map(|column| column.0).chain(BEHIND).collect::<Vec<_>>().join("\t")];
     for one in found {
         let mut cells = cells(shelf, one);
-        cells.extend([one.sweep.file.clone(), one.remarks.join(" ")]);
+        let [least, greatest] = one.verdict.apart_in_cells();
+        cells.extend([one.sweep.file.clone(), one.remarks.join(" "), least, greatest]);
         lines.push(cells.iter().map(|cell| plain::clean(cell)).collect::<Vec<_>>().join("\t"));
     }
     lines.join("\n") + "\n"
@@ -180,6 +179,6 @@ fn in_json(shelf: &Shelf, read: &Found, found: &[Match<'_>]) -> String {
         ("rates", json::array(&rates)),
     ]);
     let sweeps: Vec<String> = found.iter().map(|one| one.in_json(shelf)).collect();
-    let notes: Vec<String> = read.notes.iter().map(|note| json::text(note)).collect();
+    let notes: Vec<String> = read.notes.iter().chain(&read.several).map(|note| json::text(note)).collect();
     format!("{}\n", json::object(&[("library", library), ("sweeps", json::array(&sweeps)), ("notes", json::array(&notes))]))
 }

@@ -4,6 +4,7 @@
 
 mod add;
 mod advise;
+mod again;
 mod arguments;
 mod blocks;
 mod build;
@@ -192,14 +193,9 @@ fn answer(words: Vec<OsString>) -> Result<Told, (Failure, Option<&'static Comman
     arguments.and_then(|arguments| (command.run)(&arguments)).map_err(|why| (why, Some(command)))
 }
 
-/// To standard output. A reader that has seen enough, as `head`, is no fault.
+/// To standard output.
 fn print(text: &str) -> io::Result<()> {
-    standard::must_be_open()?;
-    let mut out = io::stdout().lock();
-    match out.write_all(plain::for_terminal(text).as_bytes()).and_then(|()| out.flush()) {
-        Err(why) if why.kind() == io::ErrorKind::BrokenPipe => Ok(()),
-        printed => printed,
-    }
+    standard::write(plain::for_terminal(text).as_bytes())
 }
 
 fn print_aside(text: &str) -> io::Result<()> {

@@ -38,6 +38,16 @@ pub fn path(path: &Path) -> String {
     }
 }
 
+/// A path as a word of a command that can be typed: in quotes, if the shell would take it apart.
+pub fn word(path: &Path) -> String {
+    let text = self::path(path);
+    let whole = |c: char| c.is_alphanumeric() || "._-+/,:@%…".contains(c);
+    match text.starts_with(|c: char| whole(c) && c != '-') && text.chars().all(whole) {
+        true => text,
+        false => format!("'{}'", text.replace('\'', "'\\''")),
+    }
+}
+
 /// What the system says of an error, without its number.
 pub fn why(error: &io::Error) -> String {
     let text = error.to_string();
@@ -83,6 +93,8 @@ mod tests {
         assert_eq!(short(&format!("{}{}", " ".repeat(100), "x".repeat(100)), 10), "…");
         assert_eq!(path(Path::new(&"d/".repeat(300))).chars().count(), LONGEST);
         assert_eq!(path(Path::new("a\nb")), "a b");
+        let words = ["a/b-1.sheet", "dry rail.sheet", "it's", "$(x)", "-o", ""].map(|text| word(Path::new(text)));
+        assert_eq!(words, ["a/b-1.sheet", "'dry rail.sheet'", r"'it'\''s'", "'$(x)'", "'-o'", "''"]);
         assert_eq!(why(&io::Error::from_raw_os_error(21)), "Is a directory");
     }
 

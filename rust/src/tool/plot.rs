@@ -2,7 +2,7 @@
 
 use super::arguments::Arguments;
 use super::drawing::{self, Curve, Drawing, MOST_DRAWN};
-use super::files::Output;
+use super::files::{shown, Output};
 use super::matching::Match;
 use super::reading::{self, Sweep, Wanted};
 use super::shelf::Shelf;
@@ -32,7 +32,7 @@ pub fn run(a: &Arguments) -> Answer {
     let drawing = drawing(&shelf, &found, &groups[..groups.len().min(many)]);
     let done = output.write(picture(&shelf, &found, &drawing).as_bytes())?;
     let drawn = numbers::count(drawing.curves.len(), "nearest fault");
-    let text = format!("{}{}: {}{which} and its {drawn}. A browser shows it.\n", notes(&read), plain::path(&out), sweep.name);
+    let text = format!("{}{}: {}{which} and its {drawn}. A browser shows it.\n", notes(&read), shown(&out), sweep.name);
     written(text, done)
 }
 

@@ -42,12 +42,14 @@ pub struct Wanted {
     pub cut: bool,
     /// A recording may be of another form: it is brought to the plain one.
     pub convert: bool,
+    /// So many more than a library holds may be read, since they are left out again.
+    pub spare: usize,
 }
 
 impl Wanted {
     /// By the options `--cut` and `--convert`.
     pub fn of(a: &Arguments, n: usize) -> Wanted {
-        Wanted { n, cut: a.has("--cut"), convert: a.has("--convert") }
+        Wanted { n, cut: a.has("--cut"), convert: a.has("--convert"), spare: 0 }
     }
 }
 
@@ -56,6 +58,8 @@ impl Wanted {
 pub struct Found {
     pub sweeps: Vec<Sweep>,
     pub notes: Vec<String>,
+    /// Files that hold more than one trace, a line each.
+    pub several: Vec<String>,
     /// The files that were read.
     pub files: Vec<PathBuf>,
 }
@@ -72,19 +76,24 @@ pub fn is_standard(path: &Path) -> bool {
 
 /// The traces of a file. `-` is standard input.
 pub fn one(path: &Path, wanted: &Wanted) -> Result<Found, Failure> {
+    // a pipe can be read once
+    let plain_file = !is_standard(path) && files::is_plain(path)?;
     let (path, bytes) = match is_standard(path) {
         true => (Path::new("standard input"), files::read_standard()?),
         false => (path, files::read(path)?),
     };
-    let found = if recordings::is_meant(&bytes) {
+    let mut found = if recordings::is_meant(&bytes) {
         recorded(path, &bytes, wanted)?
     } else if is_sheet(&bytes) {
-        Found { sweeps: shelved(path, wanted.n)?, ..Found::default() }
+        let shelf = if plain_file { Shelf::load(path)? } else { Shelf::unnamed(path, &bytes)? };
+        Found { sweeps: shelved(path, &shelf, wanted.n)?, ..Found::default() }
     } else {
         Found { sweeps: written(path, bytes, wanted.n)?, ..Found::default() }
     };
-    if found.sweeps.is_empty() {
-        return refused(format!("{}: holds no trace. Record a sweep, or leave the file out.", plain::path(path)));
+    match found.sweeps.len() {
+        0 => return refused(format!("{}: holds no trace. Record a sweep, or leave the file out.", plain::path(path))),
+        1 => (),
+        many => found.several.push(format!("{}: holds {many} traces of {}", plain::path(path), numbers::count(wanted.n, "sample"))),
     }
     Ok(found)
 }
@@ -111,12 +120,13 @@ pub fn all(paths: &[&Path], wanted: &Wanted) -> Result<Found, Failure> {
                 Ok(mut more) => {
                     found.sweeps.append(&mut more.sweeps);
                     found.notes.append(&mut more.notes);
+                    found.several.append(&mut more.several);
                     found.files.push(path.clone());
                 }
                 Err(Failure::Refused(why)) => faults.push(why),
                 Err(other) => return Err(other),
             }
-            if found.sweeps.len() > MOST_TRACES {
+            if found.sweeps.len() > MOST_TRACES + wanted.spare {
                 let many = format!("these files hold more than {MOST_TRACES} traces, and no library holds more");
                 return refused(format!("{many}. Leave some out: {} was the first too many.", plain::path(&path)));
             }
@@ -158,14 +168,13 @@ fn recorded(path: &Path, bytes: &[u8], wanted: &Wanted) -> Result<Found, Failure
         Ok(taken) => {
             let traces = (1..).zip(taken.traces).map(|(place, samples)| Placed { place, name: None, rate: Some(taken.rate), samples });
             let notes = taken.notes.iter().map(|note| format!("{}: {note}", plain::path(path)));
-            Ok(Found { sweeps: named_by_file(path, "trace", traces.collect())?, notes: notes.collect(), files: Vec::new() })
+            Ok(Found { sweeps: named_by_file(path, "trace", traces.collect())?, notes: notes.collect(), ..Found::default() })
         }
         Err(why) => refused(format!("{}: {why}", plain::path(path))),
     }
 }
 
-fn shelved(path: &Path, n: usize) -> Result<Vec<Sweep>, Failure> {
-    let shelf = Shelf::load(path)?;
+fn shelved(path: &Path, shelf: &Shelf, n: usize) -> Result<Vec<Sweep>, Failure> {
     if shelf.library.n() != n {
         return refused(format!(
             "{}: a library of traces of {}, and {n} are wanted. Take traces of one length.",

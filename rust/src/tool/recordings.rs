@@ -121,10 +121,19 @@ fn in_words(bytes: &[u8], n: usize) -> String {
     in_sizes(field(bytes, 40, 4), (bytes.len() - HEADER) as u64, n as u64)
 }
 
+pub const UNSET: &str = "It was written into a pipe, where a size cannot be put right: write it to a file.";
+
+/// Whether a size is one that programs put there as long as they do not know it.
+pub fn is_unset(size: u64) -> bool {
+    size >= 0x7fff_0000
+}
+
 /// The header says so many bytes of data, and so many are there.
 fn in_sizes(said: u64, there: u64, n: u64) -> String {
     let samples = said / 2;
-    if said != there {
+    if said != there && is_unset(said) {
+        format!("its header says {said} bytes of data, and there are {there}. {UNSET}")
+    } else if said != there {
         format!("its header says {said} bytes of data, and there are {there}. It was cut off, or something stands behind: save it again.")
     } else if said.is_multiple_of(2) && samples < n {
         format!("it has {}, and a trace has {n}. It is too short: record it again.", numbers::count(samples as usize, "sample"))

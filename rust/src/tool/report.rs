@@ -3,7 +3,7 @@
 
 use super::arguments::Arguments;
 use super::drawing;
-use super::files::Output;
+use super::files::{shown, Output};
 use super::matching::Match;
 use super::plot::{beside, chosen, drawing, faults_asked, LOOKED_AT};
 use super::reading::{self, Wanted};
@@ -32,8 +32,8 @@ pub fn run(a: &Arguments) -> Answer {
     let groups = verdict::by_fault(&faults, &found.list);
     let page = Page { shelf: &shelf, found: &found, groups: &groups, drawn: groups.len().min(many), notes: &read.notes, which: &which };
     let done = output.write(page.html().as_bytes())?;
-    let said = format!("{}{which}, {}", sweep.name, found.verdict.word.text());
-    let text = format!("{}{}: {said}. A browser shows it, and prints it on one page.\n", notes(&read), plain::path(&out));
+    let said = format!("{}: {}{which}. A browser shows it, and prints it on one page.", shown(&out), sweep.name);
+    let text = format!("{}{said}\n{}\n", notes(&read), found.verdict.text());
     written(text, done)
 }
 
@@ -97,7 +97,7 @@ svg { max-height: 112mm; }
 
 impl Page<'_> {
     fn html(&self) -> String {
-        let title = format!("{}: {}", self.found.sweep.shown(), self.found.verdict.word.text());
+        let title = format!("{} and the traces of {}", self.found.sweep.shown(), plain::path(&self.shelf.path));
         let drawing = drawing(self.shelf, self.found, &self.groups[..self.drawn]);
         let mut svg = Svg::inside(drawing::WIDTH, drawing.height(), &format!("{} and its nearest faults", self.found.sweep.name));
         drawing.draw(&mut svg, 0.0);

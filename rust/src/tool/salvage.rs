@@ -5,18 +5,19 @@ use super::blocks::{self, BLOCK, SAMPLES};
 use super::files::{Output, Place};
 use super::names::{self, Lines, Names};
 use super::shelf::{Held, Shelf};
-use super::{build, files, numbers, plain, reading, refused, saved, words, written, Answer, Failure};
+use super::{build, files, numbers, plain, reading, refused, saved, words, written, wrong, Answer, Failure};
 use silkendoz::TraceLibrary;
 use std::path::Path;
 
 pub fn run(a: &Arguments) -> Answer {
     let [torn] = a.exactly(["TORN, a sheet"])?.map(Path::new);
     let out = a.needed_path("-o")?;
+    let said = samples_said(a)?;
     let over = a.has("--force");
     let beside = names::beside(Place::of(torn)?.real());
     let inputs = [torn, beside.as_path()];
     let output = Output::of(&out, over, &inputs)?;
-    let sheet = Torn::of(torn, a)?;
+    let sheet = Torn::of(torn, said)?;
     let lines = Lines::read(&beside)?;
     let mut library = TraceLibrary::open(sheet.n, sheet.capacity, sheet.leaf_size).or_else(|why| refused(words::of_call(why)))?;
     let mut kept = Names::default();
@@ -45,6 +46,15 @@ pub fn run(a: &Arguments) -> Answer {
     saved(text, trouble)
 }
 
+/// `--samples`: as many as a trace may have.
+fn samples_said(a: &Arguments) -> Result<Option<usize>, Failure> {
+    let Some(n) = a.number("--samples")? else { return Ok(None) };
+    match TraceLibrary::open(n, 1, 1) {
+        Ok(_) => Ok(Some(n)),
+        Err(why) => wrong(format!("{}: {}", numbers::count(n, "sample"), words::of_call(why))),
+    }
+}
+
 /// A sheet of which some blocks are sound.
 struct Torn {
     bytes: Vec<u8>,
@@ -56,7 +66,7 @@ struct Torn {
 }
 
 impl Torn {
-    fn of(path: &Path, a: &Arguments) -> Result<Torn, Failure> {
+    fn of(path: &Path, said: Option<usize>) -> Result<Torn, Failure> {
         let bytes = files::read(path)?;
         let shown = plain::path(path);
         let mut sound = vec![true; blocks::whole(&bytes)];
@@ -66,18 +76,20 @@ impl Torn {
         if sound.is_empty() {
             return refused(format!("{shown}: has no whole block of {BLOCK} bytes. It is no sheet, or was cut off."));
         }
-        let said = a.number("--samples")?;
         // measures that are no library's are refused as opening refuses them
         match (sound[0] && reading::is_sheet(&bytes), said) {
-            (true, _) => {
+            (true, said) => {
                 let [n, capacity, leaf_size, count] = words::measures(&bytes);
+                if said.is_some_and(|said| said != n) {
+                    return refused(format!("{shown}: block 0 is sound, and says {n} samples a trace. Leave out `--samples`."));
+                }
                 Ok(Torn { bytes, sound, n, capacity, leaf_size, count: count.min(capacity) })
             }
-            (false, Some(n)) if n > 0 => {
+            (false, Some(n)) => {
                 let count = ((sound.len() - 1) * SAMPLES / n).min(reading::MOST_TRACES);
                 Ok(Torn { bytes, sound, n, capacity: build::room_for(count), leaf_size: build::LEAF_SIZE, count })
             }
-            _ => refused(format!(
+            (false, None) => refused(format!(
                 "{shown}: block 0, which says how long a trace is, is torn. If you know it, say `--samples N`; traces of zeros may come at the end."
             )),
         }

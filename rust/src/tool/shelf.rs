@@ -35,22 +35,15 @@ impl Shelf {
     }
 
     fn once(path: &Path) -> Result<Shelf, Failure> {
-        let bytes = files::read(path)?;
-        let shown = plain::path(path);
-        let library = match TraceLibrary::read_sheet(&bytes) {
-            Ok(library) => library,
-            Err(_) if recordings::is_meant(&bytes) => {
-                return refused(format!("{shown}: is a recording, and a library's sheet has to stand here."));
-            }
-            Err(_) if !bytes.is_empty() && !is_sheet(&bytes) && std::str::from_utf8(&bytes).is_ok() => {
-                return refused(format!("{shown}: is text, and a library's sheet has to stand here."));
-            }
-            Err(why) => {
-                let found = words::of_sheet(&bytes, why);
-                return refused(format!("{shown}: {found} `silkendoz check {shown}` shows all that is wrong."));
-            }
-        };
+        let library = library_of(path, &files::read(path)?)?;
         let names = Names::beside(Place::of(path)?.real(), &library)?;
+        Ok(Shelf { path: path.to_path_buf(), library, names })
+    }
+
+    /// A library that came by a pipe: no names stand beside it.
+    pub fn unnamed(path: &Path, bytes: &[u8]) -> Result<Shelf, Failure> {
+        let library = library_of(path, bytes)?;
+        let names = Names::none(library.len());
         Ok(Shelf { path: path.to_path_buf(), library, names })
     }
 
@@ -90,6 +83,22 @@ impl Shelf {
 
     fn sheet(&self) -> Result<Vec<u8>, Failure> {
         self.library.write_sheet().or_else(|why| refused(format!("{}: {}", plain::path(&self.path), words::of_call(why))))
+    }
+}
+
+/// The library of a sheet; what else the bytes are, in words.
+fn library_of(path: &Path, bytes: &[u8]) -> Result<TraceLibrary, Failure> {
+    let shown = plain::path(path);
+    match TraceLibrary::read_sheet(bytes) {
+        Ok(library) => Ok(library),
+        Err(_) if recordings::is_meant(bytes) => refused(format!("{shown}: is a recording, and a library's sheet has to stand here.")),
+        Err(_) if !bytes.is_empty() && !is_sheet(bytes) && std::str::from_utf8(bytes).is_ok() => {
+            refused(format!("{shown}: is text, and a library's sheet has to stand here."))
+        }
+        Err(why) => {
+            let found = words::of_sheet(bytes, why);
+            refused(format!("{shown}: {found} `silkendoz check {}` shows all that is wrong.", plain::word(path)))
+        }
     }
 }
 

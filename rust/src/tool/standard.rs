@@ -1,7 +1,7 @@
-//! Whether standard output was open when the program began. Rust opens `/dev/null` for one that is closed, before `main`: what is printed
-//! would be lost without a word.
+//! Standard output, and whether it was open when the program began. Rust opens `/dev/null` for one that is closed, before `main`: what is
+//! printed would be lost without a word.
 
-use std::io;
+use std::io::{self, Write};
 
 #[cfg(target_os = "linux")]
 mod at_start {
@@ -36,6 +36,16 @@ mod at_start {
 mod at_start {
     pub fn closed() -> bool {
         false
+    }
+}
+
+/// To standard output. A reader that has seen enough, as `head`, is no fault.
+pub fn write(bytes: &[u8]) -> io::Result<()> {
+    must_be_open()?;
+    let mut out = io::stdout().lock();
+    match out.write_all(bytes).and_then(|()| out.flush()) {
+        Err(why) if why.kind() == io::ErrorKind::BrokenPipe => Ok(()),
+        written => written,
     }
 }
 

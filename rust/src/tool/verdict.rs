@@ -1,6 +1,7 @@
 //! What the nearest traces say of a sweep: it fits a fault, it lies between two, or it is like nothing stored. How far is far, the library
 //! itself says: its traces lie so far from the nearest other trace of their own fault. No verdict is without its figures.
 
+use super::names::Names;
 use super::numbers::{how_far, per_sample, times_as_far};
 use super::reading::Sweep;
 use super::shelf::Shelf;
@@ -198,6 +199,12 @@ impl Verdict {
         Some(format!("traces of one fault lie {} to {} apart", self.a_sample(least), self.a_sample(greatest)))
     }
 
+    /// The same for a table, least and greatest.
+    pub fn apart_in_cells(&self) -> [String; 2] {
+        let cell = |distance: Option<u64>| distance.map_or("-".to_string(), |distance| self.a_sample(distance));
+        [cell(self.apart.map(|apart| apart.0)), cell(self.apart.map(|apart| apart.1))]
+    }
+
     /// All of it in one line.
     pub fn text(&self) -> String {
         let (fault, off) = (&self.fault, self.a_sample(self.nearest.distance));
@@ -306,8 +313,21 @@ fn judged(nearest: u64, other: &Other, between: Option<Between>, apart: Option<(
     }
 }
 
-/// What else is to be known of a sweep before its verdict is believed; `rates` are those of the library's recordings.
-pub fn remarks(sweep: &Sweep, nearest: Neighbour, rates: &[u32]) -> Vec<String> {
+/// That a sweep has another rate than every recording of the library, or than its nearest; nothing of a rate that is not known.
+fn other_rate(own: Option<u32>, nearest: Option<u32>, rates: &[u32]) -> Option<String> {
+    let own = own?;
+    let others = match nearest {
+        _ if !rates.is_empty() && !rates.contains(&own) => {
+            format!("the library's recordings {}", rates.iter().map(u32::to_string).collect::<Vec<_>>().join(", "))
+        }
+        Some(nearest) if nearest != own => format!("its nearest trace {nearest}"),
+        _ => return None,
+    };
+    Some(format!("It has {own} samples a second, {others}: they do not compare."))
+}
+
+/// What else is to be known of a sweep before its verdict is believed.
+pub fn remarks(sweep: &Sweep, nearest: Neighbour, names: &Names) -> Vec<String> {
     let mut list = Vec::new();
     if nearest.distance == 0 {
         list.push(format!("It is stored already: trace {} is the same, sample by sample.", nearest.trace));
@@ -317,10 +337,7 @@ pub fn remarks(sweep: &Sweep, nearest: Neighbour, rates: &[u32]) -> Vec<String> 
         let (count, verb) = (numbers::count(at_limit.len(), "sample"), if at_limit.len() == 1 { "is" } else { "are" });
         list.push(format!("{count} {verb} at the converter's limit, from sample {} on: there the current may have been larger.", first + 1));
     }
-    if let Some(rate) = sweep.rate.filter(|rate| !rates.is_empty() && !rates.contains(rate)) {
-        let known: Vec<String> = rates.iter().map(u32::to_string).collect();
-        list.push(format!("It has {rate} samples a second, the library's recordings {}: they do not compare.", known.join(", ")));
-    }
+    list.extend(other_rate(sweep.rate, names.rate_of(nearest.trace), &names.rates()));
     list
 }
 

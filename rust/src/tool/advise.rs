@@ -7,7 +7,7 @@ use super::numbers::median;
 use super::progress::Progress;
 use super::shelf::Shelf;
 use super::table::{self, Column};
-use super::{done, numbers, plain, refused, Answer};
+use super::{done, numbers, plain, refused, wide, Answer};
 use silkendoz::{scan, TraceLibrary};
 use std::hint::black_box;
 use std::path::Path;
@@ -63,7 +63,7 @@ struct Tried {
     noisy: Lookup,
 }
 
-/// Microseconds of a plain scan, and of one that leaves a trace early: left out, and noisy.
+/// Microseconds of a plain scan, by AVX2 if there is such, and of one that leaves a trace early: left out, and noisy.
 struct Scanned {
     plain: [f64; 2],
     leaving: [f64; 2],
@@ -100,7 +100,7 @@ impl Trial<'_> {
 
     fn scanned(&self) -> Scanned {
         let n = self.traces[0].len();
-        let scans = [scan::nearest, scan::nearest_abandoning].map(|by| {
+        let scans = [wide::nearest, scan::nearest_abandoning].map(|by| {
             let left_out = (0..self.groups).flat_map(|group| {
                 let samples: Vec<i16> = self.without(group).flatten().copied().collect();
                 self.left_out(group).map(|query| micros(|| by(&samples, n, query))).collect::<Vec<_>>()
@@ -185,7 +185,7 @@ fn advice(shelf: &Shelf, sizes: &[Tried], scans: &Scanned) -> String {
         true => format!("Leaf size {} is as good as any.", best.leaf_size),
         false => {
             let measures = format!("--samples {} --capacity {} --leaf-size {}", library.n(), library.capacity(), best.leaf_size);
-            let command = format!("`silkendoz build NEW.sheet {measures} {}`", plain::path(&shelf.path));
+            let command = format!("`silkendoz build NEW.sheet {measures} {}`", plain::word(&shelf.path));
             format!("Take leaf size {}: {command}.", best.leaf_size)
         }
     };

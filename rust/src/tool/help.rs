@@ -41,9 +41,9 @@ folder, for all files in it that end in .wav, .csv, .tsv or .txt; or -, for stan
         about: "more recordings into a library, all or none",
         text: "\
 Adds all traces in the FILEs to the library, in their order, with their names. If one of them cannot be taken, or there is no room for all,
-nothing is added; nor if one of them is stored already, sample by sample. FILEs are those of `silkendoz help build`.
+nothing is added; nor if one of them is stored already, sample by sample, or comes twice. FILEs are those of `silkendoz help build`.
 
-  --again     add traces that are stored already, too
+  --again     add traces that are stored already or come twice, too
   --cut       whole traces of a recording that ends in the midst of one
   --convert   recordings of other forms
   --no-wait   if another run is writing the library, refuse; unless said, wait for it
@@ -62,7 +62,7 @@ several sweeps, each gets a line. A FILE may be a folder; `-` is standard input.
 
   -k K        list so many, 1 to 16; 5 unless said
   --json      one object for programs
-  --tsv       a line a sweep, with tabs between the columns
+  --tsv       a line a sweep, with tabs between the columns, the headings first
   --cut       leave out what is left over behind the last whole trace of a recording
   --convert   bring recordings of other forms to the plain one
 
@@ -206,7 +206,7 @@ Makes a library of those traces whose samples stand in sound blocks of a torn sh
 numbers of those behind a lost one change. With a second copy of the same writing take `silkendoz repair`, which loses nothing.
 
   -o OUT        where the library goes; `-` is standard output, without names
-  --samples N   samples a trace, if block 0, which says it, is torn
+  --samples N   samples a trace, 1 to 256, if block 0, which says it, is torn
   --force       overwrite OUT and its names
   --no-wait     if another run is writing there, refuse; unless said, wait for it
 ",
@@ -220,8 +220,9 @@ numbers of those behind a lost one change. With a second copy of the same writin
         about: "which leaf size suits the traces",
         text: "\
 Tries leaf sizes 4 to 64 on the library's own traces: each is left out and looked up, as a sweep that is like none stored, and so is a
-noisy copy of each, as one that is like a stored one. It shows the part of leaves that a match reads and what it takes, beside scans, says
-which leaf size to take and where a scan is as good, and whether the traces look normalised.
+noisy copy of each, as one that is like a stored one. It shows the part of leaves that a match reads and what it takes, beside scans: a
+plain one, by AVX2 where the processor has it, and one that leaves a trace early. It says which leaf size to take, for each kind of sweep
+what a match is worth beside the faster scan, and whether the traces look normalised.
 ",
         values: &[],
         flags: &[],

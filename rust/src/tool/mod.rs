@@ -44,6 +44,7 @@ mod standard;
 mod svg;
 mod table;
 mod verdict;
+mod wide;
 mod words;
 
 use arguments::{Arguments, Options};

@@ -133,6 +133,16 @@ fn layout() {
     assert!(text("include/silkendoz.h").contains(&format!("#define SILKENDOZ_LAYOUT {}\n", calls::LAYOUT)));
 }
 
+/// Each step of the first page has its time.
+#[test]
+fn times_of_the_steps() {
+    let page = text("docs/GUIDE.md");
+    let (_, behind) = page.split_once("\n| Step | Time").unwrap();
+    let rows: Vec<&str> = behind.lines().skip(2).take_while(|line| line.starts_with('|')).collect();
+    let timed = |row: &&str| row.rsplit('|').nth(1).unwrap().contains(|c: char| c.is_ascii_digit());
+    assert!(rows.len() > 2 && rows.iter().all(timed), "{rows:?}");
+}
+
 /// The page's program in Rust is the one under `examples/`.
 #[test]
 fn the_program_in_rust() {

@@ -321,22 +321,33 @@ fn batched(library: &TraceLibrary, batches: &[Vec<Trace>]) -> String {
     format!("{:>9.0}{:>9.0}{:>7.2}{:>8.0}{:>8.0}", of(0), of(1), of(2), of(3), of(4))
 }
 
-/// `bench batch`: sixteen queries near sixteen different traces, and sixteen near one trace, as sweeps of one machine are.
+/// As many batches as are timed, of the queries that are made for a batch's number and a place in it.
+fn batches(mut query: impl FnMut(usize, usize) -> Trace) -> Vec<Vec<Trace>> {
+    (0..BATCHES).map(|i| (0..TOGETHER).map(|j| query(i, j)).collect()).collect()
+}
+
+fn line_of_batches(data: Data, leaf_size: usize) {
+    let Full { library, samples, .. } = filled(data, leaf_size);
+    let random = &mut Random::seeded(2027);
+    let stored: Vec<Trace> = samples.chunks(N).map(<[i16]>::to_vec).collect();
+    let different = batches(|i, j| near(random, &stored[(257 * i + 1021 * j) % CAPACITY], 20));
+    let one = batches(|i, _| near(random, &stored[(257 * i) % CAPACITY], 20));
+    let fresh = batches(|_, _| data.trace(random));
+    batched(&library, &different[..3]);
+    let columns: Vec<String> = [different, fresh, one].iter().map(|kind| batched(&library, kind)).collect();
+    println!("{:<14}{leaf_size:>5} |{}", data.name(), columns.join(" |"));
+}
+
+/// `bench batch`: sixteen queries near sixteen different traces, sixteen that are like none stored, and sixteen near one trace, as sweeps of
+/// one machine are.
 fn batch() {
-    println!("n = {N}, {CAPACITY} traces, {TOGETHER} queries; microseconds, medians of {BATCHES}; x: matches / batch; leaves that the matches read, and the batch");
-    let heads = |kind: &str| format!("{kind:>9}{:>9}{:>7}{:>8}{:>8}", "batch", "x", "leaves", "leaves");
-    println!("{:<14}{:>5} |{} |{}", "data", "leaf", heads("different"), heads("one"));
+    println!("n = {N}, {CAPACITY} traces, {TOGETHER} queries; microseconds, medians of {BATCHES}");
+    println!("x: matches / batch; leaves that the matches read, and the batch");
+    let heads = ["different", "fresh", "one"].map(|kind| format!("{kind:>9}{:>9}{:>7}{:>8}{:>8}", "batch", "x", "leaves", "leaves"));
+    println!("{:<14}{:>5} |{}", "data", "leaf", heads.join(" |"));
     for data in [Data::Walks, Data::Sines, Data::Noise] {
         for leaf_size in [64, 16, 4] {
-            let Full { library, samples, .. } = filled(data, leaf_size);
-            let random = &mut Random::seeded(2027);
-            let stored: Vec<Trace> = samples.chunks(N).map(<[i16]>::to_vec).collect();
-            let mut around = |centre: &Trace| near(random, centre, 20);
-            let different: Vec<Vec<Trace>> =
-                (0..BATCHES).map(|i| (0..TOGETHER).map(|j| around(&stored[(257 * i + 1021 * j) % CAPACITY])).collect()).collect();
-            let one: Vec<Vec<Trace>> = (0..BATCHES).map(|i| (0..TOGETHER).map(|_| around(&stored[(257 * i) % CAPACITY])).collect()).collect();
-            batched(&library, &different[..3]);
-            println!("{:<14}{leaf_size:>5} |{} |{}", data.name(), batched(&library, &different), batched(&library, &one));
+            line_of_batches(data, leaf_size);
         }
     }
 }

@@ -162,6 +162,8 @@ fn converted_if_that_is_wanted() {
         folder.write("bad.wav", bytes);
         let err = folder.refused("build bad.sheet --samples 4 --convert bad.wav");
         assert!(err.contains(why), "{why}: {err}");
+        // nor is it said that it can be
+        assert!(!folder.refused("build bad.sheet --samples 4 bad.wav").contains("--convert"), "{why}");
     }
 }
 

@@ -93,7 +93,13 @@ pub fn field(bytes: &[u8], at: usize, size: usize) -> u64 {
     bytes[at..at + size].iter().rev().fold(0, |sum, &byte| 256 * sum + u64::from(byte))
 }
 
-const CONVERT: &str = "`--convert` brings it to that form";
+/// A hint, where it can be followed.
+fn or_convert(bytes: &[u8]) -> &'static str {
+    match convert::to_plain(bytes) {
+        Ok(_) => "; `--convert` brings it to that form",
+        Err(_) => "",
+    }
+}
 
 /// What keeps a file from being a recording, for people: the call itself only says that it is none.
 fn in_words(bytes: &[u8], n: usize) -> String {
@@ -103,20 +109,20 @@ fn in_words(bytes: &[u8], n: usize) -> String {
     if &bytes[8..12] != b"WAVE" {
         return "it is of the family RIFF, but no WAV. Save it as WAV.".to_string();
     }
-    let format = field(bytes, 20, 2);
+    let (format, convert) = (field(bytes, 20, 2), or_convert(bytes));
     if &bytes[12..16] != b"fmt " || field(bytes, 16, 4) != 16 || &bytes[36..40] != b"data" {
-        return format!("its header is not WAV's usual {HEADER} bytes. Save it without tags, as plain 16-bit PCM; {CONVERT}.");
+        return format!("its header is not WAV's usual {HEADER} bytes. Save it without tags, as plain 16-bit PCM{convert}.");
     }
     if format != 1 {
-        return format!("its format is {format}, and has to be 1. Save it as plain PCM; {CONVERT}, if it is floating point.");
+        return format!("its format is {format}, and has to be 1. Save it as plain PCM{convert}.");
     }
     let channels = field(bytes, 22, 2);
     if channels != 1 {
-        return format!("it has {channels} channels, and has to have one. Save it as mono; {CONVERT}, by its first channel.");
+        return format!("it has {channels} channels, and has to have one. Save it as mono{convert}.");
     }
     let bits = field(bytes, 34, 2);
     if bits != 16 {
-        return format!("it has {bits} bits a sample, and has to have 16. Save it as 16-bit PCM; {CONVERT}.");
+        return format!("it has {bits} bits a sample, and has to have 16. Save it as 16-bit PCM{convert}.");
     }
     in_sizes(field(bytes, 40, 4), (bytes.len() - HEADER) as u64, n as u64)
 }

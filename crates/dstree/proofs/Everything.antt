@@ -7,7 +7,7 @@ use Rattle.segment.specs.Roots.{fallingFrom, floorRoot, ceilingRoot}
 use Rattle.segment.specs.Terms.{sumGap, scatterGap, boundTerm, spreadTerm}
 use Rattle.segment.specs.Partition.{totalBound}
 use Rattle.segment.specs.Limits.{sumLimit, scatterLimit, rootLimit, largestDistance}
-use Rattle.dstree.specs.Measures.{sampleLimit, inRange, samplesNeeded, recordsNeeded, linksNeeded, workNeeded, isTrace, isLibrary}
+use Rattle.dstree.specs.Measures.{sampleLimit, inRange, samplesNeeded, recordsNeeded, linksNeeded, workNeeded, labelsNeeded, isTrace, isLibrary}
 use Rattle.dstree.specs.Figures.{samplesOn}
 use Rattle.dstree.specs.Node.{figureOf, goesLeft, totalOver, changeAll}
 use Rattle.dstree.specs.Adding.{nextNode, wayFrom, widenSegment, widen, widenAll, joinKind, join, segmentOf, segmentsFrom, newLeaf}
@@ -19,12 +19,14 @@ use Rattle.dstree.specs.Matching.{searched, matchFrom, matchBySteps, lea
 use Rattle.dstree.specs.WellFormed.{rising, everyNode, childrenOf, childrenAbove, childOnce, endsFit, endsKept, leafFits, inOneLeaf}
 use Rattle.dstree.specs.WellFormed.{withinℤ, segmentFits, segmentsFit, thresholdFits, testFits, nodeFits, wellFormedTree}
 use Rattle.dstree.specs.Refusals.{numberOf, placeOf, firstOf}
-use Rattle.dstree.specs.Sheet.{areBytes, bytesOf, numberIn, pieces, filledTo, kindOf, weighted, checkOf, sealed, block, blocksFrom}
-use Rattle.dstree.specs.Sheet.{letters, headOf, coded, sampleBlocksNeeded, blocksNeeded, carriedOf, blocksOf, sheetAs}
-use Rattle.dstree.specs.Sheet.{blocksIn, measuresIn, countIn, decoded, sampleBytesIn, tracesInBlocks, isWrongLength, isTorn}
+use Rattle.dstree.specs.Sheet.{areBytes, bytesOf, numberIn, pieces, filledTo, weighted, checkOf, sealed, block, blocksFrom}
+use Rattle.dstree.specs.Labels.{isLabel, isZeroLabel, areLabels, labelPlace, labelAt}
+use Rattle.dstree.specs.Sheet.{letters, headOf, coded, cellBlocksNeeded, labelBytes, labelParts, blocksOf, sheetAs, blocksNeededAs}
+use Rattle.dstree.specs.Sheet.{blocksIn, measuresIn, countIn, beforeLabels, cellBytesIn, zerosBehind, decoded, tracesInBlocks}
+use Rattle.dstree.specs.Sheet.{labelIn, labelsInBlocks, isWrongLength, isKind, isTorn}
 use Rattle.dstree.specs.Sheet.{tornConditions, areZero, zerosIn, badConditions, conditionsAs, libraryIn, judgedBy, judgeAs}
 use Rattle.dstree.specs.Book.{besideOf, controlShort, tablesShort, readingConditions, putRead, openingEntry, addingEntry}
-use Rattle.dstree.specs.Book.{writingEntry, readingEntry, importingEntry, exportingEntry, checkingEntry}
+use Rattle.dstree.specs.Book.{writingEntry, readingEntry, importingEntry, exportingEntry, checkingEntry, labellingEntry}
 use Rattle.dstree.specs.Book.{entryOf, judge, putUnless, turn, after, replyUnless, replyOf, repliesOf, start}
 use Rattle.dstree.specs.Program.{refusalLine, matchLine, lineOf, judgedLine, programLine, digitsFrom, decimal, spaced, text, printed}
 use Rattle.dstree.specs.Claims.{numbersAmong}
@@ -48,7 +50,7 @@ unfolding scatterLimit rootLimit largestDistance
 figuresOpen2 = tt
 
 unfoldable nodesOpen : Unit {0}
-unfolding sampleLimit inRange samplesNeeded recordsNeeded linksNeeded workNeeded isTrace isLibrary samplesOn figureOf goesLeft totalOver
+unfolding sampleLimit inRange samplesNeeded recordsNeeded linksNeeded workNeeded labelsNeeded isTrace isLibrary samplesOn figureOf goesLeft totalOver
 nodesOpen = tt
 
 unfoldable nodesOpen2 : Unit {0}
@@ -90,16 +92,20 @@ unfolding thresholdFits testFits nodeFits wellFormedTree numberOf placeOf firstO
 rulesOpen2 = tt
 
 unfoldable sheetsOpen : Unit {0}
-unfolding areBytes bytesOf numberIn pieces filledTo kindOf weighted checkOf sealed block blocksFrom letters headOf coded
+unfolding areBytes bytesOf numberIn pieces filledTo weighted checkOf sealed block blocksFrom letters headOf coded labelBytes isKind
 sheetsOpen = tt
 
 unfoldable sheetsOpen2 : Unit {0}
-unfolding sampleBlocksNeeded blocksNeeded carriedOf blocksOf sheetAs blocksIn measuresIn countIn decoded sampleBytesIn tracesInBlocks
+unfolding cellBlocksNeeded labelParts blocksOf sheetAs blocksNeededAs blocksIn measuresIn countIn decoded cellBytesIn tracesInBlocks beforeLabels
 sheetsOpen2 = tt
 
 unfoldable sheetTestsOpen : Unit {0}
-unfolding isWrongLength isTorn tornConditions areZero zerosIn badConditions conditionsAs libraryIn judgedBy judgeAs
+unfolding isWrongLength isTorn tornConditions areZero zerosBehind zerosIn badConditions conditionsAs libraryIn judgedBy judgeAs labelIn labelsInBlocks
 sheetTestsOpen = tt
+
+unfoldable labelsOpen : Unit {0}
+unfolding isLabel isZeroLabel areLabels labelPlace labelAt
+labelsOpen = tt
 
 unfoldable recordingsOpen : Unit {0}
 unfolding header fieldBytes recordingOf rateIn sizeIn begins isRecording recordedTraces judgeRecording fileTraces isBadFile
@@ -114,7 +120,7 @@ unfolding besideOf controlShort tablesShort readingConditions putRead openingEnt
 booksOpen = tt
 
 unfoldable booksOpen2 : Unit {0}
-unfolding importingEntry exportingEntry checkingEntry entryOf judge putUnless turn after replyUnless replyOf repliesOf start
+unfolding importingEntry exportingEntry checkingEntry labellingEntry entryOf judge putUnless turn after replyUnless replyOf repliesOf start
 booksOpen2 = tt
 
 unfoldable linesOpen : Unit {0}
@@ -123,5 +129,5 @@ linesOpen = tt
 
 unfoldable pub everything : Unit {0}
 unfolding wordsOpen figuresOpen figuresOpen2 nodesOpen nodesOpen2 addingOpen addingOpen2 matchingOpen matchingOpen2 nearestOpen batchesOpen rulesOpen
-    rulesOpen2 sheetsOpen sheetsOpen2 sheetTestsOpen recordingsOpen checkingOpen booksOpen booksOpen2 linesOpen
+    rulesOpen2 sheetsOpen sheetsOpen2 sheetTestsOpen labelsOpen recordingsOpen checkingOpen booksOpen booksOpen2 linesOpen
 everything = tt

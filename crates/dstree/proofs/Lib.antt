@@ -9,6 +9,7 @@ pub mod Notation
 pub mod Examples
 pub mod Unsplit
 pub mod BookExamples
+pub mod LabelExamples
 pub mod Parting
 pub mod Looking
 pub mod Deviations
@@ -41,8 +42,11 @@ pub mod BatchClosed
 pub mod SheetPieces
 pub mod SheetFormat
 pub mod SheetFields
+pub mod SheetLabels
 pub mod Conditions
 pub mod SheetBlocks
+pub mod SheetKinds
+pub mod SheetCells
 pub mod SheetWritten
 pub mod SheetRead
 pub mod Libraries
@@ -50,6 +54,7 @@ pub mod ReadBack
 pub mod WrittenAgain
 pub mod SheetTorn
 pub mod RoundTrips
+pub mod Remote
 pub mod Laws
 pub mod KLaws
 pub mod BatchLaws

@@ -1,7 +1,7 @@
 -- Fields of a sheet: numbers and samples of any format in bytes, there and back.
 use Prim.Native.Nat.{ℕ, zero, suc, _+_, _*_, _-_, _/_, _%_, _^_, _≤_, _<_}
 use mathlib.Core.Path.{_≡_, refl, sym, _∙_, ap, subst}
-use mathlib.Core.List.{List, [], _∷_, _++_, map, flatten, append-assoc}
+use mathlib.Core.List.{List, [], _∷_, _++_, map, flatten}
 use native.Mathlib.Omega.{arith}
 use native.Mathlib.Decide.{decLe}
 use native.Mathlib.Nat.{pow-succ', lt-of-not-le, le-of-lt, mul-le-mul-right}
@@ -13,7 +13,7 @@ use lib.Dec.{T, ltb, ltb→lt, lt→ltb}
 use mir.Facts.{yes-and}
 use borrow.Author.Tests.{lt-ltb, le-ltb}
 use Rattle.integer.specs.Words.{every}
-use Rattle.integer.proofs.Lists.{All, all-none, all-more, all-mono, every-all}
+use Rattle.integer.proofs.Lists.{All, all-none, all-more, all-mono, every-all, flat-append}
 use Rattle.dstree.specs.Sheet.{areBytes, bytesOf, numberIn, part, Format, coded, codedAll, decoded}
 use Rattle.dstree.proofs.SheetPieces.{AllOfSize, flatten-length}
 
@@ -67,6 +67,53 @@ number-below (all-more {a = b} {rest} h hs) =
 pub said : (k v : ℕ) (bs : List ℕ) → length bs ≡ k → Bytes bs → numberIn bs ≡ v → bytesOf k v ≡ bs
 said k v bs l h e = rw (← l, ← e) (bytes-number h)
 
+-- ---- cells of one size in a row
+
+module _ {A : Type 0} (code : A → List ℕ) (width : ℕ) (sized : (x : A) → length (code x) ≡ width) where
+  abbrev row : List A → List ℕ
+  row xs = flatten (map code xs)
+
+  pub row-sized : (xs : List A) → AllOfSize width (map code xs)
+  row-sized [] = all-none
+  row-sized (x ∷ xs) = all-more {a = code x} (sized x) (row-sized xs)
+
+  pub row-length : (xs : List A) → length (row xs) ≡ length xs * width
+  row-length xs = flatten-length width (row-sized xs) ∙ ap (λ (k : ℕ). k * width) (length-map xs code)
+
+  -- cut behind k cells: their bytes, and the others'
+  module _ (k : ℕ) (xs : List A) where
+    cut : row xs ≡ row (take k xs) ++ row (drop k xs)
+    cut = ap row (sym (take-append-drop k xs)) ∙ flat-append code (take k xs) (drop k xs)
+
+    long : k ≤ length xs → length (row (take k xs)) ≡ k * width
+    long h = row-length (take k xs) ∙ ap (λ (i : ℕ). i * width) (length-take-le k xs h)
+
+    short : length xs ≤ k → length (row xs) ≤ k * width
+    short h = omega (arith, row-length xs, mul-le-mul-right width h)
+
+    row-take : take (k * width) (row xs) ≡ row (take k xs)
+    row-take = by (decLe k (length xs))
+      where
+        by : Dec (k ≤ length xs) → take (k * width) (row xs) ≡ row (take k xs)
+        by (yes h) = ap (take (k * width)) cut ∙ take-at (row (take k xs)) (row (drop k xs)) (k * width) (long h)
+        by (no g) =
+            let h : length xs ≤ k = le-of-lt (lt-of-not-le g) in
+            take-all (k * width) (row xs) (short h) ∙ ap row (sym (take-all k xs h))
+
+    row-drop : drop (k * width) (row xs) ≡ row (drop k xs)
+    unfolding flatten
+    row-drop = by (decLe k (length xs))
+      where
+        by : Dec (k ≤ length xs) → drop (k * width) (row xs) ≡ row (drop k xs)
+        by (yes h) = ap (drop (k * width)) cut ∙ drop-at (row (take k xs)) (row (drop k xs)) (k * width) (long h)
+        by (no g) =
+            let h : length xs ≤ k = le-of-lt (lt-of-not-le g) in
+            drop-of-length-le (row xs) {i = k * width} (short h) ∙ sym (ap row (drop-of-length-le xs {i = k} h))
+
+  -- the bytes of so many cells from one on
+  pub row-part : (i count : ℕ) (xs : List A) → part (i * width) (count * width) (row xs) ≡ row (part i count xs)
+  row-part i count xs = ap (take (count * width)) (row-drop i xs) ∙ row-take count (drop i xs)
+
 -- ---- samples of any format
 
 module _ (f : Format) where
@@ -81,54 +128,16 @@ module _ (f : Format) where
   coded-length (pos v) = bytes-length width v
   coded-length (negsuc v) = bytes-length width (above - 1 - v)
 
-  pub coded-sized : (xs : List ℤ) → AllOfSize width (map (coded f) xs)
-  coded-sized [] = all-none
-  coded-sized (x ∷ xs) = all-more {a = coded f x} (coded-length x) (coded-sized xs)
-
   -- ---- one behind another
 
+  pub coded-sized : (xs : List ℤ) → AllOfSize width (map (coded f) xs)
+  coded-sized = row-sized (coded f) width coded-length
+
   pub codes-length : (xs : List ℤ) → length (codedAll f xs) ≡ length xs * width
-  codes-length xs = flatten-length width (coded-sized xs) ∙ ap (λ (k : ℕ). k * width) (length-map xs (coded f))
+  codes-length = row-length (coded f) width coded-length
 
   pub codes-append : (a b : List ℤ) → codedAll f (a ++ b) ≡ codedAll f a ++ codedAll f b
-  unfolding flatten
-  codes-append [] b = refl
-  codes-append (z ∷ a) b =
-      ap (λ (l : List ℕ). coded f z ++ l) (codes-append a b) ∙ sym (append-assoc (coded f z) (codedAll f a) (codedAll f b))
-
-  -- cut behind k samples: their bytes, and the others'
-  module _ (k : ℕ) (xs : List ℤ) where
-    cut : codedAll f xs ≡ codedAll f (take k xs) ++ codedAll f (drop k xs)
-    cut = ap (codedAll f) (sym (take-append-drop k xs)) ∙ codes-append (take k xs) (drop k xs)
-
-    long : k ≤ length xs → length (codedAll f (take k xs)) ≡ k * width
-    long h = codes-length (take k xs) ∙ ap (λ (i : ℕ). i * width) (length-take-le k xs h)
-
-    short : length xs ≤ k → length (codedAll f xs) ≤ k * width
-    short h = omega (arith, codes-length xs, mul-le-mul-right width h)
-
-    pub codes-take : take (k * width) (codedAll f xs) ≡ codedAll f (take k xs)
-    codes-take = by (decLe k (length xs))
-      where
-        by : Dec (k ≤ length xs) → take (k * width) (codedAll f xs) ≡ codedAll f (take k xs)
-        by (yes h) = ap (take (k * width)) cut ∙ take-at (codedAll f (take k xs)) (codedAll f (drop k xs)) (k * width) (long h)
-        by (no g) =
-            let h : length xs ≤ k = le-of-lt (lt-of-not-le g) in
-            take-all (k * width) (codedAll f xs) (short h) ∙ ap (codedAll f) (sym (take-all k xs h))
-
-    pub codes-drop : drop (k * width) (codedAll f xs) ≡ codedAll f (drop k xs)
-    unfolding flatten
-    codes-drop = by (decLe k (length xs))
-      where
-        by : Dec (k ≤ length xs) → drop (k * width) (codedAll f xs) ≡ codedAll f (drop k xs)
-        by (yes h) = ap (drop (k * width)) cut ∙ drop-at (codedAll f (take k xs)) (codedAll f (drop k xs)) (k * width) (long h)
-        by (no g) =
-            let h : length xs ≤ k = le-of-lt (lt-of-not-le g) in
-            drop-of-length-le (codedAll f xs) {i = k * width} (short h) ∙ sym (ap (codedAll f) (drop-of-length-le xs {i = k} h))
-
-  -- the bytes of so many samples from one on
-  pub codes-part : (i count : ℕ) (xs : List ℤ) → part (i * width) (count * width) (codedAll f xs) ≡ codedAll f (part i count xs)
-  codes-part i count xs = ap (take (count * width)) (codes-drop i xs) ∙ codes-take count (drop i xs)
+  codes-append = flat-append (coded f)
 
   -- ---- there and back
 

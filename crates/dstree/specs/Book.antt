@@ -3,10 +3,12 @@
 use Prim.Native.Nat.{ℕ, _+_, _*_}
 use mathlib.Core.Bool.{Bool, true, not, _&&_, _||_}
 use mathlib.Core.Option.{Option, none, some}
-use mathlib.Core.List.{List, [], _∷_, _++_}
-use lib.ListN.{length, getD, drop}
+use mathlib.Core.List.{List, [], _∷_, _++_, map}
+use lib.ListN.{length, getD, drop, replicate}
 use lib.Dec.{ltb, eqb}
 use Rattle.dstree.specs.Measures.{Trace, Measures, measures, inRange, samplesNeeded, recordsNeeded, linksNeeded, workNeeded}
+use Rattle.dstree.specs.Measures.{labelsNeeded}
+use Rattle.dstree.specs.Labels.{Label, noLabel}
 use Rattle.dstree.specs.Node.{Tree}
 use Rattle.dstree.specs.Adding.{treeOf}
 use Rattle.dstree.specs.Matching.{leaves, Near, Match, Search, searched, matchOf}
@@ -31,27 +33,31 @@ pub record Lent : Type 0 where
   pub nodes : ℕ
   pub links : ℕ
   pub work : ℕ
+  pub labels : ℕ
 
 -- what a search is asked: a match comes with its query and the contents of its trail; the search of document 02, §1, with k, its query, and
 -- the contents of its trail and its list; a batch of §7 with the number of its queries, their run of samples, and the contents of its trail
--- and of its list of answer records
+-- and of its list of answer records; the remote's match of §8 with its query and its trail
 pub data Sought : Type 0 where
   aMatch : Trace → List ℕ → Sought
   aListing : ℕ → Trace → List ℕ → List ℕ → Sought
   aBatch : ℕ → Trace → List ℕ → List Near → Sought
+  aRemote : Trace → List ℕ → Sought
 
 -- what a call asks for: "calls of opening, adding, match, sheet writing and sheet reading .. with any arguments". "Trails and sheets are
 -- not part of" the tables: a writing and a reading come with the bytes of their sheet; an import of document 02, §2, with the bytes of its
--- file, an export with a trace's number, a rate, and the contents of its buffer; the check of §6 with nothing but the tables
+-- file, an export with a trace's number, a rate, and the contents of its buffer; the check of §6 with nothing but the tables; an adding
+-- with the label of §8 too, the bench's call for a label with a trace's number
 pub data Ask : Type 0 where
   opening : Measures → Ask
-  adding : Trace → Ask
+  adding : Trace → Label → Ask
   searching : Sought → Ask
   writing : List ℕ → Ask
   reading : List ℕ → Ask
   importing : List ℕ → Ask
   exporting : ℕ → ℕ → List ℕ → Ask
   checking : Ask
+  labelling : ℕ → Ask
 
 abbrev pub matching : Trace → List ℕ → Ask
 matching query trail = searching (aMatch query trail)
@@ -61,6 +67,9 @@ listing k query trail list = searching (aListing k query trail list)
 
 abbrev pub batching : ℕ → Trace → List ℕ → List Near → Ask
 batching count run trail list = searching (aBatch count run trail list)
+
+abbrev pub remoteMatching : Trace → List ℕ → Ask
+remoteMatching query trail = searching (aRemote query trail)
 
 -- a call: "arguments .., lengths of tables included"
 pub record Call : Type 0 where
@@ -75,7 +84,7 @@ call lent ask = record { lent = lent; ask = ask }
 -- what a call answers that is not refused: "Opening and sheet reading answer only that they succeeded, adding the new trace's number,
 -- writing the number of blocks"; a match with its trail, a writing with its sheet, a listing with list and trail; an import "how many"
 -- traces it added, an export "its bytes' number", with these bytes; a check that "it accepts"; a batch with its answer records, "one count
--- of leaves" and its trail
+-- of leaves" and its trail; the bench's call "both for a trace number"; the remote's a match that "adds the fault code and nothing else"
 pub data Result : Type 0 where
   done : Result
   added : ℕ → Result
@@ -86,6 +95,8 @@ pub data Result : Type 0 where
   exported : ℕ → List ℕ → Result
   accepted : Result
   batched : Batch → Result
+  labelled : Label → Result
+  remoteMatched : Match → ℕ → Result
 
 -- "does its work or gives the one refusal that document 01 fixes"
 pub data Answer : Type 0 where
@@ -106,13 +117,14 @@ over front l = front ++ drop (length front) l
 
 -- ---- the book
 
--- "keeps n, capacity, leaf size and a list of traces"
+-- "keeps n, capacity, leaf size and a list of traces"; document 02, §8: "the book keeps" labels "with its traces", one for each
 pub record Book : Type 0 where
   pub measures : Measures
   pub traces : List Trace
+  pub labels : List Label
 
-abbrev pub book : Measures → List Trace → Book
-book m traces = record { measures = m; traces = traces }
+abbrev pub book : Measures → List Trace → List Label → Book
+book m traces labels = record { measures = m; traces = traces; labels = labels }
 
 -- "The book's tree is what the steps under Adding make of its traces"
 abbrev pub bookTree : Book → Tree
@@ -139,6 +151,7 @@ tablesShort layout lent m =
     || ltb (lent .nodes) (recordsNeeded m * layout .recordPlaces)
     || ltb (lent .links) (linksNeeded m)
     || ltb (lent .work) (workNeeded m)
+    || ltb (lent .labels) (labelsNeeded m)
 
 -- 2, for tables that these measures need. "3 never arises from these tables"
 abbrev pub shortConditions : Layout → Lent → Measures → List Condition
@@ -156,8 +169,12 @@ abbrev pub queryConditions : Measures → ℕ → Tree → Trace → List ℕ �
 queryConditions m count tree query trail = runConditions (m .n) count (length (leaves tree)) query trail
 
 -- writing, of its sheet: 8
-abbrev pub writeConditions : Measures → ℕ → List ℕ → List Condition
-writeConditions m count sheet = ltb (length sheet) (blockSize * blocksNeeded count (m .n)) refuses sheetLength ∷ []
+abbrev pub writeConditions : Measures → ℕ → List Label → List ℕ → List Condition
+writeConditions m count labels sheet = ltb (length sheet) (blockSize * blocksNeeded count (m .n) labels) refuses sheetLength ∷ []
+
+-- document 02, §8, of the bench's call: a trace number "out of range is 12, as in export"
+abbrev pub labelConditions : ℕ → ℕ → List Condition
+labelConditions count number = not (ltb number count) refuses badRecording ∷ []
 
 -- document 02, §1: "11 bad k, outside 1 to 16, after 3; a list shorter than k is refused as 7", k traces taking two places each
 abbrev pub listConditions : Measures → ℕ → Tree → ℕ → Trace → List ℕ → List ℕ → List Condition
@@ -178,12 +195,12 @@ exportConditions m count number rate buffer =
 -- "Reading: 8; 9 over all blocks; 10; 2"
 unfoldable pub readingConditions : Layout → Lent → Judged → List Condition
 readingConditions layout lent (refused r) = true refuses r ∷ []
-readingConditions layout lent (holds m traces) = shortConditions layout lent m
+readingConditions layout lent (holds m traces labels) = shortConditions layout lent m
 
--- "Reading puts the sheet's measures and traces, in order"
+-- "Reading puts the sheet's measures and traces, in order", and its labels
 unfoldable pub putRead : Book → Judged → Book
 putRead b (refused r) = b
-putRead b (holds m traces) = book m traces
+putRead b (holds m traces labels) = book m traces labels
 
 -- ---- searches, each as a value
 
@@ -200,9 +217,10 @@ pub record AnySearch : Type 0 where
   pub lends : List (List ℕ)
   -- what it refuses behind 2 and 3
   pub refuses-own : Measures → ℕ → Tree → List Condition
-  -- what it finds: by its steps, whoever made the tables, and in closed form, which the book has
-  pub steps : Measures → List Trace → Tree → Found
-  pub closed : Measures → List Trace → Tree → Found
+  -- what it finds: by its steps, whoever made the tables, and in closed form, which the book has. Of labels a search is given the fault
+  -- codes alone (document 02, §8), so that no search sees a serial
+  pub steps : Measures → List Trace → List ℕ → Tree → Found
+  pub closed : Measures → List Trace → List ℕ → Tree → Found
 
 -- a match. "the trail begins with R". (A search of well-formed tables with a trace finds one, so that 0 and 0 are never answered:
 -- `calls/proofs/Finds`)
@@ -222,8 +240,8 @@ abbrev pub matchSearch : Trace → List ℕ → AnySearch
 matchSearch query trail = record {
   lends = trail ∷ [];
   refuses-own = λ m count tree. queryConditions m count tree query trail;
-  steps = λ m traces tree. let s = searched traces tree query in matchFound trail (matchSeen s (s .best));
-  closed = λ m traces tree. matchFound trail (matchOf traces tree query);
+  steps = λ m traces codes tree. let s = searched traces tree query in matchFound trail (matchSeen s (s .best));
+  closed = λ m traces codes tree. matchFound trail (matchOf traces tree query);
 }
 
 -- document 02, §1: "lists the k nearest traces"; "List places past those filled keep their contents"
@@ -234,8 +252,8 @@ abbrev pub listSearch : ℕ → Trace → List ℕ → List ℕ → AnySearch
 listSearch k query trail list = record {
   lends = trail ∷ list ∷ [];
   refuses-own = λ m count tree. listConditions m count tree k query trail list;
-  steps = λ m traces tree. listFound trail list (kNearestBySteps k traces tree query);
-  closed = λ m traces tree. listFound trail list (kNearestOf k traces tree query);
+  steps = λ m traces codes tree. listFound trail list (kNearestBySteps k traces tree query);
+  closed = λ m traces codes tree. listFound trail list (kNearestOf k traces tree query);
 }
 
 -- document 02, §7: "One answer record for each query is filled in the caller's list", which has a place for each and no more
@@ -246,25 +264,39 @@ abbrev pub batchSearch : ℕ → Trace → List ℕ → List Near → AnySearch
 batchSearch count run trail list = record {
   lends = trail ∷ listPlaces list ∷ [];
   refuses-own = λ m stored tree. batchConditions (m .n) stored (length (leaves tree)) count (length list) run trail;
-  steps = λ m traces tree. batchFound trail (batchBySteps traces tree (queriesIn (m .n) count run));
-  closed = λ m traces tree. batchFound trail (batchOf traces tree (queriesIn (m .n) count run));
+  steps = λ m traces codes tree. batchFound trail (batchBySteps traces tree (queriesIn (m .n) count run));
+  closed = λ m traces codes tree. batchFound trail (batchOf traces tree (queriesIn (m .n) count run));
+}
+
+-- document 02, §8: "The jog remote has one call, a match whose answer adds the fault code and nothing else"
+abbrev pub remoteFound : List ℕ → List ℕ → Match → Found
+remoteFound codes trail m = finding (remoteMatched m (getD codes (m .trace) 0)) (over (m .trail) trail ∷ [])
+
+abbrev pub remoteSearch : Trace → List ℕ → AnySearch
+remoteSearch query trail = record {
+  lends = trail ∷ [];
+  refuses-own = λ m count tree. queryConditions m count tree query trail;
+  steps = λ m traces codes tree. let s = searched traces tree query in remoteFound codes trail (matchSeen s (s .best));
+  closed = λ m traces codes tree. remoteFound codes trail (matchOf traces tree query);
 }
 
 abbrev pub searchOf : Sought → AnySearch
 searchOf (aMatch query trail) = matchSearch query trail
 searchOf (aListing k query trail list) = listSearch k query trail list
 searchOf (aBatch count run trail list) = batchSearch count run trail list
+searchOf (aRemote query trail) = remoteSearch query trail
 
 -- what a call is lent beside the tables to be written, slice by slice
 unfoldable pub besideOf : Ask → List (List ℕ)
 besideOf (opening m) = []
-besideOf (adding x) = []
+besideOf (adding x l) = []
 besideOf (searching q) = searchOf q .lends
 besideOf (writing sheet) = sheet ∷ []
 besideOf (reading bytes) = []
 besideOf (importing bytes) = []
 besideOf (exporting number rate buffer) = buffer ∷ []
 besideOf checking = []
+besideOf (labelling number) = []
 
 -- ---- call by call
 
@@ -273,16 +305,16 @@ module _ (layout : Layout) (lent : Lent) (b : Book) where
   unfoldable pub openingEntry : Measures → Entry
   openingEntry m = record {
     conditions = not (inRange m) refuses measure ∷ shortConditions layout lent m;
-    puts = book m [];
+    puts = book m [] [];
     result = done;
     beside = [];
   }
 
-  -- "Adding appends its trace"
-  unfoldable pub addingEntry : Trace → Entry
-  addingEntry x = record {
+  -- "Adding appends its trace", and its label
+  unfoldable pub addingEntry : Trace → Label → Entry
+  addingEntry x l = record {
     conditions = shortConditions layout lent (b .measures) ++ addConditions (b .measures) (length (b .traces)) x;
-    puts = book (b .measures) (b .traces ++ (x ∷ []));
+    puts = book (b .measures) (b .traces ++ (x ∷ [])) (b .labels ++ (l ∷ []));
     result = added (length (b .traces));
     beside = [];
   }
@@ -290,7 +322,7 @@ module _ (layout : Layout) (lent : Lent) (b : Book) where
   -- a search: "A refused call changes nothing, nor does a match or a writing"
   abbrev pub searchingEntry : AnySearch → Entry
   searchingEntry s =
-      let found = s .closed (b .measures) (b .traces) (bookTree b) in
+      let found = s .closed (b .measures) (b .traces) (map (λ (l : Label). l .code) (b .labels)) (bookTree b) in
       record {
         conditions = shortConditions layout lent (b .measures) ++ s .refuses-own (b .measures) (length (b .traces)) (bookTree b);
         puts = b;
@@ -300,11 +332,11 @@ module _ (layout : Layout) (lent : Lent) (b : Book) where
 
   unfoldable pub writingEntry : List ℕ → Entry
   writingEntry sheet =
-      let bytes = sheetOf (b .measures) (b .traces) in
+      let bytes = sheetOf (b .measures) (b .traces) (b .labels) in
       record {
-        conditions = shortConditions layout lent (b .measures) ++ writeConditions (b .measures) (length (b .traces)) sheet;
+        conditions = shortConditions layout lent (b .measures) ++ writeConditions (b .measures) (length (b .traces)) (b .labels) sheet;
         puts = b;
-        result = written (blocksNeeded (length (b .traces)) (b .measures .n)) bytes;
+        result = written (blocksNeeded (length (b .traces)) (b .measures .n) (b .labels)) bytes;
         beside = over bytes sheet ∷ [];
       }
 
@@ -322,7 +354,8 @@ module _ (layout : Layout) (lent : Lent) (b : Book) where
       let file = judgeRecording (b .measures .n) bytes in
       record {
         conditions = shortConditions layout lent (b .measures) ++ importConditions (b .measures) (length (b .traces)) file;
-        puts = book (b .measures) (b .traces ++ fileTraces file);
+        puts =
+            book (b .measures) (b .traces ++ fileTraces file) (b .labels ++ replicate (length (fileTraces file)) noLabel);
         result = imported (length (fileTraces file));
         beside = [];
       }
@@ -342,15 +375,25 @@ module _ (layout : Layout) (lent : Lent) (b : Book) where
   unfoldable pub checkingEntry : Entry
   checkingEntry = record { conditions = shortConditions layout lent (b .measures); puts = b; result = accepted; beside = [] }
 
+  -- document 02, §8: "The bench has a call that answers both for a trace number"
+  unfoldable pub labellingEntry : ℕ → Entry
+  labellingEntry number = record {
+    conditions = shortConditions layout lent (b .measures) ++ labelConditions (length (b .traces)) number;
+    puts = b;
+    result = labelled (getD (b .labels) number noLabel);
+    beside = [];
+  }
+
   unfoldable pub entryOf : Ask → Entry
   entryOf (opening m) = openingEntry m
-  entryOf (adding x) = addingEntry x
+  entryOf (adding x l) = addingEntry x l
   entryOf (searching q) = searchingEntry (searchOf q)
   entryOf (writing sheet) = writingEntry sheet
   entryOf (reading bytes) = readingEntry bytes
   entryOf (importing bytes) = importingEntry bytes
   entryOf (exporting number rate buffer) = exportingEntry number rate buffer
   entryOf checking = checkingEntry
+  entryOf (labelling number) = labellingEntry number
 
 -- ---- every call
 
@@ -391,4 +434,4 @@ repliesOf layout b (c ∷ rest) = replyOf layout b c ∷ repliesOf layout (turn 
 
 -- "It starts with what that call puts": an opening or a reading that has just succeeded. What the book is before it does not matter
 unfoldable pub start : Layout → Call → Book
-start layout c = entry layout (book (measures 0 0 0) []) c .puts
+start layout c = entry layout (book (measures 0 0 0) [] []) c .puts

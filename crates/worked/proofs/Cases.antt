@@ -15,9 +15,9 @@ use Rattle.dstree.specs.Node.{bySum, byScatter, leaf, inner, node, Tree}
 use Rattle.dstree.specs.Adding.{treeOf}
 use Rattle.dstree.specs.Matching.{bound, Match, matchBySteps, matchOf}
 use Rattle.dstree.specs.WellFormed.{wellFormedTree}
-use Rattle.dstree.specs.Sheet.{sheetOf, Judged, holds, judgeSheet}
+use Rattle.dstree.specs.Sheet.{Judged, judgeSheet}
 use Rattle.dstree.specs.Examples.{matchWith}
-use Rattle.dstree.proofs.Notation.{+, −, seg, test}
+use Rattle.dstree.proofs.Notation.{+, −, seg, test, plainSheet, holdsPlain}
 use Rattle.dstree.proofs.Everything.{everything}
 
 -- ---- what is compared
@@ -50,7 +50,7 @@ computed c = record {
   steps = matchBySteps (c .traces) (c .tree) (c .query);
   sound = wellFormedTree sampleLimit (c .measures) (length (c .traces)) (c .tree);
   library = isLibrary sampleLimit (c .measures) (c .traces);
-  sheet = judgeSheet (sheetOf (c .measures) (c .traces));
+  sheet = judgeSheet (plainSheet (c .measures) (c .traces));
 }
 
 -- expected: the given tree, bounds and match, the match by its steps too; well-formed tables of a library, whose sheet reads back
@@ -62,7 +62,7 @@ expected c = record {
   steps = some (c .match);
   sound = true;
   library = true;
-  sheet = holds (c .measures) (c .traces);
+  sheet = holdsPlain (c .measures) (c .traces);
 }
 
 -- ---- the table

@@ -24,11 +24,11 @@ use Rattle.dstree.specs.Claims.{numbersAmong}
 use Rattle.dstree.specs.WellFormed.{wellFormedTree}
 use Rattle.dstree.specs.Refusals.{Refusal, measure, shortTable, spoiled, wrongTrace, full, empty, shortTrail, sheetLength, tornBlock}
 use Rattle.dstree.specs.Refusals.{badSheet, badK, badRecording, looseRecord, badBatch, numberOf, placeOf, _refuses_, firstOf}
-use Rattle.dstree.specs.Sheet.{bytesOf, numberIn, part, narrow, kindOf, weighted, checkOf, block, headOf, coded, blocksNeeded}
-use Rattle.dstree.specs.Sheet.{blocksOf, sheetOf, decoded, isWrongLength, isTorn, refused, holds, judgeSheet}
+use Rattle.dstree.specs.Sheet.{bytesOf, numberIn, part, narrow, isKind, weighted, checkOf, block, headOf, coded, blocksNeeded}
+use Rattle.dstree.specs.Sheet.{blocksOf, decoded, isWrongLength, isTorn, refused, judgeSheet}
 use Rattle.dstree.specs.Program as program
 use Rattle.dstree.specs.Examples.{level, ABC, tree, gains, matchWith, twins}
-use Rattle.dstree.proofs.Notation.{+, −, seg, test}
+use Rattle.dstree.proofs.Notation.{+, −, seg, test, unlabelled, plainSheet, holdsPlain}
 use Rattle.dstree.proofs.Everything.{everything}
 
 -- ---- "Measures"
@@ -493,14 +493,14 @@ long = map pos (counting 254 1) ∷ []
 
 -- the bytes of a block from a place on
 abbrev inBlock : ℕ → ℕ → ℕ → List ℕ
-inBlock number place k = part place k (getD (blocksOf narrow (measures 254 1 1) long) number [])
+inBlock number place k = part place k (getD (blocksOf narrow (measures 254 1 1) long (unlabelled long)) number [])
 
 -- n = 2, capacity 8, leaf size 2, seven traces and a query
 abbrev eight : List Trace
 eight = (+ 19 ∷ + 22 ∷ []) ∷ (+ 35 ∷ − 39 ∷ []) ∷ (+ 39 ∷ − 35 ∷ []) ∷ (− 28 ∷ + 12 ∷ []) ∷ (+ 2 ∷ + 19 ∷ []) ∷ (+ 6 ∷ − 11 ∷ []) ∷ (+ 32 ∷ − 3 ∷ []) ∷ (+ 7 ∷ − 26 ∷ []) ∷ []
 
 abbrev sheet : List ℕ
-sheet = sheetOf (measures 2 8 2) eight
+sheet = plainSheet (measures 2 8 2) eight
 
 pub record SheetExamples : Type 0 where
   -- "all fields low byte first"
@@ -510,7 +510,8 @@ pub record SheetExamples : Type 0 where
   pub coded-samples : map (coded narrow) (+ 32767 ∷ + 1 ∷ + 0 ∷ − 1 ∷ − 32768 ∷ []) ≡ (255 ∷ 127 ∷ []) ∷ (1 ∷ 0 ∷ []) ∷ (0 ∷ 0 ∷ []) ∷ (255 ∷ 255 ∷ []) ∷ (0 ∷ 128 ∷ []) ∷ []
   pub decoded-samples : map (decoded narrow) ((255 ∷ 127 ∷ []) ∷ (1 ∷ 0 ∷ []) ∷ (0 ∷ 0 ∷ []) ∷ (255 ∷ 255 ∷ []) ∷ (0 ∷ 128 ∷ []) ∷ []) ≡ + 32767 ∷ + 1 ∷ + 0 ∷ − 1 ∷ − 32768 ∷ []
   -- "kind, 1 for block 0, 2 for others"
-  pub kinds : map (kindOf narrow) (0 ∷ 1 ∷ 4145 ∷ []) ≡ 1 ∷ 2 ∷ 2 ∷ []
+  pub kinds : map (λ number. map (isKind narrow number 2) (0 ∷ 1 ∷ 2 ∷ 3 ∷ 4 ∷ 5 ∷ [])) (0 ∷ 1 ∷ 4145 ∷ [])
+      ≡ (false ∷ true ∷ false ∷ false ∷ false ∷ false ∷ []) ∷ (false ∷ false ∷ true ∷ false ∷ false ∷ true ∷ []) ∷ (false ∷ false ∷ true ∷ false ∷ false ∷ true ∷ []) ∷ []
   -- "total of (position + 1) × byte over positions 0 to 509, modulo 65,521": 1 × 5 + 2 × 6 + 3 × 7; then 255 at every position
   pub weights : weighted 0 (5 ∷ 6 ∷ 7 ∷ []) ≡ 38
   pub check-of-255 : checkOf (replicate 512 255) ≡ 8628
@@ -521,9 +522,9 @@ pub record SheetExamples : Type 0 where
   -- "253 samples each from byte 4, .. running on across blocks"
   pub sample-253 : inBlock 1 508 2 ≡ 253 ∷ 0 ∷ []
   pub sample-254 : inBlock 2 4 4 ≡ 254 ∷ 0 ∷ 0 ∷ 0 ∷ []
-  pub long-read-back : judgeSheet (sheetOf (measures 254 1 1) long) ≡ holds (measures 254 1 1) long
+  pub long-read-back : judgeSheet (plainSheet (measures 254 1 1) long) ≡ holdsPlain (measures 254 1 1) long
   -- "With k traces there are 1 + (k × n / 253 rounded up) blocks": none, 253 samples, 254, the largest library
-  pub block-counts : blocksNeeded 0 256 ∷ blocksNeeded 1 253 ∷ blocksNeeded 2 127 ∷ blocksNeeded 4096 256 ∷ [] ≡ 1 ∷ 2 ∷ 3 ∷ 4146 ∷ []
+  pub block-counts : blocksNeeded 0 256 [] ∷ blocksNeeded 1 253 [] ∷ blocksNeeded 2 127 [] ∷ blocksNeeded 4096 256 [] ∷ [] ≡ 1 ∷ 2 ∷ 3 ∷ 4146 ∷ []
   -- the bytes of a sheet, as another implementation writes them
   pub bytes : sheet
       ≡ 0 ∷ 0 ∷ 1 ∷ 0 ∷ 84 ∷ 82 ∷ 67 ∷ 76 ∷ 2 ∷ 0 ∷ 8 ∷ 0 ∷ 2 ∷ 0 ∷ 8 ∷ 0 ∷ (replicate 494 0
@@ -531,11 +532,11 @@ pub record SheetExamples : Type 0 where
       ∷ 1 ∷ 0 ∷ 2 ∷ 0 ∷ 19 ∷ 0 ∷ 22 ∷ 0 ∷ 35 ∷ 0 ∷ 217 ∷ 255 ∷ 39 ∷ 0 ∷ 221 ∷ 255 ∷ 228 ∷ 255 ∷ 12 ∷ 0 ∷ 2 ∷ 0 ∷ 19 ∷ 0 ∷ 6 ∷ 0 ∷ 245 ∷ 255 ∷ 32 ∷ 0 ∷ 253 ∷ 255 ∷ 7 ∷ 0 ∷ 230 ∷ 255 ∷ (replicate 474 0
       ++ 237 ∷ 22 ∷ []))
   -- a library without traces is one block, and is read back
-  pub empty-sheet : judgeSheet (sheetOf (measures 2 8 2) []) ≡ holds (measures 2 8 2) []
+  pub empty-sheet : judgeSheet (plainSheet (measures 2 8 2) []) ≡ holdsPlain (measures 2 8 2) []
   -- 8, "reading: 0, not a multiple of 512, above 4,146 blocks"
-  pub lengths : map isWrongLength (0 ∷ 511 ∷ 512 ∷ 513 ∷ 2122752 ∷ 2123264 ∷ []) ≡ true ∷ true ∷ false ∷ true ∷ false ∷ true ∷ []
+  pub lengths : map isWrongLength (0 ∷ 511 ∷ 512 ∷ 513 ∷ 2147840 ∷ 2148352 ∷ []) ≡ true ∷ true ∷ false ∷ true ∷ false ∷ true ∷ []
   -- 9, the check: one that is 0, and the same with 65,521 in its place
-  pub check-field : map (λ edits. isTorn narrow 1 (edited ((0, 1) ∷ (2, 2) ∷ (233, 1) ∷ (509, 128) ∷ edits) (replicate 512 0))) ([] ∷ ((510, 241) ∷ (511, 255) ∷ []) ∷ []) ≡ false ∷ true ∷ []
+  pub check-field : map (λ edits. isTorn narrow 1 1 (edited ((0, 1) ∷ (2, 2) ∷ (233, 1) ∷ (509, 128) ∷ edits) (replicate 512 0))) ([] ∷ ((510, 241) ∷ (511, 255) ∷ []) ∷ []) ≡ false ∷ true ∷ []
   -- "9 over all blocks", the place being "the first block at fault"
   pub torn : judgeSheet (edited ((516, 20) ∷ []) sheet) ≡ refused (tornBlock 1)
 
@@ -663,20 +664,20 @@ damages =
 
 pub record ProgramExamples : Type 0 where
   -- "For A, B, C and (1,1,1,1) it prints `0 4 1 1`"
-  pub printed : program.programLine (sheetOf (measures 4 8 2) (ABC ++ (level 1 ∷ []))) ≡ program.found 0 4 1 1
+  pub printed : program.programLine (plainSheet (measures 4 8 2) (ABC ++ (level 1 ∷ []))) ≡ program.found 0 4 1 1
   -- "in decimal with single spaces": the bytes of `0 4 1 1` and `refused 6 0`, a line feed behind them; of 0, 7, 10 and the largest
   -- distance
-  pub printed-match : program.printed (sheetOf (measures 4 8 2) (ABC ++ (level 1 ∷ []))) ≡ 48 ∷ 32 ∷ 52 ∷ 32 ∷ 49 ∷ 32 ∷ 49 ∷ 10 ∷ []
-  pub printed-refusal : program.printed (sheetOf (measures 2 8 2) []) ≡ 114 ∷ 101 ∷ 102 ∷ 117 ∷ 115 ∷ 101 ∷ 100 ∷ 32 ∷ 54 ∷ 32 ∷ 48 ∷ 10 ∷ []
+  pub printed-match : program.printed (plainSheet (measures 4 8 2) (ABC ++ (level 1 ∷ []))) ≡ 48 ∷ 32 ∷ 52 ∷ 32 ∷ 49 ∷ 32 ∷ 49 ∷ 10 ∷ []
+  pub printed-refusal : program.printed (plainSheet (measures 2 8 2) []) ≡ 114 ∷ 101 ∷ 102 ∷ 117 ∷ 115 ∷ 101 ∷ 100 ∷ 32 ∷ 54 ∷ 32 ∷ 48 ∷ 10 ∷ []
   pub digits : map program.decimal (0 ∷ 7 ∷ 10 ∷ 1099478073600 ∷ []) ≡ (48 ∷ []) ∷ (55 ∷ []) ∷ (49 ∷ 48 ∷ []) ∷ (49 ∷ 48 ∷ 57 ∷ 57 ∷ 52 ∷ 55 ∷ 56 ∷ 48 ∷ 55 ∷ 51 ∷ 54 ∷ 48 ∷ 48 ∷ []) ∷ []
   -- "A refusal prints `refused`, number, place"
   pub damaged : map (λ (d : Damage). program.programLine (take (d .size) (edited (d .edits) sheet))) damages ≡ map (λ (d : Damage). d .line) damages
   -- a block too many: it is torn, or the number of blocks is wrong
   pub more-blocks : map (λ more. program.programLine (sheet ++ more)) (replicate 512 0 ∷ block 2 2 [] ∷ []) ≡ program.refusedLine 9 2 ∷ program.refusedLine 10 0 ∷ []
   -- "No earlier trace is refusal 6": one trace, none
-  pub no-earlier : map (λ traces. program.programLine (sheetOf (measures 2 8 2) traces)) ((take 1 eight) ∷ [] ∷ []) ≡ program.refusedLine 6 0 ∷ program.refusedLine 6 0 ∷ []
+  pub no-earlier : map (λ traces. program.programLine (plainSheet (measures 2 8 2) traces)) ((take 1 eight) ∷ [] ∷ []) ≡ program.refusedLine 6 0 ∷ program.refusedLine 6 0 ∷ []
   -- "tables for n ≤ 64 and capacity ≤ 64; .. a larger n or capacity refusal 2", and that before 6: no sheet here has a trace
-  pub too-large : map (λ m. program.programLine (sheetOf m [])) (measures 64 64 2 ∷ measures 65 64 2 ∷ measures 64 65 2 ∷ [])
+  pub too-large : map (λ m. program.programLine (plainSheet m [])) (measures 64 64 2 ∷ measures 65 64 2 ∷ measures 64 65 2 ∷ [])
       ≡ program.refusedLine 6 0 ∷ program.refusedLine 2 0 ∷ program.refusedLine 2 0 ∷ []
   -- "one sheet of at most 65,536 bytes ..; a longer input is refusal 8": 128 blocks of zeros are torn, 129 are too long, torn or not
   pub too-long : map (λ size. program.programLine (replicate size 0)) (65536 ∷ 66048 ∷ []) ≡ program.refusedLine 9 0 ∷ program.refusedLine 8 0 ∷ []

@@ -154,6 +154,7 @@ module _ (part more : Tables) (x : Trace) (w : T (wellFormed part)) (long : Long
       (ap (λ (h : TreeTables). h .nodes) tree-tables-more)
       (ap (λ (h : TreeTables). h .links) tree-tables-more)
       refl
+      refl
 
 -- ---- a memory and its first places
 

@@ -53,6 +53,7 @@ pub record AddedAll (t : Tables) (more : List Trace) : Type 0 where
   pub trace-count : traceCount (foldl addedTo t more) ≡ traceCount t + length more
   pub lengths-stay : lentOf (foldl addedTo t more) ≡ lentOf t
   pub work-stays : foldl addedTo t more .work ≡ t .work
+  pub labels-stay : foldl addedTo t more .labels ≡ t .labels
   pub control-behind : drop controlFields (foldl addedTo t more .control) ≡ drop controlFields (t .control)
   pub samples-behind : drop (samplesNeeded (measuresOf t)) (foldl addedTo t more .samples) ≡ drop (samplesNeeded (measuresOf t)) (t .samples)
   pub nodes-behind : let k = recordsNeeded (measuresOf t) * recordPlaces in drop k (foldl addedTo t more .nodes) ≡ drop k (t .nodes)
@@ -69,6 +70,7 @@ after-one t x more a r =
       trace-count = omega (arith, r .trace-count, a .trace-count);
       lengths-stay = r .lengths-stay ∙ a .lengths-stay;
       work-stays = r .work-stays ∙ a .work-stays;
+      labels-stay = r .labels-stay ∙ a .labels-stay;
       control-behind = r .control-behind ∙ a .control-behind;
       samples-behind = behind samplesNeeded _ _ (r .samples-behind) ∙ a .samples-behind;
       nodes-behind = behind (λ (m : Measures). recordsNeeded m * recordPlaces) _ _ (r .nodes-behind) ∙ a .nodes-behind;
@@ -123,6 +125,7 @@ keeps-all t [] k = record {
   trace-count = omega arith;
   lengths-stay = refl;
   work-stays = refl;
+  labels-stay = refl;
   control-behind = refl;
   samples-behind = refl;
   nodes-behind = refl;

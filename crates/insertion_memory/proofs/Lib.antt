@@ -16,3 +16,4 @@ pub mod Keeps
 pub mod Beginnings
 pub mod Longer
 pub mod AddedBeginnings
+pub mod Labels

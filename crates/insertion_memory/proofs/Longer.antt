@@ -53,9 +53,9 @@ with-more p q j r h =
 pub on-more : (change : List ℤ → List ℤ) (p q : List ℤ) (j : ℕ) → j * recordPlaces + recordPlaces ≤ length p → onRecord change (p ++ q) j ≡ onRecord change p j ++ q
 on-more change p q j h = ap (λ (r : List ℤ). withRecord (p ++ q) j (change r)) (record-more p q j h) ∙ with-more p q j (change (recordOf p j)) h
 
-pub paste-more : (p q x : List ℤ) (at n : ℕ) → at + n ≤ length p → paste (p ++ q) at x n ≡ paste p at x n ++ q
-paste-more p q x at n h =
-    ap₂ (λ (a b : List ℤ). a ++ take n x ++ b) (take-append-le at p q (omega arith)) (drop-append-le (at + n) p q h)
+pub paste-more : {A : Type 0} (p q x : List A) (at n : ℕ) → at + n ≤ length p → paste (p ++ q) at x n ≡ paste p at x n ++ q
+paste-more {A} p q x at n h =
+    ap₂ (λ (a b : List A). a ++ take n x ++ b) (take-append-le at p q (omega arith)) (drop-append-le (at + n) p q h)
     ∙ sym (append-assoc (take at p ++ take n x) (drop (at + n) p) q)
 
 pub joined-more : (links q numbers : List ℕ) (new : ℕ) → lastOf numbers < length links → new < length links → joined (links ++ q) numbers new ≡ joined links numbers new ++ q

@@ -4,7 +4,7 @@
 use Prim.Native.Nat.{ℕ, suc, _+_, _*_, _<_}
 use mathlib.Core.Path.{_≡_, refl, sym, _∙_, ap, subst}
 use mathlib.Core.Bool.{true}
-use mathlib.Core.List.{List, [], _∷_, _++_, map}
+use mathlib.Core.List.{List, [], _∷_, _++_, map, foldl}
 use native.Mathlib.Omega.{arith}
 use lib.IntN.{ℤ}
 use lib.ListN.{length, set, drop, length-append, length-set}
@@ -20,7 +20,7 @@ use Rattle.dstree.specs.Adding.{way, widenAll, join, splitAll, insertion}
 use Rattle.dstree.specs.Matching.{numbersIn}
 use Rattle.dstree.specs.WellFormed as abstract
 use Rattle.tables.specs.Layout.{nPlace, capacityPlace, leafSizePlace, traceCountPlace, nodeCountPlace, controlFields, kindPlace, recordPlaces}
-use Rattle.tables.specs.Tables.{Tables, lentOf, field, measuresOf, traceCount, nodeCount, recordOf}
+use Rattle.tables.specs.Tables.{Tables, withLabels, lentOf, field, measuresOf, traceCount, nodeCount, recordOf}
 use Rattle.tables.specs.View.{smallAt, nodeIn, treeIn, traceIn, tracesIn, kindsNamed, wellFormed}
 use Rattle.tables.specs.Walk.{Rising}
 use Rattle.tables.proofs.Views.{traces-size}
@@ -118,6 +118,7 @@ pub record AfterAdding (t : Tables) (x : Trace) : Type 0 where
   -- "Adding .. leave[s] search work as it was"
   pub lengths-stay : lentOf (addedTo t x) ≡ lentOf t
   pub work-stays : addedTo t x .work ≡ t .work
+  pub labels-stay : addedTo t x .labels ≡ t .labels
   -- "All calls leave places beyond the needed ones untouched"
   pub control-behind : drop controlFields (addedTo t x .control) ≡ drop controlFields (t .control)
   pub samples-behind : drop (samplesNeeded (measuresOf t)) (addedTo t x .samples) ≡ drop (samplesNeeded (measuresOf t)) (t .samples)
@@ -213,6 +214,7 @@ module _ (t : Tables) (x : Trace) (w : T (wellFormed t)) (long : Long t) (size :
     links-rise = subst (λ (j : ℕ). Rising (after .links) j) (sym count-after) (links-rise after-represents);
     lengths-stay = lengths-after;
     work-stays = refl;
+    labels-stay = refl;
     control-behind = drop-set-lt controlFields control₁ nodeCountPlace (after .count) (omega arith) ∙ drop-set-lt controlFields (t .control) traceCountPlace (suc k) (omega arith);
     samples-behind = stored-behind (t .samples) n k c x size less (long .samples-long);
     nodes-behind = after-represents .nodes-behind;
@@ -227,3 +229,14 @@ module _ (t : Tables) (x : Trace) (w : T (wellFormed t)) (long : Long t) (size :
       (subst (λ (m : Measures). T (abstract.wellFormedTree sampleLimit m (traceCount (addedTo t x)) (treeIn (addedTo t x)))) (sym measures-after)
       (subst (λ (j : ℕ). T (abstract.wellFormedTree sampleLimit (measuresOf t) j (treeIn (addedTo t x)))) (sym count-after)
       (subst (λ (tree : Tree). T (abstract.wellFormedTree sampleLimit (measuresOf t) (suc k) tree)) (sym tree-after) h)))
+
+-- labels do not bear on an adding, and stay
+pub added-labels : (t : Tables) (x : Trace) → addedTo t x ≡ withLabels (t .labels) (addedTo (withLabels [] t) x)
+unfolding addedTo treeIn tracesIn
+added-labels t x = refl
+
+-- .. nor on any number of them
+pub all-labels : (t : Tables) (more : List Trace) → foldl addedTo t more ≡ withLabels (t .labels) (foldl addedTo (withLabels [] t) more)
+unfolding addedTo treeIn tracesIn
+all-labels t [] = refl
+all-labels t (x ∷ more) = all-labels (addedTo t x) more

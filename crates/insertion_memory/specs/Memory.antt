@@ -8,12 +8,13 @@ use lib.Seq.{paste}
 use lib.Dec.{ltb}
 use Rattle.integer.specs.Words.{if_then_else_, lastOf}
 use Rattle.dstree.specs.Measures.{Trace, Measures}
+use Rattle.dstree.specs.Labels.{Label}
 use Rattle.dstree.specs.Node.{Kind, leaf, inner, Tree, nodeAt, ends}
 use Rattle.dstree.specs.Adding.{way, segmentsOf, tracesOf, Split, best}
 use Rattle.dstree.specs.Matching.{numbersIn}
 use Rattle.tables.specs.Layout.{traceCountPlace, nodeCountPlace, kindPlace}
-use Rattle.tables.specs.Tables.{Tables, tables, measuresOf, traceCount, nodeCount, recordOf, withRecord}
-use Rattle.tables.specs.View.{smallAt, segmentsIn, kindIn, treeIn, tracesIn}
+use Rattle.tables.specs.Tables.{Tables, labelledTables, measuresOf, traceCount, nodeCount, recordOf, withRecord}
+use Rattle.tables.specs.View.{smallAt, segmentsIn, kindIn, treeIn, tracesIn, nextLabelled}
 use Rattle.insertion_memory.specs.Records.{leafRecord, widenRecord, innerRecord}
 use Rattle.insertion_memory.specs.Links.{joined, linked}
 
@@ -100,6 +101,10 @@ treeTablesAfter t x = insertedTables (measuresOf t) (tracesIn t) (treeIn t) x (t
 unfoldable pub addedTo : Tables → Trace → Tables
 addedTo t x =
     let h = treeTablesAfter t x in
-    tables (set (set (t .control) traceCountPlace (suc (traceCount t))) nodeCountPlace (h .count))
+    labelledTables (set (set (t .control) traceCountPlace (suc (traceCount t))) nodeCountPlace (h .count))
     (paste (t .samples) (traceCount t * measuresOf t .n) x (measuresOf t .n))
-    (h .nodes) (h .links) (t .work)
+    (h .nodes) (h .links) (t .work) (t .labels)
+
+-- document 02, §8: traces added in order, each with its label, "given when it is added". One definition for adding, import and reading
+abbrev pub addedWith : Tables → List Trace → List Label → Tables
+addedWith t traces labels = foldl addedTo (nextLabelled t labels) traces

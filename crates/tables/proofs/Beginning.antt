@@ -7,10 +7,10 @@ use native.Mathlib.Omega.{arith}
 use lib.IntN.{pos}
 use lib.ListN.{length, take, drop, take-append-drop, length-append, length-drop, length-replicate}
 use lib.Seq.{take-take, length-take-le, take-append-seam, drop-at}
-use Rattle.dstree.specs.Measures.{Measures, samplesNeeded, recordsNeeded, linksNeeded, workNeeded}
+use Rattle.dstree.specs.Measures.{Measures, samplesNeeded, recordsNeeded, linksNeeded, workNeeded, labelsNeeded}
 use Rattle.dstree.specs.Book.{Lent}
 use Rattle.tables.specs.Layout.{controlFields, recordPlaces}
-use Rattle.tables.specs.Tables.{Tables, tables, lentOf, filled}
+use Rattle.tables.specs.Tables.{Tables, labelledTables, lentOf, filled}
 use Rattle.tables.specs.Beginning.{firstPlaces, over, left, Begins, LentWithin}
 use Rattle.tables.specs.Answers.{opened}
 use Rattle.tables.specs.Judge.{Room}
@@ -49,21 +49,25 @@ module _ {A : Type 0} where
 
 -- ---- of tables
 
-pub tables-same : {t s : Tables} → t .control ≡ s .control → t .samples ≡ s .samples → t .nodes ≡ s .nodes → t .links ≡ s .links → t .work ≡ s .work → t ≡ s
-tables-same {t} {s} c p n l w = rw (c, p, n, l, w)
+pub tables-same : {t s : Tables} → t .control ≡ s .control → t .samples ≡ s .samples → t .nodes ≡ s .nodes → t .links ≡ s .links → t .work ≡ s .work
+    → t .labels ≡ s .labels → t ≡ s
+tables-same {t} {s} c p n l w b = rw (c, p, n, l, w, b)
 
 -- tables with more places behind each
 abbrev pub extended : Tables → Tables → Tables
-extended part more = tables (part .control ++ more .control) (part .samples ++ more .samples) (part .nodes ++ more .nodes) (part .links ++ more .links) (part .work ++ more .work)
+extended part more =
+    labelledTables (part .control ++ more .control) (part .samples ++ more .samples) (part .nodes ++ more .nodes) (part .links ++ more .links)
+    (part .work ++ more .work) (part .labels ++ more .labels)
 
 -- the places of a memory behind as many as some tables have
 abbrev pub restOf : Tables → Tables → Tables
 restOf part memory =
-    tables (drop (length (part .control)) (memory .control))
+    labelledTables (drop (length (part .control)) (memory .control))
     (drop (length (part .samples)) (memory .samples))
     (drop (length (part .nodes)) (memory .nodes))
     (drop (length (part .links)) (memory .links))
     (drop (length (part .work)) (memory .work))
+    (drop (length (part .labels)) (memory .labels))
 
 -- a memory that begins with some tables is these, with what is behind them
 pub begins-is : (part memory : Tables) → Begins part memory → memory ≡ extended part (restOf part memory)
@@ -73,6 +77,7 @@ begins-is part memory b = tables-same
     (begin-split (part .nodes) (memory .nodes) (ap (λ (t : Tables). t .nodes) b))
     (begin-split (part .links) (memory .links) (ap (λ (t : Tables). t .links) b))
     (begin-split (part .work) (memory .work) (ap (λ (t : Tables). t .work) b))
+    (begin-split (part .labels) (memory .labels) (ap (λ (t : Tables). t .labels) b))
 
 pub extended-begins : (part more : Tables) → Begins part (extended part more)
 extended-begins part more = tables-same
@@ -81,6 +86,7 @@ extended-begins part more = tables-same
     (take-append-seam (part .nodes) (more .nodes))
     (take-append-seam (part .links) (more .links))
     (take-append-seam (part .work) (more .work))
+    (take-append-seam (part .labels) (more .labels))
 
 -- what a call leaves where it was lent are the memory's first places then
 pub left-begins : (part memory : Tables) → Begins part (left part memory)
@@ -98,6 +104,7 @@ left-extended part after more e = tables-same
     (over-split (part .nodes) (after .nodes) (more .nodes) (ap (λ (l : Lent). l .nodes) e))
     (over-split (part .links) (after .links) (more .links) (ap (λ (l : Lent). l .links) e))
     (over-split (part .work) (after .work) (more .work) (ap (λ (l : Lent). l .work) e))
+    (over-split (part .labels) (after .labels) (more .labels) (ap (λ (l : Lent). l .labels) e))
 
 -- a call is lent the first places, however many
 pub first-begins : (lent : Lent) (memory : Tables) → Begins (firstPlaces lent memory) memory
@@ -107,6 +114,7 @@ first-begins lent memory = tables-same
     (take-as-long (lent .nodes) (memory .nodes))
     (take-as-long (lent .links) (memory .links))
     (take-as-long (lent .work) (memory .work))
+    (take-as-long (lent .labels) (memory .labels))
 
 pub begins-on : (part whole memory : Tables) → Begins part whole → Begins whole memory → Begins part memory
 begins-on part whole memory b c = tables-same
@@ -115,6 +123,7 @@ begins-on part whole memory b c = tables-same
     (begin-twice (part .nodes) (whole .nodes) (memory .nodes) (ap (λ (t : Tables). t .nodes) b) (ap (λ (t : Tables). t .nodes) c))
     (begin-twice (part .links) (whole .links) (memory .links) (ap (λ (t : Tables). t .links) b) (ap (λ (t : Tables). t .links) c))
     (begin-twice (part .work) (whole .work) (memory .work) (ap (λ (t : Tables). t .work) b) (ap (λ (t : Tables). t .work) c))
+    (begin-twice (part .labels) (whole .labels) (memory .labels) (ap (λ (t : Tables). t .labels) b) (ap (λ (t : Tables). t .labels) c))
 
 -- ---- lengths
 
@@ -125,6 +134,7 @@ begins-within part memory b = record {
   nodes-within = begin-no-longer (part .nodes) (memory .nodes) (ap (λ (t : Tables). t .nodes) b);
   links-within = begin-no-longer (part .links) (memory .links) (ap (λ (t : Tables). t .links) b);
   work-within = begin-no-longer (part .work) (memory .work) (ap (λ (t : Tables). t .work) b);
+  labels-within = begin-no-longer (part .labels) (memory .labels) (ap (λ (t : Tables). t .labels) b);
 }
 
 -- of two beginnings of a memory, the one with no table longer begins the other
@@ -135,6 +145,7 @@ begins-between short long memory b c h = tables-same
     (begin-of (short .nodes) (long .nodes) (memory .nodes) (ap (λ (t : Tables). t .nodes) b) (ap (λ (t : Tables). t .nodes) c) (h .nodes-within))
     (begin-of (short .links) (long .links) (memory .links) (ap (λ (t : Tables). t .links) b) (ap (λ (t : Tables). t .links) c) (h .links-within))
     (begin-of (short .work) (long .work) (memory .work) (ap (λ (t : Tables). t .work) b) (ap (λ (t : Tables). t .work) c) (h .work-within))
+    (begin-of (short .labels) (long .labels) (memory .labels) (ap (λ (t : Tables). t .labels) b) (ap (λ (t : Tables). t .labels) c) (h .labels-within))
 
 -- lent as many places as asked, where the memory has them
 pub first-lent : (lent : Lent) (memory : Tables) → LentWithin lent (lentOf memory) → lentOf (firstPlaces lent memory) ≡ lent
@@ -144,6 +155,7 @@ first-lent lent memory h = rw (
   length-take-le (lent .nodes) (memory .nodes) (h .nodes-within),
   length-take-le (lent .links) (memory .links) (h .links-within),
   length-take-le (lent .work) (memory .work) (h .work-within),
+  length-take-le (lent .labels) (memory .labels) (h .labels-within),
 )
 
 -- the memory keeps its lengths
@@ -154,6 +166,7 @@ left-lent part memory h = rw (
   over-length (part .nodes) (memory .nodes) (h .nodes-within),
   over-length (part .links) (memory .links) (h .links-within),
   over-length (part .work) (memory .work) (h .work-within),
+  over-length (part .labels) (memory .labels) (h .labels-within),
 )
 
 -- ---- opening
@@ -169,4 +182,5 @@ module _ (part : Tables) (m : Measures) (room : Room (lentOf part) m) where
         fill-length (recordsNeeded m * recordPlaces) (pos 0) (part .nodes) (room .long .nodes-long),
         fill-length {A = ℕ} (linksNeeded m) 0 (part .links) (room .long .links-long),
         fill-length {A = ℕ} (workNeeded m) 0 (part .work) (room .work-room),
+        fill-length {A = ℕ} (labelsNeeded m) 0 (part .labels) (room .labels-room),
       )

@@ -7,7 +7,7 @@ use Prim.Native.Nat.{_*_}
 use lib.Dec.{T, ltb}
 use borrow.Author.Tests.{ltb-false, not-false}
 use Rattle.integer.proofs.Tests.{is-true, neither}
-use Rattle.dstree.specs.Measures.{Measures, inRange, samplesNeeded, recordsNeeded, linksNeeded}
+use Rattle.dstree.specs.Measures.{Measures, inRange, samplesNeeded, recordsNeeded, linksNeeded, workNeeded}
 use Rattle.dstree.specs.Refusals.{_refuses_, firstOf, spoiled}
 use Rattle.dstree.specs.Book.{Lent, controlShort, tablesShort}
 use Rattle.dstree.proofs.Conditions.{none-first, none-both}
@@ -21,7 +21,9 @@ use Rattle.tables.proofs.Range.{in-range}
 pub room-of : (lengths : Lent) (m : Measures) → controlShort layout lengths ≡ false → tablesShort layout lengths m ≡ false → Room lengths m
 unfolding controlShort tablesShort
 room-of lengths m control others =
-    let three = neither (ltb (lengths .samples) (samplesNeeded m) || ltb (lengths .nodes) (recordsNeeded m * recordPlaces) || ltb (lengths .links) (linksNeeded m)) _ others in
+    let four = neither (ltb (lengths .samples) (samplesNeeded m) || ltb (lengths .nodes) (recordsNeeded m * recordPlaces)
+    || ltb (lengths .links) (linksNeeded m) || ltb (lengths .work) (workNeeded m)) _ others in
+    let three = neither (ltb (lengths .samples) (samplesNeeded m) || ltb (lengths .nodes) (recordsNeeded m * recordPlaces) || ltb (lengths .links) (linksNeeded m)) _ (four .0) in
     let two = neither (ltb (lengths .samples) (samplesNeeded m) || ltb (lengths .nodes) (recordsNeeded m * recordPlaces)) _ (three .0) in
     let one = neither (ltb (lengths .samples) (samplesNeeded m)) _ (two .0) in
     record {
@@ -32,6 +34,7 @@ room-of lengths m control others =
         links-long = ltb-false _ _ (two .1);
       };
       work-room = ltb-false _ _ (three .1);
+      labels-room = ltb-false _ _ (four .1);
     }
 
 pub lent-long-enough : (lengths : Lent) (m : Measures) → firstOf (lentConditionsOf lengths m) ≡ none → LongEnough lengths m

@@ -11,3 +11,4 @@ pub mod Parts
 pub mod Compared
 pub mod Samples
 pub mod Linked
+pub mod Labels

@@ -6,11 +6,11 @@ use mathlib.Core.Option.{Option, none, some}
 use mathlib.Core.List.{List, [], _∷_, _++_}
 use lib.IntN.{ℤ, pos}
 use lib.ListN.{length, drop}
-use Rattle.dstree.specs.Measures.{Measures, inRange, samplesNeeded, recordsNeeded, linksNeeded, workNeeded}
+use Rattle.dstree.specs.Measures.{Measures, inRange, samplesNeeded, recordsNeeded, linksNeeded, workNeeded, labelsNeeded}
 use Rattle.dstree.specs.Refusals as word
 use Rattle.dstree.specs.Refusals.{Condition, _refuses_}
 use Rattle.tables.specs.Layout.{capacityPlace, recordPlaces, controlFields}
-use Rattle.tables.specs.Tables.{Tables, tables, lentOf, field, measuresOf, filled}
+use Rattle.tables.specs.Tables.{Tables, labelledTables, tables, lentOf, field, measuresOf, filled}
 use Rattle.tables.specs.View.{wellFormed}
 use Rattle.tables.specs.Judge.{openingConditionsOf, lentConditionsOf}
 use Rattle.tables.specs.declared.Refusal.{Refusal}
@@ -64,8 +64,9 @@ openingConditions t m = openingConditionsOf (lentOf t) m
 -- "Opening sets the needed parts of the tables to zero, then writes the control record (n, capacity, leaf size, counts)"
 unfoldable pub opened : Tables → Measures → Tables
 opened t m =
-    tables (m .n ∷ m .capacity ∷ m .leafSize ∷ 0 ∷ 0 ∷ drop controlFields (t .control))
+    labelledTables (m .n ∷ m .capacity ∷ m .leafSize ∷ 0 ∷ 0 ∷ drop controlFields (t .control))
     (filled (samplesNeeded m) (pos 0) (t .samples))
     (filled (recordsNeeded m * recordPlaces) (pos 0) (t .nodes))
     (filled (linksNeeded m) 0 (t .links))
     (filled (workNeeded m) 0 (t .work))
+    (filled (labelsNeeded m) 0 (t .labels))

@@ -5,25 +5,27 @@ use mathlib.Core.Path.{_≡_}
 use lib.ListN.{take}
 use Rattle.dstree.specs.Book.{Lent}
 pub use Rattle.dstree.specs.Book.{over}
-use Rattle.tables.specs.Tables.{Tables, tables, lentOf}
+use Rattle.tables.specs.Tables.{Tables, labelledTables, lentOf}
 
 -- what a call is lent of a memory
 abbrev pub firstPlaces : Lent → Tables → Tables
 firstPlaces lent memory =
-    tables (take (lent .control) (memory .control))
+    labelledTables (take (lent .control) (memory .control))
     (take (lent .samples) (memory .samples))
     (take (lent .nodes) (memory .nodes))
     (take (lent .links) (memory .links))
     (take (lent .work) (memory .work))
+    (take (lent .labels) (memory .labels))
 
 -- the memory after a call that left this where it was lent
 abbrev pub left : Tables → Tables → Tables
 left part memory =
-    tables (over (part .control) (memory .control))
+    labelledTables (over (part .control) (memory .control))
     (over (part .samples) (memory .samples))
     (over (part .nodes) (memory .nodes))
     (over (part .links) (memory .links))
     (over (part .work) (memory .work))
+    (over (part .labels) (memory .labels))
 
 -- these tables are the first places of a memory
 abbrev pub Begins : Tables → Tables → Type 0
@@ -36,3 +38,4 @@ pub record LentWithin (short long : Lent) : Type 0 where
   pub nodes-within : short .nodes ≤ long .nodes
   pub links-within : short .links ≤ long .links
   pub work-within : short .work ≤ long .work
+  pub labels-within : short .labels ≤ long .labels

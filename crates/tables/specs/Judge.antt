@@ -3,15 +3,16 @@ use Prim.Native.Nat.{ℕ, _*_, _≤_}
 use mathlib.Core.Bool.{not}
 use mathlib.Core.List.{List, [], _∷_}
 use Rattle.dstree.specs.Measures.{Measures, mostSamples, mostTraces, mostLeaf, inRange, samplesNeeded, recordsNeeded, linksNeeded}
-use Rattle.dstree.specs.Measures.{workNeeded}
+use Rattle.dstree.specs.Measures.{workNeeded, labelsNeeded}
 use Rattle.dstree.specs.Refusals as word
 use Rattle.dstree.specs.Refusals.{Condition, _refuses_}
 use Rattle.dstree.specs.Book.{Lent, controlShort, tablesShort}
 use Rattle.tables.specs.Layout.{layout, recordPlaces, controlFields}
 
--- lengths of control record, samples, nodes, links and search work, as a call has them
-abbrev pub lent : ℕ → ℕ → ℕ → ℕ → ℕ → Lent
-lent control samples nodes links work = record { control = control; samples = samples; nodes = nodes; links = links; work = work }
+-- lengths of control record, samples, nodes, links, search work and labels, as a call has them
+abbrev pub lent : ℕ → ℕ → ℕ → ℕ → ℕ → ℕ → Lent
+lent control samples nodes links work labels =
+    record { control = control; samples = samples; nodes = nodes; links = links; work = work; labels = labels }
 
 -- opening: 1, then 2
 unfoldable pub openingConditionsOf : Lent → Measures → List Condition
@@ -48,10 +49,11 @@ pub record LongFor (m : Measures) (control samples nodes links : ℕ) : Type 0 w
   pub nodes-long : recordsNeeded m * recordPlaces ≤ nodes
   pub links-long : linksNeeded m ≤ links
 
--- .. and search work, too
+-- .. and search work and labels, too
 pub record Room (lengths : Lent) (m : Measures) : Type 0 where
   pub long : LongFor m (lengths .control) (lengths .samples) (lengths .nodes) (lengths .links)
   pub work-room : workNeeded m ≤ lengths .work
+  pub labels-room : labelsNeeded m ≤ lengths .labels
 
 pub record LongEnough (lengths : Lent) (m : Measures) : Type 0 where
   pub range : InRange m

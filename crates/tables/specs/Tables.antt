@@ -1,22 +1,34 @@
 -- The lent tables as a record of lists, and the parts of them that calls read and write.
 use Prim.Native.Nat.{ℕ, _+_, _*_}
-use mathlib.Core.List.{List, _++_}
+use mathlib.Core.List.{List, [], _++_}
 use lib.IntN.{ℤ}
 use lib.ListN.{length, getD, take, drop, replicate}
 use Rattle.dstree.specs.Measures.{Measures, measures}
 use Rattle.dstree.specs.Book.{Lent}
 use Rattle.tables.specs.Layout.{nPlace, capacityPlace, leafSizePlace, traceCountPlace, nodeCountPlace, recordPlaces}
 
--- control record and links are 16-bit numbers, samples 16-bit and node records 64-bit numbers with a sign, search work 64-bit numbers
+-- control record and links are 16-bit numbers, samples 16-bit and node records 64-bit numbers with a sign, search work and labels 64-bit
+-- numbers
 pub record Tables : Type 0 where
   pub control : List ℕ
   pub samples : List ℤ
   pub nodes : List ℤ
   pub links : List ℕ
   pub work : List ℕ
+  -- document 02, §8: "Labels lie in a table of c places"
+  pub labels : List ℕ
 
+abbrev pub labelledTables : List ℕ → List ℤ → List ℤ → List ℕ → List ℕ → List ℕ → Tables
+labelledTables control samples nodes links work labels =
+    record { control = control; samples = samples; nodes = nodes; links = links; work = work; labels = labels }
+
+-- what sees no labels: the tree's functions
 abbrev pub tables : List ℕ → List ℤ → List ℤ → List ℕ → List ℕ → Tables
-tables control samples nodes links work = record { control = control; samples = samples; nodes = nodes; links = links; work = work }
+tables control samples nodes links work = labelledTables control samples nodes links work []
+
+-- these tables with other labels
+abbrev pub withLabels : List ℕ → Tables → Tables
+withLabels labels t = labelledTables (t .control) (t .samples) (t .nodes) (t .links) (t .work) labels
 
 -- the lengths that a call is lent
 abbrev pub lentOf : Tables → Lent
@@ -26,6 +38,7 @@ lentOf t = record {
   nodes = length (t .nodes);
   links = length (t .links);
   work = length (t .work);
+  labels = length (t .labels);
 }
 
 -- a field of the control record (0 behind its end)

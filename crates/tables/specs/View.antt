@@ -3,16 +3,18 @@ use Prim.Native.Nat.{ℕ, zero, suc, _+_, _*_, _^_}
 use mathlib.Core.Bool.{Bool, _&&_}
 use mathlib.Core.List.{List, [], _∷_, map}
 use lib.IntN.{ℤ, pos, negsuc}
-use lib.ListN.{getD, take, drop}
+use lib.ListN.{length, getD, take, drop}
+use lib.Seq.{paste}
 use lib.Dec.{leb, ltb, eqb}
 use Rattle.integer.specs.Words.{if_then_else_, counting, every}
 use Rattle.dstree.specs.Measures.{Trace, sampleLimit}
+use Rattle.dstree.specs.Labels.{Label, labelPlace, labelAt}
 use Rattle.dstree.specs.Figures.{run}
 use Rattle.dstree.specs.Node.{Segment, Figure, bySum, byScatter, Test, Kind, leaf, inner, Node, node, Tree}
 use Rattle.dstree.specs.WellFormed as abstract
 use Rattle.tables.specs.Layout.{kindPlace, segmentsPlace, firstPlace, rightPlace, runFirstPlace, runLastPlace, thresholdPlace}
 use Rattle.tables.specs.Layout.{segmentAt}
-use Rattle.tables.specs.Tables.{Tables, measuresOf, traceCount, nodeCount, recordOf}
+use Rattle.tables.specs.Tables.{Tables, withLabels, measuresOf, traceCount, nodeCount, recordOf}
 
 -- ---- fields of a record
 
@@ -91,6 +93,18 @@ traceIn samples n i = take n (drop (i * n) samples)
 
 unfoldable pub tracesIn : Tables → List Trace
 tracesIn t = map (traceIn (t .samples) (measuresOf t .n)) (counting (traceCount t) 0)
+
+-- document 02, §8: the labels of the stored traces, in order
+unfoldable pub labelsIn : Tables → List Label
+labelsIn t = map labelAt (take (traceCount t) (t .labels))
+
+-- labels over the places from one on. All others stay
+abbrev pub labelsOver : List ℕ → ℕ → List Label → List ℕ
+labelsOver places at labels = paste places at (map labelPlace labels) (length labels)
+
+-- these tables with labels for the traces that are added next, in order: over the places behind those of the stored traces
+abbrev pub nextLabelled : Tables → List Label → Tables
+nextLabelled t labels = withLabels (labelsOver (t .labels) (traceCount t) labels) t
 
 -- ---- "Well-formed tables"
 

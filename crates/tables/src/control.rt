@@ -69,7 +69,7 @@ pub fn records_needed(capacity: u64) -> usize
 
 // The control record has too few places for its fields.
 pub fn control_short(control: usize) -> bool
-    ensures { λ r. ⌜ ((samples nodes links work : ℕ) → r ≡ controlShort layout (lent control samples nodes links work)) ⌝ }
+    ensures { λ r. ⌜ ((samples nodes links work labels : ℕ) → r ≡ controlShort layout (lent control samples nodes links work labels)) ⌝ }
 {
     control < CONTROL_FIELDS
 }
@@ -80,12 +80,13 @@ pub fn tables_short(
     nodes: usize,
     links: usize,
     work: usize,
+    labels: usize,
     n: u64,
     capacity: u64,
 ) -> bool
     requires { ⌜ (n ≤ mostSamples) × (capacity ≤ mostTraces) ⌝ }
     ensures { λ r. ⌜ ((control leafSize : ℕ) → r
-        ≡ tablesShort layout (lent control samples nodes links work) (measures n capacity leafSize)) ⌝ }
+        ≡ tablesShort layout (lent control samples nodes links work labels) (measures n capacity leafSize)) ⌝ }
 {
     if samples < samples_needed(n, capacity) {
         return true;
@@ -97,7 +98,10 @@ pub fn tables_short(
     if links < capacity as usize {
         return true;
     }
-    work < records
+    if work < records {
+        return true;
+    }
+    labels < capacity as usize
 }
 
 // What opening refuses: 1, then 2.
@@ -107,11 +111,13 @@ pub fn judge_opening(
     nodes: usize,
     links: usize,
     work: usize,
+    labels: usize,
     n: u64,
     capacity: u64,
     leaf_size: u64,
 ) -> Verdict
-    ensures { λ r. ⌜ foundBy r ≡ firstOf (openingConditionsOf (lent control samples nodes links work) (measures n capacity «leaf_size»)) ⌝ }
+    ensures { λ r. ⌜ foundBy r ≡ firstOf (openingConditionsOf (lent control samples nodes links work labels)
+        (measures n capacity «leaf_size»)) ⌝ }
 {
     if !measures_fit(n, capacity, leaf_size) {
         return Verdict::Refused(Refusal::Measure);
@@ -119,7 +125,7 @@ pub fn judge_opening(
     if control_short(control) {
         return Verdict::Refused(Refusal::ShortTable);
     }
-    if tables_short(samples, nodes, links, work, n, capacity) {
+    if tables_short(samples, nodes, links, work, labels, n, capacity) {
         return Verdict::Refused(Refusal::ShortTable);
     }
     Verdict::Fine
@@ -133,11 +139,13 @@ pub fn judge_lent(
     nodes: usize,
     links: usize,
     work: usize,
+    labels: usize,
     n: u64,
     capacity: u64,
     leaf_size: u64,
 ) -> Verdict
-    ensures { λ r. ⌜ foundBy r ≡ firstOf (lentConditionsOf (lent control samples nodes links work) (measures n capacity «leaf_size»)) ⌝ }
+    ensures { λ r. ⌜ foundBy r ≡ firstOf (lentConditionsOf (lent control samples nodes links work labels)
+        (measures n capacity «leaf_size»)) ⌝ }
 {
     if control_short(control) {
         return Verdict::Refused(Refusal::ShortTable);
@@ -145,7 +153,7 @@ pub fn judge_lent(
     if !measures_fit(n, capacity, leaf_size) {
         return Verdict::Refused(Refusal::Spoiled);
     }
-    if tables_short(samples, nodes, links, work, n, capacity) {
+    if tables_short(samples, nodes, links, work, labels, n, capacity) {
         return Verdict::Refused(Refusal::ShortTable);
     }
     Verdict::Fine

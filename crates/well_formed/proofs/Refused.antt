@@ -8,19 +8,20 @@ use lib.IntN.{ℤ}
 use Rattle.dstree.specs.Refusals as word
 use Rattle.dstree.specs.Refusals.{Condition, _refuses_, firstOf}
 use Rattle.dstree.proofs.Conditions.{first-some, first-none}
-use Rattle.tables.specs.Tables.{tables, lentOf, measuresOf}
+use Rattle.tables.specs.Tables.{tables, labelledTables, lentOf, measuresOf}
 use Rattle.tables.specs.View.{treeIn, kindsNamed, wellFormed}
 use Rattle.tables.specs.Judge.{lentConditionsOf}
 use Rattle.tables.specs.Answers.{wordOf, foundBy, madeConditions}
 use Rattle.tables.specs.declared.Refusal.{Refusal}
 use Rattle.tables.specs.declared.Verdict.the-variants as v
 
--- lengths and measures refuse nothing, so that the contents decide; neither samples nor search work bear on them
-pub by-contents : (control : List ℕ) (samples nodes : List ℤ) (links work : List ℕ) → let t = tables control samples nodes links work in
+-- lengths and measures refuse nothing, so that the contents decide; neither samples nor search work nor labels bear on them
+pub by-contents : (control : List ℕ) (samples nodes : List ℤ) (links work labels : List ℕ)
+    → let t = labelledTables control samples nodes links work labels in
     firstOf (lentConditionsOf (lentOf t) (measuresOf t)) ≡ none
     → firstOf (madeConditions t) ≡ firstOf (not (wellFormed (tables control [] nodes links [])) refuses word.spoiled ∷ [])
 unfolding madeConditions wellFormed kindsNamed treeIn
-by-contents control samples nodes links work e = let t = tables control samples nodes links work in
+by-contents control samples nodes links work labels e = let t = labelledTables control samples nodes links work labels in
     first-none (lentConditionsOf (lentOf t) (measuresOf t)) (not (wellFormed t) refuses word.spoiled ∷ []) e
 
 -- what the first conditions refuse is what is refused

@@ -12,7 +12,7 @@ use tables::places::LEAF_SIZE;
 use tables::places::N;
 ghost use mathlib.Core.Path.{_≡_};
 ghost use Rattle.dstree.specs.Refusals.{firstOf};
-ghost use Rattle.tables.specs.Tables.{tables};
+ghost use Rattle.tables.specs.Lent.{tablesBefore};
 ghost use Rattle.tables.specs.Answers.{foundBy, madeConditions};
 
 // Tables of any lengths and contents. Contents are tested only if lengths and measures refuse nothing.
@@ -22,9 +22,10 @@ pub fn judge_tables(
     nodes: &[i64],
     links: &[u16],
     work: &[u64],
+    labels: &[u64],
 ) -> Verdict
     ensures { λ r. ⌜ foundBy r ≡ firstOf (madeConditions
-        (tables (now (control .entry)) (now (samples .entry)) (now (nodes .entry)) (now (links .entry)) (now (work .entry)))) ⌝ }
+        (tablesBefore control samples nodes links work labels)) ⌝ }
 {
     let n = wider(field(control, N));
     let capacity = wider(field(control, CAPACITY));
@@ -35,6 +36,7 @@ pub fn judge_tables(
         nodes.len(),
         links.len(),
         work.len(),
+        labels.len(),
         n,
         capacity,
         leaf_size,

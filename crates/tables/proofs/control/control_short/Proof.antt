@@ -6,7 +6,7 @@ use Rattle.tables.proofs.control.control_short.Tie as tie
 
 returns : tie.Need-returns
 unfolding controlShort
-returns c = λ samples nodes links work. refl
+returns c = λ samples nodes links work labels. refl
 
 pub control-short-spec : {M : Type 1} → statement M
 control-short-spec = tie.close (tie.spec returns)

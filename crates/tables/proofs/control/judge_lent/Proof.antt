@@ -15,14 +15,14 @@ use Rattle.tables.proofs.control.judge_lent.Tie as tie
 
 -- the lengths and the measures that the call came with
 abbrev lengths : tie.Start → Lent
-lengths s = lent (s .args .control) (s .args .samples) (s .args .nodes) (s .args .links) (s .args .work)
+lengths s = lent (s .args .control) (s .args .samples) (s .args .nodes) (s .args .links) (s .args .work) (s .args .labels)
 
 abbrev asked : tie.Start → Measures
 asked s = measures (s .args .n) (s .args .capacity) (s .args .leaf-size)
 
 -- the first test
 control-is : (c : tie.After-control-short) → controlShort layout (lengths (c .before)) ≡ c .control-short .result
-control-is c = let a = c .before .args in sym (c .control-short .ensures (a .samples) (a .nodes) (a .links) (a .work))
+control-is c = let a = c .before .args in sym (c .control-short .ensures (a .samples) (a .nodes) (a .links) (a .work) (a .labels))
 
 returns : tie.Need-returns
 unfolding firstOf lentConditionsOf foundBy wordOf

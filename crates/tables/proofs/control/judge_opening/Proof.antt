@@ -15,7 +15,7 @@ use Rattle.tables.proofs.control.judge_opening.Tie as tie
 
 -- the lengths and the measures that the call came with
 abbrev lengths : tie.Start → Lent
-lengths s = lent (s .args .control) (s .args .samples) (s .args .nodes) (s .args .links) (s .args .work)
+lengths s = lent (s .args .control) (s .args .samples) (s .args .nodes) (s .args .links) (s .args .work) (s .args .labels)
 
 abbrev asked : tie.Start → Measures
 asked s = measures (s .args .n) (s .args .capacity) (s .args .leaf-size)
@@ -33,7 +33,7 @@ fit c = fit-is (c .before) ∙ not-false _ (c .if1 .left)
 
 -- the second
 control-is : (c : tie.After-control-short) → controlShort layout (lengths (c .before .before .before)) ≡ c .control-short .result
-control-is c = let a = c .before .before .before .args in sym (c .control-short .ensures (a .samples) (a .nodes) (a .links) (a .work))
+control-is c = let a = c .before .before .before .args in sym (c .control-short .ensures (a .samples) (a .nodes) (a .links) (a .work) (a .labels))
 
 returns-2 : tie.Need-returns-2
 unfolding firstOf openingConditionsOf foundBy wordOf

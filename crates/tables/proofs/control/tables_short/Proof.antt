@@ -1,13 +1,13 @@
 -- `tables::control::tables_short` meets its contract: each return rewrites with the tests that led there, on the needs as the definitions
 -- give them.
-use mathlib.Core.Path.{_≡_}
+use mathlib.Core.Path.{_≡_, refl, subst}
 use mathlib.Core.Bool.{true, false}
 use Prim.Native.Nat.{ℕ, _*_, _<_, _≤_}
 use native.Mathlib.Omega.{arith}
 use lib.Dec.{ltb}
 use borrow.Author.Needs.{needs}
 use borrow.Author.Tests.{lt-ltb, le-ltb}
-use Rattle.dstree.specs.Measures.{Measures, measures, samplesNeeded, recordsNeeded, linksNeeded, workNeeded}
+use Rattle.dstree.specs.Measures.{Measures, measures, samplesNeeded, recordsNeeded, linksNeeded, workNeeded, labelsNeeded}
 use Rattle.dstree.specs.Book.{tablesShort}
 use Rattle.tables.specs.Layout.{recordPlaces}
 use Rattle.tables.proofs.control.tables_short.Statement.{statement}
@@ -57,10 +57,19 @@ returns-3 c = λ control leafSize.
 returns-4 : tie.Need-returns-4
 unfolding tablesShort linksNeeded recordsNeeded workNeeded
 returns-4 c = λ control leafSize.
-    rw (samples-enough (c .before .before) leafSize, nodes-enough (c .before .before) leafSize (c .before .if2 .left), le-ltb _ _ (c .if3 .left), records-are (c .before .before) leafSize)
+    let k = c .before .before .before in
+    let short = subst (λ (r : ℕ). start k leafSize .args .work < r) (records-are k leafSize) (c .if4 .taken) in
+    rw (samples-enough k leafSize, nodes-enough k leafSize (c .before .before .if2 .left), le-ltb _ _ (c .before .if3 .left), lt-ltb _ _ short)
+
+returns-5 : tie.Need-returns-5
+unfolding tablesShort linksNeeded recordsNeeded workNeeded labelsNeeded
+returns-5 c = λ control leafSize.
+    let k = c .before .before .before in
+    let enough = subst (λ (r : ℕ). r ≤ start k leafSize .args .work) (records-are k leafSize) (c .if4 .left) in
+    rw (samples-enough k leafSize, nodes-enough k leafSize (c .before .before .if2 .left), le-ltb _ _ (c .before .if3 .left), le-ltb _ _ enough) refl
 
 pub tables-short-spec : {M : Type 1} → statement M
 tables-short-spec =
     tie.close
     (tie.spec
-    (λ c κs. search needs) returns (λ c κs. search needs) mul-if2 returns-2 returns-3 returns-4)
+    (λ c κs. search needs) returns (λ c κs. search needs) mul-if2 returns-2 returns-3 returns-4 returns-5)

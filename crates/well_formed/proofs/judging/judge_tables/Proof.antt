@@ -8,7 +8,7 @@ use borrow.Author.Needs.{needs}
 use borrow.Author.Tests.{not-true, not-false}
 use Rattle.dstree.specs.Refusals as word
 use Rattle.dstree.specs.Refusals.{_refuses_, firstOf}
-use Rattle.tables.specs.Tables.{Tables, tables, lentOf, measuresOf}
+use Rattle.tables.specs.Tables.{Tables, tables, labelledTables, lentOf, measuresOf}
 use Rattle.tables.specs.View.{wellFormed}
 use Rattle.tables.specs.Judge.{lentConditionsOf}
 use Rattle.tables.specs.Answers.{wordOf, foundBy, madeConditions}
@@ -18,10 +18,10 @@ use Rattle.well_formed.proofs.judging.judge_tables.Statement.{statement
 use Rattle.well_formed.proofs.judging.judge_tables.Tie as tie
 
 abbrev lentTables : tie.Start → Tables
-lentTables s = tables (now (s .args .control)) (now (s .args .samples)) (now (s .args .nodes)) (now (s .args .links)) (now (s .args .work))
+lentTables s = labelledTables (now (s .args .control)) (now (s .args .samples)) (now (s .args .nodes)) (now (s .args .links)) (now (s .args .work)) (now (s .args .labels))
 
 abbrev start : tie.After-judge-lent → tie.Start
-start j = j .before .before .before .before .before .before .before .before .before .before
+start j = j .before .before .before .before .before .before .before .before .before .before .before
 
 -- what the judge of lengths and measures found is what the definition finds
 found : (j : tie.After-judge-lent) → firstOf (lentConditionsOf (lentOf (lentTables (start j))) (measuresOf (lentTables (start j)))) ≡ foundBy (j .judge-lent .result)
@@ -41,7 +41,7 @@ module _ (e : tie.After-enum-told) where
   nothing = found (e .before .before) ∙ ap foundBy (e .enum-told .given .1)
 
   contents : firstOf (madeConditions (lentTables s)) ≡ firstOf (not (wellFormed (tables (now (s .args .control)) [] (now (s .args .nodes)) (now (s .args .links)) [])) refuses word.spoiled ∷ [])
-  contents = by-contents (now (s .args .control)) (now (s .args .samples)) (now (s .args .nodes)) (now (s .args .links)) (now (s .args .work)) nothing
+  contents = by-contents (now (s .args .control)) (now (s .args .samples)) (now (s .args .nodes)) (now (s .args .links)) (now (s .args .work)) (now (s .args .labels)) nothing
 
 well-formed-requires : tie.Need-well-formed-requires
 well-formed-requires c κs = lends (lentTables (s c)) (nothing c)

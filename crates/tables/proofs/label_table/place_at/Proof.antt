@@ -1,0 +1,13 @@
+-- `tables::label_table::place_at` meets its contract: behind the end a list reads as 0.
+use mathlib.Core.Path.{sym}
+use denote.Ref.{now}
+use lib.ListN.{List·getD-eq-default}
+use borrow.Author.Needs.{needs}
+use Rattle.tables.proofs.label_table.place_at.Statement.{statement}
+use Rattle.tables.proofs.label_table.place_at.Tie as tie
+
+returns-2 : tie.Need-returns-2
+returns-2 c = sym (List·getD-eq-default (now (c .before .args .labels)) 0 (c .if1 .left))
+
+pub place-at-spec : {M : Type 1} → statement M
+place-at-spec = tie.close (tie.spec (λ c. search needs) (λ c. search needs) (λ c. search needs) returns-2)

@@ -33,14 +33,13 @@ use Rattle.tables.proofs.Beginning.{first-begins}
 use Rattle.tables.specs.Answers.{madeConditions}
 use Rattle.tables.proofs.Views.{traces-size, tree-passes}
 use Rattle.tables.proofs.Judged as judged
-use Rattle.insertion_memory.proofs.Beginnings.{holds-whole}
 use Rattle.calls.specs.Library.{Keeps}
 use Rattle.calls.specs.Trusted.{bookIn, Trusts, treeAfter}
 use Rattle.calls.specs.Effects.{matches, lists, checks, effectOf}
 use Rattle.calls.specs.Follows.{Follows, Ran, a-call}
 use Rattle.calls.specs.Demands.{MatchedIn, MatchesAnywhere, ListedIn, ListsAnywhere, ChecksAnywhere, judgeIn, OfAnyQuery, EmptyIsSix, IsAccepted}
 use Rattle.calls.specs.Demands.{OfAnyBatch, AfterList, ReadBack, OfStored, AfterCheck, Demands}
-use Rattle.calls.proofs.Library.{library-holds}
+use Rattle.calls.proofs.Kept.{kept-holds, kept-labels}
 use Rattle.calls.proofs.Finds.{Some, found}
 use Rattle.calls.proofs.Stored.{Stores, kept-stores, trusted-stores, typed-stores}
 use Rattle.calls.proofs.Trusted.{exact-tree, accepted-same, kept-trusts}
@@ -59,6 +58,8 @@ use Rattle.calls.proofs.Trusting.{check-stays, part-checked, loose-is, 
 use Rattle.calls.proofs.Trees.{tree-of-book}
 use Rattle.calls.proofs.Queries.{Judges, of-any-query}
 use Rattle.calls.proofs.Batches.{of-any-batch, batches-anywhere}
+use Rattle.calls.proofs.Labels.{labels-anywhere, label-gives}
+use Rattle.calls.proofs.Remote.{remote-is-match, sees-no-serials, serials-may-differ}
 
 -- ---- a check
 
@@ -85,14 +86,14 @@ module _ {memory : Tables} {b : Book} (keeps : Keeps memory b) where
   pub of-book : (query : Trace) → 0 < length (b .traces) → length query ≡ b .measures .n
       → OfAnyQuery (judge layout b) (b .traces) (bookTree b) query memory
   of-book query some-trace size =
-      let h = holds-whole (keeps .needed-places) (library-holds (b .measures) (b .traces) (keeps .library)) in
+      let h = kept-holds keeps in
       subst (λ (t : Tree). OfAnyQuery (judge layout b) (b .traces) t query memory) (h .tree-is)
       (of-any-query (kept-trusts keeps) (judge layout b) book-judges query size some-trace)
 
   pub batch-of-book : (count : ℕ) (run : Trace) → 0 < length (b .traces) → length run ≡ b .measures .n * count
       → OfAnyBatch (judge layout b) (b .traces) (bookTree b) (b .measures .n) count run memory
   batch-of-book count run some-trace size =
-      let h = holds-whole (keeps .needed-places) (library-holds (b .measures) (b .traces) (keeps .library)) in
+      let h = kept-holds keeps in
       subst (λ (t : Tree). OfAnyBatch (judge layout b) (b .traces) t (b .measures .n) count run memory) (h .tree-is)
       (of-any-batch (kept-trusts keeps) (judge layout b) book-judges some-trace count run size)
 
@@ -161,7 +162,8 @@ pub after-list : {b : Book} {memory : Tables} (calls : List Call) (said : List R
     → AfterList b calls said memory
 after-list {b} {memory} calls said e k = record {
   keeps = k;
-  holds = holds-whole (k .needed-places) (library-holds (after layout b calls .measures) (after layout b calls .traces) (k .library));
+  holds = kept-holds k;
+  labels-are = kept-labels k;
   replies-are = e;
   written-and-read = read-back-in (kept-stores k);
   never-spoiled = λ r i. never layout spoiled spoiled-is-not b calls r (subst (In r) e i);
@@ -170,6 +172,7 @@ after-list {b} {memory} calls said e k = record {
   any-batch = batch-of-book k;
   empty-is-six = empty-is-six k;
   exported-sound = exported-sound (kept-stores k);
+  label-gives = label-gives (kept-trusts k) (judge layout (after layout b calls)) (book-judges k);
   is-accepted = is-accepted (kept-trusts k);
 }
 
@@ -180,7 +183,8 @@ put-back : {b : Book} {memory : Tables} {said : Reply} → said .answer ≡ answ
 put-back {b} d k = record {
   is-done = d;
   keeps = k;
-  holds = holds-whole (k .needed-places) (library-holds (b .measures) (b .traces) (k .library));
+  holds = kept-holds k;
+  labels-are = kept-labels k;
   is-accepted = is-accepted (kept-trusts k);
   goes-on = λ calls others memory′ rest. let r = ran k rest in after-list calls others (r .0) (r .1);
 }
@@ -260,6 +264,7 @@ from-check first calls memory₀ memory said₀ said (a-call f rest) e =
       never-loose = λ s i. r .1 s i looseRecord loose-is-not;
       any-query = λ query some-trace size. of-any-query t (judgeIn memory) (λ c places typed q. q) query size some-trace;
       any-batch = λ count run some-trace size. of-any-batch t (judgeIn memory) (λ c places typed q. q) some-trace count run size;
+      label-gives = label-gives t (judgeIn memory) (λ c places typed q. q);
       of-stored = of-stored (trusted-stores t);
     }
 
@@ -274,6 +279,10 @@ demands = record {
   imports-anywhere = imports-anywhere;
   checks-anywhere = checks-anywhere;
   batches-anywhere = batches-anywhere;
+  labels-anywhere = labels-anywhere;
+  remote-is-match = remote-is-match;
+  sees-no-serials = sees-no-serials;
+  serials-may-differ = serials-may-differ;
   stored-anywhere = λ memory typed. of-stored (typed-stores memory typed);
   after-list = from-first;
   after-check = from-check;

@@ -44,6 +44,7 @@ may-differ those these = record {
     nodes-same = refl;
     links-same = refl;
     work-same = refl;
+    labels-same = refl;
     as-long = refl;
     samples-same = λ trace read. refl;
   };
@@ -52,6 +53,7 @@ may-differ those these = record {
     nodes-same = differ .nodes-same;
     links-same = differ .links-same;
     work-same = differ .work-same;
+    labels-same = differ .labels-same;
     as-long = simp length-set (differ .as-long);
     samples-same = λ j read. trace-set (other .samples) (measuresOf these .n) trace j at sample h
         (λ q. T-not (isIn trace (numbersAmong (treeIn these) those)) out

@@ -1,5 +1,5 @@
 -- A match of well-formed tables with a trace finds one, altered tables included: there is a leaf, no leaf is empty, and the first in the
--- order of reading is read whatever its bound.
+-- order of reading is read whatever its bound. What it finds is a stored trace: a leaf has no other number.
 use Prim.Native.Nat.{ℕ, _≤_, _<_}
 use mathlib.Core.Path.{_≡_}
 use mathlib.Core.Bool.{Bool, true, false, not}
@@ -11,12 +11,13 @@ use lib.ListN.{length, length-map}
 use lib.Dec.{T, eqb, ltb}
 use borrow.Author.Tests.{not-false, eqb-true, eqb-false, ltb-false}
 use Rattle.integer.specs.Words.{if_then_else_}
-use Rattle.integer.specs.Lists.{In, first}
-use Rattle.integer.proofs.Lists.{some-in}
+use Rattle.integer.specs.Lists.{In, first, later}
+use Rattle.integer.proofs.Lists.{some-in, in-is, InMap, of, from-map}
 use Rattle.dstree.specs.Measures.{Trace}
 use Rattle.dstree.specs.Node.{Tree, nodeAt}
-use Rattle.dstree.specs.Matching.{LeafBound, numbersIn, leaves, readingOrder, readOn, Near, nearAt, nearer, bestWith, Search}
+use Rattle.dstree.specs.Matching.{LeafBound, numbersIn, leaves, readingOrder, readOn, Near, nearAt, isNearer, nearer, bestWith, Search}
 use Rattle.dstree.specs.Matching.{distancesIn, readLeaf, isAbove, searchOn, searched}
+use Rattle.dstree.specs.Batch.{nearOrZero}
 use Rattle.dstree.specs.Refusals.{firstOf, wrongTrace, empty, shortTrail}
 use Rattle.dstree.proofs.Conditions.{none-first, none-both}
 use Rattle.dstree.proofs.Reading.{kept-leaf, leaf-full, reading-of, in-reading}
@@ -46,6 +47,25 @@ unfolding bestWith
 with-one [] h = absurd (omega arith)
 with-one (a ∷ l) h = with-more l a
 
+-- a best that is one of so many traces, if there is one
+abbrev Inside : ℕ → Option Near → Type 0
+Inside count none = Unit
+Inside count (some a) = a .trace < count
+
+one-inside : (count : ℕ) (o : Option Near) (a : Near) → Inside count o → a .trace < count → Inside count (bestWith o a)
+unfolding bestWith nearer
+one-inside count none a h k = k
+one-inside count (some b) a h k = by (isNearer a b)
+  where
+    by : (c : Bool) → (if c then a else b) .trace < count
+    by true = k
+    by false = h
+
+all-inside : (count : ℕ) (l : List Near) (o : Option Near) → Inside count o → ((a : Near) → In a l → a .trace < count)
+    → Inside count (foldl bestWith o l)
+all-inside count [] o h each = h
+all-inside count (a ∷ l) o h each = all-inside count l (bestWith o a) (one-inside count o a h (each a first)) (λ b i. each b (later i))
+
 -- before the first leaf
 abbrev nothingYet : Search
 nothingYet = record { best = none; traces = 0; trail = [] }
@@ -63,6 +83,23 @@ module _ (stored : List Trace) (tree : Tree) (query : Trace) where
       onward = searchOn stored tree query (readLeaf stored tree query s (a .number)) rest
 
       by : (b : Bool) → Some (onward .best) → Some ((if b then s else onward) .best)
+      by true k = h
+      by false k = k
+
+  -- where leaves have stored traces alone, one of these is found
+  inside-stays : (count : ℕ) → ((number : ℕ) (a : Near) → In a (distancesIn stored tree query number) → a .trace < count)
+      → (l : List LeafBound) (s : Search) → Inside count (s .best) → Inside count (searchOn stored tree query s l .best)
+  unfolding readOn readLeaf
+  inside-stays count each [] s h = h
+  inside-stays count each (a ∷ rest) s h =
+      by (isAbove (a .bound) (s .best))
+      (inside-stays count each rest (readLeaf stored tree query s (a .number))
+      (all-inside count (distancesIn stored tree query (a .number)) (s .best) h (each (a .number))))
+    where
+      onward : Search
+      onward = searchOn stored tree query (readLeaf stored tree query s (a .number)) rest
+
+      by : (b : Bool) → Inside count (onward .best) → Inside count ((if b then s else onward) .best)
       by true k = h
       by false k = k
 
@@ -88,6 +125,23 @@ module _ (t : Tables) (w : T (wellFormed t)) (some-trace : 0 < traceCount t) (qu
   pub finds : Some (searched (tracesIn t) (treeIn t) query .best)
   unfolding searched
   finds = first-read (tracesIn t) (treeIn t) query (readingOrder (treeIn t) query) all-full a-leaf
+
+  -- "every trace number in one leaf", and no other number
+  numbered : (number : ℕ) (a : Near) → In a (distancesIn (tracesIn t) (treeIn t) query number) → a .trace < traceCount t
+  unfolding distancesIn
+  numbered number a i = by (from-map (nearAt (tracesIn t) query) (numbersIn (nodeAt (treeIn t) number .kind)) i)
+    where
+      by : InMap (nearAt (tracesIn t) query) a (numbersIn (nodeAt (treeIn t) number .kind)) → a .trace < traceCount t
+      by (of k j e) = rw e (tree-formed t w .shape .numbers k number (in-is j))
+
+  stored-trace : nearOrZero (searched (tracesIn t) (treeIn t) query .best) .trace < traceCount t
+  unfolding searched nearOrZero
+  stored-trace = by (searched (tracesIn t) (treeIn t) query .best)
+      (inside-stays (tracesIn t) (treeIn t) query (traceCount t) numbered (readingOrder (treeIn t) query) nothingYet tt)
+    where
+      by : (best : Option Near) → Inside (traceCount t) best → nearOrZero best .trace < traceCount t
+      by none h = some-trace
+      by (some a) h = h
 
 -- ---- the conditions of a search
 
@@ -115,3 +169,10 @@ pub found : (t : Tables) (query : Trace) (trail : List ℕ) → firstOf (madeCon
 found t query trail e =
     let parts = none-both (madeConditions t) (queryConditionsIn t query trail) e in
     finds t (accepted t (parts .0) .formed) (run-fits t (measuresOf t .n) query trail (parts .1) .some-trace) query
+
+-- .. and it is a stored one
+pub found-stored : (t : Tables) (query : Trace) (trail : List ℕ) → firstOf (madeConditions t ++ queryConditionsIn t query trail) ≡ none
+    → nearOrZero (searched (tracesIn t) (treeIn t) query .best) .trace < traceCount t
+found-stored t query trail e =
+    let parts = none-both (madeConditions t) (queryConditionsIn t query trail) e in
+    stored-trace t (accepted t (parts .0) .formed) (run-fits t (measuresOf t .n) query trail (parts .1) .some-trace) query

@@ -2,36 +2,40 @@
 -- export writes is a sound recording of its trace.
 -- The idea: each adding leaves tables that refuse nothing of the next trace, so that all of them together are one fold; and what an export
 -- wrote is a trace of the library that the memory stores, whoever made its tree.
-use Prim.Native.Nat.{ℕ, _<_}
+use Prim.Native.Nat.{ℕ, _+_, _≤_, _<_}
 use mathlib.Core.Path.{_≡_, refl, sym, ap, subst, _∙_}
 use mathlib.Core.Bool.{not, _&&_}
 use mathlib.Core.Option.{Option, none, some}
-use mathlib.Core.List.{List, [], _∷_, map, foldl}
+use mathlib.Core.List.{List, [], _∷_, map}
 use native.Mathlib.Omega.{arith}
-use lib.ListN.{length, getD, drop}
+use lib.ListN.{length, getD, drop, replicate, length-replicate}
 use lib.Dec.{ltb, leb, ltb→lt}
 use borrow.Author.Tests.{not-false, eq-eqb, ne-eqb}
 use mir.Facts.{and-yes}
 use Rattle.integer.specs.Words.{every, counting}
 use Rattle.integer.proofs.Tests.{passed, is-true, test-true}
 use Rattle.integer.proofs.Lists.{in-getD, from-every}
-use Rattle.dstree.specs.Measures.{Trace, Measures, sampleLimit, inRange, isTrace, isLibrary}
+use Rattle.dstree.specs.Measures.{Trace, Measures, sampleLimit, inRange, isTrace, isLibrary, labelsNeeded}
+use Rattle.dstree.specs.Labels.{Label, noLabel}
 use Rattle.dstree.specs.Refusals.{firstOf, _refuses_, spoiled, badRecording}
 use Rattle.dstree.specs.Recording.{rateLimit, recordingSize, recordingOf, Recording, recording, judgeRecording, fileTraces, isBadFile}
 use Rattle.dstree.specs.Book.{Lent, Reply, reply, answering, added, imported, exported, over, Book, exportConditions, besideOf}
 use Rattle.dstree.proofs.Conditions.{first-none, none-first, none-both}
 use Rattle.dstree.proofs.Recordings.{recording-length, recording-claims}
 use Rattle.dstree.proofs.Limits.{trace-length}
-use Rattle.tables.specs.Tables.{Tables, tables, lentOf, measuresOf, traceCount}
-use Rattle.tables.specs.View.{tracesIn, wellFormed}
+use Rattle.tables.specs.Tables.{Tables, labelledTables, lentOf, measuresOf, traceCount}
+use Rattle.tables.specs.View.{tracesIn, labelsOver, nextLabelled, wellFormed}
 use Rattle.tables.specs.Judge.{lentConditionsOf}
 use Rattle.tables.specs.Beginning.{firstPlaces, left}
 use Rattle.tables.specs.Answers.{madeConditions}
 use Rattle.tables.proofs.Range.{in-range}
 use Rattle.tables.proofs.Views.{traces-size}
+use Rattle.tables.proofs.Judged.{accepted}
+use Rattle.tables.proofs.Labels.{no-labels, next-lent}
 use Rattle.tables.proofs.Beginning.{extended, restOf, left-same, left-begins, left-extended}
-use Rattle.insertion_memory.specs.Memory.{addedTo}
+use Rattle.insertion_memory.specs.Memory.{addedWith}
 use Rattle.insertion_memory.proofs.Keeps.{TakesAll, first-size, takes-first, takes-others, keeps-all}
+use Rattle.insertion_memory.proofs.Labels.{labelled-takes, with-others}
 use Rattle.calls.specs.Effects.{adds, imports, exports, effectOf}
 use Rattle.calls.specs.Follows.{Typed, Ran, no-call, a-call}
 use Rattle.calls.specs.Demands.{addings, ImportedInto, ImportsAnywhere, ExportedSound, ExportedThenImported}
@@ -46,16 +50,33 @@ use Rattle.calls.proofs.Steps.{reply-is}
 left-twice : (part after memory : Tables) → lentOf after ≡ lentOf part → left after (left part memory) ≡ left after memory
 left-twice part after memory e =
     left-extended part after (restOf part memory) e
-    ∙ ap (λ (l : Lent). extended after (tables (drop (l .control) (memory .control)) (drop (l .samples) (memory .samples))
-    (drop (l .nodes) (memory .nodes)) (drop (l .links) (memory .links)) (drop (l .work) (memory .work)))) (sym e)
+    ∙ ap (λ (l : Lent). extended after (labelledTables (drop (l .control) (memory .control)) (drop (l .samples) (memory .samples))
+    (drop (l .nodes) (memory .nodes)) (drop (l .links) (memory .links)) (drop (l .work) (memory .work))
+    (drop (l .labels) (memory .labels)))) (sym e)
+
+-- traces added in order, without labels
+abbrev unlabelled : Tables → List Trace → Tables
+unlabelled t traces = addedWith t traces (replicate (length traces) noLabel)
 
 -- tables that no call refuses for what they hold, and that refuse nothing of some traces
 record Open (t : Tables) (traces : List Trace) : Type 0 where
   fine : firstOf (madeConditions t) ≡ none
   takes : TakesAll t traces
 
+module _ {t : Tables} {traces : List Trace} (o : Open t traces) where
+  -- there is a place for each label
+  zeros-fit : traceCount t + length (replicate (length traces) noLabel) ≤ length (t .labels)
+  unfolding labelsNeeded
+  zeros-fit = omega (arith, length-replicate (length traces) noLabel, o .takes .room, accepted t (o .fine) .room .labels-room)
+
+  unlabelled-lent : lentOf (unlabelled t traces) ≡ lentOf t
+  unlabelled-lent =
+      let zeros : List Label = replicate (length traces) noLabel in
+      keeps-all (nextLabelled t zeros) traces (labelled-takes t (labelsOver (t .labels) (traceCount t) zeros) (o .takes)) .lengths-stay
+      ∙ next-lent t zeros zeros-fit
+
 module _ {t : Tables} {x : Trace} {more : List Trace} (o : Open t (x ∷ more)) where
-  first-fine : firstOf (adds t x .conditions) ≡ none
+  first-fine : firstOf (adds t x noLabel .conditions) ≡ none
   unfolding adds firstOf
   first-fine =
       let less : traceCount t < measuresOf t .capacity = omega (arith, o .takes .room) in
@@ -65,16 +86,35 @@ module _ {t : Tables} {x : Trace} {more : List Trace} (o : Open t (x ∷ more)) 
         ne-eqb (traceCount t) (measuresOf t .capacity) (λ e. omega (arith, e, less)),
       )
 
-  others-fine : firstOf (madeConditions (addedTo t x)) ≡ none
+  -- after the first of them
+  abbrev next : Tables
+  next = addedWith t (x ∷ []) (noLabel ∷ [])
+
+  next-takes : TakesAll (nextLabelled t (noLabel ∷ [])) (x ∷ more)
+  next-takes = labelled-takes t (labelsOver (t .labels) (traceCount t) (noLabel ∷ [])) (o .takes)
+
+  next-fits : traceCount t + length (noLabel ∷ []) ≤ length (t .labels)
+  unfolding labelsNeeded
+  next-fits = omega (arith, o .takes .room, accepted t (o .fine) .room .labels-room)
+
+  next-as-long : lentOf next ≡ lentOf t
+  next-as-long = takes-first next-takes .lengths-stay ∙ next-lent t (noLabel ∷ []) next-fits
+
+  others-fine : firstOf (madeConditions next) ≡ none
   unfolding madeConditions firstOf
   others-fine =
-      let a = takes-first (o .takes) in
       let before = none-both (lentConditionsOf (lentOf t) (measuresOf t)) (not (wellFormed t) refuses spoiled ∷ []) (o .fine) .0 in
-      first-none (lentConditionsOf (lentOf (addedTo t x)) (measuresOf (addedTo t x))) _ (rw (a .lengths-stay, a .measures-stay) before)
-      ∙ rw (test-true (wellFormed (addedTo t x)) (takes-others (o .takes) .formed))
+      first-none (lentConditionsOf (lentOf next) (measuresOf next)) _ (rw (next-as-long, takes-first next-takes .measures-stay) before)
+      ∙ rw (test-true (wellFormed next) (takes-others next-takes .formed))
 
-  open-others : Open (addedTo t x) more
-  open-others = record { fine = others-fine; takes = takes-others (o .takes) }
+  open-others : Open next more
+  open-others = record { fine = others-fine; takes = takes-others next-takes }
+
+  -- the others are added to what it left
+  others-after : unlabelled t (x ∷ more) ≡ unlabelled next more
+  others-after =
+      let counted : traceCount next ≡ traceCount t + length (noLabel ∷ []) = takes-first next-takes .trace-count ∙ omega arith in
+      with-others t (x ∷ []) more (noLabel ∷ []) (replicate (length more) noLabel) counted next-fits
 
 -- the numbers that addings answer, from a number on
 abbrev numbered : ℕ → ℕ → List Reply
@@ -83,26 +123,29 @@ numbered count from = map (λ number. reply (answering (added number)) []) (coun
 module _ (lent : Lent) where
   all-added : (traces : List Trace) (t memory : Tables) → firstPlaces lent memory ≡ t → lentOf t ≡ lent → Open t traces
       → (others : List Reply) (memory″ : Tables) → Ran memory (addings lent traces) others memory″
-      → (memory″ ≡ left (foldl addedTo t traces) memory) × (others ≡ numbered (length traces) (traceCount t))
+      → (memory″ ≡ left (unlabelled t traces) memory) × (others ≡ numbered (length traces) (traceCount t))
   unfolding counting effectOf adds
-  all-added [] t memory is lengths o others memory″ no-call =
-      (sym (left-same t memory (subst (λ (l : Lent). firstPlaces l memory ≡ t) (sym lengths) is)), refl)
+  all-added [] t memory is lengths o others memory″ no-call = (
+    sym (left-same t memory (subst (λ (l : Lent). firstPlaces l memory ≡ t) (sym lengths) is))
+        ∙ ap (λ (k : Tables). left k memory) (no-labels t),
+    refl,
+  )
   all-added (x ∷ traces) t memory is lengths o others memory″ (a-call {between = between} {said = said} f rest) =
-      let a = takes-first (o .takes) in
-      let done = one-call _ memory between said f .works (subst (λ (k : Tables). firstOf (adds k x .conditions) ≡ none) (sym is) (first-fine o)) in
-      let between-is : between ≡ left (addedTo t x) memory = done .1 ∙ ap (λ (k : Tables). left (addedTo k x) memory) is in
+      let n : Tables = addedWith t (x ∷ []) (noLabel ∷ []) in
+      let done = one-call _ memory between said f .works
+      (subst (λ (k : Tables). firstOf (adds k x noLabel .conditions) ≡ none) (sym is) (first-fine o)) in
+      let between-is : between ≡ left n memory = done .1 ∙ ap (λ (k : Tables). left (addedWith k (x ∷ []) (noLabel ∷ [])) memory) is in
       let said-is : said ≡ reply (answering (added (traceCount t))) [] =
       done .0 ∙ ap (λ (k : Tables). reply (answering (added (traceCount k))) []) is in
-      let lengths′ : lentOf (addedTo t x) ≡ lent = a .lengths-stay ∙ lengths in
-      let is′ : firstPlaces lent between ≡ addedTo t x =
-      ap (firstPlaces lent) between-is ∙ subst (λ (l : Lent). firstPlaces l (left (addedTo t x) memory) ≡ addedTo t x) lengths′
-      (left-begins (addedTo t x) memory) in
-      let r = all-added traces (addedTo t x) between is′ lengths′ (open-others o) _ memory″ rest in
-      let k = keeps-all (addedTo t x) traces (takes-others (o .takes)) in (
+      let lengths′ : lentOf n ≡ lent = next-as-long o ∙ lengths in
+      let is′ : firstPlaces lent between ≡ n =
+      ap (firstPlaces lent) between-is ∙ subst (λ (l : Lent). firstPlaces l (left n memory) ≡ n) lengths′ (left-begins n memory) in
+      let r = all-added traces n between is′ lengths′ (open-others o) _ memory″ rest in (
         r .0
-            ∙ (ap (left (foldl addedTo (addedTo t x) traces)) between-is
-            ∙ left-twice (addedTo t x) (foldl addedTo (addedTo t x) traces) memory (k .lengths-stay)),
-        rw (said-is, r .1, a .trace-count) refl,
+            ∙ (ap (left (unlabelled n traces)) between-is
+            ∙ (left-twice n (unlabelled n traces) memory (unlabelled-lent (open-others o))
+            ∙ ap (λ (k : Tables). left k memory) (sym (others-after o)))),
+        rw (said-is, r .1, takes-first (next-takes o) .trace-count) refl,
       )
 
 -- ---- "A file imported gives the library that adding its traces one after another gives"
@@ -124,7 +167,7 @@ imports-anywhere lent bytes memory memory′ said f count answers = by (judgeRec
       takes = import-takes t bytes (f .typed .0) (f .typed .1) (known .0);
     }
 
-    left-is : memory′ ≡ left (foldl addedTo t (fileTraces (judgeRecording (measuresOf t .n) bytes))) memory
+    left-is : memory′ ≡ left (unlabelled t (fileTraces (judgeRecording (measuresOf t .n) bytes))) memory
     left-is = one-call _ memory memory′ said f .works (known .0) .1
 
     by : (file : Option Recording) → judgeRecording (measuresOf t .n) bytes ≡ file → ImportedInto lent bytes memory count memory′
@@ -140,7 +183,7 @@ imports-anywhere lent bytes memory memory′ said f count answers = by (judgeRec
           counted = many;
           as-addings = λ others memory″ ran.
               let all = all-added lent (r .traces) t memory refl (f .has-places) (subst (Open t) is opened) others memory″ ran in
-              (all .0 ∙ sym (left-is ∙ ap (λ (l : List Trace). left (foldl addedTo t l) memory) is), all .1 ∙ ap (λ (k : ℕ). numbered k (traceCount t)) (sym many));
+              (all .0 ∙ sym (left-is ∙ ap (λ (l : List Trace). left (unlabelled t l) memory) is), all .1 ∙ ap (λ (k : ℕ). numbered k (traceCount t)) (sym many));
         }
 
 -- ---- what an export writes

@@ -11,24 +11,27 @@ use lib.Seq.{getD-take}
 use lib.Dec.{T}
 use borrow.Author.Tests.{ltb-false}
 use Rattle.integer.proofs.Tests.{test-true}
-use Rattle.dstree.specs.Measures.{Measures, inRange, sampleLimit}
+use Rattle.dstree.specs.Measures.{Trace, Measures, inRange, sampleLimit, isLibrary}
+use Rattle.dstree.specs.Labels.{Label, areLabels}
 use Rattle.dstree.specs.Refusals.{Condition, firstOf, shortTable}
 use Rattle.dstree.specs.Book.{Lent, Book, controlShort, tablesShort, shortConditions}
 use Rattle.dstree.proofs.Conditions.{none-first}
 use Rattle.dstree.proofs.Libraries.{library-of}
+use Rattle.dstree.proofs.SheetLabels.{labels-of}
 use Rattle.tables.specs.Layout.{layout, nPlace, capacityPlace, leafSizePlace, controlFields}
 use Rattle.tables.specs.Tables.{Tables, lentOf, field, measuresOf, traceCount}
-use Rattle.tables.specs.View.{wellFormed}
+use Rattle.tables.specs.View.{labelsIn, wellFormed}
 use Rattle.tables.specs.Judge.{lentConditionsOf, Room}
 use Rattle.tables.specs.Beginning.{Begins, LentWithin}
 use Rattle.tables.specs.Answers.{madeConditions}
 use Rattle.tables.proofs.Judged.{room-of}
 use Rattle.tables.proofs.Beginning.{begins-between}
+use Rattle.tables.proofs.Labels.{labels-begin}
 use Rattle.tables.specs.Holds.{Holds}
 use Rattle.insertion_memory.proofs.Made.{count-is}
-use Rattle.insertion_memory.proofs.Beginnings.{holds-whole}
+use Rattle.insertion_memory.proofs.Beginnings.{begins-agree, traces-counted, holds-whole}
 use Rattle.calls.specs.Library.{libraryTables, Keeps}
-use Rattle.calls.proofs.Library.{need, room-within, library-holds, library-lent}
+use Rattle.calls.proofs.Library.{need, room-within, few-labels, library-holds, library-lent, library-labels}
 
 -- where lengths are not refused, there is room
 pub short-room : (lengths : Lent) (m : Measures) (rest : List Condition) → firstOf (shortConditions layout lengths m ++ rest) ≡ none
@@ -81,6 +84,19 @@ module _ (memory part : Tables) (begins : Begins part memory) (m : Measures) (is
           (tablesShort layout (lentOf part) m) refl
           (λ f. let h = same (room-of (lentOf part) m e f) in (test-true (wellFormed part) (h .0), h .1))
 
+-- ---- tables that begin with a library's have its labels
+
+module _ (m : Measures) (traces : List Trace) (labels : List Label) (library : T (isLibrary sampleLimit m traces))
+    (labelled : T (areLabels (length traces) labels)) where
+  begun-labels : (t : Tables) → Begins (libraryTables m traces labels) t → labelsIn t ≡ labels
+  begun-labels t begins =
+      let own : Tables = libraryTables m traces labels in
+      let h = library-holds m traces labels library labelled in
+      let lengths = ap (λ (l : Lent). l .labels) (library-lent m traces labels library labelled) in
+      let fits : traceCount own ≤ length (own .labels) =
+      omega (arith, count-is own, ap length (h .traces-are), few-labels m traces labels library labelled, lengths, labels-of (length traces) labels labelled .each-one) in
+      labels-begin own t begins (traces-counted (begins-agree begins (h .long))) fits ∙ library-labels m traces labels library labelled
+
 -- ---- tables lent of a memory that keeps a book
 
 module _ {memory : Tables} {b : Book} (keeps : Keeps memory b) (part : Tables) (begins : Begins part memory) where
@@ -88,13 +104,13 @@ module _ {memory : Tables} {b : Book} (keeps : Keeps memory b) (part : Tables) (
   m = b .measures
 
   abbrev own : Tables
-  own = libraryTables (b .measures) (b .traces)
+  own = libraryTables (b .measures) (b .traces) (b .labels)
 
   own-holds : Holds own m (b .traces)
-  own-holds = library-holds m (b .traces) (keeps .library)
+  own-holds = library-holds m (b .traces) (b .labels) (keeps .library) (keeps .labelled)
 
   own-lent : lentOf own ≡ need m
-  own-lent = library-lent m (b .traces) (keeps .library)
+  own-lent = library-lent m (b .traces) (b .labels) (keeps .library) (keeps .labelled)
 
   -- long enough, they begin with the library's tables, and hold what these hold
   pub library-begins : Room (lentOf part) m → Begins own part
@@ -104,13 +120,27 @@ module _ {memory : Tables} {b : Book} (keeps : Keeps memory b) (part : Tables) (
   pub part-holds : Room (lentOf part) m → Holds part m (b .traces)
   part-holds r = holds-whole (library-begins r) own-holds
 
+  pub counted : Holds part m (b .traces) → traceCount part ≡ length (b .traces)
+  counted h = count-is part ∙ ap length (h .traces-are)
+
+  -- and they have the book's labels
+  pub part-labels : Room (lentOf part) m → labelsIn part ≡ b .labels
+  part-labels r = begun-labels m (b .traces) (b .labels) (keeps .library) (keeps .labelled) part (library-begins r)
+
   -- so what is refused before a call's own conditions is what the book refuses, where those then refuse the same
-  pub made-same : (rest others : List Condition) → (Holds part m (b .traces) → firstOf rest ≡ firstOf others)
-      → SameRefusal rest others part m
+  pub made-same : (rest others : List Condition)
+      → (Holds part m (b .traces) → labelsIn part ≡ b .labels → firstOf rest ≡ firstOf others) → SameRefusal rest others part m
   made-same rest others same =
       judged-same memory part begins m (holds-whole (keeps .needed-places) own-holds .measures-are) rest others
       (test-true (inRange m) (library-of sampleLimit m (b .traces) (keeps .library) .measured))
-      (λ room. let h = part-holds room in (h .formed, same h))
+      (λ room. let h = part-holds room in (h .formed, same h (part-labels room)))
 
-  pub counted : Holds part m (b .traces) → traceCount part ≡ length (b .traces)
-  counted h = count-is part ∙ ap length (h .traces-are)
+-- ---- a memory that keeps a book
+
+-- it holds the book's library, and has its labels
+module _ {memory : Tables} {b : Book} (k : Keeps memory b) where
+  pub kept-holds : Holds memory (b .measures) (b .traces)
+  kept-holds = holds-whole (k .needed-places) (library-holds (b .measures) (b .traces) (b .labels) (k .library) (k .labelled))
+
+  pub kept-labels : labelsIn memory ≡ b .labels
+  kept-labels = begun-labels (b .measures) (b .traces) (b .labels) (k .library) (k .labelled) memory (k .needed-places)

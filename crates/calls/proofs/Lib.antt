@@ -21,4 +21,6 @@ pub mod Trusting
 pub mod Trees
 pub mod Queries
 pub mod Batches
+pub mod Labels
+pub mod Remote
 pub mod Demands

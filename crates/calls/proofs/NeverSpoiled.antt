@@ -14,12 +14,12 @@ use Rattle.integer.proofs.Tests.{passes}
 use Rattle.integer.specs.Lists.{In}
 use Rattle.integer.proofs.Lists.{in-nil, in-cons}
 use Rattle.dstree.specs.Refusals.{Refusal, numberOf, Condition, _refuses_, firstOf}
-use Rattle.dstree.specs.Sheet.{Format, narrow, blocksIn, tornConditions, badConditions, conditionsAs, Judged, refused, holds, libraryIn}
+use Rattle.dstree.specs.Sheet.{Format, narrow, blocksIn, kindIn, tornConditions, badConditions, conditionsAs, Judged, refused, holds, libraryIn}
 use Rattle.dstree.specs.Sheet.{judgedBy, judgeAs, judgeSheet}
-use Rattle.dstree.specs.Book.{Layout, Lent, Ask, opening, adding, searching, writing, reading, importing, exporting, checking, Call}
-use Rattle.dstree.specs.Book.{refusing, Reply, Book, bookTree, Entry}
+use Rattle.dstree.specs.Book.{Layout, Lent, Ask, opening, adding, searching, writing, reading, importing, exporting, checking, labelling}
+use Rattle.dstree.specs.Book.{Call, refusing, Reply, Book, bookTree, Entry}
 use Rattle.dstree.specs.Book.{readingConditions, openingEntry, addingEntry, writingEntry, readingEntry, importingEntry, exportingEntry}
-use Rattle.dstree.specs.Book.{checkingEntry}
+use Rattle.dstree.specs.Book.{checkingEntry, labellingEntry}
 use Rattle.dstree.specs.Book.{entryOf, entry, judge, turn}
 use Rattle.dstree.specs.Book.{replyUnless, replyOf, repliesOf}
 use Rattle.calls.proofs.OfArguments.{ifAny, ofArguments, other, first-other}
@@ -30,14 +30,14 @@ use Rattle.calls.proofs.Searches.{laws}
 -- what a sheet is refused for
 abbrev refusalIn : Judged → Option Refusal
 refusalIn (refused why) = some why
-refusalIn (holds m traces) = none
+refusalIn (holds m traces labels) = none
 
 module _ (f : Format) where
-  torn-other : (number : ℕ) (blocks : List (List ℕ)) (rest : List Condition) → T (every other rest)
-      → T (every other (tornConditions f number blocks ++ rest))
+  torn-other : (before number : ℕ) (blocks : List (List ℕ)) (rest : List Condition) → T (every other rest)
+      → T (every other (tornConditions f before number blocks ++ rest))
   unfolding tornConditions every ofArguments numberOf
-  torn-other number [] rest t = t
-  torn-other number (b ∷ blocks) rest t = torn-other (suc number) blocks rest t
+  torn-other before number [] rest t = t
+  torn-other before number (b ∷ blocks) rest t = torn-other (kindIn b) (suc number) blocks rest t
 
   bad-other : (blocks : List (List ℕ)) → T (every other (badConditions f blocks))
   unfolding badConditions every ofArguments numberOf
@@ -46,7 +46,7 @@ module _ (f : Format) where
 
   sheet-other : (bytes : List ℕ) → T (every other (conditionsAs f bytes))
   unfolding conditionsAs every ofArguments numberOf
-  sheet-other bytes = torn-other 0 (blocksIn bytes) (badConditions f (blocksIn bytes)) (bad-other (blocksIn bytes))
+  sheet-other bytes = torn-other 0 0 (blocksIn bytes) (badConditions f (blocksIn bytes)) (bad-other (blocksIn bytes))
 
   library-other : (blocks : List (List ℕ)) → T (ifAny ofArguments (refusalIn (libraryIn f blocks)))
   unfolding libraryIn ifAny ofArguments numberOf
@@ -67,18 +67,20 @@ module _ (layout : Layout) where
   reading-other : (lent : Lent) (j : Judged) → T (ifAny ofArguments (refusalIn j)) → T (every other (readingConditions layout lent j))
   unfolding readingConditions every ofArguments numberOf ifAny
   reading-other lent (refused why) h = passes (other (true refuses why)) (true ∷ []) (h, tt)
-  reading-other lent (holds m traces) h = tt
+  reading-other lent (holds m traces labels) h = tt
 
   pub entry-other : (lent : Lent) (b : Book) (ask : Ask) → T (every other (entryOf layout lent b ask .conditions))
-  unfolding entryOf openingEntry addingEntry writingEntry readingEntry importingEntry exportingEntry checkingEntry every ofArguments numberOf
+  unfolding entryOf openingEntry addingEntry writingEntry readingEntry importingEntry exportingEntry checkingEntry labellingEntry every ofArguments
+      numberOf
   entry-other lent b (opening m) = tt
-  entry-other lent b (adding x) = tt
+  entry-other lent b (adding x l) = tt
   entry-other lent b (searching q) = laws q .by-arguments (b .measures) (length (b .traces)) (bookTree b)
   entry-other lent b (writing sheet) = tt
   entry-other lent b (reading bytes) = reading-other lent (judgeSheet bytes) (judge-other narrow bytes)
   entry-other lent b (importing bytes) = tt
   entry-other lent b (exporting number rate buffer) = tt
   entry-other lent b checking = tt
+  entry-other lent b (labelling number) = tt
 
   reply-other : (w : Refusal) → (T (ofArguments w) → ⊥) → (o : Option Refusal) → T (ifAny ofArguments o)
       → (beside : List (List ℕ)) (e : Entry) → replyUnless o beside e .answer ≡ refusing w → ⊥

@@ -15,11 +15,12 @@ use Rattle.integer.proofs.Lists.{in-is, map-agree}
 use Rattle.dstree.specs.Measures.{Measures}
 use Rattle.dstree.specs.KNearest.{SameIn}
 use Rattle.dstree.specs.Refusals.{Refusal, firstOf}
-use Rattle.dstree.specs.Book.{Lent, Ask, opening, adding, searching, writing, reading, importing, exporting, checking, besideOf}
+use Rattle.dstree.specs.Book.{Lent, Ask, opening, adding, searching, writing, reading, importing, exporting, checking, labelling, besideOf}
 use Rattle.dstree.specs.Book.{Result, answering, Reply, reply, Found, AnySearch, searchOf}
 use Rattle.dstree.specs.Claims.{numbersAmong}
-use Rattle.tables.specs.Tables.{Tables, tables, measuresOf, traceCount}
-use Rattle.tables.specs.View.{traceIn, treeIn, tracesIn, kindsNamed, wellFormed}
+use Rattle.dstree.specs.Remote.{codesOf}
+use Rattle.tables.specs.Tables.{Tables, labelledTables, measuresOf, traceCount}
+use Rattle.tables.specs.View.{traceIn, treeIn, tracesIn, labelsIn, kindsNamed, wellFormed}
 use Rattle.dstree.proofs.Conditions.{none-both}
 use Rattle.tables.specs.Answers.{madeConditions}
 use Rattle.tables.specs.Beginning.{firstPlaces, Begins}
@@ -29,7 +30,7 @@ use Rattle.tables.specs.Holds.{Long}
 use Rattle.insertion_memory.proofs.FromTables.{long-of}
 use Rattle.insertion_memory.proofs.Beginnings.{Agree, begins-agree, measures-same, tree-same}
 use Rattle.calls.specs.Outcome.{Effect, unlessRefused}
-use Rattle.calls.specs.Effects.{opens, adds, searches, writes, reads, imports, exports, checks, effectOf, outcomeOn}
+use Rattle.calls.specs.Effects.{opens, adds, searches, writes, reads, imports, exports, checks, tellsLabel, effectOf, outcomeOn}
 use Rattle.calls.specs.Demands.{DifferOutside, trailFound, SamplesOffTrail}
 use Rattle.tables.proofs.Judged.{Accepted, accepted}
 use Rattle.calls.proofs.Searches.{laws}
@@ -39,7 +40,7 @@ use Rattle.calls.proofs.Steps.{reply-is}
 
 module _ (t : Tables) (samples : List ℤ) (as-many : length samples ≡ length (t .samples)) where
   abbrev with-others : Tables
-  with-others = tables (t .control) samples (t .nodes) (t .links) (t .work)
+  with-others = labelledTables (t .control) samples (t .nodes) (t .links) (t .work) (t .labels)
 
   -- no condition of a search reads a sample
   conditions-same : (s : AnySearch) → firstOf (searches with-others s .conditions) ≡ firstOf (searches t s .conditions)
@@ -74,6 +75,7 @@ module _ (lent : Lent) {these other : Tables} {trail : List ℕ} (ok : Accepted 
   also-is = tables-same (ap (take (lent .control)) (differ .control-same)) refl
       (ap (take (lent .nodes)) (differ .nodes-same)) (ap (take (lent .links)) (differ .links-same))
       (ap (take (lent .work)) (differ .work-same))
+      (ap (take (lent .labels)) (differ .labels-same))
 
   agree : Agree part these
   agree = begins-agree (first-begins lent these) long
@@ -136,21 +138,22 @@ module _ (lent : Lent) {these other : Tables} {trail : List ℕ} (differ : Diffe
 
   -- no other call answers with a trail
   any-same : (ask : Ask) → Same ask
-  unfolding effectOf opens adds writes reads imports exports checks trailFound treeIn
+  unfolding effectOf opens adds writes reads imports exports checks tellsLabel trailFound treeIn labelsIn
   any-same (searching q) fine found =
       let ok = accepted t (none-both (madeConditions t) _ fine .0) in
       let u = also lent ok differ in
-      let both = laws q .unmoved (measuresOf t) (tracesIn t) (tracesIn u) (treeIn t) trail found (all-same lent ok differ) in
+      let both = laws q .unmoved (measuresOf t) (tracesIn t) (tracesIn u) (codesOf (labelsIn t)) (treeIn t) trail found (all-same lent ok differ) in
       ap (replyTo (searching q)) (also-is lent ok differ)
       ∙ same-work (searching q) t u fine (conditions-same t (u .samples) (as-many lent ok differ) (searchOf q))
       (ap (λ (f : Found). f .result) both) (ap (λ (f : Found). f .beside) both)
   any-same (opening m) fine found = let z : _≡_ {A = ℕ} 0 1 = cc in absurd (omega arith)
-  any-same (adding x) fine found = let z : _≡_ {A = ℕ} 0 1 = cc in absurd (omega arith)
+  any-same (adding x l) fine found = let z : _≡_ {A = ℕ} 0 1 = cc in absurd (omega arith)
   any-same (writing sheet) fine found = let z : _≡_ {A = ℕ} 0 1 = cc in absurd (omega arith)
   any-same (reading bytes) fine found = let z : _≡_ {A = ℕ} 0 1 = cc in absurd (omega arith)
   any-same (importing bytes) fine found = let z : _≡_ {A = ℕ} 0 1 = cc in absurd (omega arith)
   any-same (exporting number rate buffer) fine found = let z : _≡_ {A = ℕ} 0 1 = cc in absurd (omega arith)
   any-same checking fine found = let z : _≡_ {A = ℕ} 0 1 = cc in absurd (omega arith)
+  any-same (labelling number) fine found = let z : _≡_ {A = ℕ} 0 1 = cc in absurd (omega arith)
 
 -- ---- the law
 

@@ -1,27 +1,29 @@
 -- Demand 1, of every call on every memory: its definition refuses with the first condition that holds and hands back what it was lent, or
 -- does its work within the places that the measures need.
-use Prim.Native.Nat.{ℕ, _+_, _*_, _<_}
+use Prim.Native.Nat.{ℕ, _+_, _*_, _≤_, _<_}
 use mathlib.Core.Path.{_≡_, refl, sym, ap, subst, _∙_}
 use mathlib.Core.Bool.{not}
 use mathlib.Core.Option.{Option, none, some}
-use mathlib.Core.List.{List, [], _++_, foldl}
+use mathlib.Core.List.{List, [], _∷_, _++_}
 use native.Mathlib.Omega.{arith}
-use lib.ListN.{length, drop, List·getD-append}
+use lib.ListN.{length, drop, replicate, length-replicate, List·getD-append}
 use lib.Seq.{drop-append-le}
 use lib.Dec.{T, eqb, ltb}
 use borrow.Author.Tests.{not-false, eqb-true, eqb-false, ltb-false}
 use Rattle.integer.proofs.Lists.{strict}
-use Rattle.dstree.specs.Measures.{Trace, Measures, sampleLimit, inRange, areSamples, isLibrary, samplesNeeded, recordsNeeded, linksNeeded, workNeeded}
+use Rattle.dstree.specs.Measures.{Trace, Measures, sampleLimit, inRange, areSamples, isLibrary, samplesNeeded, recordsNeeded, linksNeeded, workNeeded, labelsNeeded}
+use Rattle.dstree.specs.Labels.{Label, noLabel, areLabels}
 use Rattle.dstree.specs.Refusals.{Refusal, _refuses_, firstOf, measure, wrongTrace, full, badRecording}
 use Rattle.dstree.specs.Recording.{judgeRecording, fileTraces, isBadFile}
 use Rattle.dstree.specs.Sheet.{areBytes, Judged, refused, holds, judgeSheet}
-use Rattle.dstree.specs.Book.{Ask, opening, adding, searching, writing, reading, importing, exporting, checking, Call, besideOf}
+use Rattle.dstree.specs.Book.{Ask, opening, adding, searching, writing, reading, importing, exporting, checking, labelling, Call, besideOf}
 use Rattle.dstree.specs.Book.{Reply, reply, shortConditions, readingConditions}
 use Rattle.dstree.proofs.Conditions.{none-first, none-both}
-use Rattle.dstree.proofs.RoundTrips.{is-library}
+use Rattle.dstree.proofs.RoundTrips.{is-library, are-labels}
 use Rattle.dstree.proofs.Recordings.{file-traces}
 use Rattle.tables.specs.Layout.{layout, controlFields, recordPlaces, nPlace, capacityPlace, leafSizePlace}
 use Rattle.tables.specs.Tables.{Tables, lentOf, field, measuresOf, traceCount}
+use Rattle.tables.specs.View.{labelsOver, nextLabelled}
 use Rattle.tables.specs.Judge.{openingConditionsOf, Room}
 use Rattle.tables.specs.Beginning.{firstPlaces, left, Begins}
 use Rattle.tables.specs.Answers.{openingConditions, madeConditions, opened}
@@ -29,17 +31,19 @@ use Rattle.tables.proofs.Views.{tree-formed}
 use Rattle.tables.proofs.Samples.{stored-are}
 use Rattle.tables.proofs.Beginning.{extended, restOf, begins-is, tables-same, left-same, left-extended, left-lent, begins-within}
 use Rattle.tables.proofs.Beginning.{first-begins, fill-length, opened-lent}
-use Rattle.insertion_memory.specs.Memory.{addedTo}
+use Rattle.tables.proofs.Labels.{over-behind, next-lent}
+use Rattle.insertion_memory.specs.Memory.{addedWith}
 use Rattle.insertion_memory.proofs.FromTables.{long-of}
 use Rattle.insertion_memory.proofs.Meaning.{AfterAdding, meaning}
 use Rattle.insertion_memory.proofs.Keeps.{TakesAll, keeps-all}
+use Rattle.insertion_memory.proofs.Labels.{labelled-formed, labelled-takes}
 use Rattle.calls.specs.Outcome.{Effect, unlessRefused}
 use Rattle.calls.specs.Library.{loaded, beyond}
-use Rattle.calls.specs.Effects.{opens, adds, cleared, writes, loadedBy, reads, imports, exports, checks, effectOf}
+use Rattle.calls.specs.Effects.{opens, adds, cleared, writes, loadedBy, reads, imports, exports, checks, tellsLabel, effectOf}
 use Rattle.calls.specs.Follows.{Typed, Follows}
 use Rattle.calls.specs.Demands.{OneCall}
 use Rattle.tables.proofs.Judged.{accepted}
-use Rattle.calls.proofs.Library.{opened-beyond, loaded-holds, loaded-lent, loaded-beyond, fill-behind}
+use Rattle.calls.proofs.Library.{opened-beyond, few-labels, loaded-holds, loaded-lent, loaded-beyond, fill-behind}
 use Rattle.calls.proofs.Kept.{short-room}
 use Rattle.calls.proofs.Steps.{reply-is, memory-is}
 
@@ -76,29 +80,53 @@ module _ (t : Tables) where
       let r = short-room (lentOf t) m [] (none-first (not (inRange m)) measure (shortConditions layout (lentOf t) m) e .1) in
       record { lengths-same = opened-lent t m r; room = r; beyond-same = opened-beyond t m r }
 
-  -- what an adding that is not refused means
-  pub adding-means : (x : Trace) → firstOf (adds t x .conditions) ≡ none → AfterAdding t x
+  -- what an adding that is not refused means, its label being put first
+  pub adding-means : (x : Trace) (l : Label) → firstOf (adds t x l .conditions) ≡ none → AfterAdding (nextLabelled t (l ∷ [])) x
   unfolding adds
-  adding-means x e =
+  adding-means x l e =
       let own = none-both (madeConditions t) _ e .1 in
       let one = none-first (not (eqb (length x) (measuresOf t .n))) wrongTrace _ own in
       let two = none-first (eqb (traceCount t) (measuresOf t .capacity)) full _ (one .1) in
       let ok = accepted t (none-both (madeConditions t) _ e .0) in
       let size = eqb-true (length x) (measuresOf t .n) (not-false _ (one .0)) in
       let less = strict (tree-formed t (ok .formed) .room) (λ q. eqb-false (traceCount t) (measuresOf t .capacity) (two .0) q) in
-      meaning t x (ok .formed) (long-of t (ok .room)) size less
+      meaning (nextLabelled t (l ∷ [])) x (labelled-formed t (labelsOver (t .labels) (traceCount t) (l ∷ [])) (ok .formed)) (long-of t (ok .room)) size less
 
-  adding-untouched : (x : Trace) → firstOf (adds t x .conditions) ≡ none → Untouched t (addedTo t x)
+  -- there is a place for its label
+  pub adding-fits : (x : Trace) (l : Label) → firstOf (adds t x l .conditions) ≡ none → traceCount t + 1 ≤ measuresOf t .capacity
   unfolding adds
-  adding-untouched x e =
+  adding-fits x l e =
+      let own = none-both (madeConditions t) _ e .1 in
+      let two = none-first (eqb (traceCount t) (measuresOf t .capacity)) full _ (none-first (not (eqb (length x) (measuresOf t .n))) wrongTrace _ own .1) in
       let ok = accepted t (none-both (madeConditions t) _ e .0) in
-      let a = adding-means x e in
+      let less = strict (tree-formed t (ok .formed) .room) (λ q. eqb-false (traceCount t) (measuresOf t .capacity) (two .0) q) in
+      omega (arith, less)
+
+  -- some labels more, where there is room for as many traces
+  next-untouched : (labels : List Label) → Room (lentOf t) (measuresOf t) → traceCount t + length labels ≤ measuresOf t .capacity
+      → Untouched t (nextLabelled t labels)
+  unfolding labelsNeeded
+  next-untouched labels room few =
+      let fits : traceCount t + length labels ≤ length (t .labels) = omega (arith, few, room .labels-room) in
       record {
-        lengths-same = a .lengths-stay;
+        lengths-same = next-lent t labels fits;
+        room = room;
+        beyond-same = tables-same refl refl refl refl refl (over-behind (t .labels) (traceCount t) labels fits (measuresOf t .capacity) few);
+      }
+
+  adding-untouched : (x : Trace) (l : Label) → firstOf (adds t x l .conditions) ≡ none → Untouched t (addedWith t (x ∷ []) (l ∷ []))
+  unfolding adds
+  adding-untouched x l e =
+      let ok = accepted t (none-both (madeConditions t) _ e .0) in
+      let a = adding-means x l e in
+      let u = next-untouched (l ∷ []) (ok .room) (adding-fits x l e) in
+      record {
+        lengths-same = a .lengths-stay ∙ u .lengths-same;
         room = rw (a .measures-stay) (ok .room);
         beyond-same = rw (a .measures-stay)
             (tables-same (a .control-behind) (a .samples-behind) (a .nodes-behind) (a .links-behind)
-            (ap (drop (workNeeded (measuresOf t))) (a .work-stays)));
+            (ap (drop (workNeeded (measuresOf t))) (a .work-stays)) (ap (drop (labelsNeeded (measuresOf t))) (a .labels-stay))
+            ∙ u .beyond-same);
       }
 
   -- a search
@@ -109,52 +137,63 @@ module _ (t : Tables) where
       record {
         lengths-same = rw (fill-length {A = ℕ} k 0 (t .work) (r .work-room));
         room = r;
-        beyond-same = tables-same refl refl refl refl (fill-behind {A = ℕ} k 0 (t .work));
+        beyond-same = tables-same refl refl refl refl (fill-behind {A = ℕ} k 0 (t .work)) refl;
       }
 
-  -- a writing, an export, a check
+  -- a writing, an export, a check, the bench's call
   read-untouched : firstOf (madeConditions t) ≡ none → Untouched t t
   read-untouched e = record { lengths-same = refl; room = accepted t e .room; beyond-same = refl }
 
-  reading-by : (j : Judged) → ((m : Measures) (traces : List Trace) → j ≡ holds m traces → T (isLibrary sampleLimit m traces))
+  reading-by : (j : Judged)
+      → ((m : Measures) (traces : List Trace) (labels : List Label) → j ≡ holds m traces labels
+      → T (isLibrary sampleLimit m traces) × T (areLabels (length traces) labels))
       → firstOf (readingConditions layout (lentOf t) j) ≡ none → Untouched t (loadedBy t j)
   unfolding readingConditions firstOf loadedBy
   reading-by (refused why) is e = let z : _≡_ {A = ℕ} 0 1 = cc in absurd (omega arith)
-  reading-by (holds m traces) is e =
+  reading-by (holds m traces labels) is e =
       let r = short-room (lentOf t) m [] e in
-      let library = is m traces refl in
-      let m-is : measuresOf (loaded t m traces) ≡ m = loaded-holds t m r traces library .measures-are in
+      let library = is m traces labels refl .0 in
+      let few = few-labels m traces labels library (is m traces labels refl .1) in
+      let m-is : measuresOf (loaded t m traces labels) ≡ m = loaded-holds t m r traces labels library .measures-are in
       record {
-        lengths-same = loaded-lent t m r traces library;
+        lengths-same = loaded-lent t m r traces labels library few;
         room = rw m-is r;
         beyond-same = rw m-is
-            (loaded-beyond t m r traces library);
+            (loaded-beyond t m r traces labels library few);
       }
 
   importing-untouched : (bytes : List ℕ) → T (areBytes bytes) → T (areSamples (t .samples)) → firstOf (imports t bytes .conditions) ≡ none
-      → Untouched t (foldl addedTo t (fileTraces (judgeRecording (measuresOf t .n) bytes)))
+      → let traces = fileTraces (judgeRecording (measuresOf t .n) bytes) in
+      Untouched t (addedWith t traces (replicate (length traces) noLabel))
   unfolding imports
   importing-untouched bytes are-bytes typed e =
       let ok = accepted t (none-both (madeConditions t) _ e .0) in
-      let a = keeps-all t (fileTraces (judgeRecording (measuresOf t .n) bytes)) (import-takes t bytes are-bytes typed e) in
+      let traces = fileTraces (judgeRecording (measuresOf t .n) bytes) in
+      let zeros : List Label = replicate (length traces) noLabel in
+      let takes = import-takes t bytes are-bytes typed e in
+      let a = keeps-all (nextLabelled t zeros) traces (labelled-takes t (labelsOver (t .labels) (traceCount t) zeros) takes) in
+      let u = next-untouched zeros (ok .room) (omega (arith, takes .room, length-replicate (length traces) noLabel)) in
       record {
-        lengths-same = a .lengths-stay;
+        lengths-same = a .lengths-stay ∙ u .lengths-same;
         room = rw (a .measures-stay) (ok .room);
         beyond-same = rw (a .measures-stay)
             (tables-same (a .control-behind) (a .samples-behind) (a .nodes-behind) (a .links-behind)
-            (ap (drop (workNeeded (measuresOf t))) (a .work-stays)));
+            (ap (drop (workNeeded (measuresOf t))) (a .work-stays)) (ap (drop (labelsNeeded (measuresOf t))) (a .labels-stay))
+            ∙ u .beyond-same);
       }
 
   pub after-untouched : (ask : Ask) → Typed ask t → firstOf (effectOf ask t .conditions) ≡ none → Untouched t (effectOf ask t .after)
-  unfolding effectOf opens adds writes reads imports exports checks Typed
+  unfolding effectOf opens adds writes reads imports exports checks tellsLabel Typed
   after-untouched (opening m) typed e = opening-untouched m e
-  after-untouched (adding x) typed e = adding-untouched x e
+  after-untouched (adding x l) typed e = adding-untouched x l e
   after-untouched (searching q) typed e = searching-untouched (none-both (madeConditions t) _ e .0)
   after-untouched (writing sheet) typed e = read-untouched (none-both (madeConditions t) _ e .0)
-  after-untouched (reading bytes) typed e = reading-by (judgeSheet bytes) (λ m traces j. is-library bytes m traces typed j) e
+  after-untouched (reading bytes) typed e = reading-by (judgeSheet bytes)
+      (λ m traces labels j. (is-library bytes m traces labels typed j, are-labels bytes m traces labels typed j)) e
   after-untouched (importing bytes) typed e = importing-untouched bytes (typed .0) (typed .1) e
   after-untouched (exporting number rate buffer) typed e = read-untouched (none-both (madeConditions t) _ e .0)
   after-untouched checking typed e = read-untouched (none-both (madeConditions t) _ e .0)
+  after-untouched (labelling number) typed e = read-untouched (none-both (madeConditions t) _ e .0)
 
 -- ---- the same of a memory whose first places are lent
 
@@ -173,6 +212,7 @@ module _ (t more : Tables) (m : Measures) (room : Room (lentOf t) m) where
       (drop-append-le (recordsNeeded m * recordPlaces) (t .nodes) (more .nodes) (room .long .nodes-long))
       (drop-append-le (linksNeeded m) (t .links) (more .links) (room .long .links-long))
       (drop-append-le (workNeeded m) (t .work) (more .work) (room .work-room))
+      (drop-append-le (labelsNeeded m) (t .labels) (more .labels) (room .labels-room))
 
 abbrev Whole : Tables → Tables → Type 0
 Whole memory memory′ = (lentOf memory′ ≡ lentOf memory) × (beyond (measuresOf memory′) memory′ ≡ beyond (measuresOf memory′) memory)

@@ -9,19 +9,21 @@ use lib.ListN.{length, getD, length-map}
 use Rattle.integer.proofs.Lists.{in-map, in-getD, least-low, least-in, strict}
 use Rattle.segment.specs.Figures.{distance}
 use Rattle.dstree.specs.Measures.{Trace, Measures, sampleLimit}
+use Rattle.dstree.specs.Labels.{Label}
 use Rattle.dstree.specs.Node.{Tree}
 use Rattle.dstree.specs.Matching.{Match, searched, matchBySteps, leastDistance, lowestAt, matchOf}
 use Rattle.dstree.specs.KNearest.{KNearest, kNearestBySteps}
 use Rattle.dstree.specs.Claims.{ClaimsOf}
 use Rattle.dstree.specs.Refusals.{Refusal, firstOf}
 use Rattle.dstree.specs.Book.{Lent, searching, Call, call, answering, Reply, reply, Book, Found, Sought, aMatch, aListing, searchOf}
+use Rattle.dstree.specs.Remote.{codesOf}
 use Rattle.dstree.proofs.Conditions.{none-both}
 use Rattle.dstree.proofs.Closed.{match-exact}
 use Rattle.dstree.proofs.Ranks.{list-claims}
 use Rattle.dstree.proofs.KLaws.{k-nearest-exact, one-exact}
 use Rattle.dstree.proofs.Search.{LowestAt, lowest}
 use Rattle.tables.specs.Tables.{Tables, lentOf, measuresOf, traceCount}
-use Rattle.tables.specs.View.{treeIn, tracesIn}
+use Rattle.tables.specs.View.{treeIn, tracesIn, labelsIn}
 use Rattle.tables.specs.Beginning.{firstPlaces, LentWithin}
 use Rattle.tables.specs.Answers.{madeConditions}
 use Rattle.tables.proofs.Beginning.{begins-within, first-begins, first-lent}
@@ -76,7 +78,7 @@ module _ (stored : List Trace) (tree : Tree) (query : Trace) (some-trace : 0 < l
 -- ---- what a search replies
 
 same-lengths : {set : List ℕ} {these other : Tables} → DifferOutside set these other → lentOf other ≡ lentOf these
-same-lengths differ = rw (differ .control-same, differ .nodes-same, differ .links-same, differ .work-same, differ .as-long)
+same-lengths differ = rw (differ .control-same, differ .nodes-same, differ .links-same, differ .work-same, differ .labels-same, differ .as-long)
 
 -- a memory has the places that a call is lent of another with other samples, as many
 pub places-here : {c : Call} {memory other other′ : Tables} {said : Reply} {trail : List ℕ} → DifferOutside trail memory other
@@ -99,7 +101,7 @@ Judges judges memory = (c : Call) → lentOf (firstPlaces (c .lent) memory) ≡ 
 -- a search that is not refused gives its closed form, on a memory that the check would accept and on one that differs from it off the trail
 module _ {memory : Tables} {b : Book} (k : Trusts memory b) (judges : Call → Option Refusal) (fine : Judges judges memory) (q : Sought) where
   abbrev finds : Found
-  finds = searchOf q .closed (b .measures) (b .traces) (treeIn memory)
+  finds = searchOf q .closed (b .measures) (b .traces) (codesOf (b .labels)) (treeIn memory)
 
   abbrev gives : Tables → Type 0
   gives memory = (lent : Lent) (said : Reply) (memory′ : Tables) → Follows (call lent (searching q)) memory said memory′
@@ -120,11 +122,12 @@ module _ {memory : Tables} {b : Book} (k : Trusts memory b) (judges : Call → O
       ap firstOf (sym (ap (λ (m : Measures). s .refuses-own m (traceCount part) (treeIn part)) (t .measures-are)
       ∙ (ap (λ (n : ℕ). s .refuses-own (b .measures) n (treeIn part)) (count-in t)
       ∙ ap (s .refuses-own (b .measures) (length (b .traces))) same))) ∙ own .1 in
-      let is : s .steps (measuresOf part) (tracesIn part) (treeIn part) ≡ finds =
-      ap (λ (m : Measures). s .steps m (tracesIn part) (treeIn part)) (t .measures-are)
-      ∙ (ap (λ (l : List Trace). s .steps (b .measures) l (treeIn part)) (t .traces-are)
-      ∙ (ap (s .steps (b .measures) (b .traces)) same
-      ∙ laws q .gives (b .measures) (b .traces) (treeIn memory) (exact-tree k) own-here)) in
+      let is : s .steps (measuresOf part) (tracesIn part) (codesOf (labelsIn part)) (treeIn part) ≡ finds =
+      ap (λ (m : Measures). s .steps m (tracesIn part) (codesOf (labelsIn part)) (treeIn part)) (t .measures-are)
+      ∙ (ap (λ (l : List Trace). s .steps (b .measures) l (codesOf (labelsIn part)) (treeIn part)) (t .traces-are)
+      ∙ (ap (λ (l : List Label). s .steps (b .measures) (b .traces) (codesOf l) (treeIn part)) (t .labels-are)
+      ∙ (ap (s .steps (b .measures) (b .traces) (codesOf (b .labels))) same
+      ∙ laws q .gives (b .measures) (b .traces) (codesOf (b .labels)) (treeIn memory) (exact-tree k) own-here))) in
       one-call _ memory memory′ said f .works here .0 ∙ ap (λ (x : Found). reply (answering (x .result)) (x .beside)) is
 
   pub gives-there : (trail : List ℕ) → trailFound (finds .result) ≡ some trail

@@ -13,13 +13,13 @@ use Rattle.integer.specs.Words.{every}
 use Rattle.integer.proofs.Lists.{strict}
 use Rattle.dstree.specs.Measures.{Trace, Measures, sampleLimit}
 use Rattle.dstree.specs.Node.{Tree}
-use Rattle.dstree.specs.Matching.{Near, Match, Search, searched, matchFrom, matchBySteps}
+use Rattle.dstree.specs.Matching.{Near, Match, Search, searched, matchFrom, matchBySteps, matchOf}
 use Rattle.dstree.specs.KNearest.{isK, SameIn, listed, kNearestBySteps}
 use Rattle.dstree.specs.Batch.{isBatch, queriesIn, nearOrZero, batchBySteps}
 use Rattle.dstree.specs.Refusals.{firstOf, wrongTrace, empty, badK, badBatch, numberOf}
 use Rattle.dstree.specs.Claims.{ExactTree}
-use Rattle.dstree.specs.Book.{AnySearch, Sought, aMatch, aListing, aBatch, matchSeen, matchFound, matchSearch, listFound, listSearch}
-use Rattle.dstree.specs.Book.{batchFound, batchSearch, searchOf}
+use Rattle.dstree.specs.Book.{AnySearch, Sought, aMatch, aListing, aBatch, aRemote, queryConditions, matchSeen, matchFound, matchSearch, listFound, listSearch}
+use Rattle.dstree.specs.Book.{batchFound, batchSearch, remoteFound, remoteSearch, searchOf}
 use Rattle.dstree.proofs.Conditions.{none-first}
 use Rattle.dstree.proofs.Closed.{match-exact}
 use Rattle.dstree.proofs.KLaws.{k-nearest-exact}
@@ -35,14 +35,15 @@ pub record Laws (s : AnySearch) : Type 0 where
   -- it refuses for what it is given
   pub by-arguments : (m : Measures) (count : ℕ) (tree : Tree) → T (every other (s .refuses-own m count tree))
   -- it answers with a trail
-  pub has-trail : (m : Measures) (traces : List Trace) (tree : Tree) → trailFound (s .steps m traces tree .result) ≡ none → ⊥
+  pub has-trail : (m : Measures) (traces : List Trace) (codes : List ℕ) (tree : Tree)
+      → trailFound (s .steps m traces codes tree .result) ≡ none → ⊥
   -- on exact figures, where it refuses nothing, its steps give its closed form
-  pub gives : (m : Measures) (traces : List Trace) (tree : Tree) → ExactTree sampleLimit m traces tree
-      → firstOf (s .refuses-own m (length traces) tree) ≡ none → s .steps m traces tree ≡ s .closed m traces tree
+  pub gives : (m : Measures) (traces : List Trace) (codes : List ℕ) (tree : Tree) → ExactTree sampleLimit m traces tree
+      → firstOf (s .refuses-own m (length traces) tree) ≡ none → s .steps m traces codes tree ≡ s .closed m traces codes tree
   -- other traces that are the same on its trail give the same
-  pub unmoved : (m : Measures) (stored others : List Trace) (tree : Tree) (trail : List ℕ)
-      → trailFound (s .steps m stored tree .result) ≡ some trail → SameIn tree trail stored others
-      → s .steps m others tree ≡ s .steps m stored tree
+  pub unmoved : (m : Measures) (stored others : List Trace) (codes : List ℕ) (tree : Tree) (trail : List ℕ)
+      → trailFound (s .steps m stored codes tree .result) ≡ some trail → SameIn tree trail stored others
+      → s .steps m others codes tree ≡ s .steps m stored codes tree
 
 some-of : (k : ℕ) → eqb k 0 ≡ false → 0 < k
 some-of k e = strict (omega arith) (λ q. eqb-false k 0 e (sym q))
@@ -55,23 +56,44 @@ unfolding matchFrom nearOrZero
 seen-is s (some a) m e = cc
 seen-is s none m e = let z : _≡_ {A = ℕ} 0 1 = cc in absurd (omega arith)
 
-match-laws : (query : Trace) (trail : List ℕ) → Laws (matchSearch query trail)
-unfolding every ofArguments numberOf trailFound matchBySteps
-match-laws query trail = record {
-  by-arguments = λ m count tree. tt;
-  has-trail = λ m traces tree e. let z : _≡_ {A = ℕ} 0 1 = cc in omega arith;
-  gives = λ m traces tree exact e.
+module _ (query : Trace) (trail : List ℕ) where
+  -- on exact figures the steps see the match
+  seen-exact : (m : Measures) (traces : List Trace) (tree : Tree) → ExactTree sampleLimit m traces tree
+      → firstOf (queryConditions m (length traces) tree query trail) ≡ none
+      → let s = searched traces tree query in matchSeen s (s .best) ≡ matchOf traces tree query
+  unfolding matchBySteps
+  seen-exact m traces tree exact e =
       let one = none-first (not (eqb (length query) (m .n))) wrongTrace _ e in
       let two = none-first (eqb (length traces) 0) empty _ (one .1) in
       let c = match-exact sampleLimit m traces tree exact query (some-of (length traces) (two .0))
       (eqb-true (length query) (m .n) (not-false _ (one .0))) in
       let s = searched traces tree query in
-      ap (matchFound trail) (seen-is s (s .best) _ (c .steps-give-it));
-  unmoved = λ m stored others tree read found same.
-      let trails : searched stored tree query .trail ≡ read = cc in
-      ap (λ (s : Search). matchFound trail (matchSeen s (s .best)))
-      (trees.off-trail stored others tree query (subst (λ (l : List ℕ). SameIn tree l stored others) (sym trails) same));
-}
+      seen-is s (s .best) _ (c .steps-give-it)
+
+  match-laws : Laws (matchSearch query trail)
+  unfolding every ofArguments numberOf trailFound
+  match-laws = record {
+    by-arguments = λ m count tree. tt;
+    has-trail = λ m traces codes tree e. let z : _≡_ {A = ℕ} 0 1 = cc in omega arith;
+    gives = λ m traces codes tree exact e. ap (matchFound trail) (seen-exact m traces tree exact e);
+    unmoved = λ m stored others codes tree read found same.
+        let trails : searched stored tree query .trail ≡ read = cc in
+        ap (λ (s : Search). matchFound trail (matchSeen s (s .best)))
+        (trees.off-trail stored others tree query (subst (λ (l : List ℕ). SameIn tree l stored others) (sym trails) same));
+  }
+
+  -- document 02, §8: the remote's is a match
+  remote-laws : Laws (remoteSearch query trail)
+  unfolding every ofArguments numberOf trailFound
+  remote-laws = record {
+    by-arguments = λ m count tree. tt;
+    has-trail = λ m traces codes tree e. let z : _≡_ {A = ℕ} 0 1 = cc in omega arith;
+    gives = λ m traces codes tree exact e. ap (remoteFound codes trail) (seen-exact m traces tree exact e);
+    unmoved = λ m stored others codes tree read found same.
+        let trails : searched stored tree query .trail ≡ read = cc in
+        ap (λ (s : Search). remoteFound codes trail (matchSeen s (s .best)))
+        (trees.off-trail stored others tree query (subst (λ (l : List ℕ). SameIn tree l stored others) (sym trails) same));
+  }
 
 -- ---- document 02, §1
 
@@ -79,13 +101,13 @@ list-laws : (k : ℕ) (query : Trace) (trail list : List ℕ) → Laws (listSear
 unfolding every ofArguments numberOf trailFound kNearestBySteps
 list-laws k query trail list = record {
   by-arguments = λ m count tree. tt;
-  has-trail = λ m traces tree e. let z : _≡_ {A = ℕ} 0 1 = cc in omega arith;
-  gives = λ m traces tree exact e.
+  has-trail = λ m traces codes tree e. let z : _≡_ {A = ℕ} 0 1 = cc in omega arith;
+  gives = λ m traces codes tree exact e.
       let one = none-first (not (isK k)) badK _ e in
       let two = none-first (not (eqb (length query) (m .n))) wrongTrace _ (one .1) in
       ap (listFound trail list)
       (k-nearest-exact sampleLimit m traces tree exact query (eqb-true (length query) (m .n) (not-false _ (two .0))) k .steps-give-it);
-  unmoved = λ m stored others tree read found same.
+  unmoved = λ m stored others codes tree read found same.
       let trails : listed k stored tree query .trail ≡ read = cc in
       rw (step-claims k stored tree query .off-trail others (subst (λ (l : List ℕ). SameIn tree l stored others) (sym trails) same));
 }
@@ -96,15 +118,15 @@ batch-laws : (count : ℕ) (run : Trace) (trail : List ℕ) (list : List Near) �
 unfolding every ofArguments numberOf trailFound
 batch-laws count run trail list = record {
   by-arguments = λ m stored tree. tt;
-  has-trail = λ m traces tree e. let z : _≡_ {A = ℕ} 0 1 = cc in omega arith;
-  gives = λ m traces tree exact e.
+  has-trail = λ m traces codes tree e. let z : _≡_ {A = ℕ} 0 1 = cc in omega arith;
+  gives = λ m traces codes tree exact e.
       let one = none-first (not (isBatch count (length list))) badBatch _ e in
       let two = none-first (not (eqb (length run) (m .n * count))) wrongTrace _ (one .1) in
       let three = none-first (eqb (length traces) 0) empty _ (two .1) in
       ap (batchFound trail)
       (batch-of-exact sampleLimit m traces tree exact (some-of (length traces) (three .0)) (queriesIn (m .n) count run)
       (query-size (m .n) count run (eqb-true (length run) (m .n * count) (not-false _ (two .0)))) .steps-give-it);
-  unmoved = λ m stored others tree read found same.
+  unmoved = λ m stored others codes tree read found same.
       let queries = queriesIn (m .n) count run in
       let trails : batchBySteps stored tree queries .trail ≡ read = cc in
       ap (batchFound trail) (batch-off-trail stored others tree queries (subst (λ (l : List ℕ). SameIn tree l stored others) (sym trails) same));
@@ -116,3 +138,4 @@ pub laws : (q : Sought) → Laws (searchOf q)
 laws (aMatch query trail) = match-laws query trail
 laws (aListing k query trail list) = list-laws k query trail list
 laws (aBatch count run trail list) = batch-laws count run trail list
+laws (aRemote query trail) = remote-laws query trail

@@ -7,18 +7,19 @@ use mathlib.Core.List.{List, [], _∷_}
 use native.Mathlib.Omega.{arith}
 use Rattle.dstree.specs.Measures.{measures}
 use Rattle.dstree.specs.Refusals.{Refusal, firstOf}
-use Rattle.dstree.specs.Book.{Lent, Ask, opening, adding, searching, writing, reading, importing, exporting, checking, Call}
-use Rattle.dstree.specs.Book.{call, besideOf, done, answering, searchOf}
+use Rattle.dstree.specs.Book.{Lent, Ask, opening, adding, searching, writing, reading, importing, exporting, checking, labelling}
+use Rattle.dstree.specs.Book.{Call, call, besideOf, done, answering, searchOf}
 use Rattle.dstree.specs.Book.{Book, book, Entry, openingEntry, readingEntry, entryOf, judge, putUnless, turn, after, replyUnless, start}
 use Rattle.dstree.specs.Book.{Reply, reply, replyOf, repliesOf}
+use Rattle.dstree.specs.Remote.{codesOf}
 use Rattle.tables.specs.Layout.{layout}
 use Rattle.tables.specs.Tables.{Tables, measuresOf}
-use Rattle.tables.specs.View.{treeIn, tracesIn}
+use Rattle.tables.specs.View.{treeIn, tracesIn, labelsIn}
 use Rattle.tables.specs.Beginning.{firstPlaces, left, Begins}
 use Rattle.tables.proofs.Beginning.{left-same, first-begins}
 use Rattle.calls.specs.Outcome.{Effect, Outcome, unlessRefused, outcomeOf}
 use Rattle.calls.specs.Library.{Keeps}
-use Rattle.calls.specs.Effects.{adds, searches, writes, imports, exports, checks, effectOf, outcomeOn}
+use Rattle.calls.specs.Effects.{adds, searches, writes, imports, exports, checks, tellsLabel, effectOf, outcomeOn}
 use Rattle.calls.specs.Demands.{trailFound}
 use Rattle.calls.specs.Follows.{Typed, Follows, Ran, no-call, a-call}
 use Rattle.calls.proofs.Searches.{laws}
@@ -82,15 +83,15 @@ not-done none t beside e f d = f refl (cc)
 
 module _ (memory part : Tables) (lent : Lent) where
   abbrev noBook : Book
-  noBook = book (measures 0 0 0) []
+  noBook = book (measures 0 0 0) [] []
 
   started-by : (ask : Ask) → Typed ask part → outcomeOn ask part .answer ≡ answering done
       → Keeps (left (outcomeOn ask part .after) memory) (start layout (call lent ask))
-  unfolding outcomeOn effectOf besideOf entryOf start openingEntry readingEntry adds writes imports exports checks Typed trailFound
+  unfolding outcomeOn effectOf besideOf entryOf start openingEntry readingEntry adds writes imports exports checks tellsLabel Typed trailFound
   started-by (opening m) typed d = start-by memory part noBook [] (opening-agrees memory part noBook m) d
-  started-by (adding x) typed d = absurd (not-done _ part [] (adds part x) (λ e r. let z : _≡_ {A = ℕ} 0 1 = cc in omega arith) d)
+  started-by (adding x l) typed d = absurd (not-done _ part [] (adds part x l) (λ e r. let z : _≡_ {A = ℕ} 0 1 = cc in omega arith) d)
   started-by (searching q) typed d = absurd (not-done _ part _ (searches part (searchOf q))
-      (λ e r. laws q .has-trail (measuresOf part) (tracesIn part) (treeIn part) (ap trailFound r)) d)
+      (λ e r. laws q .has-trail (measuresOf part) (tracesIn part) (codesOf (labelsIn part)) (treeIn part) (ap trailFound r)) d)
   started-by (writing sheet) typed d = absurd (not-done _ part (sheet ∷ []) (writes part sheet)
       (λ e r. let z : _≡_ {A = ℕ} 0 1 = cc in omega arith) d)
   started-by (reading bytes) typed d = start-by memory part noBook [] (reading-agrees memory part noBook bytes typed) d
@@ -99,6 +100,8 @@ module _ (memory part : Tables) (lent : Lent) where
   started-by (exporting number rate buffer) typed d = absurd (not-done _ part (buffer ∷ []) (exports part number rate buffer)
       (λ e r. let z : _≡_ {A = ℕ} 0 1 = cc in omega arith) d)
   started-by checking typed d = absurd (not-done _ part [] (checks part) (λ e r. let z : _≡_ {A = ℕ} 0 1 = cc in omega arith) d)
+  started-by (labelling number) typed d = absurd (not-done _ part [] (tellsLabel part number)
+      (λ e r. let z : _≡_ {A = ℕ} 0 1 = cc in omega arith) d)
 
 pub started : {c : Call} {memory memory′ : Tables} {said : Reply} → Follows c memory said memory′ → said .answer ≡ answering done
     → Keeps memory′ (start layout c)

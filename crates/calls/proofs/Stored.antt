@@ -1,6 +1,7 @@
--- What a memory stores, whoever made its tree. Tables lent of it that no call refuses for what they hold have its measures and its traces,
--- and where samples are 16-bit numbers, these are a library's: nothing of that is read from a node.
-use mathlib.Core.Path.{_≡_, refl, sym, subst, _∙_}
+-- What a memory stores, whoever made its tree. Tables lent of it that no call refuses for what they hold have its measures, its traces and
+-- its labels, and where samples are 16-bit numbers, these are a library's: nothing of that is read from a node.
+use Prim.Native.Nat.{ℕ, _≤_}
+use mathlib.Core.Path.{_≡_, refl, sym, ap, subst, _∙_}
 use mathlib.Core.Option.{none}
 use mathlib.Core.List.{List, [], _∷_}
 use native.Mathlib.Omega.{arith}
@@ -10,11 +11,12 @@ use lib.Dec.{T, leb, ltb, le→leb}
 use Rattle.integer.specs.Words.{every}
 use Rattle.integer.proofs.Tests.{passes}
 use Rattle.integer.proofs.Lists.{every-take}
-use Rattle.dstree.specs.Measures.{Trace, Measures, sampleLimit, inRange, areSamples, isTrace, isLibrary}
+use Rattle.dstree.specs.Measures.{Trace, Measures, sampleLimit, inRange, areSamples, isTrace, isLibrary, labelsNeeded}
+use Rattle.dstree.specs.Labels.{Label, areLabels}
 use Rattle.dstree.specs.Refusals.{firstOf}
 use Rattle.dstree.specs.Book.{Lent, Book}
-use Rattle.tables.specs.Tables.{Tables, measuresOf}
-use Rattle.tables.specs.View.{tracesIn}
+use Rattle.tables.specs.Tables.{Tables, measuresOf, traceCount}
+use Rattle.tables.specs.View.{tracesIn, labelsIn}
 use Rattle.tables.specs.Beginning.{firstPlaces}
 use Rattle.tables.specs.Answers.{madeConditions}
 use Rattle.tables.specs.Holds.{Long}
@@ -22,11 +24,12 @@ use Rattle.tables.proofs.Views.{traces-size, tree-formed}
 use Rattle.tables.proofs.Samples.{stored-are}
 use Rattle.tables.proofs.Judged.{Accepted, accepted}
 use Rattle.tables.proofs.Beginning.{first-begins}
+use Rattle.tables.proofs.Labels.{stored-labels, labels-begin}
 use Rattle.insertion_memory.proofs.FromTables.{long-of}
-use Rattle.insertion_memory.proofs.Beginnings.{Agree, begins-agree, measures-same, traces-same, holds-whole}
+use Rattle.insertion_memory.proofs.Beginnings.{Agree, begins-agree, measures-same, traces-counted, traces-same}
 use Rattle.calls.specs.Library.{Keeps}
 use Rattle.calls.specs.Trusted.{bookIn, Trusts}
-use Rattle.calls.proofs.Library.{library-holds}
+use Rattle.calls.proofs.Kept.{kept-holds, kept-labels}
 
 -- ---- tables that no call refuses for what they hold
 
@@ -48,7 +51,7 @@ stored-library t ok typed =
 abbrev pub Fine : Lent → Tables → Type 0
 Fine lent memory = firstOf (madeConditions (firstPlaces lent memory)) ≡ none
 
--- they have its measures and its traces
+-- they have its measures, its traces and its labels
 module _ (lent : Lent) (memory : Tables) (fine : Fine lent memory) where
   abbrev part : Tables
   part = firstPlaces lent memory
@@ -65,21 +68,38 @@ module _ (lent : Lent) (memory : Tables) (fine : Fine lent memory) where
   pub traces-stored : tracesIn part ≡ tracesIn memory
   traces-stored = sym (traces-same agree (accepted part fine .formed) long)
 
+  counted-stored : traceCount memory ≡ traceCount part
+  counted-stored = traces-counted agree
+
+  -- there is a place for each label
+  places-stored : traceCount part ≤ length (part .labels)
+  unfolding labelsNeeded
+  places-stored = omega (arith, tree-formed part (accepted part fine .formed) .room, accepted part fine .room .labels-room)
+
+  pub labels-stored : labelsIn part ≡ labelsIn memory
+  labels-stored = sym (labels-begin part memory (first-begins lent memory) counted-stored places-stored)
+
+  memory-labelled : T (areLabels (length (tracesIn memory)) (labelsIn memory))
+  memory-labelled =
+      subst (λ (k : ℕ). T (areLabels k (labelsIn memory))) (sym (traces-size part) ∙ ap length traces-stored)
+      (subst (λ (l : List Label). T (areLabels (traceCount part) l)) labels-stored (stored-labels part places-stored))
+
   memory-library : T (areSamples (part .samples)) → T (isLibrary sampleLimit (measuresOf memory) (tracesIn memory))
   memory-library typed =
       subst (λ (m : Measures). T (isLibrary sampleLimit m (tracesIn memory))) measures-stored
       (subst (λ (l : List Trace). T (isLibrary sampleLimit (measuresOf part) l)) traces-stored
       (stored-library part (accepted part fine) typed))
 
--- ---- a memory with a book's measures and traces
+-- ---- a memory with a book's measures, traces and labels
 
 pub record Stores (memory : Tables) (b : Book) : Type 0 where
   pub measures-are : measuresOf memory ≡ b .measures
   pub traces-are : tracesIn memory ≡ b .traces
+  pub labels-are : labelsIn memory ≡ b .labels
   -- a library's, where tables lent of it are not refused for what they hold
   pub library : (lent : Lent) → Fine lent memory → T (isLibrary sampleLimit (b .measures) (b .traces))
 
--- such tables have these measures and traces
+-- such tables have these measures, traces and labels, one for each
 module _ {memory : Tables} {b : Book} (k : Stores memory b) (lent : Lent) (fine : Fine lent memory) where
   pub lent-measures : measuresOf (firstPlaces lent memory) ≡ b .measures
   lent-measures = measures-stored lent memory fine ∙ k .measures-are
@@ -87,27 +107,41 @@ module _ {memory : Tables} {b : Book} (k : Stores memory b) (lent : Lent) (fine 
   pub lent-traces : tracesIn (firstPlaces lent memory) ≡ b .traces
   lent-traces = traces-stored lent memory fine ∙ k .traces-are
 
+  pub lent-labels : labelsIn (firstPlaces lent memory) ≡ b .labels
+  lent-labels = labels-stored lent memory fine ∙ k .labels-are
+
+  pub lent-labelled : T (areLabels (length (b .traces)) (b .labels))
+  lent-labelled =
+      subst (λ (l : List Trace). T (areLabels (length l) (b .labels))) (k .traces-are)
+      (subst (λ (l : List Label). T (areLabels (length (tracesIn memory)) l)) (k .labels-are) (memory-labelled lent memory fine))
+
 -- which memories these are: one that keeps the book ..
 pub kept-stores : {memory : Tables} {b : Book} → Keeps memory b → Stores memory b
-kept-stores {b = b} k =
-    let h = holds-whole (k .needed-places) (library-holds (b .measures) (b .traces) (k .library)) in
-    record { measures-are = h .measures-are; traces-are = h .traces-are; library = λ lent fine. k .library }
+kept-stores k =
+    let h = kept-holds k in
+    record { measures-are = h .measures-are; traces-are = h .traces-are; labels-are = kept-labels k; library = λ lent fine. k .library }
 
 -- .. one that the check would accept ..
 pub trusted-stores : {memory : Tables} {b : Book} → Trusts memory b → Stores memory b
-trusted-stores k = record { measures-are = k .measures-are; traces-are = k .traces-are; library = λ lent fine. k .library }
+trusted-stores k = record {
+  measures-are = k .measures-are;
+  traces-are = k .traces-are;
+  labels-are = k .labels-are;
+  library = λ lent fine. k .library;
+}
 
 -- .. with what it has, one of which tables are lent that are not refused for what they hold, if their samples are 16-bit numbers ..
 pub lent-stores : (lent : Lent) (memory : Tables) → Fine lent memory → T (areSamples (firstPlaces lent memory .samples))
     → Stores memory (bookIn memory)
 lent-stores lent memory fine typed =
-    record { measures-are = refl; traces-are = refl; library = λ others also. memory-library lent memory fine typed }
+    record { measures-are = refl; traces-are = refl; labels-are = refl; library = λ others also. memory-library lent memory fine typed }
 
 -- .. and any whose samples all are
 pub typed-stores : (memory : Tables) → T (areSamples (memory .samples)) → Stores memory (bookIn memory)
 typed-stores memory typed = record {
   measures-are = refl;
   traces-are = refl;
+  labels-are = refl;
   library = λ lent fine.
       memory-library lent memory fine (every-take (λ sample. ltb (mag sample) sampleLimit) (lent .samples) (memory .samples) typed);
 }

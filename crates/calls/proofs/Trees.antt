@@ -2,16 +2,17 @@
 use mathlib.Core.Path.{_≡_, refl, sym, ap, _∙_}
 use mathlib.Core.Option.{Option, none, some}
 use mathlib.Core.List.{List, [], _∷_, _++_, map, append-assoc, append-nil}
-use lib.ListN.{take}
+use lib.ListN.{take, replicate}
 use Rattle.dstree.specs.Measures.{Trace, Measures, measures}
+use Rattle.dstree.specs.Labels.{noLabel}
 use Rattle.dstree.specs.Node.{Tree}
 use Rattle.dstree.specs.Adding.{insertion, grown, treeOf}
 use Rattle.dstree.specs.Refusals.{Refusal}
 use Rattle.dstree.specs.Examples.{level, C}
 use Rattle.dstree.specs.Recording.{judgeRecording, fileTraces}
-use Rattle.dstree.specs.Book.{Lent, Ask, opening, adding, searching, writing, reading, importing, exporting, checking, Call, call, Book, book}
-use Rattle.dstree.specs.Book.{bookTree, openingEntry, addingEntry, writingEntry, readingEntry, importingEntry, exportingEntry}
-use Rattle.dstree.specs.Book.{checkingEntry, entryOf, judge, putUnless, turn, after}
+use Rattle.dstree.specs.Book.{Lent, Ask, opening, adding, searching, writing, reading, importing, exporting, checking, labelling}
+use Rattle.dstree.specs.Book.{Call, call, Book, book, bookTree, openingEntry, addingEntry, writingEntry, readingEntry, importingEntry, exportingEntry}
+use Rattle.dstree.specs.Book.{checkingEntry, labellingEntry, entryOf, judge, putUnless, turn, after}
 use Rattle.dstree.proofs.Everything.{everything}
 use Rattle.tables.specs.Layout.{layout}
 use Rattle.calls.specs.Trusted.{treePut, treeUnless, treeAfter}
@@ -27,15 +28,16 @@ grown-on m stored tree (x ∷ more) others =
     ∙ grown-on m (stored ++ (x ∷ [])) (insertion m stored tree x) more others
 
 put-own : (lent : Lent) (b : Book) (ask : Ask) → treePut b (bookTree b) ask ≡ bookTree (entryOf layout lent b ask .puts)
-unfolding treePut entryOf grown openingEntry addingEntry writingEntry readingEntry importingEntry exportingEntry checkingEntry
+unfolding treePut entryOf grown openingEntry addingEntry writingEntry readingEntry importingEntry exportingEntry checkingEntry labellingEntry
 put-own lent b (opening m) = refl
-put-own lent b (adding x) = grown-on (b .measures) [] [] (b .traces) (x ∷ [])
+put-own lent b (adding x l) = grown-on (b .measures) [] [] (b .traces) (x ∷ [])
 put-own lent b (searching q) = refl
 put-own lent b (writing sheet) = refl
 put-own lent b (reading bytes) = refl
 put-own lent b (importing bytes) = grown-on (b .measures) [] [] (b .traces) (fileTraces (judgeRecording (b .measures .n) bytes))
 put-own lent b (exporting number rate buffer) = refl
 put-own lent b checking = refl
+put-own lent b (labelling number) = refl
 
 turn-own : (b : Book) (c : Call) (o : Option Refusal)
     → treeUnless o (bookTree b) (treePut b (bookTree b) (c .ask)) ≡ bookTree (putUnless o b (entryOf layout (c .lent) b (c .ask)))
@@ -53,7 +55,7 @@ tree-of-book b (c ∷ rest) =
 -- ---- an example, by computation: traces (0,0,0,0) and (4,4,4,4) under leaf size 1, in a tree that holds both in one leaf
 
 abbrev lent : Lent
-lent = record { control = 5; samples = 12; nodes = 435; links = 3; work = 5 }
+lent = record { control = 5; samples = 12; nodes = 435; links = 3; work = 5; labels = 3 }
 
 abbrev two : List Trace
 two = level 0 ∷ level 4 ∷ []
@@ -67,13 +69,13 @@ one-leaf = treeOf (measures 4 3 2) two
 -- a trace that is too short, one that is stored, one that is refused as the library is full, an opening
 abbrev calls : List Call
 calls =
-    call lent (adding [])
-    ∷ call lent (adding C)
-    ∷ call lent (adding C)
+    call lent (adding [] noLabel)
+    ∷ call lent (adding C noLabel)
+    ∷ call lent (adding C noLabel)
     ∷ call lent (opening m)
     ∷ []
 
-pub after-calls : map (λ k. treeAfter layout (book m two) one-leaf (take k calls)) (1 ∷ 3 ∷ 4 ∷ [])
+pub after-calls : map (λ k. treeAfter layout (book m two (replicate 2 noLabel)) one-leaf (take k calls)) (1 ∷ 3 ∷ 4 ∷ [])
     ≡ one-leaf ∷ insertion m two one-leaf C ∷ [] ∷ []
 unfolding everything treePut treeUnless treeAfter
 after-calls = refl

@@ -1,6 +1,6 @@
 -- Memories that the check would accept, whatever made their tables. What they hold is read from the needed places alone, so that it is what
 -- a call is lent that is lent enough; and no call refuses them for what they hold. A memory that keeps a book is one of them.
-use Prim.Native.Nat.{ℕ}
+use Prim.Native.Nat.{ℕ, _≤_}
 use mathlib.Core.Path.{_≡_, refl, sym, ap, subst, _∙_}
 use mathlib.Core.Bool.{not}
 use mathlib.Core.Option.{none}
@@ -12,7 +12,7 @@ use borrow.Author.Tests.{not-false}
 use Rattle.integer.specs.Words.{every}
 use Rattle.integer.proofs.Tests.{passed, is-true, test-true}
 use Rattle.integer.proofs.Lists.{in-getD, from-every}
-use Rattle.dstree.specs.Measures.{Trace, Measures, sampleLimit, inRange, areSamples, isTrace, isLibrary}
+use Rattle.dstree.specs.Measures.{Trace, Measures, sampleLimit, inRange, areSamples, isTrace, isLibrary, labelsNeeded}
 use Rattle.dstree.specs.Claims.{ExactTree}
 use Rattle.dstree.specs.Checking.{isExact}
 use Rattle.dstree.specs.WellFormed as abstract
@@ -24,7 +24,7 @@ use Rattle.dstree.proofs.Checking.{accepted-exact, made-accepted}
 use Rattle.dstree.proofs.Libraries.{library-of}
 use Rattle.tables.specs.Layout.{layout}
 use Rattle.tables.specs.Tables.{Tables, lentOf, measuresOf, traceCount}
-use Rattle.tables.specs.View.{treeIn, tracesIn}
+use Rattle.tables.specs.View.{treeIn, tracesIn, labelsIn}
 use Rattle.tables.specs.Judge.{Room}
 use Rattle.tables.specs.Beginning.{Begins, LentWithin}
 use Rattle.tables.specs.Answers.{madeConditions}
@@ -32,13 +32,14 @@ use Rattle.tables.specs.Holds.{Long}
 use Rattle.tables.proofs.Views.{tree-passes}
 use Rattle.tables.proofs.Judged.{accepted}
 use Rattle.tables.proofs.Beginning.{begins-within}
+use Rattle.tables.proofs.Labels.{labels-begin}
 use Rattle.insertion_memory.proofs.FromTables.{long-of}
 use Rattle.insertion_memory.proofs.Made.{count-is}
-use Rattle.insertion_memory.proofs.Beginnings.{Agree, agree-back, begins-agree, measures-same, tree-same, traces-same, formed-same}
+use Rattle.insertion_memory.proofs.Beginnings.{Agree, agree-back, begins-agree, measures-same, traces-counted, tree-same, traces-same, formed-same}
 use Rattle.calls.specs.Library.{libraryTables, Keeps}
 use Rattle.calls.specs.Trusted.{bookIn, Trusts}
 use Rattle.calls.specs.Effects.{checks}
-use Rattle.calls.proofs.Library.{library-holds, library-lent, need-room}
+use Rattle.calls.proofs.Library.{library-holds, library-lent, library-labels, need-room}
 use Rattle.calls.proofs.Kept.{SameRefusal, measures-lent, judged-same}
 use Rattle.calls.proofs.Stored.{stored-library}
 
@@ -50,6 +51,11 @@ module _ {memory : Tables} {b : Book} (k : Trusts memory b) where
 
   pub count-in : traceCount memory ≡ length (b .traces)
   count-in = count-is memory ∙ ap length (k .traces-are)
+
+  -- there is a place for each label
+  labels-fit : {lengths : Lent} → Room lengths (b .measures) → traceCount memory ≤ lengths .labels
+  unfolding labelsNeeded
+  labels-fit room = omega (arith, count-in, library-of sampleLimit (b .measures) (b .traces) (k .library) .room, room .labels-room)
 
   pub each-is : T (every (isTrace sampleLimit (b .measures .n)) (b .traces))
   unfolding isLibrary
@@ -74,8 +80,8 @@ module _ {memory : Tables} {b : Book} (k : Trusts memory b) where
 
 -- ---- tables that agree on the needed places
 
-agree-trusts : {t s : Tables} {b : Book} → Agree t s → Room (lentOf s) (b .measures) → Trusts t b → Trusts s b
-agree-trusts a room k =
+agree-trusts : {t s : Tables} {b : Book} → Agree t s → Room (lentOf s) (b .measures) → labelsIn s ≡ labelsIn t → Trusts t b → Trusts s b
+agree-trusts a room labels k =
     let traces = traces-same a (k .formed) (long-in k) in
     record {
       library = k .library;
@@ -83,6 +89,7 @@ agree-trusts a room k =
       formed = formed-same a (k .formed) (long-in k);
       measures-are = measures-same a ∙ k .measures-are;
       traces-are = traces ∙ k .traces-are;
+      labels-are = labels ∙ k .labels-are;
       exact = rw (traces, tree-same a (k .formed) (long-in k)) (k .exact);
     }
 
@@ -95,12 +102,15 @@ room-more h r = record {
     links-long = omega (arith, h .links-within, r .long .links-long);
   };
   work-room = omega (arith, h .work-within, r .work-room);
+  labels-room = omega (arith, h .labels-within, r .labels-room);
 }
 
 -- a memory is accepted if its first places are
 pub whole-trusts : {part memory : Tables} {b : Book} → Begins part memory → Trusts part b → Trusts memory b
 whole-trusts {part} {memory} begins k =
-    agree-trusts (begins-agree begins (long-in k)) (room-more (begins-within part memory begins) (k .room)) k
+    let a = begins-agree begins (long-in k) in
+    agree-trusts a (room-more (begins-within part memory begins) (k .room))
+    (labels-begin part memory begins (traces-counted a) (labels-fit k (k .room))) k
 
 pub whole-tree : (part memory : Tables) {b : Book} → Begins part memory → Trusts part b → treeIn memory ≡ treeIn part
 whole-tree part memory begins k = tree-same (begins-agree begins (long-in k)) (k .formed) (long-in k)
@@ -108,12 +118,17 @@ whole-tree part memory begins k = tree-same (begins-agree begins (long-in k)) (k
 -- .. and then they are, long enough
 module _ {memory : Tables} {b : Book} (k : Trusts memory b) {part : Tables} (begins : Begins part memory) where
   module _ (room : Room (lentOf part) (b .measures)) where
+    forth : Agree part memory
+    forth = begins-agree begins
+        (long-of part (subst (Room (lentOf part)) (sym (measures-lent memory part begins (b .measures) (k .measures-are) (room .long .control-long))) room))
+
     back : Agree memory part
-    back = agree-back (begins-agree begins
-        (long-of part (subst (Room (lentOf part)) (sym (measures-lent memory part begins (b .measures) (k .measures-are) (room .long .control-long))) room)))
+    back = agree-back forth
 
     pub part-trusts : Trusts part b
-    part-trusts = agree-trusts back room k
+    part-trusts = agree-trusts back room
+        (sym (labels-begin part memory begins (traces-counted forth)
+        (subst (λ (n : ℕ). n ≤ length (part .labels)) (traces-counted forth) (labels-fit k room)))) k
 
     pub part-tree : treeIn part ≡ treeIn memory
     part-tree = tree-same back (k .formed) (long-in k)
@@ -152,6 +167,7 @@ checked-trusts t typed e =
       formed = ok .formed;
       measures-are = refl;
       traces-are = refl;
+      labels-are = refl;
       exact = is-true {b = isExact (tracesIn t) (treeIn t)} (not-false _ (one .0));
     }
 
@@ -159,13 +175,14 @@ checked-trusts t typed e =
 pub kept-trusts : {memory : Tables} {b : Book} → Keeps memory b → Trusts memory b
 kept-trusts {b = b} k =
     let m : Measures = b .measures in
-    let h = library-holds m (b .traces) (k .library) in
-    let own : Trusts (libraryTables m (b .traces)) b = record {
+    let h = library-holds m (b .traces) (b .labels) (k .library) (k .labelled) in
+    let own : Trusts (libraryTables m (b .traces) (b .labels)) b = record {
       library = k .library;
-      room = subst (λ (l : Lent). Room l m) (sym (library-lent m (b .traces) (k .library))) (need-room m);
+      room = subst (λ (l : Lent). Room l m) (sym (library-lent m (b .traces) (b .labels) (k .library) (k .labelled))) (need-room m);
       formed = h .formed;
       measures-are = h .measures-are;
       traces-are = h .traces-are;
+      labels-are = library-labels m (b .traces) (b .labels) (k .library) (k .labelled);
       exact = rw (h .traces-are, h .tree-is) (made-accepted sampleLimit m (b .traces) (k .library));
     } in
     whole-trusts (k .needed-places) own

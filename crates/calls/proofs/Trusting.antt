@@ -7,16 +7,17 @@ use mathlib.Core.Path.{_≡_, refl, sym, ap, subst, _∙_}
 use mathlib.Core.Bool.{Bool, true, false, not}
 use mathlib.Core.Option.{Option, none, some}
 use mathlib.Core.Logic.{_⊎_, inl, inr}
-use mathlib.Core.List.{List, [], _∷_, _++_, foldl, append-assoc, append-nil}
+use mathlib.Core.List.{List, [], _∷_, _++_, append-assoc, append-nil}
 use native.Mathlib.Omega.{arith}
-use lib.ListN.{length, length-append}
+use lib.ListN.{length, replicate, length-append}
 use lib.Dec.{T, ltb, eqb}
 use borrow.Author.Tests.{not-false, eqb-false, ltb-false}
 use Rattle.integer.specs.Words.{if_then_else_, every}
 use Rattle.integer.specs.Lists.{In, first, later}
 use Rattle.integer.proofs.Tests.{passes, is-true, test-true}
-use Rattle.integer.proofs.Lists.{in-nil, in-cons, from-every, every-of, strict}
-use Rattle.dstree.specs.Measures.{Trace, Measures, sampleLimit, areSamples, isTrace, isLibrary, workNeeded}
+use Rattle.integer.proofs.Lists.{All, all-none, all-more, in-nil, in-cons, from-every, every-of, strict}
+use Rattle.dstree.specs.Measures.{Trace, Measures, sampleLimit, areSamples, isTrace, isLibrary, workNeeded, labelsNeeded}
+use Rattle.dstree.specs.Labels.{Label, noLabel, isLabel}
 use Rattle.dstree.specs.Node.{Tree}
 use Rattle.dstree.specs.Adding.{insertion, grown}
 use Rattle.dstree.specs.Refusals.{Refusal, Condition, _refuses_, firstOf, wrongTrace, full, badRecording, looseRecord, numberOf}
@@ -25,39 +26,42 @@ use Rattle.dstree.specs.Checking.{isExact}
 use Rattle.dstree.specs.WellFormed as abstract
 use Rattle.dstree.specs.Recording.{Recording, judgeRecording, fileTraces, isBadFile}
 use Rattle.dstree.specs.Sheet.{areBytes}
-use Rattle.dstree.specs.Book.{Lent, Ask, opening, adding, searching, writing, reading, importing, exporting, checking, Call, call}
+use Rattle.dstree.specs.Book.{Lent, Ask, opening, adding, searching, writing, reading, importing, exporting, checking, labelling, Call, call}
 use Rattle.dstree.specs.Book.{besideOf, accepted, refusing, answering, Reply, Book, book, bookTree, Entry, shortConditions, addConditions}
 use Rattle.dstree.specs.Book.{importConditions, openingEntry, addingEntry, writingEntry, readingEntry, importingEntry, exportingEntry}
-use Rattle.dstree.specs.Book.{checkingEntry, entryOf, judge}
+use Rattle.dstree.specs.Book.{checkingEntry, labellingEntry, entryOf, judge}
 use Rattle.dstree.specs.Book.{putUnless, turn, after}
 use Rattle.dstree.proofs.Conditions.{none-first, none-both, first-some, first-none}
 use Rattle.dstree.proofs.Limits.{trace-length}
+use Rattle.dstree.specs.Remote.{codesOf}
 use Rattle.dstree.proofs.Recordings.{file-traces}
+use Rattle.dstree.proofs.SheetLabels.{LabelFits, fits-of, Labels, labels-of}
 use Rattle.dstree.proofs.Checking.{exactness, adding-accepted}
 use Rattle.dstree.proofs.Libraries.{library-of}
 use Rattle.tables.specs.Layout.{layout}
 use Rattle.tables.specs.Tables.{Tables, lentOf, measuresOf, traceCount}
-use Rattle.tables.specs.View.{treeIn, tracesIn, kindsNamed, wellFormed}
-use Rattle.tables.specs.Judge.{lentConditionsOf}
+use Rattle.tables.specs.View.{treeIn, tracesIn, labelsIn, labelsOver, nextLabelled, kindsNamed, wellFormed}
+use Rattle.tables.specs.Judge.{lentConditionsOf, Room}
 use Rattle.tables.specs.Beginning.{firstPlaces, left, Begins}
 use Rattle.tables.specs.Answers.{madeConditions}
 use Rattle.tables.proofs.Views.{traces-size, tree-passes}
 use Rattle.tables.proofs.Judged as judged
+use Rattle.tables.proofs.Labels.{no-labels, next-lent, next-stored}
 use Rattle.tables.proofs.Beginning.{fill-length, left-same, left-begins, first-begins}
-use Rattle.insertion_memory.specs.Memory.{addedTo}
-use Rattle.insertion_memory.proofs.Meaning.{meaning}
+use Rattle.insertion_memory.specs.Memory.{addedWith}
+use Rattle.insertion_memory.proofs.Meaning.{AfterAdding, meaning}
 use Rattle.insertion_memory.proofs.Keeps.{keeps-well-formed}
-use Rattle.insertion_memory.proofs.Beginnings.{holds-whole}
+use Rattle.insertion_memory.proofs.Labels.{labelled-formed, labelled-traces, labelled-tree, with-others}
 use Rattle.calls.specs.Outcome.{Effect, unlessRefused}
 use Rattle.calls.specs.Trusted.{bookIn, Trusts, treePut, treeUnless, treeAfter}
-use Rattle.calls.specs.Effects.{opens, adds, cleared, writes, reads, imports, exports, checks, effectOf}
+use Rattle.calls.specs.Effects.{opens, adds, cleared, writes, reads, imports, exports, checks, tellsLabel, effectOf}
 use Rattle.calls.specs.Demands.{trailFound}
 use Rattle.calls.specs.Follows.{Typed, Follows, Ran, no-call, a-call}
-use Rattle.calls.proofs.Library.{library-holds}
+use Rattle.calls.proofs.Kept.{kept-holds}
 use Rattle.calls.proofs.Stored.{Fine, Stores, lent-stores}
 use Rattle.calls.proofs.Trusted.{long-in, count-in, each-is, whole-trusts, whole-tree, part-trusts, part-tree, fine-room}
 use Rattle.calls.proofs.Trusted.{trusted-same, accepted-same, checked-trusts, kept-trusts}
-use Rattle.calls.proofs.Agrees.{Agrees, opening-agrees, reading-agrees, library-grows}
+use Rattle.calls.proofs.Agrees.{Agrees, opening-agrees, reading-agrees, library-grows, zero-labels}
 use Rattle.calls.proofs.Steps.{reply-is, memory-is}
 use Rattle.calls.proofs.OfArguments.{ifAny, first-any, ofArguments, other, first-other}
 use Rattle.calls.proofs.Searches.{laws}
@@ -71,57 +75,106 @@ pub record TrustsTree (memory : Tables) (b : Book) (tree : Tree) : Type 0 where
 
 -- ---- adding
 
--- one trace of n samples, where there is room
-add-trusts : {t : Tables} {b : Book} → Trusts t b → (x : Trace) → T (isTrace sampleLimit (b .measures .n) x)
-    → length (b .traces) < b .measures .capacity
-    → TrustsTree (addedTo t x) (book (b .measures) (b .traces ++ (x ∷ []))) (insertion (b .measures) (b .traces) (treeIn t) x)
-unfolding every
-add-trusts {t} {b} k x is-trace less =
-    let n-same : b .measures .n ≡ measuresOf t .n = ap (λ (m : Measures). m .n) (sym (k .measures-are)) in
-    let is : T (isTrace sampleLimit (measuresOf t .n) x) = subst (λ (n : ℕ). T (isTrace sampleLimit n x)) n-same is-trace in
-    let all : T (every (isTrace sampleLimit (measuresOf t .n)) (tracesIn t)) = rw (k .traces-are)
-    (subst (λ (n : ℕ). T (every (isTrace sampleLimit n) (b .traces))) n-same (each-is k)) in
-    let size : length x ≡ measuresOf t .n = trace-length sampleLimit (measuresOf t .n) x is in
-    let room : traceCount t < measuresOf t .capacity =
-    omega (arith, less, count-in k, ap (λ (m : Measures). m .capacity) (k .measures-are)) in
-    let passes-it = subst (λ (n : ℕ). T (abstract.wellFormedTree sampleLimit (measuresOf t) n (treeIn t))) (sym (traces-size t))
-    (tree-passes t (k .formed)) in
-    let a = meaning t x (k .formed) (long-in k) size room in
-    let grows : Trusts (addedTo t x) (book (b .measures) (b .traces ++ (x ∷ []))) = record {
-      library = library-grows (b .measures) (b .traces) (x ∷ []) (k .library)
-          (passes (isTrace sampleLimit (b .measures .n) x) (true ∷ []) (is-trace, tt)) (omega (arith, less));
-      room = rw (a .lengths-stay) (k .room);
-      formed = keeps-well-formed t x (k .formed) (long-in k) size room all is;
-      measures-are = a .measures-stay ∙ k .measures-are;
-      traces-are = a .traces ∙ ap (λ (l : List Trace). l ++ (x ∷ [])) (k .traces-are);
-      exact = rw (a .traces, a .tree) (adding-accepted sampleLimit (measuresOf t) (tracesIn t) (treeIn t) x passes-it all is
-          (omega (arith, room, traces-size t)) (k .exact));
-    } in
-    record {
-      trusts = grows;
-      tree-is = a .tree ∙ (ap (λ (m : Measures). insertion m (tracesIn t) (treeIn t) x) (k .measures-are)
-          ∙ ap (λ (l : List Trace). insertion (b .measures) l (treeIn t) x) (k .traces-are));
-    }
+-- one trace of n samples with its label, where there is room
+module _ {t : Tables} {b : Book} (k : Trusts t b) (x : Trace) (l : Label) (is-trace : T (isTrace sampleLimit (b .measures .n) x))
+    (fits : LabelFits l) (less : length (b .traces) < b .measures .capacity) where
+  abbrev m₀ : Measures
+  m₀ = b .measures
 
--- any number of them
-all-trust : (more : List Trace) {t : Tables} {b : Book} → Trusts t b → T (every (isTrace sampleLimit (b .measures .n)) more)
-    → length (b .traces) + length more ≤ b .measures .capacity
-    → TrustsTree (foldl addedTo t more) (book (b .measures) (b .traces ++ more)) (grown (b .measures) (b .traces) (treeIn t) more)
+  abbrev places : List ℕ
+  places = labelsOver (t .labels) (traceCount t) (l ∷ [])
+
+  -- the tables with the label put
+  abbrev s : Tables
+  s = nextLabelled t (l ∷ [])
+
+  abbrev grew : Tables
+  grew = addedWith t (x ∷ []) (l ∷ [])
+
+  label-fits : traceCount t + length (l ∷ []) ≤ length (t .labels)
+  unfolding labelsNeeded
+  label-fits = omega (arith, count-in k, less, k .room .labels-room)
+
+  traces-there : tracesIn s ≡ b .traces
+  traces-there = labelled-traces t places ∙ k .traces-are
+
+  formed-there : T (wellFormed s)
+  formed-there = labelled-formed t places (k .formed)
+
+  each-there : T (every (isTrace sampleLimit (measuresOf s .n)) (tracesIn s))
+  each-there = subst (λ (l : List Trace). T (every (isTrace sampleLimit (measuresOf s .n)) l)) (sym traces-there)
+      (subst (λ (m : Measures). T (every (isTrace sampleLimit (m .n)) (b .traces))) (sym (k .measures-are)) (each-is k))
+
+  is-there : T (isTrace sampleLimit (measuresOf s .n) x)
+  is-there = subst (λ (m : Measures). T (isTrace sampleLimit (m .n) x)) (sym (k .measures-are)) is-trace
+
+  size : length x ≡ measuresOf s .n
+  size = trace-length sampleLimit (measuresOf s .n) x is-there
+
+  room-there : traceCount s < measuresOf s .capacity
+  room-there = omega (arith, less, count-in k, ap (λ (m : Measures). m .capacity) (k .measures-are))
+
+  means : AfterAdding s x
+  means = meaning s x formed-there (long-in k) size room-there
+
+  exact-there : T (isExact (tracesIn s) (treeIn s))
+  exact-there = rw (labelled-traces t places, labelled-tree t places) (k .exact)
+
+  tree-there : T (abstract.wellFormedTree sampleLimit (measuresOf s) (length (tracesIn s)) (treeIn s))
+  tree-there = subst (λ (n : ℕ). T (abstract.wellFormedTree sampleLimit (measuresOf s) n (treeIn s))) (sym (traces-size s)) (tree-passes s formed-there)
+
+  grew-trusts : Trusts grew (book m₀ (b .traces ++ (x ∷ [])) (b .labels ++ (l ∷ [])))
+  unfolding every
+  grew-trusts = record {
+    library = library-grows m₀ (b .traces) (x ∷ []) (k .library) (passes (isTrace sampleLimit (m₀ .n) x) (true ∷ []) (is-trace, tt))
+        (omega (arith, less));
+    room = subst (λ (lengths : Lent). Room lengths m₀) (sym (means .lengths-stay ∙ next-lent t (l ∷ []) label-fits)) (k .room);
+    formed = keeps-well-formed s x formed-there (long-in k) size room-there each-there is-there;
+    measures-are = means .measures-stay ∙ k .measures-are;
+    traces-are = means .traces ∙ ap (λ (l : List Trace). l ++ (x ∷ [])) traces-there;
+    labels-are = next-stored t (l ∷ []) label-fits grew (means .trace-count ∙ omega arith) (means .labels-stay) (all-more {a = l} fits all-none)
+        ∙ ap (λ (labels : List Label). labels ++ (l ∷ [])) (k .labels-are);
+    exact = rw (means .traces, means .tree) (adding-accepted sampleLimit (measuresOf s) (tracesIn s) (treeIn s) x tree-there each-there is-there
+        (omega (arith, room-there, traces-size s)) exact-there);
+  }
+
+  add-trusts : TrustsTree grew (book m₀ (b .traces ++ (x ∷ [])) (b .labels ++ (l ∷ []))) (insertion m₀ (b .traces) (treeIn t) x)
+  add-trusts = record {
+    trusts = grew-trusts;
+    tree-is = means .tree ∙ (λ i. insertion (k .measures-are i) (traces-there i) (labelled-tree t places i) x);
+  }
+
+-- any number of them, each with its label
+all-trust : (more : List Trace) (others : List Label) {t : Tables} {b : Book} → Trusts t b
+    → T (every (isTrace sampleLimit (b .measures .n)) more)
+    → length (b .traces) + length more ≤ b .measures .capacity → length others ≡ length more → All LabelFits others
+    → TrustsTree (addedWith t more others) (book (b .measures) (b .traces ++ more) (b .labels ++ others))
+    (grown (b .measures) (b .traces) (treeIn t) more)
 unfolding grown
-all-trust [] {t} {b} k each room = record {
-  trusts = subst (λ (l : List Trace). Trusts t (book (b .measures) l)) (sym (append-nil (b .traces))) k;
-  tree-is = refl;
-}
-all-trust (x ∷ more) {t} {b} k each room =
+all-trust [] [] {t} {b} k each room e fit =
+    subst (λ (s : Tables). TrustsTree s (book (b .measures) (b .traces ++ []) (b .labels ++ [])) (treeIn t)) (no-labels t)
+    (record { trusts = rw (append-nil (b .traces), append-nil (b .labels)) k; tree-is = refl })
+all-trust [] (l ∷ others) k each room e fit = absurd (omega (arith, e))
+all-trust (x ∷ more) [] k each room e fit = absurd (omega (arith, e))
+all-trust (x ∷ more) (l ∷ others) {t} {b} k each room e (all-more f fs) =
     let is = isTrace sampleLimit (b .measures .n) in
-    let next = add-trusts k x (from-every is (x ∷ more) each first) (omega (arith, room)) in
-    let others = all-trust more (next .trusts) (every-of is more (λ y i. from-every is (x ∷ more) each (later i)))
-    (omega (arith, room, length-append (b .traces) (x ∷ []))) in
-    record {
-      trusts = subst (λ (l : List Trace). Trusts (foldl addedTo (addedTo t x) more) (book (b .measures) l))
-          (append-assoc (b .traces) (x ∷ []) more) (others .trusts);
-      tree-is = others .tree-is ∙ ap (λ (tree : Tree). grown (b .measures) (b .traces ++ (x ∷ [])) tree more) (next .tree-is);
-    }
+    let m : Measures = b .measures in
+    let one : Tables = addedWith t (x ∷ []) (l ∷ []) in
+    let next = add-trusts k x l (from-every is (x ∷ more) each first) f (omega (arith, room)) in
+    let rest = all-trust more others (next .trusts) (every-of is more (λ y i. from-every is (x ∷ more) each (later i)))
+    (omega (arith, room, length-append (b .traces) (x ∷ []))) (omega (arith, e)) fs in
+    let counted : traceCount one ≡ traceCount t + length (l ∷ []) =
+    omega (arith, count-in (next .trusts), count-in k, length-append (b .traces) (x ∷ [])) in
+    let fits : traceCount t + length (l ∷ []) ≤ length (t .labels) = label-fits k x l (from-every is (x ∷ more) each first) f (omega (arith, room)) in
+    let after-one : addedWith t (x ∷ more) (l ∷ others) ≡ addedWith one more others = with-others t (x ∷ []) more (l ∷ []) others counted fits in
+    let book-is : book m ((b .traces ++ (x ∷ [])) ++ more) ((b .labels ++ (l ∷ [])) ++ others) ≡ book m (b .traces ++ (x ∷ more)) (b .labels ++ (l ∷ others)) =
+    λ i. book m (append-assoc (b .traces) (x ∷ []) more i) (append-assoc (b .labels) (l ∷ []) others i) in
+    subst (λ (s : Tables). TrustsTree s (book m (b .traces ++ (x ∷ more)) (b .labels ++ (l ∷ others))) (grown m (b .traces) (treeIn t) (x ∷ more)))
+    (sym after-one)
+    (record {
+      trusts = subst (Trusts (addedWith one more others)) book-is (rest .trusts);
+      tree-is = rest .tree-is ∙ ap (λ (tree : Tree). grown m (b .traces ++ (x ∷ [])) tree more) (next .tree-is);
+    })
 
 -- ---- one call
 
@@ -142,7 +195,7 @@ of-agrees {memory} {b} {n = n} a all = record {
   trusts = λ f. let k = a .puts (sym (a .judged) ∙ f) in
       record {
         trusts = kept-trusts k;
-        tree-is = holds-whole (k .needed-places) (library-holds (n .puts .measures) (n .puts .traces) (k .library)) .tree-is;
+        tree-is = kept-holds k .tree-is;
       };
   by-arguments = subst (λ (o : Option Refusal). T (ifAny ofArguments o)) (sym (a .judged)) (first-other (n .conditions) all);
 }
@@ -178,7 +231,7 @@ module _ (memory part : Tables) (begins : Begins part memory) (b : Book) (k : Tr
 
   -- a search leaves search work zero, and all else
   cleared-trusts : {tree : Tree} → TrustsTree part b tree → TrustsTree (cleared part) b tree
-  unfolding wellFormed kindsNamed treeIn tracesIn
+  unfolding wellFormed kindsNamed treeIn tracesIn labelsIn
   cleared-trusts {tree} r =
       let t : Trusts part b = r .trusts in
       let w : ℕ = workNeeded (measuresOf part) in
@@ -190,6 +243,7 @@ module _ (memory part : Tables) (begins : Begins part memory) (b : Book) (k : Tr
           formed = t .formed;
           measures-are = t .measures-are;
           traces-are = t .traces-are;
+          labels-are = t .labels-are;
           exact = t .exact;
         };
         tree-is = r .tree-is;
@@ -218,11 +272,11 @@ module _ (memory part : Tables) (begins : Begins part memory) (b : Book) (k : Tr
   abbrev m : Measures
   m = b .measures
 
-  adding-leads : (x : Trace) → T (areSamples x)
-      → Leads memory b (adds part x) (addingEntry layout (lentOf part) b x) (insertion m (b .traces) (treeIn memory) x)
+  adding-leads : (x : Trace) (l : Label) → T (areSamples x) → T (isLabel l)
+      → Leads memory b (adds part x l) (addingEntry layout (lentOf part) b x l) (insertion m (b .traces) (treeIn memory) x)
   unfolding adds addingEntry isLibrary isTrace every ofArguments numberOf
-  adding-leads x samples = record {
-    puts-same = ap (λ (o : Option Refusal). putUnless o b (addingEntry layout (lentOf part) b x)) (sym judged);
+  adding-leads x l samples is-label = record {
+    puts-same = ap (λ (o : Option Refusal). putUnless o b (addingEntry layout (lentOf part) b x l)) (sym judged);
     tree-same = ap (λ (o : Option Refusal). treeUnless o (treeIn memory) (insertion m (b .traces) (treeIn memory) x)) (sym judged);
     trusts = λ f. left-trusts (added f);
     by-arguments = by-own _ tt;
@@ -231,23 +285,26 @@ module _ (memory part : Tables) (begins : Begins part memory) (b : Book) (k : Tr
       rest : List Condition
       rest = addConditions m (length (b .traces)) x
 
-      judged : firstOf (adds part x .conditions) ≡ firstOf (shortConditions layout (lentOf part) m ++ rest)
+      judged : firstOf (adds part x l .conditions) ≡ firstOf (shortConditions layout (lentOf part) m ++ rest)
       judged = trusted-same k begins _ rest (λ t. rw (
         ap (λ (k : Measures). k .n) (t .measures-are),
         ap (λ (k : Measures). k .capacity) (t .measures-are),
         count-in t,
       ))
 
-      added : firstOf (adds part x .conditions) ≡ none
-          → TrustsTree (addedTo part x) (book m (b .traces ++ (x ∷ []))) (insertion m (b .traces) (treeIn memory) x)
+      Grew : Tree → Type 0
+      Grew tree = TrustsTree (addedWith part (x ∷ []) (l ∷ [])) (book m (b .traces ++ (x ∷ [])) (b .labels ++ (l ∷ []))) (insertion m (b .traces) tree x)
+
+      added : firstOf (adds part x l .conditions) ≡ none → Grew (treeIn memory)
       added f =
           let t = lent-trusts _ f in
           let own = none-both (shortConditions layout (lentOf part) m) rest (sym judged ∙ f) .1 in
           let one = none-first (not (eqb (length x) (m .n))) wrongTrace _ own in
           let two = none-first (eqb (length (b .traces)) (m .capacity)) full _ (one .1) in
           let most = library-of sampleLimit m (b .traces) (k .library) .room in
-          subst (λ (tree : Tree). TrustsTree (addedTo part x) (book m (b .traces ++ (x ∷ []))) (insertion m (b .traces) tree x)) (t .tree-is)
-          (add-trusts (t .trusts) x (passes (eqb (length x) (m .n)) (areSamples x ∷ []) (is-true {b = eqb (length x) (m .n)} (not-false _ (one .0)), samples))
+          subst Grew (t .tree-is)
+          (add-trusts (t .trusts) x l (passes (eqb (length x) (m .n)) (areSamples x ∷ []) (is-true {b = eqb (length x) (m .n)} (not-false _ (one .0)), samples))
+          (fits-of l is-label)
           (strict most (λ q. eqb-false (length (b .traces)) (m .capacity) (two .0) q)))
 
   importing-leads : (bytes : List ℕ) → T (areBytes bytes)
@@ -264,9 +321,13 @@ module _ (memory part : Tables) (begins : Begins part memory) (b : Book) (k : Tr
       file : Option Recording
       file = judgeRecording (m .n) bytes
 
+      zeros : Labels (length (fileTraces file)) (replicate (length (fileTraces file)) noLabel)
+      zeros = labels-of (length (fileTraces file)) (replicate (length (fileTraces file)) noLabel) (zero-labels (length (fileTraces file)))
+
       Grows : Option Recording → Tree → Type 0
       Grows o tree =
-          TrustsTree (foldl addedTo part (fileTraces o)) (book m (b .traces ++ fileTraces file)) (grown m (b .traces) tree (fileTraces file))
+          TrustsTree (addedWith part (fileTraces o) (replicate (length (fileTraces o)) noLabel))
+          (book m (b .traces ++ fileTraces file) (b .labels ++ replicate (length (fileTraces file)) noLabel)) (grown m (b .traces) tree (fileTraces file))
 
       same-file : Trusts part b → judgeRecording (measuresOf part .n) bytes ≡ file
       same-file t = ap (λ (k : Measures). judgeRecording (k .n) bytes) (t .measures-are)
@@ -284,15 +345,15 @@ module _ (memory part : Tables) (begins : Begins part memory) (b : Book) (k : Tr
           let t = lent-trusts _ f in
           subst (λ (o : Option Recording). Grows o (treeIn memory)) (sym (same-file (t .trusts)))
           (subst (Grows file) (t .tree-is)
-          (all-trust (fileTraces file) (t .trusts) (file-traces (m .n) bytes typed)
-          (ltb-false (m .capacity) (length (b .traces) + length (fileTraces file)) (two .0))))
+          (all-trust (fileTraces file) (replicate (length (fileTraces file)) noLabel) (t .trusts) (file-traces (m .n) bytes typed)
+          (ltb-false (m .capacity) (length (b .traces) + length (fileTraces file)) (two .0)) (zeros .each-one) (zeros .all-fit)))
 
   leads : (ask : Ask) → Typed ask part
       → Leads memory b (effectOf ask part) (entryOf layout (lentOf part) b ask) (treePut b (treeIn memory) ask)
-  unfolding effectOf entryOf Typed writes exports checks openingEntry readingEntry writingEntry exportingEntry checkingEntry every ofArguments
-      numberOf treePut grown
+  unfolding effectOf entryOf Typed writes exports checks tellsLabel openingEntry readingEntry writingEntry exportingEntry checkingEntry labellingEntry
+      every ofArguments numberOf treePut grown
   leads (opening x) typed = of-agrees (opening-agrees memory part b x) (entry-other layout (lentOf part) b (opening x))
-  leads (adding x) typed = adding-leads x typed
+  leads (adding x l) typed = adding-leads x l (typed .0) (typed .1)
   leads (searching q) typed = search-leads _ _ _ refl refl refl (laws q .by-arguments (measuresOf part) (traceCount part) (treeIn part))
   leads (writing sheet) typed = staying _ _ refl refl (by-own _ tt)
   leads (reading bytes) typed = of-agrees (reading-agrees memory part b bytes typed) (entry-other layout (lentOf part) b (reading bytes))
@@ -301,6 +362,7 @@ module _ (memory part : Tables) (begins : Begins part memory) (b : Book) (k : Tr
   leads checking typed = staying _ _ refl refl
       (subst (λ (o : Option Refusal). T (ifAny ofArguments o)) (sym (accepted-same k begins))
       (first-other (shortConditions layout (lentOf part) m) tt))
+  leads (labelling number) typed = staying _ _ refl refl (by-own _ tt)
 
 -- ---- the step
 
@@ -359,15 +421,16 @@ all-trusting {b} {memory} {memory′} k (a-call {c = c} {said = said} {rest = ca
 
 -- only a check answers `accepted`
 only-check : (ask : Ask) (t : Tables) → effectOf ask t .result ≡ accepted → ask ≡ checking
-unfolding effectOf opens adds writes reads imports exports checks trailFound
+unfolding effectOf opens adds writes reads imports exports checks tellsLabel trailFound
 only-check (opening m) t e = let z : _≡_ {A = ℕ} 0 1 = cc in absurd (omega arith)
-only-check (adding x) t e = let z : _≡_ {A = ℕ} 0 1 = cc in absurd (omega arith)
-only-check (searching q) t e = absurd (laws q .has-trail (measuresOf t) (tracesIn t) (treeIn t) (ap trailFound e))
+only-check (adding x l) t e = let z : _≡_ {A = ℕ} 0 1 = cc in absurd (omega arith)
+only-check (searching q) t e = absurd (laws q .has-trail (measuresOf t) (tracesIn t) (codesOf (labelsIn t)) (treeIn t) (ap trailFound e))
 only-check (writing sheet) t e = let z : _≡_ {A = ℕ} 0 1 = cc in absurd (omega arith)
 only-check (reading bytes) t e = let z : _≡_ {A = ℕ} 0 1 = cc in absurd (omega arith)
 only-check (importing bytes) t e = let z : _≡_ {A = ℕ} 0 1 = cc in absurd (omega arith)
 only-check (exporting number rate buffer) t e = let z : _≡_ {A = ℕ} 0 1 = cc in absurd (omega arith)
 only-check checking t e = refl
+only-check (labelling number) t e = let z : _≡_ {A = ℕ} 0 1 = cc in absurd (omega arith)
 
 module _ {lent : Lent} {memory memory′ : Tables} {said : Reply} (f : Follows (call lent checking) memory said memory′) where
   abbrev lentPart : Tables
@@ -396,12 +459,12 @@ module _ {lent : Lent} {memory memory′ : Tables} {said : Reply} (f : Follows (
   whole-checked : said .answer ≡ answering accepted → Trusts memory (bookIn memory)
   whole-checked a =
       let k = whole-trusts (first-begins lent memory) (part-checked a) in
-      let same : bookIn lentPart ≡ bookIn memory = rw (k .measures-are, k .traces-are) in
+      let same : bookIn lentPart ≡ bookIn memory = rw (k .measures-are, k .traces-are, k .labels-are) in
       subst (Trusts memory) same k
 
 -- ---- 13
 
-refused-with : (o : Option Refusal) (t : Tables) (beside : List (List ℕ)) (e : Effect) (w : Refusal)
+pub refused-with : (o : Option Refusal) (t : Tables) (beside : List (List ℕ)) (e : Effect) (w : Refusal)
     → unlessRefused o t beside e .answer ≡ refusing w → o ≡ some w
 unfolding unlessRefused
 refused-with (some why) t beside e w q = cc

@@ -14,6 +14,7 @@ use Rattle.integer.specs.Lists.{In, Up}
 use Rattle.integer.specs.Sorting.{Ordered}
 use Rattle.segment.specs.Figures.{distance}
 use Rattle.dstree.specs.Measures.{Trace, Measures, sampleLimit, areSamples}
+use Rattle.dstree.specs.Labels.{Label, noLabel, labelAt}
 use Rattle.dstree.specs.Node.{Tree}
 use Rattle.dstree.specs.Adding.{insertion}
 use Rattle.dstree.specs.Matching.{bound, before, leaves, leastDistance, Near, Match, matchBySteps, matchOf}
@@ -23,14 +24,15 @@ use Rattle.dstree.specs.Batch.{queriesIn, Batch, answerIn, batchOf, batchByStep
 use Rattle.dstree.specs.Refusals.{Refusal, spoiled, empty, looseRecord, firstOf}
 use Rattle.dstree.specs.Sheet.{blockSize, blocksNeeded, sheetOf}
 use Rattle.dstree.specs.Recording.{Recording, recording, judgeRecording}
-use Rattle.dstree.specs.Book.{Lent, adding, matching, writing, reading, listing, importing, exporting, checking, batching, Call, call}
-use Rattle.dstree.specs.Book.{besideOf}
-use Rattle.dstree.specs.Book.{Result, done, added, matched, written, neighbours, imported, exported, accepted, batched, refusing}
-use Rattle.dstree.specs.Book.{answering, Reply, reply, over, Book, bookTree, shortConditions, judge, after, repliesOf, start}
+use Rattle.dstree.specs.Book.{Lent, adding, matching, writing, reading, listing, importing, exporting, checking, batching, labelling}
+use Rattle.dstree.specs.Book.{Call, call, besideOf}
+use Rattle.dstree.specs.Book.{Result, done, added, matched, written, neighbours, imported, exported, accepted, batched, labelled}
+use Rattle.dstree.specs.Book.{remoteMatched, refusing, answering, Reply, reply, over, Book, bookTree, shortConditions, judge, after}
+use Rattle.dstree.specs.Book.{repliesOf, start}
 use Rattle.dstree.specs.Claims.{Below, numbersAmong, LeavesOutOnlyAbove, RangesOf, ExactTree}
 use Rattle.tables.specs.Layout.{layout}
-use Rattle.tables.specs.Tables.{Tables, tables, lentOf, measuresOf, traceCount}
-use Rattle.tables.specs.View.{traceIn, treeIn, tracesIn, wellFormed}
+use Rattle.tables.specs.Tables.{Tables, labelledTables, lentOf, measuresOf, traceCount}
+use Rattle.tables.specs.View.{traceIn, treeIn, tracesIn, labelsIn, wellFormed}
 use Rattle.tables.specs.Beginning.{firstPlaces, left}
 use Rattle.tables.specs.Answers.{madeConditions}
 use Rattle.tables.specs.Holds.{Holds}
@@ -39,6 +41,7 @@ use Rattle.calls.specs.Library.{Keeps, beyond}
 use Rattle.calls.specs.Trusted.{bookIn, Trusts, treeAfter}
 use Rattle.calls.specs.Effects.{cleared, effectOf}
 use Rattle.calls.specs.Follows.{Follows, Ran}
+use Rattle.calls.specs.Remote.{RemoteIsMatch, MayDifferInSerials, RemoteSeesNoSerials}
 
 -- ---- demand 1
 
@@ -69,12 +72,14 @@ pub record DifferOutside (set : List ℕ) (these other : Tables) : Type 0 where
   pub nodes-same : other .nodes ≡ these .nodes
   pub links-same : other .links ≡ these .links
   pub work-same : other .work ≡ these .work
+  pub labels-same : other .labels ≡ these .labels
   pub as-long : length (other .samples) ≡ length (these .samples)
   pub samples-same : (trace : ℕ) → T (isIn trace (numbersAmong (treeIn these) set))
       → traceIn (other .samples) (measuresOf these .n) trace ≡ traceIn (these .samples) (measuresOf these .n) trace
 
 abbrev pub withSample : Tables → ℕ → ℤ → Tables
-withSample t place sample = tables (t .control) (set (t .samples) place sample) (t .nodes) (t .links) (t .work)
+withSample t place sample =
+    labelledTables (t .control) (set (t .samples) place sample) (t .nodes) (t .links) (t .work) (t .labels)
 
 -- there are such tables: every sample of every trace outside these leaves may be any number, one after another
 pub record MayDiffer (those : List ℕ) (these : Tables) : Type 0 where
@@ -83,17 +88,20 @@ pub record MayDiffer (those : List ℕ) (these : Tables) : Type 0 where
       → T (not (isIn trace (numbersAmong (treeIn these) those)))
       → DifferOutside those these (withSample other (trace * measuresOf these .n + at) sample)
 
--- the leaves that a search has read, by its answer: a match's, that of the k nearest, or a batch's. No other call answers with a trail
+-- the leaves that a search has read, by its answer: a match's, that of the k nearest, a batch's, or the remote's. No other call answers
+-- with a trail
 unfoldable pub trailFound : Result → Option (List ℕ)
 trailFound (matched m) = some (m .trail)
 trailFound (neighbours m) = some (m .trail)
 trailFound (batched m) = some (m .trail)
+trailFound (remoteMatched m code) = some (m .trail)
 trailFound done = none
 trailFound (added number) = none
 trailFound (written blocks sheet) = none
 trailFound (imported count) = none
 trailFound (exported size bytes) = none
 trailFound accepted = none
+trailFound (labelled l) = none
 
 -- "well-formed tables that differ only there give the same answer and the same trail": of a search that is not refused, so that its tables
 -- are well formed, whoever made them
@@ -107,11 +115,13 @@ SamplesOffTrail = (c : Call) (these these′ : Tables) (said : Reply) → Follow
 
 -- an adding that answered a number, on some memory, and what it left there: "With well-formed tables that somebody altered, calls follow
 -- the steps above on what is recorded"
-pub record AddedInto (lent : Lent) (x : Trace) (memory : Tables) (number : ℕ) (memory′ : Tables) : Type 0 where
+pub record AddedInto (lent : Lent) (x : Trace) (l : Label) (memory : Tables) (number : ℕ) (memory′ : Tables) : Type 0 where
   pub number-is : number ≡ traceCount (firstPlaces lent memory)
   pub measures-stay : measuresOf (firstPlaces lent memory′) ≡ measuresOf (firstPlaces lent memory)
   -- "Adding appends its trace"
   pub traces-are : tracesIn (firstPlaces lent memory′) ≡ tracesIn (firstPlaces lent memory) ++ (x ∷ [])
+  -- document 02, §8: a label is "given when it is added", whatever stood in its place
+  pub labels-are : labelsIn (firstPlaces lent memory′) ≡ labelsIn (firstPlaces lent memory) ++ (l ∷ [])
   -- the tree is the one that the steps under "Adding" make of the recorded one
   pub tree-is : treeIn (firstPlaces lent memory′)
       ≡ insertion (measuresOf (firstPlaces lent memory)) (tracesIn (firstPlaces lent memory)) (treeIn (firstPlaces lent memory)) x
@@ -119,9 +129,9 @@ pub record AddedInto (lent : Lent) (x : Trace) (memory : Tables) (number : ℕ) 
   pub work-stays : firstPlaces lent memory′ .work ≡ firstPlaces lent memory .work
 
 abbrev pub AddsAnywhere : Type 0
-AddsAnywhere = (lent : Lent) (x : Trace) (memory memory′ : Tables) (said : Reply)
-    → Follows (call lent (adding x)) memory said memory′
-    → (number : ℕ) → said .answer ≡ answering (added number) → AddedInto lent x memory number memory′
+AddsAnywhere = (lent : Lent) (x : Trace) (l : Label) (memory memory′ : Tables) (said : Reply)
+    → Follows (call lent (adding x l)) memory said memory′
+    → (number : ℕ) → said .answer ≡ answering (added number) → AddedInto lent x l memory number memory′
 
 -- ---- a match, on any tables
 
@@ -169,9 +179,9 @@ ListsAnywhere = (lent : Lent) (k : ℕ) (query : Trace) (trail list : List ℕ) 
 
 -- ---- document 02, §2, on any tables
 
--- "adding its traces one after another", with so many places lent
+-- "adding its traces one after another", with so many places lent. Their labels are "zero from callers that give neither" (§8)
 abbrev pub addings : Lent → List Trace → List Call
-addings lent traces = map (λ x. call lent (adding x)) traces
+addings lent traces = map (λ x. call lent (adding x noLabel)) traces
 
 -- an import that added so many traces, on some memory, and what it left
 pub record ImportedInto (lent : Lent) (bytes : List ℕ) (memory : Tables) (count : ℕ) (memory′ : Tables) : Type 0 where
@@ -210,6 +220,22 @@ BatchesAnywhere = (lent : Lent) (count : ℕ) (run : Trace) (trail : List ℕ) (
     → Follows (call lent (batching count run trail list)) memory said memory′
     → (m : Batch) → said .answer ≡ answering (batched m)
     → BatchedIn count run (firstPlaces lent memory) m × (memory′ ≡ left (cleared (firstPlaces lent memory)) memory)
+
+-- ---- document 02, §8, on any tables
+
+-- the bench's call that answered a label for a trace number, on the tables t that it was lent, whoever made them
+pub record LabelledIn (number : ℕ) (t : Tables) (l : Label) : Type 0 where
+  -- "one out of range is 12"
+  pub is-stored : number < traceCount t
+  -- "The bench has a call that answers both for a trace number": what lies in the trace's place, of which bits above code and serial do not
+  -- count
+  pub label-is : l ≡ labelAt (getD (t .labels) number 0)
+
+-- it leaves everything as it was, search work too
+abbrev pub LabelsAnywhere : Type 0
+LabelsAnywhere = (lent : Lent) (number : ℕ) (memory memory′ : Tables) (said : Reply)
+    → Follows (call lent (labelling number)) memory said memory′
+    → (l : Label) → said .answer ≡ answering (labelled l) → LabelledIn number (firstPlaces lent memory) l × (memory′ ≡ memory)
 
 -- ---- any query, of stored traces and their tree in some memory
 
@@ -313,6 +339,14 @@ pub record OfAnyBatch (judges : Call → Option Refusal) (stored : List Trace) (
   pub others-do-not-bear : (other : Tables) → DifferOutside (batchOf stored tree (queriesIn n count run) .trail) memory other
       → BatchGives judges count run other (batchOf stored tree (queriesIn n count run))
 
+-- ---- document 02, §8: any trace number, of labels in some memory
+
+-- the bench's call on some memory, whatever it is lent there, that the table doesn't refuse, answers the trace's label of these
+abbrev pub LabelGives : (Call → Option Refusal) → List Label → Tables → Type 0
+LabelGives judges labels memory = (lent : Lent) (number : ℕ) (said : Reply) (memory′ : Tables)
+    → Follows (call lent (labelling number)) memory said memory′
+    → judges (call lent (labelling number)) ≡ none → said ≡ reply (answering (labelled (getD labels number noLabel))) []
+
 -- ---- demands 2 and 3
 
 -- a writing of some memory that is not refused, and then a reading of its sheet into whatever memory that has the places these measures
@@ -367,6 +401,8 @@ pub record AfterList (b : Book) (calls : List Call) (said : List Reply) (memory 
   -- .. so that the tables stand for its measures, its traces and its tree, "the one that the published DSTree insertion .. builds from the
   -- same traces in the same order", and are well formed
   pub holds : Holds memory (after layout b calls .measures) (after layout b calls .traces)
+  -- .. and have its labels (document 02, §8): "the book keeps them with its traces"
+  pub labels-are : labelsIn memory ≡ after layout b calls .labels
   -- "Refusals follow the table, judged by arguments and book", and every answer is the book's; "a refused call changes nothing"
   pub replies-are : said ≡ repliesOf layout b calls
   pub written-and-read : WrittenAndRead (after layout b calls) memory
@@ -383,30 +419,35 @@ pub record AfterList (b : Book) (calls : List Call) (said : List Reply) (memory 
       (after layout b calls .measures .n) count run memory
   pub empty-is-six : EmptyIsSix (after layout b calls) memory
   pub exported-sound : ExportedSound (after layout b calls) memory
+  -- document 02, §8: "The bench has a call that answers both for a trace number", as "given when it is added"
+  pub label-gives : LabelGives (judge layout (after layout b calls)) (after layout b calls .labels) memory
   -- document 02, §6: "It accepts every library made by calls"
   pub is-accepted : IsAccepted (after layout b calls .measures) memory
 
 -- ---- what a memory stores, whoever made its tree: document 01's sheets and document 02's recordings of it
 
--- a sheet of a book's measures and traces that was read: the reading's reply, and the memory after it
+-- a sheet of a book's measures, traces and labels that was read: the reading's reply, and the memory after it
 pub record ReadBack (b : Book) (said : Reply) (memory : Tables) : Type 0 where
   pub is-done : said .answer ≡ answering done
   -- "Reading opens the library and adds the traces in order": every needed place is as these calls leave it ..
   pub keeps : Keeps memory b
-  -- .. so that the tables have these measures and these traces, and the tree that adding makes of them
+  -- .. so that the tables have these measures and these traces, and the tree that adding makes of them ..
   pub holds : Holds memory (b .measures) (b .traces)
+  -- .. and these labels
+  pub labels-are : labelsIn memory ≡ b .labels
   -- a check accepts them
   pub is-accepted : IsAccepted (b .measures) memory
   -- all that is claimed of a library made by calls holds of them, and goes on to hold, whatever calls follow
   pub goes-on : (calls : List Call) (others : List Reply) (memory′ : Tables) → Ran memory calls others memory′
       → AfterList b calls others memory′
 
--- a memory with a book's measures and traces. Its tests, its recorded figures and the shape of its tree do not bear on this
+-- a memory with a book's measures, traces and labels. Its tests, its recorded figures and the shape of its tree do not bear on this
 pub record OfStored (b : Book) (memory : Tables) : Type 0 where
-  -- the sheet that a writing leaves is that of these measures and these traces, in order
+  -- the sheet that a writing leaves is that of these measures, and of these traces and labels, in order
   pub sheet-is : (lent : Lent) (sheet : List ℕ) (said : Reply) (memory′ : Tables) → Follows (call lent (writing sheet)) memory said memory′
-      → (blocks : ℕ) (bytes : List ℕ) → said .answer ≡ answering (written blocks bytes) → bytes ≡ sheetOf (b .measures) (b .traces)
-  -- read back, it is the library that opening with these measures and adding these traces makes
+      → (blocks : ℕ) (bytes : List ℕ) → said .answer ≡ answering (written blocks bytes)
+      → bytes ≡ sheetOf (b .measures) (b .traces) (b .labels)
+  -- read back, it is the library that opening with these measures and adding these traces with these labels makes
   pub written-and-read : WrittenThenRead (ReadBack b) (b .measures) memory
   -- what an export leaves is a sound recording of the one of these traces that was asked for; to import it is to add that trace
   pub exported-sound : ExportedSound b memory
@@ -415,8 +456,8 @@ pub record OfStored (b : Book) (memory : Tables) : Type 0 where
 -- a writing that is lent so many places, and bytes enough, is not refused
 abbrev pub IsWritten : Lent → Tables → Type 0
 IsWritten lent memory = (sheet : List ℕ) (said : Reply) (memory′ : Tables) → Follows (call lent (writing sheet)) memory said memory′
-    → let blocks = blocksNeeded (length (tracesIn memory)) (measuresOf memory .n) in
-    let bytes = sheetOf (measuresOf memory) (tracesIn memory) in
+    → let blocks = blocksNeeded (length (tracesIn memory)) (measuresOf memory .n) (labelsIn memory) in
+    let bytes = sheetOf (measuresOf memory) (tracesIn memory) (labelsIn memory) in
     blockSize * blocks ≤ length sheet → said ≡ reply (answering (written blocks bytes)) (over bytes sheet ∷ [])
 
 -- ---- document 02, §6
@@ -441,7 +482,9 @@ pub record AfterCheck (b : Book) (tree : Tree) (calls : List Call) (said : List 
   pub any-batch : (count : ℕ) (run : Trace) → 0 < length (after layout b calls .traces)
       → length run ≡ after layout b calls .measures .n * count
       → OfAnyBatch (judgeIn memory) (after layout b calls .traces) (treeIn memory) (after layout b calls .measures .n) count run memory
-  -- written to a sheet and read back, such tables are the library of the book's traces
+  -- document 02, §8: the bench is answered the book's labels
+  pub label-gives : LabelGives (judgeIn memory) (after layout b calls .labels) memory
+  -- written to a sheet and read back, such tables are the library of the book's traces and labels
   pub of-stored : OfStored (after layout b calls) memory
 
 -- a check on some memory, whatever it holds
@@ -479,8 +522,14 @@ pub record Demands : Type 0 where
   pub imports-anywhere : ImportsAnywhere
   pub checks-anywhere : ChecksAnywhere
   pub batches-anywhere : BatchesAnywhere
-  -- of any memory, whatever it holds, with the measures and traces that it has. (That samples are 16-bit numbers, the type of a lent slice
-  -- says; that they make a library, a writing or an export that is not refused has tested)
+  pub labels-anywhere : LabelsAnywhere
+  -- document 02, §8: "The jog remote has one call, a match whose answer adds the fault code and nothing else"
+  pub remote-is-match : RemoteIsMatch
+  -- "Two libraries alike but for serials must give the remote equal answers and equal refusals", and there are such
+  pub sees-no-serials : RemoteSeesNoSerials
+  pub serials-may-differ : (these : Tables) → MayDifferInSerials these
+  -- of any memory, whatever it holds, with the measures, traces and labels that it has. (That samples are 16-bit numbers, the type of a
+  -- lent slice says; that they make a library, a writing or an export that is not refused has tested)
   pub stored-anywhere : (memory : Tables) → T (areSamples (memory .samples)) → OfStored (bookIn memory) memory
   -- "An opening or a sheet reading has just succeeded when it starts": the first call is one that answers `done`
   pub after-list : (first : Call) (calls : List Call) (memory₀ memory : Tables) (said₀ : Reply) (said : List Reply)

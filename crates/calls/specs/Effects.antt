@@ -2,25 +2,27 @@
 -- asked.
 use Prim.Native.Nat.{ℕ}
 use mathlib.Core.Bool.{not}
-use mathlib.Core.List.{List, [], _∷_, _++_, foldl}
-use lib.ListN.{length, getD}
+use mathlib.Core.List.{List, [], _∷_, _++_}
+use lib.ListN.{length, getD, replicate}
 use Rattle.dstree.specs.Measures.{Trace, Measures, workNeeded}
+use Rattle.dstree.specs.Labels.{Label, noLabel}
 use Rattle.dstree.specs.Matching.{leaves, Near}
 use Rattle.dstree.specs.Batch.{batchConditions}
 use Rattle.dstree.specs.Refusals.{Condition, _refuses_, looseRecord, runConditions}
 use Rattle.dstree.specs.Checking.{isExact}
 use Rattle.dstree.specs.Sheet.{blocksNeeded, sheetOf, Judged, refused, holds, judgeSheet}
 use Rattle.dstree.specs.Recording.{recordingSize, recordingOf, judgeRecording, fileTraces}
-use Rattle.dstree.specs.Book.{Ask, opening, adding, searching, writing, reading, importing, exporting, checking, besideOf}
-use Rattle.dstree.specs.Book.{done, added, written, imported, exported, accepted, over}
-use Rattle.dstree.specs.Book.{AnySearch, matchSearch, listSearch, batchSearch, searchOf}
+use Rattle.dstree.specs.Book.{Ask, opening, adding, searching, writing, reading, importing, exporting, checking, labelling, besideOf}
+use Rattle.dstree.specs.Book.{done, added, written, imported, exported, accepted, labelled, over}
+use Rattle.dstree.specs.Book.{AnySearch, matchSearch, listSearch, batchSearch, remoteSearch, searchOf}
 use Rattle.dstree.specs.Book.{addConditions, queryConditions, writeConditions, readingConditions, listConditions, importConditions}
-use Rattle.dstree.specs.Book.{exportConditions}
+use Rattle.dstree.specs.Book.{exportConditions, labelConditions}
+use Rattle.dstree.specs.Remote.{codesOf}
 use Rattle.tables.specs.Layout.{layout}
-use Rattle.tables.specs.Tables.{Tables, tables, lentOf, measuresOf, traceCount, filled}
-use Rattle.tables.specs.View.{treeIn, tracesIn}
+use Rattle.tables.specs.Tables.{Tables, labelledTables, lentOf, measuresOf, traceCount, filled}
+use Rattle.tables.specs.View.{treeIn, tracesIn, labelsIn}
 use Rattle.tables.specs.Answers.{madeConditions, openingConditions, opened}
-use Rattle.insertion_memory.specs.Memory.{addedTo}
+use Rattle.insertion_memory.specs.Memory.{addedWith}
 use Rattle.calls.specs.Outcome.{Effect, Outcome, outcomeOf}
 pub use Rattle.calls.specs.Library.{loaded}
 
@@ -31,11 +33,12 @@ opens t m = record { conditions = openingConditions t m; result = done; after = 
 
 -- ---- adding: "control record too short (2); its measures (3); other tables (2); the rest of 3; then 4", 5
 
-unfoldable pub adds : Tables → Trace → Effect
-adds t x = record {
+-- document 02, §8: the trace's label is "given when it is added, and zero from callers that give neither" code nor serial
+unfoldable pub adds : Tables → Trace → Label → Effect
+adds t x l = record {
   conditions = madeConditions t ++ addConditions (measuresOf t) (traceCount t) x;
   result = added (traceCount t);
-  after = addedTo t x;
+  after = addedWith t (x ∷ []) (l ∷ []);
   beside = [];
 }
 
@@ -43,13 +46,14 @@ adds t x = record {
 
 -- "The needed search work is left zero"
 abbrev pub cleared : Tables → Tables
-cleared t = tables (t .control) (t .samples) (t .nodes) (t .links) (filled (workNeeded (measuresOf t)) 0 (t .work))
+cleared t =
+    labelledTables (t .control) (t .samples) (t .nodes) (t .links) (filled (workNeeded (measuresOf t)) 0 (t .work)) (t .labels)
 
 -- "With well-formed tables that somebody altered, calls follow the steps above on what is recorded"; document 02, §7: "where other
--- well-formed tables break [a claim], that answer is the program's"
+-- well-formed tables break [a claim], that answer is the program's". Of labels a search is given the fault codes alone
 abbrev pub searches : Tables → AnySearch → Effect
 searches t s =
-    let found = s .steps (measuresOf t) (tracesIn t) (treeIn t) in
+    let found = s .steps (measuresOf t) (tracesIn t) (codesOf (labelsIn t)) (treeIn t) in
     record {
       conditions = madeConditions t ++ s .refuses-own (measuresOf t) (traceCount t) (treeIn t);
       result = found .result;
@@ -83,24 +87,28 @@ batchConditionsIn t count places run trail =
 abbrev pub batches : Tables → ℕ → Trace → List ℕ → List Near → Effect
 batches t count run trail list = searches t (batchSearch count run trail list)
 
+-- the remote's call (document 02, §8): "a match whose answer adds the fault code and nothing else"
+abbrev pub remotes : Tables → Trace → List ℕ → Effect
+remotes t query trail = searches t (remoteSearch query trail)
+
 -- ---- writing: the same; then 8, "below the need"
 
 unfoldable pub writes : Tables → List ℕ → Effect
 writes t sheet =
-    let bytes = sheetOf (measuresOf t) (tracesIn t) in
+    let bytes = sheetOf (measuresOf t) (tracesIn t) (labelsIn t) in
     record {
-      conditions = madeConditions t ++ writeConditions (measuresOf t) (traceCount t) sheet;
-      result = written (blocksNeeded (traceCount t) (measuresOf t .n)) bytes;
+      conditions = madeConditions t ++ writeConditions (measuresOf t) (traceCount t) (labelsIn t) sheet;
+      result = written (blocksNeeded (traceCount t) (measuresOf t .n) (labelsIn t)) bytes;
       after = t;
       beside = over bytes sheet ∷ [];
     }
 
 -- ---- reading: "8; 9 over all blocks; 10; 2"
 
--- "Reading opens the library and adds the traces in order"
+-- "Reading opens the library and adds the traces in order", each with the label that its sheet has for it
 unfoldable pub loadedBy : Tables → Judged → Tables
 loadedBy t (refused why) = t
-loadedBy t (holds m traces) = loaded t m traces
+loadedBy t (holds m traces labels) = loaded t m traces labels
 
 unfoldable pub reads : Tables → List ℕ → Effect
 reads t bytes = record {
@@ -113,14 +121,14 @@ reads t bytes = record {
 -- ---- recordings (document 02, §2): "12 bad recording .., after 3 and before 5; 5 if not all traces fit; an export buffer too short is 8"
 
 -- "The samples are cut into traces of n and added in order, all or none"; "A file imported gives the library that adding its traces one
--- after another gives"
+-- after another gives". A recording gives no labels, so that they are zero
 unfoldable pub imports : Tables → List ℕ → Effect
 imports t bytes =
     let file = judgeRecording (measuresOf t .n) bytes in
     record {
       conditions = madeConditions t ++ importConditions (measuresOf t) (traceCount t) file;
       result = imported (length (fileTraces file));
-      after = foldl addedTo t (fileTraces file);
+      after = addedWith t (fileTraces file) (replicate (length (fileTraces file)) noLabel);
       beside = [];
     }
 
@@ -146,17 +154,29 @@ checks t = record {
   beside = [];
 }
 
+-- ---- the bench's call (document 02, §8): it "answers both for a trace number; one out of range is 12, as in export". It leaves
+-- everything as it was, search work too
+
+unfoldable pub tellsLabel : Tables → ℕ → Effect
+tellsLabel t number = record {
+  conditions = madeConditions t ++ labelConditions (traceCount t) number;
+  result = labelled (getD (labelsIn t) number noLabel);
+  after = t;
+  beside = [];
+}
+
 -- ---- any call
 
 unfoldable pub effectOf : Ask → Tables → Effect
 effectOf (opening m) t = opens t m
-effectOf (adding x) t = adds t x
+effectOf (adding x l) t = adds t x l
 effectOf (searching q) t = searches t (searchOf q)
 effectOf (writing sheet) t = writes t sheet
 effectOf (reading bytes) t = reads t bytes
 effectOf (importing bytes) t = imports t bytes
 effectOf (exporting number rate buffer) t = exports t number rate buffer
 effectOf checking t = checks t
+effectOf (labelling number) t = tellsLabel t number
 
 -- what a call answers and leaves that asks this of these tables
 unfoldable pub outcomeOn : Ask → Tables → Outcome

@@ -4,25 +4,28 @@ use mathlib.Core.Path.{_≡_}
 use mathlib.Core.List.{List, [], _∷_}
 use lib.Dec.{T}
 use Rattle.dstree.specs.Measures.{areSamples}
+use Rattle.dstree.specs.Labels.{isLabel}
 use Rattle.dstree.specs.Sheet.{areBytes}
-use Rattle.dstree.specs.Book.{Ask, opening, adding, searching, writing, reading, importing, exporting, checking, Call, Reply}
+use Rattle.dstree.specs.Book.{Ask, opening, adding, searching, writing, reading, importing, exporting, checking, labelling}
+use Rattle.dstree.specs.Book.{Call, Reply}
 use Rattle.tables.specs.Tables.{Tables, lentOf}
 use Rattle.tables.specs.Beginning.{firstPlaces, left}
 use Rattle.calls.specs.Outcome.{Outcome, outcome}
 use Rattle.calls.specs.Effects.{outcomeOn}
 
--- what the types of lent slices say of what a call brings and of the tables, as far as it bears: the samples of a trace that is added are
--- 16-bit numbers, a sheet that is read is bytes, and so is a recording that is imported, into tables whose samples are 16-bit numbers, as
--- are those of tables that are checked
+-- what types say of what a call brings and of the tables, as far as it bears. The samples of a trace that is added are 16-bit numbers, its
+-- label is a code of 16 bits and a serial of 32. A sheet that is read is bytes, and so is a recording that is imported. The samples of
+-- tables are 16-bit numbers: of those that an import adds to, and of those that are checked
 unfoldable pub Typed : Ask → Tables → Type 0
 Typed (opening m) t = Unit
-Typed (adding x) t = T (areSamples x)
+Typed (adding x l) t = T (areSamples x) × T (isLabel l)
 Typed (searching q) t = Unit
 Typed (writing sheet) t = Unit
 Typed (reading bytes) t = T (areBytes bytes)
 Typed (importing bytes) t = T (areBytes bytes) × T (areSamples (t .samples))
 Typed (exporting number rate buffer) t = Unit
 Typed checking t = T (areSamples (t .samples))
+Typed (labelling number) t = Unit
 
 -- what a call answers, and what it leaves in the memory and in what it is lent beside the tables. Places behind those that it is lent stay
 abbrev pub outcomeIn : Call → Tables → Outcome

@@ -6,4 +6,5 @@ pub mod Library
 pub mod Trusted
 pub mod Effects
 pub mod Follows
+pub mod Remote
 pub mod Demands

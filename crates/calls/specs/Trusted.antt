@@ -10,18 +10,18 @@ use Rattle.dstree.specs.Checking.{isExact}
 use Rattle.dstree.specs.Refusals.{Refusal}
 use Rattle.dstree.specs.Sheet.{judgeSheet}
 use Rattle.dstree.specs.Recording.{judgeRecording, fileTraces}
-use Rattle.dstree.specs.Book.{Ask, opening, adding, searching, writing, reading, importing, exporting, checking, Call, Book, book}
-use Rattle.dstree.specs.Book.{Layout, bookTree, putRead, judge, turn}
+use Rattle.dstree.specs.Book.{Ask, opening, adding, searching, writing, reading, importing, exporting, checking, labelling}
+use Rattle.dstree.specs.Book.{Call, Book, book, Layout, bookTree, putRead, judge, turn}
 use Rattle.tables.specs.Tables.{Tables, lentOf, measuresOf}
-use Rattle.tables.specs.View.{treeIn, tracesIn, wellFormed}
+use Rattle.tables.specs.View.{treeIn, tracesIn, labelsIn, wellFormed}
 use Rattle.tables.specs.Judge.{Room}
 
--- measures and traces, as the tables have them: what a book starts with that knows of nothing earlier
+-- measures, traces and labels, as the tables have them: what a book starts with that knows of nothing earlier
 abbrev pub bookIn : Tables → Book
-bookIn memory = book (measuresOf memory) (tracesIn memory)
+bookIn memory = book (measuresOf memory) (tracesIn memory) (labelsIn memory)
 
--- a memory that the check would accept, with the measures and the traces that a book has. What is not asked is who made the tree: it may be
--- any whose figures are those of the traces below
+-- a memory that the check would accept, with the measures, the traces and the labels that a book has. What is not asked is who made the
+-- tree: it may be any whose figures are those of the traces below
 pub record Trusts (memory : Tables) (b : Book) : Type 0 where
   -- measures in range, no more traces than the capacity, each of n samples within their limits
   pub library : T (isLibrary sampleLimit (b .measures) (b .traces))
@@ -30,6 +30,7 @@ pub record Trusts (memory : Tables) (b : Book) : Type 0 where
   pub formed : T (wellFormed memory)
   pub measures-are : measuresOf memory ≡ b .measures
   pub traces-are : tracesIn memory ≡ b .traces
+  pub labels-are : labelsIn memory ≡ b .labels
   -- no "figure that isn't exactly the recomputed one"
   pub exact : T (isExact (tracesIn memory) (treeIn memory))
 
@@ -39,13 +40,14 @@ pub record Trusts (memory : Tables) (b : Book) : Type 0 where
 -- no node, a reading the tree of its sheet's traces; the others leave it
 unfoldable pub treePut : Book → Tree → Ask → Tree
 treePut b tree (opening m) = []
-treePut b tree (adding x) = grown (b .measures) (b .traces) tree (x ∷ [])
+treePut b tree (adding x l) = grown (b .measures) (b .traces) tree (x ∷ [])
 treePut b tree (searching q) = tree
 treePut b tree (writing sheet) = tree
 treePut b tree (reading bytes) = bookTree (putRead b (judgeSheet bytes))
 treePut b tree (importing bytes) = grown (b .measures) (b .traces) tree (fileTraces (judgeRecording (b .measures .n) bytes))
 treePut b tree (exporting number rate buffer) = tree
 treePut b tree checking = tree
+treePut b tree (labelling number) = tree
 
 -- "A refused call changes nothing"
 unfoldable pub treeUnless : Option Refusal → Tree → Tree → Tree

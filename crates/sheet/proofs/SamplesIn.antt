@@ -38,7 +38,7 @@ module _ {A : Type 0} where
       ∙ ap (pieces size k) (sym (drop-take size (suc k * size) xs ∙ ap (λ (i : ℕ). take i (drop size xs)) e)))
 
 module _ {A B : Type 0} (f : A → B) where
-  map-drop : (k : ℕ) (l : List A) → drop k (map f l) ≡ map f (drop k l)
+  pub map-drop : (k : ℕ) (l : List A) → drop k (map f l) ≡ map f (drop k l)
   map-drop zero l = refl
   map-drop (suc k) [] = refl
   map-drop (suc k) (x ∷ l) = map-drop k l

@@ -3,6 +3,7 @@
 use crate::check::check_of;
 use crate::fields::put_bytes;
 use crate::fields::put_two;
+use crate::labels::put_labels;
 use crate::letters::LETTERS;
 use crate::samples::put_samples;
 use segment::Sample;
@@ -13,6 +14,8 @@ ghost use lib.ListN.{length, take, replicate};
 ghost use lib.Seq.{sets};
 ghost use Rattle.dstree.specs.Measures.{measures};
 ghost use Rattle.dstree.specs.Sheet.{bytesOf, filledTo, blockSize, checkedSize, narrow, sealed, block, measureBytes, headOf, codedAll};
+ghost use Rattle.dstree.specs.Sheet.{labelCells, labelKind};
+ghost use Rattle.sheet.specs.LabelCodes.{labelCodes};
 
 // "All else is 0": before a block's fields are put, every byte is 0.
 fn zero(part: &mut [u8])
@@ -73,5 +76,15 @@ pub fn write_samples(part: &mut [u8], number: u16, samples: &[Sample])
 {
     begin(part, number, 2);
     put_samples(part, 4, samples);
+    seal(part);
+}
+
+// A block of labels: at most 84 from byte 4 on.
+pub fn write_labels(part: &mut [u8], number: u16, labels: &[u64])
+    requires { ⌜ (length (now part) ≡ blockSize) × (length (now labels) ≤ labelCells .cellsPerBlock) ⌝ }
+    ensures { λ _. ⌜ now (part .exit) ≡ block labelKind number (labelCodes (now (labels .entry))) ⌝ }
+{
+    begin(part, number, 5);
+    put_labels(part, 4, labels);
     seal(part);
 }

@@ -1,56 +1,89 @@
--- What is left behind the last sample: it lies in the last block.
+-- What is left behind the last cell: it lies in the last block.
 use Prim.Native.Nat.{ℕ, suc, _+_, _*_, _-_, _≤_, _<_}
 use mathlib.Core.Path.{_≡_, _∙_, ap}
 use mathlib.Core.Bool.{true}
-use mathlib.Core.List.{List, [], _++_, map, flatten, append-nil}
+use mathlib.Core.List.{List, _++_, flatten, append-nil}
 use native.Mathlib.Omega.{arith}
-use lib.ListN.{take, drop}
+use native.Mathlib.Decide.{decLe}
+use native.Mathlib.Nat.{suc-mul, lt-of-not-le}
+use lib.ListN.{drop}
 use lib.Seq.{drop-nil}
 use Rattle.integer.specs.Words.{every}
-use Rattle.dstree.specs.Sheet.{blockSize, carriedSize, part, narrow, sampleSize, carriedIn, areZero, sampleBytesIn}
+use Rattle.dstree.specs.Measures.{sampleLimit}
+use Rattle.dstree.specs.Sheet.{blockSize, carriedSize, part, areZero, narrow, sampleSize, labelCells, cellsSize, labelBlocksNeeded}
 use Rattle.dstree.proofs.SheetPieces.{drop-part}
-use Rattle.dstree.proofs.SheetFormat.{narrow-sound}
-use Rattle.sheet_blocks.specs.Blocks.{blockCount, InBlocks, laterBlocks}
-use Rattle.sheet_blocks.specs.Traces.{samplePlace}
+use Rattle.dstree.proofs.SheetFormat.{narrow-sound, needed-room, needed-tight, labels-sound, cells-room, cells-tight}
+use Rattle.sheet_blocks.specs.Blocks.{blockCount, InBlocks, labelStart, RightNumbers, cellsBetween, Fills}
 use Rattle.sheet_blocks.proofs.Places.{no-block}
-use Rattle.sheet_blocks.proofs.Carried.{carriedFrom, carriedAt, carried-on}
+use Rattle.sheet_blocks.proofs.Carried.{carriedFrom, carriedAt, carried-on, carried-none}
 
--- so many blocks hold so many samples, and one fewer does not
-pub record Needed (samples blocks : ℕ) : Type 0 where
-  pub above : (blocks - 1) * narrow .samplesPerBlock ≤ samples
-  pub within : samples ≤ (blocks - 1) * narrow .samplesPerBlock + narrow .samplesPerBlock
-
-module _ (bytes : List ℕ) (whole : InBlocks bytes) (samples : ℕ) where
+module _ (size : ℕ) (room : size ≤ carriedSize) (bytes : List ℕ) (whole : InBlocks bytes) (first to taken : ℕ) where
   abbrev left : List ℕ
-  left = drop (samples * narrow .sampleBytes) (sampleBytesIn narrow (laterBlocks bytes 1))
+  left = drop taken (cellsBetween size bytes first to)
 
-  pub left-none : blockCount bytes ≤ 1 → areZero left ≡ true
-  unfolding sampleBytesIn flatten areZero every
-  left-none h = rw (no-block bytes 1 h, drop-nil {A = ℕ} (samples * narrow .sampleBytes))
+  pub left-none : to ≤ first → areZero left ≡ true
+  unfolding flatten areZero every
+  left-none h = rw (no-block bytes to first h, drop-nil {A = ℕ} taken)
 
-  module _ (last : ℕ) (e : blockCount bytes ≡ suc last) (h : 0 < last) (n : Needed samples last) where
-    -- samples in the last block
-    abbrev used : ℕ
-    used = samples - (last - 1) * narrow .samplesPerBlock
+  module _ (inside : to ≤ blockCount bytes) (h : first < to) (f : Fills size (to - first) taken) where
+    -- the last block, and the bytes of cells in it
+    abbrev pub last : ℕ
+    last = to - 1
+
+    abbrev pub used : ℕ
+    used = taken - (last - first) * size
+
+    -- all blocks before the last one are full
+    pub before-full : (last - first) * size ≤ taken
+    before-full = let e : last - first ≡ to - first - 1 = omega arith in rw e (f .above)
+
+    pub last-room : used ≤ size
+    last-room =
+        let e : to - first ≡ suc (last - first) = omega arith in
+        let all : taken ≤ suc (last - first) * size = rw (← e) (f .within (λ z. omega (arith, h))) in
+        omega (arith, all, suc-mul (last - first) size)
 
     abbrev from : ℕ → List ℕ
-    from = carriedFrom (sampleSize narrow) (narrow-sound .room) bytes whole
+    from = carriedFrom size room bytes whole to inside
 
     abbrev at : ℕ → List ℕ
-    at = carriedAt (sampleSize narrow) (narrow-sound .room) bytes whole
+    at = carriedAt size room bytes whole
 
-    pub left-last : left ≡ part (samplePlace last used) (carriedSize - narrow .sampleBytes * used) bytes
-    unfolding flatten sampleBytesIn
+    pub left-last : left ≡ part (last * blockSize + 4 + used) (size - used) bytes
     left-last =
-        let whole-blocks : samples * narrow .sampleBytes ≡ (last - 1) * sampleSize narrow + narrow .sampleBytes * used = omega (arith, n .above) in
-        let number : 1 + (last - 1) ≡ last = omega arith in
-        let behind : from (suc last) ≡ [] =
-        ap (λ (l : List (List ℕ)). flatten (map (λ (b : List ℕ). take (sampleSize narrow) (carriedIn b)) l))
-        (no-block bytes (suc last) (omega (arith, e))) in
-        ap (λ (k : ℕ). drop k (from 1)) whole-blocks
-        ∙ carried-on (sampleSize narrow) (narrow-sound .room) bytes whole (last - 1) 1 (narrow .sampleBytes * used) (omega (arith, e))
-        (omega (arith, n .within))
-        ∙ ap (λ (k : ℕ). drop (narrow .sampleBytes * used) (at k) ++ from (suc k)) number
-        ∙ ap (λ (l : List ℕ). drop (narrow .sampleBytes * used) (at last) ++ l) behind
-        ∙ append-nil (drop (narrow .sampleBytes * used) (at last))
-        ∙ drop-part (narrow .sampleBytes * used) (last * blockSize + 4) (sampleSize narrow) bytes
+        let whole-blocks : taken ≡ (last - first) * size + used = omega (arith, before-full) in
+        let number : first + (last - first) ≡ last = omega arith in
+        let behind : suc last ≡ to = omega arith in
+        ap (λ (k : ℕ). drop k (from first)) whole-blocks
+        ∙ carried-on size room bytes whole to inside (last - first) first used (omega arith) last-room
+        ∙ ap (λ (k : ℕ). drop used (at k) ++ from (suc k)) number
+        ∙ ap (λ (k : ℕ). drop used (at last) ++ from k) behind
+        ∙ ap (λ (l : List ℕ). drop used (at last) ++ l) (carried-none size room bytes whole to inside)
+        ∙ append-nil (drop used (at last))
+        ∙ drop-part used (last * blockSize + 4) size bytes
+
+-- ---- as many blocks as are needed
+
+module _ (bytes : List ℕ) (count n : ℕ) (right : RightNumbers bytes count n) where
+  pub samples-fill : Fills (sampleSize narrow) (labelStart bytes - 1) (narrow .sampleBytes * (count * n))
+  samples-fill =
+      let room = needed-room narrow sampleLimit narrow-sound count n in
+      let tight = needed-tight narrow sampleLimit narrow-sound count n in
+      record { above = omega (arith, tight, right .sampled); within = λ f. omega (arith, room, right .sampled) }
+
+  -- the blocks of labels, if there are some
+  abbrev labelled : ℕ
+  labelled = blockCount bytes - labelStart bytes
+
+  all-needed : (labelled ≡ 0 → ⊥) → labelled ≡ labelBlocksNeeded count
+  all-needed f = omega (arith, right .labelled (λ e. f (omega (arith, e))))
+
+  pub labels-fill : Fills (cellsSize labelCells) labelled (labelCells .cellBytes * count)
+  labels-fill = record {
+    above = by (decLe 1 labelled);
+    within = λ f. omega (arith, cells-room labelCells labels-sound count, all-needed f);
+  }
+    where
+      by : Dec (1 ≤ labelled) → (labelled - 1) * cellsSize labelCells ≤ labelCells .cellBytes * count
+      by (yes h) = omega (arith, cells-tight labelCells labels-sound count, all-needed (λ e. omega (arith, h, e)))
+      by (no f) = let none : labelled - 1 ≡ 0 = omega (arith, lt-of-not-le f) in rw none (omega arith)

@@ -1,11 +1,13 @@
--- The traces that a sheet holds, by what its blocks say, and where a sample stands.
+-- The traces and labels that a sheet holds, by what its blocks say, and where a sample stands.
 use Prim.Native.Nat.{ℕ, _+_, _*_, _-_, _<_}
 use mathlib.Core.Path.{_≡_}
 use mathlib.Core.List.{List}
 use lib.IntN.{ℤ}
 use lib.ListN.{drop}
 use Rattle.dstree.specs.Measures.{Trace}
-use Rattle.dstree.specs.Sheet.{narrow, blockSize, measuresIn, countIn, sampleBytesIn, tracesInBlocks}
+use Rattle.dstree.specs.Labels.{Label}
+use Rattle.dstree.specs.Sheet.{narrow, blockSize, measuresIn, countIn, sampleBlocksIn, labelBlocksIn, sampleBytesIn, tracesInBlocks}
+use Rattle.dstree.specs.Sheet.{labelsInBlocks}
 use Rattle.sheet.specs.Codes.{samplesIn}
 use Rattle.sheet_blocks.specs.Blocks.{blockAt, laterBlocks}
 
@@ -18,7 +20,11 @@ countOf bytes = countIn (blockAt bytes 0)
 
 -- the traces, in order
 abbrev pub sheetTraces : List ℕ → List Trace
-sheetTraces bytes = tracesInBlocks narrow (countOf bytes) (sizeOf bytes) (laterBlocks bytes 1)
+sheetTraces bytes = tracesInBlocks narrow (countOf bytes) (sizeOf bytes) (sampleBlocksIn (laterBlocks bytes 1))
+
+-- their labels
+abbrev pub sheetLabels : List ℕ → List Label
+sheetLabels bytes = labelsInBlocks (countOf bytes) (labelBlocksIn (laterBlocks bytes 1))
 
 -- the number of a sample, by its block and how many of the block's samples lie before it. Block 0 carries none; "running on across blocks"
 abbrev pub sampleNumber : ℕ → ℕ → ℕ
@@ -36,4 +42,5 @@ samplePlace number used = number * blockSize + 4 + narrow .sampleBytes * used
 
 -- so many samples of a sheet, from a number on
 abbrev pub samplesFrom : List ℕ → ℕ → ℕ → List ℤ
-samplesFrom bytes first k = samplesIn k (drop (first * narrow .sampleBytes) (sampleBytesIn narrow (laterBlocks bytes 1)))
+samplesFrom bytes first k =
+    samplesIn k (drop (first * narrow .sampleBytes) (sampleBytesIn narrow (sampleBlocksIn (laterBlocks bytes 1))))

@@ -9,9 +9,9 @@ ghost use mathlib.Core.Path.{_≡_};
 ghost use Prim.Native.Nat.{ℕ, suc, _+_, _*_, _-_, min, _≤_, _<_};
 ghost use lib.ListN.{length};
 ghost use Rattle.dstree.specs.Refusals.{firstOf};
-ghost use Rattle.dstree.specs.Sheet.{blockSize, mostBlocks, narrow, kindOf, isTorn, blocksIn, tornConditions};
+ghost use Rattle.dstree.specs.Sheet.{blockSize, mostBlocks, narrow, isKind, isTorn, blocksIn, tornConditions};
 ghost use Rattle.tables.specs.Answers.{foundBy};
-ghost use Rattle.sheet_blocks.specs.Blocks.{InBlocks};
+ghost use Rattle.sheet_blocks.specs.Blocks.{InBlocks, blockCount, kindBefore, labelStart};
 ghost use Rattle.sheet_blocks.specs.Traces.{IsAt, samplePlace};
 
 // The number of the block that is read next, and how many of its samples are read already.
@@ -90,20 +90,37 @@ impl Cursor {
     }
 }
 
-// "kind, 1 for block 0, 2 for others"
-fn kind_of(number: u64) -> u64
-    ensures { λ r. ⌜ r ≡ kindOf narrow number ⌝ }
+// "kind, 1 for block 0, 2 for others", 5 for labels; "A sample block after a label block is a wrong kind".
+fn kind_fits(number: u64, before: u64, kind: u64) -> bool
+    ensures { λ r. ⌜ r ≡ isKind narrow number before kind ⌝ }
 {
     if number == 0 {
-        return 1;
+        return kind == 1;
     }
-    2
+    if kind == 5 {
+        return true;
+    }
+    if before == 5 {
+        return false;
+    }
+    kind == 2
+}
+
+// The kind of the block before a number, and 0 before block 0.
+fn kind_before(sheet: &[u8], number: usize) -> u64
+    requires { ⌜ InBlocks (now sheet) × (number ≤ blockCount (now sheet)) ⌝ }
+    ensures { λ r. ⌜ r ≡ kindBefore (now (sheet .entry)) number ⌝ }
+{
+    if number == 0 {
+        return 0;
+    }
+    wide(sheet[(number - 1) * 512 + 2])
 }
 
 // 9: check, block number or kind wrong.
-fn is_torn(block: &[u8], number: u64) -> bool
+fn is_torn(block: &[u8], before: u64, number: u64) -> bool
     requires { ⌜ length (now block) ≡ blockSize ⌝ }
-    ensures { λ r. ⌜ r ≡ isTorn narrow number (now (block .entry)) ⌝ }
+    ensures { λ r. ⌜ r ≡ isTorn narrow before number (now (block .entry)) ⌝ }
 {
     let check = check_of(block);
     if two_bytes(block, 510) != check {
@@ -112,13 +129,13 @@ fn is_torn(block: &[u8], number: u64) -> bool
     if two_bytes(block, 0) != number {
         return true;
     }
-    wide(block[2]) != kind_of(number)
+    !kind_fits(number, before, wide(block[2]))
 }
 
 // The first torn block, in the order of their numbers.
 pub fn first_torn(sheet: &[u8]) -> Verdict
     requires { ⌜ InBlocks (now sheet) ⌝ }
-    ensures { λ r. ⌜ foundBy r ≡ firstOf (tornConditions narrow 0 (blocksIn (now (sheet .entry)))) ⌝ }
+    ensures { λ r. ⌜ foundBy r ≡ firstOf (tornConditions narrow 0 0 (blocksIn (now (sheet .entry)))) ⌝ }
 {
     let count = sheet.len() / 512;
     let mut cursor = Cursor::first();
@@ -126,10 +143,27 @@ pub fn first_torn(sheet: &[u8]) -> Verdict
         let from = cursor.start();
         let to = from + 512;
         let number = cursor.number as u64;
-        if is_torn(&sheet[from..to], number) {
+        let before = kind_before(sheet, cursor.number);
+        if is_torn(&sheet[from..to], before, number) {
             return Verdict::Refused(Refusal::TornBlock(number));
         }
         cursor = cursor.next();
     }
     Verdict::Fine
+}
+
+// The number of the first block of labels; without labels, how many blocks there are.
+pub fn label_start(sheet: &[u8]) -> usize
+    requires { ⌜ InBlocks (now sheet) ⌝ }
+    ensures { λ r. ⌜ r ≡ labelStart (now (sheet .entry)) ⌝ }
+{
+    let count = sheet.len() / 512;
+    let mut number = 1;
+    while number < count {
+        if sheet[number * 512 + 2] == 5 {
+            return number;
+        }
+        number += 1;
+    }
+    number
 }

@@ -2,11 +2,12 @@
 
 use crate::blocks::Cursor;
 ghost use mathlib.Core.Path.{_≡_};
-ghost use Prim.Native.Nat.{suc, _-_, _*_, _≤_};
+ghost use Prim.Native.Nat.{_-_, _≤_};
 ghost use lib.ListN.{length, drop};
-ghost use Rattle.integer.specs.Words.{roundedUp};
-ghost use Rattle.dstree.specs.Sheet.{part, narrow, areZero, thirdsIn, blocksIn, sampleBytesIn, zerosIn};
-ghost use Rattle.sheet_blocks.specs.Blocks.{InBlocks, blockCount, blockAt, laterBlocks};
+ghost use Rattle.dstree.specs.Measures.{mostSamples, mostTraces};
+ghost use Rattle.dstree.specs.Sheet.{part, carriedSize, narrow, areZero, thirdsIn, blocksIn, zerosIn};
+ghost use Rattle.sheet_blocks.specs.Blocks.{InBlocks, blockCount, blockAt, laterBlocks, labelStart, RightNumbers};
+ghost use Rattle.sheet_blocks.specs.Blocks.{cellsBetween, spareBetween, zerosBetween, Fills};
 
 // The bytes from one place to another.
 fn zeros(bytes: &[u8], from: usize, to: usize) -> bool
@@ -40,24 +41,55 @@ fn thirds_zero(sheet: &[u8]) -> bool
     true
 }
 
-// What is left behind the last of so many samples, in the last block. With no sample there is no such block.
-fn left_zero(sheet: &[u8], samples: usize) -> bool
-    requires { ⌜ InBlocks (now sheet) × (blockCount (now sheet) ≡ suc (roundedUp samples (narrow .samplesPerBlock))) ⌝ }
-    ensures { λ r. ⌜ r ≡ areZero (drop (samples * narrow .sampleBytes) (sampleBytesIn narrow (laterBlocks (now (sheet .entry)) 1))) ⌝ }
+// In each of some blocks, the bytes behind those that cells can take.
+fn spare_zero(sheet: &[u8], from: usize, to: usize, size: usize) -> bool
+    requires { ⌜ InBlocks (now sheet) × (to ≤ blockCount (now sheet)) × (size ≤ carriedSize) ⌝ }
+    ensures { λ r. ⌜ r ≡ areZero (spareBetween size (now (sheet .entry)) from to) ⌝ }
 {
-    let last = sheet.len() / 512 - 1;
-    if last == 0 {
-        return true;
+    let mut number = from;
+    while number < to {
+        let start = number * 512 + 4;
+        if !zeros(sheet, start + size, start + 506) {
+            return false;
+        }
+        number += 1;
     }
-    let used = samples - (last - 1) * 253;
-    let from = last * 512 + 4 + 2 * used;
-    zeros(sheet, from, last * 512 + 510)
+    true
 }
 
-// Every byte that must be 0, of a sheet with as many blocks as so many samples need.
-pub fn all_zero(sheet: &[u8], samples: usize) -> bool
-    requires { ⌜ InBlocks (now sheet) × (blockCount (now sheet) ≡ suc (roundedUp samples (narrow .samplesPerBlock))) ⌝ }
-    ensures { λ r. ⌜ r ≡ areZero (zerosIn narrow samples (blockAt (now (sheet .entry)) 0) (laterBlocks (now (sheet .entry)) 1)) ⌝ }
+// What is left behind the last of the cells, in the last of some blocks. With no cell there is no such block.
+fn left_zero(sheet: &[u8], from: usize, to: usize, size: usize, taken: usize) -> bool
+    requires { ⌜ InBlocks (now sheet) × (from ≤ to) × (to ≤ blockCount (now sheet)) × (size ≤ carriedSize)
+        × Fills size (to - from) taken ⌝ }
+    ensures { λ r. ⌜ r ≡ areZero (drop taken (cellsBetween size (now (sheet .entry)) from to)) ⌝ }
+{
+    if from == to {
+        return true;
+    }
+    let last = to - 1;
+    let used = taken - (last - from) * size;
+    let start = last * 512 + 4;
+    zeros(sheet, start + used, start + size)
+}
+
+// What no cell takes, in some blocks whose cells take so many bytes in all.
+fn behind_zero(sheet: &[u8], from: usize, to: usize, size: usize, taken: usize) -> bool
+    requires { ⌜ InBlocks (now sheet) × (from ≤ to) × (to ≤ blockCount (now sheet)) × (size ≤ carriedSize)
+        × Fills size (to - from) taken ⌝ }
+    ensures { λ r. ⌜ r ≡ areZero (zerosBetween size taken (now (sheet .entry)) from to) ⌝ }
+{
+    if !spare_zero(sheet, from, to, size) {
+        return false;
+    }
+    left_zero(sheet, from, to, size, taken)
+}
+
+// Every byte that must be 0, of a sheet with as many blocks of each kind as so many traces need. 253 samples take 506 bytes of a block,
+// 84 labels take 504.
+pub fn all_zero(sheet: &[u8], start: usize, count: usize, n: usize) -> bool
+    requires { ⌜ InBlocks (now sheet) × (start ≡ labelStart (now sheet)) × (count ≤ mostTraces) × (n ≤ mostSamples)
+        × RightNumbers (now sheet) count n ⌝ }
+    ensures { λ r. ⌜ r ≡ areZero (zerosIn narrow count n (blockAt (now (sheet .entry)) 0) (laterBlocks (now (sheet .entry)) 1)) ⌝ }
 {
     if !thirds_zero(sheet) {
         return false;
@@ -65,5 +97,8 @@ pub fn all_zero(sheet: &[u8], samples: usize) -> bool
     if !zeros(sheet, 16, 510) {
         return false;
     }
-    left_zero(sheet, samples)
+    if !behind_zero(sheet, 1, start, 506, 2 * (count * n)) {
+        return false;
+    }
+    behind_zero(sheet, start, sheet.len() / 512, 504, 6 * count)
 }

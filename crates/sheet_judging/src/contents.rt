@@ -1,7 +1,9 @@
 // What a sheet of whole blocks says, and what of it is refused.
 
+use crate::labels::labels_bad;
 use sheet::fields::two_bytes;
 use sheet::letters::LETTERS;
+use sheet_blocks::blocks::label_start;
 use sheet_blocks::zeros::all_zero;
 use tables::Refusal;
 use tables::Verdict;
@@ -51,7 +53,7 @@ pub fn head_of(sheet: &[u8]) -> Head
     }
 }
 
-// 10: letters, measures, count above capacity, number of blocks, or a nonzero byte that must be 0.
+// 10: letters, measures, count above capacity, number of blocks of each kind, only zero labels, or a nonzero byte that must be 0.
 pub fn judge_contents(sheet: &[u8]) -> Verdict
     requires { ⌜ InBlocks (now sheet) ⌝ }
     ensures { λ r. ⌜ foundBy r ≡ firstOf (badConditions narrow (blocksIn (now (sheet .entry)))) ⌝ }
@@ -69,11 +71,15 @@ pub fn judge_contents(sheet: &[u8]) -> Verdict
     if capacity < count {
         return Verdict::Refused(Refusal::BadSheet);
     }
+    let start = label_start(sheet);
     let samples = (count as usize) * (n as usize);
-    if sheet.len() / 512 - 1 != (samples + 252) / 253 {
+    if start - 1 != (samples + 252) / 253 {
         return Verdict::Refused(Refusal::BadSheet);
     }
-    if !all_zero(sheet, samples) {
+    if labels_bad(sheet, start, count as usize) {
+        return Verdict::Refused(Refusal::BadSheet);
+    }
+    if !all_zero(sheet, start, count as usize, n as usize) {
         return Verdict::Refused(Refusal::BadSheet);
     }
     Verdict::Fine

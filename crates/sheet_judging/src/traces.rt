@@ -10,13 +10,13 @@ ghost use Prim.Native.Nat.{_+_, _*_, _-_, _≤_, _<_};
 ghost use lib.ListN.{length, getD};
 ghost use Rattle.dstree.specs.Refusals.{firstOf};
 ghost use Rattle.dstree.specs.Sheet.{narrow, sheetConditions};
-ghost use Rattle.sheet_blocks.specs.Blocks.{InBlocks, blockCount};
+ghost use Rattle.sheet_blocks.specs.Blocks.{InBlocks, labelStart};
 ghost use Rattle.sheet_blocks.specs.Traces.{sizeOf, countOf, sheetTraces, sampleNumber, IsAt, samplesFrom};
 
 // As many samples as there are places, from the cursor on; and the cursor behind them. They are read by stretches, each in one block.
 pub fn read_samples(sheet: &[u8], from: Cursor, places: &mut [Sample]) -> Cursor
     requires { ⌜ InBlocks (now sheet) × IsAt (from .number) (from .used) (sampleNumber (from .number) (from .used))
-        × (sampleNumber (from .number) (from .used) + length (now places) ≤ (blockCount (now sheet) - 1) * narrow .samplesPerBlock) ⌝ }
+        × (sampleNumber (from .number) (from .used) + length (now places) ≤ (labelStart (now sheet) - 1) * narrow .samplesPerBlock) ⌝ }
     ensures { λ r. ⌜ (now (places .exit)
         ≡ samplesFrom (now (sheet .entry)) (sampleNumber (from .number) (from .used)) (length (now (places .entry))))
         × IsAt (r .number) (r .used) (sampleNumber (from .number) (from .used) + length (now (places .entry))) ⌝ }

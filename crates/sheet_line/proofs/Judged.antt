@@ -11,7 +11,8 @@ use lib.Dec.{ltb, leb}
 use borrow.Author.Tests.{ltb-false, leb-false}
 use Rattle.integer.specs.Words.{if_then_else_}
 use Rattle.integer.proofs.Tests.{neither}
-use Rattle.dstree.specs.Measures.{Trace, Measures, samplesNeeded, recordsNeeded, linksNeeded, workNeeded}
+use Rattle.dstree.specs.Measures.{Trace, Measures, samplesNeeded, recordsNeeded, linksNeeded, workNeeded, labelsNeeded}
+use Rattle.dstree.specs.Labels.{Label}
 use Rattle.dstree.specs.Refusals.{Refusal, Condition, firstOf, shortTable, empty, sheetLength}
 use Rattle.dstree.specs.Sheet.{holds, judgedBy, judgeAs, judgeSheet, sheetConditions}
 use Rattle.dstree.specs.Program.{Line, refusalLine, lineOf, programMost, mostBytes, judgedLine, programLine}
@@ -22,7 +23,7 @@ use Rattle.tables.specs.declared.Verdict.the-variants as v
 use Rattle.tables.specs.Judge.{LongEnough}
 use Rattle.dstree.proofs.Conditions.{none-first, first-some, first-none, none-both}
 use Rattle.matching.specs.declared.Found.the-variants as f
-use Rattle.sheet_blocks.specs.Traces.{countOf, sheetTraces}
+use Rattle.sheet_blocks.specs.Traces.{countOf, sheetTraces, sheetLabels}
 use Rattle.sheet_judging.proofs.Samples.{range, fine as good}
 use Rattle.sheet_reading.proofs.Ends.{said, judged-holds}
 use Rattle.sheet_reading.proofs.Library.{traces-count}
@@ -35,10 +36,10 @@ unfoldable lineUnless : Option Refusal → Line → Line
 lineUnless (some why) line = refusalLine why
 lineUnless none line = line
 
-small-line : (m : Measures) (traces : List Trace) (count : ℕ) → length traces ≡ count
-    → judgedLine (holds m traces) ≡ lineUnless (firstOf (smallConditions m count)) (lineOf m (take (count - 1) traces) (getD traces (count - 1) []))
+small-line : (m : Measures) (traces : List Trace) (labels : List Label) (count : ℕ) → length traces ≡ count
+    → judgedLine (holds m traces labels) ≡ lineUnless (firstOf (smallConditions m count)) (lineOf m (take (count - 1) traces) (getD traces (count - 1) []))
 unfolding judgedLine smallConditions firstOf lineUnless
-small-line m traces count e =
+small-line m traces labels count e =
     rw e (by (ltb programMost (m .n) || ltb programMost (m .capacity)) (leb count 1) (lineOf m (take (count - 1) traces) (getD traces (count - 1) [])))
   where
     by : (large few : Bool) (line : Line)
@@ -71,7 +72,7 @@ module _ (bytes : List ℕ) where
       by (some why) e = at-some why e
       by none e =
           ap judgedLine (judged-holds bytes e)
-          ∙ (small-line (said bytes) (sheetTraces bytes) (countOf bytes) (traces-count bytes)
+          ∙ (small-line (said bytes) (sheetTraces bytes) (sheetLabels bytes) (countOf bytes) (traces-count bytes)
           ∙ ap unless (sym (first-none (sheetConditions bytes) small e)))
 
   program-line : programLine bytes ≡ unless (firstOf (programConditions bytes))
@@ -123,7 +124,7 @@ module _ (bytes : List ℕ) where
 
 -- tables with room for the most that the program takes have room for what the sheet says
 pub roomy : (lengths : Lent) (bytes : List ℕ) → Roomy lengths bytes → LongEnough lengths (said bytes)
-unfolding samplesNeeded recordsNeeded linksNeeded workNeeded
+unfolding samplesNeeded recordsNeeded linksNeeded workNeeded labelsNeeded
 roomy lengths bytes r =
     let n = n-small bytes (r .fine) in
     let c = capacity-small bytes (r .fine) in
@@ -138,5 +139,6 @@ roomy lengths bytes r =
           links-long = omega (arith, c, r .room .long .links-long);
         };
         work-room = omega (arith, c, r .room .work-room);
+        labels-room = omega (arith, c, r .room .labels-room);
       };
     }

@@ -16,7 +16,7 @@ ghost use Rattle.dstree.specs.Measures.{recordsNeeded};
 ghost use Rattle.dstree.specs.Refusals.{firstOf};
 ghost use Rattle.dstree.specs.Program.{lineOf, programLine};
 ghost use Rattle.dstree.specs.Sheet.{measuresIn};
-ghost use Rattle.tables.specs.Tables.{tables, lentOf};
+ghost use Rattle.tables.specs.Tables.{labelledTables, lentOf};
 ghost use Rattle.sheet_blocks.specs.Blocks.{blockAt};
 ghost use Rattle.sheet_blocks.specs.Traces.{sheetTraces};
 ghost use Rattle.sheet_line.specs.Conditions.{programConditions};
@@ -89,9 +89,11 @@ fn match_in(
     nodes: &mut [i64],
     links: &mut [u16],
     work: &mut [u64],
+    labels: &mut [u64],
     sheet: &[u8],
 ) -> Found
-    requires { ⌜ Roomy (lentOf (tables (now control) (now samples) (now nodes) (now links) (now work))) (now sheet) ⌝ }
+    requires { ⌜ Roomy (lentOf (labelledTables (now control) (now samples) (now nodes) (now links) (now work) (now labels)))
+        (now sheet) ⌝ }
     ensures { λ r. ⌜ lineBy r ≡ programLine (now (sheet .entry)) ⌝ }
 {
     let head = head_of(sheet);
@@ -104,6 +106,7 @@ fn match_in(
         nodes,
         links,
         work,
+        labels,
         n,
         head.capacity,
         head.leaf,
@@ -130,7 +133,7 @@ fn match_in(
     )
 }
 
-// The tables: 64 traces of 64 samples, 127 records of 87 places, 64 links, 127 places of search work.
+// The tables: 64 traces of 64 samples, 127 records of 87 places, 64 links, 127 places of search work, 64 labels.
 pub fn match_sound(sheet: &[u8]) -> Found
     requires { ⌜ firstOf (programConditions (now sheet)) ≡ none ⌝ }
     ensures { λ r. ⌜ lineBy r ≡ programLine (now (sheet .entry)) ⌝ }
@@ -140,12 +143,14 @@ pub fn match_sound(sheet: &[u8]) -> Found
     let mut nodes = [0i64; 11049];
     let mut links = [0u16; 64];
     let mut work = [0u64; 127];
+    let mut labels = [0u64; 64];
     match_in(
         &mut control,
         &mut samples,
         &mut nodes,
         &mut links,
         &mut work,
+        &mut labels,
         sheet,
     )
 }

@@ -18,7 +18,7 @@ use Rattle.dstree.proofs.Conditions.{none-first}
 use Rattle.tables.specs.Judge.{LongEnough}
 use Rattle.tables.proofs.Judged.{room-of}
 use Rattle.sheet_blocks.specs.Blocks.{blockAt}
-use Rattle.sheet_blocks.specs.Traces.{sheetTraces}
+use Rattle.sheet_blocks.specs.Traces.{sheetTraces, sheetLabels}
 use Rattle.sheet_blocks.proofs.Places.{blocks-are}
 use Rattle.sheet_judging.proofs.Samples.{fine, range}
 use Rattle.calls.specs.Outcome.{outcome}
@@ -36,7 +36,7 @@ module _ (bytes : List ℕ) where
   unfolding judgeAs judgedBy
   judged-refused why e = rw e
 
-  pub judged-holds : firstOf (sheetConditions bytes) ≡ none → judgeSheet bytes ≡ holds said (sheetTraces bytes)
+  pub judged-holds : firstOf (sheetConditions bytes) ≡ none → judgeSheet bytes ≡ holds said (sheetTraces bytes) (sheetLabels bytes)
   unfolding judgeAs judgedBy libraryIn
   judged-holds e = rw (e, blocks-are bytes (fine bytes e .whole))
 
@@ -81,11 +81,11 @@ module _ (t : Tables) (bytes : List ℕ) where
   unfolding answerBy outcomeOn effectOf besideOf reads
   refused-answer why e = ends-refused t [] (reads t bytes) why e
 
-  loaded-is : firstOf (sheetConditions bytes) ≡ none → loaded t (said bytes) (sheetTraces bytes) ≡ loadedBy t (judgeSheet bytes)
+  loaded-is : firstOf (sheetConditions bytes) ≡ none → loaded t (said bytes) (sheetTraces bytes) (sheetLabels bytes) ≡ loadedBy t (judgeSheet bytes)
   unfolding loadedBy
   loaded-is sound = rw (judged-holds bytes sound) refl
 
-  pub done-answer : (after : Tables) → firstOf refusals ≡ none → after ≡ loaded t (said bytes) (sheetTraces bytes)
+  pub done-answer : (after : Tables) → firstOf refusals ≡ none → after ≡ loaded t (said bytes) (sheetTraces bytes) (sheetLabels bytes)
       → outcome (answerBy r.Done) after [] ≡ outcomeOn (reading bytes) t
   unfolding answerBy outcomeOn effectOf besideOf reads
   done-answer after e p = ends-done t [] (reads t bytes) done after [] e refl (p ∙ loaded-is (sheet-fine bytes (lentOf t) e)) refl

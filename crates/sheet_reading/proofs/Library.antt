@@ -19,7 +19,7 @@ use Rattle.tables.specs.Tables.{Tables, tables, measuresOf}
 use Rattle.insertion_memory.specs.Memory.{addedTo}
 use Rattle.insertion_memory.proofs.Made.{Holds, count-is, room, is-trace, shorter, holds-all}
 use Rattle.insertion_memory.specs.Takes.{TakesAll}
-use Rattle.sheet_blocks.specs.Traces.{sizeOf, countOf, sheetTraces}
+use Rattle.sheet_blocks.specs.Traces.{sizeOf, countOf, sheetTraces, sheetLabels}
 use Rattle.sheet_judging.proofs.Samples.{fine, range}
 use Rattle.loading.specs.Loads.{Loads}
 use Rattle.loading.specs.declared.Source.the-variants as s
@@ -34,7 +34,7 @@ module _ (bytes : List ℕ) (sound : firstOf (sheetConditions bytes) ≡ none) (
   traces = sheetTraces bytes
 
   whole : T (isLibrary sampleLimit (said bytes) traces)
-  whole = is-library bytes (said bytes) traces known (judged-holds bytes sound)
+  whole = is-library bytes (said bytes) traces (sheetLabels bytes) known (judged-holds bytes sound)
 
   two-parts : (i : ℕ) → T (isLibrary sampleLimit (said bytes) (take i traces ++ drop i traces))
   two-parts i = subst (λ (l : List Trace). T (isLibrary sampleLimit (said bytes) l)) (sym (take-append-drop i traces)) whole

@@ -5,16 +5,16 @@ use Prim.Native.Nat.{ℕ}
 use lib.IntN.{ℤ}
 use lib.Dec.{T}
 use Rattle.dstree.specs.Measures.{Measures, inRange}
-use Rattle.tables.specs.Tables.{Tables, tables, lentOf}
+use Rattle.tables.specs.Tables.{Tables, tables, labelledTables, lentOf}
 use Rattle.tables.specs.View.{treeIn, tracesIn, kindsNamed, wellFormed}
 use Rattle.tables.specs.Answers.{opened}
 use Rattle.tables.specs.Judge.{Room}
 use Rattle.insertion_memory.proofs.Made.{Holds, holds-none}
 
-without-work : (control : List ℕ) (samples nodes : List ℤ) (links work : List ℕ) (m : Measures)
-    → Holds (tables control samples nodes links work) m [] → Holds (tables control samples nodes links []) m []
+without-work : (control : List ℕ) (samples nodes : List ℤ) (links work labels : List ℕ) (m : Measures)
+    → Holds (labelledTables control samples nodes links work labels) m [] → Holds (tables control samples nodes links []) m []
 unfolding wellFormed kindsNamed treeIn tracesIn
-without-work control samples nodes links work m h = record {
+without-work control samples nodes links work labels m h = record {
   formed = h .formed;
   long = h .long;
   measures-are = h .measures-are;
@@ -23,7 +23,8 @@ without-work control samples nodes links work m h = record {
 }
 
 pub opened-empty : (t : Tables) (m : Measures) → T (inRange m) → Room (lentOf t) m
-    → (control : List ℕ) (samples nodes : List ℤ) (links work : List ℕ) → tables control samples nodes links work ≡ opened t m
+    → (control : List ℕ) (samples nodes : List ℤ) (links work labels : List ℕ)
+    → labelledTables control samples nodes links work labels ≡ opened t m
     → Holds (tables control samples nodes links []) m []
-opened-empty t m range room control samples nodes links work e =
-    without-work control samples nodes links work m (subst (λ (u : Tables). Holds u m []) (sym e) (holds-none t m range room))
+opened-empty t m range room control samples nodes links work labels e =
+    without-work control samples nodes links work labels m (subst (λ (u : Tables). Holds u m []) (sym e) (holds-none t m range room))

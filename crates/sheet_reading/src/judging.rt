@@ -23,17 +23,18 @@ fn judge_short(
     nodes: usize,
     links: usize,
     work: usize,
+    labels: usize,
     n: u64,
     capacity: u64,
 ) -> Verdict
     requires { ⌜ (n ≤ mostSamples) × (capacity ≤ mostTraces) ⌝ }
     ensures { λ r. ⌜ ((leafSize : ℕ) → foundBy r
-        ≡ firstOf (shortConditions layout (lent control samples nodes links work) (measures n capacity leafSize))) ⌝ }
+        ≡ firstOf (shortConditions layout (lent control samples nodes links work labels) (measures n capacity leafSize))) ⌝ }
 {
     if control_short(control) {
         return Verdict::Refused(Refusal::ShortTable);
     }
-    if tables_short(samples, nodes, links, work, n, capacity) {
+    if tables_short(samples, nodes, links, work, labels, n, capacity) {
         return Verdict::Refused(Refusal::ShortTable);
     }
     Verdict::Fine
@@ -45,17 +46,27 @@ pub fn judge_reading(
     nodes: usize,
     links: usize,
     work: usize,
+    labels: usize,
     sheet: &[u8],
 ) -> Verdict
     ensures { λ r. ⌜ foundBy r
-        ≡ firstOf (readingConditions layout (lent control samples nodes links work) (judgeSheet (now (sheet .entry)))) ⌝ }
+        ≡ firstOf (readingConditions layout (lent control samples nodes links work labels) (judgeSheet (now (sheet .entry)))) ⌝ }
 {
     let judged = judge_sheet(sheet);
     match judged {
         Verdict::Refused(why) => Verdict::Refused(why),
         Verdict::Fine => {
             let head = head_of(sheet);
-            judge_short(control, samples, nodes, links, work, head.n, head.capacity)
+            judge_short(
+                control,
+                samples,
+                nodes,
+                links,
+                work,
+                labels,
+                head.n,
+                head.capacity,
+            )
         }
     }
 }

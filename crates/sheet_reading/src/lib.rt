@@ -1,6 +1,7 @@
 // Reading a sheet into lent tables.
 
 pub mod judging; // what reading refuses
+pub mod labels; // the labels of its traces
 
 use loading::Source;
 use loading::load;
@@ -12,7 +13,7 @@ use tables::Verdict;
 ghost use mathlib.Core.Path.{_≡_};
 ghost use mathlib.Core.List.{[]};
 ghost use Rattle.dstree.specs.Book.{reading};
-ghost use Rattle.tables.specs.Tables.{tables};
+ghost use Rattle.tables.specs.Lent.{tablesAfter, tablesBefore};
 ghost use Rattle.calls.specs.Outcome.{outcome};
 ghost use Rattle.calls.specs.Effects.{outcomeOn};
 ghost use Rattle.sheet_reading.specs.Answered.{answerBy};
@@ -23,24 +24,25 @@ pub enum Read {
     Refused(Refusal),
 }
 
-// Reads a sheet of any bytes: opens a library with its measures and adds its traces in order. Every refusal is decided before anything is
-// written, and what was judged is not tested again: each trace goes into tables that are known to be well formed.
+// Reads a sheet of any bytes: opens a library with its measures and adds its traces in order, each with its label. Every refusal is decided
+// before anything is written, and what was judged is not tested again: each trace goes into tables that are known to be well formed.
 //
 // Two wrong programs that the contract rules out: one that opens the library before the last block was judged (a torn block then leaves the
-// tables changed), and one that copies the samples without adding the traces (the tables then hold no tree).
+// tables changed), and one that leaves the labels of the library before where the sheet has none.
 pub fn read_sheet(
     control: &mut [u16],
     samples: &mut [Sample],
     nodes: &mut [i64],
     links: &mut [u16],
     work: &mut [u64],
+    labels: &mut [u64],
     sheet: &[u8],
 ) -> Read
     ensures { λ r. ⌜ outcome (answerBy r)
-        (tables (now (control .exit)) (now (samples .exit)) (now (nodes .exit)) (now (links .exit)) (now (work .exit)))
+        (tablesAfter control samples nodes links work labels)
         []
         ≡ outcomeOn (reading (now (sheet .entry)))
-        (tables (now (control .entry)) (now (samples .entry)) (now (nodes .entry)) (now (links .entry)) (now (work .entry))) ⌝ }
+        (tablesBefore control samples nodes links work labels) ⌝ }
 {
     let verdict = judging::judge_reading(
         control.len(),
@@ -48,6 +50,7 @@ pub fn read_sheet(
         nodes.len(),
         links.len(),
         work.len(),
+        labels.len(),
         sheet,
     );
     match verdict {
@@ -62,10 +65,12 @@ pub fn read_sheet(
                 nodes,
                 links,
                 work,
+                labels,
                 n,
                 head.capacity,
                 head.leaf,
             );
+            labels::put_labels(labels, sheet, count as usize);
             load(
                 control,
                 samples,

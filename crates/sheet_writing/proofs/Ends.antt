@@ -9,14 +9,15 @@ use lib.Seq.{take-at}
 use Rattle.dstree.specs.Refusals.{firstOf}
 use Rattle.dstree.specs.Sheet.{blockSize, blocksNeeded, sheetOf}
 use Rattle.dstree.specs.Book.{writing, besideOf, written, answering, over}
-use Rattle.tables.specs.Tables.{Tables, tables, measuresOf, traceCount}
-use Rattle.tables.specs.View.{tracesIn}
+use Rattle.tables.specs.Tables.{Tables, measuresOf, traceCount, labelledTables}
+use Rattle.tables.specs.View.{tracesIn, labelsIn}
 use Rattle.tables.specs.Answers.{foundBy}
 use Rattle.tables.specs.declared.Refusal.{Refusal}
 use Rattle.tables.specs.declared.Verdict.the-variants as v
 use Rattle.calls.specs.Outcome.{outcome, unlessRefused}
 use Rattle.calls.specs.Effects.{writes, effectOf, outcomeOn}
 use Rattle.sheet_writing.specs.Answered.{answerBy}
+use Rattle.sheet_writing.specs.Filled.{sheetTables}
 use Rattle.sheet_writing.specs.declared.Written.the-variants as w
 use Rattle.sheet_writing.proofs.Stored.{stored-length}
 
@@ -25,15 +26,18 @@ pub refused-answer : (t : Tables) (sheet : List ℕ) (why : Refusal) → firstOf
 unfolding foundBy answerBy outcomeOn effectOf besideOf unlessRefused
 refused-answer t sheet why e = rw e
 
-module _ (control : List ℕ) (samples nodes : List ℤ) (links work sheet : List ℕ) where
+module _ (control : List ℕ) (samples nodes : List ℤ) (links work labels sheet : List ℕ) where
   abbrev lent : Tables
-  lent = tables control samples nodes links work
+  lent = labelledTables control samples nodes links work labels
 
   abbrev blocks : ℕ
-  blocks = blocksNeeded (traceCount lent) (measuresOf lent .n)
+  blocks = blocksNeeded (traceCount lent) (measuresOf lent .n) (labelsIn lent)
 
   abbrev whole : List ℕ
-  whole = sheetOf (measuresOf lent) (tracesIn lent)
+  whole = sheetOf (measuresOf lent) (tracesIn lent) (labelsIn lent)
+
+  abbrev taken : Tables
+  taken = sheetTables control samples labels
 
   -- what the definition then has
   written-is : outcome (answering (written blocks whole)) lent (over whole sheet ∷ [])
@@ -47,17 +51,22 @@ module _ (control : List ℕ) (samples nodes : List ℤ) (links work sheet : Lis
   accepted e = rw e written-is
 
   -- nodes, links and search work do not bear on the sheet
-  same : sheetOf (measuresOf lent) (tracesIn (tables control samples [] [] [])) ≡ whole
-  unfolding tracesIn
+  same : sheetOf (measuresOf taken) (tracesIn taken) (labelsIn taken) ≡ whole
+  unfolding tracesIn labelsIn
   same = refl
 
-  pub written-answer : (sheet′ : List ℕ) (count : ℕ) → firstOf (writes lent sheet .conditions) ≡ none → count ≡ blocks
-      → sheet′ ≡ over (sheetOf (measuresOf lent) (tracesIn (tables control samples [] [] []))) sheet
+  same-blocks : blocksNeeded (traceCount taken) (measuresOf taken .n) (labelsIn taken) ≡ blocks
+  unfolding labelsIn
+  same-blocks = refl
+
+  pub written-answer : (sheet′ : List ℕ) (count : ℕ) → firstOf (writes lent sheet .conditions) ≡ none
+      → count ≡ blocksNeeded (traceCount taken) (measuresOf taken .n) (labelsIn taken)
+      → sheet′ ≡ over (sheetOf (measuresOf taken) (tracesIn taken) (labelsIn taken)) sheet
       → outcome (answerBy (w.Blocks count) sheet′) lent (sheet′ ∷ []) ≡ outcomeOn (writing sheet) lent
   unfolding answerBy
   written-answer sheet′ count e counted filled =
       let full : take (blockSize * blocks) (over whole sheet) ≡ whole = take-at whole (drop (length whole) sheet) (blockSize * blocks) (stored-length lent) in
-      ap₂ (λ (c : ℕ) (s : List ℕ). outcome (answering (written c (take (blockSize * c) s))) lent (s ∷ [])) counted
+      ap₂ (λ (c : ℕ) (s : List ℕ). outcome (answering (written c (take (blockSize * c) s))) lent (s ∷ [])) (counted ∙ same-blocks)
       (filled ∙ ap (λ (s : List ℕ). over s sheet) same)
       ∙ ap (λ (s : List ℕ). outcome (answering (written blocks s)) lent (over whole sheet ∷ [])) full
       ∙ accepted e

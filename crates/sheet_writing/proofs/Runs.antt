@@ -1,20 +1,19 @@
--- The samples that code lends for a block: from p to the end `to` of the run, which is a block's samples further on, or where all samples
--- end.
+-- The samples or labels that code lends for a block: from p to the end `to` of the run, which is as many further on as a block carries, or
+-- where all end.
 use mathlib.Core.Path.{_≡_, sym, ap, _∙_}
 use mathlib.Core.List.{List, _++_}
 use Prim.Native.Nat.{ℕ, _+_, _-_, _≤_, _<_}
 use native.Mathlib.Decide.{decLe}
 use native.Mathlib.Nat.{lt-of-not-le}
 use native.Mathlib.Omega.{arith}
-use lib.IntN.{ℤ}
 use lib.ListN.{length, take, drop, take-append-drop, length-drop}
 use lib.Seq.{take-all, take-append-le, drop-append-le, length-take-le}
 use Rattle.dstree.specs.Sheet.{part}
 
-module _ (per : ℕ) (s : List ℤ) (p to total : ℕ) (start : p ≤ to) (inside : to ≤ total) (most : to ≤ p + per)
+module _ {A : Type 0} (per : ℕ) (s : List A) (p to total : ℕ) (start : p ≤ to) (inside : to ≤ total) (most : to ≤ p + per)
     (all : to < total → p + per ≤ to)
     (room : total ≤ length s) where
-  abbrev run : List ℤ
+  abbrev run : List A
   run = drop p (take total s)
 
   run-length : length run ≡ total - p

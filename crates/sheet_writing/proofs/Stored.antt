@@ -1,26 +1,29 @@
--- Stored traces stand one behind another, so that a sheet takes the samples as they stand; and the sheet of the tables' library.
-use mathlib.Core.Path.{_≡_, sym, ap, ap₂, _∙_}
-use mathlib.Core.List.{List, _++_, map, flatten}
+-- Stored traces stand one behind another, so that a sheet takes samples and labels as they stand; and the sheet of the tables' library.
+use mathlib.Core.Path.{_≡_, refl, sym, ap, ap₂, _∙_}
+use mathlib.Core.List.{List, _++_, map, flatten, append-assoc}
+use mathlib.Core.Bool.{Bool, true, false}
 use Prim.Native.Nat.{ℕ, zero, suc, _+_, _*_}
 use native.Mathlib.Nat.{zero-mul, suc-mul}
 use native.Mathlib.Omega.{arith}
 use lib.IntN.{ℤ}
-use lib.ListN.{length, take, drop}
+use lib.ListN.{length, take, drop, length-append}
 use lib.Seq.{take-add, drop-drop}
 use Rattle.integer.specs.Words.{counting}
 use Rattle.dstree.specs.Measures.{Measures, sampleLimit}
-use Rattle.dstree.specs.Sheet.{blockSize, narrow, kindOf, block, blocksFrom, headOf, blocksOf, sheetAs, sheetOf, sampleBlocksNeeded}
-use Rattle.dstree.specs.Sheet.{blocksNeeded}
+use Rattle.dstree.specs.Labels.{Label, areZeroLabels}
+use Rattle.dstree.specs.Sheet.{pieces, blockSize, narrow, sampleCells, labelCells, labelKind, cellsSize, block, blocksFrom, headOf, codedAll}
+use Rattle.dstree.specs.Sheet.{sampleParts, labelParts, blocksOf, sheetAs, sheetOf, sampleBlocksNeeded, labelBlocksNeeded, blocksNeeded}
 use Rattle.dstree.specs.Book.{over}
+use Rattle.dstree.proofs.SheetPieces.{pieces-length, flatten-append}
 use Rattle.dstree.proofs.SheetBlocks.{block-length}
-use Rattle.dstree.proofs.SheetFormat.{narrow-sound}
-use Rattle.dstree.proofs.SheetWritten.{carried-is, head-length}
-use Rattle.dstree.proofs.RoundTrips.{sheet-length}
+use Rattle.dstree.proofs.SheetFormat.{narrow-sound, samples-sound, labels-sound}
+use Rattle.dstree.proofs.SheetWritten.{head-length, none-written, all-written, written-length}
+use Rattle.sheet.specs.LabelCodes.{labelCodes}
 use Rattle.tables.specs.Tables.{Tables, measuresOf, traceCount}
-use Rattle.tables.specs.View.{traceIn, tracesIn}
+use Rattle.tables.specs.View.{traceIn, tracesIn, labelsIn}
 use Rattle.tables.proofs.Views.{traces-size}
-use Rattle.sheet_writing.specs.Filled.{withBlock, sampleBlocks, withSamples}
-use Rattle.sheet_writing.proofs.BlockByBlock.{whole}
+use Rattle.sheet_writing.specs.Filled.{withBlock, cellBlocks, withSamples, withLabelBlocks}
+use Rattle.sheet_writing.proofs.BlockByBlock.{blocks-length, head-over, more-over}
 
 flat-from : (samples : List ℤ) (n k a : ℕ) → flatten (map (traceIn samples n) (counting k a)) ≡ take (k * n) (drop (a * n) samples)
 unfolding flatten counting traceIn
@@ -51,26 +54,76 @@ module _ (t : Tables) where
   abbrev all : List ℤ
   all = take (k * m .n) (t .samples)
 
+  abbrev labels : List Label
+  labels = labelsIn t
+
+  -- how many blocks of samples, and of labels
+  abbrev sampled : ℕ
+  sampled = sampleBlocksNeeded narrow k (m .n)
+
+  abbrev pub labelled : ℕ
+  labelled = length (labelParts labels)
+
+  abbrev head : List ℕ
+  head = block (narrow .headKind) 0 (headOf m k)
+
+  abbrev sampleBytes : List ℕ
+  sampleBytes = cellBlocks (sampleCells narrow) 1 sampled (codedAll narrow all)
+
+  abbrev places : List ℕ
+  places = take k (t .labels)
+
+  abbrev labelBytes : List ℕ
+  labelBytes = cellBlocks labelCells (1 + sampled) labelled (labelCodes places)
+
+  -- no blocks of labels, or all of them
+  labels-are : labelParts labels ≡ pieces (cellsSize labelCells) labelled (labelCodes places)
+  unfolding labelsIn pieces
+  labels-are = by (areZeroLabels labels) refl
+    where
+      by : (b : Bool) → areZeroLabels labels ≡ b → labelParts labels ≡ pieces (cellsSize labelCells) labelled (labelCodes places)
+      by true e = none-written labels e ∙ sym (ap (λ (l : List (List ℕ)). pieces (cellsSize labelCells) (length l) (labelCodes places)) (none-written labels e))
+      by false e =
+          all-written labels e
+          ∙ ap (λ (i : ℕ). pieces (cellsSize labelCells) i (labelCodes places))
+          (sym (ap (λ (l : List (List ℕ)). length l) (all-written labels e)
+          ∙ pieces-length (cellsSize labelCells) (labelBlocksNeeded (length labels)) (labelCodes places)))
+
   -- the blocks of the tables' library
-  sheet-is : sheetOf m (tracesIn t) ≡ block (narrow .headKind) 0 (headOf m k) ++ sampleBlocks all (sampleBlocksNeeded narrow k (m .n))
-  unfolding sheetAs blocksOf blocksFrom flatten kindOf
+  sheet-is : sheetOf m (tracesIn t) labels ≡ head ++ sampleBytes ++ labelBytes
+  unfolding sheetAs blocksOf flatten
   sheet-is =
-      ap (λ (cs : List (List ℕ)). flatten (blocksFrom narrow 0 cs)) (carried-is narrow sampleLimit narrow-sound m (tracesIn t))
-      ∙ ap₂ (λ (i : ℕ) (l : List ℤ). block (narrow .headKind) 0 (headOf m i) ++ sampleBlocks l (sampleBlocksNeeded narrow i (m .n)))
+      let needed = sampleBlocksNeeded narrow (length (tracesIn t)) (m .n) in
+      let samples = blocksFrom (narrow .sampleKind) 1 (sampleParts narrow (m .n) (tracesIn t)) in
+      ap (λ (l : List ℕ). block (narrow .headKind) 0 (headOf m (length (tracesIn t))) ++ l)
+      (flatten-append samples (blocksFrom labelKind (suc needed) (labelParts labels)))
+      ∙ ap (λ (l : List (List ℕ)). block (narrow .headKind) 0 (headOf m (length (tracesIn t))) ++ (flatten samples ++ flatten (blocksFrom labelKind (suc needed) l))) labels-are
+      ∙ ap₂ (λ (i : ℕ) (l : List ℤ). block (narrow .headKind) 0 (headOf m i)
+      ++ (cellBlocks (sampleCells narrow) 1 (sampleBlocksNeeded narrow i (m .n)) (codedAll narrow l)
+      ++ flatten (blocksFrom labelKind (suc (sampleBlocksNeeded narrow i (m .n))) (pieces (cellsSize labelCells) labelled (labelCodes places)))))
       (traces-size t) stored-flat
+      ∙ ap (λ (i : ℕ). head ++ (sampleBytes ++ cellBlocks labelCells i labelled (labelCodes places))) one-more
+      ∙ sym (append-assoc head sampleBytes labelBytes)
+    where
+      one-more : suc sampled ≡ 1 + sampled
+      one-more = omega arith
 
   -- its length
-  pub stored-length : length (sheetOf m (tracesIn t)) ≡ blockSize * blocksNeeded k (m .n)
-  stored-length = sheet-length m (tracesIn t) ∙ ap (λ (i : ℕ). blockSize * blocksNeeded i (m .n)) (traces-size t)
+  pub stored-length : length (sheetOf m (tracesIn t) labels) ≡ blockSize * blocksNeeded k (m .n) labels
+  stored-length =
+      written-length narrow sampleLimit narrow-sound m (tracesIn t) labels ∙ ap (λ (i : ℕ). blockSize * blocksNeeded i (m .n) labels) (traces-size t)
 
   -- what the loops leave is the sheet, with what stood behind it
   pub filled-is : (sheet : List ℕ)
-      → withSamples (withBlock sheet 0 (block (narrow .headKind) 0 (headOf m k))) (sampleBlocksNeeded narrow k (m .n)) all
-      ≡ over (sheetOf m (tracesIn t)) sheet
-  unfolding blocksNeeded
+      → withLabelBlocks (withSamples (withBlock sheet 0 head) sampled all) (1 + sampled) labelled places ≡ over (sheetOf m (tracesIn t) labels) sheet
   filled-is sheet =
-      let count = sampleBlocksNeeded narrow k (m .n) in
-      let head = block (narrow .headKind) 0 (headOf m k) in
-      let e : length (sheetOf m (tracesIn t)) ≡ blockSize * count + blockSize = omega (arith, stored-length) in
-      whole all sheet head count (block-length (narrow .headKind) 0 (headOf m k) (omega (arith, head-length m k)))
-      ∙ ap₂ (λ (a : List ℕ) (i : ℕ). a ++ drop i sheet) (sym sheet-is) (sym e)
+      let headed : length head ≡ blockSize = block-length (narrow .headKind) 0 (headOf m k) (omega (arith, head-length m k)) in
+      let samples-long : length sampleBytes ≡ blockSize * sampled =
+      blocks-length (sampleCells narrow) (samples-sound narrow sampleLimit narrow-sound) 1 (codedAll narrow all) sampled in
+      let labels-long : length labelBytes ≡ blockSize * labelled = blocks-length labelCells labels-sound (1 + sampled) (labelCodes places) labelled in
+      ap (λ (s : List ℕ). withLabelBlocks (withSamples s sampled all) (1 + sampled) labelled places) (head-over sheet head headed)
+      ∙ ap (λ (s : List ℕ). withLabelBlocks s (1 + sampled) labelled places)
+      (more-over sheet head sampleBytes 1 sampled (omega (arith, headed)) samples-long)
+      ∙ more-over sheet (head ++ sampleBytes) labelBytes (1 + sampled) labelled
+      (length-append head sampleBytes ∙ omega (arith, headed, samples-long)) labels-long
+      ∙ ap (λ (s : List ℕ). over s sheet) (sym sheet-is)

@@ -1,8 +1,10 @@
 // The blocks of a sheet, each filled as its own 512 bytes.
 
+use crate::judging::label_blocks;
 use crate::judging::sample_blocks;
 use segment::Sample;
 use sheet::blocks::write_head;
+use sheet::blocks::write_labels;
 use sheet::blocks::write_samples;
 use tables::control::field;
 use tables::numbers::wide;
@@ -14,46 +16,74 @@ ghost use mathlib.Core.Path.{_≡_};
 ghost use mathlib.Core.List.{[]};
 ghost use Prim.Native.Nat.{_+_, _*_, _≤_, _<_};
 ghost use lib.ListN.{length, take};
-ghost use Rattle.dstree.specs.Sheet.{blockSize, mostBlocks, narrow, block, headOf, sheetOf, blocksNeeded};
+ghost use Rattle.dstree.specs.Sheet.{blockSize, mostBlocks, narrow, labelCells, block, headOf, sheetOf, blocksNeeded};
 ghost use Rattle.dstree.specs.Book.{over};
 ghost use Rattle.tables.specs.Tables.{tables, measuresOf, traceCount};
-ghost use Rattle.tables.specs.View.{tracesIn};
-ghost use Rattle.sheet_writing.specs.Filled.{withBlock, sampleBlock, withSamples, Fillable};
+ghost use Rattle.tables.specs.View.{tracesIn, labelsIn};
+ghost use Rattle.sheet_writing.specs.Filled.{sheetTables, withBlock, sampleBlock, withSamples, labelBlock, withLabelBlocks, Fillable};
 
-// Where a block's samples end: 253 further on, or where all samples end.
-fn run_end(from: usize, total: usize) -> usize
+// Where a block's samples or labels end: as many further on as a block carries, or where all end.
+fn run_end(from: usize, total: usize, most: usize) -> usize
     requires { ⌜ from ≤ total ⌝ }
-    ensures { λ r. ⌜ (from ≤ r) × (r ≤ total) × (r ≤ from + narrow .samplesPerBlock) × (r < total → from + narrow .samplesPerBlock ≤ r) ⌝ }
+    ensures { λ r. ⌜ (from ≤ r) × (r ≤ total) × (r ≤ from + most) × (r < total → from + most ≤ r) ⌝ }
 {
-    if total - from < 253 {
+    if total - from < most {
         return total;
     }
-    from + 253
+    from + most
 }
 
-// Block i + 1, with the samples that it carries.
+// Block 1 + i, with the samples that it carries.
 fn fill_block(sheet: &mut [u8], samples: &[Sample], i: usize, total: usize)
     requires { ⌜ (i < mostBlocks) × (i * narrow .samplesPerBlock ≤ total) × (total ≤ length (now samples))
-        × (blockSize * (i + 1) + blockSize ≤ length (now sheet)) ⌝ }
-    ensures { λ _. ⌜ now (sheet .exit) ≡ withBlock (now (sheet .entry)) (i + 1) (sampleBlock (take total (now (samples .entry))) i) ⌝ }
+        × (blockSize * (1 + i) + blockSize ≤ length (now sheet)) ⌝ }
+    ensures { λ _. ⌜ now (sheet .exit) ≡ withBlock (now (sheet .entry)) (1 + i) (sampleBlock (take total (now (samples .entry))) i) ⌝ }
 {
     let from = i * 253;
-    let to = run_end(from, total);
-    let number = i + 1;
+    let to = run_end(from, total, 253);
+    let number = 1 + i;
     let start = 512 * number;
     let end = start + 512;
     write_samples(&mut sheet[start..end], number as u16, &samples[from..to]);
 }
 
-// The blocks behind block 0.
+// The blocks of samples behind block 0.
 fn fill_blocks(sheet: &mut [u8], samples: &[Sample], count: usize, total: usize)
     requires { ⌜ (count < mostBlocks) × (count * narrow .samplesPerBlock < total + narrow .samplesPerBlock) × (total ≤ length (now samples))
-        × (blockSize * count + blockSize ≤ length (now sheet)) ⌝ }
+        × (blockSize * (1 + count) ≤ length (now sheet)) ⌝ }
     ensures { λ _. ⌜ now (sheet .exit) ≡ withSamples (now (sheet .entry)) count (take total (now (samples .entry))) ⌝ }
 {
     let mut i = 0;
     while i < count {
         fill_block(sheet, samples, i, total);
+        i += 1;
+    }
+}
+
+// The block of labels behind i others, with the labels that it carries.
+fn fill_label_block(sheet: &mut [u8], labels: &[u64], first: usize, i: usize, total: usize)
+    requires { ⌜ (first + i < mostBlocks) × (i * labelCells .cellsPerBlock ≤ total) × (total ≤ length (now labels))
+        × (blockSize * (first + i) + blockSize ≤ length (now sheet)) ⌝ }
+    ensures { λ _. ⌜ now (sheet .exit)
+        ≡ withBlock (now (sheet .entry)) (first + i) (labelBlock (take total (now (labels .entry))) first i) ⌝ }
+{
+    let from = i * 84;
+    let to = run_end(from, total, 84);
+    let number = first + i;
+    let begin = 512 * number;
+    let end = begin + 512;
+    write_labels(&mut sheet[begin..end], number as u16, &labels[from..to]);
+}
+
+// The blocks of labels behind those of samples.
+fn fill_labels(sheet: &mut [u8], labels: &[u64], first: usize, count: usize, total: usize)
+    requires { ⌜ (first + count ≤ mostBlocks) × (count * labelCells .cellsPerBlock < total + labelCells .cellsPerBlock)
+        × (total ≤ length (now labels)) × (blockSize * (first + count) ≤ length (now sheet)) ⌝ }
+    ensures { λ _. ⌜ now (sheet .exit) ≡ withLabelBlocks (now (sheet .entry)) first count (take total (now (labels .entry))) ⌝ }
+{
+    let mut i = 0;
+    while i < count {
+        fill_label_block(sheet, labels, first, i, total);
         i += 1;
     }
 }
@@ -73,19 +103,23 @@ fn fill_head(sheet: &mut [u8], control: &[u16])
 }
 
 // The whole sheet of a library that the tables hold, and the number of its blocks.
-pub fn fill_sheet(control: &[u16], samples: &[Sample], sheet: &mut [u8]) -> u64
-    requires { ⌜ Fillable (now control) (now samples) (length (now sheet)) ⌝ }
-    ensures { λ r. ⌜ (r ≡ blocksNeeded (traceCount (tables (now (control .entry)) [] [] [] []))
-        (measuresOf (tables (now (control .entry)) [] [] [] []) .n))
+pub fn fill_sheet(control: &[u16], samples: &[Sample], labels: &[u64], sheet: &mut [u8]) -> u64
+    requires { ⌜ Fillable (now control) (now samples) (now labels) (length (now sheet)) ⌝ }
+    ensures { λ r. ⌜ (r ≡ blocksNeeded (traceCount (sheetTables (now (control .entry)) (now (samples .entry)) (now (labels .entry))))
+        (measuresOf (sheetTables (now (control .entry)) (now (samples .entry)) (now (labels .entry))) .n)
+        (labelsIn (sheetTables (now (control .entry)) (now (samples .entry)) (now (labels .entry)))))
         × (now (sheet .exit) ≡ over
-        (sheetOf (measuresOf (tables (now (control .entry)) [] [] [] []))
-        (tracesIn (tables (now (control .entry)) (now (samples .entry)) [] [] [])))
+        (sheetOf (measuresOf (sheetTables (now (control .entry)) (now (samples .entry)) (now (labels .entry))))
+        (tracesIn (sheetTables (now (control .entry)) (now (samples .entry)) (now (labels .entry))))
+        (labelsIn (sheetTables (now (control .entry)) (now (samples .entry)) (now (labels .entry)))))
         (now (sheet .entry))) ⌝ }
 {
     let n = wide(field(control, N));
     let k = wide(field(control, TRACE_COUNT));
     let count = sample_blocks(k, n);
+    let labelled = label_blocks(labels, k);
     fill_head(sheet, control);
     fill_blocks(sheet, samples, count, k * n);
-    count as u64 + 1
+    fill_labels(sheet, labels, 1 + count, labelled, k);
+    (1 + count + labelled) as u64
 }

@@ -25,7 +25,7 @@ module _ (e : tie.Else1) where
   whole : isWrongLength (length bytes) ≡ false
   whole = sym (e .before .wrong-length .ensures) ∙ e .if1 .left
 
-  later : firstOf (sheetConditions bytes) ≡ firstOf (tornConditions narrow 0 (blocksIn bytes) ++ badConditions narrow (blocksIn bytes))
+  later : firstOf (sheetConditions bytes) ≡ firstOf (tornConditions narrow 0 0 (blocksIn bytes) ++ badConditions narrow (blocksIn bytes))
   unfolding conditionsAs firstOf
   later = rw whole
 
@@ -34,7 +34,7 @@ unfolding foundBy
 returns-2 c =
     let t = c .before .before .before in
     let e = t .before in
-    sym (later e ∙ first-some (tornConditions narrow 0 (blocksIn (bytes e))) (badConditions narrow (blocksIn (bytes e))) _
+    sym (later e ∙ first-some (tornConditions narrow 0 0 (blocksIn (bytes e))) (badConditions narrow (blocksIn (bytes e))) _
     (sym (t .first-torn .ensures) ∙ ap foundBy (c .before .torn .given .1)))
 
 returns-3 : tie.Need-returns-3
@@ -43,7 +43,7 @@ returns-3 c =
     let t = c .before .before .before in
     let e = t .before in
     c .judge-contents .ensures
-    ∙ sym (later e ∙ first-none (tornConditions narrow 0 (blocksIn (bytes e))) (badConditions narrow (blocksIn (bytes e)))
+    ∙ sym (later e ∙ first-none (tornConditions narrow 0 0 (blocksIn (bytes e))) (badConditions narrow (blocksIn (bytes e)))
     (sym (t .first-torn .ensures) ∙ ap foundBy (c .before .enum-told .given .1)))
 
 pub judge-sheet-spec : {M : Type 1} → statement M

@@ -4,7 +4,7 @@ use mathlib.Core.Path.{_≡_, sym, ap, _∙_}
 use mathlib.Core.Option.{none}
 use denote.Ref.{now}
 use Rattle.dstree.specs.Refusals.{firstOf}
-use Rattle.tables.specs.Tables.{Tables, tables}
+use Rattle.tables.specs.Tables.{Tables, labelledTables}
 use Rattle.tables.specs.Answers.{foundBy}
 use Rattle.calls.specs.Effects.{writes}
 use Rattle.sheet_writing.proofs.Conditions.{fillable}
@@ -15,10 +15,10 @@ use Rattle.sheet_writing.proofs.write_sheet.Tie as tie
 
 -- the tables that the call came with
 abbrev lentTables : tie.Start → Tables
-lentTables s = tables (now (s .args .control)) (now (s .args .samples)) (now (s .args .nodes)) (now (s .args .links)) (now (s .args .work))
+lentTables s = labelledTables (now (s .args .control)) (now (s .args .samples)) (now (s .args .nodes)) (now (s .args .links)) (now (s .args .work)) (now (s .args .labels))
 
 abbrev start : tie.After-judge → tie.Start
-start j = j .before .before .before .before .before .before
+start j = j .before .before .before .before .before .before .before
 
 -- nothing was refused
 nothing : (e : tie.After-enum-told)
@@ -43,8 +43,8 @@ returns-2 c =
     let f = c .before .before .fill-sheet in
     let e = c .before .before .before .before in
     let a = start (e .before .before) .args in
-    written-answer (now (a .control)) (now (a .samples)) (now (a .nodes)) (now (a .links)) (now (a .work)) (now (a .sheet))
-    (f .last .1 .1 .0) (f .result)
+    written-answer (now (a .control)) (now (a .samples)) (now (a .nodes)) (now (a .links)) (now (a .work)) (now (a .labels)) (now (a .sheet))
+    (f .last .1 .1 .1 .0) (f .result)
     (nothing e) (f .ensures .0) (f .ensures .1)
 
 pub write-sheet-spec : {M : Type 1} → statement M

@@ -9,7 +9,7 @@ use denote.Ref.{now}
 use Rattle.dstree.specs.Refusals.{firstOf}
 use Rattle.dstree.specs.Sheet.{blockSize, narrow, isTorn, blocksIn, tornConditions}
 use Rattle.tables.specs.Answers.{wordOf, foundBy}
-use Rattle.sheet_blocks.specs.Blocks.{blockCount, blockAt, laterBlocks}
+use Rattle.sheet_blocks.specs.Blocks.{blockCount, blockAt, laterBlocks, kindBefore}
 use Rattle.sheet_blocks.proofs.Places.{blocks, block-inside, block-length, part-is}
 use Rattle.sheet_blocks.proofs.Torn.{torn-first, torn-here, torn-later, torn-none}
 use Rattle.sheet_blocks.proofs.blocks.first_torn.Statement.{statement}
@@ -18,7 +18,8 @@ use Rattle.sheet_blocks.proofs.blocks.first_torn.Tie as tie
 abbrev Inv-loop : tie.InvT-loop
 Inv-loop sheet count cursor₀ cursor =
     (cursor .number ≤ count) ×
-    (firstOf (tornConditions narrow 0 (blocksIn sheet)) ≡ firstOf (tornConditions narrow (cursor .number) (laterBlocks sheet (cursor .number))))
+    (firstOf (tornConditions narrow 0 0 (blocksIn sheet))
+    ≡ firstOf (tornConditions narrow (kindBefore sheet (cursor .number)) (cursor .number) (laterBlocks sheet (cursor .number))))
 
 abbrev μ-loop : tie.MeasureT-loop
 μ-loop sheet count cursor₀ cursor = count - cursor .number
@@ -54,18 +55,27 @@ module _ (s : tie.After-start Inv-loop μ-loop) where
   is-block : take (s .start .result + blockSize - s .start .result) (drop (s .start .result) bytes) ≡ blockAt bytes (number (s .before))
   is-block = part-is bytes (number (s .before)) (s .start .result) (s .start .ensures)
 
+kind-before-requires : tie.Need-kind-before-requires Inv-loop μ-loop
+kind-before-requires c κs = (start (c .before) .pre, omega (arith, inside (c .before)))
+
 is-torn-requires : tie.Need-is-torn-requires Inv-loop μ-loop
 is-torn-requires c κs =
-    let s = c .before in
+    let s = c .before .before in
     ap length (is-block s) ∙ block-length (bytes s) (start (s .before) .pre) (number (s .before)) (inside (s .before))
 
 -- once the block is judged
 module _ (t : tie.After-is-torn Inv-loop μ-loop) where
   abbrev at : tie.After-start Inv-loop μ-loop
-  at = t .before .before
+  at = t .before .before .before
 
-  torn-is : t .is-torn .result ≡ isTorn narrow (number (at .before)) (blockAt (bytes at) (number (at .before)))
-  torn-is = t .is-torn .ensures ∙ ap (isTorn narrow (number (at .before))) (is-block at)
+  abbrev asked : tie.After-kind-before Inv-loop μ-loop
+  asked = t .before .before
+
+  torn-is : t .is-torn .result ≡ isTorn narrow (kindBefore (bytes at) (number (at .before))) (number (at .before)) (blockAt (bytes at) (number (at .before)))
+  torn-is =
+      t .is-torn .ensures
+      ∙ ap (λ (k : ℕ). isTorn narrow k (number (at .before)) (take (at .start .result + blockSize - at .start .result) (drop (at .start .result) (bytes at)))) (asked .kind-before .ensures)
+      ∙ ap (isTorn narrow (kindBefore (bytes at) (number (at .before))) (number (at .before))) (is-block at)
 
 returns : tie.Need-returns Inv-loop μ-loop
 unfolding foundBy wordOf
@@ -89,7 +99,8 @@ loop-again c =
     let s = at t in
     let i = s .before in
     let e : c .next .result .number ≡ suc (number i) = c .next .ensures .0 in
-    let f : firstOf (tornConditions narrow 0 (blocksIn (bytes s))) ≡ firstOf (tornConditions narrow (suc (number i)) (laterBlocks (bytes s) (suc (number i)))) =
+    let f : firstOf (tornConditions narrow 0 0 (blocksIn (bytes s)))
+    ≡ firstOf (tornConditions narrow (kindBefore (bytes s) (suc (number i))) (suc (number i)) (laterBlocks (bytes s) (suc (number i)))) =
     i .before .before .loop .inv .1 ∙ torn-later (bytes s) (number i) (inside i) (sym (torn-is t) ∙ c .before .if2 .left) in
     (omega arith, rw e f)
 
@@ -103,5 +114,6 @@ pub first-torn-spec : {M : Type 1} → statement M
 first-torn-spec =
     tie.close
     (tie.spec
-    Inv-loop μ-loop (λ c κs. tt) loop-holds start-requires (λ c. omega (arith, ends c)) (λ c. omega arith)
-    (λ c. omega (arith, ends c)) (λ c. omega (arith, ends c)) is-torn-requires returns next-requires loop-less loop-again returns-2)
+    Inv-loop μ-loop (λ c κs. tt) loop-holds start-requires (λ c. omega (arith, ends c)) kind-before-requires (λ c. omega arith)
+    (λ c. omega (arith, ends (c .before))) (λ c. omega (arith, ends (c .before))) is-torn-requires returns next-requires loop-less loop-again
+    returns-2)

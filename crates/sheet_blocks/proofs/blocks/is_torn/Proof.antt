@@ -1,13 +1,12 @@
 -- `sheet_blocks::blocks::is_torn` meets its contract: each return answers for one part of the condition, the ones before it being false.
-use mathlib.Core.Path.{_≡_, sym, ap₂, _∙_}
+use mathlib.Core.Path.{_≡_, sym, ap, _∙_}
 use mathlib.Core.Bool.{true, not}
-use Prim.Native.Nat.{ℕ}
 use native.Mathlib.Omega.{arith}
 use lib.Dec.{eqb}
 use denote.Ref.{now}
 use borrow.Author.Needs.{needs}
 use borrow.Author.Tests.{eq-eqb, ne-eqb}
-use Rattle.dstree.specs.Sheet.{checkedSize, part, numberIn, checkOf, isTorn}
+use Rattle.dstree.specs.Sheet.{checkedSize, part, numberIn, checkOf, narrow, isKind, isTorn}
 use Rattle.sheet_blocks.proofs.blocks.is_torn.Statement.{statement}
 use Rattle.sheet_blocks.proofs.blocks.is_torn.Tie as tie
 
@@ -41,8 +40,9 @@ returns-3 : tie.Need-returns-3
 unfolding isTorn
 returns-3 c =
     let n = c .before .before .before in
+    let a = start (n .before .before .before) .args in
     simp (whole-check (n .before .before), eq-eqb _ _ (sym (n .before .two-bytes2 .ensures .0) ∙ n .if2 .left))
-    (ap₂ (λ (a b : ℕ). not (eqb a b)) (c .before .wide .ensures .0) (c .kind-of .ensures))
+    (ap not (c .kind-fits .ensures ∙ ap (isKind narrow (a .number) (a .before)) (c .before .wide .ensures .0)))
 
 pub is-torn-spec : {M : Type 1} → statement M
 is-torn-spec =

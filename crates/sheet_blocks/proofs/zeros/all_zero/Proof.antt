@@ -1,54 +1,123 @@
 -- `sheet_blocks::zeros::all_zero` meets its contract: area by area.
-use mathlib.Core.Path.{_≡_, sym, _∙_}
+use mathlib.Core.Path.{_≡_, refl, sym, ap, _∙_, subst}
 use mathlib.Core.Bool.{true}
 use mathlib.Core.List.{List}
-use Prim.Native.Nat.{ℕ}
+use Prim.Native.Nat.{ℕ, _*_, _-_, _≤_}
+use native.Mathlib.Nat.{mul-le-mul}
 use native.Mathlib.Omega.{arith}
 use denote.Ref.{now}
 use borrow.Author.Needs.{needs}
 use borrow.Author.Tests.{not-true, not-false}
-use Rattle.dstree.specs.Sheet.{areZero, thirdsIn, blocksIn}
-use Rattle.sheet_blocks.proofs.Places.{first-inside}
-use Rattle.sheet_blocks.proofs.AllZero.{zeros-apart}
+use Rattle.dstree.specs.Sheet.{part, areZero, checkedSize, thirdsIn, blocksIn, narrow, sampleSize, labelCells, cellsSize}
+use Rattle.sheet_blocks.specs.Blocks.{blockCount, zerosBetween, Fills}
+use Rattle.sheet_blocks.proofs.Places.{first-inside, start-within}
+use Rattle.sheet_blocks.proofs.Left.{samples-fill, labels-fill}
+use Rattle.sheet_blocks.proofs.AllZero.{zeros-apart, sampleZeros, labelZeros}
 use Rattle.sheet_blocks.proofs.zeros.all_zero.Statement.{statement}
 use Rattle.sheet_blocks.proofs.zeros.all_zero.Tie as tie
 
--- the sheet, and byte 3 of its blocks
-module _ (t : tie.After-thirds-zero) where
-  abbrev start : tie.Start
-  start = t .before .before
-
+-- the sheet, and what it is known to be
+module _ (s : tie.Start) where
   abbrev bytes : List ℕ
-  bytes = now (start .args .sheet)
+  bytes = now (s .args .sheet)
+
+  abbrev count : ℕ
+  count = s .args .count
+
+  abbrev n : ℕ
+  n = s .args .n
+
+  samples-few : count * n ≤ 1048576
+  samples-few = mul-le-mul {n₁ = count} {m₁ = n} {n₂ = 4096} {m₂ = 256} (s .pre .2) (s .pre .3)
+
+  start-few : s .args .start ≤ blockCount bytes
+  start-few = omega (arith, s .pre .1, start-within bytes (s .pre .0))
+
+  fills : Fills (sampleSize narrow) (s .args .start - 1) (2 * (count * n))
+  fills = subst (λ (k : ℕ). Fills (sampleSize narrow) (k - 1) (2 * (count * n))) (sym (s .pre .1)) (samples-fill bytes count n (s .pre .4))
+
+  fill-labels : Fills (cellsSize labelCells) (blockCount bytes - s .args .start) (6 * count)
+  fill-labels =
+      subst (λ (k : ℕ). Fills (cellsSize labelCells) (blockCount bytes - k) (6 * count)) (sym (s .pre .1))
+      (labels-fill bytes count n (s .pre .4))
 
 returns : tie.Need-returns
 returns c =
     let t = c .before in
-    sym (zeros-apart (bytes t) (start t .pre .0) (start t .args .samples)
-    ∙ rw (sym (t .thirds-zero .ensures) ∙ not-true (t .thirds-zero .result) (c .if1 .taken)))
+    let s = t .before .before in
+    sym (zeros-apart (bytes s) (s .pre .0) (count s) (n s)
+    ∙ rw (sym (t .thirds-zero .ensures) ∙ not-true (t .thirds-zero .result) (c .if1 .taken)) refl)
 
-thirds : (c : tie.Else1) → areZero (thirdsIn (blocksIn (bytes (c .before)))) ≡ true
-thirds c = sym (c .before .thirds-zero .ensures) ∙ not-false (c .before .thirds-zero .result) (c .if1 .left)
+-- byte 3 of each block is 0
+module _ (e : tie.Else1) where
+  abbrev start : tie.Start
+  start = e .before .before .before
+
+  thirds : areZero (thirdsIn (blocksIn (bytes start))) ≡ true
+  thirds = sym (e .before .thirds-zero .ensures) ∙ not-false (e .before .thirds-zero .result) (e .if1 .left)
 
 zeros-requires : tie.Need-zeros-requires
-zeros-requires c κs = (omega arith, omega (arith, first-inside (bytes (c .before)) (start (c .before) .pre .0)))
+zeros-requires c κs = (omega arith, omega (arith, first-inside (bytes (start c)) (start c .pre .0)))
 
 returns-2 : tie.Need-returns-2
 returns-2 c =
     let z = c .before in
-    let t = z .before .before in
-    sym (zeros-apart (bytes t) (start t .pre .0) (start t .args .samples)
-    ∙ rw (thirds (z .before), sym (z .zeros .ensures) ∙ not-true (z .zeros .result) (c .if2 .taken)))
+    let s = start (z .before) in
+    sym (zeros-apart (bytes s) (s .pre .0) (count s) (n s)
+    ∙ rw (thirds (z .before), sym (z .zeros .ensures) ∙ not-true (z .zeros .result) (c .if2 .taken)) refl)
+
+-- .. and block 0 behind the count
+module _ (e : tie.Else2) where
+  abbrev begin : tie.Start
+  begin = start (e .before .before)
+
+  head : areZero (part 16 (checkedSize - 16) (bytes begin)) ≡ true
+  head = sym (e .before .zeros .ensures) ∙ not-false (e .before .zeros .result) (e .if2 .left)
+
+behind-zero-requires : tie.Need-behind-zero-requires
+behind-zero-requires c κs =
+    let s = begin c in
+    (s .pre .0, omega (arith, s .pre .1), start-few s, omega arith, fills s)
+
+-- .. and what no sample takes
+samples-shown : (b : tie.After-behind-zero) → let s = begin (b .before) in
+    b .behind-zero .result ≡ areZero (sampleZeros (bytes s) (s .pre .0) (count s) (n s))
+samples-shown b =
+    let s = begin (b .before) in
+    b .behind-zero .ensures ∙ ap (λ (k : ℕ). areZero (zerosBetween (sampleSize narrow) (2 * (count s * n s)) (bytes s) 1 k)) (s .pre .1)
 
 returns-3 : tie.Need-returns-3
 returns-3 c =
-    let z = c .before .before in
-    let t = z .before .before in
-    sym (zeros-apart (bytes t) (start t .pre .0) (start t .args .samples)
-    ∙ rw (thirds (z .before), sym (z .zeros .ensures) ∙ not-false (z .zeros .result) (c .before .if2 .left)) (sym (c .left-zero .ensures)))
+    let b = c .before in
+    let e = b .before in
+    let s = begin e in
+    sym (zeros-apart (bytes s) (s .pre .0) (count s) (n s)
+    ∙ rw (thirds (e .before .before), head e, sym (samples-shown b) ∙ not-true (b .behind-zero .result) (c .if3 .taken)) refl)
+
+behind-zero-requires-2 : tie.Need-behind-zero-requires-2
+behind-zero-requires-2 c κs =
+    let s = begin (c .before .before) in
+    (s .pre .0, start-few s, omega arith, omega arith, fill-labels s)
+
+labels-shown : (b : tie.After-behind-zero2) → let s = begin (b .before .before .before) in
+    b .behind-zero2 .result ≡ areZero (labelZeros (bytes s) (s .pre .0) (count s) (n s))
+labels-shown b =
+    let s = begin (b .before .before .before) in
+    b .behind-zero2 .ensures
+    ∙ ap (λ (k : ℕ). areZero (zerosBetween (cellsSize labelCells) (6 * count s) (bytes s) k (blockCount (bytes s)))) (s .pre .1)
+
+returns-4 : tie.Need-returns-4
+returns-4 c =
+    let b = c .before .before in
+    let e = b .before in
+    let s = begin e in
+    sym (zeros-apart (bytes s) (s .pre .0) (count s) (n s)
+    ∙ rw (thirds (e .before .before), head e, sym (samples-shown b) ∙ not-false (b .behind-zero .result) (c .before .if3 .left)) (sym (labels-shown c)))
 
 pub all-zero-spec : {M : Type 1} → statement M
 all-zero-spec =
     tie.close
     (tie.spec
-    (λ c κs. search needs) returns zeros-requires returns-2 (λ c κs. search needs) returns-3)
+    (λ c κs. search needs) returns zeros-requires returns-2 (λ c. omega (arith, samples-few (begin c)))
+    (λ c. omega (arith, samples-few (begin c))) behind-zero-requires returns-3 (λ c. omega (arith, begin (c .before .before) .pre .2))
+    behind-zero-requires-2 returns-4)

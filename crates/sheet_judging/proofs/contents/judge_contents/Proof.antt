@@ -12,13 +12,15 @@ use borrow.Author.Tests.{lt-ltb, le-ltb, eq-eqb, ne-eqb, not-true, not-false}
 use Rattle.integer.specs.Words.{same, roundedUp}
 use Rattle.dstree.specs.Measures.{Measures, measures, inRange}
 use Rattle.dstree.specs.Refusals.{firstOf}
-use Rattle.dstree.specs.Sheet.{narrow, part, letters, blocksIn, measuresIn, countIn, sampleBlocksNeeded, areZero, zerosIn, badConditions}
+use Rattle.dstree.specs.Sheet.{narrow, part, letters, blocksIn, measuresIn, countIn, cellBlocksNeeded, sampleBlocksNeeded, areZero, zerosIn, badConditions}
 use Rattle.tables.specs.Answers.{wordOf, foundBy}
 use Rattle.tables.specs.Judge.{InRange}
 use Rattle.tables.proofs.Range.{in-range, samples-fit}
-use Rattle.sheet_blocks.specs.Blocks.{blockCount, blockAt, laterBlocks}
+use Rattle.sheet_blocks.specs.Blocks.{blockAt, laterBlocks, labelStart}
 use Rattle.sheet_blocks.proofs.Places.{blocks, first-inside}
-use Rattle.sheet_judging.proofs.Bad.{badBy, bad-are, bad-letters, bad-measures, bad-count, bad-blocks, bad-zeros, none-bad}
+use Rattle.sheet_judging.proofs.Bad.{badBy, bad-are, bad-letters, bad-measures, bad-count, bad-samples, bad-labels, bad-zeros, none-bad}
+use Rattle.sheet_judging.proofs.Bad.{right-numbers}
+use Rattle.sheet_judging.specs.LabelBlocks.{labelBlocks, areBad}
 use Rattle.sheet_judging.proofs.contents.judge_contents.Statement.{statement}
 use Rattle.sheet_judging.proofs.contents.judge_contents.Tie as tie
 
@@ -33,10 +35,10 @@ returns c =
     let bytes = now (s .args .sheet) in
     let b = blockAt bytes 0 in
     bad-letters (same (part 4 4 bytes) letters) (inRange (measuresIn b)) (ltb (measuresIn b .capacity) (countIn b))
-    (eqb (blockCount bytes - 1) (sampleBlocksNeeded narrow (countIn b) (measuresIn b .n)))
-    (areZero (zerosIn narrow (countIn b * measuresIn b .n) b (laterBlocks bytes 1)))
+    (eqb (labelStart bytes - 1) (sampleBlocksNeeded narrow (countIn b) (measuresIn b .n))) (areBad (countIn b) (labelBlocks bytes))
+    (areZero (zerosIn narrow (countIn b) (measuresIn b .n) b (laterBlocks bytes 1)))
     (sym (t .letters-fit .ensures) ∙ not-true (t .letters-fit .result) (c .if1 .taken))
-    ∙ ap firstOf (sym (bad-are bytes (s .pre) (measuresIn b) (countIn b) refl refl))
+    ∙ sym (bad-are bytes (s .pre) (measuresIn b) (countIn b) refl refl)
 
 head-of-requires : tie.Need-head-of-requires
 head-of-requires c κs = let s = c .before .before .before in first-inside (now (s .args .sheet)) (s .pre)
@@ -59,12 +61,15 @@ module _ (h : tie.After-head-of) where
   above = ltb (m .capacity) count
 
   abbrev enough : Bool
-  enough = eqb (blockCount bytes - 1) (sampleBlocksNeeded narrow count (m .n))
+  enough = eqb (labelStart bytes - 1) (sampleBlocksNeeded narrow count (m .n))
+
+  abbrev bad : Bool
+  bad = areBad count (labelBlocks bytes)
 
   abbrev zero : Bool
-  zero = areZero (zerosIn narrow (count * m .n) (blockAt bytes 0) (laterBlocks bytes 1))
+  zero = areZero (zerosIn narrow count (m .n) (blockAt bytes 0) (laterBlocks bytes 1))
 
-  tests : badConditions narrow (blocksIn bytes) ≡ badBy (same (part 4 4 bytes) letters) (inRange m) above enough zero
+  tests : firstOf (badConditions narrow (blocksIn bytes)) ≡ firstOf (badBy (same (part 4 4 bytes) letters) (inRange m) above enough bad zero)
   tests = bad-are bytes (start .pre) m count (h .head-of .ensures .measures-are) (h .head-of .ensures .count-is)
 
   lettered : same (part 4 4 bytes) letters ≡ true
@@ -75,8 +80,8 @@ unfolding foundBy wordOf
 returns-2 c =
     let f = c .before in
     let h = f .before in
-    bad-measures (same (part 4 4 (bytes h)) letters) (inRange (m h)) (above h) (enough h) (zero h) (lettered h)
-    (sym (f .measures-fit .ensures) ∙ not-true (f .measures-fit .result) (c .if2 .taken)) ∙ ap firstOf (sym (tests h))
+    bad-measures (same (part 4 4 (bytes h)) letters) (inRange (m h)) (above h) (enough h) (bad h) (zero h) (lettered h)
+    (sym (f .measures-fit .ensures) ∙ not-true (f .measures-fit .result) (c .if2 .taken)) ∙ sym (tests h)
 
 -- measures in range
 module _ (e : tie.Else2) where
@@ -93,8 +98,8 @@ returns-3 : tie.Need-returns-3
 unfolding foundBy wordOf
 returns-3 c =
     let h = headOf (c .before) in
-    bad-count (same (part 4 4 (bytes h)) letters) (inRange (m h)) (above h) (enough h) (zero h) (lettered h) (measured (c .before))
-    (lt-ltb (m h .capacity) (count h) (c .if3 .taken)) ∙ ap firstOf (sym (tests h))
+    bad-count (same (part 4 4 (bytes h)) letters) (inRange (m h)) (above h) (enough h) (bad h) (zero h) (lettered h) (measured (c .before))
+    (lt-ltb (m h .capacity) (count h) (c .if3 .taken)) ∙ sym (tests h)
 
 -- count within capacity
 module _ (e : tie.Else3) where
@@ -110,59 +115,101 @@ module _ (e : tie.Else3) where
   samples-few : count head * m head .n ≤ 1048576
   samples-few = mul-le-mul {n₁ = count head} {m₁ = m head .n} {n₂ = 4096} {m₂ = 256} few (range (e .before) .n-high)
 
+label-start-requires : tie.Need-label-start-requires
+label-start-requires c κs = start (head c) .pre
+
 mul-samples : tie.Need-mul-samples
-mul-samples c = record { fits = samples-fit (count (head c)) (m (head c) .n) (few c) (range (c .before) .n-high) }
+mul-samples c =
+    let e = c .before in
+    record { fits = samples-fit (count (head e)) (m (head e) .n) (few e) (range (e .before) .n-high) }
 
 sub-if4 : tie.Need-sub-if4
-sub-if4 c = omega (arith, blocks (bytes (head c)) (start (head c) .pre) .some-block)
+sub-if4 c = let h = head (c .before) in omega (arith, c .label-start .ensures, blocks (bytes h) (start h .pre) .some-block)
 
 returns-4 : tie.Need-returns-4
-unfolding foundBy wordOf sampleBlocksNeeded roundedUp
+unfolding foundBy wordOf cellBlocksNeeded roundedUp
 returns-4 c =
-    let e = c .before in
+    let l = c .before in
+    let e = l .before in
     let h = head e in
-    bad-blocks (same (part 4 4 (bytes h)) letters) (inRange (m h)) (above h) (enough h) (zero h) (lettered h) (measured (e .before))
-    (within e) (ne-eqb _ _ (c .if4 .taken)) ∙ ap firstOf (sym (tests h))
+    bad-samples (same (part 4 4 (bytes h)) letters) (inRange (m h)) (above h) (enough h) (bad h) (zero h) (lettered h) (measured (e .before))
+    (within e) (ne-eqb _ _ (λ p. c .if4 .taken (ap (λ (k : ℕ). k - 1) (l .label-start .ensures) ∙ p))) ∙ sym (tests h)
 
--- as many blocks as are needed
+-- as many blocks of samples as are needed
 module _ (e : tie.Else4) where
   abbrev heads : tie.After-head-of
-  heads = head (e .before)
+  heads = head (e .before .before)
 
-  blocked : eqb (blockCount (bytes heads) - 1) (sampleBlocksNeeded narrow (count heads) (m heads .n)) ≡ true
-  unfolding sampleBlocksNeeded roundedUp
-  blocked = eq-eqb _ _ (e .if4 .left)
+  start-is : e .before .label-start .result ≡ labelStart (bytes heads)
+  start-is = e .before .label-start .ensures
 
-all-zero-requires : tie.Need-all-zero-requires
-unfolding roundedUp
-all-zero-requires c κs =
-    let whole = start (heads c) .pre in
-    (whole, omega (arith, c .if4 .left, blocks (bytes (heads c)) whole .some-block))
+  needed : labelStart (bytes heads) - 1 ≡ sampleBlocksNeeded narrow (count heads) (m heads .n)
+  unfolding cellBlocksNeeded roundedUp
+  needed = ap (λ (k : ℕ). k - 1) (sym start-is) ∙ e .if4 .left
+
+  sampled : enough heads ≡ true
+  sampled = eq-eqb _ _ needed
+
+labels-bad-requires : tie.Need-labels-bad-requires
+labels-bad-requires c κs = (start (heads c) .pre, start-is c, few (c .before .before))
 
 returns-5 : tie.Need-returns-5
 unfolding foundBy wordOf
 returns-5 c =
-    let z = c .before in
-    let e = z .before in
+    let l = c .before in
+    let e = l .before in
+    let r = e .before .before in
     let h = heads e in
-    bad-zeros (same (part 4 4 (bytes h)) letters) (inRange (m h)) (above h) (enough h) (zero h) (lettered h) (measured (e .before .before))
-    (within (e .before)) (blocked e) (sym (z .all-zero .ensures) ∙ not-true (z .all-zero .result) (c .if5 .taken))
-    ∙ ap firstOf (sym (tests h))
+    bad-labels (same (part 4 4 (bytes h)) letters) (inRange (m h)) (above h) (enough h) (bad h) (zero h) (lettered h) (measured (r .before))
+    (within r) (sampled e) (sym (l .labels-bad .ensures) ∙ c .if5 .taken) ∙ sym (tests h)
+
+-- .. and of labels
+module _ (e : tie.Else5) where
+  abbrev samples : tie.Else4
+  samples = e .before .before
+
+  labelled : bad (heads samples) ≡ false
+  labelled = sym (e .before .labels-bad .ensures) ∙ e .if5 .left
+
+all-zero-requires : tie.Need-all-zero-requires
+all-zero-requires c κs =
+    let e = samples c in
+    let r = e .before .before in
+    let h = heads e in
+    let whole = start h .pre in (
+      whole,
+      start-is e,
+      few r,
+      range (r .before) .n-high,
+      right-numbers (bytes h) whole (count h) (m h .n) (needed e) (labelled c),
+    )
 
 returns-6 : tie.Need-returns-6
-unfolding foundBy
+unfolding foundBy wordOf
 returns-6 c =
     let z = c .before in
-    let e = z .before in
+    let e = samples (z .before) in
+    let r = e .before .before in
     let h = heads e in
-    none-bad (same (part 4 4 (bytes h)) letters) (inRange (m h)) (above h) (enough h) (zero h) (lettered h) (measured (e .before .before))
-    (within (e .before)) (blocked e) (sym (z .all-zero .ensures) ∙ not-false (z .all-zero .result) (c .if5 .left))
-    ∙ ap firstOf (sym (tests h))
+    bad-zeros (same (part 4 4 (bytes h)) letters) (inRange (m h)) (above h) (enough h) (bad h) (zero h) (lettered h) (measured (r .before))
+    (within r) (sampled e) (labelled (z .before)) (sym (z .all-zero .ensures) ∙ not-true (z .all-zero .result) (c .if6 .taken))
+    ∙ sym (tests h)
+
+returns-7 : tie.Need-returns-7
+unfolding foundBy
+returns-7 c =
+    let z = c .before in
+    let e = samples (z .before) in
+    let r = e .before .before in
+    let h = heads e in
+    none-bad (same (part 4 4 (bytes h)) letters) (inRange (m h)) (above h) (enough h) (bad h) (zero h) (lettered h) (measured (r .before))
+    (within r) (sampled e) (labelled (z .before)) (sym (z .all-zero .ensures) ∙ not-false (z .all-zero .result) (c .if6 .left))
+    ∙ sym (tests h)
 
 pub judge-contents-spec : {M : Type 1} → statement M
 judge-contents-spec =
     tie.close
     (tie.spec
-    letters-fit-requires returns head-of-requires (λ c κs. search needs) returns-2 returns-3 mul-samples sub-if4
-    (λ c. omega (arith, samples-few c)) returns-4
-    all-zero-requires returns-5 returns-6)
+    letters-fit-requires returns head-of-requires (λ c κs. search needs) returns-2 returns-3 label-start-requires mul-samples
+    sub-if4 (λ c. omega (arith, samples-few (c .before))) returns-4 labels-bad-requires returns-5
+    all-zero-requires returns-6 returns-7)

@@ -9,12 +9,12 @@ use lib.ListN.{length, take, drop, length-append}
 use lib.Seq.{take-all, take-at, length-take-le}
 use denote.Ref.{now}
 use borrow.Rule.Slice.PartMut.{postOf, mid-len, same-len-mid}
-use Rattle.dstree.specs.Sheet.{mostBlocks, narrow, part, sampleBytesIn}
-use Rattle.sheet_blocks.specs.Blocks.{blockCount, laterBlocks}
+use Rattle.dstree.specs.Sheet.{mostBlocks, narrow, part, sampleBlocksIn, sampleBytesIn}
+use Rattle.sheet_blocks.specs.Blocks.{blockCount, laterBlocks, labelStart}
 use Rattle.sheet_blocks.specs.Traces.{sampleNumber, IsAt, samplePlace, samplesFrom}
 use Rattle.sheet.specs.Codes.{samplesIn}
 use Rattle.sheet.proofs.SamplesIn.{samples-none}
-use Rattle.sheet_blocks.proofs.Places.{blocks, block-inside}
+use Rattle.sheet_blocks.proofs.Places.{blocks, block-inside, start-within}
 use Rattle.sheet_judging.proofs.Samples.{samples-on, samples-at, block-in}
 use Rattle.sheet_judging.proofs.traces.read_samples.Statement.{statement}
 use Rattle.sheet_judging.proofs.traces.read_samples.Tie as tie
@@ -41,11 +41,14 @@ module _ (s : tie.Start Inv-loop μ-loop) where
   abbrev first : ℕ
   first = sampleNumber (s .args .from .number) (s .args .from .used)
 
+  in-all : labelStart bytes ≤ blockCount bytes
+  in-all = start-within bytes (s .pre .0)
+
   block-few : blockCount bytes ≤ mostBlocks
   block-few = blocks bytes (s .pre .0) .few
 
-  few : count ≤ 1048938
-  few = omega (arith, s .pre .2, block-few)
+  few : count ≤ mostBlocks * narrow .samplesPerBlock
+  few = omega (arith, s .pre .2, in-all, block-few)
 
 loop-holds : tie.Need-loop-holds Inv-loop μ-loop
 loop-holds c =
@@ -53,7 +56,7 @@ loop-holds c =
     let e : first s ≡ first s + 0 = omega arith in (
       omega arith,
       refl,
-      sym (samples-none (drop (first s * narrow .sampleBytes) (sampleBytesIn narrow (laterBlocks (bytes s) 1)))),
+      sym (samples-none (drop (first s * narrow .sampleBytes) (sampleBytesIn narrow (sampleBlocksIn (laterBlocks (bytes s) 1))))),
       subst (IsAt (s .args .from .number) (s .args .from .used)) e (s .pre .1),
     )
 
@@ -80,11 +83,11 @@ module _ (l : tie.In-loop Inv-loop μ-loop) where
   places-long : length places ≡ count start
   places-long = l .before .loop .inv .1
 
-  in-sheet : first start + i < (blockCount (bytes start) - 1) * narrow .samplesPerBlock
+  in-sheet : first start + i < (labelStart (bytes start) - 1) * narrow .samplesPerBlock
   in-sheet = omega (arith, l .loop-test .taken, start .pre .2)
 
   in-block : number < blockCount (bytes start)
-  in-block = block-in (bytes start) (start .pre .0) number used (first start + i) at in-sheet
+  in-block = omega (arith, block-in (bytes start) (start .pre .0) number used (first start + i) at in-sheet, in-all start)
 
   number-few : number ≤ mostBlocks
   number-few = omega (arith, in-block, block-few start)
@@ -129,7 +132,7 @@ module _ (p : tie.After-place Inv-loop μ-loop) where
       let e : from + 2 * k here - from ≡ k here * 2 = omega arith in
       ap₂ (λ (a b : ℕ). take a (drop b (bytes (start (turn here))))) e (p .place .ensures)
 
-  places-few : i (turn here) + k here ≤ 1048938
+  places-few : i (turn here) + k here ≤ mostBlocks * narrow .samplesPerBlock
   places-few = omega (arith, in-places here, few (start (turn here)))
 
   places-in : i (turn here) + k here ≤ length (places (turn here))

@@ -8,7 +8,7 @@ use lib.ListN.{length}
 use denote.Ref.{now}
 use borrow.Author.Needs.{needs}
 use Rattle.dstree.specs.Sheet.{narrow}
-use Rattle.sheet_blocks.specs.Blocks.{blockCount}
+use Rattle.sheet_blocks.specs.Blocks.{labelStart}
 use Rattle.sheet_blocks.specs.Traces.{sizeOf, sampleNumber, IsAt, samplesFrom}
 use Rattle.sheet_judging.proofs.Samples.{SoundSheet, fine, trace-is, trace-inside, number-few, size-few}
 use Rattle.sheet_judging.proofs.traces.read_trace.Statement.{statement}
@@ -37,9 +37,9 @@ module _ (s : tie.Start) where
       mul-le-mul {n₁ = s .args .number} {m₁ = size} {n₂ = 4096} {m₂ = 256} (number-few bytes sound (s .args .number) (s .pre .1))
       (omega (arith, size-is, size-few bytes sound))
 
-  inside : first + size ≤ (blockCount bytes - 1) * narrow .samplesPerBlock
+  inside : first + size ≤ (labelStart bytes - 1) * narrow .samplesPerBlock
   inside =
-      subst (λ (n : ℕ). s .args .number * n + n ≤ (blockCount bytes - 1) * narrow .samplesPerBlock) (sym size-is)
+      subst (λ (n : ℕ). s .args .number * n + n ≤ (labelStart bytes - 1) * narrow .samplesPerBlock) (sym size-is)
       (trace-inside bytes sound (s .args .number) (s .pre .1))
 
 mul-at-sample : tie.Need-mul-at-sample

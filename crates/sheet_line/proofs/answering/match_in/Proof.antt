@@ -11,7 +11,7 @@ use borrow.Author.Needs.{needs}
 use Rattle.dstree.specs.Measures.{Measures, measures}
 use Rattle.dstree.specs.Refusals.{firstOf}
 use Rattle.dstree.specs.Sheet.{areBytes, sheetConditions}
-use Rattle.tables.specs.Tables.{Tables, tables, lentOf}
+use Rattle.tables.specs.Tables.{Tables, tables, labelledTables, lentOf}
 use Rattle.tables.specs.Answers.{opened}
 use Rattle.tables.specs.Judge.{LongEnough}
 use Rattle.insertion_memory.proofs.Made.{Holds}
@@ -29,13 +29,15 @@ use Rattle.sheet_line.proofs.answering.match_in.Tie as tie
 -- what the call came with
 module _ (k : tie.After-shared-slice-known) where
   abbrev start : tie.Start
-  start = k .before .before .before .before
+  start = k .before .before .before .before .before
 
   abbrev bytes : List ℕ
   bytes = now (start .args .sheet)
 
   abbrev lent : Tables
-  lent = tables (now (start .args .control)) (now (start .args .samples)) (now (start .args .nodes)) (now (start .args .links)) (now (start .args .work))
+  lent =
+      labelledTables (now (start .args .control)) (now (start .args .samples)) (now (start .args .nodes)) (now (start .args .links))
+      (now (start .args .work)) (now (start .args .labels))
 
   sheet-fine : firstOf (sheetConditions bytes) ≡ none
   sheet-fine = sound bytes (start .pre .fine)
@@ -68,12 +70,12 @@ sub-last : tie.Need-sub-last
 sub-last c = omega (arith, c .head-of .ensures .count-is, two-traces (bytes (at c)) (start (at c) .pre .fine))
 
 put-empty-requires : tie.Need-put-empty-requires
-put-empty-requires c κs = let h = c .before .before .before .before .before in subst (LongEnough (lentOf (lent (at h)))) (said-is h) (accepted (at h))
+put-empty-requires c κs = let h = c .before .before .before .before .before .before in subst (LongEnough (lentOf (lent (at h)))) (said-is h) (accepted (at h))
 
 -- once the library is opened
 module _ (p : tie.After-put-empty) where
   abbrev head : tie.After-head-of
-  head = p .before .before .before .before .before .before
+  head = p .before .before .before .before .before .before .before
 
   abbrev origin : tie.After-shared-slice-known
   origin = at head
@@ -85,11 +87,12 @@ module _ (p : tie.After-put-empty) where
   empty : Holds library (said (bytes origin)) []
   empty =
       opened-empty (lent origin) (said (bytes origin)) (fine (bytes origin) (sheet-fine origin) .good .measured) (accepted origin .room) _ _ _ _ (p .put-empty .last .1 .1 .1 .1 .0)
+      (p .put-empty .last .1 .1 .1 .1 .1 .0)
       (p .put-empty .ensures ∙ ap (opened (lent origin)) (sym (said-is head)))
 
 load-requires : tie.Need-load-requires
 load-requires c κs =
-    let p = c .before .before .before .before .before .before .before .before .before .before .before .before in
+    let p = c .before .before .before .before .before .before .before .before .before .before .before .before .before .before in
     let h = head p in
     loads (bytes (origin p)) (sheet-fine (origin p)) (known (origin p)) _ _ _ _ (empty p) _ _ (ap (λ (m : Measures). m .n) (sym (said-is h)))
     (omega (arith, before-last h))
@@ -97,7 +100,7 @@ load-requires c κs =
 -- once the earlier traces are added
 module _ (l : tie.After-load) where
   abbrev made : tie.After-put-empty
-  made = l .before .before .before .before .before .before .before .before .before .before .before .before .before
+  made = l .before .before .before .before .before .before .before .before .before .before .before .before .before .before .before
 
   abbrev first : tie.After-shared-slice-known
   first = origin made
@@ -132,4 +135,4 @@ match-in-spec =
     tie.close
     (tie.spec
     head-of-requires sub-last put-empty-requires load-requires match-last-requires (λ c. search needs) (λ c. search needs)
-    (λ c. search needs) (λ c. search needs) (λ c. search needs) returns)
+    (λ c. search needs) (λ c. search needs) (λ c. search needs) (λ c. search needs) returns)

@@ -28,7 +28,7 @@ module _ (j : tie.After-judge-sheet) where
   bytes = now (start .args .sheet)
 
   abbrev lengths : Lent
-  lengths = lent (start .args .control) (start .args .samples) (start .args .nodes) (start .args .links) (start .args .work)
+  lengths = lent (start .args .control) (start .args .samples) (start .args .nodes) (start .args .links) (start .args .work) (start .args .labels)
 
   found : firstOf (sheetConditions bytes) ≡ foundBy (j .judge-sheet .result)
   found = sym (j .judge-sheet .ensures)

@@ -10,7 +10,7 @@ returns : tie.Need-returns
 unfolding foundBy wordOf firstOf
 returns c = λ leafSize.
     let g = c .before .before .args in
-    rw (sym (c .before .control-short .ensures (g .samples) (g .nodes) (g .links) (g .work)) ∙ c .if1 .taken)
+    rw (sym (c .before .control-short .ensures (g .samples) (g .nodes) (g .links) (g .work) (g .labels)) ∙ c .if1 .taken)
 
 returns-2 : tie.Need-returns-2
 unfolding foundBy wordOf firstOf
@@ -19,7 +19,7 @@ returns-2 c = λ leafSize.
     let s = t .before .before in
     let g = s .before .args in
     rw (
-      sym (s .control-short .ensures (g .samples) (g .nodes) (g .links) (g .work)) ∙ t .before .if1 .left,
+      sym (s .control-short .ensures (g .samples) (g .nodes) (g .links) (g .work) (g .labels)) ∙ t .before .if1 .left,
       sym (t .tables-short .ensures (g .control) leafSize) ∙ c .if2 .taken,
     )
 
@@ -30,7 +30,7 @@ returns-3 c = λ leafSize.
     let s = t .before .before in
     let g = s .before .args in
     rw (
-      sym (s .control-short .ensures (g .samples) (g .nodes) (g .links) (g .work)) ∙ t .before .if1 .left,
+      sym (s .control-short .ensures (g .samples) (g .nodes) (g .links) (g .work) (g .labels)) ∙ t .before .if1 .left,
       sym (t .tables-short .ensures (g .control) leafSize) ∙ c .if2 .left,
     )
 

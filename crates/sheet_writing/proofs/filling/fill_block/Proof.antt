@@ -21,12 +21,12 @@ returns c =
     let sheet = now (a .sheet) in
     let end = c .before .before .before .before .before .run-end in
     let from = a .i * narrow .samplesPerBlock in
-    let start = blockSize * (a .i + 1) in
+    let start = blockSize * (1 + a .i) in
     let run =
     lent-run (narrow .samplesPerBlock) (now (a .samples)) from (end .result) (a .total)
     (end .ensures .0) (end .ensures .1) (end .ensures .2) (end .ensures .3) (s .pre .2) in
-    let written = c .before .before .write-samples .ensures ∙ ap (λ (xs : List ℤ). block (narrow .sampleKind) (a .i + 1) (codedAll narrow xs)) run in
-    rw (post-is start (start + blockSize) sheet (omega arith)) (ap (withBlock sheet (a .i + 1)) written)
+    let written = c .before .before .write-samples .ensures ∙ ap (λ (xs : List ℤ). block (narrow .sampleKind) (1 + a .i) (codedAll narrow xs)) run in
+    rw (post-is start (start + blockSize) sheet (omega arith)) (ap (withBlock sheet (1 + a .i)) written)
 
 pub fill-block-spec : {M : Type 1} → statement M
 fill-block-spec =

@@ -1,4 +1,4 @@
--- `sheet_writing::filling::fill_blocks` meets its contract: before turn i, i blocks stand behind block 0. The measure is how many are left.
+-- `sheet_writing::filling::fill_blocks` meets its contract: before turn i, i blocks of samples stand behind block 0. The measure is how many are left.
 use mathlib.Core.Path.{_≡_, refl, ap, subst, _∙_}
 use mathlib.Core.List.{List}
 use Prim.Native.Nat.{ℕ, _+_, _-_, _≤_}
@@ -7,7 +7,7 @@ use lib.ListN.{length, take}
 use denote.Ref.{now}
 use borrow.Author.Needs.{needs}
 use Rattle.sheet_writing.specs.Filled.{withBlock, sampleBlock, withSamples}
-use Rattle.sheet_writing.proofs.BlockByBlock.{none-yet, block-more}
+use Rattle.sheet_writing.proofs.BlockByBlock.{none-sampled, samples-more}
 use Rattle.sheet_writing.proofs.filling.fill_blocks.Statement.{statement}
 use Rattle.sheet_writing.proofs.filling.fill_blocks.Tie as tie
 
@@ -19,7 +19,7 @@ abbrev μ-loop : tie.MeasureT-loop
 μ-loop sheet₀ samples count total i₀ sheet i = count - i
 
 loop-holds : tie.Need-loop-holds Inv-loop μ-loop
-loop-holds c = let a = c .before .args in (omega arith, none-yet (take (a .total) (now (a .samples))) (now (a .sheet)), refl)
+loop-holds c = let a = c .before .args in (omega arith, none-sampled (take (a .total) (now (a .samples))) (now (a .sheet)), refl)
 
 fill-block-requires : tie.Need-fill-block-requires Inv-loop μ-loop
 fill-block-requires c κs = (omega arith, omega arith, omega arith, omega arith)
@@ -32,8 +32,8 @@ loop-again c =
     let all = take (a .total) (now (a .samples)) in (
       omega arith,
       c .before .before .fill-block .ensures
-          ∙ ap (λ (x : List ℕ). withBlock x (l .i + 1) (sampleBlock all (l .i))) (l .inv .1)
-          ∙ block-more all (now (a .sheet)) (l .i) (omega arith),
+          ∙ ap (λ (x : List ℕ). withBlock x (1 + l .i) (sampleBlock all (l .i))) (l .inv .1)
+          ∙ samples-more all (now (a .sheet)) (l .i) (omega arith),
       c .before .before .fill-block .kept .0 ∙ l .inv .2,
     )
 

@@ -1,19 +1,23 @@
 -- `sheet_writing::judging::judge` meets its contract: tables are judged first, then the sheet's length.
 use mathlib.Core.Path.{_≡_, sym, ap, ap₂, _∙_}
 use mathlib.Core.Option.{none}
-use mathlib.Core.List.{List, [], _∷_}
-use Prim.Native.Nat.{ℕ, _+_, _*_}
+use mathlib.Core.List.{List, [], _∷_, map}
+use Prim.Native.Nat.{ℕ, _+_, _*_, _≤_}
 use native.Mathlib.Omega.{arith}
-use lib.ListN.{length}
+use lib.ListN.{length, take}
 use lib.Dec.{ltb}
 use denote.Ref.{now}
 use borrow.Author.Needs.{needs}
 use borrow.Author.Tests.{lt-ltb, le-ltb}
 use Rattle.dstree.specs.Refusals as word
 use Rattle.dstree.specs.Refusals.{Condition, _refuses_, firstOf}
-use Rattle.dstree.specs.Sheet.{blockSize, narrow, sampleBlocksNeeded, blocksNeeded}
+use Rattle.dstree.specs.Measures.{mostTraces, sampleLimit, labelsNeeded}
+use Rattle.dstree.specs.Labels.{labelAt}
+use Rattle.dstree.specs.Sheet.{blockSize, mostBlocks, narrow, sampleBlocksNeeded, labelParts, blocksNeeded, blocksNeededAs}
 use Rattle.dstree.proofs.Conditions.{first-none}
-use Rattle.tables.specs.Tables.{Tables, tables, measuresOf, traceCount}
+use Rattle.dstree.proofs.SheetFormat.{narrow-sound, needed-most}
+use Rattle.tables.specs.Tables.{Tables, measuresOf, traceCount, labelledTables}
+use Rattle.tables.specs.View.{labelsIn}
 use Rattle.tables.specs.Answers.{wordOf, foundBy, madeConditions}
 use Rattle.tables.proofs.Judged.{Accepted, accepted}
 use Rattle.well_formed.proofs.Refused.{refused-first}
@@ -24,18 +28,18 @@ use Rattle.sheet_writing.proofs.judging.judge.Tie as tie
 
 module _ (j : tie.After-judge-tables) where
   abbrev start : tie.Start
-  start = j .before .before .before .before .before .before .before .before .before
+  start = j .before .before .before .before .before .before .before .before .before .before
 
   abbrev lent : Tables
   lent =
-      tables (now (start .args .control)) (now (start .args .samples)) (now (start .args .nodes)) (now (start .args .links))
-      (now (start .args .work))
+      labelledTables (now (start .args .control)) (now (start .args .samples)) (now (start .args .nodes)) (now (start .args .links))
+      (now (start .args .work)) (now (start .args .labels))
 
   abbrev places : ℕ
   places = length (now (start .args .sheet))
 
   abbrev need : ℕ
-  need = blockSize * blocksNeeded (traceCount lent) (measuresOf lent .n)
+  need = blockSize * blocksNeeded (traceCount lent) (measuresOf lent .n) (labelsIn lent)
 
   -- the condition behind those of the tables
   abbrev own : List Condition
@@ -63,24 +67,56 @@ module _ (e : tie.After-enum-told) where
   taken : Accepted (lent judged)
   taken = accepted (lent judged) fine
 
--- the bytes that the code compares with are those needed
-need-is : (l : tie.After-sample-blocks) → blockSize * (1 + l .sample-blocks .result) ≡ need (judged (l .before))
-unfolding blocksNeeded
-need-is l =
-    omega (arith, l .sample-blocks .ensures .0 ∙ ap₂ (sampleBlocksNeeded narrow) (k-is (judged (l .before))) (n-is (judged (l .before))))
+  few : judged .before .wide2 .result ≤ mostTraces
+  few = omega (arith, k-is judged, facts (lent judged) (taken .formed) .room, taken .range .capacity-high)
 
 sample-blocks-requires : tie.Need-sample-blocks-requires
-sample-blocks-requires c κs =
-    let j = judged c in
-    let ok = taken c in
-    (omega (arith, k-is j, facts (lent j) (ok .formed) .room, ok .range .capacity-high), omega (arith, n-is j, ok .range .n-high))
+sample-blocks-requires c κs = (few c, omega (arith, n-is (judged c), taken c .range .n-high))
+
+label-blocks-requires : tie.Need-label-blocks-requires
+unfolding labelsNeeded
+label-blocks-requires c κs =
+    let e = c .before in
+    let j = judged e in
+    (omega (arith, k-is j, facts (lent j) (taken e .formed) .room, taken e .room .labels-room), few e)
+
+-- once both numbers are known
+module _ (l : tie.After-label-blocks) where
+  abbrev fineTables : tie.After-enum-told
+  fineTables = l .before .before
+
+  abbrev tables : tie.After-judge-tables
+  tables = judged fineTables
+
+  samples-are : l .before .sample-blocks .result ≡ sampleBlocksNeeded narrow (traceCount (lent tables)) (measuresOf (lent tables) .n)
+  samples-are = l .before .sample-blocks .ensures .0 ∙ ap₂ (sampleBlocksNeeded narrow) (k-is tables) (n-is tables)
+
+  labels-are : l .label-blocks .result ≡ length (labelParts (labelsIn (lent tables)))
+  unfolding labelsIn
+  labels-are =
+      l .label-blocks .ensures .0
+      ∙ ap (λ (k : ℕ). length (labelParts (map labelAt (take k (now (start tables .args .labels)))))) (k-is tables)
+
+  -- the bytes that the code compares with are those needed
+  need-is : blockSize * (1 + l .before .sample-blocks .result + l .label-blocks .result) ≡ need tables
+  unfolding blocksNeededAs
+  need-is = omega (arith, samples-are, labels-are)
+
+  small : l .before .sample-blocks .result + l .label-blocks .result ≤ 2 * mostBlocks
+  small =
+      omega (
+        arith,
+        l .before .sample-blocks .ensures .1,
+        l .label-blocks .ensures .1,
+        needed-most narrow sampleLimit narrow-sound (tables .before .wide2 .result) 0 (few fineTables) (omega arith),
+      )
 
 returns : tie.Need-returns
 unfolding foundBy wordOf firstOf
 returns c =
     let l = c .before in
-    let j = judged (l .before) in
-    rw (only (l .before), lt-ltb (places j) (need j) (omega (arith, c .if1 .taken, need-is l)))
+    let j = tables l in
+    rw (only (fineTables l), lt-ltb (places j) (need j) (omega (arith, c .if1 .taken, need-is l)))
 
 returns-2 : tie.Need-returns-2
 unfolding writes
@@ -92,13 +128,13 @@ returns-3 : tie.Need-returns-3
 unfolding foundBy firstOf
 returns-3 c =
     let l = c .before in
-    let j = judged (l .before) in
-    rw (only (l .before), le-ltb (places j) (need j) (omega (arith, c .if1 .left, need-is l)))
+    let j = tables l in
+    rw (only (fineTables l), le-ltb (places j) (need j) (omega (arith, c .if1 .left, need-is l)))
 
 pub judge-spec : {M : Type 1} → statement M
 judge-spec =
     tie.close
     (tie.spec
     (λ c κs. search needs) (λ c κs. search needs) (λ c κs. search needs) (λ c κs. search needs) (λ c κs. search needs)
-    (λ c. search needs) (λ c. search needs) sample-blocks-requires (λ c. omega (arith, c .sample-blocks .ensures .1))
-    (λ c. omega (arith, c .sample-blocks .ensures .1)) returns returns-2 returns-3)
+    (λ c. search needs) (λ c. search needs) sample-blocks-requires (λ c. omega (arith, c .sample-blocks .ensures .1)) label-blocks-requires
+    (λ c. omega (arith, small c)) (λ c. omega (arith, small c)) returns returns-2 returns-3)

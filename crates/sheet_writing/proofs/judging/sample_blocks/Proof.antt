@@ -5,7 +5,7 @@ use native.Mathlib.Omega.{arith}
 use native.Mathlib.Nat.{mul-le-mul}
 use Rattle.integer.specs.Words.{roundedUp}
 use Rattle.dstree.specs.Measures.{sampleLimit}
-use Rattle.dstree.specs.Sheet.{narrow, sampleBlocksNeeded}
+use Rattle.dstree.specs.Sheet.{narrow, cellBlocksNeeded}
 use Rattle.dstree.proofs.SheetFormat.{narrow-sound, needed-most}
 use Rattle.sheet_writing.proofs.judging.sample_blocks.Statement.{statement}
 use Rattle.sheet_writing.proofs.judging.sample_blocks.Tie as tie
@@ -14,8 +14,8 @@ few : (s : tie.Start) → s .args .k * s .args .n ≤ 1048576
 few s = mul-le-mul {n₁ = s .args .k} {m₁ = s .args .n} {n₂ = 4096} {m₂ = 256} (s .pre .0) (s .pre .1)
 
 returns : tie.Need-returns
-unfolding sampleBlocksNeeded roundedUp
-returns c = (refl, needed-most narrow sampleLimit narrow-sound (c .args .k) (c .args .n) (c .pre .0) (c .pre .1))
+unfolding cellBlocksNeeded roundedUp
+returns c = (refl, omega (arith, needed-most narrow sampleLimit narrow-sound (c .args .k) (c .args .n) (c .pre .0) (c .pre .1)))
 
 pub sample-blocks-spec : {M : Type 1} → statement M
 sample-blocks-spec =

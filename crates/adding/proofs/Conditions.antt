@@ -2,11 +2,14 @@
 use mathlib.Core.Path.{_≡_}
 use mathlib.Core.Bool.{not}
 use mathlib.Core.Option.{none}
+use Prim.Native.Nat.{_<_}
+use native.Mathlib.Omega.{arith}
 use lib.ListN.{length}
 use lib.Dec.{eqb}
 use borrow.Author.Tests.{not-false, eqb-true, eqb-false}
 use Rattle.integer.proofs.Lists.{strict}
-use Rattle.dstree.specs.Measures.{Trace}
+use Rattle.dstree.specs.Measures.{Trace, labelsNeeded}
+use Rattle.dstree.specs.Labels.{Label}
 use Rattle.dstree.specs.Refusals as word
 use Rattle.dstree.specs.Refusals.{firstOf}
 use Rattle.dstree.proofs.Conditions.{none-first, none-both}
@@ -20,9 +23,10 @@ use Rattle.calls.specs.Effects.{adds}
 use Rattle.adding.specs.Putting.{Takes}
 
 -- whatever the search work holds
-pub takes : (t : Tables) (x : Trace) → firstOf (adds t x .conditions) ≡ none → Takes (t .control) (t .samples) (t .nodes) (t .links) x
+pub takes : (t : Tables) (x : Trace) (l : Label) → firstOf (adds t x l .conditions) ≡ none
+    → Takes (t .control) (t .samples) (t .nodes) (t .links) x
 unfolding adds wellFormed kindsNamed treeIn
-takes t x e =
+takes t x l e =
     let parts = none-both (madeConditions t) _ e in
     let ok = accepted t (parts .0) in
     let two = none-first (not (eqb (length x) (measuresOf t .n))) word.wrongTrace _ (parts .1) in
@@ -34,3 +38,9 @@ takes t x e =
       size = eqb-true (length x) (measuresOf t .n) (not-false _ (two .0));
       less = strict (tree-formed t (ok .formed) .room) (λ q. eqb-false (traceCount t) (measuresOf t .capacity) (three .0) q);
     }
+
+-- .. and have a place for its label
+pub has-place : (t : Tables) (x : Trace) (l : Label) → firstOf (adds t x l .conditions) ≡ none → traceCount t < length (t .labels)
+unfolding adds labelsNeeded
+has-place t x l e =
+    omega (arith, takes t x l e .less, accepted t (none-both (madeConditions t) _ e .0) .room .labels-room)

@@ -10,27 +10,29 @@ use tables::places::N;
 use tables::places::TRACE_COUNT;
 use well_formed::judging::judge_tables;
 ghost use mathlib.Core.Path.{_≡_};
+ghost use Rattle.dstree.specs.Labels.{Label};
 ghost use Rattle.dstree.specs.Refusals.{firstOf};
-ghost use Rattle.tables.specs.Tables.{tables};
+ghost use Rattle.tables.specs.Lent.{tablesBefore};
 ghost use Rattle.tables.specs.Answers.{foundBy};
 ghost use Rattle.calls.specs.Effects.{adds};
 
+// Whatever the trace's label is.
 pub fn judge(
     control: &[u16],
     samples: &[Sample],
     nodes: &[i64],
     links: &[u16],
     work: &[u64],
+    labels: &[u64],
     trace: &[Sample],
 ) -> Verdict
-    ensures { λ r. ⌜ foundBy r ≡ firstOf (adds
-        (tables (now (control .entry)) (now (samples .entry)) (now (nodes .entry)) (now (links .entry)) (now (work .entry)))
-        (now (trace .entry)) .conditions) ⌝ }
+    ensures { λ r. ⌜ ((l : Label) → foundBy r ≡ firstOf (adds (tablesBefore control samples nodes links work labels)
+        (now (trace .entry)) l .conditions)) ⌝ }
 {
     let n = wide(field(control, N));
     let capacity = field(control, CAPACITY);
     let k = field(control, TRACE_COUNT);
-    let made = judge_tables(control, samples, nodes, links, work);
+    let made = judge_tables(control, samples, nodes, links, work, labels);
     match made {
         Verdict::Refused(why) => Verdict::Refused(why),
         Verdict::Fine => {

@@ -14,7 +14,7 @@ use Rattle.dstree.specs.KNearest.{listPlaces}
 use Rattle.dstree.specs.Refusals.{firstOf}
 use Rattle.dstree.specs.Batch.{Batch, batchBySteps}
 use Rattle.dstree.specs.Book.{batching, batched, besideOf, answering, over}
-use Rattle.tables.specs.Tables.{Tables, tables}
+use Rattle.tables.specs.Tables.{Tables, labelledTables}
 use Rattle.tables.specs.View.{treeIn, tracesIn}
 use Rattle.tables.specs.Answers.{foundBy, madeConditions}
 use Rattle.tables.specs.declared.Refusal.{Refusal}
@@ -40,9 +40,9 @@ pub list-filled : (count : ℕ) (bests : List ℕ) (list : List Near) → length
 unfolding listBy
 list-filled count bests list e = rw (eq-eqb (length list) count e)
 
-module _ (control : List ℕ) (samples nodes : List ℤ) (links work : List ℕ) (many : ℕ) (run : Trace) (trail : List ℕ) (list : List Near) where
+module _ (control : List ℕ) (samples nodes : List ℤ) (links work labels : List ℕ) (many : ℕ) (run : Trace) (trail : List ℕ) (list : List Near) where
   abbrev lent : Tables
-  lent = tables control samples nodes links work
+  lent = labelledTables control samples nodes links work labels
 
   pub batch-refused : (why : Refusal) (bests : List ℕ)
       → firstOf (madeConditions lent ++ batchConditionsIn lent many (length list) run trail) ≡ foundBy (v.Refused why)
@@ -64,12 +64,12 @@ module _ (control : List ℕ) (samples nodes : List ℤ) (links work : List ℕ)
     trail-is = over-first out trail trail′ (omega (arith, s .within, trail-size)) (s .trail-rest)
 
     pub batch-answer : firstOf (madeConditions lent ++ batchConditionsIn lent many (length list) run trail) ≡ none → length list ≡ many
-        → outcome (answerBy (o.Done out) (listBy many bests list) trail′) (tables control samples nodes links work′)
+        → outcome (answerBy (o.Done out) (listBy many bests list) trail′) (labelledTables control samples nodes links work′ labels)
         (trail′ ∷ listPlaces (listBy many bests list) ∷ []) ≡ outcomeOn (batching many run trail list) lent
     unfolding answerBy outcomeOn effectOf besideOf unlessRefused
     batch-answer q size =
         rw (q, list-filled many bests list size)
-        (ap (λ (w : List ℕ). outcome (answering (batched found)) (tables control samples nodes links w)
+        (ap (λ (w : List ℕ). outcome (answering (batched found)) (labelledTables control samples nodes links w labels)
         (trail′ ∷ listPlaces (nearsIn many bests) ∷ [])) (s .work-zero)
         ∙ ap (λ (l : List ℕ). outcome (answering (batched found)) (cleared lent) (l ∷ listPlaces (nearsIn many bests) ∷ [])) trail-is
         ∙ ap (λ (b : Batch). outcome (answering (batched b)) (cleared lent) (over (b .trail) trail ∷ listPlaces (b .answers) ∷ [])) by-steps)

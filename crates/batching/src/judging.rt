@@ -20,6 +20,7 @@ ghost use Rattle.dstree.specs.Measures.{mostSamples};
 ghost use Rattle.tables.specs.Layout.{nPlace, nodeCountPlace, recordPlaces, nodePlaces};
 ghost use Rattle.tables.specs.Tables as t;
 ghost use Rattle.tables.specs.Tables.{tables};
+ghost use Rattle.tables.specs.Lent.{tablesBefore};
 ghost use Rattle.tables.specs.Answers.{foundBy, madeConditions};
 ghost use Rattle.calls.specs.Effects.{batchConditionsIn};
 
@@ -64,18 +65,19 @@ pub fn judge(
     nodes: &[i64],
     links: &[u16],
     work: &[u64],
+    labels: &[u64],
     queries: &[Sample],
     many: usize,
     places: usize,
     trail: &[u16],
 ) -> Verdict
     ensures { λ r. ⌜ foundBy r ≡ firstOf (madeConditions
-        (tables (now (control .entry)) (now (samples .entry)) (now (nodes .entry)) (now (links .entry)) (now (work .entry)))
+        (tablesBefore control samples nodes links work labels)
         ++ batchConditionsIn
-        (tables (now (control .entry)) (now (samples .entry)) (now (nodes .entry)) (now (links .entry)) (now (work .entry)))
+        (tablesBefore control samples nodes links work labels)
         many places (now (queries .entry)) (now (trail .entry))) ⌝ }
 {
-    let made = judge_tables(control, samples, nodes, links, work);
+    let made = judge_tables(control, samples, nodes, links, work, labels);
     match made {
         Verdict::Refused(why) => Verdict::Refused(why),
         Verdict::Fine => judge_own(control, nodes, queries, many, places, trail),

@@ -12,7 +12,7 @@ ghost use lib.ListN.{length};
 ghost use Rattle.dstree.specs.Matching.{Near};
 ghost use Rattle.dstree.specs.KNearest.{listPlaces};
 ghost use Rattle.dstree.specs.Book.{batching};
-ghost use Rattle.tables.specs.Tables.{tables};
+ghost use Rattle.tables.specs.Lent.{tablesAfterSearch, tablesBefore};
 ghost use Rattle.calls.specs.Outcome as calls;
 ghost use Rattle.calls.specs.Effects.{outcomeOn};
 ghost use Rattle.batching.specs.Answered.{answerBy, answerAt, listAfter};
@@ -47,6 +47,7 @@ pub fn match_all(
     nodes: &[i64],
     links: &[u16],
     work: &mut [u64],
+    labels: &[u64],
     trail: &mut [u16],
     queries: &[Sample],
     many: usize,
@@ -54,10 +55,10 @@ pub fn match_all(
 ) -> BatchFound
     ensures { λ r. ⌜ ((list : List Near) → length list ≡ places
         → calls.outcome (answerBy (r .outcome) (listAfter r list) (now (trail .exit)))
-        (tables (now (control .entry)) (now (samples .entry)) (now (nodes .entry)) (now (links .entry)) (now (work .exit)))
+        (tablesAfterSearch control samples nodes links work labels)
         (now (trail .exit) ∷ listPlaces (listAfter r list) ∷ [])
         ≡ outcomeOn (batching many (now (queries .entry)) (now (trail .entry)) list)
-        (tables (now (control .entry)) (now (samples .entry)) (now (nodes .entry)) (now (links .entry)) (now (work .entry)))) ⌝ }
+        (tablesBefore control samples nodes links work labels)) ⌝ }
 {
     let verdict = judging::judge(
         control,
@@ -65,6 +66,7 @@ pub fn match_all(
         nodes,
         links,
         work,
+        labels,
         queries,
         many,
         places,

@@ -11,7 +11,7 @@ use Rattle.dstree.specs.Refusals.{firstOf, _refuses_, looseRecord}
 use Rattle.dstree.specs.Book.{checking, besideOf, accepted}
 use Rattle.dstree.specs.Checking.{isExact}
 use Rattle.dstree.proofs.Conditions.{first-none}
-use Rattle.tables.specs.Tables.{Tables, tables}
+use Rattle.tables.specs.Tables.{Tables, tables, labelledTables}
 use Rattle.tables.specs.View.{treeIn, tracesIn, kindsNamed, wellFormed}
 use Rattle.tables.specs.Holds.{Long}
 use Rattle.tables.specs.Answers.{foundBy, madeConditions}
@@ -24,11 +24,11 @@ use Rattle.calls.proofs.Ends.{ends-refused, ends-done}
 use Rattle.checking.specs.Answered.{answerBy}
 use Rattle.checking.specs.declared.Checked.the-variants as c
 
-module _ (control : List ℕ) (samples nodes : List ℤ) (links work : List ℕ) where
+module _ (control : List ℕ) (samples nodes : List ℤ) (links work labels : List ℕ) where
   abbrev t : Tables
-  t = tables control samples nodes links work
+  t = labelledTables control samples nodes links work labels
 
-  pub sound : firstOf (madeConditions (tables control samples nodes links work)) ≡ none
+  pub sound : firstOf (madeConditions (labelledTables control samples nodes links work labels)) ≡ none
       → T (wellFormed (tables control samples nodes links [])) × Long (tables control samples nodes links [])
   unfolding wellFormed kindsNamed treeIn
   sound e =
@@ -36,9 +36,9 @@ module _ (control : List ℕ) (samples nodes : List ℤ) (links work : List ℕ)
       (ok .formed, ok .room .long)
 
   -- the condition that is left
-  pub last-condition : (b : Bool) → firstOf (madeConditions (tables control samples nodes links work)) ≡ none
+  pub last-condition : (b : Bool) → firstOf (madeConditions (labelledTables control samples nodes links work labels)) ≡ none
       → b ≡ isExact (tracesIn (tables control samples nodes links [])) (treeIn (tables control samples nodes links []))
-      → firstOf (checks (tables control samples nodes links work) .conditions) ≡ firstOf (not b refuses looseRecord ∷ [])
+      → firstOf (checks (labelledTables control samples nodes links work labels) .conditions) ≡ firstOf (not b refuses looseRecord ∷ [])
   unfolding checks treeIn tracesIn
   last-condition b e is = first-none (madeConditions t) (not (isExact (tracesIn t) (treeIn t)) refuses looseRecord ∷ []) e ∙ rw is
 

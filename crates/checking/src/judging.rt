@@ -6,7 +6,7 @@ use tables::Verdict;
 use well_formed::judging::judge_tables;
 ghost use mathlib.Core.Path.{_≡_};
 ghost use Rattle.dstree.specs.Refusals.{firstOf};
-ghost use Rattle.tables.specs.Tables.{tables};
+ghost use Rattle.tables.specs.Lent.{tablesBefore};
 ghost use Rattle.tables.specs.Answers.{foundBy};
 ghost use Rattle.calls.specs.Effects.{checks};
 
@@ -16,12 +16,12 @@ pub fn judge(
     nodes: &[i64],
     links: &[u16],
     work: &[u64],
+    labels: &[u64],
 ) -> Verdict
     ensures { λ r. ⌜ foundBy r ≡ firstOf (checks
-        (tables (now (control .entry)) (now (samples .entry)) (now (nodes .entry)) (now (links .entry))
-        (now (work .entry))) .conditions) ⌝ }
+        (tablesBefore control samples nodes links work labels) .conditions) ⌝ }
 {
-    let made = judge_tables(control, samples, nodes, links, work);
+    let made = judge_tables(control, samples, nodes, links, work, labels);
     match made {
         Verdict::Refused(why) => Verdict::Refused(why),
         Verdict::Fine => {

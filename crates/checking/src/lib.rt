@@ -19,6 +19,7 @@ ghost use lib.Dec.{T};
 ghost use Rattle.dstree.specs.Book.{checking};
 ghost use Rattle.dstree.specs.Checking.{isExact};
 ghost use Rattle.tables.specs.Tables.{tables};
+ghost use Rattle.tables.specs.Lent.{tablesBefore};
 ghost use Rattle.tables.specs.View.{treeIn, tracesIn, wellFormed};
 ghost use Rattle.tables.specs.Holds.{Long};
 ghost use Rattle.calls.specs.Outcome.{outcome};
@@ -62,13 +63,14 @@ pub fn check_tables(
     nodes: &[i64],
     links: &[u16],
     work: &[u64],
+    labels: &[u64],
 ) -> Checked
     ensures { λ r. ⌜ outcome (answerBy r)
-        (tables (now (control .entry)) (now (samples .entry)) (now (nodes .entry)) (now (links .entry)) (now (work .entry))) []
+        (tablesBefore control samples nodes links work labels) []
         ≡ outcomeOn checking
-        (tables (now (control .entry)) (now (samples .entry)) (now (nodes .entry)) (now (links .entry)) (now (work .entry))) ⌝ }
+        (tablesBefore control samples nodes links work labels) ⌝ }
 {
-    let verdict = judging::judge(control, samples, nodes, links, work);
+    let verdict = judging::judge(control, samples, nodes, links, work, labels);
     match verdict {
         Verdict::Refused(why) => Checked::Refused(why),
         Verdict::Fine => Checked::Accepted,

@@ -17,7 +17,8 @@ ghost use lib.Dec.{ltb};
 ghost use Rattle.dstree.specs.Refusals.{firstOf};
 ghost use Rattle.dstree.specs.Recording.{rateLimit};
 ghost use Rattle.dstree.specs.Book.{exportConditions};
-ghost use Rattle.tables.specs.Tables.{tables, measuresOf, traceCount};
+ghost use Rattle.tables.specs.Tables.{measuresOf, tables, traceCount};
+ghost use Rattle.tables.specs.Lent.{tablesBefore};
 ghost use Rattle.tables.specs.Answers.{foundBy};
 ghost use Rattle.calls.specs.Effects.{exports};
 
@@ -54,15 +55,16 @@ pub fn judge(
     nodes: &[i64],
     links: &[u16],
     work: &[u64],
+    labels: &[u64],
     buffer: &[u8],
     number: u64,
     rate: u64,
 ) -> Verdict
     ensures { λ r. ⌜ foundBy r ≡ firstOf (exports
-        (tables (now (control .entry)) (now (samples .entry)) (now (nodes .entry)) (now (links .entry)) (now (work .entry)))
+        (tablesBefore control samples nodes links work labels)
         number rate (now (buffer .entry)) .conditions) ⌝ }
 {
-    let made = judge_tables(control, samples, nodes, links, work);
+    let made = judge_tables(control, samples, nodes, links, work, labels);
     match made {
         Verdict::Refused(why) => Verdict::Refused(why),
         Verdict::Fine => judge_own(control, buffer, number, rate),

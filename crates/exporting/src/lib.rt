@@ -13,7 +13,7 @@ use tables::runs::trace_at;
 ghost use mathlib.Core.Path.{_≡_};
 ghost use mathlib.Core.List.{[], _∷_};
 ghost use Rattle.dstree.specs.Book.{exporting};
-ghost use Rattle.tables.specs.Tables.{tables};
+ghost use Rattle.tables.specs.Lent.{tablesBefore};
 ghost use Rattle.calls.specs.Outcome.{outcome};
 ghost use Rattle.calls.specs.Effects.{outcomeOn};
 ghost use Rattle.exporting.specs.Answered.{answerBy};
@@ -25,7 +25,7 @@ pub enum Exported {
 }
 
 // Writes a stored trace as a recording, at a rate, to the buffer's first places. Every refusal is decided before anything is written. All
-// five tables are lent only to be read and to be long enough: they stay as they were.
+// six tables are lent only to be read and to be long enough: they stay as they were.
 //
 // Two wrong programs that the contract rules out: one that says the number of samples for the number of bytes, and one that zeroes the
 // buffer behind the recording.
@@ -35,17 +35,28 @@ pub fn export_recording(
     nodes: &[i64],
     links: &[u16],
     work: &[u64],
+    labels: &[u64],
     buffer: &mut [u8],
     number: u64,
     rate: u64,
 ) -> Exported
     ensures { λ r. ⌜ outcome (answerBy r (now (buffer .exit)))
-        (tables (now (control .entry)) (now (samples .entry)) (now (nodes .entry)) (now (links .entry)) (now (work .entry)))
+        (tablesBefore control samples nodes links work labels)
         (now (buffer .exit) ∷ [])
         ≡ outcomeOn (exporting number rate (now (buffer .entry)))
-        (tables (now (control .entry)) (now (samples .entry)) (now (nodes .entry)) (now (links .entry)) (now (work .entry))) ⌝ }
+        (tablesBefore control samples nodes links work labels) ⌝ }
 {
-    let verdict = judging::judge(control, samples, nodes, links, work, buffer, number, rate);
+    let verdict = judging::judge(
+        control,
+        samples,
+        nodes,
+        links,
+        work,
+        labels,
+        buffer,
+        number,
+        rate,
+    );
     match verdict {
         Verdict::Refused(why) => Exported::Refused(why),
         Verdict::Fine => {

@@ -1,5 +1,5 @@
 -- An import that is not refused: the file's traces, and tables that take all of them.
-use Prim.Native.Nat.{ℕ}
+use Prim.Native.Nat.{ℕ, _+_, _≤_}
 use mathlib.Core.Path.{_≡_, refl, ap, _∙_, subst}
 use mathlib.Core.Bool.{Bool, true, false}
 use mathlib.Core.Option.{none, some}
@@ -8,15 +8,16 @@ use native.Mathlib.Omega.{arith}
 use lib.ListN.{length}
 use lib.Dec.{T}
 use Rattle.integer.specs.Words.{if_then_else_}
-use Rattle.dstree.specs.Measures.{Trace, areSamples}
+use Rattle.dstree.specs.Measures.{Trace, areSamples, labelsNeeded}
 use Rattle.dstree.specs.Refusals.{firstOf, badRecording}
 use Rattle.dstree.specs.Sheet.{areBytes}
 use Rattle.dstree.specs.Recording.{Recording, isRecording, recordedTraces, judgeRecording, isBadFile, fileTraces}
 use Rattle.dstree.proofs.Conditions.{none-first, none-both}
-use Rattle.tables.specs.Tables.{Tables, tables, measuresOf}
+use Rattle.tables.specs.Tables.{Tables, tables, measuresOf, traceCount}
 use Rattle.tables.specs.View.{treeIn, tracesIn, kindsNamed, wellFormed}
 use Rattle.tables.specs.Answers.{madeConditions}
 use Rattle.insertion_memory.specs.Takes.{TakesAll}
+use Rattle.tables.proofs.Judged.{accepted}
 use Rattle.tables.proofs.Views.{measures-fit}
 use Rattle.calls.specs.Effects.{imports}
 use Rattle.calls.proofs.OneCall.{import-takes}
@@ -71,3 +72,15 @@ module _ (t : Tables) (bytes : List ℕ) (e : firstOf (imports t bytes .conditio
         holds = λ number h. record { some-sample = range .n-low; sound = sound; numbered = omega (arith, h, many) };
         takes = without-work t (recordedTraces n bytes) all;
       }
+
+  -- there is a place for the label of each
+  pub has-places : T (areBytes bytes) → T (areSamples (t .samples)) → (count : ℕ) → count ≡ length (fileTraces (judgeRecording n bytes))
+      → traceCount t + count ≤ length (t .labels)
+  unfolding imports labelsNeeded
+  has-places are-bytes typed count counted =
+      omega (
+        arith,
+        counted,
+        import-takes t bytes are-bytes typed e .room,
+        accepted t (none-both (madeConditions t) _ e .0) .room .labels-room,
+      )

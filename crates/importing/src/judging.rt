@@ -20,6 +20,7 @@ ghost use Prim.Native.Nat.{_≤_, _<_};
 ghost use Rattle.dstree.specs.Recording.{judgeRecording};
 ghost use Rattle.dstree.specs.Book.{importing};
 ghost use Rattle.tables.specs.Tables.{tables, measuresOf, traceCount};
+ghost use Rattle.tables.specs.Lent.{tablesBefore};
 ghost use Rattle.calls.specs.Effects.{outcomeOn};
 ghost use Rattle.importing.specs.Answered.{answerBy, fileAnswer};
 
@@ -52,12 +53,13 @@ pub fn judge(
     nodes: &[i64],
     links: &[u16],
     work: &[u64],
+    labels: &[u64],
     bytes: &[u8],
 ) -> Imported
     ensures { λ r. ⌜ answerBy r ≡ outcomeOn (importing (now (bytes .entry)))
-        (tables (now (control .entry)) (now (samples .entry)) (now (nodes .entry)) (now (links .entry)) (now (work .entry))) .answer ⌝ }
+        (tablesBefore control samples nodes links work labels) .answer ⌝ }
 {
-    let made = judge_tables(control, samples, nodes, links, work);
+    let made = judge_tables(control, samples, nodes, links, work, labels);
     match made {
         Verdict::Refused(why) => Imported::Refused(why),
         Verdict::Fine => judge_file(control, bytes),

@@ -7,13 +7,15 @@ use loading::load;
 use segment::Sample;
 use tables::Refusal;
 use tables::control::field;
+use tables::label_table::clear;
 use tables::loops::look;
 use tables::numbers::wide;
 use tables::places::N;
+use tables::places::TRACE_COUNT;
 ghost use mathlib.Core.Path.{_≡_};
 ghost use mathlib.Core.List.{[]};
 ghost use Rattle.dstree.specs.Book.{importing};
-ghost use Rattle.tables.specs.Tables.{tables};
+ghost use Rattle.tables.specs.Lent.{tablesAfterAdding, tablesBefore};
 ghost use Rattle.calls.specs.Outcome.{outcome};
 ghost use Rattle.calls.specs.Effects.{outcomeOn};
 ghost use Rattle.importing.specs.Answered.{answerBy};
@@ -25,8 +27,8 @@ pub enum Imported {
 }
 
 // Adds the traces of a file of any bytes, in order, all or none. Every refusal is decided before anything is written, and what was judged
-// is not tested again: each trace goes into tables that are known to be well formed. Search work is lent only to be long enough: it stays
-// as it was.
+// is not tested again: each trace goes into tables that are known to be well formed. A recording gives no labels, so that they are zero.
+// Search work is lent only to be long enough: it stays as it was.
 //
 // Two wrong programs that the contract rules out: one that adds traces until the library is full and then refuses, and one that takes a
 // file whose last trace is short.
@@ -36,20 +38,23 @@ pub fn import_recording(
     nodes: &mut [i64],
     links: &mut [u16],
     work: &[u64],
+    labels: &mut [u64],
     bytes: &[u8],
 ) -> Imported
     ensures { λ r. ⌜ outcome (answerBy r)
-        (tables (now (control .exit)) (now (samples .exit)) (now (nodes .exit)) (now (links .exit)) (now (work .entry)))
+        (tablesAfterAdding control samples nodes links work labels)
         []
         ≡ outcomeOn (importing (now (bytes .entry)))
-        (tables (now (control .entry)) (now (samples .entry)) (now (nodes .entry)) (now (links .entry)) (now (work .entry))) ⌝ }
+        (tablesBefore control samples nodes links work labels) ⌝ }
 {
-    let judged = judging::judge(control, samples, nodes, links, work, bytes);
+    let judged = judging::judge(control, samples, nodes, links, work, labels, bytes);
     match judged {
         Imported::Refused(why) => Imported::Refused(why),
         Imported::Traces(count) => {
             let n = wide(field(control, N));
+            let k = wide(field(control, TRACE_COUNT));
             look(samples);
+            clear(labels, k, count as usize);
             load(
                 control,
                 samples,

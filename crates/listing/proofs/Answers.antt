@@ -13,7 +13,7 @@ use Rattle.dstree.specs.KNearest.{Listing, KNearest, listed, listPlaces, kNeare
 use Rattle.dstree.specs.Refusals.{firstOf}
 use Rattle.dstree.specs.Book as book
 use Rattle.dstree.specs.Book.{besideOf, neighbours, over}
-use Rattle.tables.specs.Tables.{Tables, tables}
+use Rattle.tables.specs.Tables.{Tables, labelledTables}
 use Rattle.tables.specs.View.{treeIn, tracesIn}
 use Rattle.reading.specs.Listed.{nearsIn}
 use Rattle.reading.proofs.Places.{list-over}
@@ -24,9 +24,9 @@ use Rattle.calls.proofs.Ends.{ends-done, over-first}
 use Rattle.listing.specs.Answered.{answerBy}
 use Rattle.listing.specs.declared.Listed.the-variants as l
 
-module _ (control : List ℕ) (samples nodes : List ℤ) (links work : List ℕ) (k : ℕ) (query : Trace) (trail list : List ℕ) where
+module _ (control : List ℕ) (samples nodes : List ℤ) (links work labels : List ℕ) (k : ℕ) (query : Trace) (trail list : List ℕ) where
   abbrev lent : Tables
-  lent = tables control samples nodes links work
+  lent = labelledTables control samples nodes links work labels
 
   module _ (work′ trail′ list′ : List ℕ) (many out traces : ℕ) (trail-size : length trail′ ≡ length trail)
       (list-size : length list′ ≡ length list) (room : 2 * k ≤ length list)
@@ -58,12 +58,12 @@ module _ (control : List ℕ) (samples nodes : List ℤ) (links work : List ℕ)
     list-is = list-over many list list′ in-list (s .visited .list-rest)
 
     pub list-answer : firstOf (lists lent k query trail list .conditions) ≡ none
-        → outcome (answerBy (l.Found out traces many) trail′ list′) (tables control samples nodes links work′) (trail′ ∷ list′ ∷ [])
+        → outcome (answerBy (l.Found out traces many) trail′ list′) (labelledTables control samples nodes links work′ labels) (trail′ ∷ list′ ∷ [])
         ≡ outcomeOn (book.listing k query trail list) lent
     unfolding answerBy outcomeOn effectOf besideOf
     list-answer e =
         ends-done lent (trail ∷ list ∷ []) (lists lent k query trail list) _ _ _ e
         (ap neighbours by-steps)
-        (ap (λ (w : List ℕ). tables control samples nodes links w) (s .work-zero))
+        (ap (λ (w : List ℕ). labelledTables control samples nodes links w labels) (s .work-zero))
         (ap₂ (λ (t l : List ℕ). t ∷ l ∷ []) trail-is list-is
         ∙ ap (λ (m : KNearest). over (m .trail) trail ∷ over (listPlaces (m .list)) list ∷ []) by-steps)

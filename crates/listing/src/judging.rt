@@ -16,6 +16,7 @@ ghost use Rattle.dstree.specs.Refusals.{firstOf};
 ghost use Rattle.tables.specs.Layout.{nodeCountPlace, recordPlaces, nodePlaces};
 ghost use Rattle.tables.specs.Tables as t;
 ghost use Rattle.tables.specs.Tables.{tables};
+ghost use Rattle.tables.specs.Lent.{tablesBefore};
 ghost use Rattle.tables.specs.Answers.{foundBy};
 ghost use Rattle.calls.specs.Effects.{listConditionsIn, lists};
 
@@ -65,16 +66,17 @@ pub fn judge(
     nodes: &[i64],
     links: &[u16],
     work: &[u64],
+    labels: &[u64],
     query: &[Sample],
     trail: &[u16],
     list: &[u64],
     k: u64,
 ) -> Verdict
     ensures { λ r. ⌜ foundBy r ≡ firstOf (lists
-        (tables (now (control .entry)) (now (samples .entry)) (now (nodes .entry)) (now (links .entry)) (now (work .entry)))
+        (tablesBefore control samples nodes links work labels)
         k (now (query .entry)) (now (trail .entry)) (now (list .entry)) .conditions) ⌝ }
 {
-    let made = judge_tables(control, samples, nodes, links, work);
+    let made = judge_tables(control, samples, nodes, links, work, labels);
     match made {
         Verdict::Refused(why) => Verdict::Refused(why),
         Verdict::Fine => judge_own(control, nodes, query, trail, list, k),

@@ -8,7 +8,7 @@ use tables::Verdict;
 ghost use mathlib.Core.Path.{_≡_};
 ghost use mathlib.Core.List.{[], _∷_};
 ghost use Rattle.dstree.specs.Book.{listing};
-ghost use Rattle.tables.specs.Tables.{tables};
+ghost use Rattle.tables.specs.Lent.{tablesAfterSearch, tablesBefore};
 ghost use Rattle.calls.specs.Outcome.{outcome};
 ghost use Rattle.calls.specs.Effects.{outcomeOn};
 ghost use Rattle.listing.specs.Answered.{answerBy};
@@ -31,18 +31,30 @@ pub fn k_nearest(
     nodes: &[i64],
     links: &[u16],
     work: &mut [u64],
+    labels: &[u64],
     trail: &mut [u16],
     list: &mut [u64],
     query: &[Sample],
     k: u64,
 ) -> Listed
     ensures { λ r. ⌜ outcome (answerBy r (now (trail .exit)) (now (list .exit)))
-        (tables (now (control .entry)) (now (samples .entry)) (now (nodes .entry)) (now (links .entry)) (now (work .exit)))
+        (tablesAfterSearch control samples nodes links work labels)
         (now (trail .exit) ∷ now (list .exit) ∷ [])
         ≡ outcomeOn (listing k (now (query .entry)) (now (trail .entry)) (now (list .entry)))
-        (tables (now (control .entry)) (now (samples .entry)) (now (nodes .entry)) (now (links .entry)) (now (work .entry))) ⌝ }
+        (tablesBefore control samples nodes links work labels) ⌝ }
 {
-    let verdict = judging::judge(control, samples, nodes, links, work, query, trail, list, k);
+    let verdict = judging::judge(
+        control,
+        samples,
+        nodes,
+        links,
+        work,
+        labels,
+        query,
+        trail,
+        list,
+        k,
+    );
     match verdict {
         Verdict::Refused(why) => Listed::Refused(why),
         Verdict::Fine => {

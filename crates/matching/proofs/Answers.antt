@@ -10,7 +10,7 @@ use Rattle.dstree.specs.Measures.{Trace}
 use Rattle.dstree.specs.Matching.{Match, searched}
 use Rattle.dstree.specs.Refusals.{firstOf}
 use Rattle.dstree.specs.Book.{matching, besideOf, matched, over, matchSeen}
-use Rattle.tables.specs.Tables.{Tables, tables}
+use Rattle.tables.specs.Tables.{Tables, labelledTables}
 use Rattle.tables.specs.View.{treeIn, tracesIn}
 use Rattle.calls.specs.Outcome.{outcome}
 use Rattle.calls.specs.Effects.{matches, effectOf, outcomeOn}
@@ -19,9 +19,9 @@ use Rattle.search.specs.Searched.{withoutWork, matchBy, Searched}
 use Rattle.matching.specs.Answered.{answerBy}
 use Rattle.matching.specs.declared.Found.the-variants as f
 
-module _ (control : List ℕ) (samples nodes : List ℤ) (links work : List ℕ) (query : Trace) (trail : List ℕ) where
+module _ (control : List ℕ) (samples nodes : List ℤ) (links work labels : List ℕ) (query : Trace) (trail : List ℕ) where
   abbrev lent : Tables
-  lent = tables control samples nodes links work
+  lent = labelledTables control samples nodes links work labels
 
   module _ (work′ trail′ : List ℕ) (trace distance out traces : ℕ) (size : length trail′ ≡ length trail)
       (s : Searched (withoutWork control samples nodes links) query work work′ trail trail′ trace distance out traces) where
@@ -33,11 +33,11 @@ module _ (control : List ℕ) (samples nodes : List ℤ) (links work : List ℕ)
     trail-is = over-first out trail trail′ (omega (arith, s .within, size)) (s .trail-rest)
 
     pub found-answer : firstOf (matches lent query trail .conditions) ≡ none
-        → outcome (answerBy (f.At trace distance out traces) trail′) (tables control samples nodes links work′) (trail′ ∷ [])
+        → outcome (answerBy (f.At trace distance out traces) trail′) (labelledTables control samples nodes links work′ labels) (trail′ ∷ [])
         ≡ outcomeOn (matching query trail) lent
     unfolding answerBy outcomeOn effectOf besideOf
     found-answer q =
         ends-done lent (trail ∷ []) (matches lent query trail) _ _ _ q
         (ap matched found-is)
-        (ap (λ (w : List ℕ). tables control samples nodes links w) (s .work-zero))
+        (ap (λ (w : List ℕ). labelledTables control samples nodes links w labels) (s .work-zero))
         (ap (λ (l : List ℕ). l ∷ []) (trail-is ∙ ap (λ (m : Match). over (m .trail) trail) found-is))

@@ -6,7 +6,7 @@ use tables::Verdict;
 use well_formed::judging::judge_tables;
 ghost use mathlib.Core.Path.{_≡_};
 ghost use Rattle.dstree.specs.Refusals.{firstOf};
-ghost use Rattle.tables.specs.Tables.{tables};
+ghost use Rattle.tables.specs.Lent.{tablesBefore};
 ghost use Rattle.tables.specs.Answers.{foundBy};
 ghost use Rattle.calls.specs.Effects.{matches};
 
@@ -16,14 +16,15 @@ pub fn judge(
     nodes: &[i64],
     links: &[u16],
     work: &[u64],
+    labels: &[u64],
     query: &[Sample],
     trail: &[u16],
 ) -> Verdict
     ensures { λ r. ⌜ foundBy r ≡ firstOf (matches
-        (tables (now (control .entry)) (now (samples .entry)) (now (nodes .entry)) (now (links .entry)) (now (work .entry)))
+        (tablesBefore control samples nodes links work labels)
         (now (query .entry)) (now (trail .entry)) .conditions) ⌝ }
 {
-    let made = judge_tables(control, samples, nodes, links, work);
+    let made = judge_tables(control, samples, nodes, links, work, labels);
     match made {
         Verdict::Refused(why) => Verdict::Refused(why),
         Verdict::Fine => judge_query(control, nodes, query, trail),

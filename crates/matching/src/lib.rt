@@ -8,7 +8,7 @@ use tables::Verdict;
 ghost use mathlib.Core.Path.{_≡_};
 ghost use mathlib.Core.List.{[], _∷_};
 ghost use Rattle.dstree.specs.Book.{matching};
-ghost use Rattle.tables.specs.Tables.{tables};
+ghost use Rattle.tables.specs.Lent.{tablesAfterSearch, tablesBefore};
 ghost use Rattle.calls.specs.Outcome.{outcome};
 ghost use Rattle.calls.specs.Effects.{outcomeOn};
 ghost use Rattle.matching.specs.Answered.{answerBy};
@@ -30,16 +30,17 @@ pub fn nearest(
     nodes: &[i64],
     links: &[u16],
     work: &mut [u64],
+    labels: &[u64],
     trail: &mut [u16],
     query: &[Sample],
 ) -> Found
     ensures { λ r. ⌜ outcome (answerBy r (now (trail .exit)))
-        (tables (now (control .entry)) (now (samples .entry)) (now (nodes .entry)) (now (links .entry)) (now (work .exit)))
+        (tablesAfterSearch control samples nodes links work labels)
         (now (trail .exit) ∷ [])
         ≡ outcomeOn (matching (now (query .entry)) (now (trail .entry)))
-        (tables (now (control .entry)) (now (samples .entry)) (now (nodes .entry)) (now (links .entry)) (now (work .entry))) ⌝ }
+        (tablesBefore control samples nodes links work labels) ⌝ }
 {
-    let verdict = judging::judge(control, samples, nodes, links, work, query, trail);
+    let verdict = judging::judge(control, samples, nodes, links, work, labels, query, trail);
     match verdict {
         Verdict::Refused(why) => Found::Refused(why),
         Verdict::Fine => {

@@ -23,7 +23,8 @@ ghost use lib.ListN.{length, drop};
 ghost use Rattle.dstree.specs.Measures.{measures};
 ghost use Rattle.dstree.specs.Book.{opening};
 ghost use Rattle.tables.specs.Layout.{controlFields};
-ghost use Rattle.tables.specs.Tables.{tables, lentOf};
+ghost use Rattle.tables.specs.Tables.{labelledTables, lentOf};
+ghost use Rattle.tables.specs.Lent.{tablesAfter, tablesBefore};
 ghost use Rattle.tables.specs.Answers.{opened};
 ghost use Rattle.tables.specs.Judge.{LongEnough};
 ghost use Rattle.calls.specs.Outcome.{outcome};
@@ -55,15 +56,16 @@ pub fn put_empty(
     nodes: &mut [i64],
     links: &mut [u16],
     work: &mut [u64],
+    labels: &mut [u64],
     n: u64,
     capacity: u64,
     leaf_size: u64,
 )
-    requires { ⌜ LongEnough (lentOf (tables (now control) (now samples) (now nodes) (now links) (now work)))
+    requires { ⌜ LongEnough (lentOf (labelledTables (now control) (now samples) (now nodes) (now links) (now work) (now labels)))
         (measures n capacity «leaf_size») ⌝ }
-    ensures { λ _. ⌜ tables (now (control .exit)) (now (samples .exit)) (now (nodes .exit)) (now (links .exit)) (now (work .exit))
+    ensures { λ _. ⌜ tablesAfter control samples nodes links work labels
         ≡ opened
-        (tables (now (control .entry)) (now (samples .entry)) (now (nodes .entry)) (now (links .entry)) (now (work .entry)))
+        (tablesBefore control samples nodes links work labels)
         (measures n capacity «leaf_size») ⌝ }
 {
     let records = records_needed(capacity);
@@ -71,6 +73,7 @@ pub fn put_empty(
     zero_nodes(nodes, records * RECORD_PLACES);
     zero_links(links, capacity as usize);
     zero_work(work, records);
+    zero_work(labels, capacity as usize);
     write_control(control, n as u16, capacity as u16, leaf_size as u16);
 }
 
@@ -85,15 +88,16 @@ pub fn open(
     nodes: &mut [i64],
     links: &mut [u16],
     work: &mut [u64],
+    labels: &mut [u64],
     n: u64,
     capacity: u64,
     leaf_size: u64,
 ) -> Opened
     ensures { λ r. ⌜ outcome (answerBy r)
-        (tables (now (control .exit)) (now (samples .exit)) (now (nodes .exit)) (now (links .exit)) (now (work .exit)))
+        (tablesAfter control samples nodes links work labels)
         []
         ≡ outcomeOn (opening (measures n capacity «leaf_size»))
-        (tables (now (control .entry)) (now (samples .entry)) (now (nodes .entry)) (now (links .entry)) (now (work .entry))) ⌝ }
+        (tablesBefore control samples nodes links work labels) ⌝ }
 {
     let verdict = judge_opening(
         control.len(),
@@ -101,6 +105,7 @@ pub fn open(
         nodes.len(),
         links.len(),
         work.len(),
+        labels.len(),
         n,
         capacity,
         leaf_size,
@@ -108,7 +113,17 @@ pub fn open(
     match verdict {
         Verdict::Refused(why) => Opened::Refused(why),
         Verdict::Fine => {
-            put_empty(control, samples, nodes, links, work, n, capacity, leaf_size);
+            put_empty(
+                control,
+                samples,
+                nodes,
+                links,
+                work,
+                labels,
+                n,
+                capacity,
+                leaf_size,
+            );
             Opened::Done
         }
     }

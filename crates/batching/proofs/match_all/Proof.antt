@@ -6,7 +6,7 @@ use mathlib.Core.Option.{none}
 use denote.Ref.{now}
 use borrow.Author.Needs.{needs}
 use Rattle.dstree.specs.Refusals.{Condition, firstOf}
-use Rattle.tables.specs.Tables.{Tables, tables}
+use Rattle.tables.specs.Tables.{Tables, labelledTables}
 use Rattle.tables.specs.Answers.{foundBy, madeConditions}
 use Rattle.calls.specs.Effects.{batchConditionsIn}
 use Rattle.batching.proofs.Taken.{BatchAccepted, taken}
@@ -16,7 +16,7 @@ use Rattle.batching.proofs.match_all.Tie as tie
 
 -- the tables that the call came with
 abbrev lentTables : tie.Start → Tables
-lentTables s = tables (now (s .args .control)) (now (s .args .samples)) (now (s .args .nodes)) (now (s .args .links)) (now (s .args .work))
+lentTables s = labelledTables (now (s .args .control)) (now (s .args .samples)) (now (s .args .nodes)) (now (s .args .links)) (now (s .args .work)) (now (s .args .labels))
 
 -- what it refuses, with a list of so many records
 abbrev conditions : tie.Start → ℕ → List Condition
@@ -24,7 +24,7 @@ conditions s places = madeConditions (lentTables s)
     ++ batchConditionsIn (lentTables s) (s .args .many) places (now (s .args .queries)) (now (s .args .trail))
 
 abbrev start : tie.After-judge → tie.Start
-start j = j .before .before .before .before .before .before .before
+start j = j .before .before .before .before .before .before .before .before
 
 -- nothing was refused
 module _ (e : tie.After-enum-told) where
@@ -45,7 +45,7 @@ returns : tie.Need-returns
 returns c = λ list size.
     let j = c .before .before .before in
     let a = start j .args in
-    batch-refused (now (a .control)) (now (a .samples)) (now (a .nodes)) (now (a .links)) (now (a .work)) (a .many)
+    batch-refused (now (a .control)) (now (a .samples)) (now (a .nodes)) (now (a .links)) (now (a .work)) (now (a .labels)) (a .many)
     (now (a .queries)) (now (a .trail)) list _ _
     (ap (λ (p : ℕ). firstOf (conditions (start j) p)) size ∙ (sym (j .judge .ensures) ∙ ap foundBy (c .before .verdict .given .1)))
 
@@ -56,7 +56,7 @@ returns-2 c = λ list size.
     let a = s e .args in
     let r = q .search-batch .result in
     let left = q .search-batch .last .1 .1 .1 .1 .1 .1 in
-    batch-answer (now (a .control)) (now (a .samples)) (now (a .nodes)) (now (a .links)) (now (a .work)) (a .many)
+    batch-answer (now (a .control)) (now (a .samples)) (now (a .nodes)) (now (a .links)) (now (a .work)) (now (a .labels)) (a .many)
     (now (a .queries)) (now (a .trail)) list (left .0) (left .1 .0) (r .bests) (r .leaves)
     (q .search-batch .kept .1 .1 .1 .1 .1 .1 .1 .0) (q .search-batch .ensures)
     (ap (λ (p : ℕ). firstOf (conditions (s e) p)) size ∙ nothing e) (size ∙ may e .1)

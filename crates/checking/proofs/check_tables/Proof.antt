@@ -1,7 +1,7 @@
 -- `checking::check_tables` meets its contract: what the judge found says which way the call ends.
 use mathlib.Core.Path.{sym, ap, _∙_}
 use borrow.Author.Needs.{needs}
-use Rattle.tables.specs.Tables.{Tables, tables}
+use Rattle.tables.specs.Tables.{Tables, labelledTables}
 use Rattle.tables.specs.Answers.{foundBy}
 use Rattle.checking.proofs.Ends.{refused-answer, accepted-answer}
 use Rattle.checking.proofs.check_tables.Statement.{statement}
@@ -9,11 +9,12 @@ use Rattle.checking.proofs.check_tables.Tie as tie
 
 module _ (j : tie.After-judge) where
   abbrev start : tie.Start
-  start = j .before .before .before .before
+  start = j .before .before .before .before .before
 
   abbrev lent : Tables
-  lent = tables (start .args .control .now) (start .args .samples .now) (start .args .nodes .now) (start .args .links .now)
-      (start .args .work .now)
+  lent =
+      labelledTables (start .args .control .now) (start .args .samples .now) (start .args .nodes .now) (start .args .links .now)
+      (start .args .work .now) (start .args .labels .now)
 
 returns : tie.Need-returns
 returns c =

@@ -12,7 +12,7 @@ use Rattle.dstree.specs.Measures.{Trace}
 use Rattle.dstree.specs.Refusals.{firstOf}
 use Rattle.dstree.specs.Recording.{recordingSize, recordingOf}
 use Rattle.dstree.specs.Book.{over}
-use Rattle.tables.specs.Tables.{Tables, tables, measuresOf}
+use Rattle.tables.specs.Tables.{Tables, measuresOf, labelledTables}
 use Rattle.tables.specs.View.{traceIn}
 use Rattle.tables.specs.Answers.{foundBy}
 use Rattle.tables.proofs.Parts.{trace-length}
@@ -25,12 +25,12 @@ use Rattle.exporting.proofs.export_recording.Tie as tie
 -- what the call came with
 module _ (j : tie.After-judge) where
   abbrev start : tie.Start
-  start = j .before .before .before .before .before .before
+  start = j .before .before .before .before .before .before .before
 
   abbrev lent : Tables
   lent =
-      tables (now (start .args .control)) (now (start .args .samples)) (now (start .args .nodes)) (now (start .args .links))
-      (now (start .args .work))
+      labelledTables (now (start .args .control)) (now (start .args .samples)) (now (start .args .nodes)) (now (start .args .links))
+      (now (start .args .work)) (now (start .args .labels))
 
   abbrev buffer : List ℕ
   buffer = now (start .args .buffer)

@@ -7,7 +7,7 @@ use denote.Ref.{now}
 use borrow.Author.Needs.{needs}
 use Rattle.dstree.specs.Refusals.{firstOf}
 use Rattle.dstree.specs.Book.{besideOf}
-use Rattle.tables.specs.Tables.{Tables, tables}
+use Rattle.tables.specs.Tables.{Tables, labelledTables}
 use Rattle.tables.specs.Answers.{foundBy}
 use Rattle.calls.specs.Effects.{lists, effectOf, outcomeOn}
 use Rattle.calls.proofs.Ends.{ends-refused}
@@ -19,10 +19,10 @@ use Rattle.listing.proofs.k_nearest.Tie as tie
 
 -- the tables that the call came with
 abbrev lentTables : tie.Start → Tables
-lentTables s = tables (now (s .args .control)) (now (s .args .samples)) (now (s .args .nodes)) (now (s .args .links)) (now (s .args .work))
+lentTables s = labelledTables (now (s .args .control)) (now (s .args .samples)) (now (s .args .nodes)) (now (s .args .links)) (now (s .args .work)) (now (s .args .labels))
 
 abbrev start : tie.After-judge → tie.Start
-start j = j .before .before .before .before .before .before .before .before .before
+start j = j .before .before .before .before .before .before .before .before .before .before
 
 -- nothing was refused
 module _ (e : tie.After-enum-told) where
@@ -59,7 +59,7 @@ returns-2 c =
     let r = q .search-list .result in
     let left = q .search-list .last .1 .1 .1 .1 .1 in
     let kept = q .search-list .kept .1 .1 .1 .1 .1 .1 in
-    list-answer (now (a .control)) (now (a .samples)) (now (a .nodes)) (now (a .links)) (now (a .work)) (a .k) (now (a .query))
+    list-answer (now (a .control)) (now (a .samples)) (now (a .nodes)) (now (a .links)) (now (a .work)) (now (a .labels)) (a .k) (now (a .query))
     (now (a .trail)) (now (a .list)) (left .0) (left .1 .0) (left .1 .1 .0) (r .listed) (r .out) (r .traces) (kept .0) (kept .1 .0)
     (may e .list-room) (q .search-list .ensures) (nothing e)
 

@@ -8,7 +8,7 @@ use denote.Ref.{now}
 use borrow.Author.Needs.{needs}
 use Rattle.dstree.specs.Refusals.{firstOf}
 use Rattle.dstree.specs.Book.{besideOf}
-use Rattle.tables.specs.Tables.{Tables, tables}
+use Rattle.tables.specs.Tables.{Tables, labelledTables}
 use Rattle.tables.specs.Answers.{foundBy}
 use Rattle.calls.specs.Effects.{matches, effectOf, outcomeOn}
 use Rattle.calls.proofs.Ends.{ends-refused}
@@ -21,10 +21,11 @@ use Rattle.matching.proofs.nearest.Tie as tie
 
 -- the tables that the call came with
 abbrev lentTables : tie.Start → Tables
-lentTables s = tables (now (s .args .control)) (now (s .args .samples)) (now (s .args .nodes)) (now (s .args .links)) (now (s .args .work))
+lentTables s =
+    labelledTables (now (s .args .control)) (now (s .args .samples)) (now (s .args .nodes)) (now (s .args .links)) (now (s .args .work)) (now (s .args .labels))
 
 abbrev start : tie.After-judge → tie.Start
-start j = j .before .before .before .before .before .before .before
+start j = j .before .before .before .before .before .before .before .before
 
 -- nothing was refused
 module _ (e : tie.After-enum-told) where
@@ -63,7 +64,7 @@ returns-2 c =
     let e = q .before .before .before in
     let a = s e .args in
     let r = q .search-all .result in
-    found-answer (now (a .control)) (now (a .samples)) (now (a .nodes)) (now (a .links)) (now (a .work)) (now (a .query)) (now (a .trail))
+    found-answer (now (a .control)) (now (a .samples)) (now (a .nodes)) (now (a .links)) (now (a .work)) (now (a .labels)) (now (a .query)) (now (a .trail))
     (workAfter q) (trailAfter q) (r .trace) (r .distance) (r .out) (r .traces) (q .search-all .kept .1 .1 .1 .1 .1 .1 .0)
     (q .search-all .ensures) (nothing e)
 

@@ -7,7 +7,7 @@ use borrow.Author.Needs.{needs}
 use Rattle.dstree.specs.Measures.{Measures, measures}
 use Rattle.dstree.specs.Refusals.{firstOf}
 use Rattle.dstree.specs.Book.{done, besideOf}
-use Rattle.tables.specs.Tables.{Tables, tables, lentOf}
+use Rattle.tables.specs.Tables.{Tables, labelledTables, lentOf}
 use Rattle.tables.specs.Judge.{openingConditionsOf}
 use Rattle.tables.specs.Answers.{foundBy, openingConditions}
 use Rattle.calls.specs.Effects.{opens, effectOf, outcomeOn}
@@ -19,13 +19,14 @@ use Rattle.opening.proofs.open.Tie as tie
 
 -- the tables and the measures that the call came with
 abbrev lentTables : tie.Start → Tables
-lentTables s = tables (now (s .args .control)) (now (s .args .samples)) (now (s .args .nodes)) (now (s .args .links)) (now (s .args .work))
+lentTables s =
+    labelledTables (now (s .args .control)) (now (s .args .samples)) (now (s .args .nodes)) (now (s .args .links)) (now (s .args .work)) (now (s .args .labels))
 
 abbrev asked : tie.Start → Measures
 asked s = measures (s .args .n) (s .args .capacity) (s .args .leaf-size)
 
 abbrev start : tie.After-judge-opening → tie.Start
-start c = c .before .before .before .before
+start c = c .before .before .before .before .before
 
 -- what the judge found is what the definition finds
 found : (c : tie.After-judge-opening) → firstOf (openingConditionsOf (lentOf (lentTables (start c))) (asked (start c))) ≡ foundBy (c .judge-opening .result)
@@ -40,9 +41,9 @@ module _ (c : tie.After-enum-told) where
   unfolding foundBy
   nothing = found (c .before .before) ∙ ap foundBy (c .enum-told .given .1)
 
--- where the five tables are handed on
-abbrev fine : tie.After-put-empty-arg5 → tie.After-enum-told
-fine c = c .before .before .before .before .before
+-- where the six tables are handed on
+abbrev fine : tie.After-put-empty-arg6 → tie.After-enum-told
+fine c = c .before .before .before .before .before .before
 
 put-empty-requires : tie.Need-put-empty-requires
 put-empty-requires c κs =
@@ -59,7 +60,7 @@ returns c =
 returns-2 : tie.Need-returns-2
 unfolding answerBy outcomeOn effectOf besideOf opens openingConditions
 returns-2 c =
-    let p = c .before .before .before .before .before .before .before .before in
+    let p = c .before .before .before .before .before .before .before .before .before .before in
     let e = fine (p .before) in
     let t = lentTables (origin e) in
     ends-done t [] (opens t (asked (origin e))) done _ [] (nothing e) refl (p .put-empty .ensures) refl
@@ -68,5 +69,5 @@ pub open-spec : {M : Type 1} → statement M
 open-spec =
     tie.close
     (tie.spec
-    (λ c κs. search needs) (λ c. search needs) (λ c. search needs) put-empty-requires returns (λ c. search needs) (λ c. search needs)
+    (λ c κs. search needs) (λ c. search needs) (λ c. search needs) put-empty-requires returns (λ c. search needs) (λ c. search needs) (λ c. search needs)
     (λ c. search needs) (λ c. search needs) (λ c. search needs) returns-2)

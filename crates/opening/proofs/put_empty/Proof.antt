@@ -5,27 +5,28 @@ use native.Mathlib.Omega.{arith}
 use lib.IntN.{pos}
 use denote.Ref.{now}
 use borrow.Author.Needs.{needs}
-use Rattle.dstree.specs.Measures.{Measures, measures, samplesNeeded, recordsNeeded, linksNeeded, workNeeded}
+use Rattle.dstree.specs.Measures.{Measures, measures, samplesNeeded, recordsNeeded, linksNeeded, workNeeded, labelsNeeded}
 use Rattle.tables.specs.Layout.{recordPlaces}
-use Rattle.tables.specs.Tables.{Tables, tables, filled}
+use Rattle.tables.specs.Tables.{Tables, labelledTables, filled}
 use Rattle.opening.proofs.Answered.{opened-tables}
 use Rattle.opening.proofs.put_empty.Statement.{statement}
 use Rattle.opening.proofs.put_empty.Tie as tie
 
 -- the tables and the measures that the call came with
 abbrev lentTables : tie.Start → Tables
-lentTables s = tables (now (s .args .control)) (now (s .args .samples)) (now (s .args .nodes)) (now (s .args .links)) (now (s .args .work))
+lentTables s =
+    labelledTables (now (s .args .control)) (now (s .args .samples)) (now (s .args .nodes)) (now (s .args .links)) (now (s .args .work)) (now (s .args .labels))
 
 abbrev asked : tie.Start → Measures
 asked s = measures (s .args .n) (s .args .capacity) (s .args .leaf-size)
 
 records-needed-requires : tie.Need-records-needed-requires
-records-needed-requires c κs = c .before .before .before .pre .range .capacity-high
+records-needed-requires c κs = c .before .before .before .before .pre .range .capacity-high
 
 -- the records that are needed
 module _ (c : tie.After-records-needed) where
   abbrev start : tie.Start
-  start = c .before .before .before .before
+  start = c .before .before .before .before .before
 
   records-are : c .records-needed .result ≡ recordsNeeded (asked start)
   records-are = c .records-needed .ensures (start .args .n) (start .args .leaf-size)
@@ -71,11 +72,19 @@ zero-work-requires c κs =
     rw (records-are k) (start k .pre .room .work-room)
 
 -- once the search work is zeroed
-abbrev afterWork : tie.After-write-control-arg → tie.After-zero-work-arg
+abbrev afterWork : tie.After-zero-work-arg2 → tie.After-zero-work-arg
 afterWork c = c .before .before .before .before
 
+zero-work-requires-2 : tie.Need-zero-work-requires-2
+unfolding labelsNeeded
+zero-work-requires-2 c κs = start (recordsAt (afterNodes (afterLinks (afterWork c)))) .pre .room .labels-room
+
+-- once the labels are zeroed
+abbrev afterLabels : tie.After-write-control-arg → tie.After-zero-work-arg2
+afterLabels c = c .before .before .before .before
+
 abbrev recordsLast : tie.After-write-control-arg → tie.After-records-needed
-recordsLast c = recordsAt (afterNodes (afterLinks (afterWork c)))
+recordsLast c = recordsAt (afterNodes (afterLinks (afterWork (afterLabels c))))
 
 cast-write-control : tie.Need-cast-write-control
 cast-write-control c = let r = start (recordsLast c) .pre .range in omega arith
@@ -90,26 +99,28 @@ write-control-requires : tie.Need-write-control-requires
 write-control-requires c κs = start (recordsLast c) .pre .room .long .control-long
 
 returns : tie.Need-returns
-unfolding linksNeeded recordsNeeded workNeeded
+unfolding linksNeeded recordsNeeded workNeeded labelsNeeded
 returns c =
     let k = c .before .before .before in
-    let w = afterWork k in
+    let b = afterLabels k in
+    let w = afterWork b in
     let l = afterLinks w in
     let n = afterNodes l in
     let s = n .before .before .before in
     let r = records-are (recordsAt n) in
     let o = start (recordsAt n) in
-    opened-tables (lentTables o) (asked o) _ _ _ _ _
+    opened-tables (lentTables o) (asked o) _ _ _ _ _ _
     (c .before .before .write-control .ensures)
     (n .before .before .zero-samples .ensures ∙ ap (λ (x : ℕ). filled x (pos 0) (now (o .args .samples))) (samples-are s))
     (l .before .before .zero-nodes .ensures ∙ ap (λ (x : ℕ). filled (x * recordPlaces) (pos 0) (now (o .args .nodes))) r)
     (w .before .before .before .zero-links .ensures)
-    (k .before .before .before .zero-work .ensures ∙ ap (λ (x : ℕ). filled x 0 (now (o .args .work))) r)
+    (b .before .before .before .zero-work .ensures ∙ ap (λ (x : ℕ). filled x 0 (now (o .args .work))) r)
+    (k .before .before .before .zero-work2 .ensures)
 
 pub put-empty-spec : {M : Type 1} → statement M
 put-empty-spec =
     tie.close
     (tie.spec
     records-needed-requires samples-needed-requires zero-samples-requires mul-zero-nodes zero-nodes-requires zero-links-requires
-    zero-work-requires cast-write-control cast-write-control-2 cast-write-control-3 write-control-requires (λ c. search needs)
-    (λ c. search needs) (λ c. search needs) (λ c. search needs) (λ c. search needs) returns)
+    zero-work-requires zero-work-requires-2 cast-write-control cast-write-control-2 cast-write-control-3 write-control-requires (λ c. search needs)
+    (λ c. search needs) (λ c. search needs) (λ c. search needs) (λ c. search needs) (λ c. search needs) returns)

@@ -6,10 +6,11 @@ use mathlib.Core.List.{List}
 use denote.Ref.{now}
 use borrow.Author.Needs.{needs}
 use Rattle.dstree.specs.Measures.{Trace, measures}
+use Rattle.dstree.specs.Labels.{Label}
 use Rattle.dstree.specs.Refusals.{Condition, firstOf}
 use Rattle.dstree.specs.Book.{addConditions}
 use Rattle.dstree.proofs.Conditions.{first-none}
-use Rattle.tables.specs.Tables.{Tables, tables, measuresOf, traceCount}
+use Rattle.tables.specs.Tables.{Tables, labelledTables, measuresOf, traceCount}
 use Rattle.tables.specs.Answers.{wordOf, foundBy, madeConditions}
 use Rattle.well_formed.proofs.Refused.{refused-first}
 use Rattle.calls.specs.Effects.{adds}
@@ -18,10 +19,12 @@ use Rattle.adding.proofs.judging.judge.Tie as tie
 
 module _ (j : tie.After-judge-tables) where
   abbrev start : tie.Start
-  start = j .before .before .before .before .before .before .before .before
+  start = j .before .before .before .before .before .before .before .before .before
 
   abbrev lent : Tables
-  lent = tables (now (start .args .control)) (now (start .args .samples)) (now (start .args .nodes)) (now (start .args .links)) (now (start .args .work))
+  lent =
+      labelledTables (now (start .args .control)) (now (start .args .samples)) (now (start .args .nodes)) (now (start .args .links))
+      (now (start .args .work)) (now (start .args .labels))
 
   abbrev x : Trace
   x = now (start .args .trace)
@@ -38,10 +41,10 @@ module _ (j : tie.After-judge-tables) where
       (j .before .field3 .ensures)
 
 -- the tables are taken, so that the rest decides
-only : (e : tie.After-enum-told)
-    → firstOf (adds (lent (e .before .before)) (x (e .before .before)) .conditions) ≡ firstOf (tested (e .before .before))
+only : (e : tie.After-enum-told) (l : Label)
+    → firstOf (adds (lent (e .before .before)) (x (e .before .before)) l .conditions) ≡ firstOf (tested (e .before .before))
 unfolding adds foundBy
-only e =
+only e l =
     let j = e .before .before in
     first-none (madeConditions (lent j)) _ (sym (j .judge-tables .ensures) ∙ ap foundBy (e .enum-told .given .1))
     ∙ ap firstOf (sym (tested-is j))
@@ -51,21 +54,21 @@ enum-told c = search needs
 
 returns : tie.Need-returns
 unfolding foundBy wordOf firstOf
-returns c = rw (only (c .before), c .if1 .taken)
+returns c = λ l. rw (only (c .before) l, c .if1 .taken)
 
 returns-2 : tie.Need-returns-2
 unfolding foundBy wordOf firstOf
-returns-2 c = rw (only (c .before .before), c .before .if1 .left, c .if2 .taken)
+returns-2 c = λ l. rw (only (c .before .before) l, c .before .if1 .left, c .if2 .taken)
 
 returns-3 : tie.Need-returns-3
 unfolding adds
-returns-3 c =
+returns-3 c = λ l.
     let j = c .before .before .before in
     refused-first (madeConditions (lent j)) _ _ (sym (j .judge-tables .ensures) ∙ ap foundBy (c .before .made .given .1))
 
 returns-4 : tie.Need-returns-4
 unfolding foundBy firstOf
-returns-4 c = rw (only (c .before .before), c .before .if1 .left, c .if2 .left)
+returns-4 c = λ l. rw (only (c .before .before) l, c .before .if1 .left, c .if2 .left)
 
 pub judge-spec : {M : Type 1} → statement M
 judge-spec =

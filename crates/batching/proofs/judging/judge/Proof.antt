@@ -6,7 +6,8 @@ use denote.Ref.{now}
 use borrow.Author.Needs.{needs}
 use Rattle.dstree.specs.Refusals.{Condition, firstOf}
 use Rattle.dstree.proofs.Conditions.{first-none}
-use Rattle.tables.specs.Tables.{Tables, tables}
+use Rattle.tables.specs.View.{treeIn}
+use Rattle.tables.specs.Tables.{Tables, labelledTables}
 use Rattle.tables.specs.Answers.{foundBy, madeConditions}
 use Rattle.well_formed.proofs.Refused.{refused-first}
 use Rattle.calls.specs.Effects.{batchConditionsIn}
@@ -16,12 +17,12 @@ use Rattle.batching.proofs.judging.judge.Tie as tie
 
 module _ (j : tie.After-judge-tables) where
   abbrev start : tie.Start
-  start = j .before .before .before .before .before
+  start = j .before .before .before .before .before .before
 
   abbrev lent : Tables
   lent =
-      tables (now (start .args .control)) (now (start .args .samples)) (now (start .args .nodes)) (now (start .args .links))
-      (now (start .args .work))
+      labelledTables (now (start .args .control)) (now (start .args .samples)) (now (start .args .nodes)) (now (start .args .links))
+      (now (start .args .work)) (now (start .args .labels))
 
   -- the conditions behind those of the tables
   abbrev own : List Condition
@@ -45,6 +46,7 @@ returns c =
     refused-first (madeConditions (lent i)) (own i) _ (sym (i .judge-tables .ensures) ∙ ap foundBy (c .before .made .given .1))
 
 returns-2 : tie.Need-returns-2
+unfolding treeIn
 returns-2 c =
     let e = c .before in
     let t = lent (j e) in

@@ -6,7 +6,7 @@ use borrow.Author.Needs.{needs}
 use Rattle.dstree.specs.Refusals.{Condition}
 use Rattle.dstree.specs.Book.{exportConditions}
 use Rattle.dstree.proofs.Conditions.{first-none}
-use Rattle.tables.specs.Tables.{Tables, tables, measuresOf, traceCount}
+use Rattle.tables.specs.Tables.{Tables, measuresOf, traceCount, labelledTables}
 use Rattle.tables.specs.Answers.{foundBy, madeConditions}
 use Rattle.well_formed.proofs.Refused.{refused-first}
 use Rattle.calls.specs.Effects.{exports}
@@ -15,12 +15,12 @@ use Rattle.exporting.proofs.judging.judge.Tie as tie
 
 module _ (j : tie.After-judge-tables) where
   abbrev start : tie.Start
-  start = j .before .before .before .before .before
+  start = j .before .before .before .before .before .before
 
   abbrev lent : Tables
   lent =
-      tables (now (start .args .control)) (now (start .args .samples)) (now (start .args .nodes)) (now (start .args .links))
-      (now (start .args .work))
+      labelledTables (now (start .args .control)) (now (start .args .samples)) (now (start .args .nodes)) (now (start .args .links))
+      (now (start .args .work)) (now (start .args .labels))
 
   -- the conditions behind those of the tables
   abbrev own : List Condition

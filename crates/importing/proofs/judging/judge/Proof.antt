@@ -10,7 +10,7 @@ use Rattle.dstree.specs.Refusals.{Refusal, Condition, firstOf}
 use Rattle.dstree.specs.Recording.{Recording, judgeRecording, fileTraces}
 use Rattle.dstree.specs.Book.{importConditions}
 use Rattle.dstree.proofs.Conditions.{first-some, first-none}
-use Rattle.tables.specs.Tables.{Tables, tables, measuresOf, traceCount}
+use Rattle.tables.specs.Tables.{Tables, labelledTables, measuresOf, traceCount}
 use Rattle.tables.specs.Answers.{foundBy, madeConditions}
 use Rattle.tables.proofs.Judged.{accepted}
 use Rattle.tables.proofs.Views.{tree-formed}
@@ -22,12 +22,12 @@ use Rattle.importing.proofs.judging.judge.Tie as tie
 
 module _ (j : tie.After-judge-tables) where
   abbrev start : tie.Start
-  start = j .before .before .before .before .before
+  start = j .before .before .before .before .before .before
 
   abbrev lent : Tables
   lent =
-      tables (now (start .args .control)) (now (start .args .samples)) (now (start .args .nodes)) (now (start .args .links))
-      (now (start .args .work))
+      labelledTables (now (start .args .control)) (now (start .args .samples)) (now (start .args .nodes)) (now (start .args .links))
+      (now (start .args .work)) (now (start .args .labels))
 
   abbrev bytes : List ℕ
   bytes = now (start .args .bytes)

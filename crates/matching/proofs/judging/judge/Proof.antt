@@ -8,7 +8,8 @@ use borrow.Author.Needs.{needs}
 use Rattle.dstree.specs.Measures.{Trace}
 use Rattle.dstree.specs.Refusals.{firstOf}
 use Rattle.dstree.proofs.Conditions.{first-none}
-use Rattle.tables.specs.Tables.{Tables, tables}
+use Rattle.tables.specs.Tables.{Tables, labelledTables}
+use Rattle.tables.specs.View.{treeIn}
 use Rattle.tables.specs.Answers.{foundBy, madeConditions}
 use Rattle.well_formed.proofs.Refused.{refused-first}
 use Rattle.calls.specs.Effects.{queryConditionsIn}
@@ -18,12 +19,12 @@ use Rattle.matching.proofs.judging.judge.Tie as tie
 
 module _ (j : tie.After-judge-tables) where
   abbrev start : tie.Start
-  start = j .before .before .before .before .before
+  start = j .before .before .before .before .before .before
 
   abbrev lent : Tables
   lent =
-      tables (now (start .args .control)) (now (start .args .samples)) (now (start .args .nodes)) (now (start .args .links))
-      (now (start .args .work))
+      labelledTables (now (start .args .control)) (now (start .args .samples)) (now (start .args .nodes)) (now (start .args .links))
+      (now (start .args .work)) (now (start .args .labels))
 
   abbrev query : Trace
   query = now (start .args .query)
@@ -50,6 +51,7 @@ returns c =
     (sym (i .judge-tables .ensures) ∙ ap foundBy (c .before .made .given .1))
 
 returns-2 : tie.Need-returns-2
+unfolding treeIn
 returns-2 c =
     let e = c .before in
     let i = j e in

@@ -1,0 +1,2 @@
+-- How the bench's call ends.
+pub mod Ends

@@ -1,0 +1,2 @@
+-- What the bench's call answers.
+pub mod Answered

@@ -1,0 +1,2 @@
+-- How the remote's call ends.
+pub mod Ends

@@ -1,0 +1,2 @@
+-- What the remote's call answers.
+pub mod Answered

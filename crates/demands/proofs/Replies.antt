@@ -3,15 +3,16 @@
 use Prim.Native.Nat.{ℕ, zero, suc, _*_}
 use mathlib.Core.Path.{_≡_, refl, sym, ap, subst, _∙_}
 use mathlib.Core.Option.{Option, none, some}
-use mathlib.Core.List.{List, [], _∷_, _++_, map, foldl, append-nil}
+use mathlib.Core.List.{List, [], _∷_, _++_, map, append-nil}
 use native.Mathlib.Omega.{arith}
-use lib.ListN.{length, getD, take, drop, length-map}
+use lib.ListN.{length, getD, take, drop, replicate, length-map}
 use lib.Seq.{take-at}
 use denote.Ref.{RefT}
 use denote.Triple.Clauses.{AtExit}
 use borrow.Fn.Kinds.{PK, RK, Dens, endedOf, Out, resT}
 use contract.Lifetimes.{Lfts}
 use Rattle.dstree.specs.Measures.{Trace, Measures}
+use Rattle.dstree.specs.Labels.{Label, noLabel}
 use Rattle.dstree.specs.Node.{Tree}
 use Rattle.dstree.specs.Matching.{Near, searched, Match}
 use Rattle.dstree.specs.KNearest.{KNearest, listPlaces, kNearestBySteps}
@@ -19,24 +20,26 @@ use Rattle.dstree.specs.Batch.{queriesIn, Batch, batchBySteps}
 use Rattle.dstree.specs.Refusals as word
 use Rattle.dstree.specs.Refusals.{firstOf}
 use Rattle.dstree.specs.Sheet.{blockSize, blocksNeeded, sheetOf}
-use Rattle.dstree.specs.Book.{Ask, opening, adding, searching, writing, reading, importing, exporting, checking, Call}
-use Rattle.dstree.specs.Book.{aMatch, aListing, aBatch, matchSeen, matching, listing, batching, besideOf, Answer, answering, imported, Reply, reply, over}
+use Rattle.dstree.specs.Remote.{codesOf}
+use Rattle.dstree.specs.Book.{Ask, opening, adding, searching, writing, reading, importing, exporting, checking, labelling, Call}
+use Rattle.dstree.specs.Book.{aMatch, aListing, aBatch, aRemote, matchSeen, matching, listing, batching, remoteMatching, besideOf, Answer, answering, imported}
+use Rattle.dstree.specs.Book.{Reply, reply, over}
 use Rattle.dstree.specs.Recording.{recordingSize, recordingOf, judgeRecording, fileTraces}
 use Rattle.dstree.proofs.SheetPieces.{pieces-length}
 use Rattle.dstree.proofs.RoundTrips.{sheet-length}
 use Rattle.dstree.proofs.Recordings.{recording-length}
-use Rattle.tables.specs.Tables.{Tables, tables, lentOf, measuresOf, traceCount}
-use Rattle.tables.specs.View.{treeIn, tracesIn}
+use Rattle.tables.specs.Tables.{Tables, labelledTables, lentOf, measuresOf, traceCount}
+use Rattle.tables.specs.View.{treeIn, tracesIn, labelsIn, nextLabelled}
 use Rattle.tables.specs.Beginning.{firstPlaces, left}
 use Rattle.tables.specs.Answers.{wordOf, foundBy, madeConditions}
 use Rattle.tables.specs.declared.Refusal.{Refusal}
 use Rattle.tables.specs.declared.Refusal.the-variants as r
 use Rattle.tables.proofs.Views.{trace-at}
 use Rattle.tables.proofs.Parts.{trace-length}
-use Rattle.insertion_memory.specs.Memory.{addedTo}
+use Rattle.insertion_memory.specs.Memory.{addedTo, addedWith}
 use Rattle.insertion_memory.proofs.Made.{count-is}
 use Rattle.calls.specs.Outcome.{Outcome, outcome, unlessRefused}
-use Rattle.calls.specs.Effects.{opens, adds, matches, writes, reads, lists, imports, exports, checks}
+use Rattle.calls.specs.Effects.{opens, adds, matches, remotes, writes, reads, lists, imports, exports, checks, tellsLabel}
 use Rattle.calls.specs.Effects.{batches, batchConditionsIn, cleared, effectOf, outcomeOn}
 use Rattle.calls.specs.Follows.{Typed}
 use Rattle.calls.proofs.Library.{work-stays}
@@ -78,8 +81,14 @@ use Rattle.exporting.specs.declared.Exported.{Exported}
 use Rattle.exporting.specs.declared.Exported.the-variants as x
 use Rattle.exporting.specs.Answered as exporting-answer
 use Rattle.exporting.proofs.Exportable.{Exportable, exportable}
-use Rattle.demands.specs.Did.{WithTables, CallMade, Exchange, Made, Did, by-open, by-add, by-nearest, by-write, by-read, by-list, by-import, by-export}
-use Rattle.demands.specs.Did.{by-check, by-batch}
+use Rattle.labelling.specs.declared.Labelled.{Labelled}
+use Rattle.labelling.specs.declared.Labelled.the-variants as c
+use Rattle.labelling.specs.Answered as labelling-answer
+use Rattle.remote.specs.declared.RemoteFound.{RemoteFound}
+use Rattle.remote.specs.declared.RemoteFound.the-variants as m
+use Rattle.remote.specs.Answered as remote-answer
+use Rattle.demands.specs.Did.{WithTables, CallMade, Exchange, Made, Did, by-open, by-nearest, by-write, by-read, by-list, by-import, by-export}
+use Rattle.demands.specs.Did.{by-check, by-batch, by-add-labelled, by-label, by-remote}
 use Rattle.demands.specs.Theorem.{Replied}
 
 -- ---- slices
@@ -89,7 +98,7 @@ abbrev pub slice : {A : Type 0} → List A → RefT (List A)
 slice l = record { ptr = (0, 0); name = 0; now = l }
 
 abbrev slices : {Own : Type 0} → Tables → Own → WithTables Own
-slices t own = (slice (t .control), (slice (t .samples), (slice (t .nodes), (slice (t .links), (slice (t .work), own)))))
+slices t own = (slice (t .control), (slice (t .samples), (slice (t .nodes), (slice (t .links), (slice (t .work), (slice (t .labels), own))))))
 
 -- ---- results
 
@@ -145,18 +154,18 @@ unfolding unlessRefused reads reading-answer.answerBy
 reading-said t bytes (some why) = record { result = d.Refused (caseOf why); beside = []; is = rw (case-word why) }
 reading-said t bytes none = record { result = d.Done; beside = []; is = refl }
 
-adding-said : (t : Tables) (x : Trace) (o : Option word.Refusal) → let e = unlessRefused o t [] (adds t x) in
-    Said (λ (r : Added) (l : List ℕ). outcome (adding-answer.answerBy r)
-    (tables (e .after .control) (e .after .samples) (e .after .nodes) (e .after .links) (t .work)) []) e
+adding-said : (t : Tables) (x : Trace) (l : Label) (o : Option word.Refusal) → let e = unlessRefused o t [] (adds t x l) in
+    Said (λ (r : Added) (beside : List ℕ). outcome (adding-answer.answerBy r)
+    (labelledTables (e .after .control) (e .after .samples) (e .after .nodes) (e .after .links) (t .work) (e .after .labels)) []) e
 unfolding unlessRefused adds addedTo adding-answer.answerBy
-adding-said t x (some why) = record { result = a.Refused (caseOf why); beside = []; is = rw (case-word why) }
-adding-said t x none = record { result = a.At (traceCount t); beside = []; is = refl }
+adding-said t x l (some why) = record { result = a.Refused (caseOf why); beside = []; is = rw (case-word why) }
+adding-said t x l none = record { result = a.At (traceCount t); beside = []; is = refl }
 
 -- the trail that code answers is as long as it counts
 matching-said : (t : Tables) (query : Trace) (trail : List ℕ) (o : Option word.Refusal)
     → let e = unlessRefused o t (trail ∷ []) (matches t query trail) in
     Said (λ (r : Found) (l : List ℕ). outcome (matching-answer.answerBy r l)
-    (tables (t .control) (t .samples) (t .nodes) (t .links) (e .after .work)) (l ∷ [])) e
+    (labelledTables (t .control) (t .samples) (t .nodes) (t .links) (e .after .work) (t .labels)) (l ∷ [])) e
 unfolding unlessRefused matching-answer.answerBy
 matching-said t query trail (some why) = record { result = f.Refused (caseOf why); beside = trail; is = rw (case-word why) }
 matching-said t query trail none = record {
@@ -167,6 +176,21 @@ matching-said t query trail none = record {
   where
     m : Match
     m = let s = searched (tracesIn t) (treeIn t) query in matchSeen s (s .best)
+
+remote-said : (t : Tables) (query : Trace) (trail : List ℕ) (o : Option word.Refusal)
+    → let e = unlessRefused o t (trail ∷ []) (remotes t query trail) in
+    Said (λ (r : RemoteFound) (l : List ℕ). outcome (remote-answer.answerBy r l)
+    (labelledTables (t .control) (t .samples) (t .nodes) (t .links) (e .after .work) (t .labels)) (l ∷ [])) e
+unfolding unlessRefused remote-answer.answerBy
+remote-said t query trail (some why) = record { result = m.Refused (caseOf why); beside = trail; is = rw (case-word why) }
+remote-said t query trail none = record {
+  result = m.At (found .trace) (found .distance) (found .leaves) (found .traces) (getD (codesOf (labelsIn t)) (found .trace) 0);
+  beside = over (found .trail) trail;
+  is = rw (take-at (found .trail) (drop (length (found .trail)) trail) (found .leaves) refl);
+}
+  where
+    found : Match
+    found = let s = searched (tracesIn t) (treeIn t) query in matchSeen s (s .best)
 
 writing-said : (t : Tables) (sheet : List ℕ) (o : Option word.Refusal) → let e = unlessRefused o t (sheet ∷ []) (writes t sheet) in
     Said (λ (r : Written) (l : List ℕ). outcome (writing-answer.answerBy r l) t (l ∷ [])) e
@@ -180,18 +204,20 @@ writing-said t sheet none = record {
 }
   where
     blocks : ℕ
-    blocks = blocksNeeded (traceCount t) (measuresOf t .n)
+    blocks = blocksNeeded (traceCount t) (measuresOf t .n) (labelsIn t)
 
     bytes : List ℕ
-    bytes = sheetOf (measuresOf t) (tracesIn t)
+    bytes = sheetOf (measuresOf t) (tracesIn t) (labelsIn t)
 
     size : length bytes ≡ blockSize * blocks
-    size = sheet-length (measuresOf t) (tracesIn t) ∙ ap (λ (k : ℕ). blockSize * blocksNeeded k (measuresOf t .n)) (sym (count-is t))
+    size =
+        sheet-length (measuresOf t) (tracesIn t) (labelsIn t)
+        ∙ ap (λ (k : ℕ). blockSize * blocksNeeded k (measuresOf t .n) (labelsIn t)) (sym (count-is t))
 
 listing-said : (t : Tables) (k : ℕ) (query : Trace) (trail list : List ℕ) (o : Option word.Refusal)
     → let e = unlessRefused o t (trail ∷ list ∷ []) (lists t k query trail list) in
     Said (λ (r : Listed) (b : List ℕ × List ℕ). outcome (listing-answer.answerBy r (b .0) (b .1))
-    (tables (t .control) (t .samples) (t .nodes) (t .links) (e .after .work)) (b .0 ∷ b .1 ∷ [])) e
+    (labelledTables (t .control) (t .samples) (t .nodes) (t .links) (e .after .work) (t .labels)) (b .0 ∷ b .1 ∷ [])) e
 unfolding unlessRefused listing-answer.answerBy kNearestBySteps
 listing-said t k query trail list (some why) = record { result = l.Refused (caseOf why); beside = (trail, list); is = rw (case-word why) }
 listing-said t k query trail list none = record {
@@ -208,17 +234,19 @@ listing-said t k query trail list none = record {
 
 importing-said : (t : Tables) (bytes : List ℕ) (o : Option word.Refusal) → let e = unlessRefused o t [] (imports t bytes) in
     Said (λ (r : Imported) (l : List ℕ). outcome (importing-answer.answerBy r)
-    (tables (e .after .control) (e .after .samples) (e .after .nodes) (e .after .links) (t .work)) []) e
+    (labelledTables (e .after .control) (e .after .samples) (e .after .nodes) (e .after .links) (t .work) (e .after .labels)) []) e
 unfolding unlessRefused imports importing-answer.answerBy
 importing-said t bytes (some why) = record { result = i.Refused (caseOf why); beside = []; is = rw (case-word why) }
 importing-said t bytes none =
     let traces = fileTraces (judgeRecording (measuresOf t .n) bytes) in
-    let after = foldl addedTo t traces in
+    let zeros = replicate (length traces) noLabel in
+    let after = addedWith t traces zeros in
     record {
       result = i.Traces (length traces);
       beside = [];
       is = ap (λ (work : List ℕ). outcome (answering (imported (length traces)))
-          (tables (after .control) (after .samples) (after .nodes) (after .links) work) []) (sym (work-stays t traces));
+          (labelledTables (after .control) (after .samples) (after .nodes) (after .links) work (after .labels)) [])
+          (sym (work-stays (nextLabelled t zeros) traces));
     }
 
 exporting-said : (t : Tables) (number rate : ℕ) (buffer : List ℕ) (o : Option word.Refusal)
@@ -253,6 +281,14 @@ unfolding unlessRefused checks checking-answer.answerBy
 checking-said t (some why) = record { result = k.Refused (caseOf why); beside = []; is = rw (case-word why) }
 checking-said t none = record { result = k.Accepted; beside = []; is = refl }
 
+labelling-said : (t : Tables) (number : ℕ) (o : Option word.Refusal) → let e = unlessRefused o t [] (tellsLabel t number) in
+    Said (λ (r : Labelled) (l : List ℕ). outcome (labelling-answer.answerBy r) t []) e
+unfolding unlessRefused tellsLabel labelling-answer.answerBy
+labelling-said t number (some why) = record { result = c.Refused (caseOf why); beside = []; is = rw (case-word why) }
+labelling-said t number none =
+    let l = getD (labelsIn t) number noLabel in
+    record { result = c.Label (l .code) (l .serial); beside = []; is = refl }
+
 leaves-are : (stored : List Trace) (tree : Tree) (queries : List Trace)
     → length (batchBySteps stored tree queries .trail) ≡ batchBySteps stored tree queries .leaves
 unfolding batchBySteps
@@ -264,7 +300,7 @@ record BatchSaid (t : Tables) (many : ℕ) (run : Trace) (trail : List ℕ) (pla
   trail′ : List ℕ
   is : (l : List Near) → length l ≡ places
       → outcome (batching-answer.answerBy (found .outcome) (listAfter found l) trail′)
-      (tables (t .control) (t .samples) (t .nodes) (t .links) work) (trail′ ∷ listPlaces (listAfter found l) ∷ [])
+      (labelledTables (t .control) (t .samples) (t .nodes) (t .links) work (t .labels)) (trail′ ∷ listPlaces (listAfter found l) ∷ [])
       ≡ outcomeOn (batching many run trail l) t
 
 -- the places of the answers hold them
@@ -281,7 +317,7 @@ batch-done : (t : Tables) (many : ℕ) (run : Trace) (trail : List ℕ) (l : Lis
     → let m = batchBySteps (tracesIn t) (treeIn t) (queriesIn (measuresOf t .n) many run) in
     let list = listBy many (listPlaces (m .answers)) l in
     outcome (batching-answer.answerBy (b.Done (m .leaves)) list (over (m .trail) trail))
-    (tables (t .control) (t .samples) (t .nodes) (t .links) (cleared t .work)) (over (m .trail) trail ∷ listPlaces list ∷ [])
+    (labelledTables (t .control) (t .samples) (t .nodes) (t .links) (cleared t .work) (t .labels)) (over (m .trail) trail ∷ listPlaces list ∷ [])
     ≡ outcomeOn (batching many run trail l) t
 unfolding batching-answer.answerBy outcomeOn effectOf besideOf unlessRefused
 batch-done t many run trail l q size =
@@ -302,7 +338,7 @@ batching-said t many run trail list (some why) q = record {
   found = record { outcome = b.Refused (caseOf why); count = 0; bests = [] };
   trail′ = trail;
   is = λ l size.
-      batch-refused (t .control) (t .samples) (t .nodes) (t .links) (t .work) many run trail l (caseOf why) []
+      batch-refused (t .control) (t .samples) (t .nodes) (t .links) (t .work) (t .labels) many run trail l (caseOf why) []
       (ap (λ (p : ℕ). firstOf (madeConditions t ++ batchConditionsIn t many p run trail)) size ∙ q ∙ ap some (sym (case-word why)));
 }
 batching-said t many run trail list none q = record {
@@ -368,37 +404,44 @@ module _ (c : Call) (memory : Tables) (places : lentOf (firstPlaces (c .lent) me
   unfolding outcomeOn effectOf besideOf
   by-ask (opening m) asked typed =
       let s = opening-said t m (firstOf (opens t m .conditions)) in
-      reply-by (λ said memory′ d. by-open d) (lifetimes 5) (slices t (m .n, (m .capacity, (m .leafSize, tt))))
+      reply-by (λ said memory′ d. by-open d) (lifetimes 6) (slices t (m .n, (m .capacity, (m .leafSize, tt))))
       (slices (outcomeOn (opening m) t .after) (m .n, (m .capacity, (m .leafSize, tt)))) (s .result) (s .is) asked typed refl
-  by-ask (adding x) asked typed =
-      let s = adding-said t x (firstOf (adds t x .conditions)) in
-      reply-by (λ said memory′ d. by-add d) (lifetimes 6) (slices t (slice x, tt)) (slices (outcomeOn (adding x) t .after) (slice x, tt))
-      (s .result) (s .is) asked typed refl
+  by-ask (adding x l) asked typed =
+      let s = adding-said t x l (firstOf (adds t x l .conditions)) in
+      reply-by (λ said memory′ d. by-add-labelled d) (lifetimes 7) (slices t (slice x, (l .code, (l .serial, tt))))
+      (slices (outcomeOn (adding x l) t .after) (slice x, (l .code, (l .serial, tt)))) (s .result) (s .is) asked typed refl
   by-ask (writing sheet) asked typed =
       let s = writing-said t sheet (firstOf (writes t sheet .conditions)) in
-      reply-by (λ said memory′ d. by-write d) (lifetimes 6) (slices t (slice sheet, tt)) (slices t (slice (s .beside), tt)) (s .result) (s .is) asked typed refl
+      reply-by (λ said memory′ d. by-write d) (lifetimes 7) (slices t (slice sheet, tt)) (slices t (slice (s .beside), tt)) (s .result) (s .is) asked typed refl
   by-ask (reading bytes) asked typed =
       let s = reading-said t bytes (firstOf (reads t bytes .conditions)) in
-      reply-by (λ said memory′ d. by-read d) (lifetimes 6) (slices t (slice bytes, tt)) (slices (outcomeOn (reading bytes) t .after) (slice bytes, tt))
+      reply-by (λ said memory′ d. by-read d) (lifetimes 7) (slices t (slice bytes, tt)) (slices (outcomeOn (reading bytes) t .after) (slice bytes, tt))
       (s .result) (s .is) asked typed refl
   by-ask (importing bytes) asked typed =
       let s = importing-said t bytes (firstOf (imports t bytes .conditions)) in
-      reply-by (λ said memory′ d. by-import d) (lifetimes 6) (slices t (slice bytes, tt)) (slices (outcomeOn (importing bytes) t .after) (slice bytes, tt))
+      reply-by (λ said memory′ d. by-import d) (lifetimes 7) (slices t (slice bytes, tt)) (slices (outcomeOn (importing bytes) t .after) (slice bytes, tt))
       (s .result) (s .is) asked typed refl
   by-ask (exporting number rate buffer) asked typed =
       let s = exporting-said t number rate buffer (firstOf (exports t number rate buffer .conditions)) refl in
-      reply-by (λ said memory′ d. by-export d) (lifetimes 6) (slices t (slice buffer, (number, (rate, tt))))
+      reply-by (λ said memory′ d. by-export d) (lifetimes 7) (slices t (slice buffer, (number, (rate, tt))))
       (slices t (slice (s .beside), (number, (rate, tt)))) (s .result) (s .is) asked typed refl
   by-ask checking asked typed =
       let s = checking-said t (firstOf (checks t .conditions)) in
-      reply-by (λ said memory′ d. by-check d) (lifetimes 5) (slices t tt) (slices t tt) (s .result) (s .is) asked typed refl
+      reply-by (λ said memory′ d. by-check d) (lifetimes 6) (slices t tt) (slices t tt) (s .result) (s .is) asked typed refl
+  by-ask (labelling number) asked typed =
+      let s = labelling-said t number (firstOf (tellsLabel t number .conditions)) in
+      reply-by (λ said memory′ d. by-label d) (lifetimes 6) (slices t (number, tt)) (slices t (number, tt)) (s .result) (s .is) asked typed refl
+  by-ask (searching (aRemote query trail)) asked typed =
+      let s = remote-said t query trail (firstOf (remotes t query trail .conditions)) in
+      reply-by (λ said memory′ d. by-remote d) (lifetimes 8) (slices t (slice trail, (slice query, tt)))
+      (slices (outcomeOn (remoteMatching query trail) t .after) (slice (s .beside), (slice query, tt))) (s .result) (s .is) asked typed refl
   by-ask (searching (aMatch query trail)) asked typed =
       let s = matching-said t query trail (firstOf (matches t query trail .conditions)) in
-      reply-by (λ said memory′ d. by-nearest d) (lifetimes 7) (slices t (slice trail, (slice query, tt)))
+      reply-by (λ said memory′ d. by-nearest d) (lifetimes 8) (slices t (slice trail, (slice query, tt)))
       (slices (outcomeOn (matching query trail) t .after) (slice (s .beside), (slice query, tt))) (s .result) (s .is) asked typed refl
   by-ask (searching (aListing k query trail list)) asked typed =
       let s = listing-said t k query trail list (firstOf (lists t k query trail list .conditions)) in
-      reply-by (λ said memory′ d. by-list d) (lifetimes 8) (slices t (slice trail, (slice list, (slice query, (k, tt)))))
+      reply-by (λ said memory′ d. by-list d) (lifetimes 9) (slices t (slice trail, (slice list, (slice query, (k, tt)))))
       (slices (outcomeOn (listing k query trail list) t .after) (slice (s .beside .0), (slice (s .beside .1), (slice query, (k, tt)))))
       (s .result) (s .is) asked typed refl
   by-ask (searching (aBatch many run trail list)) asked typed =
@@ -408,12 +451,12 @@ module _ (c : Call) (memory : Tables) (places : lentOf (firstPlaces (c .lent) me
       let left-list = nearsOf (stored .list) in
       record {
         said = reply (batching-answer.answerBy (s .found .outcome) left-list (s .trail′)) (s .trail′ ∷ listPlaces left-list ∷ []);
-        memory′ = left (tables (t .control) (t .samples) (t .nodes) (t .links) (after .work)) memory;
+        memory′ = left (labelledTables (t .control) (t .samples) (t .nodes) (t .links) (after .work) (t .labels)) memory;
         did = by-batch (record {
           list = recordsOf list;
           list′ = stored .list;
           searched = record {
-            κs = lifetimes 7;
+            κs = lifetimes 8;
             args = slices t (slice trail, (slice run, (many, (length list, tt))));
             exits = slices after (slice (s .trail′), (slice run, (many, (length list, tt))));
             result = s .found;

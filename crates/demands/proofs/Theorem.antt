@@ -10,6 +10,9 @@ use Rattle.exporting.proofs.export_recording.Met as export-met
 use Rattle.checking.proofs.check_tables.Met as check-met
 use Rattle.batching.proofs.match_all.Met as batch-met
 use Rattle.batch_answers.proofs.store.Met as store-met
+use Rattle.adding.proofs.add_labelled.Met as add-labelled-met
+use Rattle.labelling.proofs.label.Met as label-met
+use Rattle.remote.proofs.remote_match.Met as remote-met
 use mathlib.Core.Path.{refl}
 use Rattle.calls.proofs.Demands.{demands}
 use Rattle.demands.specs.Theorem.{Theorem}
@@ -29,6 +32,9 @@ theorem = record {
   check-meets = check-met.met;
   batch-meets = batch-met.met;
   store-meets = store-met.met;
+  add-labelled-meets = add-labelled-met.met;
+  label-meets = label-met.met;
+  remote-meets = remote-met.met;
   open-clause = λ M 𝓤 H A mem run κs args. refl;
   add-clause = λ M 𝓤 H A mem run κs args. refl;
   nearest-clause = λ M 𝓤 H A mem run κs args. refl;
@@ -40,6 +46,9 @@ theorem = record {
   check-clause = λ M 𝓤 H A mem run κs args. refl;
   batch-clause = λ M 𝓤 H A mem run κs args. refl;
   store-clause = λ M 𝓤 H A mem run κs args. refl;
+  add-labelled-clause = λ M 𝓤 H A mem run κs args. refl;
+  label-clause = λ M 𝓤 H A mem run κs args. refl;
+  remote-clause = λ M 𝓤 H A mem run κs args. refl;
   follows = follows;
   replies = replies;
   demands = demands;

@@ -10,10 +10,11 @@ use denote.Triple.Clauses.{AtExit}
 use borrow.Fn.Kinds.{PK, RK, Dens, endedOf, Out, resT}
 use contract.Lifetimes.{Lfts}
 use Rattle.dstree.specs.Measures.{measures}
+use Rattle.dstree.specs.Labels.{label, noLabel}
 use Rattle.dstree.specs.KNearest.{listPlaces}
 use Rattle.dstree.specs.Book.{Ask, opening, adding, matching, writing, reading, listing, importing, exporting, checking, Call, Answer}
-use Rattle.dstree.specs.Book.{batching, Reply, reply}
-use Rattle.tables.specs.Tables.{Tables, tables, lentOf}
+use Rattle.dstree.specs.Book.{batching, labelling, remoteMatching, Reply, reply}
+use Rattle.tables.specs.Tables.{Tables, labelledTables, lentOf}
 use Rattle.tables.specs.Beginning.{firstPlaces, left}
 use Rattle.calls.specs.Follows.{Typed}
 use Rattle.opening.specs.Opened as opening-answer
@@ -22,6 +23,8 @@ use Rattle.opening.proofs.open.Reads as open-reads
 use Rattle.adding.specs.Answered as adding-answer
 use Rattle.adding.proofs.add.Kinds as add-kinds
 use Rattle.adding.proofs.add.Reads as add-reads
+use Rattle.adding.proofs.add_labelled.Kinds as add-labelled-kinds
+use Rattle.adding.proofs.add_labelled.Reads as add-labelled-reads
 use Rattle.matching.specs.Answered as matching-answer
 use Rattle.matching.proofs.nearest.Kinds as nearest-kinds
 use Rattle.matching.proofs.nearest.Reads as nearest-reads
@@ -48,14 +51,20 @@ use Rattle.batching.specs.declared.BatchFound.{BatchFound}
 use Rattle.batching.specs.Answered as batching-answer
 use Rattle.batching.proofs.match_all.Kinds as batch-kinds
 use Rattle.batching.proofs.match_all.Reads as batch-reads
+use Rattle.labelling.specs.Answered as labelling-answer
+use Rattle.labelling.proofs.label.Kinds as label-kinds
+use Rattle.labelling.proofs.label.Reads as label-reads
+use Rattle.remote.specs.Answered as remote-answer
+use Rattle.remote.proofs.remote_match.Kinds as remote-kinds
+use Rattle.remote.proofs.remote_match.Reads as remote-reads
 use Rattle.batch_answers.specs.AnswerRecords.{storeOutcome, storeOf, nearsOf}
 
 -- ---- slices
 
--- every call is lent the five tables first, to write or to read, and then what is its own, in the order of its parameters. The same stands
+-- every call is lent the six tables first, to write or to read, and then what is its own, in the order of its parameters. The same stands
 -- at its end; what it left there has a ′ below
 abbrev pub WithTables : Type 0 → Type 0
-WithTables Own = RefT (List ℕ) × (RefT (List ℤ) × (RefT (List ℤ) × (RefT (List ℕ) × (RefT (List ℕ) × Own))))
+WithTables Own = RefT (List ℕ) × (RefT (List ℤ) × (RefT (List ℤ) × (RefT (List ℕ) × (RefT (List ℕ) × (RefT (List ℕ) × Own)))))
 
 module _ {Own : Type 0} (s : WithTables Own) where
   abbrev pub control : List ℕ
@@ -73,11 +82,23 @@ module _ {Own : Type 0} (s : WithTables Own) where
   abbrev pub work : List ℕ
   work = now (s .1 .1 .1 .1 .0)
 
+  abbrev pub labels : List ℕ
+  labels = now (s .1 .1 .1 .1 .1 .0)
+
   abbrev pub own : Own
-  own = s .1 .1 .1 .1 .1
+  own = s .1 .1 .1 .1 .1 .1
 
   abbrev pub tablesOf : Tables
-  tablesOf = tables control samples nodes links work
+  tablesOf = labelledTables control samples nodes links work labels
+
+module _ {Own Own′ : Type 0} (args : WithTables Own) (exits : WithTables Own′) where
+  -- what a search leaves, which is lent all but search work to read
+  abbrev pub afterSearch : Tables
+  afterSearch = labelledTables (control args) (samples args) (nodes args) (links args) (work exits) (labels args)
+
+  -- what adding and importing leave, which are lent search work to read
+  abbrev pub afterAdding : Tables
+  afterAdding = labelledTables (control exits) (samples exits) (nodes exits) (links exits) (work args) (labels exits)
 
 -- ---- a call in a memory
 
@@ -126,18 +147,24 @@ Opens = Made open-kinds.ps open-kinds.r open-reads.Learnt (λ κs args r exits.
     exchange (opening (measures (own args .0) (own args .1 .0) (own args .1 .1 .0))) (tablesOf args) (opening-answer.answerBy r)
     (tablesOf exits) [])
 
--- adding is lent the search work to read, and leaves it
+-- adding is lent search work to read, and leaves it. A label is "zero from callers that give neither"
 abbrev pub Adds : Call → Tables → Reply → Tables → Type 0
 Adds = Made add-kinds.ps add-kinds.r add-reads.Learnt (λ κs args r exits.
-    exchange (adding (now (own args .0))) (tablesOf args) (adding-answer.answerBy r)
-    (tables (control exits) (samples exits) (nodes exits) (links exits) (work args)) [])
+    exchange (adding (now (own args .0)) noLabel) (tablesOf args) (adding-answer.answerBy r)
+    (afterAdding args exits) [])
+
+-- adding with a code and a serial, which are numbers of its own
+abbrev pub AddsLabelled : Call → Tables → Reply → Tables → Type 0
+AddsLabelled = Made add-labelled-kinds.ps add-labelled-kinds.r add-labelled-reads.Learnt (λ κs args r exits.
+    exchange (adding (now (own args .0)) (label (own args .1 .0) (own args .1 .1 .0))) (tablesOf args) (adding-answer.answerBy r)
+    (afterAdding args exits) [])
 
 -- a match is lent all but search work and trail to read
 abbrev pub Matches : Call → Tables → Reply → Tables → Type 0
 Matches = Made nearest-kinds.ps nearest-kinds.r nearest-reads.Learnt (λ κs args r exits.
     let trail′ = now (own exits .0) in
     exchange (matching (now (own args .1 .0)) (now (own args .0))) (tablesOf args) (matching-answer.answerBy r trail′)
-    (tables (control args) (samples args) (nodes args) (links args) (work exits)) (trail′ ∷ []))
+    (afterSearch args exits) (trail′ ∷ []))
 
 -- a writing is lent all tables to read, and leaves them
 abbrev pub Writes : Call → Tables → Reply → Tables → Type 0
@@ -156,14 +183,15 @@ Lists = Made list-kinds.ps list-kinds.r list-reads.Learnt (λ κs args r exits.
     let trail′ = now (own exits .0) in
     let list′ = now (own exits .1 .0) in
     exchange (listing (own args .1 .1 .1 .0) (now (own args .1 .1 .0)) (now (own args .0)) (now (own args .1 .0))) (tablesOf args)
-    (listing-answer.answerBy r trail′ list′) (tables (control args) (samples args) (nodes args) (links args) (work exits))
+    (listing-answer.answerBy r trail′ list′)
+    (afterSearch args exits)
     (trail′ ∷ list′ ∷ []))
 
--- an import is lent the search work and its file to read, and leaves them
+-- an import is lent search work and its file to read, and leaves them
 abbrev pub Imports : Call → Tables → Reply → Tables → Type 0
 Imports = Made import-kinds.ps import-kinds.r import-reads.Learnt (λ κs args r exits.
     exchange (importing (now (own args .0))) (tablesOf args) (importing-answer.answerBy r)
-    (tables (control exits) (samples exits) (nodes exits) (links exits) (work args)) [])
+    (afterAdding args exits) [])
 
 -- an export is lent all tables to read, and leaves them
 abbrev pub Exports : Call → Tables → Reply → Tables → Type 0
@@ -176,6 +204,18 @@ Exports = Made export-kinds.ps export-kinds.r export-reads.Learnt (λ κs args r
 abbrev pub Checks : Call → Tables → Reply → Tables → Type 0
 Checks = Made check-kinds.ps check-kinds.r check-reads.Learnt (λ κs args r exits.
     exchange checking (tablesOf args) (checking-answer.answerBy r) (tablesOf args) [])
+
+-- the bench's call is lent all tables to read, and leaves them
+abbrev pub TellsLabel : Call → Tables → Reply → Tables → Type 0
+TellsLabel = Made label-kinds.ps label-kinds.r label-reads.Learnt (λ κs args r exits.
+    exchange (labelling (own args .0)) (tablesOf args) (labelling-answer.answerBy r) (tablesOf args) [])
+
+-- the remote's call is lent what a match is
+abbrev pub RemoteMatches : Call → Tables → Reply → Tables → Type 0
+RemoteMatches = Made remote-kinds.ps remote-kinds.r remote-reads.Learnt (λ κs args r exits.
+    let trail′ = now (own exits .0) in
+    exchange (remoteMatching (now (own args .1 .0)) (now (own args .0))) (tablesOf args) (remote-answer.answerBy r trail′)
+    (afterSearch args exits) (trail′ ∷ []))
 
 -- what storing a batch's records leaves in the caller's list. A list of structs is stored by a function that is proved by a walk of its
 -- code, and no `Learnt` is generated: the claim is written here, and it is the clause of the contract (`Theorem`: `store-clause`)
@@ -191,7 +231,7 @@ pub record Batches (c : Call) (memory : Tables) (said : Reply) (memory′ : Tabl
       let trail′ = now (own exits .0) in
       exchange (batching (own args .1 .1 .0) (now (own args .1 .0)) (now (own args .0)) (nearsOf list)) (tablesOf args)
       (batching-answer.answerBy (r .outcome) (nearsOf list′) trail′)
-      (tables (control args) (samples args) (nodes args) (links args) (work exits))
+      (afterSearch args exits)
       (trail′ ∷ listPlaces (nearsOf list′) ∷ [])) c memory said memory′
   pub so-long : length list ≡ own (searched .args) .1 .1 .1 .0
   pub done : Bool
@@ -209,3 +249,6 @@ pub data Did (c : Call) (memory : Tables) (said : Reply) (memory′ : Tables) : 
   by-export : Exports c memory said memory′ → Did c memory said memory′
   by-check : Checks c memory said memory′ → Did c memory said memory′
   by-batch : Batches c memory said memory′ → Did c memory said memory′
+  by-add-labelled : AddsLabelled c memory said memory′ → Did c memory said memory′
+  by-label : TellsLabel c memory said memory′ → Did c memory said memory′
+  by-remote : RemoteMatches c memory said memory′ → Did c memory said memory′

@@ -22,6 +22,9 @@ use Rattle.opening.proofs.open.Reads as open-reads
 use Rattle.adding.proofs.add
 use Rattle.adding.proofs.add.Statement as add-statement
 use Rattle.adding.proofs.add.Reads as add-reads
+use Rattle.adding.proofs.add_labelled as add-labelled
+use Rattle.adding.proofs.add_labelled.Statement as add-labelled-statement
+use Rattle.adding.proofs.add_labelled.Reads as add-labelled-reads
 use Rattle.matching.proofs.nearest
 use Rattle.matching.proofs.nearest.Statement as nearest-statement
 use Rattle.matching.proofs.nearest.Reads as nearest-reads
@@ -48,6 +51,12 @@ use Rattle.batching.proofs.match_all.Statement as batch-statement
 use Rattle.batching.proofs.match_all.Reads as batch-reads
 use Rattle.batch_answers.proofs.store
 use Rattle.batch_answers.proofs.store.Statement as store-statement
+use Rattle.labelling.proofs.label as label-call
+use Rattle.labelling.proofs.label.Statement as label-statement
+use Rattle.labelling.proofs.label.Reads as label-reads
+use Rattle.remote.proofs.remote_match as remote-call
+use Rattle.remote.proofs.remote_match.Statement as remote-statement
+use Rattle.remote.proofs.remote_match.Reads as remote-reads
 use Rattle.calls.specs.Follows.{Typed, Follows}
 use Rattle.calls.specs.Demands.{Demands}
 use Rattle.demands.specs.Did.{StoreLearnt, Did}
@@ -84,6 +93,9 @@ pub record Theorem : Type 2 where
   pub check-meets : {M : Type 1} → check-statement.statement M
   pub batch-meets : {M : Type 1} → batch-statement.statement M
   pub store-meets : {M : Type 1} → store-statement.statement M
+  pub add-labelled-meets : {M : Type 1} → add-labelled-statement.statement M
+  pub label-meets : {M : Type 1} → label-statement.statement M
+  pub remote-meets : {M : Type 1} → remote-statement.statement M
   -- what `Did` claims of a call is what its contract ensures, and no more is asked
   pub open-clause : Clause open.ended (λ M 𝓤. open.spec 𝓤) open-reads.Learnt
   pub add-clause : Clause add.ended (λ M 𝓤. add.spec 𝓤) add-reads.Learnt
@@ -97,6 +109,9 @@ pub record Theorem : Type 2 where
   pub batch-clause : Clause batch.ended (λ M 𝓤. batch.spec 𝓤) batch-reads.Learnt
   pub store-clause : Clause store.ended (λ M 𝓤. store.spec 𝓤)
       (λ κs args r exits. StoreLearnt (args .0) (now (args .1 .0)) r (now (exits .1 .0)))
+  pub add-labelled-clause : Clause add-labelled.ended (λ M 𝓤. add-labelled.spec 𝓤) add-labelled-reads.Learnt
+  pub label-clause : Clause label-call.ended (λ M 𝓤. label-call.spec 𝓤) label-reads.Learnt
+  pub remote-clause : Clause remote-call.ended (λ M 𝓤. remote-call.spec 𝓤) remote-reads.Learnt
   -- demand 1: the reply and the memory after are those that the definition makes of the call and the memory before
   pub follows : (c : Call) (memory memory′ : Tables) (said : Reply) → Did c memory said memory′ → Follows c memory said memory′
   -- every call that its types allow has a reply and a memory after it, on every memory that has the places that it is lent

@@ -7,8 +7,9 @@ use lib.IntN.{pos, negsuc}
 use lib.ListN.{length, set, take, drop, replicate}
 use lib.Seq.{sets}
 use Rattle.dstree.specs.Measures.{Trace, measures}
+use Rattle.dstree.specs.Labels.{noLabel}
 use Rattle.dstree.specs.Book.{opening, adding, matching, reading}
-use Rattle.tables.specs.Tables.{Tables, tables}
+use Rattle.tables.specs.Tables.{Tables, labelledTables}
 use Rattle.calls.specs.Effects.{outcomeOn}
 
 -- "n = 1, capacity 8, leaf size 2, trace (−1)"
@@ -17,7 +18,7 @@ starredTrace = negsuc 0 ∷ []
 
 -- .. in these tables, whatever they hold
 unfoldable pub starredIn : Tables → Tables
-starredIn t = outcomeOn (adding starredTrace) (outcomeOn (opening (measures 1 8 2)) t .after) .after
+starredIn t = outcomeOn (adding starredTrace noLabel) (outcomeOn (opening (measures 1 8 2)) t .after) .after
 
 -- a trail before a match
 abbrev pub trailJunk : List ℕ
@@ -33,7 +34,7 @@ twinTraces = (pos 1 ∷ pos 2 ∷ pos 1 ∷ pos 2 ∷ []) ∷ (pos 2 ∷ pos 1 �
 
 -- tables with junk in every place, for the starred example of a sheet
 unfoldable pub junk : Tables
-junk = tables (replicate 5 7) (replicate 8 (pos 7)) (replicate 1305 (pos 7)) (replicate 8 7) (replicate 15 7)
+junk = labelledTables (replicate 5 7) (replicate 8 (pos 7)) (replicate 1305 (pos 7)) (replicate 8 7) (replicate 15 7) (replicate 8 7)
 
 -- a sheet of two blocks as it is, with a sample changed, and its block 0 alone
 unfoldable pub damaged : List ℕ → List ℕ → List ℕ
@@ -54,7 +55,7 @@ PartEnd length at n end = ((end ≡ at + n) × (end < length)) ⊎ ((end ≡ len
 
 -- what addings leave, what matches leave, and what sheets leave that are read, each with a match of the trace behind it
 abbrev pub addedEach : Tables → List Trace → Tables
-addedEach t traces = foldl (λ (u : Tables) (x : Trace). outcomeOn (adding x) u .after) t traces
+addedEach t traces = foldl (λ (u : Tables) (x : Trace). outcomeOn (adding x noLabel) u .after) t traces
 
 abbrev pub matchedEach : Tables → List Trace → Tables
 matchedEach t queries = foldl (λ (u : Tables) (query : Trace). outcomeOn (matching query trailJunk) u .after) t queries

@@ -30,7 +30,7 @@ ghost use Prim.Native.Nat.{_<_, _≤_};
 ghost use lib.ListN.{length};
 ghost use Rattle.dstree.specs.Book.{writing};
 ghost use Rattle.dstree.specs.Measures.{mostSamples};
-ghost use Rattle.tables.specs.Tables.{tables};
+ghost use Rattle.tables.specs.Lent.{tablesAfter, tablesAfterAdding, tablesAfterSearch, tablesBefore};
 ghost use Rattle.calls.specs.Effects.{outcomeOn};
 ghost use Rattle.examples.specs.Steps.{starredIn, junk, damaged, parts, PartEnd};
 ghost use Rattle.examples.specs.Steps.{addedEach, matchedEach, readMatched, readEach};
@@ -179,12 +179,14 @@ fn in_largest_tables(n: u64, capacity: u64, leaf_size: u64) -> Opened {
     let mut nodes = [7i64; 712617];
     let mut links = [7u16; 4096];
     let mut work = [7u64; 8191];
+    let mut labels = [7u64; 4096];
     opening::open(
         &mut control,
         &mut samples,
         &mut nodes,
         &mut links,
         &mut work,
+        &mut labels,
         n,
         capacity,
         leaf_size,
@@ -236,18 +238,27 @@ fn add_all(
     nodes: &mut [i64],
     links: &mut [u16],
     work: &[u64],
+    labels: &mut [u64],
     n: usize,
     traces: &[Sample],
 )
     requires { ⌜ 0 < n ⌝ }
-    ensures { λ _. ⌜ tables (now (control .exit)) (now (samples .exit)) (now (nodes .exit)) (now (links .exit)) (now (work .entry))
-        ≡ addedEach (tables (now (control .entry)) (now (samples .entry)) (now (nodes .entry)) (now (links .entry)) (now (work .entry)))
+    ensures { λ _. ⌜ tablesAfterAdding control samples nodes links work labels
+        ≡ addedEach (tablesBefore control samples nodes links work labels)
         (parts n (now (traces .entry))) ⌝ }
 {
     let mut at: usize = 0;
     while at < traces.len() {
         let end = part_end(traces.len(), at, n);
-        print_adding(add_to(control, samples, nodes, links, work, &traces[at..end]));
+        print_adding(add_to(
+            control,
+            samples,
+            nodes,
+            links,
+            work,
+            labels,
+            &traces[at..end],
+        ));
         at = end;
     }
 }
@@ -259,12 +270,13 @@ fn match_all(
     nodes: &[i64],
     links: &[u16],
     work: &mut [u64],
+    labels: &[u64],
     n: usize,
     queries: &[Sample],
 )
     requires { ⌜ 0 < n ⌝ }
-    ensures { λ _. ⌜ tables (now (control .entry)) (now (samples .entry)) (now (nodes .entry)) (now (links .entry)) (now (work .exit))
-        ≡ matchedEach (tables (now (control .entry)) (now (samples .entry)) (now (nodes .entry)) (now (links .entry)) (now (work .entry)))
+    ensures { λ _. ⌜ tablesAfterSearch control samples nodes links work labels
+        ≡ matchedEach (tablesBefore control samples nodes links work labels)
         (parts n (now (queries .entry))) ⌝ }
 {
     let mut at: usize = 0;
@@ -272,7 +284,7 @@ fn match_all(
         let end = part_end(queries.len(), at, n);
         let query = &queries[at..end];
         print_query(query);
-        print_match(match_of(control, samples, nodes, links, work, query));
+        print_match(match_of(control, samples, nodes, links, work, labels, query));
         at = end;
     }
 }
@@ -286,12 +298,14 @@ fn library(n: u16, leaf_size: u64, traces: &[Sample], queries: &[Sample])
     let mut nodes = [7i64; 1305];
     let mut links = [7u16; 8];
     let mut work = [7u64; 15];
+    let mut labels = [7u64; 8];
     print_opening(opening::open(
         &mut control,
         &mut samples,
         &mut nodes,
         &mut links,
         &mut work,
+        &mut labels,
         n as u64,
         8,
         leaf_size,
@@ -302,6 +316,7 @@ fn library(n: u16, leaf_size: u64, traces: &[Sample], queries: &[Sample])
         &mut nodes,
         &mut links,
         &work,
+        &mut labels,
         n as usize,
         traces,
     );
@@ -311,6 +326,7 @@ fn library(n: u16, leaf_size: u64, traces: &[Sample], queries: &[Sample])
         &nodes,
         &links,
         &mut work,
+        &labels,
         n as usize,
         queries,
     );
@@ -341,14 +357,24 @@ fn write_to(sheet: &mut [u8], line: &[u8])
     let mut nodes = [7i64; 1305];
     let mut links = [7u16; 8];
     let mut work = [7u64; 15];
+    let mut labels = [7u64; 8];
     put_starred(
         &mut control,
         &mut samples,
         &mut nodes,
         &mut links,
         &mut work,
+        &mut labels,
     );
-    let answer = sheet_writing::write_sheet(&control, &samples, &nodes, &links, &work, sheet);
+    let answer = sheet_writing::write_sheet(
+        &control,
+        &samples,
+        &nodes,
+        &links,
+        &work,
+        &labels,
+        sheet,
+    );
     io::write_all(1, line);
     print_writing(answer, sheet);
 }
@@ -371,14 +397,15 @@ fn read_one(
     nodes: &mut [i64],
     links: &mut [u16],
     work: &mut [u64],
+    labels: &mut [u64],
     sheet: &[u8],
 )
-    ensures { λ _. ⌜ tables (now (control .exit)) (now (samples .exit)) (now (nodes .exit)) (now (links .exit)) (now (work .exit))
-        ≡ readMatched (tables (now (control .entry)) (now (samples .entry)) (now (nodes .entry)) (now (links .entry)) (now (work .entry)))
+    ensures { λ _. ⌜ tablesAfter control samples nodes links work labels
+        ≡ readMatched (tablesBefore control samples nodes links work labels)
         (now (sheet .entry)) ⌝ }
 {
-    print_reading(sheet_reading::read_sheet(control, samples, nodes, links, work, sheet));
-    match_all(control, samples, nodes, links, work, 1, &[-1]);
+    print_reading(sheet_reading::read_sheet(control, samples, nodes, links, work, labels, sheet));
+    match_all(control, samples, nodes, links, work, labels, 1, &[-1]);
 }
 
 // Sheets of two blocks, the last of them even if it is shorter, read into the same tables: "a refused call changes nothing", so that the
@@ -389,17 +416,26 @@ fn read_all(
     nodes: &mut [i64],
     links: &mut [u16],
     work: &mut [u64],
+    labels: &mut [u64],
     sheets: &[u8],
 )
-    ensures { λ _. ⌜ tables (now (control .exit)) (now (samples .exit)) (now (nodes .exit)) (now (links .exit)) (now (work .exit))
-        ≡ readEach (tables (now (control .entry)) (now (samples .entry)) (now (nodes .entry)) (now (links .entry)) (now (work .entry)))
+    ensures { λ _. ⌜ tablesAfter control samples nodes links work labels
+        ≡ readEach (tablesBefore control samples nodes links work labels)
         (parts 1024 (now (sheets .entry))) ⌝ }
 {
     let mut at: usize = 0;
     while at < sheets.len() {
         let end = part_end(sheets.len(), at, 1024);
         reading_line(at / 1024);
-        read_one(control, samples, nodes, links, work, &sheets[at..end]);
+        read_one(
+            control,
+            samples,
+            nodes,
+            links,
+            work,
+            labels,
+            &sheets[at..end],
+        );
         at = end;
     }
 }
@@ -410,12 +446,14 @@ fn read_back(sheets: &[u8]) {
     let mut nodes = [7i64; 1305];
     let mut links = [7u16; 8];
     let mut work = [7u64; 15];
+    let mut labels = [7u64; 8];
     read_all(
         &mut control,
         &mut samples,
         &mut nodes,
         &mut links,
         &mut work,
+        &mut labels,
         sheets,
     );
 }

@@ -5,8 +5,10 @@ use matching::Found;
 use segment::Sample;
 ghost use mathlib.Core.Path.{_≡_};
 ghost use mathlib.Core.List.{[], _∷_};
+ghost use Rattle.dstree.specs.Labels.{noLabel};
 ghost use Rattle.dstree.specs.Book.{adding, matching};
-ghost use Rattle.tables.specs.Tables.{tables, nodeCount};
+ghost use Rattle.tables.specs.Tables.{nodeCount};
+ghost use Rattle.tables.specs.Lent.{tablesAfter, tablesAfterAdding, tablesAfterSearch, tablesBefore};
 ghost use Rattle.calls.specs.Outcome.{outcome};
 ghost use Rattle.calls.specs.Effects.{outcomeOn};
 ghost use Rattle.adding.specs.Answered as added;
@@ -31,16 +33,17 @@ pub fn add_to(
     nodes: &mut [i64],
     links: &mut [u16],
     work: &[u64],
+    labels: &mut [u64],
     trace: &[Sample],
 ) -> AddingStep
     ensures { λ r. ⌜ (outcome (added.answerBy (r .answer))
-        (tables (now (control .exit)) (now (samples .exit)) (now (nodes .exit)) (now (links .exit)) (now (work .entry))) []
-        ≡ outcomeOn (adding (now (trace .entry)))
-        (tables (now (control .entry)) (now (samples .entry)) (now (nodes .entry)) (now (links .entry)) (now (work .entry))))
+        (tablesAfterAdding control samples nodes links work labels) []
+        ≡ outcomeOn (adding (now (trace .entry)) noLabel)
+        (tablesBefore control samples nodes links work labels))
         × (r .nodes ≡ nodeCount
-        (tables (now (control .exit)) (now (samples .exit)) (now (nodes .exit)) (now (links .exit)) (now (work .entry)))) ⌝ }
+        (tablesAfterAdding control samples nodes links work labels)) ⌝ }
 {
-    let answer = adding::add(control, samples, nodes, links, work, trace);
+    let answer = adding::add(control, samples, nodes, links, work, labels, trace);
     let count = tables::control::field(control, tables::places::NODE_COUNT);
     AddingStep {
         answer: answer,
@@ -55,15 +58,25 @@ pub fn match_of(
     nodes: &[i64],
     links: &[u16],
     work: &mut [u64],
+    labels: &[u64],
     query: &[Sample],
 ) -> MatchStep
     ensures { λ r. ⌜ outcome (found.answerBy (r .answer) (r .trail))
-        (tables (now (control .entry)) (now (samples .entry)) (now (nodes .entry)) (now (links .entry)) (now (work .exit))) (r .trail ∷ [])
+        (tablesAfterSearch control samples nodes links work labels) (r .trail ∷ [])
         ≡ outcomeOn (matching (now (query .entry)) trailJunk)
-        (tables (now (control .entry)) (now (samples .entry)) (now (nodes .entry)) (now (links .entry)) (now (work .entry))) ⌝ }
+        (tablesBefore control samples nodes links work labels) ⌝ }
 {
     let mut trail = [7u16; 3];
-    let answer = matching::nearest(control, samples, nodes, links, work, &mut trail, query);
+    let answer = matching::nearest(
+        control,
+        samples,
+        nodes,
+        links,
+        work,
+        labels,
+        &mut trail,
+        query,
+    );
     MatchStep {
         answer: answer,
         trail: trail,
@@ -77,10 +90,11 @@ pub fn put_starred(
     nodes: &mut [i64],
     links: &mut [u16],
     work: &mut [u64],
+    labels: &mut [u64],
 )
-    ensures { λ _. ⌜ tables (now (control .exit)) (now (samples .exit)) (now (nodes .exit)) (now (links .exit)) (now (work .exit))
-        ≡ starredIn (tables (now (control .entry)) (now (samples .entry)) (now (nodes .entry)) (now (links .entry)) (now (work .entry))) ⌝ }
+    ensures { λ _. ⌜ tablesAfter control samples nodes links work labels
+        ≡ starredIn (tablesBefore control samples nodes links work labels) ⌝ }
 {
-    opening::open(control, samples, nodes, links, work, 1, 8, 2);
-    adding::add(control, samples, nodes, links, work, &[-1]);
+    opening::open(control, samples, nodes, links, work, labels, 1, 8, 2);
+    adding::add(control, samples, nodes, links, work, labels, &[-1]);
 }

@@ -6,7 +6,7 @@ use denote.Triple.Clauses.{AtExit}
 use borrow.Fn.Kinds.{PK, RK, Dens, endedOf, Out, resT}
 use contract.Lifetimes.{Lfts}
 use Rattle.dstree.specs.Book.{Ask, Call, Answer, Reply}
-use Rattle.tables.specs.Tables.{Tables, tables}
+use Rattle.tables.specs.Tables.{Tables}
 use Rattle.calls.specs.Outcome.{Outcome}
 use Rattle.calls.specs.Numbers.{codeOf, valuesOf, laid}
 use Rattle.opening.specs.Opened as opening-answer
@@ -19,19 +19,21 @@ use Rattle.importing.specs.Answered as importing-answer
 use Rattle.exporting.specs.Answered as exporting-answer
 use Rattle.checking.specs.Answered as checking-answer
 use Rattle.batching.specs.Answered as batching-answer
+use Rattle.labelling.specs.Answered as labelling-answer
+use Rattle.remote.specs.Answered as remote-answer
 use Rattle.batch_answers.specs.AnswerRecords.{nearsOf}
 use Rattle.batch_answers.proofs.Whole.{whole}
 use denote.Ref.{now}
 use Rattle.demands.specs.Did as did
-use Rattle.demands.specs.Did.{WithTables, control, samples, nodes, links, work, own, tablesOf, Did}
+use Rattle.demands.specs.Did.{WithTables, own, tablesOf, afterSearch, Did}
 use Rattle.demands.proofs.Replies.{slice, lifetimes}
 use Rattle.telling.specs.COutcome.{returnedOf, cOutcomeOf}
 use Rattle.exported_calls.specs.Did.{cReply, CExchange, cExchange, CallMade, Made, CDid, by-open, by-add, by-nearest, by-write, by-read, by-list}
-use Rattle.exported_calls.specs.Did.{by-import, by-export, by-check, by-batch}
+use Rattle.exported_calls.specs.Did.{by-import, by-export, by-check, by-batch, by-add-labelled, by-label, by-remote}
 
 -- the same tables, and this behind them
 abbrev withOwn : {Before Own : Type 0} → WithTables Before → Own → WithTables Own
-withOwn s own = (s .0, (s .1 .0, (s .1 .1 .0, (s .1 .1 .1 .0, (s .1 .1 .1 .1 .0, own)))))
+withOwn s own = (s .0, (s .1 .0, (s .1 .1 .0, (s .1 .1 .1 .0, (s .1 .1 .1 .1 .0, (s .1 .1 .1 .1 .1 .0, own))))))
 
 module _ (c : Call) (memory memory′ : Tables) (said : Reply) (out : List ℕ) where
   abbrev Linked : Type 0
@@ -62,58 +64,72 @@ module _ (c : Call) (memory memory′ : Tables) (said : Reply) (out : List ℕ) 
   linked (did.by-open d) =
       let a = opening-answer.answerBy (d .result) in
       let m = own (d .args) in
-      by by-open (lifetimes 6) (withOwn (d .args) (m .0, (m .1 .0, (m .1 .1 .0, (slice out, tt)))))
+      by by-open (lifetimes 7) (withOwn (d .args) (m .0, (m .1 .0, (m .1 .1 .0, (slice out, tt)))))
       (withOwn (d .exits) (m .0, (m .1 .0, (m .1 .1 .0, (slice (told a), tt))))) (codeOf a) (as-numbers (d .claim)) (made (d .made))
   linked (did.by-add d) =
       let a = adding-answer.answerBy (d .result) in
-      by by-add (lifetimes 7) (withOwn (d .args) (own (d .args) .0, (slice out, tt)))
+      by by-add (lifetimes 8) (withOwn (d .args) (own (d .args) .0, (slice out, tt)))
       (withOwn (d .exits) (own (d .exits) .0, (slice (told a), tt))) (codeOf a) (as-numbers (d .claim)) (made (d .made))
   linked (did.by-nearest d) =
       let a = matching-answer.answerBy (d .result) (now (own (d .exits) .0)) in
-      by by-nearest (lifetimes 8) (withOwn (d .args) (own (d .args) .0, (own (d .args) .1 .0, (slice out, tt))))
+      by by-nearest (lifetimes 9) (withOwn (d .args) (own (d .args) .0, (own (d .args) .1 .0, (slice out, tt))))
       (withOwn (d .exits) (own (d .exits) .0, (own (d .exits) .1 .0, (slice (told a), tt)))) (codeOf a) (as-numbers (d .claim))
       (made (d .made))
   linked (did.by-write d) =
       let a = writing-answer.answerBy (d .result) (now (own (d .exits) .0)) in
-      by by-write (lifetimes 7) (withOwn (d .args) (own (d .args) .0, (slice out, tt)))
+      by by-write (lifetimes 8) (withOwn (d .args) (own (d .args) .0, (slice out, tt)))
       (withOwn (d .exits) (own (d .exits) .0, (slice (told a), tt))) (codeOf a) (as-numbers (d .claim)) (made (d .made))
   linked (did.by-read d) =
       let a = reading-answer.answerBy (d .result) in
-      by by-read (lifetimes 7) (withOwn (d .args) (own (d .args) .0, (slice out, tt)))
+      by by-read (lifetimes 8) (withOwn (d .args) (own (d .args) .0, (slice out, tt)))
       (withOwn (d .exits) (own (d .exits) .0, (slice (told a), tt))) (codeOf a) (as-numbers (d .claim)) (made (d .made))
   linked (did.by-list d) =
       let a = listing-answer.answerBy (d .result) (now (own (d .exits) .0)) (now (own (d .exits) .1 .0)) in
       let b = own (d .args) in
       let e = own (d .exits) in
-      by by-list (lifetimes 9) (withOwn (d .args) (b .0, (b .1 .0, (b .1 .1 .0, (b .1 .1 .1 .0, (slice out, tt))))))
+      by by-list (lifetimes 10) (withOwn (d .args) (b .0, (b .1 .0, (b .1 .1 .0, (b .1 .1 .1 .0, (slice out, tt))))))
       (withOwn (d .exits) (e .0, (e .1 .0, (e .1 .1 .0, (e .1 .1 .1 .0, (slice (told a), tt)))))) (codeOf a) (as-numbers (d .claim))
       (made (d .made))
   linked (did.by-import d) =
       let a = importing-answer.answerBy (d .result) in
-      by by-import (lifetimes 7) (withOwn (d .args) (own (d .args) .0, (slice out, tt)))
+      by by-import (lifetimes 8) (withOwn (d .args) (own (d .args) .0, (slice out, tt)))
       (withOwn (d .exits) (own (d .exits) .0, (slice (told a), tt))) (codeOf a) (as-numbers (d .claim)) (made (d .made))
   linked (did.by-export d) =
       let a = exporting-answer.answerBy (d .result) (now (own (d .exits) .0)) in
       let b = own (d .args) in
-      by by-export (lifetimes 7) (withOwn (d .args) (b .0, (b .1 .0, (b .1 .1 .0, (slice out, tt)))))
+      by by-export (lifetimes 8) (withOwn (d .args) (b .0, (b .1 .0, (b .1 .1 .0, (slice out, tt)))))
       (withOwn (d .exits) (own (d .exits) .0, (b .1 .0, (b .1 .1 .0, (slice (told a), tt))))) (codeOf a) (as-numbers (d .claim))
       (made (d .made))
   linked (did.by-check d) =
       let a = checking-answer.answerBy (d .result) in
-      by by-check (lifetimes 6) (withOwn (d .args) (slice out, tt)) (withOwn (d .exits) (slice (told a), tt)) (codeOf a)
+      by by-check (lifetimes 7) (withOwn (d .args) (slice out, tt)) (withOwn (d .exits) (slice (told a), tt)) (codeOf a)
       (as-numbers (d .claim)) (made (d .made))
+  linked (did.by-add-labelled d) =
+      let a = adding-answer.answerBy (d .result) in
+      let b = own (d .args) in
+      let e = own (d .exits) in
+      by by-add-labelled (lifetimes 8) (withOwn (d .args) (b .0, (b .1 .0, (b .1 .1 .0, (slice out, tt)))))
+      (withOwn (d .exits) (e .0, (b .1 .0, (b .1 .1 .0, (slice (told a), tt))))) (codeOf a) (as-numbers (d .claim)) (made (d .made))
+  linked (did.by-label d) =
+      let a = labelling-answer.answerBy (d .result) in
+      by by-label (lifetimes 7) (withOwn (d .args) (own (d .args) .0, (slice out, tt)))
+      (withOwn (d .exits) (own (d .args) .0, (slice (told a), tt))) (codeOf a) (as-numbers (d .claim)) (made (d .made))
+  linked (did.by-remote d) =
+      let a = remote-answer.answerBy (d .result) (now (own (d .exits) .0)) in
+      by by-remote (lifetimes 9) (withOwn (d .args) (own (d .args) .0, (own (d .args) .1 .0, (slice out, tt))))
+      (withOwn (d .exits) (own (d .exits) .0, (own (d .exits) .1 .0, (slice (told a), tt)))) (codeOf a) (as-numbers (d .claim))
+      (made (d .made))
   linked (did.by-batch d) =
       let x = d .searched in
       let b = own (x .args) in
       let e = own (x .exits) in
       let a = batching-answer.answerBy (x .result .outcome) (nearsOf (d .list′)) (now (e .0)) in
-      let after = tables (control (x .args)) (samples (x .args)) (nodes (x .args)) (links (x .args)) (work (x .exits)) in
       by-batch (record {
-        κs = lifetimes 9;
+        κs = lifetimes 10;
         args = withOwn (x .args) (b .0, (b .1 .0, (b .1 .1 .0, (slice (d .list), (slice out, tt)))));
         exits = withOwn (x .exits) (e .0, (e .1 .0, (e .1 .1 .0, (slice (d .list′), (slice (told a), tt)))));
         result = codeOf a;
-        claim = as-numbers (whole (tablesOf (x .args)) after (b .1 .1 .0) (now (b .1 .0)) (now (b .0)) (now (e .0)) (d .list) (d .list′)
-            (x .result) (d .done) (λ l size. x .claim l (size ∙ d .so-long)) (d .stored));
+        claim = as-numbers (whole (tablesOf (x .args)) (afterSearch (x .args) (x .exits)) (b .1 .1 .0) (now (b .1 .0)) (now (b .0))
+            (now (e .0)) (d .list) (d .list′) (x .result) (d .done) (λ l size. x .claim l (size ∙ d .so-long)) (d .stored));
         made = made (x .made);
       })

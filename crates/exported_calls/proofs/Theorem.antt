@@ -10,6 +10,9 @@ use Rattle.library_c.proofs.silkendoz_import_recording.Met as import-met
 use Rattle.library_c.proofs.silkendoz_export_recording.Met as export-met
 use Rattle.library_c.proofs.silkendoz_check_tables.Met as check-met
 use Rattle.library_c.proofs.silkendoz_match_batch.Met as batch-met
+use Rattle.library_c.proofs.silkendoz_add_labelled.Met as add-labelled-met
+use Rattle.library_c.proofs.silkendoz_label.Met as label-met
+use Rattle.library_c.proofs.silkendoz_remote_match.Met as remote-met
 use Rattle.demands.proofs.Theorem.{theorem}
 use Rattle.exported_calls.specs.Theorem.{ExportedTheorem}
 use Rattle.exported_calls.proofs.Follows.{follows}
@@ -28,6 +31,9 @@ exported-theorem = record {
   export-meets = export-met.met;
   check-meets = check-met.met;
   batch-meets = batch-met.met;
+  add-labelled-meets = add-labelled-met.met;
+  label-meets = label-met.met;
+  remote-meets = remote-met.met;
   open-clause = λ M 𝓤 H A mem run κs args. refl;
   add-clause = λ M 𝓤 H A mem run κs args. refl;
   nearest-clause = λ M 𝓤 H A mem run κs args. refl;
@@ -38,6 +44,9 @@ exported-theorem = record {
   export-clause = λ M 𝓤 H A mem run κs args. refl;
   check-clause = λ M 𝓤 H A mem run κs args. refl;
   batch-clause = λ M 𝓤 H A mem run κs args. refl;
+  add-labelled-clause = λ M 𝓤 H A mem run κs args. refl;
+  label-clause = λ M 𝓤 H A mem run κs args. refl;
+  remote-clause = λ M 𝓤 H A mem run κs args. refl;
   follows = follows;
   linked = linked;
 }

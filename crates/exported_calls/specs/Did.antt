@@ -9,18 +9,21 @@ use denote.Triple.Clauses.{AtExit}
 use borrow.Fn.Kinds.{PK, RK, Dens, endedOf, Out, resT}
 use contract.Lifetimes.{Lfts}
 use Rattle.dstree.specs.Measures.{measures}
+use Rattle.dstree.specs.Labels.{label, noLabel}
 use Rattle.dstree.specs.KNearest.{listPlaces}
 use Rattle.dstree.specs.Book.{Ask, opening, adding, matching, writing, reading, listing, importing, exporting, checking, batching, Call}
-use Rattle.dstree.specs.Book.{Reply}
-use Rattle.tables.specs.Tables.{Tables, tables}
+use Rattle.dstree.specs.Book.{labelling, remoteMatching, Reply}
+use Rattle.tables.specs.Tables.{Tables}
 use Rattle.calls.specs.Effects.{outcomeOn}
 use Rattle.batch_answers.specs.AnswerRecords.{nearsOf}
-use Rattle.demands.specs.Did.{control, samples, nodes, links, work, own, tablesOf, Placed}
+use Rattle.demands.specs.Did.{own, tablesOf, afterSearch, afterAdding, Placed}
 use Rattle.telling.specs.COutcome.{Returned, returned, returnedOf, cOutcome, cOutcomeOf}
 use Rattle.library_c.proofs.silkendoz_open.Kinds as open-kinds
 use Rattle.library_c.proofs.silkendoz_open.Reads as open-reads
 use Rattle.library_c.proofs.silkendoz_add.Kinds as add-kinds
 use Rattle.library_c.proofs.silkendoz_add.Reads as add-reads
+use Rattle.library_c.proofs.silkendoz_add_labelled.Kinds as add-labelled-kinds
+use Rattle.library_c.proofs.silkendoz_add_labelled.Reads as add-labelled-reads
 use Rattle.library_c.proofs.silkendoz_nearest.Kinds as nearest-kinds
 use Rattle.library_c.proofs.silkendoz_nearest.Reads as nearest-reads
 use Rattle.library_c.proofs.silkendoz_k_nearest.Kinds as list-kinds
@@ -35,6 +38,10 @@ use Rattle.library_c.proofs.silkendoz_export_recording.Kinds as export-kinds
 use Rattle.library_c.proofs.silkendoz_export_recording.Reads as export-reads
 use Rattle.library_c.proofs.silkendoz_check_tables.Kinds as check-kinds
 use Rattle.library_c.proofs.silkendoz_check_tables.Reads as check-reads
+use Rattle.library_c.proofs.silkendoz_label.Kinds as label-kinds
+use Rattle.library_c.proofs.silkendoz_label.Reads as label-reads
+use Rattle.library_c.proofs.silkendoz_remote_match.Kinds as remote-kinds
+use Rattle.library_c.proofs.silkendoz_remote_match.Reads as remote-reads
 use Rattle.library_c.proofs.silkendoz_match_batch as batch
 
 -- what a caller in another language gets: the code, and the slice `out` as it was left; and what then stands in what was lent beside the
@@ -87,14 +94,19 @@ Opens = Made open-kinds.ps open-kinds.r open-reads.Learnt (λ κs args code exit
 -- search work is lent to read
 abbrev pub Adds : Call → Tables → List ℕ → CReply → Tables → Type 0
 Adds = Made add-kinds.ps add-kinds.r add-reads.Learnt (λ κs args code exits.
-    cExchange (adding (now (own args .0))) (tablesOf args) (now (own args .1 .0)) (returned code (now (own exits .1 .0)))
-    (tables (control exits) (samples exits) (nodes exits) (links exits) (work args)) [])
+    cExchange (adding (now (own args .0)) noLabel) (tablesOf args) (now (own args .1 .0)) (returned code (now (own exits .1 .0)))
+    (afterAdding args exits) [])
+
+abbrev pub AddsLabelled : Call → Tables → List ℕ → CReply → Tables → Type 0
+AddsLabelled = Made add-labelled-kinds.ps add-labelled-kinds.r add-labelled-reads.Learnt (λ κs args code exits.
+    let ask = adding (now (own args .0)) (label (own args .1 .0) (own args .1 .1 .0)) in
+    cExchange ask (tablesOf args) (now (own args .1 .1 .1 .0)) (returned code (now (own exits .1 .1 .1 .0))) (afterAdding args exits) [])
 
 -- all tables but search work are lent to read
 abbrev pub Matches : Call → Tables → List ℕ → CReply → Tables → Type 0
 Matches = Made nearest-kinds.ps nearest-kinds.r nearest-reads.Learnt (λ κs args code exits.
     cExchange (matching (now (own args .1 .0)) (now (own args .0))) (tablesOf args) (now (own args .1 .1 .0))
-    (returned code (now (own exits .1 .1 .0))) (tables (control args) (samples args) (nodes args) (links args) (work exits))
+    (returned code (now (own exits .1 .1 .0))) (afterSearch args exits)
     (now (own exits .0) ∷ []))
 
 -- all tables are lent to read
@@ -113,13 +125,13 @@ abbrev pub Lists : Call → Tables → List ℕ → CReply → Tables → Type 0
 Lists = Made list-kinds.ps list-kinds.r list-reads.Learnt (λ κs args code exits.
     cExchange (listing (own args .1 .1 .1 .0) (now (own args .1 .1 .0)) (now (own args .0)) (now (own args .1 .0))) (tablesOf args)
     (now (own args .1 .1 .1 .1 .0)) (returned code (now (own exits .1 .1 .1 .1 .0)))
-    (tables (control args) (samples args) (nodes args) (links args) (work exits)) (now (own exits .0) ∷ now (own exits .1 .0) ∷ []))
+    (afterSearch args exits) (now (own exits .0) ∷ now (own exits .1 .0) ∷ []))
 
 -- search work is lent to read
 abbrev pub Imports : Call → Tables → List ℕ → CReply → Tables → Type 0
 Imports = Made import-kinds.ps import-kinds.r import-reads.Learnt (λ κs args code exits.
     cExchange (importing (now (own args .0))) (tablesOf args) (now (own args .1 .0)) (returned code (now (own exits .1 .0)))
-    (tables (control exits) (samples exits) (nodes exits) (links exits) (work args)) [])
+    (afterAdding args exits) [])
 
 -- all tables are lent to read
 abbrev pub Exports : Call → Tables → List ℕ → CReply → Tables → Type 0
@@ -132,22 +144,34 @@ abbrev pub Checks : Call → Tables → List ℕ → CReply → Tables → Type 
 Checks = Made check-kinds.ps check-kinds.r check-reads.Learnt (λ κs args code exits.
     cExchange checking (tablesOf args) (now (own args .0)) (returned code (now (own exits .0))) (tablesOf args) [])
 
+-- all tables are lent to read
+abbrev pub TellsLabel : Call → Tables → List ℕ → CReply → Tables → Type 0
+TellsLabel = Made label-kinds.ps label-kinds.r label-reads.Learnt (λ κs args code exits.
+    cExchange (labelling (own args .0)) (tablesOf args) (now (own args .1 .0)) (returned code (now (own exits .1 .0))) (tablesOf args) [])
+
+-- all tables but search work are lent to read
+abbrev pub RemoteMatches : Call → Tables → List ℕ → CReply → Tables → Type 0
+RemoteMatches = Made remote-kinds.ps remote-kinds.r remote-reads.Learnt (λ κs args code exits.
+    cExchange (remoteMatching (now (own args .1 .0)) (now (own args .0))) (tablesOf args) (now (own args .1 .1 .0))
+    (returned code (now (own exits .1 .1 .0))) (afterSearch args exits)
+    (now (own exits .0) ∷ []))
+
 -- a batch is lent a list of structs, so that no `Learnt` is generated: its claim is written here, and it is the clause of the contract
 -- (`Theorem`: `batch-clause`)
-abbrev pub batchSeen : (κs : Lfts 9) → Args batch.signature κs → ℕ → AtExit batch.ended κs → CExchange
+abbrev pub batchSeen : (κs : Lfts 10) → Args batch.signature κs → ℕ → AtExit batch.ended κs → CExchange
 batchSeen κs args code exits =
     let ask = batching (own args .1 .1 .0) (now (own args .1 .0)) (now (own args .0)) (nearsOf (now (own args .1 .1 .1 .0))) in
     cExchange ask (tablesOf args) (now (own args .1 .1 .1 .1 .0)) (returned code (now (own exits .1 .1 .1 .1 .0)))
-    (tables (control args) (samples args) (nodes args) (links args) (work exits))
+    (afterSearch args exits)
     (now (own exits .0) ∷ listPlaces (nearsOf (now (own exits .1 .1 .1 .0))) ∷ [])
 
-abbrev pub BatchLearnt : (κs : Lfts 9) → Args batch.signature κs → ℕ → AtExit batch.ended κs → Type 0
+abbrev pub BatchLearnt : (κs : Lfts 10) → Args batch.signature κs → ℕ → AtExit batch.ended κs → Type 0
 BatchLearnt κs args code exits =
     let x = batchSeen κs args code exits in
     cOutcome (x .told .code) (x .told .out) (x .after) (x .beside) ≡ cOutcomeOf (outcomeOn (x .ask) (x .before)) (x .out)
 
 pub record Batches (c : Call) (memory : Tables) (out : List ℕ) (said : CReply) (memory′ : Tables) : Type 0 where
-  pub κs : Lfts 9
+  pub κs : Lfts 10
   pub args : Args batch.signature κs
   pub exits : AtExit batch.ended κs
   pub result : ℕ
@@ -166,3 +190,6 @@ pub data CDid (c : Call) (memory : Tables) (out : List ℕ) (said : CReply) (mem
   by-export : Exports c memory out said memory′ → CDid c memory out said memory′
   by-check : Checks c memory out said memory′ → CDid c memory out said memory′
   by-batch : Batches c memory out said memory′ → CDid c memory out said memory′
+  by-add-labelled : AddsLabelled c memory out said memory′ → CDid c memory out said memory′
+  by-label : TellsLabel c memory out said memory′ → CDid c memory out said memory′
+  by-remote : RemoteMatches c memory out said memory′ → CDid c memory out said memory′

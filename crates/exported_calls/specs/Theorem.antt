@@ -36,6 +36,15 @@ use Rattle.library_c.proofs.silkendoz_export_recording.Reads as export-reads
 use Rattle.library_c.proofs.silkendoz_check_tables as check
 use Rattle.library_c.proofs.silkendoz_check_tables.Statement as check-statement
 use Rattle.library_c.proofs.silkendoz_check_tables.Reads as check-reads
+use Rattle.library_c.proofs.silkendoz_add_labelled as add-labelled
+use Rattle.library_c.proofs.silkendoz_add_labelled.Statement as add-labelled-statement
+use Rattle.library_c.proofs.silkendoz_add_labelled.Reads as add-labelled-reads
+use Rattle.library_c.proofs.silkendoz_label as label-call
+use Rattle.library_c.proofs.silkendoz_label.Statement as label-statement
+use Rattle.library_c.proofs.silkendoz_label.Reads as label-reads
+use Rattle.library_c.proofs.silkendoz_remote_match as remote-call
+use Rattle.library_c.proofs.silkendoz_remote_match.Statement as remote-statement
+use Rattle.library_c.proofs.silkendoz_remote_match.Reads as remote-reads
 use Rattle.library_c.proofs.silkendoz_match_batch as batch
 use Rattle.library_c.proofs.silkendoz_match_batch.Statement as batch-statement
 use Rattle.exported_calls.specs.Did.{CReply, cReply, BatchLearnt, CDid}
@@ -58,6 +67,9 @@ pub record ExportedTheorem : Type 2 where
   pub export-meets : {M : Type 1} → export-statement.statement M
   pub check-meets : {M : Type 1} → check-statement.statement M
   pub batch-meets : {M : Type 1} → batch-statement.statement M
+  pub add-labelled-meets : {M : Type 1} → add-labelled-statement.statement M
+  pub label-meets : {M : Type 1} → label-statement.statement M
+  pub remote-meets : {M : Type 1} → remote-statement.statement M
   -- what `CDid` claims of a call is what its contract ensures, and no more is asked
   pub open-clause : Clause open-call.ended (λ M 𝓤. open-call.spec 𝓤) open-reads.Learnt
   pub add-clause : Clause add.ended (λ M 𝓤. add.spec 𝓤) add-reads.Learnt
@@ -69,6 +81,9 @@ pub record ExportedTheorem : Type 2 where
   pub export-clause : Clause export-call.ended (λ M 𝓤. export-call.spec 𝓤) export-reads.Learnt
   pub check-clause : Clause check.ended (λ M 𝓤. check.spec 𝓤) check-reads.Learnt
   pub batch-clause : Clause batch.ended (λ M 𝓤. batch.spec 𝓤) BatchLearnt
+  pub add-labelled-clause : Clause add-labelled.ended (λ M 𝓤. add-labelled.spec 𝓤) add-labelled-reads.Learnt
+  pub label-clause : Clause label-call.ended (λ M 𝓤. label-call.spec 𝓤) label-reads.Learnt
+  pub remote-clause : Clause remote-call.ended (λ M 𝓤. remote-call.spec 𝓤) remote-reads.Learnt
   -- what it leaves is what the definition makes of the call and the memory before, and what it tells is the answer
   pub follows : (c : Call) (memory memory′ : Tables) (out : List ℕ) (got : CReply) → CDid c memory out got memory′
       → Told c memory out got memory′

@@ -1,8 +1,9 @@
 // The calls for C and for Rust: numbers and slices only, a slice as a pointer and then its length. Each is the call of the same name, and
 // its contract is that call's own definition. The code is 0, or the number of the refusal; the answer's values go into the lent slice
-// `out`, in order: adding the trace's number, a match the trace's number, the distance, leaves read and traces read, a listing leaves read,
-// traces read and how many it lists, a writing the number of blocks, an import the number of traces, an export the number of bytes, a batch
-// leaves read, a refusal its place; an opening, a reading and a check have none. A shorter `out` takes the first of them, and places behind
+// `out`, in order: adding, with a label or without one, the trace's number, a match the trace's number, the distance, leaves read and
+// traces read, the remote's match these and the fault code, a listing leaves read, traces read and how many it lists, a writing the number
+// of blocks, an import the number of traces, an export the number of bytes, a batch leaves read, the bench's call for a label fault code
+// and serial, a refusal its place; an opening, a reading and a check have none. A shorter `out` takes the first of them, and places behind
 // them stay.
 
 pub mod version; // which layout of the tables this is for
@@ -12,9 +13,10 @@ use segment::Sample;
 ghost use mathlib.Core.Path.{_≡_};
 ghost use mathlib.Core.List.{[], _∷_};
 ghost use Rattle.dstree.specs.Measures.{measures};
+ghost use Rattle.dstree.specs.Labels.{label, noLabel};
 ghost use Rattle.dstree.specs.KNearest.{listPlaces};
 ghost use Rattle.dstree.specs.Book as book;
-ghost use Rattle.tables.specs.Tables.{tables};
+ghost use Rattle.tables.specs.Lent.{tablesAfter, tablesAfterAdding, tablesAfterSearch, tablesBefore};
 ghost use Rattle.calls.specs.Effects.{outcomeOn};
 ghost use Rattle.batch_answers.specs.AnswerRecords.{nearsOf};
 ghost use Rattle.telling.specs.COutcome.{cOutcome, cOutcomeOf};
@@ -28,19 +30,30 @@ pub extern "C" fn silkendoz_open(
     nodes: &mut [i64],
     links: &mut [u16],
     work: &mut [u64],
+    labels: &mut [u64],
     n: u64,
     capacity: u64,
     leaf_size: u64,
     out: &mut [u64],
 ) -> u64
     ensures { λ r. ⌜ cOutcome r (now (out .exit))
-        (tables (now (control .exit)) (now (samples .exit)) (now (nodes .exit)) (now (links .exit)) (now (work .exit)))
+        (tablesAfter control samples nodes links work labels)
         []
         ≡ cOutcomeOf (outcomeOn (book.opening (measures n capacity «leaf_size»))
-        (tables (now (control .entry)) (now (samples .entry)) (now (nodes .entry)) (now (links .entry)) (now (work .entry))))
+        (tablesBefore control samples nodes links work labels))
         (now (out .entry)) ⌝ }
 {
-    let answer = opening::open(control, samples, nodes, links, work, n, capacity, leaf_size);
+    let answer = opening::open(
+        control,
+        samples,
+        nodes,
+        links,
+        work,
+        labels,
+        n,
+        capacity,
+        leaf_size,
+    );
     telling::tell_opened(answer, out)
 }
 
@@ -52,17 +65,54 @@ pub extern "C" fn silkendoz_add(
     nodes: &mut [i64],
     links: &mut [u16],
     work: &[u64],
+    labels: &mut [u64],
     trace: &[Sample],
     out: &mut [u64],
 ) -> u64
     ensures { λ r. ⌜ cOutcome r (now (out .exit))
-        (tables (now (control .exit)) (now (samples .exit)) (now (nodes .exit)) (now (links .exit)) (now (work .entry)))
+        (tablesAfterAdding control samples nodes links work labels)
         []
-        ≡ cOutcomeOf (outcomeOn (book.adding (now (trace .entry)))
-        (tables (now (control .entry)) (now (samples .entry)) (now (nodes .entry)) (now (links .entry)) (now (work .entry))))
+        ≡ cOutcomeOf (outcomeOn (book.adding (now (trace .entry)) noLabel)
+        (tablesBefore control samples nodes links work labels))
         (now (out .entry)) ⌝ }
 {
-    let answer = adding::add(control, samples, nodes, links, work, trace);
+    let answer = adding::add(control, samples, nodes, links, work, labels, trace);
+    telling::tell_added(answer, out)
+}
+
+// Two wrong programs that the contract rules out: one that takes the code's low byte alone, and one that tells the code for the trace's
+// number.
+#[no_mangle]
+pub extern "C" fn silkendoz_add_labelled(
+    control: &mut [u16],
+    samples: &mut [Sample],
+    nodes: &mut [i64],
+    links: &mut [u16],
+    work: &[u64],
+    labels: &mut [u64],
+    trace: &[Sample],
+    code: u16,
+    serial: u32,
+    out: &mut [u64],
+) -> u64
+    ensures { λ r. ⌜ cOutcome r (now (out .exit))
+        (tablesAfterAdding control samples nodes links work labels)
+        []
+        ≡ cOutcomeOf (outcomeOn (book.adding (now (trace .entry)) (label code serial))
+        (tablesBefore control samples nodes links work labels))
+        (now (out .entry)) ⌝ }
+{
+    let answer = adding::add_labelled(
+        control,
+        samples,
+        nodes,
+        links,
+        work,
+        labels,
+        trace,
+        code,
+        serial,
+    );
     telling::tell_added(answer, out)
 }
 
@@ -74,18 +124,19 @@ pub extern "C" fn silkendoz_nearest(
     nodes: &[i64],
     links: &[u16],
     work: &mut [u64],
+    labels: &[u64],
     trail: &mut [u16],
     query: &[Sample],
     out: &mut [u64],
 ) -> u64
     ensures { λ r. ⌜ cOutcome r (now (out .exit))
-        (tables (now (control .entry)) (now (samples .entry)) (now (nodes .entry)) (now (links .entry)) (now (work .exit)))
+        (tablesAfterSearch control samples nodes links work labels)
         (now (trail .exit) ∷ [])
         ≡ cOutcomeOf (outcomeOn (book.matching (now (query .entry)) (now (trail .entry)))
-        (tables (now (control .entry)) (now (samples .entry)) (now (nodes .entry)) (now (links .entry)) (now (work .entry))))
+        (tablesBefore control samples nodes links work labels))
         (now (out .entry)) ⌝ }
 {
-    let answer = matching::nearest(control, samples, nodes, links, work, trail, query);
+    let answer = matching::nearest(control, samples, nodes, links, work, labels, trail, query);
     telling::tell_found(answer, out)
 }
 
@@ -100,6 +151,7 @@ pub extern "C" fn silkendoz_k_nearest(
     nodes: &[i64],
     links: &[u16],
     work: &mut [u64],
+    labels: &[u64],
     trail: &mut [u16],
     list: &mut [u64],
     query: &[Sample],
@@ -107,13 +159,24 @@ pub extern "C" fn silkendoz_k_nearest(
     out: &mut [u64],
 ) -> u64
     ensures { λ r. ⌜ cOutcome r (now (out .exit))
-        (tables (now (control .entry)) (now (samples .entry)) (now (nodes .entry)) (now (links .entry)) (now (work .exit)))
+        (tablesAfterSearch control samples nodes links work labels)
         (now (trail .exit) ∷ now (list .exit) ∷ [])
         ≡ cOutcomeOf (outcomeOn (book.listing k (now (query .entry)) (now (trail .entry)) (now (list .entry)))
-        (tables (now (control .entry)) (now (samples .entry)) (now (nodes .entry)) (now (links .entry)) (now (work .entry))))
+        (tablesBefore control samples nodes links work labels))
         (now (out .entry)) ⌝ }
 {
-    let answer = listing::k_nearest(control, samples, nodes, links, work, trail, list, query, k);
+    let answer = listing::k_nearest(
+        control,
+        samples,
+        nodes,
+        links,
+        work,
+        labels,
+        trail,
+        list,
+        query,
+        k,
+    );
     telling::tell_listed(answer, out)
 }
 
@@ -126,17 +189,18 @@ pub extern "C" fn silkendoz_write_sheet(
     nodes: &[i64],
     links: &[u16],
     work: &[u64],
+    labels: &[u64],
     sheet: &mut [u8],
     out: &mut [u64],
 ) -> u64
     ensures { λ r. ⌜ cOutcome r (now (out .exit))
-        (tables (now (control .entry)) (now (samples .entry)) (now (nodes .entry)) (now (links .entry)) (now (work .entry)))
+        (tablesBefore control samples nodes links work labels)
         (now (sheet .exit) ∷ [])
         ≡ cOutcomeOf (outcomeOn (book.writing (now (sheet .entry)))
-        (tables (now (control .entry)) (now (samples .entry)) (now (nodes .entry)) (now (links .entry)) (now (work .entry))))
+        (tablesBefore control samples nodes links work labels))
         (now (out .entry)) ⌝ }
 {
-    let answer = sheet_writing::write_sheet(control, samples, nodes, links, work, sheet);
+    let answer = sheet_writing::write_sheet(control, samples, nodes, links, work, labels, sheet);
     telling::tell_written(answer, out)
 }
 
@@ -149,17 +213,18 @@ pub extern "C" fn silkendoz_read_sheet(
     nodes: &mut [i64],
     links: &mut [u16],
     work: &mut [u64],
+    labels: &mut [u64],
     sheet: &[u8],
     out: &mut [u64],
 ) -> u64
     ensures { λ r. ⌜ cOutcome r (now (out .exit))
-        (tables (now (control .exit)) (now (samples .exit)) (now (nodes .exit)) (now (links .exit)) (now (work .exit)))
+        (tablesAfter control samples nodes links work labels)
         []
         ≡ cOutcomeOf (outcomeOn (book.reading (now (sheet .entry)))
-        (tables (now (control .entry)) (now (samples .entry)) (now (nodes .entry)) (now (links .entry)) (now (work .entry))))
+        (tablesBefore control samples nodes links work labels))
         (now (out .entry)) ⌝ }
 {
-    let answer = sheet_reading::read_sheet(control, samples, nodes, links, work, sheet);
+    let answer = sheet_reading::read_sheet(control, samples, nodes, links, work, labels, sheet);
     telling::tell_read(answer, out)
 }
 
@@ -172,17 +237,18 @@ pub extern "C" fn silkendoz_import_recording(
     nodes: &mut [i64],
     links: &mut [u16],
     work: &[u64],
+    labels: &mut [u64],
     bytes: &[u8],
     out: &mut [u64],
 ) -> u64
     ensures { λ r. ⌜ cOutcome r (now (out .exit))
-        (tables (now (control .exit)) (now (samples .exit)) (now (nodes .exit)) (now (links .exit)) (now (work .entry)))
+        (tablesAfterAdding control samples nodes links work labels)
         []
         ≡ cOutcomeOf (outcomeOn (book.importing (now (bytes .entry)))
-        (tables (now (control .entry)) (now (samples .entry)) (now (nodes .entry)) (now (links .entry)) (now (work .entry))))
+        (tablesBefore control samples nodes links work labels))
         (now (out .entry)) ⌝ }
 {
-    let answer = importing::import_recording(control, samples, nodes, links, work, bytes);
+    let answer = importing::import_recording(control, samples, nodes, links, work, labels, bytes);
     telling::tell_imported(answer, out)
 }
 
@@ -194,16 +260,17 @@ pub extern "C" fn silkendoz_export_recording(
     nodes: &[i64],
     links: &[u16],
     work: &[u64],
+    labels: &[u64],
     buffer: &mut [u8],
     number: u64,
     rate: u64,
     out: &mut [u64],
 ) -> u64
     ensures { λ r. ⌜ cOutcome r (now (out .exit))
-        (tables (now (control .entry)) (now (samples .entry)) (now (nodes .entry)) (now (links .entry)) (now (work .entry)))
+        (tablesBefore control samples nodes links work labels)
         (now (buffer .exit) ∷ [])
         ≡ cOutcomeOf (outcomeOn (book.exporting number rate (now (buffer .entry)))
-        (tables (now (control .entry)) (now (samples .entry)) (now (nodes .entry)) (now (links .entry)) (now (work .entry))))
+        (tablesBefore control samples nodes links work labels))
         (now (out .entry)) ⌝ }
 {
     let answer = exporting::export_recording(
@@ -212,6 +279,7 @@ pub extern "C" fn silkendoz_export_recording(
         nodes,
         links,
         work,
+        labels,
         buffer,
         number,
         rate,
@@ -227,17 +295,66 @@ pub extern "C" fn silkendoz_check_tables(
     nodes: &[i64],
     links: &[u16],
     work: &[u64],
+    labels: &[u64],
     out: &mut [u64],
 ) -> u64
     ensures { λ r. ⌜ cOutcome r (now (out .exit))
-        (tables (now (control .entry)) (now (samples .entry)) (now (nodes .entry)) (now (links .entry)) (now (work .entry)))
+        (tablesBefore control samples nodes links work labels)
         []
         ≡ cOutcomeOf (outcomeOn book.checking
-        (tables (now (control .entry)) (now (samples .entry)) (now (nodes .entry)) (now (links .entry)) (now (work .entry))))
+        (tablesBefore control samples nodes links work labels))
         (now (out .entry)) ⌝ }
 {
-    let answer = checking::check_tables(control, samples, nodes, links, work);
+    let answer = checking::check_tables(control, samples, nodes, links, work, labels);
     telling::tell_checked(answer, out)
+}
+
+// Two wrong programs that the contract rules out: one that tells the serial first, and one that tells a code of 0 for a refusal.
+#[no_mangle]
+pub extern "C" fn silkendoz_label(
+    control: &[u16],
+    samples: &[Sample],
+    nodes: &[i64],
+    links: &[u16],
+    work: &[u64],
+    labels: &[u64],
+    number: u64,
+    out: &mut [u64],
+) -> u64
+    ensures { λ r. ⌜ cOutcome r (now (out .exit))
+        (tablesBefore control samples nodes links work labels)
+        []
+        ≡ cOutcomeOf (outcomeOn (book.labelling number)
+        (tablesBefore control samples nodes links work labels))
+        (now (out .entry)) ⌝ }
+{
+    let answer = labelling::label(control, samples, nodes, links, work, labels, number);
+    telling::tell_label(answer, out)
+}
+
+// Two wrong programs that the contract rules out: one that tells the serial behind the code, and one that leaves `out` as it was where the
+// code is 0.
+#[no_mangle]
+pub extern "C" fn silkendoz_remote_match(
+    control: &[u16],
+    samples: &[Sample],
+    nodes: &[i64],
+    links: &[u16],
+    work: &mut [u64],
+    labels: &[u64],
+    trail: &mut [u16],
+    query: &[Sample],
+    out: &mut [u64],
+) -> u64
+    ensures { λ r. ⌜ cOutcome r (now (out .exit))
+        (tablesAfterSearch control samples nodes links work labels)
+        (now (trail .exit) ∷ [])
+        ≡ cOutcomeOf (outcomeOn (book.remoteMatching (now (query .entry)) (now (trail .entry)))
+        (tablesBefore control samples nodes links work labels))
+        (now (out .entry)) ⌝ }
+{
+    let answer = remote::remote_match(control, samples, nodes, links, work, labels, trail, query);
+    telling::tell_remote(answer, out)
 }
 
 // The list is lent as records, a struct of two numbers each, and has one for each query.
@@ -251,6 +368,7 @@ pub extern "C" fn silkendoz_match_batch(
     nodes: &[i64],
     links: &[u16],
     work: &mut [u64],
+    labels: &[u64],
     trail: &mut [u16],
     queries: &[Sample],
     many: usize,
@@ -258,10 +376,10 @@ pub extern "C" fn silkendoz_match_batch(
     out: &mut [u64],
 ) -> u64
     ensures { λ r. ⌜ cOutcome r (now (out .exit))
-        (tables (now (control .entry)) (now (samples .entry)) (now (nodes .entry)) (now (links .entry)) (now (work .exit)))
+        (tablesAfterSearch control samples nodes links work labels)
         (now (trail .exit) ∷ listPlaces (nearsOf (now (answers .exit))) ∷ [])
         ≡ cOutcomeOf (outcomeOn (book.batching many (now (queries .entry)) (now (trail .entry)) (nearsOf (now (answers .entry))))
-        (tables (now (control .entry)) (now (samples .entry)) (now (nodes .entry)) (now (links .entry)) (now (work .entry))))
+        (tablesBefore control samples nodes links work labels))
         (now (out .entry)) ⌝ }
 {
     let places = answers.len();
@@ -271,6 +389,7 @@ pub extern "C" fn silkendoz_match_batch(
         nodes,
         links,
         work,
+        labels,
         trail,
         queries,
         many,

@@ -80,44 +80,44 @@ fn print_trails(trails: &[u16]) {
 // ---- the scripts: n = 4, capacity 3, leaf size 2, in tables that are just long enough
 
 fn put_opened(script: &mut [u64])
-    requires { ⌜ length (now script) ≡ 85 ⌝ }
+    requires { ⌜ length (now script) ≡ 95 ⌝ }
     ensures { λ _. ⌜ now (script .exit) ≡ rowsLaid openedRows 0 (now (script .entry)) ⌝ }
 {
     // an opening with a leaf size of 65, and one that is not refused
-    lay(script, 0, &[9u64, 0, 5, 12, 435, 3, 5, 4, 3, 65]);
-    lay(script, 10, &[9u64, 0, 5, 12, 435, 3, 5, 4, 3, 2]);
+    lay(script, 0, &[10u64, 0, 5, 12, 435, 3, 5, 3, 4, 3, 65]);
+    lay(script, 11, &[10u64, 0, 5, 12, 435, 3, 5, 3, 4, 3, 2]);
     // a match with no trace stored, and an adding of three samples
-    lay(script, 20, &[8u64, 2, 5, 12, 435, 3, 5, 4, 1]);
-    lay(script, 29, &[7u64, 1, 5, 12, 435, 3, 5, 3]);
+    lay(script, 22, &[9u64, 2, 5, 12, 435, 3, 5, 3, 4, 1]);
+    lay(script, 32, &[8u64, 1, 5, 12, 435, 3, 5, 3, 3]);
 }
 
 fn put_filled(script: &mut [u64])
-    requires { ⌜ length (now script) ≡ 85 ⌝ }
-    ensures { λ _. ⌜ now (script .exit) ≡ rowsLaid filledRows 37 (now (script .entry)) ⌝ }
+    requires { ⌜ length (now script) ≡ 95 ⌝ }
+    ensures { λ _. ⌜ now (script .exit) ≡ rowsLaid filledRows 41 (now (script .entry)) ⌝ }
 {
     // A, B and C, and one trace more than the capacity
-    lay(script, 37, &[7u64, 1, 5, 12, 435, 3, 5, 4]);
-    lay(script, 45, &[7u64, 1, 5, 12, 435, 3, 5, 4]);
-    lay(script, 53, &[7u64, 1, 5, 12, 435, 3, 5, 4]);
-    lay(script, 61, &[7u64, 1, 5, 12, 435, 3, 5, 4]);
+    lay(script, 41, &[8u64, 1, 5, 12, 435, 3, 5, 3, 4]);
+    lay(script, 50, &[8u64, 1, 5, 12, 435, 3, 5, 3, 4]);
+    lay(script, 59, &[8u64, 1, 5, 12, 435, 3, 5, 3, 4]);
+    lay(script, 68, &[8u64, 1, 5, 12, 435, 3, 5, 3, 4]);
     // a writing, and one that is lent a byte too few
-    lay(script, 69, &[7u64, 3, 5, 12, 435, 3, 5, 1024]);
-    lay(script, 77, &[7u64, 3, 5, 12, 435, 3, 5, 1023]);
+    lay(script, 77, &[8u64, 3, 5, 12, 435, 3, 5, 3, 1024]);
+    lay(script, 86, &[8u64, 3, 5, 12, 435, 3, 5, 3, 1023]);
 }
 
 fn put_read(script: &mut [u64])
-    requires { ⌜ length (now script) ≡ 52 ⌝ }
+    requires { ⌜ length (now script) ≡ 58 ⌝ }
     ensures { λ _. ⌜ now (script .exit) ≡ rowsLaid readRows 0 (now (script .entry)) ⌝ }
 {
     // the sheet that was written
-    lay(script, 0, &[7u64, 4, 5, 12, 435, 3, 5, 1024]);
+    lay(script, 0, &[8u64, 4, 5, 12, 435, 3, 5, 3, 1024]);
     // three matches, the last with a trail for one leaf of two
-    lay(script, 8, &[8u64, 2, 5, 12, 435, 3, 5, 4, 2]);
-    lay(script, 17, &[8u64, 2, 5, 12, 435, 3, 5, 4, 2]);
-    lay(script, 26, &[8u64, 2, 5, 12, 435, 3, 5, 4, 1]);
+    lay(script, 9, &[9u64, 2, 5, 12, 435, 3, 5, 3, 4, 2]);
+    lay(script, 19, &[9u64, 2, 5, 12, 435, 3, 5, 3, 4, 2]);
+    lay(script, 29, &[9u64, 2, 5, 12, 435, 3, 5, 3, 4, 1]);
     // a block of junk, and a match in the tables as this refused reading left them
-    lay(script, 35, &[7u64, 4, 5, 12, 435, 3, 5, 512]);
-    lay(script, 43, &[8u64, 2, 5, 12, 435, 3, 5, 4, 2]);
+    lay(script, 39, &[8u64, 4, 5, 12, 435, 3, 5, 3, 512]);
+    lay(script, 48, &[9u64, 2, 5, 12, 435, 3, 5, 3, 4, 2]);
 }
 
 // In tables, trails and sheets with junk in every place.
@@ -127,10 +127,11 @@ fn main() {
     let mut nodes = [7i64; 435];
     let mut links = [7u16; 3];
     let mut work = [7u64; 5];
+    let mut labels = [7u64; 3];
     let mut trails = [7u16; 7];
     let mut sheets = [7u8; 2047];
     let mut replies = [7u64; 50];
-    let mut made = [0u64; 85];
+    let mut made = [0u64; 95];
     put_opened(&mut made);
     put_filled(&mut made);
     play(
@@ -139,6 +140,7 @@ fn main() {
         &mut nodes,
         &mut links,
         &mut work,
+        &mut labels,
         &mut trails,
         &mut sheets,
         &made,
@@ -170,7 +172,7 @@ fn main() {
         &mut replies,
     );
     print_replies(&made, &replies);
-    let mut read = [0u64; 52];
+    let mut read = [0u64; 58];
     put_read(&mut read);
     play(
         &mut control,
@@ -178,6 +180,7 @@ fn main() {
         &mut nodes,
         &mut links,
         &mut work,
+        &mut labels,
         &mut trails,
         &mut sheets,
         &read,

@@ -32,13 +32,14 @@ pub fits-within : (lent lengths : Lent) → fitsIn lent lengths ≡ true → Len
 unfolding fitsIn
 fits-within lent lengths e =
     let p = passed (leb (lent .control) (lengths .control)) (leb (lent .samples) (lengths .samples) ∷ leb (lent .nodes) (lengths .nodes)
-    ∷ leb (lent .links) (lengths .links) ∷ leb (lent .work) (lengths .work) ∷ []) (is-true e) in
+    ∷ leb (lent .links) (lengths .links) ∷ leb (lent .work) (lengths .work) ∷ leb (lent .labels) (lengths .labels) ∷ []) (is-true e) in
     record {
       control-within = leb→le (lent .control) (lengths .control) (p .0);
       samples-within = leb→le (lent .samples) (lengths .samples) (p .1 .0);
       nodes-within = leb→le (lent .nodes) (lengths .nodes) (p .1 .1 .0);
       links-within = leb→le (lent .links) (lengths .links) (p .1 .1 .1 .0);
-      work-within = leb→le (lent .work) (lengths .work) (p .1 .1 .1 .1);
+      work-within = leb→le (lent .work) (lengths .work) (p .1 .1 .1 .1 .0);
+      labels-within = leb→le (lent .labels) (lengths .labels) (p .1 .1 .1 .1 .1);
     }
 
 if-some : {A : Type 0} (b : Bool) (o : Option A) (x : A) → (if b then o else none) ≡ some x → (b ≡ true) × (o ≡ some x)

@@ -6,7 +6,7 @@ use native.Mathlib.Omega.{arith}
 use lib.ListN.{length, take, drop, length-append, length-drop}
 use lib.Seq.{length-take-le, take-at, drop-at, drop-drop}
 use Rattle.dstree.specs.Book.{Lent}
-use Rattle.tables.specs.Tables.{Tables, tables, lentOf}
+use Rattle.tables.specs.Tables.{Tables, labelledTables, lentOf}
 use Rattle.tables.specs.Beginning.{over, left, LentWithin}
 use Rattle.tables.proofs.Beginning.{tables-same}
 use Rattle.replay.specs.Script.{supply, supplyAt}
@@ -16,11 +16,12 @@ use Rattle.replay.specs.Script.{supply, supplyAt}
 -- what the tables are when these parts are back
 abbrev pub backIn : Lent → Tables → Tables → Tables
 backIn lent part memory =
-    tables (part .control ++ drop (lent .control) (memory .control))
+    labelledTables (part .control ++ drop (lent .control) (memory .control))
     (part .samples ++ drop (lent .samples) (memory .samples))
     (part .nodes ++ drop (lent .nodes) (memory .nodes))
     (part .links ++ drop (lent .links) (memory .links))
     (part .work ++ drop (lent .work) (memory .work))
+    (part .labels ++ drop (lent .labels) (memory .labels))
 
 front : {A : Type 0} (k : ℕ) (p l : List A) → length p ≡ k → p ++ drop k l ≡ over p l
 front k p l e = ap (λ (n : ℕ). p ++ drop n l) (sym e)
@@ -32,18 +33,21 @@ back-is-left lent part memory e = tables-same
     (front (lent .nodes) (part .nodes) (memory .nodes) (ap (λ (l : Lent). l .nodes) e))
     (front (lent .links) (part .links) (memory .links) (ap (λ (l : Lent). l .links) e))
     (front (lent .work) (part .work) (memory .work) (ap (λ (l : Lent). l .work) e))
+    (front (lent .labels) (part .labels) (memory .labels) (ap (λ (l : Lent). l .labels) e))
 
 -- the lengths of what a call leaves: they are those that it was lent
 pub lengths-kept : (lent : Lent) (part memory : Tables) → LentWithin lent (lentOf memory)
     → length (part .control) ≡ length (take (lent .control) (memory .control)) → length (part .samples) ≡ length (take (lent .samples) (memory .samples))
     → length (part .nodes) ≡ length (take (lent .nodes) (memory .nodes)) → length (part .links) ≡ length (take (lent .links) (memory .links))
-    → length (part .work) ≡ length (take (lent .work) (memory .work)) → lentOf part ≡ lent
-lengths-kept lent part memory h c s n l w = rw (
+    → length (part .work) ≡ length (take (lent .work) (memory .work)) → length (part .labels) ≡ length (take (lent .labels) (memory .labels))
+    → lentOf part ≡ lent
+lengths-kept lent part memory h c s n l w b = rw (
   c ∙ length-take-le (lent .control) (memory .control) (h .control-within),
   s ∙ length-take-le (lent .samples) (memory .samples) (h .samples-within),
   n ∙ length-take-le (lent .nodes) (memory .nodes) (h .nodes-within),
   l ∙ length-take-le (lent .links) (memory .links) (h .links-within),
   w ∙ length-take-le (lent .work) (memory .work) (h .work-within),
+  b ∙ length-take-le (lent .labels) (memory .labels) (h .labels-within),
 )
 
 -- ---- the next places of a supply

@@ -11,6 +11,7 @@ use lib.Dec.{T}
 use Rattle.integer.specs.Lists.{All, all-none, all-more}
 use Rattle.integer.proofs.Tests.{never-both}
 use Rattle.dstree.specs.Measures.{areSamples}
+use Rattle.dstree.specs.Labels.{isLabel}
 use Rattle.dstree.specs.Sheet.{areBytes}
 use Rattle.dstree.specs.Book.{Answer}
 use Rattle.tables.specs.Tables.{Tables}
@@ -64,10 +65,10 @@ of-openings = record {
 }
 
 of-addings : KindLaws addingCalls
-unfolding takenBy Typed askOf
+unfolding takenBy Typed askOf isLabel
 of-addings = record {
   takes-all = λ row x e. taken-same refl (sym (no-trail x e refl)) (sym (no-sheet x e refl));
-  typed = λ row x t s b. s;
+  typed = λ row x t s b. (s, tt);
 }
 
 of-matchings : KindLaws matchingCalls

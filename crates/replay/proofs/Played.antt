@@ -212,9 +212,9 @@ module _ (t₀ : Tables) (script : List ℕ) (pool : List ℤ) (trails₀ sheets
         (subst (λ (p : Played). Ran t₀ (p .asked) (p .said) (p .now .memory)) at-end (h .fine .ran))
 
 pub same-lengths : (t s : Tables) → length (t .control) ≡ length (s .control) → length (t .samples) ≡ length (s .samples)
-    → length (t .nodes) ≡ length (s .nodes) → length (t .links) ≡ length (s .links) → length (t .work) ≡ length (s .work) → lentOf t ≡
-    lentOf s
-same-lengths t s c p n l w = rw (c, p, n, l, w)
+    → length (t .nodes) ≡ length (s .nodes) → length (t .links) ≡ length (s .links) → length (t .work) ≡ length (s .work)
+    → length (t .labels) ≡ length (s .labels) → lentOf t ≡ lentOf s
+same-lengths t s c p n l w b = rw (c, p, n, l, w, b)
 
 -- ---- the demands
 

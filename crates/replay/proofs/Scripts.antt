@@ -32,7 +32,7 @@ use Rattle.replay.proofs.Asking.{isSample, isByte}
 -- ---- a call's row
 
 lengthsAnd : Lent → List ℕ → List ℕ
-lengthsAnd lent own = lent .control ∷ lent .samples ∷ lent .nodes ∷ lent .links ∷ lent .work ∷ own
+lengthsAnd lent own = lent .control ∷ lent .samples ∷ lent .nodes ∷ lent .links ∷ lent .work ∷ lent .labels ∷ own
 
 -- by the number of its kind and its own numbers
 record Row (ask : RowAsk) : Type 0 where
@@ -150,7 +150,7 @@ within-fits lent lengths w =
     test-true (fitsIn lent lengths)
     (passes (leb (lent .control) (lengths .control))
     (leb (lent .samples) (lengths .samples) ∷ leb (lent .nodes) (lengths .nodes) ∷ leb (lent .links) (lengths .links) ∷ leb (lent .work)
-    (lengths .work) ∷ []) (
+    (lengths .work) ∷ leb (lent .labels) (lengths .labels) ∷ []) (
       le→leb (lent .control) (lengths .control) (w .control-within),
       (
         le→leb (lent .samples) (lengths .samples) (w .samples-within),
@@ -158,7 +158,7 @@ within-fits lent lengths w =
           le→leb (lent .nodes) (lengths .nodes) (w .nodes-within),
           (
             le→leb (lent .links) (lengths .links) (w .links-within),
-            le→leb (lent .work) (lengths .work) (w .work-within),
+            (le→leb (lent .work) (lengths .work) (w .work-within), le→leb (lent .labels) (lengths .labels) (w .labels-within)),
           ),
         ),
       ),
@@ -279,7 +279,8 @@ module _ (lengths : Lent) (long : MachineLengths lengths) where
       (all-more (lt-of-le-of-lt (w .samples-within) (long .samples-long))
       (all-more (lt-of-le-of-lt (w .nodes-within) (long .nodes-long))
       (all-more (lt-of-le-of-lt (w .links-within) (long .links-long))
-      (all-more (lt-of-le-of-lt (w .work-within) (long .work-long)) h))))
+      (all-more (lt-of-le-of-lt (w .work-within) (long .work-long))
+      (all-more (lt-of-le-of-lt (w .labels-within) (long .labels-long)) h)))))
 
   row-fits : (lent : Lent) (ask : RowAsk) → LentWithin lent lengths → ArgumentsFit ask → All Word (rowBy lent ask)
   unfolding rowBy

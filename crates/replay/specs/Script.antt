@@ -10,6 +10,7 @@ use lib.ListN.{length, getD, take, drop}
 use lib.Dec.{leb}
 use Rattle.integer.specs.Words.{if_then_else_}
 use Rattle.dstree.specs.Measures.{Measures, Trace, measures}
+use Rattle.dstree.specs.Labels.{noLabel}
 use Rattle.dstree.specs.Book.{Lent, Ask, opening, adding, matching, writing, reading, Call, call, Answer, Reply, reply}
 use Rattle.tables.specs.Tables.{Tables, lentOf}
 use Rattle.calls.specs.Effects.{outcomeOn}
@@ -33,7 +34,7 @@ rowsIn (suc fuel) (size ∷ rest) = take size rest ∷ rowsIn fuel (drop size re
 abbrev pub rowsOf : List ℕ → List (List ℕ)
 rowsOf script = rowsIn (length script) script
 
--- a row's numbers, 0 where it has none: which call, the lengths of the five tables that it is lent, then the call's own
+-- a row's numbers, 0 where it has none: which call, the lengths of the six tables that it is lent, then the call's own
 abbrev pub numberAt : List ℕ → ℕ → ℕ
 numberAt row place = getD row place 0
 
@@ -43,16 +44,16 @@ lentBy row = record {
   samples = numberAt row 2;
   nodes = numberAt row 3;
   links = numberAt row 4;
-  work = numberAt
-      row 5;
+  work = numberAt row 5;
+  labels = numberAt row 6;
 }
 
 -- the lengths as code has them
 abbrev pub lengthsBy : Lengths → Lent
-lengthsBy l = record { control = l .control; samples = l .samples; nodes = l .nodes; links = l .links; work = l .work }
+lengthsBy l = record { control = l .control; samples = l .samples; nodes = l .nodes; links = l .links; work = l .work; labels = l .labels }
 
 abbrev pub ownPlace : ℕ
-ownPlace = 6
+ownPlace = 7
 
 abbrev pub ownNumber : List ℕ → ℕ → ℕ
 ownNumber row i = numberAt row (ownPlace + i)
@@ -106,7 +107,7 @@ pub data RowAsk : Type 0 where
 
 unfoldable pub askOf : RowAsk → Ask
 askOf (anOpening m) = opening m
-askOf (anAdding x) = adding x
+askOf (anAdding x) = adding x noLabel
 askOf (aMatching query trail) = matching query trail
 askOf (aWriting sheet) = writing sheet
 askOf (aReading bytes) = reading bytes
@@ -194,6 +195,7 @@ fitsIn lent lengths =
     && leb (lent .nodes) (lengths .nodes)
     && leb (lent .links) (lengths .links)
     && leb (lent .work) (lengths .work)
+    && leb (lent .labels) (lengths .labels)
 
 -- no more is taken than is ahead
 unfoldable pub enough : Amounts → Amounts → Bool

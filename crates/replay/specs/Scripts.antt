@@ -48,6 +48,7 @@ pub record MachineLengths (lengths : Lent) : Type 0 where
   pub nodes-long : Word (lengths .nodes)
   pub links-long : Word (lengths .links)
   pub work-long : Word (lengths .work)
+  pub labels-long : Word (lengths .labels)
 
 -- what `play` can be lent so that it makes exactly these calls
 pub record Script (memory : Tables) (calls : List ListCall) : Type 0 where

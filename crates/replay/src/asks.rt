@@ -10,7 +10,7 @@ ghost use mathlib.Core.List.{List};
 ghost use Prim.Native.Nat.{ℕ};
 ghost use Rattle.matching.specs.Answered as found;
 ghost use Rattle.sheet_writing.specs.Answered as written;
-ghost use Rattle.tables.specs.Tables.{tables};
+ghost use Rattle.tables.specs.Lent.{tablesAfterSearch, tablesBefore};
 ghost use Rattle.replay.specs.ReplyRows.{replyRow};
 ghost use Rattle.replay.specs.Script.{taken, called, Plays};
 
@@ -41,6 +41,7 @@ pub fn play(
     nodes: &[i64],
     links: &[u16],
     work: &mut [u64],
+    labels: &[u64],
     trail: &mut [u16],
     sheet: &mut [u8],
     query: &[Sample],
@@ -48,15 +49,32 @@ pub fn play(
 ) -> [u64; 5]
     ensures { λ r. ⌜ ((row : List ℕ) → Plays false kind row
         (taken (now (query .entry)) (now (trail .entry)) (now (sheet .entry)))
-        (tables (now (control .entry)) (now (samples .entry)) (now (nodes .entry)) (now (links .entry)) (now (work .entry)))
-        (called r (tables (now (control .entry)) (now (samples .entry)) (now (nodes .entry)) (now (links .entry)) (now (work .exit)))
+        (tablesBefore control samples nodes links work labels)
+        (called r (tablesAfterSearch control samples nodes links work labels)
         (taken (now (query .entry)) (now (trail .exit)) (now (sheet .exit))))) ⌝ }
 {
     if kind == 2 {
-        return of_found(matching::nearest(control, samples, nodes, links, work, trail, query));
+        return of_found(matching::nearest(
+            control,
+            samples,
+            nodes,
+            links,
+            work,
+            labels,
+            trail,
+            query,
+        ));
     }
     if kind == 3 {
-        return of_written(sheet_writing::write_sheet(control, samples, nodes, links, work, sheet));
+        return of_written(sheet_writing::write_sheet(
+            control,
+            samples,
+            nodes,
+            links,
+            work,
+            labels,
+            sheet,
+        ));
     }
     [0; 5]
 }

@@ -13,7 +13,7 @@ ghost use Prim.Native.Nat.{ℕ};
 ghost use Rattle.opening.specs.Opened as opened;
 ghost use Rattle.adding.specs.Answered as added;
 ghost use Rattle.sheet_reading.specs.Answered as read;
-ghost use Rattle.tables.specs.Tables.{tables};
+ghost use Rattle.tables.specs.Lent.{tablesAfter, tablesBefore};
 ghost use Rattle.replay.specs.ReplyRows.{replyRow};
 ghost use Rattle.replay.specs.Script.{taken, called, Plays};
 
@@ -51,6 +51,7 @@ pub fn play(
     nodes: &mut [i64],
     links: &mut [u16],
     work: &mut [u64],
+    labels: &mut [u64],
     sheet: &[u8],
     query: &[Sample],
     row: &[u64],
@@ -58,31 +59,40 @@ pub fn play(
 ) -> [u64; 5]
     ensures { λ r. ⌜ ((trail : List ℕ) → Plays true kind (now (row .entry))
         (taken (now (query .entry)) trail (now (sheet .entry)))
-        (tables (now (control .entry)) (now (samples .entry)) (now (nodes .entry)) (now (links .entry)) (now (work .entry)))
+        (tablesBefore control samples nodes links work labels)
         (called r
-        (tables (now (control .exit)) (now (samples .exit)) (now (nodes .exit)) (now (links .exit)) (now (work .exit)))
+        (tablesAfter control samples nodes links work labels)
         (taken (now (query .entry)) trail (now (sheet .entry))))) ⌝ }
 {
     if kind == 0 {
-        let n = number_at(row, 6);
-        let capacity = number_at(row, 7);
-        let leaf_size = number_at(row, 8);
+        let n = number_at(row, 7);
+        let capacity = number_at(row, 8);
+        let leaf_size = number_at(row, 9);
         return of_opened(opening::open(
             control,
             samples,
             nodes,
             links,
             work,
+            labels,
             n,
             capacity,
             leaf_size,
         ));
     }
     if kind == 1 {
-        return of_added(adding::add(control, samples, nodes, links, work, query));
+        return of_added(adding::add(control, samples, nodes, links, work, labels, query));
     }
     if kind == 4 {
-        return of_read(sheet_reading::read_sheet(control, samples, nodes, links, work, sheet));
+        return of_read(sheet_reading::read_sheet(
+            control,
+            samples,
+            nodes,
+            links,
+            work,
+            labels,
+            sheet,
+        ));
     }
     [0; 5]
 }

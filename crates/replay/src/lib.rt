@@ -13,18 +13,19 @@ use crate::turns::turn;
 use segment::Sample;
 use tables::loops::look;
 ghost use mathlib.Core.Path.{_≡_};
-ghost use Rattle.tables.specs.Tables.{tables};
+ghost use Rattle.tables.specs.Lent.{tablesAfter, tablesBefore};
 ghost use Rattle.replay.specs.ReplyRows.{repliesLaid};
 ghost use Rattle.replay.specs.Script.{answersOf, played, whole};
 ghost use Rattle.replay.specs.Demanded.{Demanded};
 
-// The lengths of the five tables, or of what a call is lent of them.
+// The lengths of the six tables, or of what a call is lent of them.
 pub struct Lengths {
     pub control: usize,
     pub samples: usize,
     pub nodes: usize,
     pub links: usize,
     pub work: usize,
+    pub labels: usize,
 }
 
 // How much of the samples, the trails and the sheets: what calls have taken, what a row takes, or all that there is.
@@ -55,7 +56,7 @@ pub struct Turn {
 }
 
 // Every call of a script, in its order, on tables that hold anything. `script` has a row of numbers a call, each behind its length: which
-// call it is (0 opening, 1 adding, 2 match, 3 writing, 4 reading), the lengths of the five tables that it is lent, and its own: an
+// call it is (0 opening, 1 adding, 2 match, 3 writing, 4 reading), the lengths of the six tables that it is lent, and its own: an
 // opening's measures; an adding's number of samples; a match's, then the places of its trail; the bytes of a writing's or a reading's
 // sheet. `pool` has the samples of traces and queries, one behind another, `trails` the trails of matches, `sheets` the sheets of writings
 // and readings likewise. Each reply goes into five places of `replies`.
@@ -68,34 +69,35 @@ pub fn play(
     nodes: &mut [i64],
     links: &mut [u16],
     work: &mut [u64],
+    labels: &mut [u64],
     trails: &mut [u16],
     sheets: &mut [u8],
     script: &[u64],
     pool: &[Sample],
     replies: &mut [u64],
 )
-    ensures { λ _. ⌜ (tables (now (control .exit)) (now (samples .exit)) (now (nodes .exit)) (now (links .exit)) (now (work .exit))
+    ensures { λ _. ⌜ (tablesAfter control samples nodes links work labels
         ≡ played
-        (tables (now (control .entry)) (now (samples .entry)) (now (nodes .entry)) (now (links .entry)) (now (work .entry)))
+        (tablesBefore control samples nodes links work labels)
         (now (script .entry)) (now (pool .entry)) (now (trails .entry)) (now (sheets .entry)) .now .memory)
         × (now (trails .exit) ≡ whole (played
-        (tables (now (control .entry)) (now (samples .entry)) (now (nodes .entry)) (now (links .entry)) (now (work .entry)))
+        (tablesBefore control samples nodes links work labels)
         (now (script .entry)) (now (pool .entry)) (now (trails .entry)) (now (sheets .entry)) .now .trails))
         × (now (sheets .exit) ≡ whole (played
-        (tables (now (control .entry)) (now (samples .entry)) (now (nodes .entry)) (now (links .entry)) (now (work .entry)))
+        (tablesBefore control samples nodes links work labels)
         (now (script .entry)) (now (pool .entry)) (now (trails .entry)) (now (sheets .entry)) .now .sheets))
         × (now (replies .exit) ≡ repliesLaid (answersOf (played
-        (tables (now (control .entry)) (now (samples .entry)) (now (nodes .entry)) (now (links .entry)) (now (work .entry)))
+        (tablesBefore control samples nodes links work labels)
         (now (script .entry)) (now (pool .entry)) (now (trails .entry)) (now (sheets .entry)) .said)) 0
         (now (replies .entry))) ⌝ }
     ensures demanded { λ _. ⌜ Demanded
         (played
-        (tables (now (control .entry)) (now (samples .entry)) (now (nodes .entry)) (now (links .entry)) (now (work .entry)))
+        (tablesBefore control samples nodes links work labels)
         (now (script .entry)) (now (pool .entry)) (now (trails .entry)) (now (sheets .entry)) .asked)
         (played
-        (tables (now (control .entry)) (now (samples .entry)) (now (nodes .entry)) (now (links .entry)) (now (work .entry)))
+        (tablesBefore control samples nodes links work labels)
         (now (script .entry)) (now (pool .entry)) (now (trails .entry)) (now (sheets .entry)) .said)
-        (tables (now (control .exit)) (now (samples .exit)) (now (nodes .exit)) (now (links .exit)) (now (work .exit))) ⌝ }
+        (tablesAfter control samples nodes links work labels) ⌝ }
 {
     look(pool);
     let mut at = Amounts {
@@ -114,6 +116,7 @@ pub fn play(
             nodes,
             links,
             work,
+            labels,
             trails,
             sheets,
             pool,

@@ -32,8 +32,8 @@ fn wanted(row: &[u64]) -> Wanted
     ensures { λ r. ⌜ wantedBy r ≡ takesOf (callKindAt kinds (numberAt (now (row .entry)) 0)) (now (row .entry)) ⌝ }
 {
     let kind = number_at(row, 0);
-    let first = places(number_at(row, 6));
-    let second = places(number_at(row, 7));
+    let first = places(number_at(row, 7));
+    let second = places(number_at(row, 8));
     if kind == 0 {
         return size(0, 0, 0);
     }
@@ -86,6 +86,9 @@ fn fits(all: Lengths, lent: Lengths) -> bool
         return false;
     }
     if all.work < lent.work {
+        return false;
+    }
+    if all.labels < lent.labels {
         return false;
     }
     true

@@ -31,6 +31,7 @@ pub fn lengths(row: &[u64]) -> Lengths
         nodes: places(number_at(row, 3)),
         links: places(number_at(row, 4)),
         work: places(number_at(row, 5)),
+        labels: places(number_at(row, 6)),
     }
 }
 

@@ -13,7 +13,8 @@ ghost use mathlib.Core.Path.{_≡_};
 ghost use mathlib.Core.Option.{some};
 ghost use mathlib.Core.List.{[], _∷_};
 ghost use mathlib.Core.Bool.{Bool, false};
-ghost use Rattle.tables.specs.Tables.{tables, lentOf};
+ghost use Rattle.tables.specs.Tables.{labelledTables, lentOf};
+ghost use Rattle.tables.specs.Lent.{tablesAfter, tablesBefore};
 ghost use Rattle.replay.specs.Script.{lentBy, stateAt, AmountsInside, taken, aheadOf, playable, asks, movedBy};
 ghost use Rattle.replay.specs.Script.{called, Plays, turned, turnMade, turnOf};
 
@@ -35,6 +36,7 @@ fn call(
     nodes: &mut [i64],
     links: &mut [u16],
     work: &mut [u64],
+    labels: &mut [u64],
     trail: &mut [u16],
     sheet: &mut [u8],
     query: &[Sample],
@@ -43,9 +45,9 @@ fn call(
 ) -> [u64; 5]
     ensures { λ r. ⌜ ((changes : Bool) → Plays changes kind (now (row .entry))
         (taken (now (query .entry)) (now (trail .entry)) (now (sheet .entry)))
-        (tables (now (control .entry)) (now (samples .entry)) (now (nodes .entry)) (now (links .entry)) (now (work .entry)))
+        (tablesBefore control samples nodes links work labels)
         (called r
-        (tables (now (control .exit)) (now (samples .exit)) (now (nodes .exit)) (now (links .exit)) (now (work .exit)))
+        (tablesAfter control samples nodes links work labels)
         (taken (now (query .entry)) (now (trail .exit)) (now (sheet .exit))))) ⌝ }
 {
     if plans::changes(kind) {
@@ -55,6 +57,7 @@ fn call(
             nodes,
             links,
             work,
+            labels,
             sheet,
             query,
             row,
@@ -67,6 +70,7 @@ fn call(
         nodes,
         links,
         work,
+        labels,
         trail,
         sheet,
         query,
@@ -82,6 +86,7 @@ fn lend(
     nodes: &mut [i64],
     links: &mut [u16],
     work: &mut [u64],
+    labels: &mut [u64],
     trails: &mut [u16],
     sheets: &mut [u8],
     pool: &[Sample],
@@ -90,18 +95,19 @@ fn lend(
     to: Amounts,
 ) -> [u64; 5]
     requires { ⌜ AmountsInside at (now pool) (now trails) (now sheets) ⌝ }
-    requires { ⌜ some to ≡ movedBy (playable (lentOf (tables (now control) (now samples) (now nodes) (now links) (now work)))
-        (aheadOf (stateAt (tables (now control) (now samples) (now nodes) (now links) (now work)) (now pool)
+    requires { ⌜ some to ≡ movedBy (playable
+        (lentOf (labelledTables (now control) (now samples) (now nodes) (now links) (now work) (now labels)))
+        (aheadOf (stateAt (labelledTables (now control) (now samples) (now nodes) (now links) (now work) (now labels)) (now pool)
         (now trails) (now sheets) at)) (now row)) (now row) at ⌝ }
     ensures { λ r. ⌜ turned (some r) (stateAt
-        (tables (now (control .exit)) (now (samples .exit)) (now (nodes .exit)) (now (links .exit)) (now (work .exit)))
+        (tablesAfter control samples nodes links work labels)
         (now (pool .entry)) (now (trails .exit)) (now (sheets .exit)) to)
         ≡ turnMade (lentBy (now (row .entry))) (asks (lentOf
-        (tables (now (control .entry)) (now (samples .entry)) (now (nodes .entry)) (now (links .entry)) (now (work .entry))))
+        (tablesBefore control samples nodes links work labels))
         (now (row .entry)) (stateAt
-        (tables (now (control .entry)) (now (samples .entry)) (now (nodes .entry)) (now (links .entry)) (now (work .entry)))
+        (tablesBefore control samples nodes links work labels)
         (now (pool .entry)) (now (trails .entry)) (now (sheets .entry)) at)) (stateAt
-        (tables (now (control .entry)) (now (samples .entry)) (now (nodes .entry)) (now (links .entry)) (now (work .entry)))
+        (tablesBefore control samples nodes links work labels)
         (now (pool .entry)) (now (trails .entry)) (now (sheets .entry)) at) ⌝ }
 {
     let kind = number_at(row, 0);
@@ -111,6 +117,7 @@ fn lend(
     let n = lent.nodes;
     let l = lent.links;
     let w = lent.work;
+    let b = lent.labels;
     let first_sample = at.samples;
     let last_sample = to.samples;
     let first_mark = at.trails;
@@ -123,6 +130,7 @@ fn lend(
         &mut nodes[..n],
         &mut links[..l],
         &mut work[..w],
+        &mut labels[..b],
         &mut trails[first_mark..last_mark],
         &mut sheets[first_byte..last_byte],
         &pool[first_sample..last_sample],
@@ -138,6 +146,7 @@ pub fn turn(
     nodes: &mut [i64],
     links: &mut [u16],
     work: &mut [u64],
+    labels: &mut [u64],
     trails: &mut [u16],
     sheets: &mut [u8],
     pool: &[Sample],
@@ -146,14 +155,14 @@ pub fn turn(
 ) -> Turn
     requires { ⌜ AmountsInside at (now pool) (now trails) (now sheets) ⌝ }
     ensures { λ r. ⌜ (turnOf r
-        (tables (now (control .exit)) (now (samples .exit)) (now (nodes .exit)) (now (links .exit)) (now (work .exit)))
+        (tablesAfter control samples nodes links work labels)
         (now (pool .entry)) (now (trails .exit)) (now (sheets .exit))
         ≡ turnMade (lentBy (now (row .entry))) (asks (lentOf
-        (tables (now (control .entry)) (now (samples .entry)) (now (nodes .entry)) (now (links .entry)) (now (work .entry))))
+        (tablesBefore control samples nodes links work labels))
         (now (row .entry)) (stateAt
-        (tables (now (control .entry)) (now (samples .entry)) (now (nodes .entry)) (now (links .entry)) (now (work .entry)))
+        (tablesBefore control samples nodes links work labels)
         (now (pool .entry)) (now (trails .entry)) (now (sheets .entry)) at)) (stateAt
-        (tables (now (control .entry)) (now (samples .entry)) (now (nodes .entry)) (now (links .entry)) (now (work .entry)))
+        (tablesBefore control samples nodes links work labels)
         (now (pool .entry)) (now (trails .entry)) (now (sheets .entry)) at))
         × AmountsInside (r .at) (now (pool .entry)) (now (trails .entry)) (now (sheets .entry)) ⌝ }
 {
@@ -163,6 +172,7 @@ pub fn turn(
         nodes: nodes.len(),
         links: links.len(),
         work: work.len(),
+        labels: labels.len(),
     };
     let all = Amounts {
         samples: pool.len(),
@@ -180,6 +190,7 @@ pub fn turn(
         nodes,
         links,
         work,
+        labels,
         trails,
         sheets,
         pool,

@@ -43,6 +43,12 @@ use Rattle.checking.specs.declared.Checked.the-variants as k
 use Rattle.batching.specs.Answered as batching
 use Rattle.batching.specs.declared.Batched as n
 use Rattle.batching.specs.declared.Batched.the-variants as b
+use Rattle.labelling.specs.Answered as labelling
+use Rattle.labelling.specs.declared.Labelled.{Labelled}
+use Rattle.labelling.specs.declared.Labelled.the-variants as c
+use Rattle.remote.specs.Answered as remote
+use Rattle.remote.specs.declared.RemoteFound.{RemoteFound}
+use Rattle.remote.specs.declared.RemoteFound.the-variants as m
 use Rattle.calls.specs.Numbers.{codeOf, resultValues, valuesOf, laid}
 use Rattle.telling.specs.COutcome.{returned, returnedOf}
 
@@ -50,6 +56,12 @@ one-laid : (x : ℕ) (out : List ℕ) → set out 0 x ≡ laid (x ∷ []) out
 unfolding laid
 one-laid x [] = refl
 one-laid x (place ∷ out) = refl
+
+two-laid : (a b : ℕ) (out : List ℕ) → set (set out 0 a) 1 b ≡ laid (a ∷ b ∷ []) out
+unfolding laid
+two-laid a b [] = refl
+two-laid a b (p ∷ []) = refl
+two-laid a b (p ∷ q ∷ out) = refl
 
 three-laid : (a b c : ℕ) (out : List ℕ) → set (set (set out 0 a) 1 b) 2 c ≡ laid (a ∷ b ∷ c ∷ []) out
 unfolding laid
@@ -65,6 +77,15 @@ four-laid a b c d (p ∷ []) = refl
 four-laid a b c d (p ∷ q ∷ []) = refl
 four-laid a b c d (p ∷ q ∷ r ∷ []) = refl
 four-laid a b c d (p ∷ q ∷ r ∷ s ∷ out) = refl
+
+five-laid : (a b c d e : ℕ) (out : List ℕ) → set (set (set (set (set out 0 a) 1 b) 2 c) 3 d) 4 e ≡ laid (a ∷ b ∷ c ∷ d ∷ e ∷ []) out
+unfolding laid
+five-laid a b c d e [] = refl
+five-laid a b c d e (p ∷ []) = refl
+five-laid a b c d e (p ∷ q ∷ []) = refl
+five-laid a b c d e (p ∷ q ∷ r ∷ []) = refl
+five-laid a b c d e (p ∷ q ∷ r ∷ s ∷ []) = refl
+five-laid a b c d e (p ∷ q ∷ r ∷ s ∷ t ∷ out) = refl
 
 pub done-returned : (out : List ℕ) → returned 0 out ≡ returnedOf (answering done) out
 unfolding returnedOf codeOf valuesOf resultValues laid
@@ -215,3 +236,30 @@ pub batched-refused : (answer : n.Batched) (records : List Near) (trail : List �
     → returnedOf (refusing (wordOf why)) out ≡ returnedOf (batching.answerBy answer records trail) out
 unfolding batching.answerBy
 batched-refused answer records trail why out is = ap (λ (x : n.Batched). returnedOf (batching.answerBy x records trail) out) (sym is)
+
+pub label-told : (answer : Labelled) (code serial : ℕ) (out p q : List ℕ) → p ≡ set out 0 code → q ≡ set p 1 serial
+    → answer ≡ c.Label code serial → returned 0 q ≡ returnedOf (labelling.answerBy answer) out
+unfolding labelling.answerBy returnedOf codeOf valuesOf resultValues
+label-told answer code serial out p q e g is =
+    ap (λ (l : List ℕ). returned 0 l) (g ∙ (ap (λ (l : List ℕ). set l 1 serial) e ∙ two-laid code serial out))
+    ∙ ap (λ (x : Labelled). returnedOf (labelling.answerBy x) out) (sym is)
+
+pub label-refused : (answer : Labelled) (why : r.Refusal) (out : List ℕ) → answer ≡ c.Refused why
+    → returnedOf (refusing (wordOf why)) out ≡ returnedOf (labelling.answerBy answer) out
+unfolding labelling.answerBy
+label-refused answer why out is = ap (λ (x : Labelled). returnedOf (labelling.answerBy x) out) (sym is)
+
+pub remote-at : (answer : RemoteFound) (trail : List ℕ) (trace distance leaves traces code : ℕ) (out p q s t u : List ℕ)
+    → p ≡ set out 0 trace → q ≡ set p 1 distance → s ≡ set q 2 leaves → t ≡ set s 3 traces → u ≡ set t 4 code
+    → answer ≡ m.At trace distance leaves traces code → returned 0 u ≡ returnedOf (remote.answerBy answer trail) out
+unfolding remote.answerBy returnedOf codeOf valuesOf resultValues
+remote-at answer trail trace distance leaves traces code out p q s t u e g h i j is =
+    ap (λ (l : List ℕ). returned 0 l)
+    (j ∙ (ap (λ (l : List ℕ). set l 4 code) (four-stores out p q s t trace distance leaves traces e g h i)
+    ∙ five-laid trace distance leaves traces code out))
+    ∙ ap (λ (x : RemoteFound). returnedOf (remote.answerBy x trail) out) (sym is)
+
+pub remote-refused : (answer : RemoteFound) (trail : List ℕ) (why : r.Refusal) (out : List ℕ) → answer ≡ m.Refused why
+    → returnedOf (refusing (wordOf why)) out ≡ returnedOf (remote.answerBy answer trail) out
+unfolding remote.answerBy
+remote-refused answer trail why out is = ap (λ (x : RemoteFound). returnedOf (remote.answerBy x trail) out) (sym is)

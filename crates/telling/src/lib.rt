@@ -1,4 +1,7 @@
-// An answer as numbers: its code is given back, its values go into a lent slice.
+// An answer as numbers: its code is given back, its values go into a lent slice, in order. An adding tells the trace's number, a match
+// trace, distance, leaves read and traces read, the remote's match the fault code behind these, a listing leaves read, traces read and how
+// many it lists, a writing its blocks, an import its traces, an export its bytes, a batch leaves read, the bench's call code and serial.
+// An opening, a reading and a check tell nothing, a refusal its place.
 
 use adding::Added;
 use batching::BatchFound;
@@ -6,9 +9,11 @@ use batching::Batched;
 use checking::Checked;
 use exporting::Exported;
 use importing::Imported;
+use labelling::Labelled;
 use listing::Listed;
 use matching::Found;
 use opening::Opened;
+use remote::RemoteFound;
 use sheet_reading::Read;
 use sheet_writing::Written;
 use tables::Refusal;
@@ -29,6 +34,8 @@ ghost use Rattle.importing.specs.Answered as importing;
 ghost use Rattle.exporting.specs.Answered as exporting;
 ghost use Rattle.checking.specs.Answered as checking;
 ghost use Rattle.batching.specs.Answered as batching;
+ghost use Rattle.labelling.specs.Answered as labelling;
+ghost use Rattle.remote.specs.Answered as remote;
 ghost use Rattle.telling.specs.COutcome.{returned, returnedOf};
 
 // A number at its place, if there is such a place.
@@ -171,5 +178,35 @@ pub fn tell_batched(found: BatchFound, out: &mut [u64]) -> u64
             0
         }
         Batched::Refused(why) => tell_refusal(why, out),
+    }
+}
+
+pub fn tell_label(answer: Labelled, out: &mut [u64]) -> u64
+    ensures { λ r. ⌜ returned r (now (out .exit)) ≡ returnedOf (labelling.answerBy answer) (now (out .entry)) ⌝ }
+{
+    match answer {
+        Labelled::Label(code, serial) => {
+            put(out, 0, code);
+            put(out, 1, serial);
+            0
+        }
+        Labelled::Refused(why) => tell_refusal(why, out),
+    }
+}
+
+// The trail is told by the slice that the remote's call leaves it in.
+pub fn tell_remote(answer: RemoteFound, out: &mut [u64]) -> u64
+    ensures { λ r. ⌜ ((trail : List ℕ) → returned r (now (out .exit)) ≡ returnedOf (remote.answerBy answer trail) (now (out .entry))) ⌝ }
+{
+    match answer {
+        RemoteFound::At(trace, distance, leaves, traces, code) => {
+            put(out, 0, trace);
+            put(out, 1, distance);
+            put(out, 2, leaves);
+            put(out, 3, traces);
+            put(out, 4, code);
+            0
+        }
+        RemoteFound::Refused(why) => tell_refusal(why, out),
     }
 }

@@ -19,8 +19,11 @@ slice-aggregate-open-4 c = sym (length-replicate {A = ℕ} 4096 7)
 slice-aggregate-open-5 : tie.Need-slice-aggregate-open-5
 slice-aggregate-open-5 c = sym (length-replicate {A = ℕ} 8191 7)
 
+slice-aggregate-open-6 : tie.Need-slice-aggregate-open-6
+slice-aggregate-open-6 c = sym (length-replicate {A = ℕ} 4096 7)
+
 pub in-largest-tables-spec : {M : Type 1} → statement M
 in-largest-tables-spec =
     tie.close
     (tie.spec
-    (λ c. refl) slice-aggregate-open-2 slice-aggregate-open-3 slice-aggregate-open-4 slice-aggregate-open-5 (λ c κs. tt) (λ c. tt))
+    (λ c. refl) slice-aggregate-open-2 slice-aggregate-open-3 slice-aggregate-open-4 slice-aggregate-open-5 slice-aggregate-open-6 (λ c κs. tt) (λ c. tt))

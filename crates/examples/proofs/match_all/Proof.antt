@@ -7,7 +7,7 @@ use lib.ListN.{length, drop, drop-of-length-le}
 use denote.Ref.{now}
 use borrow.Author.Needs.{needs}
 use Rattle.dstree.specs.Measures.{Trace}
-use Rattle.tables.specs.Tables.{Tables, tables}
+use Rattle.tables.specs.Tables.{Tables, labelledTables}
 use Rattle.calls.specs.Outcome.{Outcome}
 use Rattle.examples.specs.Steps.{partsBy, parts, matchedEach}
 use Rattle.examples.proofs.Parts.{next-part}
@@ -15,16 +15,16 @@ use Rattle.examples.proofs.match_all.Statement.{statement}
 use Rattle.examples.proofs.match_all.Tie as tie
 
 abbrev Inv-loop : tie.InvT-loop
-Inv-loop control samples nodes links work₀ n queries at₀ work at =
+Inv-loop control samples nodes links work₀ labels n queries at₀ work at =
     (length work ≡ length work₀)
-    × (matchedEach (tables control samples nodes links work) (parts n (drop at queries))
-    ≡ matchedEach (tables control samples nodes links work₀) (parts n queries))
+    × (matchedEach (labelledTables control samples nodes links work labels) (parts n (drop at queries))
+    ≡ matchedEach (labelledTables control samples nodes links work₀ labels) (parts n queries))
 
 abbrev μ-loop : tie.MeasureT-loop
-μ-loop control samples nodes links work₀ n queries at₀ work at = length queries - at
+μ-loop control samples nodes links work₀ labels n queries at₀ work at = length queries - at
 
 part-end-requires : tie.Need-part-end-requires Inv-loop μ-loop
-part-end-requires c κs = (c .loop-test .taken, c .before .before .before .before .before .pre)
+part-end-requires c κs = (c .loop-test .taken, c .before .before .before .before .before .before .pre)
 
 loop-less : tie.Need-loop-less Inv-loop μ-loop
 loop-less c = let e = c .before .before .before .before .before .before .before .part-end .ensures in omega (arith, e .0, e .1)
@@ -35,9 +35,9 @@ loop-again c =
     let part = matched .before .before .before .before in
     let turn = part .before in
     let l = turn .before .loop in
-    let s = turn .before .before .before .before .before in
+    let s = turn .before .before .before .before .before .before in
     let a = s .args in
-    let t = tables (now (a .control)) (now (a .samples)) (now (a .nodes)) (now (a .links)) (l .work) in
+    let t = labelledTables (now (a .control)) (now (a .samples)) (now (a .nodes)) (now (a .links)) (l .work) (now (a .labels)) in
     let end = part .part-end .result in
     let next = next-part (a .n) (s .pre) (l .at) end (now (a .queries)) (turn .loop-test .taken) (part .part-end .ensures .2) in (
       matched .match-of .kept .1 .1 .1 .1 .0 ∙ l .inv .0,
@@ -50,8 +50,8 @@ returns : tie.Need-returns Inv-loop μ-loop
 unfolding partsBy
 returns c =
     let l = c .before .loop in
-    let a = c .before .before .before .before .before .args in
-    let t = tables (now (a .control)) (now (a .samples)) (now (a .nodes)) (now (a .links)) (l .work) in
+    let a = c .before .before .before .before .before .before .args in
+    let t = labelledTables (now (a .control)) (now (a .samples)) (now (a .nodes)) (now (a .links)) (l .work) (now (a .labels)) in
     let none : drop (l .at) (now (a .queries)) ≡ [] = drop-of-length-le (now (a .queries)) {i = l .at} (c .loop-test .left) in
     sym (ap (λ (m : Trace). matchedEach t (parts (a .n) m)) none) ∙ l .inv .1
 

@@ -10,7 +10,7 @@ use Rattle.examples.proofs.read_one.Tie as tie
 returns : tie.Need-returns
 returns c =
     let matched = c .before .before in
-    let read = matched .before .before .before .before .before .before .before .before .before .before .before .before .before .before .before .before in
+    let read = matched .before .before .before .before .before .before .before .before .before .before .before .before .before .before .before .before .before .before .before in
     matched .match-all .ensures
     ∙ ap (λ (t : Tables). matchedEach t (parts 1 starredTrace)) (ap (λ (o : Outcome). o .after) (read .read-sheet .ensures))
 
@@ -19,4 +19,4 @@ read-one-spec =
     tie.close
     (tie.spec
     (λ c κs. search needs) (λ c κs. search needs) (λ c. search needs) (λ c κs. search needs) (λ c. search needs) (λ c. search needs)
-    (λ c. search needs) (λ c. search needs) (λ c. search needs) returns)
+    (λ c. search needs) (λ c. search needs) (λ c. search needs) (λ c. search needs) returns)

@@ -14,8 +14,8 @@ returns : tie.Need-returns
 unfolding junk
 returns c =
     let written = c .before .before .before .before .before in
-    let put = written .before .before .before .before .before .before .before .before .before .before .before .before in
-    let s = put .before .before .before .before .before .before .before .before in
+    let put = written .before .before .before .before .before .before .before .before .before .before .before .before .before .before in
+    let s = put .before .before .before .before .before .before .before .before .before in
     ap (λ (o : Outcome). o .beside) (written .write-sheet .ensures)
     ∙ ap (λ (t : Tables). outcomeOn (writing (now (s .args .sheet))) t .beside) (put .put-starred .ensures)
 
@@ -23,6 +23,6 @@ pub write-to-spec : {M : Type 1} → statement M
 write-to-spec =
     tie.close
     (tie.spec
-    (λ c. search needs) (λ c. search needs) (λ c. search needs) (λ c. search needs) (λ c. search needs) (λ c κs. search needs)
-    (λ c. search needs) (λ c. search needs) (λ c. search needs) (λ c. search needs) (λ c. search needs) (λ c κs. search needs)
+    (λ c. search needs) (λ c. search needs) (λ c. search needs) (λ c. search needs) (λ c. search needs) (λ c. search needs) (λ c κs. search needs)
+    (λ c. search needs) (λ c. search needs) (λ c. search needs) (λ c. search needs) (λ c. search needs) (λ c. search needs) (λ c κs. search needs)
     (λ c κs. search needs) (λ c κs. search needs) (λ c. search needs) returns)

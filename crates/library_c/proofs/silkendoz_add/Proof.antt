@@ -7,7 +7,7 @@ use Rattle.library_c.proofs.silkendoz_add.Tie as tie
 returns : tie.Need-returns
 returns c =
     let e = c .before .before in
-    let a = e .before .before .before .before .before .before .before .before in
+    let a = e .before .before .before .before .before .before .before .before .before .before in
     exported-call _ _ _ _ _ _ _ (e .tell-added .ensures) (a .add .ensures)
 
 pub silkendoz-add-spec : {M : Type 1} → statement M
@@ -15,4 +15,4 @@ silkendoz-add-spec =
     tie.close
     (tie.spec
     (λ c κs. search needs) (λ c κs. search needs) (λ c. search needs) (λ c. search needs) (λ c. search needs) (λ c. search needs)
-    (λ c. search needs) returns)
+    (λ c. search needs) (λ c. search needs) returns)

@@ -8,7 +8,7 @@ returns : tie.Need-returns
 returns c =
     let e = c .before .before in
     let q = e .before .before .before .before in
-    exported-call _ _ _ _ _ _ _ (e .tell-exported .ensures (q .export-recording .last .1 .1 .1 .1 .1 .0)) (q .export-recording .ensures)
+    exported-call _ _ _ _ _ _ _ (e .tell-exported .ensures (q .export-recording .last .1 .1 .1 .1 .1 .1 .0)) (q .export-recording .ensures)
 
 pub silkendoz-export-recording-spec : {M : Type 1} → statement M
 silkendoz-export-recording-spec =

@@ -8,7 +8,7 @@ returns : tie.Need-returns
 returns c =
     let e = c .before .before in
     let q = e .before .before .before .before .before .before .before .before in
-    let left = q .k-nearest .last .1 .1 .1 .1 .1 in
+    let left = q .k-nearest .last .1 .1 .1 .1 .1 .1 in
     exported-call _ _ _ _ _ _ _ (e .tell-listed .ensures (left .0) (left .1 .0)) (q .k-nearest .ensures)
 
 pub silkendoz-k-nearest-spec : {M : Type 1} → statement M

@@ -89,14 +89,17 @@ stayed = (
         (
           gave-slice (4 ∷ []) tt (plain (λ _. u64)),
           (
-            gave-slice (5 ∷ []) tt (plain (λ _. u16)),
+            stay-none-slice (5 ∷ []) tt (plain (λ _. u64)) yes,
             (
-              stay-none-slice (6 ∷ []) tt (plain (λ _. i16)) yes,
+              gave-slice (6 ∷ []) tt (plain (λ _. u16)),
               (
-                stay-none (λ _. usize) yes,
+                stay-none-slice (7 ∷ []) tt (plain (λ _. i16)) yes,
                 (
-                  gave-slice (7 ∷ []) tt (plain (λ _. T.the-row)),
-                  (gave-slice (8 ∷ []) tt (plain (λ _. u64)), tt),
+                  stay-none (λ _. usize) yes,
+                  (
+                    gave-slice (8 ∷ []) tt (plain (λ _. T.the-row)),
+                    (gave-slice (9 ∷ []) tt (plain (λ _. u64)), tt),
+                  ),
                 ),
               ),
             ),
@@ -119,10 +122,10 @@ module _ {M : Type 1} (𝓤 : URA M) (H : Heap 𝓤) (A : Atoms 𝓤) (mem : Mem
   Tell = tripleOf 𝓤 H A tell′.signature (tell′.spec 𝓤 H A mem run)
 
 module _ {M : Type 1} (𝓤 : URA M) (H : Heap 𝓤) (A : Atoms 𝓤) (W : Given 𝓤 H A) (mem : Memory → SProp 𝓤) (run : Routine → Fun 𝓤)
-    (κ₀ κ₁ κ₂ κ₃ κ₄ κ₅ κ₆ κ₇ κ₈ : Lft) (q₀ q₁ q₂ q₃ q₄ q₅ q₆ q₇ q₈ : Share)
+    (κ₀ κ₁ κ₂ κ₃ κ₄ κ₅ κ₆ κ₇ κ₈ κ₉ : Lft) (q₀ q₁ q₂ q₃ q₄ q₅ q₆ q₇ q₈ q₉ : Share)
     (control : RefT (List ℕ)) (samples : RefT (List ℤ)) (nodes : RefT (List ℤ)) (links : RefT (List ℕ)) (work : RefT (List ℕ))
-    (trail : RefT (List ℕ)) (queries : RefT (List ℤ)) (many : ℕ) (list : RefT (List AnswerRecord)) (out : RefT (List ℕ))
-    (many-fits : many < 2 ^ 64) where
+    (labels : RefT (List ℕ)) (trail : RefT (List ℕ)) (queries : RefT (List ℤ)) (many : ℕ) (list : RefT (List AnswerRecord))
+    (out : RefT (List ℕ)) (many-fits : many < 2 ^ 64) where
   -- the slices' machine values, and what they own
   abbrev v-control : Val
   v-control = sliceVal (control .ptr) (length (control .now))
@@ -138,6 +141,9 @@ module _ {M : Type 1} (𝓤 : URA M) (H : Heap 𝓤) (A : Atoms 𝓤) (W : Given
 
   abbrev v-work : Val
   v-work = sliceVal (work .ptr) (length (work .now))
+
+  abbrev v-labels : Val
+  v-labels = sliceVal (labels .ptr) (length (labels .now))
 
   abbrev v-trail : Val
   v-trail = sliceVal (trail .ptr) (length (trail .now))
@@ -166,31 +172,36 @@ module _ {M : Type 1} (𝓤 : URA M) (H : Heap 𝓤) (A : Atoms 𝓤) (W : Given
   abbrev Own-work : Fml
   Own-work = MutSlice (named 4) κ₄ u64 .own work (v-work ∷ [])
 
+  abbrev Own-labels : Fml
+  Own-labels = ShrSlice (named 5) κ₅ u64 .own labels (v-labels ∷ [])
+
   abbrev Own-trail : Fml
-  Own-trail = MutSlice (named 5) κ₅ u16 .own trail (v-trail ∷ [])
+  Own-trail = MutSlice (named 6) κ₆ u16 .own trail (v-trail ∷ [])
 
   abbrev Own-queries : Fml
-  Own-queries = ShrSlice (named 6) κ₆ i16 .own queries (v-queries ∷ [])
+  Own-queries = ShrSlice (named 7) κ₇ i16 .own queries (v-queries ∷ [])
 
   abbrev Own-list : Fml
-  Own-list = MutSlice (named 7) κ₇ T.the-row .own list (v-list ∷ [])
+  Own-list = MutSlice (named 8) κ₈ T.the-row .own list (v-list ∷ [])
 
   abbrev Own-out : Fml
-  Own-out = MutSlice (named 8) κ₈ u64 .own out (v-out ∷ [])
+  Own-out = MutSlice (named 9) κ₉ u64 .own out (v-out ∷ [])
 
   abbrev Tokens : Item 𝓤
   Tokens = ‵ (flft κ₀ q₀) ⊛ (‵ (flft κ₁ q₁) ⊛ (‵ (flft κ₂ q₂) ⊛
-      (‵ (flft κ₃ q₃) ⊛ (‵ (flft κ₄ q₄) ⊛ (‵ (flft κ₅ q₅) ⊛ (‵ (flft κ₆ q₆) ⊛ (‵ (flft κ₇ q₇) ⊛ (‵ (flft κ₈ q₈) ⊛ (‵ ftrue)))))))))
+      (‵ (flft κ₃ q₃) ⊛ (‵ (flft κ₄ q₄) ⊛ (‵ (flft κ₅ q₅) ⊛ (‵ (flft κ₆ q₆) ⊛ (‵ (flft κ₇ q₇) ⊛ (‵ (flft κ₈ q₈) ⊛ (‵ (flft κ₉ q₉) ⊛ (‵
+      ftrue))))))))))
 
   abbrev Arg : Type 0
   Arg = RefT (List ℕ) × (RefT (List ℤ) × (RefT (List ℤ) × (RefT (List ℕ) ×
-      (RefT (List ℕ) × (RefT (List ℕ) × (RefT (List ℤ) × (ℕ × (RefT (List AnswerRecord) × (RefT (List ℕ) × Unit {0})))))))))
+      (RefT (List ℕ) × (RefT (List ℕ) × (RefT (List ℕ) × (RefT (List ℤ) × (ℕ × (RefT (List AnswerRecord) × (RefT (List ℕ) × Unit
+      {0}))))))))))
 
   abbrev a : Arg
-  a = (control, (samples, (nodes, (links, (work, (trail, (queries, (many, (list, (out, tt))))))))))
+  a = (control, (samples, (nodes, (links, (work, (labels, (trail, (queries, (many, (list, (out, tt)))))))))))
 
   abbrev vals : List Val × (List Val × (List Val × (List Val ×
-      (List Val × (List Val × (List Val × (List Val × (List Val × (List Val × Unit {0})))))))))
+      (List Val × (List Val × (List Val × (List Val × (List Val × (List Val × (List Val × Unit {0}))))))))))
   vals = (
     v-control ∷ [],
     (
@@ -199,7 +210,7 @@ module _ {M : Type 1} (𝓤 : URA M) (H : Heap 𝓤) (A : Atoms 𝓤) (W : Given
         v-nodes ∷ [],
         (
           v-links ∷ [],
-          (v-work ∷ [], (v-trail ∷ [], (v-queries ∷ [], (vint w64 many ∷ [], (v-list ∷ [], (v-out ∷ [], tt)))))),
+          (v-work ∷ [], (v-labels ∷ [], (v-trail ∷ [], (v-queries ∷ [], (vint w64 many ∷ [], (v-list ∷ [], (v-out ∷ [], tt))))))),
         ),
       ),
     ),
@@ -207,16 +218,26 @@ module _ {M : Type 1} (𝓤 : URA M) (H : Heap 𝓤) (A : Atoms 𝓤) (W : Given
 
   abbrev Post : Val → SProp 𝓤
   Post = walkOf 𝓤 H A f.ended stayed (f.clauses 𝓤 H A mem run) .post (
-    ((κ₀, (κ₁, (κ₂, (κ₃, (κ₄, (κ₅, (κ₆, (κ₇, (κ₈, tt))))))))), (q₀, (q₁, (q₂, (q₃, (q₄, (q₅, (q₆, (q₇, (q₈, tt))))))))), tt, a, vals),
+    (
+      (κ₀, (κ₁, (κ₂, (κ₃, (κ₄, (κ₅, (κ₆, (κ₇, (κ₈, (κ₉, tt)))))))))),
+      (q₀, (q₁, (q₂, (q₃, (q₄, (q₅, (q₆, (q₇, (q₈, (q₉, tt)))))))))),
+      tt,
+      a,
+      vals,
+    ),
     tt,
   )
+
+  -- the lent tables with this search work, which alone of them is written
+  abbrev lentWith : List ℕ → lent.Tables
+  lentWith work′ = lent.labelledTables (control .now) (samples .now) (nodes .now) (links .now) work′ (labels .now)
 
   -- what is ensured, by the callees and by the whole
   abbrev Searched : BatchFound → List ℕ → List ℕ → Type 0
   Searched found work′ trail′ = (l : List Near) → length l ≡ length (list .now) → outcome
-      (answerBy (found .outcome) (listAfter found l) trail′) (lent.tables (control .now) (samples .now) (nodes .now) (links .now) work′)
+      (answerBy (found .outcome) (listAfter found l) trail′) (lentWith work′)
       (trail′ ∷ listPlaces (listAfter found l) ∷ []) ≡ outcomeOn (book.batching many (queries .now) (trail .now) l)
-      (lent.tables (control .now) (samples .now) (nodes .now) (links .now) (work .now))
+      (lentWith (work .now))
 
   abbrev Stored : BatchFound → Bool → List AnswerRecord → Type 0
   Stored found done list′ = storeOutcome done list′ ≡ storeOf found (list .now)
@@ -226,45 +247,54 @@ module _ {M : Type 1} (𝓤 : URA M) (H : Heap 𝓤) (A : Atoms 𝓤) (W : Given
       (records : List Near) (read : List ℕ) → returned code out′ ≡ returnedOf (answerBy (found .outcome) records read) (out .now)
 
   abbrev Ensured : ℕ → List ℕ → List ℕ → List AnswerRecord → List ℕ → Type 0
-  Ensured code work′ trail′ list′ out′ = cOutcome code out′ (lent.tables (control .now) (samples .now) (nodes .now) (links .now) work′)
+  Ensured code work′ trail′ list′ out′ = cOutcome code out′ (lentWith work′)
       (trail′ ∷ listPlaces (nearsOf list′) ∷ []) ≡ cOutcomeOf
       (outcomeOn (book.batching many (queries .now) (trail .now) (nearsOf (list .now)))
-      (lent.tables (control .now) (samples .now) (nodes .now) (links .now) (work .now))) (out .now)
+      (lentWith (work .now))) (out .now)
 
   exits : (code′ : ℕ) (w : Val) (work′ : List ℕ) (trail′ : List ℕ) (list′ : List AnswerRecord) (out′ : List ℕ)
       → Ensured code′ work′ trail′ list′ out′ → length work′ ≡ length (work .now) → length trail′ ≡ length (trail .now) → length list′
       ≡ length (list .now) → length out′ ≡ length (out .now)
       → ent 𝓤 (⋆ 𝓤 H A (‵ (flft κ₀ q₀) ∷ ‵ (flft κ₁ q₁) ∷ ‵ (flft κ₂ q₂) ∷ ‵ (flft κ₃ q₃) ∷ ‵ (flft κ₄ q₄) ∷ ‵ (flft κ₅ q₅) ∷ ‵
-      (flft κ₆ q₆) ∷ ‵ (flft κ₇ q₇) ∷ ‵ (flft κ₈ q₈) ∷ ‵ Own-control ∷ ‵ Own-samples ∷ ‵ Own-nodes ∷ ‵ Own-links ∷ ‵ Own-queries ∷ ‵
+      (flft κ₆ q₆) ∷ ‵ (flft κ₇ q₇) ∷ ‵ (flft κ₈ q₈) ∷ ‵ (flft κ₉ q₉) ∷ ‵ Own-control ∷ ‵ Own-samples ∷ ‵ Own-nodes ∷ ‵ Own-links ∷ ‵
+      Own-labels ∷ ‵ Own-queries ∷ ‵
       (finally u64 (work .name) work′) ∷ ‵ (finally u16 (trail .name) trail′) ∷ ‵ (finally T.the-row (list .name) list′) ∷ ‵
       (finally u64 (out .name) out′) ∷ ‵ (u64 .own code′ (w ∷ [])) ∷ [])) (Post w)
   exits code′ w work′ trail′ list′ out′ e long-work long-trail long-list long-out =
       qed W (‵ (flft κ₀ q₀) ∷ ‵ (flft κ₁ q₁) ∷ ‵ (flft κ₂ q₂) ∷ ‵ (flft κ₃ q₃) ∷ ‵ (flft κ₄ q₄) ∷ ‵ (flft κ₅ q₅) ∷ ‵ (flft κ₆ q₆) ∷ ‵
-      (flft κ₇ q₇) ∷ ‵ (flft κ₈ q₈) ∷ ‵ Own-control ∷ ‵ Own-samples ∷ ‵ Own-nodes ∷ ‵ Own-links ∷ ‵ Own-queries ∷ ‵
+      (flft κ₇ q₇) ∷ ‵ (flft κ₈ q₈) ∷ ‵ (flft κ₉ q₉) ∷ ‵ Own-control ∷ ‵ Own-samples ∷ ‵ Own-nodes ∷ ‵ Own-links ∷ ‵ Own-labels ∷ ‵
+      Own-queries ∷ ‵
       (finally u64 (work .name) work′) ∷ ‵ (finally u16 (trail .name) trail′) ∷ ‵ (finally T.the-row (list .name) list′) ∷ ‵
       (finally u64 (out .name) out′) ∷ ‵ (u64 .own code′ (w ∷ [])) ∷ []) ∵
       suffices ! _ (ends-at 𝓤 H A f.ended stayed (f.clauses 𝓤 H A mem run) W (
-        ((κ₀, (κ₁, (κ₂, (κ₃, (κ₄, (κ₅, (κ₆, (κ₇, (κ₈, tt))))))))), (q₀, (q₁, (q₂, (q₃, (q₄, (q₅, (q₆, (q₇, (q₈, tt))))))))), tt, a, vals),
+        (
+          (κ₀, (κ₁, (κ₂, (κ₃, (κ₄, (κ₅, (κ₆, (κ₇, (κ₈, (κ₉, tt)))))))))),
+          (q₀, (q₁, (q₂, (q₃, (q₄, (q₅, (q₆, (q₇, (q₈, (q₉, tt)))))))))),
+          tt,
+          a,
+          vals,
+        ),
         tt,
-      ) w code′ (tt, (tt, (tt, (tt, (work′, (trail′, (tt, (tt, (list′, (out′, tt))))))))))
-      (tt, (tt, (tt, (tt, (long-work, (long-trail, (tt, (tt, (long-list, (long-out, tt))))))))))) $
+      ) w code′ (tt, (tt, (tt, (tt, (work′, (tt, (trail′, (tt, (tt, (list′, (out′, tt)))))))))))
+      (tt, (tt, (tt, (tt, (long-work, (tt, (long-trail, (tt, (tt, (long-list, (long-out, tt)))))))))))) $
       says ! e $
-      nothing ! $ move ! (9 ∷ 0 ∷ []) $ join ! $ move ! (8 ∷ 0 ∷ []) $ join ! $ move ! (7 ∷ 0 ∷ []) $ join ! $ move ! (6 ∷ 0 ∷ []) $
-      join ! $ move ! (5 ∷ 0 ∷ []) $ join ! $ move ! (4 ∷ 0 ∷ []) $ join ! $ move ! (3 ∷ 0 ∷ []) $ join ! $ move ! (2 ∷ 0 ∷ []) $ join ! $
-      move ! (1 ∷ 0 ∷ []) $ join ! $ frame ! $ nothing ! $ move ! (9 ∷ 0 ∷ []) $ fjoin ! $ move ! (8 ∷ 0 ∷ []) $ fjoin ! $
-      owned ! usize (Is usize) (uint-makes 𝓤 H A W w64) many _ (refl, many-fits) $ fjoin ! $ move ! (5 ∷ 0 ∷ []) $ fjoin ! $
-      move ! (6 ∷ 0 ∷ []) $ fjoin ! $ move ! (5 ∷ 0 ∷ []) $ fjoin ! $ move ! (4 ∷ 0 ∷ []) $ fjoin ! $ move ! (3 ∷ 0 ∷ []) $ fjoin ! $
-      move ! (2 ∷ 0 ∷ []) $ fjoin ! $ move ! (1 ∷ 0 ∷ []) $ fjoin ! $ done !
+      nothing ! $ move ! (10 ∷ 0 ∷ []) $ join ! $ move ! (9 ∷ 0 ∷ []) $ join ! $ move ! (8 ∷ 0 ∷ []) $ join ! $ move ! (7 ∷ 0 ∷ []) $
+      join ! $ move ! (6 ∷ 0 ∷ []) $ join ! $ move ! (5 ∷ 0 ∷ []) $ join ! $ move ! (4 ∷ 0 ∷ []) $ join ! $ move ! (3 ∷ 0 ∷ []) $ join ! $
+      move ! (2 ∷ 0 ∷ []) $ join ! $ move ! (1 ∷ 0 ∷ []) $ join ! $ frame ! $ nothing ! $ move ! (10 ∷ 0 ∷ []) $ fjoin ! $
+      move ! (9 ∷ 0 ∷ []) $ fjoin ! $ owned ! usize (Is usize) (uint-makes 𝓤 H A W w64) many _ (refl, many-fits) $ fjoin ! $
+      move ! (6 ∷ 0 ∷ []) $ fjoin ! $ move ! (7 ∷ 0 ∷ []) $ fjoin ! $ move ! (5 ∷ 0 ∷ []) $ fjoin ! $ move ! (5 ∷ 0 ∷ []) $ fjoin ! $
+      move ! (4 ∷ 0 ∷ []) $ fjoin ! $ move ! (3 ∷ 0 ∷ []) $ fjoin ! $ move ! (2 ∷ 0 ∷ []) $ fjoin ! $ move ! (1 ∷ 0 ∷ []) $ fjoin ! $
+      done !
 
   abbrev to : RefT (List ℕ) × (RefT (List ℤ) × (RefT (List ℤ) ×
-      (RefT (List ℕ) × (RefT (List ℕ) × (RefT (List ℕ) × (RefT (List ℤ) × (ℕ × (ℕ × Unit {0}))))))))
-  to = (control, (samples, (nodes, (links, (work, (trail, (queries, (many, ((length (list .now)), tt)))))))))
+      (RefT (List ℕ) × (RefT (List ℕ) × (RefT (List ℕ) × (RefT (List ℕ) × (RefT (List ℤ) × (ℕ × (ℕ × Unit {0})))))))))
+  to = (control, (samples, (nodes, (links, (work, (labels, (trail, (queries, (many, ((length (list .now)), tt))))))))))
 
   abbrev to-search : Search 𝓤 H A mem run .Ghost
   to-search = (
     (
-      (κ₀, (κ₁, (κ₂, (κ₃, (κ₄, (κ₅, (κ₆, tt))))))),
-      (q₀, (q₁, (q₂, (q₃, (q₄, (q₅, (q₆, tt))))))),
+      (κ₀, (κ₁, (κ₂, (κ₃, (κ₄, (κ₅, (κ₆, (κ₇, tt)))))))),
+      (q₀, (q₁, (q₂, (q₃, (q₄, (q₅, (q₆, (q₇, tt)))))))),
       tt,
       to,
       (
@@ -275,7 +305,25 @@ module _ {M : Type 1} (𝓤 : URA M) (H : Heap 𝓤) (A : Atoms 𝓤) (W : Given
             v-nodes ∷ [],
             (
               v-links ∷ [],
-              (v-work ∷ [], (v-trail ∷ [], (v-queries ∷ [], (vint w64 many ∷ [], (vint w64 (length (list .now)) ∷ [], tt))))),
+              (
+                v-work ∷ [],
+                (
+                  v-labels ∷ [],
+                  (
+                    v-trail ∷ [],
+                    (
+                      v-queries ∷ [],
+                      (
+                        vint w64 many ∷ [],
+                        (
+                          vint w64 (length (list .now)) ∷ [],
+                          tt,
+                        ),
+                      ),
+                    ),
+                  ),
+                ),
+              ),
             ),
           ),
         ),
@@ -286,57 +334,63 @@ module _ {M : Type 1} (𝓤 : URA M) (H : Heap 𝓤) (A : Atoms 𝓤) (W : Given
 
   goes-search : Room T.the-row (length (list .now)) → ent 𝓤 (⋆ 𝓤 H A
       (‵ (flft κ₀ q₀) ∷ ‵ (flft κ₁ q₁) ∷ ‵ (flft κ₂ q₂) ∷ ‵ (flft κ₃ q₃) ∷ ‵ (flft κ₄ q₄) ∷ ‵ (flft κ₅ q₅) ∷ ‵
-      (flft κ₆ q₆) ∷ ‵ Own-control ∷ ‵ Own-samples ∷ ‵ Own-nodes ∷ ‵ Own-links ∷ ‵ Own-work ∷ ‵ Own-trail ∷ ‵ Own-queries ∷ []))
+      (flft κ₆ q₆) ∷ ‵ (flft κ₇ q₇) ∷ ‵ Own-control ∷ ‵ Own-samples ∷ ‵ Own-nodes ∷ ‵ Own-links ∷ ‵ Own-work ∷ ‵ Own-labels ∷ ‵ Own-trail ∷
+      ‵ Own-queries ∷ []))
       (Search 𝓤 H A mem run .pre to-search)
   goes-search room =
       qed W (‵ (flft κ₀ q₀) ∷ ‵ (flft κ₁ q₁) ∷ ‵ (flft κ₂ q₂) ∷ ‵ (flft κ₃ q₃) ∷ ‵ (flft κ₄ q₄) ∷ ‵ (flft κ₅ q₅) ∷ ‵
-      (flft κ₆ q₆) ∷ ‵ Own-control ∷ ‵ Own-samples ∷ ‵ Own-nodes ∷ ‵ Own-links ∷ ‵ Own-work ∷ ‵ Own-trail ∷ ‵ Own-queries ∷ []) ∵ nothing ! $
+      (flft κ₆ q₆) ∷ ‵ (flft κ₇ q₇) ∷ ‵ Own-control ∷ ‵ Own-samples ∷ ‵ Own-nodes ∷ ‵ Own-links ∷ ‵ Own-work ∷ ‵ Own-labels ∷ ‵ Own-trail ∷
+      ‵ Own-queries ∷ []) ∵ nothing ! $
       owned ! usize (Is usize) (uint-makes 𝓤 H A W w64) (length (list .now)) _ (refl, room .0) $ fjoin ! $
-      owned ! usize (Is usize) (uint-makes 𝓤 H A W w64) many _ (refl, many-fits) $ fjoin ! $ move ! (14 ∷ 0 ∷ []) $ fjoin ! $
-      move ! (13 ∷ 0 ∷ []) $ fjoin ! $ move ! (12 ∷ 0 ∷ []) $ fjoin ! $ move ! (11 ∷ 0 ∷ []) $ fjoin ! $ move ! (10 ∷ 0 ∷ []) $ fjoin ! $
-      move ! (9 ∷ 0 ∷ []) $ fjoin ! $ move ! (8 ∷ 0 ∷ []) $ fjoin ! $ nothing ! $ move ! (8 ∷ 0 ∷ []) $ join ! $ move ! (7 ∷ 0 ∷ []) $
-      join ! $ move ! (6 ∷ 0 ∷ []) $ join ! $ move ! (5 ∷ 0 ∷ []) $ join ! $ move ! (4 ∷ 0 ∷ []) $ join ! $ move ! (3 ∷ 0 ∷ []) $ join ! $
-      move ! (2 ∷ 0 ∷ []) $ join ! $ join ! $ frame ! $ done !
+      owned ! usize (Is usize) (uint-makes 𝓤 H A W w64) many _ (refl, many-fits) $ fjoin ! $ move ! (16 ∷ 0 ∷ []) $ fjoin ! $
+      move ! (15 ∷ 0 ∷ []) $ fjoin ! $ move ! (14 ∷ 0 ∷ []) $ fjoin ! $ move ! (13 ∷ 0 ∷ []) $ fjoin ! $ move ! (12 ∷ 0 ∷ []) $ fjoin ! $
+      move ! (11 ∷ 0 ∷ []) $ fjoin ! $ move ! (10 ∷ 0 ∷ []) $ fjoin ! $ move ! (9 ∷ 0 ∷ []) $ fjoin ! $ nothing ! $ move ! (9 ∷ 0 ∷ []) $
+      join ! $ move ! (8 ∷ 0 ∷ []) $ join ! $ move ! (7 ∷ 0 ∷ []) $ join ! $ move ! (6 ∷ 0 ∷ []) $ join ! $ move ! (5 ∷ 0 ∷ []) $ join ! $
+      move ! (4 ∷ 0 ∷ []) $ join ! $ move ! (3 ∷ 0 ∷ []) $ join ! $ move ! (2 ∷ 0 ∷ []) $ join ! $ join ! $ frame ! $ done !
 
   abbrev to-store : BatchFound → Val → Store 𝓤 H A mem run .Ghost
-  to-store = λ found w. (((κ₇, tt), (q₇, tt), tt, (found, (list, tt)), (w ∷ [], (v-list ∷ [], tt))), tt)
+  to-store = λ found w. (((κ₈, tt), (q₈, tt), tt, (found, (list, tt)), (w ∷ [], (v-list ∷ [], tt))), tt)
 
-  goes-store : (found : BatchFound) (w : Val) → ent 𝓤 (⋆ 𝓤 H A (‵ (flft κ₇ q₇) ∷ ‵ (F.the-row .own found (w ∷ [])) ∷ ‵ Own-list ∷ []))
+  goes-store : (found : BatchFound) (w : Val) → ent 𝓤 (⋆ 𝓤 H A (‵ (flft κ₈ q₈) ∷ ‵ (F.the-row .own found (w ∷ [])) ∷ ‵ Own-list ∷ []))
       (Store 𝓤 H A mem run .pre (to-store found w))
-  goes-store found w = qed W (‵ (flft κ₇ q₇) ∷ ‵ (F.the-row .own found (w ∷ [])) ∷ ‵ Own-list ∷ []) ∵ nothing ! $ move ! (3 ∷ 0 ∷ []) $
+  goes-store found w = qed W (‵ (flft κ₈ q₈) ∷ ‵ (F.the-row .own found (w ∷ [])) ∷ ‵ Own-list ∷ []) ∵ nothing ! $ move ! (3 ∷ 0 ∷ []) $
       fjoin ! $ move ! (2 ∷ 0 ∷ []) $ fjoin ! $ nothing ! $ move ! (2 ∷ 0 ∷ []) $ join ! $ join ! $ frame ! $ done !
 
   abbrev to-tell : BatchFound → Val → Tell 𝓤 H A mem run .Ghost
-  to-tell = λ found w. (((κ₈, tt), (q₈, tt), tt, (found, (out, tt)), (w ∷ [], (v-out ∷ [], tt))), tt)
+  to-tell = λ found w. (((κ₉, tt), (q₉, tt), tt, (found, (out, tt)), (w ∷ [], (v-out ∷ [], tt))), tt)
 
-  goes-tell : (found : BatchFound) (w : Val) → ent 𝓤 (⋆ 𝓤 H A (‵ (flft κ₈ q₈) ∷ ‵ (F.the-row .own found (w ∷ [])) ∷ ‵ Own-out ∷ []))
+  goes-tell : (found : BatchFound) (w : Val) → ent 𝓤 (⋆ 𝓤 H A (‵ (flft κ₉ q₉) ∷ ‵ (F.the-row .own found (w ∷ [])) ∷ ‵ Own-out ∷ []))
       (Tell 𝓤 H A mem run .pre (to-tell found w))
-  goes-tell found w = qed W (‵ (flft κ₈ q₈) ∷ ‵ (F.the-row .own found (w ∷ [])) ∷ ‵ Own-out ∷ []) ∵ nothing ! $ move ! (3 ∷ 0 ∷ []) $
+  goes-tell found w = qed W (‵ (flft κ₉ q₉) ∷ ‵ (F.the-row .own found (w ∷ [])) ∷ ‵ Own-out ∷ []) ∵ nothing ! $ move ! (3 ∷ 0 ∷ []) $
       fjoin ! $ move ! (2 ∷ 0 ∷ []) $ fjoin ! $ nothing ! $ move ! (2 ∷ 0 ∷ []) $ join ! $ join ! $ frame ! $ done !
 
   module _ (C : Calls 𝓤 H) (Λ : Loops 𝓤 H) (fm : FmC 𝓤 H (W .laws) C) (known-search : Triple 𝓤 (C #search) (Search 𝓤 H A mem run))
       (known-store : Triple 𝓤 (C #store) (Store 𝓤 H A mem run)) (known-tell : Triple 𝓤 (C #tell) (Tell 𝓤 H A mem run)) where
     walk : Room u16 (length (control .now)) → Room i16 (length (samples .now)) → Room i64 (length (nodes .now)) → Room u16
-        (length (links .now)) → Room u64 (length (work .now)) → Room u16 (length (trail .now)) → Room i16 (length (queries .now))
+        (length (links .now)) → Room u64 (length (work .now)) → Room u64 (length (labels .now)) → Room u16 (length (trail .now)) → Room i16
+        (length (queries .now))
         → Room T.the-row (length (list .now)) → Room u64 (length (out .now))
-        → ent 𝓤 (onEntry 𝓤 H A f.signature (κ₀, (κ₁, (κ₂, (κ₃, (κ₄, (κ₅, (κ₆, (κ₇, (κ₈, tt)))))))))
-        (q₀, (q₁, (q₂, (q₃, (q₄, (q₅, (q₆, (q₇, (q₈, tt))))))))) a vals)
+        → ent 𝓤 (onEntry 𝓤 H A f.signature (κ₀, (κ₁, (κ₂, (κ₃, (κ₄, (κ₅, (κ₆, (κ₇, (κ₈, (κ₉, tt))))))))))
+        (q₀, (q₁, (q₂, (q₃, (q₄, (q₅, (q₆, (q₇, (q₈, (q₉, tt)))))))))) a vals)
         (WpFn 𝓤 H C Λ code.function
-        (v-control ∷ v-samples ∷ v-nodes ∷ v-links ∷ v-work ∷ v-trail ∷ v-queries ∷ vint w64 many ∷ v-list ∷ v-out ∷ []) Post)
-    walk room-control room-samples room-nodes room-links room-work room-trail room-queries room-list room-out =
+        (v-control ∷ v-samples ∷ v-nodes ∷ v-links ∷ v-work ∷ v-labels ∷ v-trail ∷ v-queries ∷ vint w64 many ∷ v-list ∷ v-out ∷ []) Post)
+    walk room-control room-samples room-nodes room-links room-work room-labels room-trail room-queries room-list room-out =
         qed W (Tokens ∷ ‵ (owns (ShrSlice (named 0) κ₀ u16 ∷ ShrSlice (named 1) κ₁ i16 ∷ ShrSlice (named 2) κ₂ i64 ∷ ShrSlice
-        (named 3) κ₃ u16 ∷ MutSlice (named 4) κ₄ u64 ∷ MutSlice (named 5) κ₅ u16 ∷ ShrSlice (named 6) κ₆ i16 ∷ usize ∷ MutSlice
-        (named 7) κ₇ T.the-row ∷ MutSlice (named 8) κ₈ u64 ∷ []) a vals) ∷ []) ∵ enter ! C Λ code.function
-        (v-control ∷ v-samples ∷ v-nodes ∷ v-links ∷ v-work ∷ v-trail ∷ v-queries ∷ vint w64 many ∷ v-list ∷ v-out ∷ []) _ $
+        (named 3) κ₃ u16 ∷ MutSlice (named 4) κ₄ u64 ∷ ShrSlice (named 5) κ₅ u64 ∷ MutSlice (named 6) κ₆ u16 ∷ ShrSlice (named 7) κ₇ i16 ∷
+        usize ∷ MutSlice
+        (named 8) κ₈ T.the-row ∷ MutSlice (named 9) κ₉ u64 ∷ []) a vals) ∷ []) ∵ enter ! C Λ code.function
+        (v-control ∷ v-samples ∷ v-nodes ∷ v-links ∷ v-work ∷ v-labels ∷ v-trail ∷ v-queries ∷ vint w64 many ∷ v-list ∷ v-out ∷ []) _ $
         alloc1 ! (λ l₀. alloc1 ! (λ l₁. alloc1 ! (λ l₂. alloc1 ! (λ l₃. alloc1 ! (λ l₄. alloc1 ! (λ l₅. alloc1 ! (λ l₆. alloc1 ! (λ l₇.
         alloc1 ! (λ l₈. alloc1 ! (λ l₉. alloc1 ! (λ l₁₀. alloc1 ! (λ l₁₁. alloc1 ! (λ l₁₂. alloc1 ! (λ l₁₃. alloc1 ! (λ l₁₄.
-        alloc1 ! (λ l₁₅. alloc1 ! (λ l₁₆. alloc1 ! (λ l₁₇. alloc1 ! (λ l₁₈. alloc1 ! (λ l₁₉. alloc1 ! (λ l₂₀. alloc1 ! (λ l₂₁. alloc0 ! $
+        alloc1 ! (λ l₁₅. alloc1 ! (λ l₁₆. alloc1 ! (λ l₁₇. alloc1 ! (λ l₁₈. alloc1 ! (λ l₁₉. alloc1 ! (λ l₂₀. alloc1 ! (λ l₂₁. alloc1 ! (λ
+        l₂₂. alloc0 ! $
         params1 ! $
-        pass1 ! (init ! 40 refl (tt, (tt, (record { fits = room-control .0 }, tt)))) $
-        pass1 ! (init ! 38 refl (tt, (tt, (record { fits = room-samples .0 }, tt)))) $
-        pass1 ! (init ! 36 refl (tt, (tt, (record { fits = room-nodes .0 }, tt)))) $
-        pass1 ! (init ! 34 refl (tt, (tt, (record { fits = room-links .0 }, tt)))) $
-        pass1 ! (init ! 32 refl (tt, (tt, (record { fits = room-work .0 }, tt)))) $
+        pass1 ! (init ! 42 refl (tt, (tt, (record { fits = room-control .0 }, tt)))) $
+        pass1 ! (init ! 40 refl (tt, (tt, (record { fits = room-samples .0 }, tt)))) $
+        pass1 ! (init ! 38 refl (tt, (tt, (record { fits = room-nodes .0 }, tt)))) $
+        pass1 ! (init ! 36 refl (tt, (tt, (record { fits = room-links .0 }, tt)))) $
+        pass1 ! (init ! 34 refl (tt, (tt, (record { fits = room-work .0 }, tt)))) $
+        pass1 ! (init ! 32 refl (tt, (tt, (record { fits = room-labels .0 }, tt)))) $
         pass1 ! (init ! 30 refl (tt, (tt, (record { fits = room-trail .0 }, tt)))) $
         pass1 ! (init ! 28 refl (tt, (tt, (record { fits = room-queries .0 }, tt)))) $
         pass1 ! (init ! 26 refl (tt, record { fits = many-fits })) $
@@ -345,10 +399,10 @@ module _ {M : Type 1} (𝓤 : URA M) (H : Heap 𝓤) (A : Atoms 𝓤) (W : Given
         -- [the last local; …; … _1; …; room for _0; …; the tokens; what the arguments own]
         assigns ! (of-opd ! (load ! (from ! (fld ! refl (stop !))) (look-in ! 24 (sub ! 1 refl (whole !))))) (from ! (stop !))
         (init ! 20 refl (tt, record { fits = room-list .0 })) $
-        assigns ! (addr ! (from ! (fld ! refl (hop ! (look-in ! 32 (sub ! 0 refl (whole !))) (stop !))))) (from ! (stop !))
+        assigns ! (addr ! (from ! (fld ! refl (hop ! (look-in ! 34 (sub ! 0 refl (whole !))) (stop !))))) (from ! (stop !))
         (init ! 16 refl (tt, tt)) $
         assigns ! (agg ! (and-then ! (load ! (from ! (stop !)) (look ! 16 refl))
-        (and-then ! (load ! (from ! (fld ! refl (stop !))) (look-in ! 32 (sub ! 1 refl (whole !)))) (no-more !)))) (from ! (stop !))
+        (and-then ! (load ! (from ! (fld ! refl (stop !))) (look-in ! 34 (sub ! 1 refl (whole !)))) (no-more !)))) (from ! (stop !))
         (init ! 14 refl (tt, (tt, (record { fits = room-work .0 }, tt)))) $
         assigns ! (addr ! (from ! (fld ! refl (hop ! (look-in ! 30 (sub ! 0 refl (whole !))) (stop !))))) (from ! (stop !))
         (init ! 12 refl (tt, tt)) $
@@ -356,7 +410,7 @@ module _ {M : Type 1} (𝓤 : URA M) (H : Heap 𝓤) (A : Atoms 𝓤) (W : Given
         (and-then ! (load ! (from ! (fld ! refl (stop !))) (look-in ! 30 (sub ! 1 refl (whole !)))) (no-more !)))) (from ! (stop !))
         (init ! 10 refl (tt, (tt, (record { fits = room-trail .0 }, tt)))) $
         -- what the arguments own, one by one, a `&` twice; and the tokens
-        move ! (45 ∷ []) $ fsplit ! $
+        move ! (47 ∷ []) $ fsplit ! $
         use1 W (‵ Own-control ⊛ ‵ Own-control) (shr-slice-copy 𝓤 H A W (named 0) κ₀ u16 .twice control (v-control ∷ [])) $ split ! $
         move ! (2 ∷ []) $ fsplit ! $
         use1 W (‵ Own-samples ⊛ ‵ Own-samples) (shr-slice-copy 𝓤 H A W (named 1) κ₁ i16 .twice samples (v-samples ∷ [])) $ split ! $
@@ -364,106 +418,112 @@ module _ {M : Type 1} (𝓤 : URA M) (H : Heap 𝓤) (A : Atoms 𝓤) (W : Given
         use1 W (‵ Own-nodes ⊛ ‵ Own-nodes) (shr-slice-copy 𝓤 H A W (named 2) κ₂ i64 .twice nodes (v-nodes ∷ [])) $ split ! $
         move ! (2 ∷ []) $ fsplit ! $
         use1 W (‵ Own-links ⊛ ‵ Own-links) (shr-slice-copy 𝓤 H A W (named 3) κ₃ u16 .twice links (v-links ∷ [])) $ split ! $
-        move ! (2 ∷ []) $ fsplit ! $ move ! (1 ∷ []) $ fsplit ! $ move ! (1 ∷ []) $ fsplit ! $
-        use1 W (‵ Own-queries ⊛ ‵ Own-queries) (shr-slice-copy 𝓤 H A W (named 6) κ₆ i16 .twice queries (v-queries ∷ [])) $ split ! $
+        move ! (2 ∷ []) $ fsplit ! $ move ! (1 ∷ []) $ fsplit ! $
+        use1 W (‵ Own-labels ⊛ ‵ Own-labels) (shr-slice-copy 𝓤 H A W (named 5) κ₅ u64 .twice labels (v-labels ∷ [])) $ split ! $
+        move ! (2 ∷ []) $ fsplit ! $ move ! (1 ∷ []) $ fsplit ! $
+        use1 W (‵ Own-queries ⊛ ‵ Own-queries) (shr-slice-copy 𝓤 H A W (named 7) κ₇ i16 .twice queries (v-queries ∷ [])) $ split ! $
         move ! (2 ∷ []) $ fsplit ! $ drop ! $ fsplit ! $ move ! (1 ∷ []) $ fsplit ! $ move ! (1 ∷ []) $ drop ! $
-        move ! (58 ∷ []) $ split ! $ move ! (1 ∷ []) $ split ! $ move ! (1 ∷ []) $ split ! $ move ! (1 ∷ []) $ split ! $ move ! (1 ∷ []) $
+        move ! (62 ∷ []) $ split ! $ move ! (1 ∷ []) $ split ! $ move ! (1 ∷ []) $ split ! $ move ! (1 ∷ []) $ split ! $ move ! (1 ∷ []) $
         split ! $ move ! (1 ∷ []) $ split ! $ move ! (1 ∷ []) $ split ! $ move ! (1 ∷ []) $ split ! $ move ! (1 ∷ []) $ split ! $
-        move ! (1 ∷ []) $ drop ! $
+        move ! (1 ∷ []) $ split ! $ move ! (1 ∷ []) $ drop ! $
         -- the first call
-        move ! (8 ∷ 7 ∷ 6 ∷ 5 ∷ 4 ∷ 3 ∷ 2 ∷ 21 ∷ 19 ∷ 17 ∷ 15 ∷ 14 ∷ 13 ∷ 11 ∷ []) $ group ! 14 $
+        move ! (9 ∷ 8 ∷ 7 ∷ 6 ∷ 5 ∷ 4 ∷ 3 ∷ 2 ∷ 24 ∷ 22 ∷ 20 ∷ 18 ∷ 17 ∷ 15 ∷ 14 ∷ 12 ∷ []) $ group ! 16 $
         use1 W (raw (Search 𝓤 H A mem run .pre to-search)) (goes-search room-list) $
         calls-at ! fm (Search 𝓤 H A mem run) known-search to-search
-        (and-then ! (load ! (from ! (stop !)) (look ! 50 refl))
-        (and-then ! (load ! (from ! (stop !)) (look ! 48 refl))
-        (and-then ! (load ! (from ! (stop !)) (look ! 46 refl))
-        (and-then ! (load ! (from ! (stop !)) (look ! 44 refl))
-        (and-then ! (load ! (from ! (stop !)) (look ! 24 refl))
-        (and-then ! (load ! (from ! (stop !)) (look ! 20 refl))
-        (and-then ! (load ! (from ! (stop !)) (look ! 38 refl))
-        (and-then ! (load ! (from ! (stop !)) (look ! 36 refl))
-        (and-then ! (load ! (from ! (stop !)) (look ! 30 refl)) (no-more !)))))))))) (λ w₁.
+        (and-then ! (load ! (from ! (stop !)) (look ! 53 refl))
+        (and-then ! (load ! (from ! (stop !)) (look ! 51 refl))
+        (and-then ! (load ! (from ! (stop !)) (look ! 49 refl))
+        (and-then ! (load ! (from ! (stop !)) (look ! 47 refl))
+        (and-then ! (load ! (from ! (stop !)) (look ! 25 refl))
+        (and-then ! (load ! (from ! (stop !)) (look ! 43 refl))
+        (and-then ! (load ! (from ! (stop !)) (look ! 21 refl))
+        (and-then ! (load ! (from ! (stop !)) (look ! 39 refl))
+        (and-then ! (load ! (from ! (stop !)) (look ! 37 refl))
+        (and-then ! (load ! (from ! (stop !)) (look ! 31 refl)) (no-more !))))))))))) (λ w₁.
         use1 W (later (some (λ (found : BatchFound). ((‵ (flft κ₀ q₀) ⊛
         (‵ (flft κ₁ q₁) ⊛ (‵ (flft κ₂ q₂) ⊛ (‵ (flft κ₃ q₃) ⊛
-        (‵ (flft κ₄ q₄) ⊛ (‵ (flft κ₅ q₅) ⊛ (‵ (flft κ₆ q₆) ⊛ (‵ ftrue)))))))) ⊛ ‵ (F.the-row .own found (w₁ ∷ []))) ⊛ raw
-        (ensured 𝓤 H A search′.ended (search′.clauses 𝓤 H A mem run) (κ₀, (κ₁, (κ₂, (κ₃, (κ₄, (κ₅, (κ₆, tt))))))) to tt found))))
+        (‵ (flft κ₄ q₄) ⊛ (‵ (flft κ₅ q₅) ⊛ (‵ (flft κ₆ q₆) ⊛ (‵ (flft κ₇ q₇) ⊛ (‵ ftrue))))))))) ⊛ ‵ (F.the-row .own found (w₁ ∷ []))) ⊛
+        raw
+        (ensured 𝓤 H A search′.ended (search′.clauses 𝓤 H A mem run) (κ₀, (κ₁, (κ₂, (κ₃, (κ₄, (κ₅, (κ₆, (κ₇, tt)))))))) to tt found))))
         (id⊢ 𝓤 _) $
         await ! tt $ pick ! (λ found.
         split ! $ move ! (1 ∷ []) $
         use1 W (some (λ (ts : Unit {0} × (Unit {0} × (Unit {0} ×
-        (Unit {0} × (List ℕ × (List ℕ × (Unit {0} × (Unit {0} × (Unit {0} × Unit {0}))))))))). ‵
-        (lasts search′.ended (κ₀, (κ₁, (κ₂, (κ₃, (κ₄, (κ₅, (κ₆, tt))))))) to ts) ⊛ raw
-        (fact 𝓤 (Searched found (ts .1 .1 .1 .1 .0) (ts .1 .1 .1 .1 .1 .0))))) (id⊢ 𝓤 _) $
+        (Unit {0} × (List ℕ × (Unit {0} × (List ℕ × (Unit {0} × (Unit {0} × (Unit {0} × Unit {0})))))))))). ‵
+        (lasts search′.ended (κ₀, (κ₁, (κ₂, (κ₃, (κ₄, (κ₅, (κ₆, (κ₇, tt)))))))) to ts) ⊛ raw
+        (fact 𝓤 (Searched found (ts .1 .1 .1 .1 .0) (ts .1 .1 .1 .1 .1 .1 .0))))) (id⊢ 𝓤 _) $
         pick ! (λ ts.
-        split ! $ move ! (1 ∷ []) $ heard ! (Searched found (ts .1 .1 .1 .1 .0) (ts .1 .1 .1 .1 .1 .0)) (λ e₁.
+        split ! $ move ! (1 ∷ []) $ heard ! (Searched found (ts .1 .1 .1 .1 .0) (ts .1 .1 .1 .1 .1 .1 .0)) (λ e₁.
         fsplit ! $ drop ! $ fsplit ! $ drop ! $ fsplit ! $ drop ! $ fsplit ! $ drop ! $ fsplit ! $ fsplit ! $ move ! (1 ∷ []) $
-        feqL ! (λ long-work. move ! (1 ∷ []) $ fsplit ! $ fsplit ! $ move ! (1 ∷ []) $ feqL ! (λ long-trail. move ! (1 ∷ []) $ fsplit ! $
+        feqL ! (λ long-work. move ! (1 ∷ []) $ fsplit ! $ drop ! $ fsplit ! $ fsplit ! $ move ! (1 ∷ []) $ feqL ! (λ long-trail. move ! (1
+        ∷ []) $ fsplit ! $
         drop ! $ fsplit ! $ drop ! $ fsplit ! $ drop ! $ drop ! $ move ! (2 ∷ []) $ split ! $
         split ! $ move ! (1 ∷ []) $ split ! $ move ! (1 ∷ []) $ split ! $ move ! (1 ∷ []) $ split ! $ move ! (1 ∷ []) $ split ! $
-        move ! (1 ∷ []) $ split ! $ move ! (1 ∷ []) $ split ! $ move ! (1 ∷ []) $ drop ! $ move ! (7 ∷ []) $
+        move ! (1 ∷ []) $ split ! $ move ! (1 ∷ []) $ split ! $ move ! (1 ∷ []) $ split ! $ move ! (1 ∷ []) $ drop ! $ move ! (8 ∷ []) $
         peeks ! F.the-row (Is F.the-row) (shows 𝓤 H A F.the-row) found (w₁ ∷ []) (λ is.
-        land ! (from ! (stop !)) (init ! 37 refl (LL.lawful F.the-type F′.the-laws 𝓤 H A W .typed found _ is .0)) $
+        land ! (from ! (stop !)) (init ! 39 refl (LL.lawful F.the-type F′.the-laws 𝓤 H A W .typed found _ is .0)) $
         -- the second call
-        assigns ! (addr ! (from ! (fld ! refl (hop ! (look-in ! 43 (sub ! 0 refl (whole !))) (stop !))))) (from ! (stop !))
-        (init ! 25 refl (tt, tt)) $
-        assigns ! (agg ! (and-then ! (load ! (from ! (stop !)) (look ! 25 refl))
-        (and-then ! (load ! (from ! (fld ! refl (stop !))) (look-in ! 43 (sub ! 1 refl (whole !)))) (no-more !)))) (from ! (stop !))
-        (init ! 23 refl (tt, (tt, (record { fits = room-list .0 }, tt)))) $
-        move ! (11 ∷ 0 ∷ 13 ∷ []) $ group ! 3 $ use1 W (raw (Store 𝓤 H A mem run .pre (to-store found w₁))) (goes-store found w₁) $
+        assigns ! (addr ! (from ! (fld ! refl (hop ! (look-in ! 45 (sub ! 0 refl (whole !))) (stop !))))) (from ! (stop !))
+        (init ! 27 refl (tt, tt)) $
+        assigns ! (agg ! (and-then ! (load ! (from ! (stop !)) (look ! 27 refl))
+        (and-then ! (load ! (from ! (fld ! refl (stop !))) (look-in ! 45 (sub ! 1 refl (whole !)))) (no-more !)))) (from ! (stop !))
+        (init ! 25 refl (tt, (tt, (record { fits = room-list .0 }, tt)))) $
+        move ! (12 ∷ 0 ∷ 14 ∷ []) $ group ! 3 $ use1 W (raw (Store 𝓤 H A mem run .pre (to-store found w₁))) (goes-store found w₁) $
         calls-at ! fm (Store 𝓤 H A mem run) known-store (to-store found w₁)
-        (and-then ! (load ! (from ! (stop !)) (look ! 35 refl)) (and-then ! (load ! (from ! (stop !)) (look ! 21 refl)) (no-more !)))
+        (and-then ! (load ! (from ! (stop !)) (look ! 37 refl)) (and-then ! (load ! (from ! (stop !)) (look ! 23 refl)) (no-more !)))
         (λ w₂.
-        use1 W (later (some (λ (stored′ : Bool). ((‵ (flft κ₇ q₇) ⊛ ‵ ftrue) ⊛ ‵ (bool .own stored′ (w₂ ∷ []))) ⊛ raw
-        (ensured 𝓤 H A store′.ended (store′.clauses 𝓤 H A mem run) (κ₇, tt) (found, (list, tt)) tt stored′)))) (id⊢ 𝓤 _) $
+        use1 W (later (some (λ (stored′ : Bool). ((‵ (flft κ₈ q₈) ⊛ ‵ ftrue) ⊛ ‵ (bool .own stored′ (w₂ ∷ []))) ⊛ raw
+        (ensured 𝓤 H A store′.ended (store′.clauses 𝓤 H A mem run) (κ₈, tt) (found, (list, tt)) tt stored′)))) (id⊢ 𝓤 _) $
         await ! tt $ pick ! (λ stored′.
         split ! $ move ! (1 ∷ []) $
-        use1 W (some (λ (zs : Unit {0} × (List AnswerRecord × Unit {0})). ‵ (lasts store′.ended (κ₇, tt) (found, (list, tt)) zs) ⊛ raw
+        use1 W (some (λ (zs : Unit {0} × (List AnswerRecord × Unit {0})). ‵ (lasts store′.ended (κ₈, tt) (found, (list, tt)) zs) ⊛ raw
         (fact 𝓤 (Stored found stored′ (zs .1 .0))))) (id⊢ 𝓤 _) $
         pick ! (λ zs.
         split ! $ move ! (1 ∷ []) $ heard ! (Stored found stored′ (zs .1 .0)) (λ e₂.
         fsplit ! $ drop ! $ fsplit ! $ fsplit ! $ move ! (1 ∷ []) $ feqL ! (λ long-list. move ! (1 ∷ []) $ drop ! $ move ! (1 ∷ []) $
         split ! $ split ! $ move ! (1 ∷ []) $ drop ! $ move ! (1 ∷ []) $
         peeks ! bool (Is bool) (shows 𝓤 H A bool) stored′ (w₂ ∷ []) (λ is-bool.
-        land ! (from ! (stop !)) (init ! 27 refl (bool-lawful 𝓤 H A W .typed stored′ _ is-bool .0)) $ drop ! $
+        land ! (from ! (stop !)) (init ! 29 refl (bool-lawful 𝓤 H A W .typed stored′ _ is-bool .0)) $ drop ! $
         -- the third call: what was found is plain data, and is had again for nothing
-        assigns ! (addr ! (from ! (fld ! refl (hop ! (look-in ! 40 (sub ! 0 refl (whole !))) (stop !))))) (from ! (stop !))
-        (init ! 20 refl (tt, tt)) $
-        assigns ! (agg ! (and-then ! (load ! (from ! (stop !)) (look ! 20 refl))
-        (and-then ! (load ! (from ! (fld ! refl (stop !))) (look-in ! 40 (sub ! 1 refl (whole !)))) (no-more !)))) (from ! (stop !))
-        (init ! 18 refl (tt, (tt, (record { fits = room-out .0 }, tt)))) $
+        assigns ! (addr ! (from ! (fld ! refl (hop ! (look-in ! 42 (sub ! 0 refl (whole !))) (stop !))))) (from ! (stop !))
+        (init ! 22 refl (tt, tt)) $
+        assigns ! (agg ! (and-then ! (load ! (from ! (stop !)) (look ! 22 refl))
+        (and-then ! (load ! (from ! (fld ! refl (stop !))) (look-in ! 42 (sub ! 1 refl (whole !)))) (no-more !)))) (from ! (stop !))
+        (init ! 20 refl (tt, (tt, (record { fits = room-out .0 }, tt)))) $
         owned ! F.the-row (Is F.the-row) (LL.makes F.the-type F′.the-plain 𝓤 H A) found (w₁ ∷ []) is $
-        move ! (12 ∷ 0 ∷ 13 ∷ []) $ group ! 3 $ use1 W (raw (Tell 𝓤 H A mem run .pre (to-tell found w₁))) (goes-tell found w₁) $
+        move ! (13 ∷ 0 ∷ 14 ∷ []) $ group ! 3 $ use1 W (raw (Tell 𝓤 H A mem run .pre (to-tell found w₁))) (goes-tell found w₁) $
         calls-at ! fm (Tell 𝓤 H A mem run) known-tell (to-tell found w₁)
-        (and-then ! (load ! (from ! (stop !)) (look ! 35 refl)) (and-then ! (load ! (from ! (stop !)) (look ! 17 refl)) (no-more !)))
+        (and-then ! (load ! (from ! (stop !)) (look ! 37 refl)) (and-then ! (load ! (from ! (stop !)) (look ! 19 refl)) (no-more !)))
         (λ w₃.
-        use1 W (later (some (λ (code′ : ℕ). ((‵ (flft κ₈ q₈) ⊛ ‵ ftrue) ⊛ ‵ (u64 .own code′ (w₃ ∷ []))) ⊛ raw
-        (ensured 𝓤 H A tell′.ended (tell′.clauses 𝓤 H A mem run) (κ₈, tt) (found, (out, tt)) tt code′)))) (id⊢ 𝓤 _) $
+        use1 W (later (some (λ (code′ : ℕ). ((‵ (flft κ₉ q₉) ⊛ ‵ ftrue) ⊛ ‵ (u64 .own code′ (w₃ ∷ []))) ⊛ raw
+        (ensured 𝓤 H A tell′.ended (tell′.clauses 𝓤 H A mem run) (κ₉, tt) (found, (out, tt)) tt code′)))) (id⊢ 𝓤 _) $
         await ! tt $ pick ! (λ code′.
         split ! $ move ! (1 ∷ []) $
-        use1 W (some (λ (os : Unit {0} × (List ℕ × Unit {0})). ‵ (lasts tell′.ended (κ₈, tt) (found, (out, tt)) os) ⊛ raw
+        use1 W (some (λ (os : Unit {0} × (List ℕ × Unit {0})). ‵ (lasts tell′.ended (κ₉, tt) (found, (out, tt)) os) ⊛ raw
         (fact 𝓤 (Tells found code′ (os .1 .0))))) (id⊢ 𝓤 _) $
         pick ! (λ os.
         split ! $ move ! (1 ∷ []) $ heard ! (Tells found code′ (os .1 .0)) (λ e₃.
         fsplit ! $ drop ! $ fsplit ! $ fsplit ! $ move ! (1 ∷ []) $ feqL ! (λ long-out. move ! (1 ∷ []) $ drop ! $ move ! (1 ∷ []) $
         split ! $ split ! $ move ! (1 ∷ []) $ drop ! $ move ! (1 ∷ []) $
         peeks ! u64 (Is u64) (shows 𝓤 H A u64) code′ (w₃ ∷ []) (λ is-u64.
-        land ! (from ! (stop !)) (init ! 61 refl (uint-lawful 𝓤 H A W w64 .typed code′ _ is-u64 .0)) $ returns ! (look ! 61 refl) $
-        forget ! 61 refl $ forget ! 59 refl $ forget ! 57 refl $ forget ! 55 refl $ forget ! 53 refl $ forget ! 51 refl $
-        forget ! 49 refl $ forget ! 47 refl $ forget ! 45 refl $ forget ! 43 refl $ forget ! 41 refl $ forget ! 39 refl $
-        forget ! 37 refl $ forget ! 35 refl $ forget ! 33 refl $ forget ! 31 refl $ forget ! 29 refl $ forget ! 27 refl $
-        forget ! 25 refl $ forget ! 23 refl $ forget ! 21 refl $ forget ! 19 refl $
-        move ! (61 ∷ 62 ∷ []) $ free1 ! $ move ! (59 ∷ 60 ∷ []) $ free1 ! $ move ! (57 ∷ 58 ∷ []) $ free1 ! $ move ! (55 ∷ 56 ∷ []) $
-        free1 ! $ move ! (53 ∷ 54 ∷ []) $ free1 ! $ move ! (51 ∷ 52 ∷ []) $ free1 ! $ move ! (49 ∷ 50 ∷ []) $ free1 ! $
-        move ! (47 ∷ 48 ∷ []) $ free1 ! $ move ! (45 ∷ 46 ∷ []) $ free1 ! $ move ! (43 ∷ 44 ∷ []) $ free1 ! $ move ! (41 ∷ 42 ∷ []) $
-        free1 ! $ move ! (39 ∷ 40 ∷ []) $ free1 ! $ move ! (37 ∷ 38 ∷ []) $ free1 ! $ move ! (35 ∷ 36 ∷ []) $ free1 ! $
-        move ! (33 ∷ 34 ∷ []) $ free1 ! $ move ! (31 ∷ 32 ∷ []) $ free1 ! $ move ! (29 ∷ 30 ∷ []) $ free1 ! $ move ! (27 ∷ 28 ∷ []) $
-        free1 ! $ move ! (25 ∷ 26 ∷ []) $ free1 ! $ move ! (23 ∷ 24 ∷ []) $ free1 ! $ move ! (21 ∷ 22 ∷ []) $ free1 ! $
-        move ! (19 ∷ 20 ∷ []) $ free1 ! $ free0 ! $
-        keep ! (11 ∷ 10 ∷ 9 ∷ 8 ∷ 7 ∷ 6 ∷ 5 ∷ 3 ∷ 1 ∷ 18 ∷ 17 ∷ 16 ∷ 15 ∷ 14 ∷ 13 ∷ 12 ∷ 4 ∷ 2 ∷ 0 ∷ []) $
-        by ! (exits code′ w₃ (ts .1 .1 .1 .1 .0) (ts .1 .1 .1 .1 .1 .0) (zs .1 .0) (os .1 .0)
-        (exported-call code′ (out .now) (os .1 .0) _ _ _ _ (e₃ (nearsOf (zs .1 .0)) (ts .1 .1 .1 .1 .1 .0))
-        (laws.whole (lent.tables (control .now) (samples .now) (nodes .now) (links .now) (work .now)) _ many (queries .now) (trail .now)
-        (ts .1 .1 .1 .1 .1 .0) (list .now) (zs .1 .0) found stored′ e₁ e₂)) long-work long-trail long-list long-out))))))))))))))))))))))))))))))))))))))))))
+        land ! (from ! (stop !)) (init ! 65 refl (uint-lawful 𝓤 H A W w64 .typed code′ _ is-u64 .0)) $ returns ! (look ! 65 refl) $
+        forget ! 65 refl $ forget ! 63 refl $ forget ! 61 refl $ forget ! 59 refl $ forget ! 57 refl $ forget ! 55 refl $
+        forget ! 53 refl $ forget ! 51 refl $ forget ! 49 refl $ forget ! 47 refl $ forget ! 45 refl $ forget ! 43 refl $
+        forget ! 41 refl $ forget ! 39 refl $ forget ! 37 refl $ forget ! 35 refl $ forget ! 33 refl $ forget ! 31 refl $
+        forget ! 29 refl $ forget ! 27 refl $ forget ! 25 refl $ forget ! 23 refl $ forget ! 21 refl $
+        move ! (65 ∷ 66 ∷ []) $ free1 ! $ move ! (63 ∷ 64 ∷ []) $ free1 ! $ move ! (61 ∷ 62 ∷ []) $ free1 ! $ move ! (59 ∷ 60 ∷ []) $
+        free1 ! $ move ! (57 ∷ 58 ∷ []) $ free1 ! $ move ! (55 ∷ 56 ∷ []) $ free1 ! $ move ! (53 ∷ 54 ∷ []) $ free1 ! $
+        move ! (51 ∷ 52 ∷ []) $ free1 ! $ move ! (49 ∷ 50 ∷ []) $ free1 ! $ move ! (47 ∷ 48 ∷ []) $ free1 ! $ move ! (45 ∷ 46 ∷ []) $
+        free1 ! $ move ! (43 ∷ 44 ∷ []) $ free1 ! $ move ! (41 ∷ 42 ∷ []) $ free1 ! $ move ! (39 ∷ 40 ∷ []) $ free1 ! $
+        move ! (37 ∷ 38 ∷ []) $ free1 ! $ move ! (35 ∷ 36 ∷ []) $ free1 ! $ move ! (33 ∷ 34 ∷ []) $ free1 ! $ move ! (31 ∷ 32 ∷ []) $
+        free1 ! $ move ! (29 ∷ 30 ∷ []) $ free1 ! $ move ! (27 ∷ 28 ∷ []) $ free1 ! $ move ! (25 ∷ 26 ∷ []) $ free1 ! $
+        move ! (23 ∷ 24 ∷ []) $ free1 ! $ move ! (21 ∷ 22 ∷ []) $ free1 ! $ free0 ! $
+        keep ! (12 ∷ 11 ∷ 10 ∷ 9 ∷ 8 ∷ 7 ∷ 6 ∷ 5 ∷ 3 ∷ 1 ∷ 20 ∷ 19 ∷ 18 ∷ 17 ∷ 16 ∷ 15 ∷ 14 ∷ 13 ∷ 4 ∷ 2 ∷ 0 ∷ []) $
+        by ! (exits code′ w₃ (ts .1 .1 .1 .1 .0) (ts .1 .1 .1 .1 .1 .1 .0) (zs .1 .0) (os .1 .0)
+        (exported-call code′ (out .now) (os .1 .0) _ _ _ _ (e₃ (nearsOf (zs .1 .0)) (ts .1 .1 .1 .1 .1 .1 .0))
+        (laws.whole (lentWith (work .now)) _ many (queries .now) (trail .now)
+        (ts .1 .1 .1 .1 .1 .1 .0) (list .now) (zs .1 .0) found stored′ e₁ e₂)) long-work long-trail long-list
+        long-out)))))))))))))))))))))))))))))))))))))))))))
 
 module _ {M : Type 1} (𝓤 : URA M) (H : Heap 𝓤) (A : Atoms 𝓤) (W : Given 𝓤 H A) (mem : Memory → SProp 𝓤) (run : Routine → Fun 𝓤)
     (𝓣 : Tables 𝓤 H)
@@ -479,7 +539,7 @@ module _ {M : Type 1} (𝓤 : URA M) (H : Heap 𝓤) (A : Atoms 𝓤) (W : Given
             slice-vals,
             (
               slice-vals,
-              (slice-vals, (slice-vals, (slice-vals, (uint-vals w64, (slice-vals, (slice-vals, tt)))))),
+              (slice-vals, (slice-vals, (slice-vals, (slice-vals, (uint-vals w64, (slice-vals, (slice-vals, tt))))))),
             ),
           ),
         ),
@@ -495,14 +555,17 @@ module _ {M : Type 1} (𝓤 : URA M) (H : Heap 𝓤) (A : Atoms 𝓤) (W : Given
               (
                 mut-slice-tells (named 4) (κs .1 .1 .1 .1 .0) u64,
                 (
-                  mut-slice-tells (named 5) (κs .1 .1 .1 .1 .1 .0) u16,
+                  shr-slice-tells (named 5) (κs .1 .1 .1 .1 .1 .0) u64,
                   (
-                    shr-slice-tells (named 6) (κs .1 .1 .1 .1 .1 .1 .0) i16,
+                    mut-slice-tells (named 6) (κs .1 .1 .1 .1 .1 .1 .0) u16,
                     (
-                      uint-tells w64,
+                      shr-slice-tells (named 7) (κs .1 .1 .1 .1 .1 .1 .1 .0) i16,
                       (
-                        mut-slice-tells (named 7) (κs .1 .1 .1 .1 .1 .1 .1 .0) T.the-row,
-                        (mut-slice-tells (named 8) (κs .1 .1 .1 .1 .1 .1 .1 .1 .0) u64, tt),
+                        uint-tells w64,
+                        (
+                          mut-slice-tells (named 8) (κs .1 .1 .1 .1 .1 .1 .1 .1 .0) T.the-row,
+                          (mut-slice-tells (named 9) (κs .1 .1 .1 .1 .1 .1 .1 .1 .1 .0) u64, tt),
+                        ),
                       ),
                     ),
                   ),
@@ -514,33 +577,37 @@ module _ {M : Type 1} (𝓤 : URA M) (H : Heap 𝓤) (A : Atoms 𝓤) (W : Given
       ))
       (λ κs qs bounds a g are. via 𝓤 _ (fst∗ 𝓤 _ (emp 𝓤))
       (walk 𝓤 H A W mem run (κs .0) (κs .1 .0) (κs .1 .1 .0) (κs .1 .1 .1 .0) (κs .1 .1 .1 .1 .0) (κs .1 .1 .1 .1 .1 .0)
-      (κs .1 .1 .1 .1 .1 .1 .0) (κs .1 .1 .1 .1 .1 .1 .1 .0) (κs .1 .1 .1 .1 .1 .1 .1 .1 .0) (qs .0) (qs .1 .0) (qs .1 .1 .0)
-      (qs .1 .1 .1 .0) (qs .1 .1 .1 .1 .0) (qs .1 .1 .1 .1 .1 .0) (qs .1 .1 .1 .1 .1 .1 .0) (qs .1 .1 .1 .1 .1 .1 .1 .0)
-      (qs .1 .1 .1 .1 .1 .1 .1 .1 .0) (a .0) (a .1 .0) (a .1 .1 .0) (a .1 .1 .1 .0) (a .1 .1 .1 .1 .0) (a .1 .1 .1 .1 .1 .0)
-      (a .1 .1 .1 .1 .1 .1 .0) (a .1 .1 .1 .1 .1 .1 .1 .0) (a .1 .1 .1 .1 .1 .1 .1 .1 .0) (a .1 .1 .1 .1 .1 .1 .1 .1 .1 .0)
-      (are .1 .1 .1 .1 .1 .1 .1 .0 .1)
-      (𝓣 .C) (𝓣 .Λ) (fmOf 𝓤 H (W .laws) 𝓣) known-search known-store known-tell (are .0 .0 .1) (are .1 .0 .0 .1) (are .1 .1 .0 .0 .1)
-      (are .1 .1 .1 .0 .0 .1) (are .1 .1 .1 .1 .0 .0 .1) (are .1 .1 .1 .1 .1 .0 .0 .1) (are .1 .1 .1 .1 .1 .1 .0 .0 .1)
-      (are .1 .1 .1 .1 .1 .1 .1 .1 .0 .0 .1) (are .1 .1 .1 .1 .1 .1 .1 .1 .1 .0 .0 .1)))
+      (κs .1 .1 .1 .1 .1 .1 .0) (κs .1 .1 .1 .1 .1 .1 .1 .0) (κs .1 .1 .1 .1 .1 .1 .1 .1 .0) (κs .1 .1 .1 .1 .1 .1 .1 .1 .1 .0) (qs .0)
+      (qs .1 .0) (qs .1 .1 .0) (qs .1 .1 .1 .0) (qs .1 .1 .1 .1 .0) (qs .1 .1 .1 .1 .1 .0) (qs .1 .1 .1 .1 .1 .1 .0)
+      (qs .1 .1 .1 .1 .1 .1 .1 .0) (qs .1 .1 .1 .1 .1 .1 .1 .1 .0) (qs .1 .1 .1 .1 .1 .1 .1 .1 .1 .0) (a .0) (a .1 .0) (a .1 .1 .0)
+      (a .1 .1 .1 .0) (a .1 .1 .1 .1 .0) (a .1 .1 .1 .1 .1 .0) (a .1 .1 .1 .1 .1 .1 .0) (a .1 .1 .1 .1 .1 .1 .1 .0)
+      (a .1 .1 .1 .1 .1 .1 .1 .1 .0) (a .1 .1 .1 .1 .1 .1 .1 .1 .1 .0) (a .1 .1 .1 .1 .1 .1 .1 .1 .1 .1 .0)
+      (are .1 .1 .1 .1 .1 .1 .1 .1 .0 .1) (𝓣 .C) (𝓣 .Λ) (fmOf 𝓤 H (W .laws) 𝓣) known-search known-store known-tell (are .0 .0 .1)
+      (are .1 .0 .0 .1) (are .1 .1 .0 .0 .1) (are .1 .1 .1 .0 .0 .1) (are .1 .1 .1 .1 .0 .0 .1) (are .1 .1 .1 .1 .1 .0 .0 .1)
+      (are .1 .1 .1 .1 .1 .1 .0 .0 .1) (are .1 .1 .1 .1 .1 .1 .1 .0 .0 .1) (are .1 .1 .1 .1 .1 .1 .1 .1 .1 .0 .0 .1)
+      (are .1 .1 .1 .1 .1 .1 .1 .1 .1 .1 .0 .0 .1)))
 
   call-meets : Meets 𝓤 H A f.signature (WpFn 𝓤 H (𝓣 .C) (𝓣 .Λ) code.function) (f.spec 𝓤 H A mem run)
   call-meets = walk-meets 𝓤 H A f.ended stayed W (
-    goes-none-slice 𝓤 H A W 9 (0 ∷ []) tt (plain (λ _. u16)) yes,
+    goes-none-slice 𝓤 H A W 10 (0 ∷ []) tt (plain (λ _. u16)) yes,
     (
-      goes-none-slice 𝓤 H A W 9 (1 ∷ []) tt (plain (λ _. i16)) yes,
+      goes-none-slice 𝓤 H A W 10 (1 ∷ []) tt (plain (λ _. i16)) yes,
       (
-        goes-none-slice 𝓤 H A W 9 (2 ∷ []) tt (plain (λ _. i64)) yes,
+        goes-none-slice 𝓤 H A W 10 (2 ∷ []) tt (plain (λ _. i64)) yes,
         (
-          goes-none-slice 𝓤 H A W 9 (3 ∷ []) tt (plain (λ _. u16)) yes,
+          goes-none-slice 𝓤 H A W 10 (3 ∷ []) tt (plain (λ _. u16)) yes,
           (
-            goes-gave-slice 𝓤 H A W 9 4 tt (plain (λ _. u64)),
+            goes-gave-slice 𝓤 H A W 10 4 tt (plain (λ _. u64)),
             (
-              goes-gave-slice 𝓤 H A W 9 5 tt (plain (λ _. u16)),
+              goes-none-slice 𝓤 H A W 10 (5 ∷ []) tt (plain (λ _. u64)) yes,
               (
-                goes-none-slice 𝓤 H A W 9 (6 ∷ []) tt (plain (λ _. i16)) yes,
+                goes-gave-slice 𝓤 H A W 10 6 tt (plain (λ _. u16)),
                 (
-                  goes-none 𝓤 H A W 9 (λ _. usize) yes (λ κs x f. refl),
-                  (goes-gave-slice 𝓤 H A W 9 7 tt (plain (λ _. T.the-row)), (goes-gave-slice 𝓤 H A W 9 8 tt (plain (λ _. u64)), tt)),
+                  goes-none-slice 𝓤 H A W 10 (7 ∷ []) tt (plain (λ _. i16)) yes,
+                  (
+                    goes-none 𝓤 H A W 10 (λ _. usize) yes (λ κs x f. refl),
+                    (goes-gave-slice 𝓤 H A W 10 8 tt (plain (λ _. T.the-row)), (goes-gave-slice 𝓤 H A W 10 9 tt (plain (λ _. u64)), tt)),
+                  ),
                 ),
               ),
             ),

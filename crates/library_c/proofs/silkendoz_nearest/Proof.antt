@@ -8,7 +8,7 @@ returns : tie.Need-returns
 returns c =
     let e = c .before .before in
     let q = e .before .before .before .before .before .before in
-    exported-call _ _ _ _ _ _ _ (e .tell-found .ensures (q .nearest .last .1 .1 .1 .1 .1 .0)) (q .nearest .ensures)
+    exported-call _ _ _ _ _ _ _ (e .tell-found .ensures (q .nearest .last .1 .1 .1 .1 .1 .1 .0)) (q .nearest .ensures)
 
 pub silkendoz-nearest-spec : {M : Type 1} → statement M
 silkendoz-nearest-spec =

@@ -8,7 +8,7 @@ returns : tie.Need-returns
 returns c =
     let e = c .before .before in
     let q = e .before .before .before .before in
-    exported-call _ _ _ _ _ _ _ (e .tell-written .ensures (q .write-sheet .last .1 .1 .1 .1 .1 .0)) (q .write-sheet .ensures)
+    exported-call _ _ _ _ _ _ _ (e .tell-written .ensures (q .write-sheet .last .1 .1 .1 .1 .1 .1 .0)) (q .write-sheet .ensures)
 
 pub silkendoz-write-sheet-spec : {M : Type 1} → statement M
 silkendoz-write-sheet-spec =

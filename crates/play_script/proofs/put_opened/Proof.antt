@@ -1,4 +1,4 @@
--- `play_script::put_opened` meets its contract: 85 places are room for its rows.
+-- `play_script::put_opened` meets its contract: 95 places are room for its rows.
 use mathlib.Core.Path.{_≡_, refl, sym, _∙_}
 use native.Mathlib.Omega.{arith}
 use lib.ListN.{length}
@@ -7,16 +7,16 @@ use Rattle.play_script.proofs.put_opened.Statement.{statement}
 use Rattle.play_script.proofs.put_opened.Tie as tie
 
 -- a row that is laid keeps the length
-kept1 : (k : tie.After-lay) → length (k .lay .last .0) ≡ 85
+kept1 : (k : tie.After-lay) → length (k .lay .last .0) ≡ 95
 kept1 k = k .lay .kept .0 ∙ k .before .before .before .before .pre
 
-kept2 : (k : tie.After-lay2) → length (k .lay2 .last .0) ≡ 85
+kept2 : (k : tie.After-lay2) → length (k .lay2 .last .0) ≡ 95
 kept2 k = k .lay2 .kept .0 ∙ kept1 (k .before .before .before .before .before)
 
-kept3 : (k : tie.After-lay3) → length (k .lay3 .last .0) ≡ 85
+kept3 : (k : tie.After-lay3) → length (k .lay3 .last .0) ≡ 95
 kept3 k = k .lay3 .kept .0 ∙ kept2 (k .before .before .before .before .before)
 
-kept4 : (k : tie.After-lay4) → length (k .lay4 .last .0) ≡ 85
+kept4 : (k : tie.After-lay4) → length (k .lay4 .last .0) ≡ 95
 kept4 k = k .lay4 .kept .0 ∙ kept3 (k .before .before .before .before .before)
 
 returns : tie.Need-returns

@@ -7,8 +7,9 @@ add-to-spec =
     tie.close
     (tie.spec
     (λ c κs. tt) (λ c κs. tt)
-    (λ c. c .before .before .before .before .before .before .before .before .add .kept .0)
-    (λ c. c .before .before .before .before .before .before .before .before .add .kept .1 .0)
-    (λ c. c .before .before .before .before .before .before .before .before .add .kept .1 .1 .0)
-    (λ c. c .before .before .before .before .before .before .before .before .add .kept .1 .1 .1 .0)
-    (λ c. (c .before .before .before .before .before .before .before .before .add .ensures, c .field .ensures)))
+    (λ c. c .before .before .before .before .before .before .before .before .before .before .add .kept .0)
+    (λ c. c .before .before .before .before .before .before .before .before .before .before .add .kept .1 .0)
+    (λ c. c .before .before .before .before .before .before .before .before .before .before .add .kept .1 .1 .0)
+    (λ c. c .before .before .before .before .before .before .before .before .before .before .add .kept .1 .1 .1 .0)
+    (λ c. c .before .before .before .before .before .before .before .before .before .before .add .kept .1 .1 .1 .1 .1 .0)
+    (λ c. (c .before .before .before .before .before .before .before .before .before .before .add .ensures, c .field .ensures)))

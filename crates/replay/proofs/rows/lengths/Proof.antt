@@ -10,4 +10,4 @@ lengths-spec =
     tie.close
     (tie.spec
     (λ c κs. tt) (λ c κs. tt) (λ c κs. tt) (λ c κs. tt) (λ c κs. tt) (λ c κs. tt) (λ c κs. tt) (λ c κs. tt) (λ c κs. tt) (λ c κs. tt)
-    returns)
+    (λ c κs. tt) (λ c κs. tt) returns)

@@ -1,5 +1,5 @@
-/* The calls from C, over the struct of tables: document 01's examples, lists of the k nearest, recordings, the check, batches, refusals
- * in their order, and memory that has to stay. Prints one line, and fails at the first difference. */
+/* The calls from C, over the struct of tables: document 01's examples, lists of the k nearest, recordings, the check, batches, labels,
+ * refusals in their order, and memory that has to stay. Prints one line, and fails at the first difference. */
 
 #include "silkendoz.h"
 
@@ -16,6 +16,7 @@ struct tables {
     int64_t nodes[(2 * C - 1) * 87 + SPARE];
     uint16_t links[C + SPARE];
     uint64_t work[2 * C - 1 + SPARE];
+    uint64_t labels[C + SPARE];
 };
 
 static int tests;
@@ -37,7 +38,7 @@ static struct silkendoz_tables lent(struct tables *t)
 {
     struct silkendoz_tables l = {
         t->control, PLACES(t->control), t->samples, PLACES(t->samples), t->nodes, PLACES(t->nodes),
-        t->links, PLACES(t->links), t->work, PLACES(t->work)};
+        t->links, PLACES(t->links), t->work, PLACES(t->work), t->labels, PLACES(t->labels)};
     return l;
 }
 
@@ -58,6 +59,26 @@ static uint64_t nearest_in(
 {
     struct silkendoz_tables l = lent(t);
     return silkendoz_nearest_in(&l, trail, trail_len, query, size, out, out_len);
+}
+
+static uint64_t add_labelled_to(
+    struct tables *t, const int16_t *trace, size_t size, uint16_t code, uint32_t serial, uint64_t *out, size_t out_len)
+{
+    struct silkendoz_tables l = lent(t);
+    return silkendoz_add_labelled_in(&l, trace, size, code, serial, out, out_len);
+}
+
+static uint64_t label_in(struct tables *t, uint64_t number, uint64_t *out, size_t out_len)
+{
+    struct silkendoz_tables l = lent(t);
+    return silkendoz_label_in(&l, number, out, out_len);
+}
+
+static uint64_t remote_match_in(
+    struct tables *t, const int16_t *query, size_t size, uint16_t *trail, size_t trail_len, uint64_t *out, size_t out_len)
+{
+    struct silkendoz_tables l = lent(t);
+    return silkendoz_remote_match_in(&l, trail, trail_len, query, size, out, out_len);
 }
 
 static uint64_t k_nearest_in(struct tables *t, const int16_t *query, size_t size, uint16_t *trail, size_t trail_len,
@@ -109,7 +130,7 @@ static uint64_t batch_in(struct tables *t, const int16_t *queries, size_t size, 
 static void opening(void)
 {
     static struct tables t, before;
-    uint64_t out[SILKENDOZ_OUT] = {9, 9, 9, 9};
+    uint64_t out[SILKENDOZ_OUT] = {9, 9, 9, 9, 9};
     memset(&t, 0x5a, sizeof t);
     before = t;
 
@@ -130,6 +151,7 @@ static void opening(void)
     EXPECT(t.nodes[SILKENDOZ_NODES(C) - 1] == 0 && t.nodes[SILKENDOZ_NODES(C)] == before.nodes[0]);
     EXPECT(t.links[C - 1] == 0 && t.links[C] == 0x5a5a);
     EXPECT(t.work[SILKENDOZ_WORK(C) - 1] == 0 && t.work[SILKENDOZ_WORK(C)] == before.work[0]);
+    EXPECT(t.labels[0] == 0 && t.labels[C - 1] == 0 && t.labels[C] == before.labels[0]);
 }
 
 /* The largest library opens in tables that are just long enough. */
@@ -139,23 +161,25 @@ static void largest(void)
     uint64_t out[SILKENDOZ_OUT];
     struct silkendoz_tables t = {
         control, SILKENDOZ_CONTROL, NULL, SILKENDOZ_SAMPLES(256, 4096), NULL, SILKENDOZ_NODES(4096),
-        NULL, SILKENDOZ_LINKS(4096), NULL, SILKENDOZ_WORK(4096)};
+        NULL, SILKENDOZ_LINKS(4096), NULL, SILKENDOZ_WORK(4096), NULL, SILKENDOZ_LABELS(4096)};
     t.samples = malloc(t.samples_len * sizeof *t.samples);
     t.nodes = malloc(t.nodes_len * sizeof *t.nodes);
     t.links = malloc(t.links_len * sizeof *t.links);
     t.work = malloc(t.work_len * sizeof *t.work);
-    EXPECT(t.samples && t.nodes && t.links && t.work);
+    t.labels = malloc(t.labels_len * sizeof *t.labels);
+    EXPECT(t.samples && t.nodes && t.links && t.work && t.labels);
     EXPECT(silkendoz_open_in(&t, 256, 4096, 64, out, SILKENDOZ_OUT) == SILKENDOZ_DONE);
     free(t.samples);
     free(t.nodes);
     free(t.links);
     free(t.work);
+    free(t.labels);
 }
 
-enum { CALLS = 10, TABLES = 5 };
+enum { CALLS = 13, TABLES = 6 };
 
 /* What each call over the struct answers, an export before an import. */
-static void answers(const struct silkendoz_tables *t, const int16_t *trace, uint8_t *sheet, size_t size, uint64_t numbers[CALLS])
+static void answers(const struct silkendoz_tables *t, const int16_t *trace, uint8_t *sheet, uint64_t numbers[CALLS])
 {
     uint16_t trail[TRAIL];
     struct silkendoz_neighbour list[2];
@@ -166,12 +190,16 @@ static void answers(const struct silkendoz_tables *t, const int16_t *trace, uint
     numbers[1] = silkendoz_add_in(t, trace, N, out, SILKENDOZ_OUT);
     numbers[2] = silkendoz_nearest_in(t, trail, TRAIL, trace, N, out, SILKENDOZ_OUT);
     numbers[3] = silkendoz_k_nearest_in(t, trail, TRAIL, list, 2, trace, N, 2, out, SILKENDOZ_OUT);
-    numbers[4] = silkendoz_write_sheet_in(t, sheet, size, out, SILKENDOZ_OUT);
-    numbers[5] = silkendoz_read_sheet_in(t, sheet, size, out, SILKENDOZ_OUT);
+    numbers[4] = silkendoz_write_sheet_in(t, sheet, SILKENDOZ_SHEET(N, 1), out, SILKENDOZ_OUT);
+    /* no trace has a label: block 0 and one of samples */
+    numbers[5] = silkendoz_read_sheet_in(t, sheet, 2 * 512, out, SILKENDOZ_OUT);
     numbers[6] = silkendoz_export_recording_in(t, recording, sizeof recording, 0, 8000, out, SILKENDOZ_OUT);
     numbers[7] = silkendoz_import_recording_in(t, recording, sizeof recording, out, SILKENDOZ_OUT);
     numbers[8] = silkendoz_check_tables_in(t, out, SILKENDOZ_OUT);
     numbers[9] = silkendoz_match_batch_in(t, trail, TRAIL, trace, N, 1, &answer, 1, out, SILKENDOZ_OUT);
+    numbers[10] = silkendoz_add_labelled_in(t, trace, N, 1, 2, out, SILKENDOZ_OUT);
+    numbers[11] = silkendoz_label_in(t, 0, out, SILKENDOZ_OUT);
+    numbers[12] = silkendoz_remote_match_in(t, trail, TRAIL, trace, N, out, SILKENDOZ_OUT);
 }
 
 /* Each call over the struct passes on each length: just enough is done, one place less is a short table, whichever table it is. */
@@ -189,7 +217,8 @@ static void lengths(void)
     just.nodes_len = SILKENDOZ_NODES(C);
     just.links_len = SILKENDOZ_LINKS(C);
     just.work_len = SILKENDOZ_WORK(C);
-    answers(&just, trace, sheet, sizeof sheet, numbers);
+    just.labels_len = SILKENDOZ_LABELS(C);
+    answers(&just, trace, sheet, numbers);
     for (call = 0; call < CALLS; call++)
         EXPECT(numbers[call] == SILKENDOZ_DONE);
 
@@ -200,7 +229,8 @@ static void lengths(void)
         less.nodes_len -= table == 2;
         less.links_len -= table == 3;
         less.work_len -= table == 4;
-        answers(&less, trace, sheet, sizeof sheet, numbers);
+        less.labels_len -= table == 5;
+        answers(&less, trace, sheet, numbers);
         for (call = 0; call < CALLS; call++)
             EXPECT(numbers[call] == SILKENDOZ_SHORT_TABLE);
     }
@@ -222,6 +252,9 @@ static void words(void)
 static void needs(void)
 {
     EXPECT(SILKENDOZ_NODES(0) == 0 && SILKENDOZ_WORK(0) == 0 && SILKENDOZ_SAMPLES(4, 0) == 0 && SILKENDOZ_LINKS(0) == 0);
+    EXPECT(SILKENDOZ_LABELS(0) == 0 && SILKENDOZ_LABELS(4096) == 4096);
+    EXPECT(SILKENDOZ_SHEET(1, 0) == 512 && SILKENDOZ_SHEET(1, 84) == 3 * 512 && SILKENDOZ_SHEET(1, 85) == 4 * 512);
+    EXPECT(SILKENDOZ_SHEET(256, 4096) == 4195 * 512);
     EXPECT(SILKENDOZ_NODES(1) == 87 && SILKENDOZ_WORK(1) == 1);
     EXPECT(SILKENDOZ_NODES(4096) == 8191u * 87 && SILKENDOZ_WORK(4096) == 8191);
     EXPECT(SILKENDOZ_NODES(2 + 1) == 5 * 87 && SILKENDOZ_WORK(2 + 1) == 5);
@@ -233,7 +266,7 @@ static void measures_of_sheets(void)
 {
     static struct tables t;
     const int16_t trace[N] = {1, -2, 3, -4};
-    uint8_t sheet[SILKENDOZ_SHEET(N, 1)];
+    uint8_t sheet[2 * 512];
     uint64_t out[SILKENDOZ_OUT];
     size_t n = 77, c = 78, at;
 
@@ -259,18 +292,18 @@ static void version(void)
     char text[64];
     snprintf(text, sizeof text, "%d.%d.%d", SILKENDOZ_VERSION_MAJOR, SILKENDOZ_VERSION_MINOR, SILKENDOZ_VERSION_PATCH);
     EXPECT(strcmp(text, SILKENDOZ_VERSION) == 0);
-    EXPECT(SILKENDOZ_LAYOUT == 2);
+    EXPECT(SILKENDOZ_LAYOUT == 3);
 }
 
 static void matches(struct tables *t, int16_t level, uint64_t trace, uint64_t distance, uint64_t leaves, uint64_t traces, uint16_t first)
 {
     int16_t query[N] = {level, level, level, level};
     uint16_t trail[TRAIL];
-    uint64_t out[SILKENDOZ_OUT + 1] = {0, 0, 0, 0, 77};
+    uint64_t out[SILKENDOZ_OUT] = {0, 0, 0, 0, 77};
     size_t i;
     memset(trail, 0xee, sizeof trail);
     memset(t->work, 0xff, sizeof t->work);
-    EXPECT(nearest_in(t, query, N, trail, TRAIL, out, SILKENDOZ_OUT + 1) == SILKENDOZ_DONE);
+    EXPECT(nearest_in(t, query, N, trail, TRAIL, out, SILKENDOZ_OUT) == SILKENDOZ_DONE);
     EXPECT(out[0] == trace && out[1] == distance && out[2] == leaves && out[3] == traces && out[4] == 77);
     EXPECT(trail[0] == first);
     for (i = leaves; i < TRAIL; i++)
@@ -286,7 +319,7 @@ static void adding_and_matching(void)
     static struct tables t, before;
     const int16_t a[N] = {0, 0, 0, 0}, b[N] = {4, 4, 4, 4}, c[N] = {0, 8, 0, 8};
     uint16_t trail[TRAIL] = {0};
-    uint64_t out[SILKENDOZ_OUT] = {9, 9, 9, 9}, none = 5;
+    uint64_t out[SILKENDOZ_OUT] = {9, 9, 9, 9, 9}, none = 5;
     int i;
 
     EXPECT(open_in(&t, N, C, 2, out) == SILKENDOZ_DONE);
@@ -360,7 +393,7 @@ static void listing(void)
                                      twice[] = {{0, 16}, {1, 16}, {3, 16}, {2, 80}};
     struct silkendoz_neighbour list[RECORDS];
     uint16_t trail[TRAIL] = {0};
-    uint64_t out[SILKENDOZ_OUT] = {9, 9, 9, 9}, none = 5;
+    uint64_t out[SILKENDOZ_OUT] = {9, 9, 9, 9, 9}, none = 5;
     size_t i;
 
     EXPECT(open_in(&t, N, C, 2, out) == SILKENDOZ_DONE);
@@ -401,8 +434,8 @@ static void listing(void)
     EXPECT(k_nearest_in(&t, a, N, trail, 1, list, 1, 1, out, SILKENDOZ_OUT) == SILKENDOZ_SHORT_TRAIL);
     EXPECT(k_nearest_in(&t, a, N, trail, TRAIL, list, 15, 16, out, SILKENDOZ_OUT) == SILKENDOZ_SHORT_TRAIL);
     EXPECT(silkendoz_k_nearest(t.control, PLACES(t.control), t.samples, PLACES(t.samples), t.nodes, PLACES(t.nodes),
-        t.links, PLACES(t.links), t.work, PLACES(t.work), trail, TRAIL, (uint64_t *)list, 2 * 16 - 1, a, N, 16,
-        out, SILKENDOZ_OUT) == SILKENDOZ_SHORT_TRAIL);
+        t.links, PLACES(t.links), t.work, PLACES(t.work), t.labels, PLACES(t.labels), trail, TRAIL, (uint64_t *)list, 2 * 16 - 1,
+        a, N, 16, out, SILKENDOZ_OUT) == SILKENDOZ_SHORT_TRAIL);
     t.nodes[87] = 3;
     EXPECT(k_nearest_in(&t, a, N - 1, trail, 1, list, 0, 0, out, SILKENDOZ_OUT) == SILKENDOZ_SPOILED);
     t.nodes[87] = 0;
@@ -422,7 +455,7 @@ static void sheets(void)
 {
     static struct tables t, u, before;
     const int16_t trace[1] = {-1};
-    uint8_t sheet[SILKENDOZ_SHEET(1, 1) + 1];
+    uint8_t sheet[2 * 512 + 1];
     uint64_t out[SILKENDOZ_OUT];
 
     memset(sheet, 0xaa, sizeof sheet);
@@ -439,6 +472,7 @@ static void sheets(void)
     EXPECT(memcmp(u.samples, t.samples, SILKENDOZ_SAMPLES(1, C) * sizeof *t.samples) == 0);
     EXPECT(memcmp(u.nodes, t.nodes, SILKENDOZ_NODES(C) * sizeof *t.nodes) == 0);
     EXPECT(memcmp(u.links, t.links, SILKENDOZ_LINKS(C) * sizeof *t.links) == 0);
+    EXPECT(memcmp(u.labels, t.labels, SILKENDOZ_LABELS(C) * sizeof *t.labels) == 0);
 
     before = u;
     EXPECT(read_into(&u, sheet, 0, out) == SILKENDOZ_SHEET_LENGTH && out[0] == 0);
@@ -463,7 +497,7 @@ static void imports(void)
     static struct tables t, u, before;
     const int16_t first[N] = {1, -2, 3, -4}, second[N] = {0, 8, 0, 8};
     uint8_t bad[TWO + 1], none[HEADER];
-    uint64_t out[SILKENDOZ_OUT] = {9, 9, 9, 9};
+    uint64_t out[SILKENDOZ_OUT] = {9, 9, 9, 9, 9};
     size_t i;
 
     memset(&t, 0x5a, sizeof t);
@@ -520,7 +554,7 @@ static void exports(void)
     static struct tables t, before;
     enum { NEED = SILKENDOZ_RECORDING_BYTES(N) };
     uint8_t buffer[NEED + SPARE];
-    uint64_t out[SILKENDOZ_OUT] = {9, 9, 9, 9};
+    uint64_t out[SILKENDOZ_OUT] = {9, 9, 9, 9, 9};
     size_t i;
 
     EXPECT(open_in(&t, N, C, 2, out) == SILKENDOZ_DONE);
@@ -566,8 +600,8 @@ static void checks(void)
     const int16_t traces[3][N] = {{0, 0, 0, 0}, {4, 4, 4, 4}, {0, 8, 0, 8}};
     const int16_t query[N] = {1, 1, 1, 1};
     uint16_t trail[TRAIL];
-    uint8_t sheet[SILKENDOZ_SHEET(N, 3)];
-    uint64_t out[SILKENDOZ_OUT] = {9, 9, 9, 9};
+    uint8_t sheet[2 * 512];
+    uint64_t out[SILKENDOZ_OUT] = {9, 9, 9, 9, 9};
     int node, figure, i;
 
     memset(&t, 0x5a, sizeof t);
@@ -633,7 +667,7 @@ static void batches(void)
     int16_t run[17 * N] = {0};
     uint16_t trail[TRAIL], marks[TRAIL];
     struct silkendoz_answer answers[18], kept[18];
-    uint64_t out[SILKENDOZ_OUT] = {9, 9, 9, 9};
+    uint64_t out[SILKENDOZ_OUT] = {9, 9, 9, 9, 9};
     size_t many, i;
 
     memset(&t, 0x5a, sizeof t);
@@ -683,6 +717,69 @@ static void batches(void)
     EXPECT(memcmp(trail, marks, sizeof marks) == 0);
 }
 
+/* Labels are given, told and kept by a sheet; the remote is told the code alone, whatever the serials. A refusal leaves everything. */
+static void labels(void)
+{
+    static struct tables t, u, before;
+    const int16_t a[N] = {0, 0, 0, 0}, b[N] = {4, 4, 4, 4};
+    uint16_t trail[TRAIL], other_trail[TRAIL];
+    uint8_t sheet[SILKENDOZ_SHEET(N, 3)];
+    uint64_t out[SILKENDOZ_OUT] = {9, 9, 9, 9, 9}, told[SILKENDOZ_OUT];
+    size_t i;
+
+    memset(&t, 0x5a, sizeof t);
+    EXPECT(label_in(&t, 0, out, SILKENDOZ_OUT) == SILKENDOZ_SPOILED && out[0] == 0 && out[1] == 9);
+    EXPECT(open_in(&t, N, 3, 1, out) == SILKENDOZ_DONE);
+    /* an empty library has no trace 0: 12, not 6 */
+    EXPECT(label_in(&t, 0, out, SILKENDOZ_OUT) == SILKENDOZ_BAD_RECORDING && out[0] == 0);
+    EXPECT(remote_match_in(&t, a, N, trail, TRAIL, out, SILKENDOZ_OUT) == SILKENDOZ_EMPTY);
+    EXPECT(add_labelled_to(&t, a, N, 65535, UINT32_MAX, out, SILKENDOZ_OUT) == SILKENDOZ_DONE && out[0] == 0 && out[1] == 9);
+    /* what stands in the place of a trace that is added plainly is written over */
+    t.labels[1] = UINT64_MAX;
+    EXPECT(add_to(&t, b, N, out, SILKENDOZ_OUT) == SILKENDOZ_DONE && out[0] == 1 && t.labels[1] == 0);
+    EXPECT(t.labels[0] == 0xffffffffffff && t.labels[2] == 0 && t.labels[3] == 0x5a5a5a5a5a5a5a5a);
+    before = t;
+    EXPECT(label_in(&t, 0, out, SILKENDOZ_OUT) == SILKENDOZ_DONE && out[0] == 65535 && out[1] == UINT32_MAX && out[2] == 9);
+    EXPECT(label_in(&t, 1, out, 1) == SILKENDOZ_DONE && out[0] == 0 && out[1] == UINT32_MAX);
+    EXPECT(label_in(&t, 2, out, SILKENDOZ_OUT) == SILKENDOZ_BAD_RECORDING && out[0] == 0 && out[1] == UINT32_MAX);
+    EXPECT(label_in(&t, UINT64_MAX, out, SILKENDOZ_OUT) == SILKENDOZ_BAD_RECORDING);
+    EXPECT(add_labelled_to(&t, a, N - 1, 1, 2, out, SILKENDOZ_OUT) == SILKENDOZ_WRONG_TRACE);
+    EXPECT(memcmp(&t, &before, sizeof t) == 0);
+
+    /* the serial alone makes a block of labels; a sheet for it is longer */
+    EXPECT(add_labelled_to(&t, b, N, 0, 4119, out, 0) == SILKENDOZ_DONE && t.labels[2] == 65536ull * 4119);
+    EXPECT(add_labelled_to(&t, b, N, 1, 2, out, SILKENDOZ_OUT) == SILKENDOZ_FULL && t.labels[2] == 65536ull * 4119);
+    /* the bits above a serial are nobody's */
+    t.labels[0] = 0xabcd000000000000;
+    EXPECT(label_in(&t, 0, out, SILKENDOZ_OUT) == SILKENDOZ_DONE && out[0] == 0 && out[1] == 0);
+    EXPECT(write_from(&t, sheet, sizeof sheet - 1, out) == SILKENDOZ_SHEET_LENGTH);
+    EXPECT(write_from(&t, sheet, sizeof sheet, out) == SILKENDOZ_DONE && out[0] == 3);
+    EXPECT(memcmp(sheet + 1024, "\2\0\5\0\0\0\0\0\0\0\0\0\0\0\0\0\0\0\x17\x10\0\0\0\0", 24) == 0);
+    memset(&u, 0x55, sizeof u);
+    EXPECT(read_into(&u, sheet, 2 * 512, out) == SILKENDOZ_DONE && u.labels[0] == 0 && u.labels[2] == 0);
+    EXPECT(read_into(&u, sheet, sizeof sheet, out) == SILKENDOZ_DONE && u.labels[0] == 0 && u.labels[2] == 65536ull * 4119);
+    EXPECT(u.labels[1] == 0 && u.labels[3] == 0x5555555555555555);
+
+    /* alike but for serials */
+    t.labels[0] = 17 + 65536ull * 4118;
+    memcpy(&u, &t, sizeof t);
+    for (i = 0; i < 3; i++)
+        u.labels[i] = u.labels[i] % 65536 + 65536 * (i + 1);
+    memset(trail, 0xee, sizeof trail);
+    memset(other_trail, 0xee, sizeof other_trail);
+    memset(t.work, 0xff, sizeof t.work);
+    memset(u.work, 0xff, sizeof u.work);
+    EXPECT(remote_match_in(&t, a, N, trail, TRAIL, told, SILKENDOZ_OUT) == SILKENDOZ_DONE);
+    EXPECT(told[0] == 0 && told[1] == 0 && told[2] == 1 && told[3] == 1 && told[4] == 17);
+    EXPECT(remote_match_in(&u, a, N, other_trail, TRAIL, out, SILKENDOZ_OUT) == SILKENDOZ_DONE);
+    EXPECT(memcmp(out, told, sizeof out) == 0 && memcmp(trail, other_trail, sizeof trail) == 0);
+    EXPECT(memcmp(t.work, u.work, sizeof t.work) == 0 && t.work[0] == 0);
+    out[4] = 9;
+    EXPECT(remote_match_in(&t, a, N, trail, TRAIL, out, 4) == SILKENDOZ_DONE && out[3] == 1 && out[4] == 9);
+    EXPECT(remote_match_in(&t, a, N, trail, 0, out, SILKENDOZ_OUT) == SILKENDOZ_SHORT_TRAIL && out[0] == 0 && out[4] == 9);
+    EXPECT(nearest_in(&t, a, N, trail, TRAIL, out, SILKENDOZ_OUT) == SILKENDOZ_DONE && out[4] == 9);
+}
+
 int main(void)
 {
     opening();
@@ -699,6 +796,7 @@ int main(void)
     exports();
     checks();
     batches();
+    labels();
     printf("C: %d tests passed\n", tests);
     return 0;
 }

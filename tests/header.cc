@@ -35,6 +35,16 @@ bool lists()
     return list[0].trace == 0 && list[0].distance == 4 && list[1].trace == 1 && list[1].distance == 36;
 }
 
+bool labels()
+{
+    const int16_t trace[n] = {9, 9, 9, 9};
+    if (silkendoz_add_labelled_in(&library, trace, n, 17, 4119, out, SILKENDOZ_OUT) != SILKENDOZ_DONE)
+        return false;
+    if (silkendoz_label_in(&library, out[0], out, SILKENDOZ_OUT) != SILKENDOZ_DONE || out[0] != 17 || out[1] != 4119)
+        return false;
+    return silkendoz_remote_match_in(&library, trail, capacity, trace, n, out, SILKENDOZ_OUT) == SILKENDOZ_DONE && out[4] == 17;
+}
+
 bool measures()
 {
     size_t said_n = 0, said_capacity = 0;
@@ -43,7 +53,7 @@ bool measures()
     if (silkendoz_sheet_measures(sheet, 512 * static_cast<size_t>(out[0]), &said_n, &said_capacity) != SILKENDOZ_DONE)
         return false;
     // the second library has room for none of these
-    if (silkendoz_read_sheet_in(&other, sheet, 512 * 2, out, SILKENDOZ_OUT) != SILKENDOZ_SHORT_TABLE)
+    if (silkendoz_read_sheet_in(&other, sheet, 512 * 3, out, SILKENDOZ_OUT) != SILKENDOZ_SHORT_TABLE)
         return false;
     return said_n == n && said_capacity == capacity
         && silkendoz_export_recording_in(&library, recording, sizeof recording, 1, 8000, out, SILKENDOZ_OUT) == SILKENDOZ_DONE;
@@ -53,7 +63,7 @@ bool measures()
 
 int main()
 {
-    if (!lists() || !measures() || silkendoz_layout_2() != SILKENDOZ_LAYOUT) {
+    if (!lists() || !labels() || !measures() || silkendoz_layout_3() != SILKENDOZ_LAYOUT) {
         std::fprintf(stderr, "C++: another answer\n");
         return 1;
     }

@@ -53,7 +53,10 @@ static void make(int at)
 
 static void opening(void) { number = silkendoz_open_in(&tables, N, C, 1, out, SILKENDOZ_OUT); }
 static void adding(void) { number = silkendoz_add_in(&tables, trace, N, out, SILKENDOZ_OUT); }
+static void labelling(void) { number = silkendoz_add_labelled_in(&tables, trace, N, 17, 4119, out, SILKENDOZ_OUT); }
+static void telling(void) { number = silkendoz_label_in(&tables, 0, out, SILKENDOZ_OUT); }
 static void matching(void) { number = silkendoz_nearest_in(&tables, trail, SILKENDOZ_TRAIL(C), trace, N, out, SILKENDOZ_OUT); }
+static void remote(void) { number = silkendoz_remote_match_in(&tables, trail, SILKENDOZ_TRAIL(C), trace, N, out, SILKENDOZ_OUT); }
 static void listing(void)
 {
     number = silkendoz_k_nearest_in(&tables, trail, SILKENDOZ_TRAIL(C), list, K, trace, N, K, out, SILKENDOZ_OUT);
@@ -123,7 +126,8 @@ int main(void)
     struct call none = {"nothing", nothing, 0, 0};
     struct call calls[] = {{"open", opening, 16, 0}, {"add", adding, 96, 0}, {"nearest", matching, 16, 0}, {"k_nearest", listing, 16, 0},
         {"write_sheet", writing, 16, 0}, {"read_sheet", reading, 96, 0}, {"export_recording", exporting, 16, 0},
-        {"import_recording", importing, 96, 0}, {"check_tables", checking, 64, 0}, {"match_batch", batching, 32, 0}};
+        {"import_recording", importing, 96, 0}, {"check_tables", checking, 64, 0}, {"match_batch", batching, 32, 0},
+        {"add_labelled", labelling, 96, 0}, {"label", telling, 16, 0}, {"remote_match", remote, 16, 0}};
     size_t before, i;
     int at;
     void *stack;
@@ -140,6 +144,10 @@ int main(void)
             else
                 adding();
         }
+        /* so that a sheet has blocks of labels */
+        measure(&calls[10], stack, before);
+        measure(&calls[11], stack, before);
+        measure(&calls[12], stack, before);
         measure(&calls[2], stack, before);
         measure(&calls[3], stack, before);
         measure(&calls[4], stack, before);

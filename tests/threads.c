@@ -1,6 +1,5 @@
-/* Several searches at once over the same tables, matches, lists and batches: each thread has work, trail, list, answers and out of its own,
- * and the tables are only read.
- * Prints one line, and fails at the first difference. */
+/* Several searches at once over the same tables, matches, the remote's too, lists and batches: each thread has work, trail, list, answers
+ * and out of its own, and the tables are only read. Prints one line, and fails at the first difference. */
 
 #include "silkendoz.h"
 
@@ -19,7 +18,7 @@ struct own {
     uint16_t trail[SILKENDOZ_TRAIL(C)];
     struct silkendoz_neighbour list[K];
     struct silkendoz_answer answers[MANY];
-    uint64_t match[SILKENDOZ_OUT], listing[SILKENDOZ_OUT], batch[SILKENDOZ_OUT];
+    uint64_t match[SILKENDOZ_OUT], remote[SILKENDOZ_OUT], listing[SILKENDOZ_OUT], batch[SILKENDOZ_OUT];
 };
 
 static int16_t queries[QUERIES][N];
@@ -39,8 +38,8 @@ static struct silkendoz_tables with(uint64_t *work)
     return t;
 }
 
-/* A match, a list that writes its trail over the match's, and a batch of the query and its mirror image, over the list's. Gives back whether
- * all were done. */
+/* A match, the remote's, a list that writes its trail over the match's, and a batch of the query and its mirror image, over the list's.
+ * Gives back whether all were done. */
 static int search(struct own *own, const int16_t *query)
 {
     struct silkendoz_tables t = with(own->work);
@@ -52,6 +51,7 @@ static int search(struct own *own, const int16_t *query)
     }
     memset(own, 0, sizeof *own);
     return silkendoz_nearest_in(&t, own->trail, SILKENDOZ_TRAIL(C), query, N, own->match, SILKENDOZ_OUT) == SILKENDOZ_DONE
+        && silkendoz_remote_match_in(&t, own->trail, SILKENDOZ_TRAIL(C), query, N, own->remote, SILKENDOZ_OUT) == SILKENDOZ_DONE
         && silkendoz_k_nearest_in(&t, own->trail, SILKENDOZ_TRAIL(C), own->list, K, query, N, K, own->listing, SILKENDOZ_OUT)
             == SILKENDOZ_DONE
         && silkendoz_match_batch_in(&t, own->trail, SILKENDOZ_TRAIL(C), both, MANY * N, MANY, own->answers, MANY, own->batch, SILKENDOZ_OUT)
@@ -94,7 +94,7 @@ int main(void)
         int16_t trace[N];
         for (j = 0; j < N; j++)
             trace[j] = next(&state);
-        if (silkendoz_add_in(&t, trace, N, out, SILKENDOZ_OUT) != SILKENDOZ_DONE)
+        if (silkendoz_add_labelled_in(&t, trace, N, (uint16_t)(i + 1), 4119, out, SILKENDOZ_OUT) != SILKENDOZ_DONE)
             stop("not added");
     }
     memcpy(kept, t.samples, sizeof kept);
@@ -103,6 +103,8 @@ int main(void)
             queries[i][j] = (int16_t)(t.samples[i * N + j] + next(&state) / 64);
         if (!search(&alone[i], queries[i]))
             stop("not found alone");
+        if (alone[i].remote[0] != alone[i].match[0] || alone[i].remote[4] != alone[i].match[0] + 1)
+            stop("another trace or another code");
     }
     for (i = 0; i < THREADS; i++) {
         numbers[i] = i;
@@ -116,6 +118,6 @@ int main(void)
             stop("another answer than alone");
     if (memcmp(kept, t.samples, sizeof kept) != 0)
         stop("the tables changed");
-    printf("C: %d searches by each of %d threads at once, as alone\n", 3 * QUERIES, THREADS);
+    printf("C: %d searches by each of %d threads at once, as alone\n", 4 * QUERIES, THREADS);
     return 0;
 }

@@ -5,7 +5,7 @@
 
 use crate::tables::with_tables;
 pub use crate::tables::{Lent, Tables};
-use crate::Refusal;
+use crate::{Label, Refusal};
 
 /// What a match answers: the leaves read are those at the beginning of the trail.
 #[derive(Clone, Copy, Debug, PartialEq, Eq)]
@@ -19,6 +19,22 @@ pub struct Found {
     pub leaves: u64,
     /// How many traces those leaves hold.
     pub traces: u64,
+}
+
+/// What the remote's match answers: a match's answer, and the nearest trace's fault code.
+#[derive(Clone, Copy, Debug, PartialEq, Eq)]
+#[non_exhaustive]
+pub struct RemoteFound {
+    /// The nearest trace's number.
+    pub trace: u64,
+    /// The sum of squared differences.
+    pub distance: u64,
+    /// How many leaves were read.
+    pub leaves: u64,
+    /// How many traces those leaves hold.
+    pub traces: u64,
+    /// The nearest trace's fault code.
+    pub code: u16,
 }
 
 /// What a search for the k nearest answers: so many leaves and traces were read, and so many traces are listed. The leaves read are those at the beginning
@@ -46,15 +62,15 @@ pub struct Answer {
 
 /// The version of the tables' layout (`docs/LAYOUT.md`). Another number is another layout, or another tree: who keeps tables keeps this number beside
 /// them.
-pub const LAYOUT: u64 = 2;
+pub const LAYOUT: u64 = 3;
 
 // A function of this name is in an archive of this layout alone. Its address is kept, so that a program links with no other.
 extern "C" {
-    fn silkendoz_layout_2() -> u64;
+    fn silkendoz_layout_3() -> u64;
 }
 
 #[used]
-static LAYOUT_OF_THE_ARCHIVE: unsafe extern "C" fn() -> u64 = silkendoz_layout_2;
+static LAYOUT_OF_THE_ARCHIVE: unsafe extern "C" fn() -> u64 = silkendoz_layout_3;
 
 /// A slice's pointer, as the call takes it.
 macro_rules! pointer {
@@ -65,11 +81,15 @@ macro_rules! pointer {
 /// A call of the static library, as include/silkendoz.h has it: how it is lent the tables, how search work, what stands between these and `out`.
 /// A slice goes as a pointer and then its length.
 macro_rules! exported {
-    ($name:ident($library:ident, $work:ident; $($between:tt)*) [$($(#[$says:meta])* $table:ident: $element:ty,)*]) => {
+    (
+        $name:ident($library:ident, $work:ident; $($between:tt)*)
+        [$($(#[$says:meta])* $table:ident: $element:ty,)*] [$($(#[$tells:meta])* $behind:ident: $kind:ty,)*]
+    ) => {
         extern "C" {
             fn $name(
                 $($table: pointer!($library $element), _: usize,)*
                 work: pointer!($work u64), _: usize,
+                $($behind: pointer!($library $kind), _: usize,)*
                 $($between)*
                 out: *mut u64, _: usize,
             ) -> u64;
@@ -79,6 +99,9 @@ macro_rules! exported {
 
 with_tables! { exported! silkendoz_open(write, write; n: u64, capacity: u64, leaf_size: u64,) }
 with_tables! { exported! silkendoz_add(write, read; trace: *const i16, _: usize,) }
+with_tables! { exported! silkendoz_add_labelled(write, read; trace: *const i16, _: usize, code: u16, serial: u32,) }
+with_tables! { exported! silkendoz_label(read, read; number: u64,) }
+with_tables! { exported! silkendoz_remote_match(read, write; trail: *mut u16, _: usize, query: *const i16, _: usize,) }
 with_tables! { exported! silkendoz_nearest(read, write; trail: *mut u16, _: usize, query: *const i16, _: usize,) }
 with_tables! { exported! silkendoz_k_nearest(
     read, write;
@@ -102,19 +125,25 @@ fn answer<const K: usize>(code: u64, out: [u64; K]) -> Result<[u64; K], Refusal>
     }
 }
 
+/// A fault code among an answer's values.
+fn code_of(value: u64) -> u16 {
+    u16::try_from(value).expect("a code has 16 bits")
+}
+
 /// Makes a call: the tables and search work, each with the way to its pointer (`as_ptr` or `as_mut_ptr`), further slices likewise, numbers, and the
 /// slice for the answer's values; a batch has its list between these two.
 macro_rules! made {
     (
         $name:ident($t:ident $pointer:ident, $work:expr => $work_pointer:ident),
         [$($slice:expr => $way:ident),*], [$($number:expr),*], [$($list:expr)?], $out:ident
-        [$($(#[$says:meta])* $table:ident: $element:ty,)*]
+        [$($(#[$says:meta])* $table:ident: $element:ty,)*] [$($(#[$tells:meta])* $behind:ident: $kind:ty,)*]
     ) => {
         // Safety: pointers and lengths are those of slices that are borrowed for the call, and the contract has no requires.
         unsafe {
             $name(
                 $($t.$table.$pointer(), $t.$table.len(),)*
                 $work.$work_pointer(), $work.len(),
+                $($t.$behind.$pointer(), $t.$behind.len(),)*
                 $($slice.$way(), $slice.len(),)*
                 $($number,)*
                 $($list.as_mut_ptr(), $list.len(),)?
@@ -131,11 +160,37 @@ pub fn open(t: Lent<'_>, n: u64, capacity: u64, leaf_size: u64) -> Result<(), Re
     answer(code, out).map(|_| ())
 }
 
-/// Adds a trace; its number is the answer. Search work is only looked at for its length.
+/// Adds a trace with no label; its number is the answer. Search work is only looked at for its length.
 pub fn add(t: Lent<'_>, trace: &[i16]) -> Result<u64, Refusal> {
     let mut out = [0; 1];
     let code = with_tables! { made! silkendoz_add(t as_mut_ptr, t.work => as_ptr), [trace => as_ptr], [], [], out };
     answer(code, out).map(|[number]| number)
+}
+
+/// Adds a trace with a label; its number is the answer. Search work is only looked at for its length.
+pub fn add_labelled(t: Lent<'_>, trace: &[i16], label: Label) -> Result<u64, Refusal> {
+    let mut out = [0; 1];
+    let code = with_tables! {
+        made! silkendoz_add_labelled(t as_mut_ptr, t.work => as_ptr), [trace => as_ptr], [label.code, label.serial], [], out
+    };
+    answer(code, out).map(|[number]| number)
+}
+
+/// The label of the trace with this number. Nothing is written; search work is only looked at for its length.
+pub fn label(t: Tables<'_>, work: &[u64], number: u64) -> Result<Label, Refusal> {
+    let mut out = [0; 2];
+    let code = with_tables! { made! silkendoz_label(t as_ptr, work => as_ptr), [], [number], [], out };
+    answer(code, out).map(|[code, serial]| Label { code: code_of(code), serial: u32::try_from(serial).expect("a serial has 32 bits") })
+}
+
+/// Finds the nearest trace as [`nearest`] does, and tells its fault code. Of serials it tells nothing: over tables that are alike but for
+/// them it answers, refuses and leaves the same.
+pub fn remote_match(t: Tables<'_>, work: &mut [u64], trail: &mut [u16], query: &[i16]) -> Result<RemoteFound, Refusal> {
+    let mut out = [0; 5];
+    let code = with_tables! {
+        made! silkendoz_remote_match(t as_ptr, work => as_mut_ptr), [trail => as_mut_ptr, query => as_ptr], [], [], out
+    };
+    answer(code, out).map(|[trace, distance, leaves, traces, code]| RemoteFound { trace, distance, leaves, traces, code: code_of(code) })
 }
 
 /// Finds the nearest trace. The trail begins with the leaves read; the needed search work is left zero.
@@ -165,14 +220,15 @@ pub fn write_sheet(t: Tables<'_>, work: &[u64], sheet: &mut [u8]) -> Result<u64,
     answer(code, out).map(|[blocks]| blocks)
 }
 
-/// Opens the library that a sheet holds, and adds its traces in order.
+/// Opens the library that a sheet holds, and adds its traces in order, each with its label.
 pub fn read_sheet(t: Lent<'_>, sheet: &[u8]) -> Result<(), Refusal> {
     let mut out = [0; 1];
     let code = with_tables! { made! silkendoz_read_sheet(t as_mut_ptr, t.work => as_mut_ptr), [sheet => as_ptr], [], [], out };
     answer(code, out).map(|_| ())
 }
 
-/// Adds the traces of a WAV recording, in order, all or none; how many is the answer. Search work is only looked at for its length.
+/// Adds the traces of a WAV recording, in order, all or none, with no labels; how many is the answer. Search work is only looked at for its
+/// length.
 pub fn import_recording(t: Lent<'_>, bytes: &[u8]) -> Result<u64, Refusal> {
     let mut out = [0; 1];
     let code = with_tables! { made! silkendoz_import_recording(t as_mut_ptr, t.work => as_ptr), [bytes => as_ptr], [], [], out };

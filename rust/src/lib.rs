@@ -4,7 +4,8 @@
 //! that is nearest to a new one: the least sum of squared differences, the lowest number among equals, just as reading every stored trace would find it.
 //! The work is done by a library that is proved to do exactly this (the crates beside this folder); here it gets tables of the right sizes, and its
 //! refusals a type. [`TraceLibrary::k_nearest`] lists the k nearest in the same way; [`TraceLibrary::import_recording`] takes the traces of a WAV file;
-//! [`TraceLibrary::from_tables`] takes tables from elsewhere, once they are checked.
+//! [`TraceLibrary::from_tables`] takes tables from elsewhere, once they are checked. A trace may have a [`Label`]: a fault code, which
+//! [`TraceLibrary::remote_match`] tells, and a machine's serial, which it does not.
 //!
 //! ```
 //! use silkendoz::TraceLibrary;
@@ -25,13 +26,15 @@
 #![deny(missing_docs)]
 
 pub mod calls;
+mod label;
 mod library;
 mod refusal;
 pub mod scan;
 mod shape;
 mod tables;
 
-pub use library::{Batch, KNearest, Nearest, Neighbour, TraceLibrary};
+pub use label::Label;
+pub use library::{Batch, KNearest, Nearest, Neighbour, RemoteMatch, TraceLibrary};
 pub use refusal::{Lengths, Refusal};
 pub use shape::Leaf;
 pub use tables::Tables;

@@ -1,7 +1,7 @@
 //! A library that owns its tables.
 
 use crate::calls::{self, Lent, Tables};
-use crate::Refusal;
+use crate::{Label, Refusal};
 use std::fmt;
 use std::slice::ChunksExact;
 
@@ -54,6 +54,7 @@ pub struct TraceLibrary {
     pub(crate) nodes: Vec<i64>,
     pub(crate) links: Vec<u16>,
     work: Vec<u64>,
+    labels: Vec<u64>,
 }
 
 /// Measures and counts; the traces themselves would be too many.
@@ -83,6 +84,24 @@ pub struct Nearest {
     pub traces: usize,
     /// The leaves read, in order.
     pub trail: Vec<u16>,
+}
+
+/// What the remote is told: the nearest trace, what was read to find it, and its fault code.
+#[derive(Clone, Debug, PartialEq, Eq)]
+#[non_exhaustive]
+pub struct RemoteMatch {
+    /// The trace's number.
+    pub trace: usize,
+    /// The sum of squared differences.
+    pub distance: u64,
+    /// How many leaves were read.
+    pub leaves: usize,
+    /// How many traces those leaves hold.
+    pub traces: usize,
+    /// The leaves read, in order.
+    pub trail: Vec<u16>,
+    /// The trace's fault code; 0 if it was given none.
+    pub code: u16,
 }
 
 /// The k nearest traces, and what was read to find them.
@@ -151,17 +170,77 @@ impl TraceLibrary {
             nodes: vec![0; records * RECORD_PLACES],
             links: vec![0; capacity],
             work: vec![0; records],
+            labels: vec![0; capacity],
         }
     }
 
     fn lent(&mut self) -> Lent<'_> {
-        Lent::new(&mut self.control, &mut self.samples, &mut self.nodes, &mut self.links, &mut self.work)
+        Lent::new(&mut self.control, &mut self.samples, &mut self.nodes, &mut self.links, &mut self.work).with_labels(&mut self.labels)
     }
 
-    /// Adds a trace of n samples. Its number is the answer.
+    /// Adds a trace of n samples, with no label. Its number is the answer.
     pub fn add(&mut self, trace: &[i16]) -> Result<usize, Refusal> {
         let n = self.n();
         calls::add(self.lent(), trace).map(|number| number as usize).map_err(|why| why.with_lengths(trace.len(), n))
+    }
+
+    /// Adds a trace of n samples with a label. Its number is the answer.
+    ///
+    /// ```
+    /// use silkendoz::{Label, Refusal, TraceLibrary};
+    ///
+    /// let mut library = TraceLibrary::open(1, 1, 1)?;
+    /// let label = Label { code: 65_535, serial: u32::MAX };
+    /// assert_eq!(library.add_labelled(&[7], label)?, 0);
+    /// assert_eq!(library.label(0)?, label);
+    /// assert_eq!(library.add_labelled(&[8], label), Err(Refusal::Full));
+    /// // a sheet keeps labels
+    /// assert_eq!(TraceLibrary::read_sheet(&library.write_sheet()?)?, library);
+    /// # Ok::<(), Refusal>(())
+    /// ```
+    pub fn add_labelled(&mut self, trace: &[i16], label: Label) -> Result<usize, Refusal> {
+        let n = self.n();
+        calls::add_labelled(self.lent(), trace, label).map(|number| number as usize).map_err(|why| why.with_lengths(trace.len(), n))
+    }
+
+    /// The label of the trace with this number; zero if it was given none.
+    ///
+    /// ```
+    /// use silkendoz::{Label, Refusal, TraceLibrary};
+    ///
+    /// let mut library = TraceLibrary::open(1, 4, 1)?;
+    /// assert_eq!(library.label(0), Err(Refusal::BadRecording));
+    /// library.add(&[7])?;
+    /// library.add_labelled(&[8], Label { code: 17, serial: 4119 })?;
+    /// assert_eq!(library.label(0)?, Label { code: 0, serial: 0 });
+    /// assert_eq!(library.label(1)?.code, 17);
+    /// assert_eq!(library.label(2).unwrap_err().number(), 12);
+    /// # Ok::<(), Refusal>(())
+    /// ```
+    pub fn label(&self, number: usize) -> Result<Label, Refusal> {
+        calls::label(self.tables(), &self.work, number as u64)
+    }
+
+    /// The jog remote's one call: finds the nearest trace as [`TraceLibrary::nearest`] does, and tells its fault code and nothing else of
+    /// its label. Of two libraries that are alike but for serials it tells the same.
+    ///
+    /// ```
+    /// use silkendoz::{Label, TraceLibrary};
+    ///
+    /// let mut library = TraceLibrary::open(1, 4, 1)?;
+    /// library.add_labelled(&[0], Label { code: 3, serial: 4118 })?;
+    /// library.add_labelled(&[9], Label { code: 17, serial: 4119 })?;
+    /// let found = library.remote_match(&[8])?;
+    /// assert_eq!((found.trace, found.distance, found.code), (1, 1, 17));
+    /// assert_eq!(found.trail, library.nearest(&[8])?.trail);
+    /// # Ok::<(), silkendoz::Refusal>(())
+    /// ```
+    pub fn remote_match(&self, query: &[i16]) -> Result<RemoteMatch, Refusal> {
+        let (mut work, mut trail) = self.room();
+        let found = calls::remote_match(self.tables(), &mut work, &mut trail, query).map_err(|why| why.with_lengths(query.len(), self.n()))?;
+        let (trace, leaves, traces) = (found.trace as usize, found.leaves as usize, found.traces as usize);
+        trail.truncate(leaves);
+        Ok(RemoteMatch { trace, distance: found.distance, leaves, traces, trail, code: found.code })
     }
 
     /// Search work and a trail, of a search's own.
@@ -253,9 +332,11 @@ impl TraceLibrary {
     /// # Ok::<(), silkendoz::Refusal>(())
     /// ```
     pub fn write_sheet(&self) -> Result<Vec<u8>, Refusal> {
-        let blocks = 1 + (self.len() * self.n()).div_ceil(253);
-        let mut sheet = vec![0; 512 * blocks];
-        calls::write_sheet(self.tables(), &self.work, &mut sheet)?;
+        // with the blocks of labels, which are not written when every label is zero
+        let most = 1 + (self.len() * self.n()).div_ceil(253) + self.len().div_ceil(84);
+        let mut sheet = vec![0; 512 * most];
+        let blocks = calls::write_sheet(self.tables(), &self.work, &mut sheet)?;
+        sheet.truncate(512 * blocks as usize);
         Ok(sheet)
     }
 
@@ -349,7 +430,7 @@ impl TraceLibrary {
     /// The tables, to be kept somewhere and taken back by [`TraceLibrary::from_tables`]. A sheet ([`TraceLibrary::write_sheet`]) is smaller and
     /// has check bytes; tables need no time to be read.
     pub fn tables(&self) -> Tables<'_> {
-        Tables::new(&self.control, &self.samples, &self.nodes, &self.links)
+        Tables::new(&self.control, &self.samples, &self.nodes, &self.links).with_labels(&self.labels)
     }
 
     /// A library from tables that nobody vouches for, such as those of a controller that was switched off: they are taken, as far as their
@@ -367,23 +448,28 @@ impl TraceLibrary {
     /// // a sample that changed
     /// let mut samples = kept.samples.to_vec();
     /// samples[2] = 3;
-    /// assert_eq!(TraceLibrary::from_tables(Tables::new(kept.control, &samples, kept.nodes, kept.links)), Err(Refusal::LooseRecord));
+    /// let changed = Tables::new(kept.control, &samples, kept.nodes, kept.links).with_labels(kept.labels);
+    /// assert_eq!(TraceLibrary::from_tables(changed), Err(Refusal::LooseRecord));
     /// // a kind of node that there is not
     /// let mut nodes = kept.nodes.to_vec();
     /// nodes[0] = 7;
-    /// assert_eq!(TraceLibrary::from_tables(Tables::new(kept.control, kept.samples, &nodes, kept.links)), Err(Refusal::Spoiled));
-    /// assert_eq!(TraceLibrary::from_tables(Tables::new(kept.control, kept.samples, kept.nodes, &kept.links[1..])), Err(Refusal::ShortTable));
+    /// let changed = Tables::new(kept.control, kept.samples, &nodes, kept.links).with_labels(kept.labels);
+    /// assert_eq!(TraceLibrary::from_tables(changed), Err(Refusal::Spoiled));
+    /// // no labels
+    /// let changed = Tables::new(kept.control, kept.samples, kept.nodes, kept.links);
+    /// assert_eq!(TraceLibrary::from_tables(changed), Err(Refusal::ShortTable));
     /// # Ok::<(), Refusal>(())
     /// ```
     pub fn from_tables(tables: Tables<'_>) -> Result<TraceLibrary, Refusal> {
-        let Tables { control, samples, nodes, links } = tables;
+        let Tables { control, samples, nodes, links, labels } = tables;
         let field = |place: usize| control.get(place).copied().map_or(0, usize::from);
         let (n, capacity) = (field(0), field(1));
         let work = vec![0; (2 * capacity).saturating_sub(1)];
         calls::check_tables(tables, &work)?;
         // nothing was refused, so that measures are in range and each table has the places that are taken here
         let (samples, nodes) = (samples[..n * capacity].to_vec(), nodes[..work.len() * RECORD_PLACES].to_vec());
-        Ok(TraceLibrary { control: control[..CONTROL_FIELDS].to_vec(), samples, nodes, links: links[..capacity].to_vec(), work })
+        let (links, labels) = (links[..capacity].to_vec(), labels[..capacity].to_vec());
+        Ok(TraceLibrary { control: control[..CONTROL_FIELDS].to_vec(), samples, nodes, links, work, labels })
     }
 
     /// Samples a trace.
@@ -429,6 +515,20 @@ impl TraceLibrary {
     /// ```
     pub fn traces(&self) -> ChunksExact<'_, i16> {
         self.samples[..self.len() * self.n()].chunks_exact(self.n())
+    }
+
+    /// The labels of the stored traces, in order: those that [`TraceLibrary::label`] tells one by one.
+    ///
+    /// ```
+    /// # use silkendoz::{Label, TraceLibrary};
+    /// let mut library = TraceLibrary::open(1, 8, 2)?;
+    /// library.add(&[1])?;
+    /// library.add_labelled(&[2], Label { code: 17, serial: u32::MAX })?;
+    /// assert!(library.labels().eq([library.label(0)?, library.label(1)?]));
+    /// # Ok::<(), silkendoz::Refusal>(())
+    /// ```
+    pub fn labels(&self) -> impl ExactSizeIterator<Item = Label> + '_ {
+        self.labels[..self.len()].iter().map(|&place| Label::at(place))
     }
 }
 

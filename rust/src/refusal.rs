@@ -29,7 +29,7 @@ pub enum Refusal {
     Empty,
     /// 7: trail shorter than the number of leaves, or a list shorter than k.
     ShortTrail,
-    /// 8: writing and an export: below the need; reading: 0, not a multiple of 512, above 4,146 blocks.
+    /// 8: writing and an export: below the need; reading: 0, not a multiple of 512, above 4,195 blocks.
     SheetLength,
     /// 9: check, block number or kind wrong, in this block first.
     TornBlock(u64),
@@ -37,7 +37,8 @@ pub enum Refusal {
     BadSheet,
     /// 11: k outside 1 to 16.
     BadK,
-    /// 12: a file of any other form or length, an odd size, samples not a multiple of n; an export's rate or trace number out of range.
+    /// 12: a file of any other form or length, an odd size, samples not a multiple of n; an export's rate or trace number out of range, and
+    /// the number of a trace whose label is asked for.
     BadRecording,
     /// 13: well-formed tables hold a figure that isn't exactly the recomputed one.
     LooseRecord,

@@ -2,11 +2,12 @@
 
 mod common;
 
-use common::{check_add, check_batch, check_checked, check_export, check_import, check_k_nearest, check_nearest, check_read_back, measures};
+use common::{check_add, check_add_labelled, check_batch, check_checked, check_export, check_import, check_k_nearest, check_label, check_nearest};
+use common::{check_read_back, check_remote, measures};
 use testing::model::recording;
 use testing::model::tables::{Tables, RECORD_PLACES};
 use testing::model::{runs, segments_of, width, Figure, Kind, Library, Node, Segment, Test, Trace};
-use testing::random::{query, traces, Random, Shape, SHAPES};
+use testing::random::{label, labels, query, traces, Random, Shape, SHAPES};
 
 /// Ends that include the given ones, the last n.
 fn more_ends(random: &mut Random, ends: &[usize], n: usize) -> Vec<usize> {
@@ -127,7 +128,8 @@ fn library(random: &mut Random, shape: Shape, n: usize, count: usize, capacity: 
         made[number[at]] = Some(Node { segments: segments(random, ends, &below), kind });
     }
     let nodes = made.into_iter().map(|node| node.expect("every node has a number")).collect();
-    Library { measures: measures(n, capacity, leaf_size), traces: stored, nodes }
+    let labels = labels(random, stored.len());
+    Library { measures: measures(n, capacity, leaf_size), traces: stored, labels, nodes }
 }
 
 /// The tables of a library, with junk in every place that no rule speaks of.
@@ -137,6 +139,8 @@ fn with_junk(random: &mut Random, library: &Library) -> Tables {
     t.samples[k * n..].iter_mut().for_each(|x| *x = random.word() as i16);
     t.links[k..].iter_mut().for_each(|x| *x = random.word() as u16);
     t.work.iter_mut().for_each(|x| *x = random.word());
+    // the upper bits of a label, and the labels of no trace
+    t.labels.iter_mut().enumerate().for_each(|(place, x)| *x |= random.word() << if place < k { 48 } else { 0 });
     for (j, record) in t.nodes.chunks_mut(RECORD_PLACES).enumerate() {
         let used = library.nodes.get(j).map_or(0, |node| 7 + 5 * node.segments.len());
         record[used..].iter_mut().for_each(|x| *x = random.word() as i64);
@@ -145,6 +149,23 @@ fn with_junk(random: &mut Random, library: &Library) -> Tables {
         }
     }
     t
+}
+
+/// Every search of these tables, with any contents of search work.
+fn search(random: &mut Random, t: &mut Tables, library: &Library, shape: Shape) {
+    let (n, l) = (library.measures.n as usize, t.lengths());
+    let q: Trace = query(random, shape, n, &library.traces);
+    let mut trail = vec![1; library.leaves().len()];
+    // what it leaves and answers is the match's, which is held to the model too
+    check_remote(t, l, &mut trail, &q).expect("nothing is refused");
+    t.work.iter_mut().for_each(|x| *x = random.word());
+    let k = 1 + random.below(16);
+    let mut list = vec![1; 2 * k];
+    check_k_nearest(t, l, &mut trail, &mut list, &q, k as u64).expect("nothing is refused");
+    t.work.iter_mut().for_each(|x| *x = random.word());
+    let run: Vec<i16> = (0..k).flat_map(|_| query(random, shape, n, &library.traces)).collect();
+    check_batch(t, l, &mut trail, &run, k, k).expect("nothing is refused");
+    t.work.iter_mut().for_each(|x| *x = random.word());
 }
 
 /// Every call on the tables of a library; whether the check refused them, with 13.
@@ -156,20 +177,11 @@ fn follow(random: &mut Random, library: &Library, shape: Shape, queries: usize, 
     check_read_back(&t, l);
     let n = library.measures.n as usize;
     for _ in 0..queries {
-        let q: Trace = query(random, shape, n, &library.traces);
-        let mut trail = vec![1; library.leaves().len()];
-        check_nearest(&mut t, l, &mut trail, &q).expect("nothing is refused");
-        t.work.iter_mut().for_each(|x| *x = random.word());
-        let k = 1 + random.below(16);
-        let mut list = vec![1; 2 * k];
-        check_k_nearest(&mut t, l, &mut trail, &mut list, &q, k as u64).expect("nothing is refused");
-        t.work.iter_mut().for_each(|x| *x = random.word());
-        let run: Vec<i16> = (0..k).flat_map(|_| query(random, shape, n, &library.traces)).collect();
-        check_batch(&mut t, l, &mut trail, &run, k, k).expect("nothing is refused");
-        t.work.iter_mut().for_each(|x| *x = random.word());
+        search(random, &mut t, library, shape);
     }
     // recordings: a trace as it stands, and imports into these tables
     let number = random.below(library.traces.len());
+    assert_eq!(check_label(&t, l, number as u64), Ok(library.labels[number]));
     check_export(&t, l, &mut vec![1; 44 + 2 * n], number as u64, 8000).expect("nothing is refused");
     let stored: Vec<Trace> = (0..more).map(|_| query(random, shape, n, &library.traces)).collect();
     for many in 0..=more {
@@ -177,7 +189,8 @@ fn follow(random: &mut Random, library: &Library, shape: Shape, queries: usize, 
     }
     for _ in 0..more {
         let trace: Trace = query(random, shape, n, &library.traces);
-        if let Ok(after) = check_add(&mut t, l, &trace) {
+        let added = if random.once_in(2) { check_add(&mut t, l, &trace) } else { check_add_labelled(&mut t, l, &trace, label(random)) };
+        if let Ok(after) = added {
             let q: Trace = query(random, shape, n, &after.traces);
             let mut trail = vec![1; after.leaves().len()];
             check_nearest(&mut t, l, &mut trail, &q).expect("nothing is refused");

@@ -51,7 +51,7 @@ fn the_commands_print_what_the_page_says() {
     let mut page = fs::read_to_string(&path).unwrap();
     let mut folder = fresh("guide");
     let commands = commands(&page);
-    for command in ["build", "match", "plot", "report", "add", "info", "export", "rename", "list", "check", "repair", "salvage"] {
+    for command in ["build", "match", "remote", "plot", "report", "add", "info", "export", "rename", "list", "check", "repair", "salvage"] {
         let shown = commands.iter().any(|(line, _)| line.starts_with(&format!("silkendoz {command} ")));
         assert!(shown, "the page shows {command}");
     }

@@ -203,7 +203,8 @@ fn tables_from_elsewhere() {
     }
     let t = library.tables();
     let longer = ([t.control, &[9; 3]].concat(), [t.samples, &[9; 3]].concat(), [t.nodes, &[9; 3]].concat(), [t.links, &[9; 3]].concat());
-    let kept = |control| Kept::new(control, &longer.1, &longer.2, &longer.3);
+    let labels = [t.labels, &[9; 3]].concat();
+    let kept = |control| Kept::new(control, &longer.1, &longer.2, &longer.3).with_labels(&labels);
     let mut taken = TraceLibrary::from_tables(kept(&longer.0)).unwrap();
     assert_eq!(taken, library);
     assert_eq!(taken.add(&[1, 1, 1, 1]), library.add(&[1, 1, 1, 1]));

@@ -2,10 +2,11 @@
 
 mod common;
 
-use common::{check_add, check_batch, check_checked, check_export, check_import, check_k_nearest, check_nearest, measures};
+use common::{check_add, check_add_labelled, check_batch, check_checked, check_export, check_import, check_k_nearest, check_label, check_nearest};
+use common::{check_remote, check_write, measures};
 use testing::model::recording;
 use testing::model::tables::{Tables, RECORD_PLACES};
-use testing::model::{Library, Trace};
+use testing::model::{Label, Library, Trace};
 use testing::random::{query, traces, Random, Shape};
 
 struct Case {
@@ -18,8 +19,8 @@ fn case(random: &mut Random, shape: Shape, n: usize, capacity: usize, leaf_size:
     let stored = traces(random, shape, n, count);
     let library = Library::of(measures(n, capacity, leaf_size), &stored);
     let mut tables = Tables::of(&library);
-    // search work need not be zero, and a refusal leaves it
-    tables.work.iter_mut().enumerate().for_each(|(i, w)| *w = i as u64);
+    // search work and labels need not be zero, and a refusal leaves them
+    tables.work.iter_mut().chain(&mut tables.labels).enumerate().for_each(|(i, w)| *w = i as u64);
     let query = query(random, shape, n, &stored);
     Case { tables, query, shape }
 }
@@ -52,8 +53,11 @@ fn spoiled(damaged: &Tables, query: &[i16]) -> bool {
     let exported = check_export(damaged, l, &mut [7; 99], 0, 8000).map(|_| ());
     let checked = check_checked(damaged, l).map(|_| ());
     let batched = check_batch(&mut damaged.clone(), l, &mut trail, &query.repeat(2), 2, 2).map(|_| ());
-    let verdicts = [added, found, listed, imported, exported, checked, batched].map(|answer| answer == Err((3, 0)));
-    assert!(verdicts == [verdicts[0]; 7], "{verdicts:?}");
+    let labelled = check_add_labelled(&mut damaged.clone(), l, query, Label { code: 1, serial: 2 }).map(|_| ());
+    let told = check_remote(&mut damaged.clone(), l, &mut trail, query).map(|_| ());
+    let label = check_label(damaged, l, 0).map(|_| ());
+    let verdicts = [added, found, listed, imported, exported, checked, batched, labelled, told, label].map(|answer| answer == Err((3, 0)));
+    assert!(verdicts == [verdicts[0]; 10], "{verdicts:?}");
     verdicts[0]
 }
 
@@ -95,7 +99,7 @@ fn node_fields() {
 }
 
 #[test]
-fn control_links_and_samples() {
+fn control_links_samples_and_labels() {
     let random = &mut Random::seeded(22);
     for case in cases(random) {
         for place in 0..5 {
@@ -117,6 +121,14 @@ fn control_links_and_samples() {
                 let mut damaged = case.tables.clone();
                 damaged.samples[place] = value;
                 assert!(!spoiled(&damaged, &case.query), "no rule speaks of samples");
+            }
+        }
+        for place in 0..case.tables.labels.len() {
+            for value in [0, 1, 65_535, 65_536, (1 << 48) - 1, 1 << 48, u64::MAX] {
+                let mut damaged = case.tables.clone();
+                damaged.labels[place] = value;
+                assert!(!spoiled(&damaged, &case.query), "no rule speaks of labels");
+                check_write(&damaged, damaged.lengths(), &mut [0x77; 2048]).expect("a label is written as it is");
             }
         }
     }
@@ -155,7 +167,7 @@ fn short_tables_and_the_order() {
     let random = &mut Random::seeded(24);
     for case in cases(random) {
         let l = case.tables.lengths();
-        for table in 0..5 {
+        for table in 0..6 {
             let mut short = l;
             *short.each()[table] -= 1;
             for spoil in 0..4 {
@@ -169,6 +181,9 @@ fn short_tables_and_the_order() {
                 let wrong = vec![0; case.query.len() + 1];
                 let expected = if table != 0 && spoil == 1 { (3, 0) } else { (2, 0) };
                 assert_eq!(check_add(&mut t.clone(), short, &wrong).unwrap_err(), expected);
+                assert_eq!(check_add_labelled(&mut t.clone(), short, &wrong, Label::default()).unwrap_err(), expected);
+                assert_eq!(check_label(&t, short, 9999).unwrap_err(), expected);
+                assert_eq!(check_remote(&mut t, short, &mut [], &wrong).unwrap_err(), expected);
                 assert_eq!(check_nearest(&mut t, short, &mut [], &wrong).unwrap_err(), expected);
                 assert_eq!(check_k_nearest(&mut t, short, &mut [], &mut [], &wrong, 0).unwrap_err(), expected);
                 assert_eq!(check_batch(&mut t, short, &mut [], &wrong, 0, 1).unwrap_err(), expected);
@@ -182,6 +197,12 @@ fn short_tables_and_the_order() {
         assert_eq!(check_nearest(&mut case.tables.clone(), l, &mut [], &wrong).unwrap_err(), (4, 0));
         let expected = if case.tables.control[3] == 0 { (6, 0) } else { (7, 0) };
         assert_eq!(check_nearest(&mut case.tables.clone(), l, &mut [], &case.query).unwrap_err(), expected);
+        assert_eq!(check_remote(&mut case.tables.clone(), l, &mut [], &wrong).unwrap_err(), (4, 0));
+        assert_eq!(check_remote(&mut case.tables.clone(), l, &mut [], &case.query).unwrap_err(), expected);
+        // the label of no trace, of an empty library too
+        for number in [case.tables.control[3].into(), 65_536, u64::MAX] {
+            assert_eq!(check_label(&case.tables, l, number), Err((12, 0)));
+        }
         // a bad k comes before a wrong trace, and that before empty, a short trail and a short list
         let order = |k: u64, query: &[i16], trail: usize, list: usize| {
             check_k_nearest(&mut case.tables.clone(), l, &mut vec![7; trail], &mut vec![7; list], query, k).map(|_| ())

@@ -3,7 +3,7 @@
 
 use silkendoz::{calls, Refusal, TraceLibrary};
 use std::path::PathBuf;
-use testing::model::sheet::{blocks_needed, program_line};
+use testing::model::sheet::{all_label_blocks, blocks_needed, program_line};
 
 fn file(name: &str) -> Vec<u8> {
     std::fs::read(PathBuf::from(env!("CARGO_MANIFEST_DIR")).join("..").join(name)).unwrap()
@@ -20,7 +20,7 @@ fn table(page: &str, heading: &str) -> Vec<Vec<String>> {
     rows.map(|l| l.trim_matches('|').split('|').map(|cell| cell.trim().to_string()).collect()).collect()
 }
 
-/// By docs/LAYOUT.md: samples, node records, links, search work; then all of it, and a full sheet.
+/// By docs/LAYOUT.md: samples, node records, links, search work, labels; then all of it, and a full sheet.
 #[test]
 fn memory_needs() {
     let rows = table(&text("docs/GUIDE.md"), "Memory needs");
@@ -28,11 +28,11 @@ fn memory_needs() {
     for row in rows {
         let cells: Vec<usize> = row.iter().map(|cell| cell.replace(',', "").parse().unwrap()).collect();
         let (n, c) = (cells[0], cells[1]);
-        let tables = [2 * c * n, 8 * (2 * c - 1) * 87, 2 * c, 8 * (2 * c - 1)];
-        assert_eq!(cells[2..6], tables);
-        assert_eq!(cells[6], tables.iter().sum::<usize>() + 10);
-        assert_eq!(cells[6], 2 * c * n + 1410 * c - 694);
-        assert_eq!(cells[7], 512 * blocks_needed(c as u64, n as u64));
+        let tables = [2 * c * n, 8 * (2 * c - 1) * 87, 2 * c, 8 * (2 * c - 1), 8 * c];
+        assert_eq!(cells[2..7], tables);
+        assert_eq!(cells[7], tables.iter().sum::<usize>() + 10);
+        assert_eq!(cells[7], 2 * c * n + 1418 * c - 694);
+        assert_eq!(cells[8], 512 * (blocks_needed(c as u64, n as u64) + all_label_blocks(c as u64)));
     }
 }
 

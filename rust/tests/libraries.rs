@@ -2,11 +2,12 @@
 
 mod common;
 
-use common::{check_add, check_batch, check_k_nearest, check_list, check_nearest, check_open, check_scan, junk, longer, measures};
+use common::{check_add_labelled, check_batch, check_k_nearest, check_label, check_list, check_nearest, check_open, check_remote, check_scan};
+use common::{junk, longer, measures};
 use silkendoz::TraceLibrary;
 use testing::model::tables::{needs, Tables};
 use testing::model::{KNearest, Library, Measures, Trace};
-use testing::random::{query, traces, Random, Shape, SHAPES};
+use testing::random::{labels, query, traces, Random, Shape, SHAPES};
 
 /// Opens, adds and matches; every call is held to the model, every match to the scan.
 fn run(random: &mut Random, shape: Shape, n: usize, capacity: usize, leaf_size: usize, count: usize, queries: usize) {
@@ -19,19 +20,20 @@ fn run_on(random: &mut Random, shape: Shape, stored: &[Trace], m: Measures, quer
     let l = longer(needs(m), random.below(3));
     let mut t = junk(longer(l, 2));
     assert_eq!(check_open(&mut t, l, m), Ok(()));
+    let labels = labels(random, stored.len());
     for (k, trace) in stored.iter().enumerate() {
-        let library = check_add(&mut t, l, trace).expect("there is room");
+        let library = check_add_labelled(&mut t, l, trace, labels[k]).expect("there is room");
         if k < 3 || random.once_in(8) {
             let q = query(random, shape, n, stored);
             ask(random, &mut t, l, &library, &q);
         }
     }
     // every place of the needed parts, the unused ones too, is what opening and adding leave
-    let library = Library::of(m, stored);
+    let library = Library::of(m, stored).labelled(&labels);
     let held = t.first(needs(m));
     let laid = Tables::of(&library);
     assert_eq!((&held.control, &held.samples, &held.links), (&laid.control, &laid.samples, &laid.links));
-    assert_eq!(held.nodes, laid.nodes);
+    assert_eq!((&held.nodes, &held.labels), (&laid.nodes, &laid.labels));
     for _ in 0..queries {
         let q = query(random, shape, n, stored);
         ask(random, &mut t, l, &library, &q);
@@ -40,8 +42,11 @@ fn run_on(random: &mut Random, shape: Shape, stored: &[Trace], m: Measures, quer
         let together: Vec<Trace> = (0..1 + random.below(16)).map(|_| query(random, shape, n, stored)).collect();
         ask_together(&mut t, l, &library, &together);
     }
+    for (number, &label) in labels.iter().enumerate() {
+        assert_eq!(check_label(&t, l, number as u64), Ok(label));
+    }
     if stored.len() as u64 == m.capacity {
-        assert_eq!(check_add(&mut t, l, &stored[0]).unwrap_err(), (5, 0));
+        assert_eq!(check_add_labelled(&mut t, l, &stored[0], labels[0]).unwrap_err(), (5, 0));
     }
 }
 
@@ -50,6 +55,7 @@ fn ask(random: &mut Random, t: &mut Tables, l: testing::model::tables::Lengths, 
     let mut trail = vec![0xbeef; library.leaves().len() + 1];
     let found = check_nearest(t, l, &mut trail, q).expect("a trace is stored");
     check_scan(library, q, &found);
+    assert_eq!(check_remote(t, l, &mut trail, q), Ok((found.clone(), library.labels[found.trace].code)));
     let k = 1 + random.below(16);
     let mut list = vec![0xbeef; 2 * k + random.below(4)];
     let longer = check_k_nearest(t, l, &mut trail, &mut list, q, k as u64).expect("a trace is stored");

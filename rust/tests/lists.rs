@@ -3,12 +3,11 @@
 
 mod common;
 
-use common::{check_add, check_batch, check_checked, check_export, check_import, check_k_nearest, check_list, check_nearest, check_open};
-use common::{junk, longer, measures};
-use testing::model::recording;
+use common::{check_add, check_add_labelled, check_batch, check_checked, check_export, check_import, check_k_nearest, check_label, check_list};
+use common::{check_nearest, check_open, check_remote, junk, longer, measures};
 use testing::model::tables::{judge_opening, needs, Lengths, Tables};
-use testing::model::{Library, Measures, Refused, Trace};
-use testing::random::{query, traces, uniform, Random, Shape, SHAPES};
+use testing::model::{recording, Library, Measures, Refused, Trace};
+use testing::random::{label, labels, query, traces, uniform, Random, Shape, SHAPES};
 
 /// What is stored, by the calls' arguments alone.
 struct Book(Option<Library>);
@@ -50,7 +49,7 @@ impl Book {
 fn lengths(random: &mut Random, t: &Tables) -> Lengths {
     let mut l = t.lengths();
     if random.once_in(6) {
-        let length = &mut *l.each()[random.below(5)];
+        let length = &mut *l.each()[random.below(6)];
         *length = random.below(*length + 1);
     }
     l
@@ -73,13 +72,15 @@ const SHEET_CALLS: usize = 4;
 const RECORDING_CALLS: usize = 4;
 const CHECK_CALLS: usize = 2;
 const BATCH_CALLS: usize = 4;
+const LABEL_CALLS: usize = 3;
+const REMOTE_CALLS: usize = 4;
 
 /// A writing, whose sheet is as the book's; or a reading of a sheet, sound or damaged.
 fn sheet_step(random: &mut Random, shape: Shape, t: &mut Tables, book: &mut Book, l: Lengths) {
-    use testing::model::sheet::{blocks_needed, read, seal, write};
+    use testing::model::sheet::{need, read, write_labelled, Sheet};
     let library = book.library().clone();
     if random.once_in(2) {
-        let need = 512 * blocks_needed(library.traces.len() as u64, library.measures.n);
+        let need = need(&library);
         let mut sheet = vec![0x77; if random.once_in(4) { random.below(need) } else { need + random.below(600) }];
         let judged = match book.short(l) {
             Ok(_) if sheet.len() < need => Err((8, 0)),
@@ -87,30 +88,37 @@ fn sheet_step(random: &mut Random, shape: Shape, t: &mut Tables, book: &mut Book
         };
         assert_eq!(common::check_write(t, l, &mut sheet).map(|_| ()), judged);
         if judged.is_ok() {
-            assert_eq!(sheet[..need], write(library.measures, &library.traces));
+            assert_eq!(sheet[..need], write_labelled(library.measures, &library.traces, &library.labels));
         }
         return;
     }
     let m = measures(1 + random.below(9), 1 + random.below(14), 1 + random.below(4));
     let count = random.below(m.capacity as usize + 1);
-    let mut sheet = write(m, &traces(random, shape, m.n as usize, count));
-    if random.once_in(6) {
-        // a measure or the count, well sealed
-        let at = 8 + 2 * random.below(4);
-        sheet[at] = *random.pick(&[0, 1, 2, 65, 255]);
-        seal(&mut sheet[..512]);
-    }
-    if random.once_in(3) {
-        let at = random.below(sheet.len());
-        sheet[at] ^= 1 << random.below(8);
-        if random.once_in(2) {
-            seal(&mut sheet[at / 512 * 512..at / 512 * 512 + 512]);
-        }
-    }
-    let judged = read(&sheet).and_then(|(m, stored)| judge_opening(l, m).map(|_| Library::of(m, &stored)));
+    let mut sheet = write_labelled(m, &traces(random, shape, m.n as usize, count), &labels(random, count));
+    damage(random, &mut sheet);
+    let opened = |held: Sheet| judge_opening(l, held.measures).map(|_| Library::of(held.measures, &held.traces).labelled(&held.labels));
+    let judged = read(&sheet).and_then(opened);
     assert_eq!(common::check_read(t, l, &sheet), judged);
     if let Ok(library) = judged {
         book.0 = Some(library);
+    }
+}
+
+/// Now and then a measure or the count, a block's kind, or any byte is another one, well sealed or not.
+fn damage(random: &mut Random, sheet: &mut [u8]) {
+    use testing::model::sheet::seal;
+    let blocks = sheet.len() / 512;
+    let mut put = |at: usize, value: u8, sealed: bool| {
+        sheet[at] = value;
+        if sealed {
+            seal(&mut sheet[at / 512 * 512..at / 512 * 512 + 512]);
+        }
+    };
+    match random.below(6) {
+        0 => put(8 + 2 * random.below(4), *random.pick(&[0, 1, 2, 65, 255]), true),
+        1 => put(512 * random.below(blocks) + 2, *random.pick(&[1, 2, 5]), true),
+        2 => put(random.below(512 * blocks), random.word() as u8, random.once_in(2)),
+        _ => {}
     }
 }
 
@@ -189,10 +197,44 @@ fn batch_step(random: &mut Random, shape: Shape, t: &mut Tables, book: &mut Book
     assert_eq!(answer.map(|_| ()), judged);
 }
 
+/// An adding, of a trace of n samples or now and then not; with a label, or by the call that gives none.
+fn add_step(random: &mut Random, shape: Shape, t: &mut Tables, book: &mut Book, l: Lengths) {
+    let n = book.library().measures.n as usize;
+    let size = if random.once_in(10) { random.below(12) } else { n };
+    let trace = if size == n { traces(random, shape, n, 1).remove(0) } else { uniform(random, size, -9, 9) };
+    let judged = book.judge_adding(l, size);
+    let given = random.once_in(2).then(|| label(random));
+    let answer = match given {
+        Some(label) => check_add_labelled(t, l, &trace, label),
+        None => check_add(t, l, &trace),
+    };
+    assert_eq!(answer.as_ref().map(|_| ()).map_err(|&e| e), judged);
+    if judged.is_ok() {
+        book.library().add_labelled(&trace, given.unwrap_or_default());
+    }
+}
+
+/// The label of a trace that is stored, or not.
+fn label_step(random: &mut Random, t: &Tables, book: &mut Book, l: Lengths) {
+    let count = book.library().traces.len();
+    let number = if random.once_in(6) { *random.pick(&[65_536, 1 << 32, u64::MAX]) } else { random.below(count + 2) as u64 };
+    let judged = book.short(l).and_then(|library| library.judge_number(number).map(|()| library.labels[number as usize]));
+    assert_eq!(check_label(t, l, number), judged);
+}
+
+fn remote_step(random: &mut Random, shape: Shape, t: &mut Tables, book: &mut Book, l: Lengths) {
+    let (q, mut trail) = some_query(random, shape, book.library());
+    let judged = book.judge_match(l, q.len(), trail.len());
+    let answer = check_remote(t, l, &mut trail, &q);
+    assert_eq!(answer.as_ref().map(|_| ()).map_err(|&e| e), judged);
+    if let Ok(found) = answer {
+        assert_eq!(Some(found), book.library().remote_match(&q));
+    }
+}
+
 fn step(random: &mut Random, shape: Shape, t: &mut Tables, book: &mut Book) {
     let l = lengths(random, t);
-    let n = book.library().measures.n as usize;
-    match random.below(12 + K_NEAREST_CALLS + SHEET_CALLS + RECORDING_CALLS + CHECK_CALLS + BATCH_CALLS) {
+    match random.below(12 + K_NEAREST_CALLS + SHEET_CALLS + RECORDING_CALLS + CHECK_CALLS + BATCH_CALLS + LABEL_CALLS + REMOTE_CALLS) {
         0 => {
             let m = some_measures(random);
             let judged = judge_opening(l, m);
@@ -201,22 +243,15 @@ fn step(random: &mut Random, shape: Shape, t: &mut Tables, book: &mut Book) {
                 book.0 = Some(empty);
             }
         }
-        1..=7 => {
-            let size = if random.once_in(10) { random.below(12) } else { n };
-            let trace = if size == n { traces(random, shape, n, 1).remove(0) } else { uniform(random, size, -9, 9) };
-            let judged = book.judge_adding(l, size);
-            let answer = check_add(t, l, &trace);
-            assert_eq!(answer.as_ref().map(|_| ()).map_err(|&e| e), judged);
-            if judged.is_ok() {
-                book.library().add(&trace);
-            }
-        }
+        1..=7 => add_step(random, shape, t, book, l),
         12..=15 => k_nearest_step(random, shape, t, book, l),
         16..=19 => sheet_step(random, shape, t, book, l),
         20..=23 => recording_step(random, shape, t, book, l),
         // a check accepts every library that calls made: 13 never arises
         24..=25 => assert_eq!(check_checked(t, l).map(|_| ()), book.short(l).map(|_| ())),
-        26.. => batch_step(random, shape, t, book, l),
+        26..=29 => batch_step(random, shape, t, book, l),
+        30..=32 => label_step(random, t, book, l),
+        33.. => remote_step(random, shape, t, book, l),
         _ => {
             let (q, mut trail) = some_query(random, shape, book.library());
             let judged = book.judge_match(l, q.len(), trail.len());

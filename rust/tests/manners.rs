@@ -318,7 +318,7 @@ fn for_programs() {
     let folder = shelf("programs");
     let told = Json::of(&folder.done("info faults.sheet --json"));
     assert_eq!([told.at("traces").number(), told.at("capacity").number(), told.at("names").number()], [36, 64, 36]);
-    assert_eq!(told.at("memory").at("all").number(), 97_738);
+    assert_eq!(told.at("memory").at("all").number(), 98_250);
     let sum = Command::new("sha256sum").arg(folder.0.join("faults.sheet")).output().unwrap().stdout;
     assert_eq!(text(told.at("hash")).as_bytes(), &sum[..64]);
     let sheet = folder.read("faults.sheet");

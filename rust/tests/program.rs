@@ -3,10 +3,10 @@
 mod common;
 
 use common::sheet_vectors;
-use testing::model::sheet::{program_line, write};
+use testing::model::sheet::{program_line, write, write_labelled};
 use testing::model::Measures;
 use testing::program::{self, repository};
-use testing::random::{query, traces, Random, SHAPES};
+use testing::random::{label, query, traces, Random, SHAPES};
 
 /// What the program prints of these bytes.
 fn printed(input: &[u8]) -> String {
@@ -35,6 +35,8 @@ fn sheets_of_every_shape() {
             let m = Measures { n: n as u64, capacity, leaf_size };
             let sheet = write(m, &stored);
             assert_eq!(printed(&sheet), format!("{}\n", program_line(&sheet)), "{shape:?} {m:?}");
+            let labels: Vec<_> = (0..count).map(|_| label(random)).collect();
+            assert_eq!(printed(&write_labelled(m, &stored, &labels)), printed(&sheet), "the program ignores labels");
         }
     }
 }

@@ -1,5 +1,5 @@
 //! Whole scripts of calls with the replies of another implementation: those of `vectors/` that hold at this stage, and a few lines of the protocol that no
-//! file has. What no reply shows is held by the session itself.
+//! file has. They are played by the calls and by the model. What no reply shows is held by the session itself.
 
 mod common;
 
@@ -34,58 +34,77 @@ fn cases(file: &str) -> Vec<Case> {
     list
 }
 
-/// Plays the cases that hold at this stage; so many there are at least.
-fn play(file: &str, at_least: usize) {
-    let held: Vec<Case> = cases(file).into_iter().filter(|case| (0..=STAGE).contains(&case.stage)).collect();
-    assert!(held.len() >= at_least, "{file}: {} cases", held.len());
-    for case in held {
-        // seen if a call breaks a rule
-        println!("{file}: case {}", case.name);
-        let mut session = Session::new();
-        for (call, reply) in &case.lines {
-            assert_eq!(session.play(call).as_ref(), Some(reply), "{file}: case {}: {call}", case.name);
+/// Files of scripts, and how many cases each has at least that hold at this stage.
+type Files = &'static [(&'static str, usize)];
+
+const STAGES: Files = &[("stage-04.txt", 40), ("stage-05.txt", 40), ("stage-06.txt", 40), ("stage-07.txt", 40), ("stage-08.txt", 40)];
+
+/// The tree, bounds, walks and distances with a limit between the calls.
+const INSIDE: Files = &[("inside-04.txt", 25), ("inside-05.txt", 25)];
+
+const ALTERED: Files = &[("altered-04.txt", 30), ("altered-06.txt", 30)];
+
+/// The program's line for a sheet.
+const PROGRAM: Files = &[("program-04.txt", 20), ("program-08.txt", 20)];
+
+/// The smallest cases that tell two readings of document 02 apart.
+const TELLING: Files = &[("telling.txt", 54)];
+
+/// Plays the cases that hold at this stage.
+fn play(files: Files, session: fn() -> Session) {
+    for (file, at_least) in files {
+        let held: Vec<Case> = cases(file).into_iter().filter(|case| (0..=STAGE).contains(&case.stage)).collect();
+        assert!(held.len() >= *at_least, "{file}: {} cases", held.len());
+        for case in held {
+            // seen if a call breaks a rule
+            println!("{file}: case {}", case.name);
+            let mut session = session();
+            for (call, reply) in &case.lines {
+                assert_eq!(session.play(call).as_ref(), Some(reply), "{file}: case {}: {call}", case.name);
+            }
         }
     }
 }
 
 #[test]
 fn the_stage() {
-    play("stage-04.txt", 40);
-    play("stage-05.txt", 40);
-    play("stage-06.txt", 40);
-    play("stage-07.txt", 40);
+    play(STAGES, Session::new);
 }
 
-/// The tree, bounds, walks and distances with a limit between the calls.
 #[test]
 fn looked_inside() {
-    play("inside-04.txt", 25);
-    play("inside-05.txt", 25);
+    play(INSIDE, Session::new);
 }
 
 #[test]
 fn altered_tables() {
-    play("altered-04.txt", 30);
-    play("altered-06.txt", 30);
+    play(ALTERED, Session::new);
 }
 
-/// The program's line for a sheet.
 #[test]
 fn the_program() {
-    play("program-04.txt", 20);
+    play(PROGRAM, Session::new);
 }
 
-/// The smallest cases that tell two readings of document 02 apart.
 #[test]
 fn telling_cases() {
-    play("telling.txt", 38);
+    play(TELLING, Session::new);
 }
 
-/// A script of lines and replies.
+/// The model, which other tests hold the calls to, gives the same replies.
+#[test]
+fn by_the_model() {
+    for files in [STAGES, INSIDE, ALTERED, PROGRAM, TELLING] {
+        play(files, Session::of_the_model);
+    }
+}
+
+/// A script of lines and replies, by the calls and by the model.
 fn says(lines: &[(&str, &str)]) {
-    let mut session = Session::new();
-    for (line, reply) in lines {
-        assert_eq!(session.play(line).as_deref(), Some(*reply), "{line}");
+    for mut session in [Session::new(), Session::of_the_model()] {
+        for (line, reply) in lines {
+            assert_eq!(session.play(line).as_deref(), Some(*reply), "{line}");
+        }
     }
 }
 
@@ -96,6 +115,7 @@ fn two_libraries() {
         ("match 1 | short=control,work", "refused 2 0"),
         ("tree", "tree 0"),
         ("open 4 8 2 | short=links", "refused 2 0"),
+        ("open 4 8 2 | short=labels", "refused 2 0"),
         ("open 257 8 2", "refused 1 0"),
         ("open 4 8 2", "done"),
         ("2 add 1 1 1 1", "refused 3 0"),
@@ -106,6 +126,7 @@ fn two_libraries() {
         ("add 0 8 0 8", "added 2"),
         ("match 2 2 2 2", "matched 0 16 2 3 trail 1 2"),
         ("match 2 2 2 2 | trail=1", "refused 7 0"),
+        ("match 2 2 2 2 | trail=1 short=labels", "refused 2 0"),
         ("2 match 3 | trail=9", "matched 0 16 1 1 trail 0"),
         (
             "tree",
@@ -146,6 +167,7 @@ fn checks() {
         ("open 1 8 1", "done"),
         ("check", "trusted"),
         ("check | short=work", "refused 2 0"),
+        ("check | short=labels", "refused 2 0"),
         ("add 0", "added 0"),
         ("add 4", "added 1"),
         ("check", "trusted"),
@@ -191,6 +213,54 @@ fn batches() {
     ]);
 }
 
+/// Labels given, told, and what is refused; the remote is told the code.
+#[test]
+fn labels() {
+    says(&[
+        ("label 0", "refused 3 0"),
+        ("remote 0", "refused 3 0"),
+        ("addl 1 2 0", "refused 3 0"),
+        ("open 1 8 1", "done"),
+        ("label 0", "refused 12 0"),
+        ("remote 0", "refused 6 0"),
+        ("remote 0 0", "refused 4 0"),
+        ("addl 65535 4294967295 0", "added 0"),
+        ("addl 17 4119 4", "added 1"),
+        ("add 9", "added 2"),
+        ("label 0", "label 65535 4294967295"),
+        ("label 1", "label 17 4119"),
+        ("label 2", "label 0 0"),
+        ("label 3", "refused 12 0"),
+        ("label 3 | short=labels", "refused 2 0"),
+        ("addl 1 1 1 1 | short=labels", "refused 2 0"),
+        ("addl 1 1 1 1", "refused 4 0"),
+        ("match 4", "matched 1 0 1 1 trail 3"),
+        ("remote 4", "remote 1 0 1 1 17 trail 3"),
+        ("remote 4 | trail=2", "refused 7 0"),
+        ("remote 4 | short=labels", "refused 2 0"),
+        ("write | sheet=1535", "refused 8 0"),
+    ]);
+}
+
+/// A sheet of one trace with a label, code 256 and serial 1: read, told, and written again.
+#[test]
+fn a_sheet_with_labels() {
+    let sheet = "000001005452434c0100080002000100*495.5208010002000700*505.2a000200050000010100*503.1e00";
+    says(&[
+        (&format!("read {sheet} | short=labels"), "refused 2 0"),
+        (&format!("read {sheet}"), "done"),
+        ("label 0", "label 256 1"),
+        ("remote 7", "remote 0 0 1 1 256 trail 0"),
+        ("write | sheet=1535", "refused 8 0"),
+        ("write", &format!("written 3 {sheet}")),
+        ("add 8", "added 1"),
+        ("label 1", "label 0 0"),
+        ("open 1 8 1", "done"),
+        ("add 7", "added 0"),
+        ("label 0", "label 0 0"),
+    ]);
+}
+
 #[test]
 fn lines_that_are_no_calls() {
     let mut session = Session::new();
@@ -212,6 +282,14 @@ fn lines_that_are_no_calls() {
         "write 1",
         "check 1",
         "batch 1",
+        "addl 1",
+        "addl 65536 0 1 1",
+        "addl 0 4294967296 1 1",
+        "addl -1 0 1 1",
+        "label",
+        "label 0 0",
+        "label 0 | trail=1",
+        "remote 1 1 | sheet=3",
         "batch 1 1 0 | list=1",
         "check | trail=1",
         "tree 1",

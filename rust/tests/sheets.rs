@@ -1,29 +1,36 @@
-//! Sheets written, read, and damaged at every byte: the calls against the model.
+//! Sheets written, read, and damaged at every byte, with labels and without: the calls against the model.
 
 mod common;
 
-use common::{check_add, check_nearest, check_open, check_read, check_write, junk, longer, measures, sheet_vectors};
-use silkendoz::{Refusal, TraceLibrary};
-use testing::model::sheet::{blocks_needed, check, seal, write};
+use common::{check_add, check_label, check_nearest, check_open, check_read, check_write, junk, longer, measures, sheet_vectors};
+use silkendoz::{Label as Given, Refusal, TraceLibrary};
+use testing::model::sheet::{block, blocks_needed, check, head, label_bytes, need, seal, write, write_labelled};
 use testing::model::tables::{needs, Lengths, Tables};
-use testing::model::{Library, Measures, Trace};
-use testing::random::{query, traces, Random, Shape, SHAPES};
+use testing::model::{Label, Library, Measures, Trace};
+use testing::random::{label, labels, query, traces, Random, Shape, SHAPES};
 
 fn made(random: &mut Random, shape: Shape, m: Measures, count: usize) -> (Library, Tables) {
-    let library = Library::of(m, &traces(random, shape, m.n as usize, count));
+    let library = Library::of(m, &traces(random, shape, m.n as usize, count)).labelled(&labels(random, count));
     let tables = Tables::of(&library);
     (library, tables)
 }
 
-/// Small sheets: none, one and several traces, samples that run on across blocks, and a last block that is just full.
+/// A library's sheet by the model.
+fn sheet_of(library: &Library) -> Vec<u8> {
+    write_labelled(library.measures, &library.traces, &library.labels)
+}
+
+/// Small sheets: none, one and several traces, samples that run on across blocks, and a last block that is just full; with labels, and with
+/// none.
 fn small(random: &mut Random) -> Vec<(Library, Vec<u8>)> {
     [(1, 8, 2, 1), (4, 8, 2, 0), (4, 8, 2, 3), (100, 9, 1, 6), (253, 3, 1, 2), (23, 11, 3, 11), (256, 2, 64, 2)]
         .into_iter()
-        .map(|(n, capacity, leaf_size, count)| {
-            let (library, _) = made(random, Shape::Uniform, measures(n, capacity, leaf_size), count);
-            let sheet = write(library.measures, &library.traces);
-            (library, sheet)
+        .flat_map(|(n, capacity, leaf_size, count)| {
+            let plain = Library::of(measures(n, capacity, leaf_size), &traces(random, Shape::Uniform, n, count));
+            let any: Vec<Label> = (0..count).map(|_| label(random)).collect();
+            [plain.clone().labelled(&any), plain]
         })
+        .map(|library| (library.clone(), sheet_of(&library)))
         .collect()
 }
 
@@ -38,7 +45,7 @@ fn written_and_read() {
     for shape in SHAPES {
         for (n, capacity, leaf_size, count) in [(1, 9, 1, 9), (5, 20, 3, 17), (64, 12, 2, 12), (256, 6, 64, 5), (8, 1, 1, 1), (8, 3, 1, 0)] {
             let (library, t) = made(random, shape, measures(n, capacity, leaf_size), count);
-            let need = 512 * blocks_needed(count as u64, n as u64);
+            let need = need(&library);
             for size in [0, 1, need - 512, need - 1, need, need + 1, need + 700] {
                 let mut sheet = vec![0xc3; size];
                 let answer = check_write(&t, t.lengths(), &mut sheet);
@@ -148,8 +155,8 @@ fn lengths_of_sheets() {
             assert!(check_read(&mut t, room(), &longer).is_err());
         }
     }
-    assert_eq!(check_read(&mut t, room(), &vec![0; 512 * 4147]), Err((8, 0)));
-    assert_eq!(check_read(&mut t, room(), &vec![0; 512 * 4146]), Err((9, 0)));
+    assert_eq!(check_read(&mut t, room(), &vec![0; 512 * 4196]), Err((8, 0)));
+    assert_eq!(check_read(&mut t, room(), &vec![0; 512 * 4195]), Err((9, 0)));
 }
 
 #[test]
@@ -157,15 +164,9 @@ fn short_tables() {
     let random = &mut Random::seeded(46);
     for (library, sheet) in small(random) {
         let need = needs(library.measures);
-        for table in 0..5 {
+        for table in 0..6 {
             let mut l = need;
-            match table {
-                0 => l.control -= 1,
-                1 => l.samples -= 1,
-                2 => l.nodes -= 1,
-                3 => l.links -= 1,
-                _ => l.work -= 1,
-            }
+            *l.each()[table] -= 1;
             assert_eq!(check_read(&mut junk(need), l, &sheet), Err((2, 0)));
             // a torn or a bad sheet comes first
             let mut torn = sheet.clone();
@@ -183,7 +184,7 @@ fn short_tables() {
 fn writing_other_tables() {
     let random = &mut Random::seeded(47);
     let (library, t) = made(random, Shape::Walk, measures(9, 12, 2), 11);
-    let need = 512 * blocks_needed(11, 9);
+    let need = need(&library);
     for place in 0..usize::from(t.control[4]) * 87 {
         for value in [-1, 0, 1, 2, 3, 9, 1 << 40] {
             let mut altered = t.clone();
@@ -202,14 +203,118 @@ fn writing_other_tables() {
 fn the_largest_sheet() {
     let random = &mut Random::seeded(48);
     let stored = traces(random, Shape::Walk, 256, 4096);
-    let mut library = TraceLibrary::open(256, 4096, 64).unwrap();
-    for trace in &stored {
-        library.add(trace).unwrap();
+    let labels: Vec<Label> = (0..4096).map(|_| label(random)).collect();
+    for labelled in [false, true] {
+        let mut library = TraceLibrary::open(256, 4096, 64).unwrap();
+        for (trace, &Label { code, serial }) in stored.iter().zip(&labels) {
+            let number = if labelled { library.add_labelled(trace, Given { code, serial }) } else { library.add(trace) };
+            number.unwrap();
+        }
+        let sheet = library.write_sheet().unwrap();
+        let (blocks, labels) = if labelled { (4195, labels.clone()) } else { (4146, vec![Label::default(); 4096]) };
+        assert_eq!(sheet.len(), 512 * blocks);
+        assert!(sheet == write_labelled(measures(256, 4096, 64), &stored, &labels));
+        assert!(TraceLibrary::read_sheet(&sheet).unwrap() == library);
     }
-    let sheet = library.write_sheet().unwrap();
-    assert_eq!(sheet.len(), 512 * 4146);
-    assert!(sheet == write(measures(256, 4096, 64), &stored));
-    assert!(TraceLibrary::read_sheet(&sheet).unwrap() == library);
+}
+
+// ---- blocks of labels
+
+/// Tables for so many traces of one sample.
+fn room_for(count: usize) -> Lengths {
+    needs(measures(1, count.max(1), 9))
+}
+
+/// Counts of labels about a block's 84: written, read back, and each label told. A label anywhere makes all blocks.
+#[test]
+fn labels_about_a_block() {
+    let random = &mut Random::seeded(51);
+    for count in [1, 2, 83, 84, 85, 167, 168, 169] {
+        let l = room_for(count);
+        for at in [None, Some(0), Some(count / 2), Some(count - 1)] {
+            let mut told = vec![Label::default(); count];
+            if let Some(at) = at {
+                told[at] = *random.pick(&[Label { code: 1, serial: 0 }, Label { code: 0, serial: 1 << 31 }]);
+            }
+            let stored: Vec<Trace> = (0..count).map(|t| vec![t as i16]).collect();
+            let library = Library::of(measures(1, count, 9), &stored).labelled(&told);
+            let mut sheet = vec![0xc3; need(&library)];
+            let blocks = blocks_needed(count as u64, 1) + if at.is_some() { count.div_ceil(84) } else { 0 };
+            assert_eq!(check_write(&Tables::of(&library), l, &mut sheet), Ok(blocks as u64));
+            let mut t = junk(l);
+            assert_eq!(check_read(&mut t, l, &sheet).as_ref(), Ok(&library));
+            for (number, &label) in told.iter().enumerate() {
+                assert_eq!(check_label(&t, l, number as u64), Ok(label));
+            }
+        }
+    }
+}
+
+/// Bytes about the ends of labels, sealed again: the last label's, those behind it, 508 and 509, and those of a block that are no label's.
+#[test]
+fn bytes_of_label_blocks() {
+    let random = &mut Random::seeded(52);
+    let (mut accepted, mut bad) = (0, 0);
+    for count in [1, 83, 84, 85, 169] {
+        let l = room_for(count);
+        let told: Vec<Label> = (0..count).map(|_| label(random)).collect();
+        let stored = vec![vec![7]; count];
+        let sheet = write_labelled(measures(1, count, 9), &stored, &told);
+        for first in (512 * blocks_needed(count as u64, 1)..sheet.len()).step_by(512) {
+            let last = (count * 6) % (84 * 6);
+            for at in [2, 3, 4, 9, 4 + last - 6.min(last), 4 + last, 5 + last, 507, 508, 509] {
+                let mut other = sheet.clone();
+                other[first + at] ^= 1;
+                seal(&mut other[first..first + 512]);
+                match check_read(&mut junk(l), l, &other) {
+                    Ok(_) => accepted += 1,
+                    Err(why) => bad += usize::from(why == (10, 0)),
+                }
+            }
+        }
+    }
+    assert!(accepted > 15 && bad > 30, "{accepted} accepted, {bad} bad");
+}
+
+/// A block of a kind for traces of one sample 7, the `at`-th of its kind: samples, or labels that are zero or not.
+fn piece(count: usize, number: usize, kind: u8, at: usize, zero: bool) -> [u8; 512] {
+    let label = if zero { Label::default() } else { Label { code: 3, serial: 9 } };
+    let part = |room: usize| count.saturating_sub(room * at).min(room);
+    match kind {
+        2 => block(number, 2, &[7, 0].repeat(part(253))),
+        5 => block(number, 5, &label_bytes(label).repeat(part(84))),
+        _ => block(number, kind, &[]),
+    }
+}
+
+/// Every order of up to four blocks behind block 0, of kinds that there are and that there are not: wrong kinds are 9, wrong numbers of
+/// blocks 10.
+#[test]
+fn kinds_and_numbers_of_blocks() {
+    const KINDS: [u8; 6] = [2, 5, 1, 3, 4, 0];
+    let mut told = [0; 3];
+    for count in [0, 1, 84, 85, 254] {
+        let (m, l) = (measures(1, 254, 9), room_for(254));
+        for order in 0..KINDS.len().pow(4) + 1 {
+            // digits of a number in base 6; a kind 0 ends the list
+            let kinds: Vec<u8> = (0..4).map(|place| KINDS[order / KINDS.len().pow(place) % KINDS.len()]).take_while(|&kind| kind != 0).collect();
+            for zero in [false, true] {
+                let mut sheet = block(0, 1, &head(m, count as u64)).to_vec();
+                for (before, &kind) in kinds.iter().enumerate() {
+                    let at = kinds[..before].iter().filter(|&&other| other == kind).count();
+                    sheet.extend(piece(count, before + 1, kind, at, zero));
+                }
+                match check_read(&mut junk(l), l, &sheet) {
+                    Ok(library) => {
+                        assert_eq!(sheet, sheet_of(&library), "an accepted sheet is the one that is written");
+                        told[0] += 1;
+                    }
+                    Err((number, _)) => told[number as usize - 8] += 1,
+                }
+            }
+        }
+    }
+    assert!(told[0] > 8 && told[1] > 1000 && told[2] > 300, "{told:?} accepted, 9 and 10");
 }
 
 /// The line that the program prints, by the wrapper.

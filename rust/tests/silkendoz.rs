@@ -244,7 +244,7 @@ fn described() {
     assert!(out.contains("names             36, in faults.names\n"));
     // the guide's table for n = 64, c = 64
     let last: Vec<&str> = out.lines().last().unwrap().split_whitespace().collect();
-    assert_eq!(last, ["8,192", "88,392", "128", "1,016", "97,738", "128", "9,216"]);
+    assert_eq!(last, ["8,192", "88,392", "128", "1,016", "512", "98,250", "128", "9,728"]);
     folder.write("empty.sheet", TraceLibrary::open(3, 4, 2).unwrap().write_sheet().unwrap());
     assert!(folder.done("info empty.sheet").contains("none: no trace is stored"));
 }
@@ -337,7 +337,7 @@ fn what_is_wrong_with_a_sheet() {
     for (bytes, why) in [
         (vec![], "refused 8, sheet length: the file is empty"),
         (sheet[..1000].to_vec(), "1000 bytes, no multiple of 512: it ends within block 1"),
-        (vec![0; 512 * 4147], "refused 8, sheet length: 2123264 bytes, and the largest sheet has 2122752"),
+        (vec![0; 512 * 4196], "refused 8, sheet length: 2148352 bytes, and the largest sheet has 2147840"),
         (longer, "refused 9, torn block.\n  block 11"),
         (altered(5, b'X'), "refused 10, bad sheet: every block is sound, but it does not begin with the letters TRCL"),
         (altered(9, 2), "but 576 samples, capacity 64 and leaf size 4 are no measures"),

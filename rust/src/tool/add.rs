@@ -3,7 +3,7 @@
 use super::arguments::Arguments;
 use super::reading::{self, Sweep, Wanted};
 use super::shelf::{Held, Shelf};
-use super::{again, files, notes, numbers, plain, refused, saved, Answer, Failure};
+use super::{again, files, labels, notes, numbers, plain, refused, saved, Answer, Failure};
 
 pub fn run(a: &Arguments) -> Answer {
     let (path, sources) = a.one_and_more("LIBRARY", "a FILE with recordings")?;
@@ -11,12 +11,14 @@ pub fn run(a: &Arguments) -> Answer {
         // nobody waits for a lock while somebody types
         files::read_standard()?;
     }
+    let given = labels::Given::of(a)?;
     let held = Held::of(path, !a.has("--no-wait"))?;
     let mut shelf = Shelf::load(path)?;
     held.must_take(true, &[])?;
     let before = shelf.library.len();
     let shown = plain::path(path);
-    let found = reading::all(&sources, &Wanted::of(a, shelf.library.n()))?;
+    let mut found = reading::all(&sources, &Wanted::of(a, shelf.library.n()))?;
+    given.put(&mut found.sweeps)?;
     let known = shelf.names.rates();
     if !a.has("--again") {
         must_be_new(&shelf, &found.sweeps)?;
@@ -31,8 +33,8 @@ pub fn run(a: &Arguments) -> Answer {
         1 => format!("number {before}"),
         _ => format!("numbers {before} to {}", shelf.library.len() - 1),
     };
-    let rates = reading::other_rates(&found.sweeps, &known);
-    saved(format!("{}{shown}: {added} added, {first}; {now}.\n{rates}", notes(&found)), trouble)
+    let (rates, labelled) = (reading::other_rates(&found.sweeps, &known), labels::counted(found.sweeps.iter().map(|sweep| sweep.label)));
+    saved(format!("{}{shown}: {added} added, {first}{labelled}; {now}.\n{rates}", notes(&found)), trouble)
 }
 
 /// Refuses traces that are stored already, or that come twice.

@@ -169,7 +169,7 @@ fn shown(sizes: &[Tried], scans: &Scanned, alone: bool) -> String {
 
 /// The leaf size that is nearest to the best for both kinds of sweep; of those that are nearly as good, the largest, which makes the fewest
 /// nodes.
-fn best<'a>(sizes: &'a [Tried]) -> &'a Tried {
+fn best(sizes: &[Tried]) -> &Tried {
     let least = |of: fn(&Tried) -> f64| sizes.iter().map(of).fold(f64::INFINITY, f64::min);
     let (fresh, near) = (least(|tried| tried.left_out.micros), least(|tried| tried.noisy.micros));
     let worse = |tried: &Tried| tried.left_out.micros / fresh + tried.noisy.micros / near;

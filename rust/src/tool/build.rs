@@ -5,7 +5,7 @@ use super::files::Place;
 use super::names::{beside, Names};
 use super::reading::{self, Found, Wanted, MOST_TRACES};
 use super::shelf::{Held, Shelf};
-use super::{again, notes, numbers, plain, refused, saved, words, wrong, Answer, Failure};
+use super::{again, labels, notes, numbers, plain, refused, saved, words, wrong, Answer, Failure};
 use silkendoz::TraceLibrary;
 use std::collections::BTreeSet;
 use std::path::{Path, PathBuf};
@@ -19,18 +19,20 @@ pub fn run(a: &Arguments) -> Answer {
     let leaf_size = a.number("--leaf-size")?.unwrap_or(LEAF_SIZE);
     let said = a.number("--capacity")?;
     let without: BTreeSet<usize> = a.numbers("--without")?.into_iter().collect();
+    let given = labels::Given::of(a)?;
     let over = a.has("--force");
     // measures and the place are judged before a file is looked at, the place again when it is written
     measures(a, n, said, leaf_size)?;
     let inputs = inputs(&sources);
-    let inputs: Vec<&Path> = inputs.iter().map(PathBuf::as_path).collect();
+    let inputs: Vec<&Path> = inputs.iter().map(PathBuf::as_path).chain(given.file()).collect();
     Held::of(out, !a.has("--no-wait"))?.must_take(over, &inputs)?;
     let mut found = reading::all(&sources, &Wanted { spare: without.len(), ..Wanted::of(a, n) })?;
     leave_out(&mut found, &without)?;
     found.notes.extend(again::lines(std::iter::empty(), &found.sweeps, |_| String::new()));
     let capacity = said.unwrap_or_else(|| room_for(found.sweeps.len()));
     let library = TraceLibrary::open(n, capacity, leaf_size).or_else(|why| refused(words::of_call(why)))?;
-    let mut shelf = Shelf { path: out.to_path_buf(), library, names: Names::default() };
+    given.put(&mut found.sweeps)?;
+    let mut shelf = Shelf::new(out, library, Names::default());
     let shown = plain::path(out);
     if let Err(Failure::Refused(why)) = shelf.put(&found.sweeps) {
         return refused(format!("{shown}: {why} Say `--capacity {}` or more, or leave some out.", found.sweeps.len()));
@@ -40,8 +42,9 @@ pub fn run(a: &Arguments) -> Answer {
     let trouble = held.save(&shelf)?;
     let traces = numbers::count(shelf.library.len(), "trace");
     let samples = numbers::count(n, "sample");
-    let rates = mixed_rates(&shelf.names);
-    saved(format!("{}{shown}: {traces} of {samples}, room for {capacity}, leaf size {leaf_size}.\n{rates}", notes(&found)), trouble)
+    let (rates, labelled) = (mixed_rates(&shelf.names), labels::counted(shelf.library.labels()));
+    let text = format!("{shown}: {traces} of {samples}, room for {capacity}, leaf size {leaf_size}{labelled}.\n{rates}");
+    saved(notes(&found) + &text, trouble)
 }
 
 /// As many again as there are, 64 at least. If that is more than a library holds, as many as it holds.

@@ -3,7 +3,8 @@
 use super::arguments::Arguments;
 use super::files::Place;
 use super::names::Names;
-use super::{blocks, done, files, json, numbers, plain, recordings, words, Answer, Failure};
+use super::words::Held;
+use super::{blocks, done, files, json, labels, numbers, plain, recordings, words, Answer, Failure};
 use silkendoz::{Refusal, TraceLibrary};
 use std::path::Path;
 
@@ -53,7 +54,8 @@ impl Checked {
         let (names, named) = names_of(path, &library);
         let traces = numbers::count(library.len(), "trace");
         let block = numbers::count(bytes.len() / blocks::BLOCK, "block");
-        self.text = format!("{}: sound. {block}, {traces} of {}.\n{names}", self.file, numbers::count(library.n(), "sample"));
+        let (samples, labelled) = (numbers::count(library.n(), "sample"), labels::counted(library.labels()));
+        self.text = format!("{}: sound. {block}, {traces} of {samples}{labelled}.\n{names}", self.file);
         (self.sound, self.named, self.library) = (true, named, Some(library));
     }
 
@@ -141,6 +143,15 @@ fn all_torn(bytes: &[u8], torn: &[usize]) -> String {
     text
 }
 
+/// What torn blocks hold, from the first to the last.
+fn in_brackets(from: Held, to: Held) -> String {
+    match (from.first, to.last) {
+        _ if from.what != to.what => format!(" ({} of traces {} on, {} of traces up to {})", from.what, from.first, to.what, to.last),
+        (one, other) if one == other => format!(" ({} of trace {one})", from.what),
+        (one, other) => format!(" ({} of traces {one} to {other})", from.what),
+    }
+}
+
 fn line(bytes: &[u8], run: &Run, believed: bool) -> String {
     let Run { first, last, what, shift } = run;
     let which = if first == last { format!("block {first}") } else { format!("blocks {first} to {last}") };
@@ -149,10 +160,8 @@ fn line(bytes: &[u8], run: &Run, believed: bool) -> String {
         let joined = if first == shift { ": another sheet begins here, files were joined" } else { ": they stand in the wrong place" };
         return format!("  {which}: {own}{joined}.\n");
     }
-    let ends = (words::traces_in(bytes, *first), words::traces_in(bytes, *last));
-    let held = match ends {
-        (Some((from, _)), Some((_, to))) if believed && from == to => format!(" (samples of trace {from})"),
-        (Some((from, _)), Some((_, to))) if believed => format!(" (samples of traces {from} to {to})"),
+    let held = match (words::held_in(bytes, *first), words::held_in(bytes, *last)) {
+        (Some(from), Some(to)) if believed => in_brackets(from, to),
         _ => String::new(),
     };
     format!("  {which}{held}: {what}.\n")

@@ -303,7 +303,7 @@ pub enum Output {
     Stream(PathBuf),
     /// Somebody listens there.
     Socket(PathBuf),
-    File(Place, bool),
+    File(Box<Place>, bool),
 }
 
 /// An output for a message.
@@ -341,7 +341,7 @@ impl Output {
         let place = Place::of(said)?;
         place.must_not_be(inputs)?;
         place.must_take(over)?;
-        Ok(Output::File(place, over))
+        Ok(Output::File(Box::new(place), over))
     }
 
     pub fn write(self, bytes: &[u8]) -> Result<Written, Failure> {

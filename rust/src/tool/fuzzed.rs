@@ -1,5 +1,6 @@
 //! Files of any bytes: each is taken or refused with words for a terminal, and nothing panics.
 
+use super::labels::{self, Codes};
 use super::names::Lines;
 use super::reading::Wanted;
 use super::{convert, csv, plain, recordings};
@@ -81,5 +82,19 @@ fn names_of_any_bytes() {
             Ok(names) => (0..4).for_each(|number| fine(names.shown(number))),
             Err(super::Failure::Refused(why) | super::Failure::Usage(why)) => fine(&why),
         }
+    }
+}
+
+#[test]
+fn labels_and_codes_of_any_bytes() {
+    let random = &mut Random::seeded(4);
+    let told = |failure: super::Failure| match failure {
+        super::Failure::Refused(why) | super::Failure::Usage(why) => fine(&why),
+    };
+    for _ in 0..ROUNDS {
+        let file = altered(random, b"file,code,serial\n\"dry, right\",0x11,4119\n# no\nworn;1;2\na\t65535\t4294967295\n");
+        labels::lines(Path::new("l.csv"), file).map_or_else(told, |lines| assert!(lines.len() < 12));
+        let file = altered(random, b"0x0011 dry rail, right\n1\thealthy\n# no\n65535,worn\n");
+        Codes::of(Path::new("l.codes"), file).map_or_else(told, |codes| fine(&codes.fault(17)));
     }
 }

@@ -2,15 +2,16 @@
 
 use super::arguments::Arguments;
 use super::{
-    add, advise, build, check, done, export, info, list, matching, pages, plain, plot, rename, repair, report, salvage, wrong, Answer, Command,
-    Failure,
+    add, advise, build, check, done, export, info, list, matching, pages, plain, plot, remote, rename, repair, report, salvage, wrong, Answer,
+    Command, Failure,
 };
 use std::path::Path;
 
-pub const COMMANDS: [Command; 16] = [
+pub const COMMANDS: [Command; 17] = [
     Command {
         name: "build",
-        usage: "OUT.sheet --samples N [--capacity C] [--leaf-size S] [--cut] [--convert] [--without N,M] [--force] FILE..",
+        usage: "OUT.sheet --samples N [--capacity C] [--leaf-size S] [--code C] [--serial S] [--labels L] [--cut] [--convert] \
+                [--without N,M] [--force] FILE..",
         about: "recordings into a library",
         text: "\
 Makes a library of all traces in the FILEs, in their order: the sheet OUT.sheet, and OUT.names beside it, a line a trace: its number, its
@@ -23,6 +24,10 @@ name, its file, its rate in samples a second, and a hash of its samples, by whic
   --convert       a WAV of several channels, of 8, 24 or 32 bits, of floating point or with tags is brought to the plain form: the first
                   channel, the upper 16 bits; what was done is said
   --without N,M   leave out these traces, counted from 0 through all FILEs: of one sheet alone, by their numbers there
+  --code C        the fault code of all these traces, 0 to 65535, in decimal or as 0x0412: the remote is told it
+  --serial S      the serial of the machine that they are of, 0 to 4294967295: the remote is not told it
+  --labels L      a file with a label for each: a line a trace, its name or its file, its code and its serial, with commas, semicolons or
+                  tabs between them; lines that begin with # are passed over. Each line has to fit a trace
   --force         overwrite OUT.sheet and OUT.names; never a FILE that is read
   --no-wait       if another run is writing there, refuse; unless said, wait for it
 
@@ -30,25 +35,30 @@ A FILE is a WAV recording (16-bit PCM, one channel, the usual header of 44 bytes
 a trace a line, with commas or spaces between the samples, with or without a name in the first column (in double quotes, if it has
 separators or looks like a number; lines that begin with # are passed over); or the sheet of another library, whose names come along; or a
 folder, for all files in it that end in .wav, .csv, .tsv or .txt; or -, for standard input. A trace without a name is called by its file.
+
+Labels are part of the sheet, and those of another library come along, unless others are given here. A stored label cannot be changed:
+build a new library of the old one, with `--labels`. Words for codes stand in OUT.codes, if you write such a file: a code and its word a
+line.
 ",
-        values: &["--samples", "--capacity", "--leaf-size", "--without"],
+        values: &["--samples", "--capacity", "--leaf-size", "--without", "--code", "--serial", "--labels"],
         flags: &["--force", "--cut", "--convert", "--no-wait"],
         run: build::run,
     },
     Command {
         name: "add",
-        usage: "LIBRARY [--again] [--cut] [--convert] [--no-wait] FILE..",
+        usage: "LIBRARY [--code C] [--serial S] [--labels L] [--again] [--cut] [--convert] [--no-wait] FILE..",
         about: "more recordings into a library, all or none",
         text: "\
 Adds all traces in the FILEs to the library, in their order, with their names. If one of them cannot be taken, or there is no room for all,
 nothing is added; nor if one of them is stored already, sample by sample, or comes twice. FILEs are those of `silkendoz help build`.
 
+  --code C, --serial S, --labels L   labels, as for `build`
   --again     add traces that are stored already or come twice, too
   --cut       whole traces of a recording that ends in the midst of one
   --convert   recordings of other forms
   --no-wait   if another run is writing the library, refuse; unless said, wait for it
 ",
-        values: &[],
+        values: &["--code", "--serial", "--labels"],
         flags: &["--again", "--cut", "--convert", "--no-wait"],
         run: add::run,
     },
@@ -74,19 +84,36 @@ root of the mean square. Below them stands the verdict, with its figures:
   between two faults    another fault is that near too; or none is, but a mixture of the two nearest
   like nothing stored   the nearest is farther than that
 
-The fault is what a trace's name says before its last comma. If all K nearest are of one fault, twice as many are looked at, up to 16, to
-find another; with `-k 1` no other is looked for. If no fault is stored twice, nothing is judged. Then comes what else is to be known:
+The fault is a trace's code, with its word if LIBRARY's .codes has one; of a trace without a code it is what its name says before its last
+comma. A library with labels shows code and serial of each trace. If all K nearest are of one fault, twice as many are looked at, up to 16,
+to find another; with `-k 1` no other is looked for. If no fault is stored twice, nothing is judged. Then comes what else is to be known:
 that the sweep is stored already, samples at the converter's limit, another rate than the library's; and how much of the library was read.
 
 The object has `library` (`file`, `samples`, `traces`, `leaves`, `rates`), `sweeps`, a list, and `notes`. Of each sweep: `name`, `file`,
-`rate`; `nearest`, a list of K (`number`, `name`, `distance`, `a_sample`); `verdict` (`word`, `text`, `fault`, `a_sample`, `other_fault`,
-`other_fault_trace`, `other_fault_a_sample`, `other_fault_times_as_far`, `between_share`, `between_a_sample`, `all_of_one_fault`,
-`stored_apart_least`, `stored_apart_greatest`); `clipped_samples`, `stored_already_as`, `remarks`, `nearest_looked_at`, `leaves_read`,
-`traces_read`. What there is none of is null.
+`rate`; `nearest`, a list of K (`number`, `name`, `distance`, `a_sample`, `code`, `serial`); `verdict` (`word`, `text`, `fault`, `a_sample`,
+`other_fault`, `other_fault_trace`, `other_fault_a_sample`, `other_fault_times_as_far`, `between_share`, `between_a_sample`,
+`all_of_one_fault`, `stored_apart_least`, `stored_apart_greatest`); `clipped_samples`, `stored_already_as`, `remarks`, `nearest_looked_at`,
+`leaves_read`, `traces_read`. What there is none of is null.
 ",
         values: &["-k"],
         flags: &["--json", "--tsv", "--cut", "--convert"],
         run: matching::run,
+    },
+    Command {
+        name: "remote",
+        usage: "LIBRARY FILE.. [--json] [--cut] [--convert]",
+        about: "what the jog remote is told of a sweep, and no more",
+        text: "\
+Shows what the remote's one call tells of the sweeps in the FILEs, a line each: the nearest trace's number, its fault code, its distance,
+and how much was read. Nothing of serials, and no names, which may say which machine a trace is of. The word for a code is from LIBRARY's
+.codes, which a remote may have too.
+
+  --json      one object for programs: `sweeps`, a list (`name`, `file`, `number`, `distance`, `code`, `leaves_read`, `traces_read`)
+  --cut, --convert   as for `match`
+",
+        values: &[],
+        flags: &["--json", "--cut", "--convert"],
+        run: remote::run,
     },
     Command {
         name: "plot",
@@ -132,7 +159,8 @@ The date is today's, by UTC, or that of SOURCE_DATE_EPOCH if it is set.
         usage: "LIBRARY [--json]",
         about: "what a library holds, and the memory it needs",
         text: "\
-Shows the measures of a library, how many traces and names it holds, what its tree looks like, and how much memory a controller needs.
+Shows the measures of a library, how many traces, names and labels it holds, what its tree looks like, and how much memory a controller
+needs.
 
   --json   one object for programs, with the SHA-256 of the sheet
 ",
@@ -145,9 +173,11 @@ Shows the measures of a library, how many traces and names it holds, what its tr
         usage: "LIBRARY [--json]",
         about: "the traces of a library with their names",
         text: "\
-Lists the traces of a library: number, name, file, and the rate in samples a second, as far as these are known.
+Lists the traces of a library: number, name, file, and the rate in samples a second, as far as these are known; code and serial, if it has
+labels.
 
-  --json   one object for programs: `file`, `samples`, and `traces`, a list: of each its `number`, `name`, `file`, `rate` and `hash`
+  --json   one object for programs: `file`, `samples`, and `traces`, a list: of each its `number`, `name`, `file`, `rate`, `code`, `serial`
+           and `hash`
 ",
         values: &[],
         flags: &["--json"],
@@ -171,8 +201,8 @@ Gives the trace of this NUMBER another NAME. The sheet stays as it is.
         usage: "[--json] FILE..",
         about: "whether sheets are sound, and every torn block",
         text: "\
-Says of each sheet whether it is sound. Of one that is not, every torn block is shown with the traces whose samples stand there, and what
-is wrong with a sheet whose blocks are sound. Exit status 1 if one of them is not sound, or has names that do not fit.
+Says of each sheet whether it is sound. Of one that is not, every torn block is shown with the traces whose samples or labels stand there,
+and what is wrong with a sheet whose blocks are sound. Exit status 1 if one of them is not sound, or has names that do not fit.
 
   --json   a list for programs: of each file `file`, `sound`, `names_fit`, `refusal`, `torn_blocks`, `samples`, `traces`, and `lines`
 ",
@@ -202,8 +232,9 @@ of B.
         usage: "TORN -o OUT [--samples N] [--force] [--no-wait]",
         about: "the traces of a torn sheet's sound blocks",
         text: "\
-Makes a library of those traces whose samples stand in sound blocks of a torn sheet, with their names, and says which traces are lost. The
-numbers of those behind a lost one change. With a second copy of the same writing take `silkendoz repair`, which loses nothing.
+Makes a library of those traces whose samples stand in sound blocks of a torn sheet, with their names, and with their labels if these stand
+in sound blocks too; says which traces are lost, and how many labels. The numbers of those behind a lost one change. With a second copy of
+the same writing take `silkendoz repair`, which loses nothing.
 
   -o OUT        where the library goes; `-` is standard output, without names
   --samples N   samples a trace, 1 to 256, if block 0, which says it, is torn
@@ -279,7 +310,7 @@ Lists the commands, or says all about one.
 ];
 
 pub fn command(name: &str) -> Option<&'static Command> {
-    static ALL: [Command; 16] = COMMANDS;
+    static ALL: [Command; 17] = COMMANDS;
     ALL.iter().find(|command| command.name == name)
 }
 

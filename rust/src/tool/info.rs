@@ -1,10 +1,12 @@
 //! `info`: what a library holds, its tree, and the memory that a controller needs for it.
 
 use super::arguments::Arguments;
+use super::blocks::{LABELS, SAMPLES};
 use super::shelf::Shelf;
 use super::table::{self, Column};
 use super::{done, json, numbers, plain, Answer, Failure};
-use silkendoz::TraceLibrary;
+use silkendoz::{Label, TraceLibrary};
+use std::collections::BTreeSet;
 use std::path::Path;
 
 pub fn run(a: &Arguments) -> Answer {
@@ -20,6 +22,9 @@ pub fn run(a: &Arguments) -> Answer {
     line("traces", format!("{} of {}", l.len(), l.capacity()));
     line("names", named(&shelf)?);
     line("rate", rates(&shelf));
+    if shelf.is_labelled() {
+        line("labels", labelled(&shelf)?);
+    }
     line("leaf size", l.leaf_size().to_string());
     line("tree", tree(l));
     text.push_str("Memory for a controller, in bytes:\n");
@@ -28,7 +33,7 @@ pub fn run(a: &Arguments) -> Answer {
 }
 
 fn named(shelf: &Shelf) -> Result<String, Failure> {
-    let [_, path] = shelf.files()?.map(|path| plain::path(&path));
+    let [_, path, _] = shelf.files()?.map(|path| plain::path(&path));
     let left = match shelf.names.left() {
         0 => String::new(),
         left => format!("; {} there fit no trace", numbers::count(left, "line")),
@@ -37,6 +42,30 @@ fn named(shelf: &Shelf) -> Result<String, Failure> {
         0 => format!("none (no line of {path} fits, or it is not there){left}"),
         known => format!("{known}, in {path}{left}"),
     })
+}
+
+/// The codes and the serials of its traces, each once.
+fn different(shelf: &Shelf) -> (BTreeSet<u16>, BTreeSet<u32>) {
+    let codes = shelf.library.labels().map(|label| label.code).filter(|code| *code != 0);
+    let serials = shelf.library.labels().map(|label| label.serial).filter(|serial| *serial != 0);
+    (codes.collect(), serials.collect())
+}
+
+/// How many traces have a label.
+fn with_label(shelf: &Shelf) -> usize {
+    shelf.library.labels().filter(|label| *label != Label::default()).count()
+}
+
+fn labelled(shelf: &Shelf) -> Result<String, Failure> {
+    let [_, _, path] = shelf.files()?.map(|path| plain::path(&path));
+    let (codes, serials) = different(shelf);
+    let known = codes.iter().filter(|code| shelf.codes.word(**code).is_some()).count();
+    let words = match known {
+        0 => String::new(),
+        known => format!(" ({known} with a word in {path})"),
+    };
+    let (some, all) = (with_label(shelf), shelf.library.len());
+    Ok(format!("{some} of {all}: {}{words}, {}", numbers::count(codes.len(), "code"), numbers::count(serials.len(), "serial")))
 }
 
 /// The rates of its recordings, as far as they are known.
@@ -63,22 +92,23 @@ fn tree(l: &TraceLibrary) -> String {
     }
 }
 
-/// As the guide's table of memory needs: each table, all of them with the control record, the trail, a full sheet.
-fn needs(l: &TraceLibrary) -> [usize; 7] {
+/// As the guide's table of memory needs: each table, all of them with the control record, the trail, a full sheet with labels.
+fn needs(l: &TraceLibrary) -> [usize; 8] {
     let (n, c) = (l.n(), l.capacity());
-    let [samples, nodes, links, work] = [2 * c * n, 8 * (2 * c - 1) * 87, 2 * c, 8 * (2 * c - 1)];
-    [samples, nodes, links, work, samples + nodes + links + work + 10, 2 * c, 512 * (1 + (c * n).div_ceil(253))]
+    let [samples, nodes, links, work, labels] = [2 * c * n, 8 * (2 * c - 1) * 87, 2 * c, 8 * (2 * c - 1), 8 * c];
+    let all = samples + nodes + links + work + labels + 10;
+    [samples, nodes, links, work, labels, all, 2 * c, 512 * (1 + (c * n).div_ceil(SAMPLES) + c.div_ceil(LABELS))]
 }
 
 fn memory(l: &TraceLibrary) -> String {
-    let columns = ["samples", "node records", "links", "search work", "in all, with the control record", "trail", "sheet, when full"];
-    table::text(&columns.map(|name| Column(name, true)), &[needs(l).map(numbers::grouped).to_vec()])
+    let tables = ["samples", "node records", "links", "search work", "labels", "in all, with the control record", "trail", "sheet, when full"];
+    table::text(&tables.map(|name| Column(name, true)), &[needs(l).map(numbers::grouped).to_vec()])
 }
 
 fn in_json(shelf: &Shelf) -> String {
     let l = &shelf.library;
     let depth = l.leaves().iter().map(|leaf| leaf.depth).max().unwrap_or_default();
-    let columns = ["samples", "node_records", "links", "search_work", "all", "trail", "full_sheet"];
+    let columns = ["samples", "node_records", "links", "search_work", "labels", "all", "trail", "full_sheet"];
     let memory: Vec<(&str, String)> = columns.into_iter().zip(needs(l).map(|bytes| bytes.to_string())).collect();
     let rates: Vec<String> = shelf.names.rates().iter().map(u32::to_string).collect();
     let fields = [
@@ -91,6 +121,9 @@ fn in_json(shelf: &Shelf) -> String {
         ("names", shelf.names.known().to_string()),
         ("lines_that_fit_no_trace", shelf.names.left().to_string()),
         ("rates", json::array(&rates)),
+        ("labels", with_label(shelf).to_string()),
+        ("codes", different(shelf).0.len().to_string()),
+        ("serials", different(shelf).1.len().to_string()),
         ("nodes", l.node_count().to_string()),
         ("leaves", l.leaf_count().to_string()),
         ("depth", depth.to_string()),

@@ -5,7 +5,7 @@ use super::reading::{self, Found, Sweep, Wanted};
 use super::shelf::Shelf;
 use super::table::{self, Column};
 use super::verdict::{self, Faults, Verdict};
-use super::{done, json, notes, numbers, plain, refused, words, wrong, Answer, Failure};
+use super::{done, json, labels, notes, numbers, plain, refused, words, wrong, Answer, Failure};
 use silkendoz::{KNearest, Neighbour};
 
 /// How many are listed unless it is said.
@@ -80,7 +80,7 @@ impl Match<'_> {
 
     fn in_full(&self, shelf: &Shelf) -> String {
         let rows: Vec<Vec<String>> = self.list.iter().map(|near| row(shelf, near)).collect();
-        let listed = table::text(&[Column("no.", true), Column("name", false), Column("distance", true), Column("a sample", true)], &rows);
+        let listed = table::text(&row_columns(shelf), &rows);
         let remarks: String = self.remarks.iter().map(|remark| format!("{remark}\n")).collect();
         format!("{}\n{listed}{}\n{remarks}{}\n", self.sweep.shown(), self.verdict.text(), self.read(shelf))
     }
@@ -90,8 +90,10 @@ impl Match<'_> {
         let near = |near: &Neighbour| {
             let name = shelf.names.of(near.trace).map_or("null".to_string(), |name| json::text(&name.name));
             let apart = format!("{:.3}", numbers::per_sample(near.distance, n));
-            let (number, distance) = (near.trace.to_string(), near.distance.to_string());
-            json::object(&[("number", number), ("name", name), ("distance", distance), ("a_sample", apart)])
+            let (number, distance, label) = (near.trace.to_string(), near.distance.to_string(), shelf.label(near.trace));
+            let (code, serial) = (label.code.to_string(), label.serial.to_string());
+            let fields = [("number", number), ("name", name), ("distance", distance), ("a_sample", apart), ("code", code), ("serial", serial)];
+            json::object(&fields)
         };
         let list: Vec<String> = self.list.iter().map(near).collect();
         let remarks: Vec<String> = self.remarks.iter().map(|remark| json::text(remark)).collect();
@@ -112,23 +114,33 @@ impl Match<'_> {
     }
 }
 
-/// Number, name, distance, distance a sample.
+/// Number, name, distance, distance a sample; code and serial, if the library has labels.
 fn row(shelf: &Shelf, near: &Neighbour) -> Vec<String> {
     let apart = numbers::per_sample(near.distance, shelf.library.n());
-    vec![near.trace.to_string(), shelf.names.shown(near.trace).to_string(), near.distance.to_string(), format!("{apart:.1}")]
+    let (number, name) = (near.trace.to_string(), shelf.names.shown(near.trace).to_string());
+    let figures = [near.distance.to_string(), format!("{apart:.1}")];
+    let told = match shelf.is_labelled() {
+        true => vec![number, labels::shown(shelf.label(near.trace).code), name, labels::shown_serial(shelf.label(near.trace).serial)],
+        false => vec![number, name],
+    };
+    told.into_iter().chain(figures).collect()
 }
 
-const IN_LINES: [Column; 9] = [
-    Column("sweep", false),
-    Column("verdict", false),
-    Column("no.", true),
-    Column("name", false),
-    Column("distance", true),
-    Column("a sample", true),
-    Column("nearest other fault", false),
-    Column("as far", true),
-    Column("leaves read", true),
-];
+/// The headings of these.
+fn row_columns(shelf: &Shelf) -> Vec<Column> {
+    let told = match shelf.is_labelled() {
+        true => vec![Column("no.", true), Column("code", false), Column("name", false), Column("serial", true)],
+        false => vec![Column("no.", true), Column("name", false)],
+    };
+    told.into_iter().chain([Column("distance", true), Column("a sample", true)]).collect()
+}
+
+/// The headings of a sweep's line.
+fn columns(shelf: &Shelf) -> Vec<Column> {
+    let before = [Column("sweep", false), Column("verdict", false)];
+    let behind = [Column("nearest other fault", false), Column("as far", true), Column("leaves read", true)];
+    before.into_iter().chain(row_columns(shelf)).chain(behind).collect()
+}
 
 /// The cells of a sweep's line.
 fn cells(shelf: &Shelf, one: &Match<'_>) -> Vec<String> {
@@ -144,7 +156,7 @@ fn cells(shelf: &Shelf, one: &Match<'_>) -> Vec<String> {
 fn in_lines(shelf: &Shelf, read: &Found, found: &[Match<'_>]) -> String {
     let mut text: String = read.several.iter().map(|line| format!("{line}\n")).collect();
     let rows: Vec<Vec<String>> = found.iter().map(|one| cells(shelf, one)).collect();
-    text.push_str(&table::text(&IN_LINES, &rows));
+    text.push_str(&table::text(&columns(shelf), &rows));
     if let Some(apart) = found.first().and_then(|one| one.verdict.apart()) {
         text.push_str(&format!("Verdicts are by this: {apart}.\n"));
     }
@@ -159,7 +171,7 @@ const BEHIND: [&str; 4] = ["file", "remarks", "stored apart, least", "stored apa
 
 /// The same cells with tabs between them, the headings first.
 fn in_tsv(shelf: &Shelf, found: &[Match<'_>]) -> String {
-    let mut lines = vec![IN_LINES.iter().map(|column| column.0).chain(BEHIND).collect::<Vec<_>>().join("\t")];
+    let mut lines = vec![columns(shelf).iter().map(|column| column.0).chain(BEHIND).collect::<Vec<_>>().join("\t")];
     for one in found {
         let mut cells = cells(shelf, one);
         let [least, greatest] = one.verdict.apart_in_cells();

@@ -25,11 +25,16 @@ pub struct Names {
 
 /// `faults.sheet` has its names in `faults.names`, a sheet of another ending in a file with `.names` behind it.
 pub fn beside(sheet: &Path) -> PathBuf {
-    if sheet.extension().is_some_and(|ending| ending == "sheet") {
-        sheet.with_extension("names")
+    with_ending(sheet, "names")
+}
+
+/// The file of another ending beside a sheet.
+pub fn with_ending(sheet: &Path, ending: &str) -> PathBuf {
+    if sheet.extension().is_some_and(|own| own == "sheet") {
+        sheet.with_extension(ending)
     } else {
         let mut path = sheet.as_os_str().to_os_string();
-        path.push(".names");
+        path.push(format!(".{ending}"));
         path.into()
     }
 }

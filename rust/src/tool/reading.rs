@@ -5,6 +5,7 @@ use super::names::{named, Name};
 use super::plain::{self, clean};
 use super::shelf::Shelf;
 use super::{csv, disk, files, numbers, recordings, refused, Failure};
+use silkendoz::Label;
 use std::path::{Path, PathBuf};
 
 /// As many traces as a library holds at most: no more are read.
@@ -18,6 +19,8 @@ pub struct Sweep {
     /// Samples a second, if the file says it.
     pub rate: Option<u32>,
     pub samples: Vec<i16>,
+    /// What its library says of it, or what was given.
+    pub label: Label,
 }
 
 impl Sweep {
@@ -166,7 +169,7 @@ fn in_folder(path: &Path) -> Option<Result<Vec<PathBuf>, String>> {
 fn recorded(path: &Path, bytes: &[u8], wanted: &Wanted) -> Result<Found, Failure> {
     match recordings::take(bytes, wanted) {
         Ok(taken) => {
-            let traces = (1..).zip(taken.traces).map(|(place, samples)| Placed { place, name: None, rate: Some(taken.rate), samples });
+            let traces = (1..).zip(taken.traces).map(|(place, samples)| Placed::unlabelled(place, None, Some(taken.rate), samples));
             let notes = taken.notes.iter().map(|note| format!("{}: {note}", plain::path(path)));
             Ok(Found { sweeps: named_by_file(path, "trace", traces.collect())?, notes: notes.collect(), ..Found::default() })
         }
@@ -184,7 +187,8 @@ fn shelved(path: &Path, shelf: &Shelf, n: usize) -> Result<Vec<Sweep>, Failure> 
     }
     let named = (0..shelf.library.len()).map(|place| {
         let name = shelf.names.of(place);
-        Placed { place, name: name.map(|name| name.name.clone()), rate: shelf.names.rate_of(place), samples: shelf.trace(place).to_vec() }
+        let (name, label) = (name.map(|name| name.name.clone()), shelf.label(place));
+        Placed { place, name, rate: shelf.names.rate_of(place), samples: shelf.trace(place).to_vec(), label }
     });
     let mut sweeps = named_by_file(path, "trace", named.collect())?;
     // where a trace was recorded is known here, if it is known at all
@@ -203,7 +207,7 @@ fn written(path: &Path, bytes: Vec<u8>, n: usize) -> Result<Vec<Sweep>, Failure>
         Ok(lines) => lines,
         Err(wrong) => return refused(format!("{shown}, line {}: {}", wrong.line, wrong.what)),
     };
-    let placed = lines.into_iter().map(|line| Placed { place: line.number, name: line.name, rate: None, samples: line.samples });
+    let placed = lines.into_iter().map(|line| Placed::unlabelled(line.number, line.name, None, line.samples));
     named_by_file(path, "line", placed.collect())
 }
 
@@ -213,6 +217,13 @@ struct Placed {
     name: Option<String>,
     rate: Option<u32>,
     samples: Vec<i16>,
+    label: Label,
+}
+
+impl Placed {
+    fn unlabelled(place: usize, name: Option<String>, rate: Option<u32>, samples: Vec<i16>) -> Placed {
+        Placed { place, name, rate, samples, label: Label::default() }
+    }
 }
 
 /// A trace without a name gets the file's, and if there are several, its place.
@@ -221,10 +232,10 @@ fn named_by_file(path: &Path, what: &str, traces: Vec<Placed>) -> Result<Vec<Swe
     let stem = clean(&path.file_stem().unwrap_or_default().to_string_lossy());
     let several = traces.len() > 1;
     let fallback = |place: usize| if several { format!("{stem}, {what} {place}") } else { stem.clone() };
-    let made = traces.into_iter().map(|Placed { place, name, rate, samples }| {
+    let made = traces.into_iter().map(|Placed { place, name, rate, samples, label }| {
         let name = name.unwrap_or_else(|| fallback(place));
         let name = named(&name).or_else(|why| refused(format!("{file}, {what} {place}: {why}")))?;
-        Ok(Sweep { name, file: file.clone(), rate, samples })
+        Ok(Sweep { name, file: file.clone(), rate, samples, label })
     });
     made.collect()
 }

@@ -35,7 +35,7 @@ pub fn run(a: &Arguments) -> Answer {
     let (names, kept) = kept_names([first, second], &library, &out)?;
     let held = Held::of(&out, !a.has("--no-wait"))?;
     held.must_take(over, &inputs)?;
-    let trouble = held.save(&Shelf { path: out, library, names })?;
+    let trouble = held.save(&Shelf::new(&out, library, names))?;
     saved(text + &kept, trouble)
 }
 

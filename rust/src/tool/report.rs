@@ -23,8 +23,8 @@ pub fn run(a: &Arguments) -> Answer {
     let many = faults_asked(a)?;
     let out = a.path("-o").unwrap_or_else(|| beside(file, "html"));
     let shelf = Shelf::load(library)?;
-    let [sheet, names] = shelf.files()?;
-    let output = Output::of(&out, a.has("--force"), &[&sheet, &names, file])?;
+    let [sheet, names, codes] = shelf.files()?;
+    let output = Output::of(&out, a.has("--force"), &[&sheet, &names, &codes, file])?;
     let read = reading::one(file, &Wanted::of(a, shelf.library.n()))?;
     let (sweep, which) = chosen(a, file, &read.sweeps)?;
     let faults = Faults::of(&shelf)?;

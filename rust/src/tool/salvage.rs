@@ -1,12 +1,12 @@
-//! `salvage`: a library of the traces whose samples stand in sound blocks of a torn sheet, with their names.
+//! `salvage`: a library of the traces whose samples stand in sound blocks of a torn sheet, with their names, and their labels if these do.
 
 use super::arguments::Arguments;
-use super::blocks::{self, BLOCK, SAMPLES};
+use super::blocks::{self, BLOCK, LABELS, OF_LABELS, SAMPLES};
 use super::files::{Output, Place};
 use super::names::{self, Lines, Names};
 use super::shelf::{Held, Shelf};
 use super::{build, files, numbers, plain, reading, refused, saved, words, written, wrong, Answer, Failure};
-use silkendoz::TraceLibrary;
+use silkendoz::{Label, TraceLibrary};
 use std::path::Path;
 
 pub fn run(a: &Arguments) -> Answer {
@@ -21,11 +21,13 @@ pub fn run(a: &Arguments) -> Answer {
     let lines = Lines::read(&beside)?;
     let mut library = TraceLibrary::open(sheet.n, sheet.capacity, sheet.leaf_size).or_else(|why| refused(words::of_call(why)))?;
     let mut kept = Names::default();
-    let mut lost = Vec::new();
+    let (mut lost, mut unlabelled) = (Vec::new(), 0);
     for number in 0..sheet.count {
         match sheet.trace(number) {
             Some(samples) => {
-                library.add(&samples).or_else(|why| refused(words::of_call(why)))?;
+                let label = sheet.label(number);
+                unlabelled += usize::from(label.is_none());
+                library.add_labelled(&samples, label.unwrap_or_default()).or_else(|why| refused(words::of_call(why)))?;
                 kept.push(lines.name_of(number, Some(&samples)));
             }
             None => lost.push((number, lines.name_of(number, None))),
@@ -34,8 +36,8 @@ pub fn run(a: &Arguments) -> Answer {
     if library.is_empty() {
         return refused(format!("{}: no trace stands in sound blocks alone. Nothing was written.", plain::path(torn)));
     }
-    let shelf = Shelf { path: out.clone(), library, names: kept };
-    let text = told(&out, &shelf, &sheet, &lost);
+    let shelf = Shelf::new(&out, library, kept);
+    let text = told(&out, &shelf, &sheet, &lost) + &without_labels(unlabelled);
     if !matches!(output, Output::File(..)) {
         let bytes = shelf.library.write_sheet().or_else(|why| refused(words::of_call(why)))?;
         return written(text, output.write(&bytes)?);
@@ -63,6 +65,8 @@ struct Torn {
     capacity: usize,
     leaf_size: usize,
     count: usize,
+    /// The first block of labels, if there are such.
+    labels: Option<usize>,
 }
 
 impl Torn {
@@ -83,11 +87,15 @@ impl Torn {
                 if said.is_some_and(|said| said != n) {
                     return refused(format!("{shown}: block 0 is sound, and says {n} samples a trace. Leave out `--samples`."));
                 }
-                Ok(Torn { bytes, sound, n, capacity, leaf_size, count: count.min(capacity) })
+                let first = 1 + (n * count).div_ceil(SAMPLES);
+                let labels = Some(first).filter(|first| *first < sound.len());
+                Ok(Torn { bytes, sound, n, capacity, leaf_size, count: count.min(capacity), labels })
             }
             (false, Some(n)) => {
-                let count = ((sound.len() - 1) * SAMPLES / n).min(reading::MOST_TRACES);
-                Ok(Torn { bytes, sound, n, capacity: build::room_for(count), leaf_size: build::LEAF_SIZE, count })
+                // labels stand behind all samples
+                let labels = (1..sound.len()).find(|&block| sound[block] && bytes[BLOCK * block + 2] == OF_LABELS);
+                let count = ((labels.unwrap_or(sound.len()) - 1) * SAMPLES / n).min(reading::MOST_TRACES);
+                Ok(Torn { bytes, sound, n, capacity: build::room_for(count), leaf_size: build::LEAF_SIZE, count, labels })
             }
             (false, None) => refused(format!(
                 "{shown}: block 0, which says how long a trace is, is torn. If you know it, say `--samples N`; traces of zeros may come at the end."
@@ -103,6 +111,26 @@ impl Torn {
             self.sound.get(block).copied().unwrap_or(false).then(|| i16::from_le_bytes([self.bytes[place], self.bytes[place + 1]]))
         };
         (number * self.n..(number + 1) * self.n).map(sample).collect()
+    }
+
+    /// The label of a trace, zero if the sheet has none; nothing if it stands in a torn block.
+    fn label(&self, number: usize) -> Option<Label> {
+        let Some(first) = self.labels else { return Some(Label::default()) };
+        let block = first + number / LABELS;
+        if !self.sound.get(block).copied().unwrap_or(false) {
+            return None;
+        }
+        let at = BLOCK * block + 4 + 6 * (number % LABELS);
+        let [code_low, code_high, serial @ ..]: [u8; 6] = self.bytes[at..at + 6].try_into().ok()?;
+        Some(Label { code: u16::from_le_bytes([code_low, code_high]), serial: u32::from_le_bytes(serial) })
+    }
+}
+
+/// Traces that are kept, and whose labels are lost.
+fn without_labels(many: usize) -> String {
+    match many {
+        0 => String::new(),
+        many => format!("Without a label, since that stood in a torn block: {}.\n", numbers::count(many, "trace")),
     }
 }
 

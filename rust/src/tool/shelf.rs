@@ -1,13 +1,14 @@
-//! A library as it stands on the disk: the sheet, and the names beside it.
+//! A library as it stands on the disk: the sheet, the names beside it, and words for its codes.
 
 use super::files::{self, Place, Put, Staged};
+use super::labels::{self, Codes};
 use super::lock::Lock;
 use super::names::{self, Lines, Names};
 use super::plain;
 use super::progress::Progress;
 use super::reading::{is_sheet, Sweep};
 use super::{disk, hash, recordings, refused, words, Failure};
-use silkendoz::{Refusal, TraceLibrary};
+use silkendoz::{Label, Refusal, TraceLibrary};
 use std::os::unix::fs::MetadataExt;
 use std::path::{Path, PathBuf};
 
@@ -15,6 +16,7 @@ pub struct Shelf {
     pub path: PathBuf,
     pub library: TraceLibrary,
     pub names: Names,
+    pub codes: Codes,
 }
 
 /// How often a library is read again that is replaced meanwhile.
@@ -36,20 +38,27 @@ impl Shelf {
 
     fn once(path: &Path) -> Result<Shelf, Failure> {
         let library = library_of(path, &files::read(path)?)?;
-        let names = Names::beside(Place::of(path)?.real(), &library)?;
-        Ok(Shelf { path: path.to_path_buf(), library, names })
+        let real = Place::of(path)?;
+        let (names, codes) = (Names::beside(real.real(), &library)?, Codes::beside(real.real())?);
+        Ok(Shelf { path: path.to_path_buf(), library, names, codes })
+    }
+
+    /// A library that is being made: there are no words for its codes yet.
+    pub fn new(path: &Path, library: TraceLibrary, names: Names) -> Shelf {
+        Shelf { path: path.to_path_buf(), library, names, codes: Codes::default() }
     }
 
     /// A library that came by a pipe: no names stand beside it.
     pub fn unnamed(path: &Path, bytes: &[u8]) -> Result<Shelf, Failure> {
         let library = library_of(path, bytes)?;
         let names = Names::none(library.len());
-        Ok(Shelf { path: path.to_path_buf(), library, names })
+        Ok(Shelf::new(path, library, names))
     }
 
-    /// Its two files, neither of which an output may overwrite.
-    pub fn files(&self) -> Result<[PathBuf; 2], Failure> {
-        Ok([self.path.clone(), names::beside(Place::of(&self.path)?.real())])
+    /// Its three files, none of which an output may overwrite.
+    pub fn files(&self) -> Result<[PathBuf; 3], Failure> {
+        let real = Place::of(&self.path)?;
+        Ok([self.path.clone(), names::beside(real.real()), labels::codes_beside(real.real())])
     }
 
     /// A stored trace; there is one for each number below the library's length.
@@ -57,18 +66,28 @@ impl Shelf {
         self.library.trace(number).unwrap_or_default()
     }
 
+    /// The label of a stored trace; there is one for each number below the library's length.
+    pub fn label(&self, number: usize) -> Label {
+        self.library.labels().nth(number).unwrap_or_default()
+    }
+
+    /// Whether any trace has a label. A library without is shown as if there were none.
+    pub fn is_labelled(&self) -> bool {
+        self.library.labels().any(|label| label != Label::default())
+    }
+
     /// The SHA-256 of the sheet, as `sha256sum` says it.
     pub fn hash(&self) -> String {
         self.library.write_sheet().map_or_else(|_| String::new(), |sheet| hash::of_bytes(&sheet))
     }
 
-    /// Adds traces with their names. If one is refused, the shelf is not to be saved.
+    /// Adds traces with their names and labels. If one is refused, the shelf is not to be saved.
     pub fn put(&mut self, sweeps: &[Sweep]) -> Result<(), Failure> {
         let mut progress = Progress::new("adding traces", sweeps.len());
         let before = self.library.len();
         for (done, sweep) in sweeps.iter().enumerate() {
             progress.show(done);
-            match self.library.add(&sweep.samples) {
+            match self.library.add_labelled(&sweep.samples, sweep.label) {
                 Ok(_) => self.names.push(Some(sweep.named())),
                 Err(Refusal::Full) => {
                     let room = self.library.capacity();

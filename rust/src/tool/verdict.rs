@@ -30,7 +30,16 @@ pub fn behind_fault(name: &str) -> &str {
     }
 }
 
-/// The faults of a library, by the names of its traces.
+/// The fault of a stored trace: by its code, and where it has none, by its name. Traces with neither are no fault together.
+fn fault_in(shelf: &Shelf, trace: usize) -> String {
+    match (shelf.label(trace).code, shelf.names.of(trace)) {
+        (0, Some(name)) => fault_of(&name.name).to_string(),
+        (0, None) => format!("trace {trace} (no name)"),
+        (code, _) => shelf.codes.fault(code),
+    }
+}
+
+/// The faults of a library, by the codes and names of its traces.
 pub struct Faults {
     /// Of each trace.
     names: Vec<String>,
@@ -40,9 +49,7 @@ pub struct Faults {
 
 impl Faults {
     pub fn of(shelf: &Shelf) -> Result<Faults, Failure> {
-        // traces without a name are no fault together
-        let named = |t: usize| shelf.names.of(t).map_or_else(|| format!("trace {t} (no name)"), |name| fault_of(&name.name).to_string());
-        let names: Vec<String> = (0..shelf.library.len()).map(named).collect();
+        let names: Vec<String> = (0..shelf.library.len()).map(|t| fault_in(shelf, t)).collect();
         let mut groups: BTreeMap<&str, Vec<&[i16]>> = BTreeMap::new();
         for (t, name) in names.iter().enumerate() {
             groups.entry(name).or_default().push(shelf.trace(t));

@@ -1,7 +1,7 @@
 //! What a refusal means and what to do about it, in words. Which refusal it is, the proved calls have said; here bytes are looked at only
 //! to say it to people.
 
-use super::blocks::{BLOCK, MOST, SAMPLES};
+use super::blocks::{BLOCK, LABELS, MOST, OF_LABELS, SAMPLES};
 use silkendoz::{Refusal, TraceLibrary};
 
 /// A refusal of a call, and what to do.
@@ -53,32 +53,48 @@ pub fn said_number(bytes: &[u8], block: usize) -> usize {
 
 /// What is wrong with a torn block, as far as it shows.
 pub fn torn(bytes: &[u8], block: usize) -> String {
+    let before = block.checked_sub(1).map(|before| bytes[BLOCK * before + 2]);
     let bytes = &bytes[BLOCK * block..][..BLOCK];
-    let kind = if block == 0 { 1 } else { 2 };
+    let (kinds, fits) = if block == 0 { ("1", bytes[2] == 1) } else { ("2 or 5", [2, OF_LABELS].contains(&bytes[2])) };
     if let Some(&first) = bytes.first().filter(|first| bytes.iter().all(|byte| byte == *first)) {
         format!("every byte is {first}: it was never written, or was erased")
     } else if field(bytes, 0) != block {
         format!("it says that it is block {}: it stands in the wrong place, or changed", field(bytes, 0))
-    } else if bytes[2] != kind {
-        format!("its kind is {}, and has to be {kind}", bytes[2])
+    } else if !fits {
+        format!("its kind is {}, and has to be {kinds}", bytes[2])
+    } else if bytes[2] == 2 && before == Some(OF_LABELS) {
+        "it holds samples behind labels, or its check does not fit".to_string()
     } else {
         "its check does not fit: something in it changed".to_string()
     }
 }
 
-/// Which traces have samples in a block, if block 0 is to be believed.
-pub fn traces_in(bytes: &[u8], block: usize) -> Option<(usize, usize)> {
+/// What of which traces a block holds, if block 0 is to be believed: their samples or their labels.
+#[derive(Clone, Copy, Debug, PartialEq, Eq)]
+pub struct Held {
+    pub what: &'static str,
+    pub first: usize,
+    pub last: usize,
+}
+
+pub fn held_in(bytes: &[u8], block: usize) -> Option<Held> {
     let (n, count) = (field(bytes, 8), field(bytes, 14));
     let first = block.checked_sub(1)? * SAMPLES;
     let end = (block * SAMPLES).min(n * count);
-    (first < end).then(|| (first / n, (end - 1) / n))
+    if first < end {
+        return Some(Held { what: "samples", first: first / n, last: (end - 1) / n });
+    }
+    let first = LABELS * block.checked_sub(1 + (n * count).div_ceil(SAMPLES))?;
+    let end = (first + LABELS).min(count);
+    (first < end).then(|| Held { what: "labels", first, last: end - 1 })
 }
 
 /// What is wrong with a sheet whose blocks are all sound.
 fn bad(bytes: &[u8]) -> String {
     let [n, capacity, leaf_size, count] = measures(bytes);
     let needed = 1 + (n * count).div_ceil(SAMPLES);
-    let blocks = bytes.len() / BLOCK;
+    let labels = bytes.chunks(BLOCK).filter(|block| block[2] == OF_LABELS).count();
+    let blocks = bytes.len() / BLOCK - labels;
     let what = if &bytes[4..8] != b"TRCL" {
         "it does not begin with the letters TRCL".to_string()
     } else if TraceLibrary::open(n, capacity, leaf_size).is_err() {
@@ -86,23 +102,31 @@ fn bad(bytes: &[u8]) -> String {
     } else if count > capacity {
         format!("it says that it holds {count} traces, and there is room for {capacity}")
     } else if blocks != needed {
-        let which = if blocks < needed { "blocks are missing at the end" } else { "something stands behind its end" };
-        format!("it has {blocks} blocks, and {count} traces of {n} samples take {needed}: {which}")
+        let which = match (blocks < needed, labels) {
+            (true, 0) => "blocks are missing at the end",
+            (false, 0) => "something stands behind its end",
+            _ => "files were mixed",
+        };
+        let beside = if labels > 0 { format!(" besides {labels} of labels") } else { String::new() };
+        format!("it has {blocks} blocks{beside}, and {count} traces of {n} samples take {needed}: {which}")
+    } else if labels > 0 && labels != count.div_ceil(LABELS) {
+        format!("the number of its blocks of labels is {labels}, and {count} traces take {}, or none", count.div_ceil(LABELS))
+    } else if let Some(at) = stray(bytes, n * count, count) {
+        format!("a byte that has to be 0 is not: byte {} of block {}", at % BLOCK, at / BLOCK)
     } else {
-        format!("a byte that has to be 0 is not{}", stray(bytes, n * count))
+        "all its labels are zero, and then it has no block of them".to_string()
     };
     format!("every block is sound, but {what}. Another program wrote it, or files were cut or joined: read the other copy.")
 }
 
 /// The first byte that has to be 0 and is not.
-fn stray(bytes: &[u8], samples: usize) -> String {
-    let last = bytes.len() / BLOCK - 1;
+fn stray(bytes: &[u8], samples: usize, count: usize) -> Option<usize> {
+    let of_samples = samples.div_ceil(SAMPLES);
     let used = |block: usize| match block {
         0 => 16,
-        _ if block == last => 4 + 2 * (samples - SAMPLES * (block - 1)),
-        _ => 510,
+        _ if block <= of_samples => 4 + 2 * (samples - SAMPLES * (block - 1)).min(SAMPLES),
+        _ => 4 + 6 * (count - LABELS * (block - 1 - of_samples)).min(LABELS),
     };
     let must_be_zero = |at: usize| at % BLOCK == 3 || (at % BLOCK < 510 && at % BLOCK >= used(at / BLOCK));
-    let found = (0..bytes.len()).find(|&at| must_be_zero(at) && bytes[at] != 0);
-    found.map_or_else(String::new, |at| format!(": byte {} of block {}", at % BLOCK, at / BLOCK))
+    (0..bytes.len()).find(|&at| must_be_zero(at) && bytes[at] != 0)
 }

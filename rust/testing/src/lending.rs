@@ -1,8 +1,8 @@
 //! The calls on a memory, each lent the first so many places of its tables, as tests and the script driver make them.
 
 use crate::model::tables::{Lengths, Tables};
-use crate::model::{Measures, Refused};
-use silkendoz::calls::{self, Answer, Found, Lent, Listed};
+use crate::model::{Label, Measures, Refused};
+use silkendoz::calls::{self, Answer, Found, Lent, Listed, RemoteFound};
 use silkendoz::Refusal;
 
 /// Number and place.
@@ -12,19 +12,20 @@ fn told<T>(answer: Result<T, Refusal>) -> Result<T, Refused> {
 
 /// Lent to be written.
 fn lent(t: &mut Tables, l: Lengths) -> Lent<'_> {
-    Lent::new(&mut t.control[..l.control], &mut t.samples[..l.samples], &mut t.nodes[..l.nodes], &mut t.links[..l.links], &mut t.work[..l.work])
+    let (control, samples, nodes) = (&mut t.control[..l.control], &mut t.samples[..l.samples], &mut t.nodes[..l.nodes]);
+    Lent::new(control, samples, nodes, &mut t.links[..l.links], &mut t.work[..l.work]).with_labels(&mut t.labels[..l.labels])
 }
 
 /// Lent to be read, and search work that may be written.
 fn searched(t: &mut Tables, l: Lengths) -> (silkendoz::Tables<'_>, &mut [u64]) {
     let tables = silkendoz::Tables::new(&t.control[..l.control], &t.samples[..l.samples], &t.nodes[..l.nodes], &t.links[..l.links]);
-    (tables, &mut t.work[..l.work])
+    (tables.with_labels(&t.labels[..l.labels]), &mut t.work[..l.work])
 }
 
 /// Lent to be read.
 fn read(t: &Tables, l: Lengths) -> (silkendoz::Tables<'_>, &[u64]) {
     let tables = silkendoz::Tables::new(&t.control[..l.control], &t.samples[..l.samples], &t.nodes[..l.nodes], &t.links[..l.links]);
-    (tables, &t.work[..l.work])
+    (tables.with_labels(&t.labels[..l.labels]), &t.work[..l.work])
 }
 
 pub fn open(t: &mut Tables, l: Lengths, m: Measures) -> Result<(), Refused> {
@@ -33,6 +34,20 @@ pub fn open(t: &mut Tables, l: Lengths, m: Measures) -> Result<(), Refused> {
 
 pub fn add(t: &mut Tables, l: Lengths, trace: &[i16]) -> Result<u64, Refused> {
     told(calls::add(lent(t, l), trace))
+}
+
+pub fn add_labelled(t: &mut Tables, l: Lengths, trace: &[i16], label: Label) -> Result<u64, Refused> {
+    told(calls::add_labelled(lent(t, l), trace, silkendoz::Label { code: label.code, serial: label.serial }))
+}
+
+pub fn label(t: &Tables, l: Lengths, number: u64) -> Result<Label, Refused> {
+    let (t, work) = read(t, l);
+    told(calls::label(t, work, number)).map(|label| Label { code: label.code, serial: label.serial })
+}
+
+pub fn remote_match(t: &mut Tables, l: Lengths, trail: &mut [u16], query: &[i16]) -> Result<RemoteFound, Refused> {
+    let (t, work) = searched(t, l);
+    told(calls::remote_match(t, work, trail, query))
 }
 
 pub fn nearest(t: &mut Tables, l: Lengths, trail: &mut [u16], query: &[i16]) -> Result<Found, Refused> {

@@ -1,6 +1,6 @@
 //! Test data: a seeded generator, and traces of several shapes.
 
-use crate::model::Trace;
+use crate::model::{Label, Trace};
 
 /// SplitMix64.
 #[derive(Clone, Debug)]
@@ -123,6 +123,30 @@ fn one(random: &mut Random, shape: Shape, n: usize, centres: &[Trace]) -> Trace 
             trace
         }
     }
+}
+
+/// A label: none, a code or a serial alone, the greatest, or any.
+pub fn label(random: &mut Random) -> Label {
+    let any = Label { code: random.word() as u16, serial: random.word() as u32 };
+    match random.below(8) {
+        0 => Label::default(),
+        1 => Label { serial: 0, ..any },
+        2 => Label { code: 0, ..any },
+        3 => Label { code: u16::MAX, serial: u32::MAX },
+        4 => Label { code: random.below(3) as u16, serial: random.below(3) as u32 },
+        _ => any,
+    }
+}
+
+/// A label for each of so many traces; now and then none has one, or one alone.
+pub fn labels(random: &mut Random, count: usize) -> Vec<Label> {
+    let mut list = vec![Label::default(); count];
+    match random.below(4) {
+        0 => {}
+        1 if count > 0 => list[random.below(count)] = label(random),
+        _ => list.iter_mut().for_each(|place| *place = label(random)),
+    }
+    list
 }
 
 /// A query: a stored trace, one near it, one between two, or a fresh one.

@@ -2,10 +2,10 @@
 #![allow(dead_code)]
 
 use silkendoz::calls::Answer;
-pub use testing::lending::{add, check_tables, export_recording, import_recording, k_nearest, match_batch, nearest, open, read_sheet, write_sheet};
-use testing::model::sheet::blocks_needed;
-use testing::model::tables::{judge_opening, Lengths, Tables};
-use testing::model::{Batch, KNearest, Kind, Library, Match, Measures, Refused};
+pub use testing::lending::{add, add_labelled, check_tables, export_recording, import_recording, k_nearest, label, match_batch, nearest, open};
+pub use testing::lending::{read_sheet, remote_match, write_sheet};
+use testing::model::tables::{judge_opening, label_place, Lengths, Tables};
+use testing::model::{Batch, KNearest, Kind, Label, Library, Match, Measures, Refused};
 use testing::program::repository;
 use testing::script::bytes;
 
@@ -37,11 +37,13 @@ pub fn junk(l: Lengths) -> Tables {
         nodes: vec![0x5a5a_5a5a_5a5a; l.nodes],
         links: vec![0x5a5a; l.links],
         work: vec![0xa5a5_a5a5; l.work],
+        labels: vec![0x5a5a_a5a5_5a5a_a5a5; l.labels],
     }
 }
 
-pub fn longer(l: Lengths, by: usize) -> Lengths {
-    Lengths { control: l.control + by, samples: l.samples + by, nodes: l.nodes + by, links: l.links + by, work: l.work + by }
+pub fn longer(mut l: Lengths, by: usize) -> Lengths {
+    l.each().into_iter().for_each(|length| *length += by);
+    l
 }
 
 // ---- each call held to the model: the answer, and every place
@@ -57,6 +59,7 @@ fn over(before: &Tables, needed: &Tables) -> Tables {
         nodes: put(&before.nodes, &needed.nodes),
         links: put(&before.links, &needed.links),
         work: put(&before.work, &needed.work),
+        labels: put(&before.labels, &needed.labels),
     }
 }
 
@@ -76,26 +79,63 @@ pub fn check_open(t: &mut Tables, l: Lengths, m: Measures) -> Result<(), Refused
     answer
 }
 
-/// The answer, and what the tables stand for then; a refusal leaves every place. The library that the tables hold then is given back.
+/// Adding with no label: whatever stood in the trace's place, it is zero then.
 pub fn check_add(t: &mut Tables, l: Lengths, trace: &[i16]) -> Result<Library, Refused> {
     let before = t.clone();
     let answer = add(t, l, trace);
+    added(&before, t, l, trace, Label::default(), answer)
+}
+
+pub fn check_add_labelled(t: &mut Tables, l: Lengths, trace: &[i16], label: Label) -> Result<Library, Refused> {
+    let before = t.clone();
+    let answer = add_labelled(t, l, trace, label);
+    added(&before, t, l, trace, label, answer)
+}
+
+/// The answer, and what the tables stand for then; a refusal leaves every place. The library that the tables hold then is given back.
+fn added(before: &Tables, t: &Tables, l: Lengths, trace: &[i16], label: Label, answer: Result<u64, Refused>) -> Result<Library, Refused> {
     match before.first(l).judge_adding(trace) {
         Err(refused) => {
             assert_eq!(answer, Err(refused));
-            assert_eq!(*t, before, "a refused adding leaves everything");
+            assert_eq!(t, before, "a refused adding leaves everything");
             Err(refused)
         }
         Ok(mut library) => {
-            let number = library.add(trace);
+            let number = library.add_labelled(trace, label);
             assert_eq!(answer, Ok(number as u64));
             let held = t.first(l).library().expect("adding keeps well-formed tables well formed");
             assert_eq!(held, library);
             assert_eq!(t.work, before.work, "adding leaves search work as it was");
-            unneeded_stay(&before, t, library.measures);
+            let mut labels = before.labels.clone();
+            labels[number] = label_place(label);
+            assert_eq!(t.labels, labels, "adding writes the new trace's label and no other");
+            unneeded_stay(before, t, library.measures);
             Ok(library)
         }
     }
+}
+
+/// The answer is the model's. (Tables are lent to it only to be read.)
+pub fn check_label(t: &Tables, l: Lengths, number: u64) -> Result<Label, Refused> {
+    let judged = t.first(l).judge_label(number).map(|library| library.labels[number as usize]);
+    assert_eq!(label(t, l, number), judged);
+    judged
+}
+
+/// The remote's match is a match with the code: the answer, the trail and every place are the match's.
+pub fn check_remote(t: &mut Tables, l: Lengths, trail: &mut [u16], query: &[i16]) -> Result<(Match, u16), Refused> {
+    let (mut matched, mut read) = (t.clone(), trail.to_vec());
+    let found = check_nearest(&mut matched, l, &mut read, query);
+    let answer = remote_match(t, l, trail, query);
+    assert_eq!((&*t, &*trail), (&matched, &read[..]), "the remote's match leaves what a match leaves");
+    let expected = found.map(|found| {
+        let code = (t.labels[found.trace] % 65_536) as u16;
+        (found, code)
+    });
+    let told = answer.map(|f| ([f.trace, f.distance, f.leaves, f.traces].map(i128::from), f.code));
+    let figures = |found: &Match| [found.trace as i128, found.distance, found.leaves as i128, found.traces as i128];
+    assert_eq!(told, expected.as_ref().map(|(found, code)| (figures(found), *code)).map_err(|&refused| refused));
+    expected
 }
 
 pub fn check_nearest(t: &mut Tables, l: Lengths, trail: &mut [u16], query: &[i16]) -> Result<Match, Refused> {
@@ -206,7 +246,7 @@ pub fn check_write(t: &Tables, l: Lengths, sheet: &mut [u8]) -> Result<u64, Refu
             assert_eq!(sheet, before, "a refused writing leaves the sheet");
         }
         Ok(library) => {
-            let written = testing::model::sheet::write(library.measures, &library.traces);
+            let written = testing::model::sheet::write_labelled(library.measures, &library.traces, &library.labels);
             assert_eq!(answer, Ok(written.len() as u64 / 512));
             assert_eq!(sheet, [&written[..], &before[written.len()..]].concat());
         }
@@ -287,15 +327,18 @@ pub fn check_checked(t: &Tables, l: Lengths) -> Result<Library, Refused> {
 }
 
 /// Tables that a writing does not refuse, whatever made them: written as a sheet and read into other tables, they are the library that
-/// adding makes of their traces, and the check accepts it.
+/// adding makes of their traces, each with its label, and the check accepts it. Written again, the sheet is the same.
 pub fn check_read_back(t: &Tables, l: Lengths) {
     let stored = t.first(l).library().expect("well-formed tables");
-    let mut sheet = vec![1; 512 * blocks_needed(stored.traces.len() as u64, stored.measures.n)];
+    let mut sheet = vec![1; testing::model::sheet::need(&stored)];
     check_write(t, l, &mut sheet).expect("nothing is refused");
     let mut back = junk(l);
     let read = check_read(&mut back, l, &sheet).expect("nothing is refused");
-    assert_eq!((read.measures, &read.traces), (stored.measures, &stored.traces));
+    assert_eq!((read.measures, &read.traces, &read.labels), (stored.measures, &stored.traces, &stored.labels));
     assert_eq!(check_checked(&back, l), Ok(read));
+    let mut again = vec![1; sheet.len()];
+    check_write(&back, l, &mut again).expect("nothing is refused");
+    assert_eq!(again, sheet);
 }
 
 // ---- batches

@@ -12,7 +12,7 @@ use std::hint::black_box;
 use std::time::Instant;
 use testing::lending;
 use testing::model::tables::{needs, Tables};
-use testing::model::{recording, segments_of, sheet, Figure, Kind, Library, Measures, Node, Segment, Test, Trace};
+use testing::model::{recording, segments_of, sheet, Figure, Kind, Label, Library, Measures, Node, Segment, Test, Trace};
 use testing::random::{near, noisy_sine, uniform, walk, Random};
 
 const N: usize = 256;
@@ -264,7 +264,8 @@ fn chain(stored: Vec<Trace>) -> Library {
         nodes.push(Node { segments, kind: Kind::Inner { test, left: 2 * i + 1, right: 2 * i + 2 } });
     }
     nodes.reverse();
-    Library { measures: Measures { n: N as u64, capacity: CAPACITY as u64, leaf_size: 1 }, traces: stored, nodes }
+    let measures = Measures { n: N as u64, capacity: CAPACITY as u64, leaf_size: 1 };
+    Library { measures, labels: vec![Label::default(); stored.len()], traces: stored, nodes }
 }
 
 /// What a check takes, beside a scan of the same traces: how many passes over the samples that is.
@@ -285,13 +286,7 @@ fn check() {
         for leaf_size in [64, 16, 4] {
             let m = Measures { n: N as u64, capacity: CAPACITY as u64, leaf_size };
             let l = needs(m);
-            let mut t = Tables {
-                control: vec![0; l.control],
-                samples: vec![0; l.samples],
-                nodes: vec![0; l.nodes],
-                links: vec![0; l.links],
-                work: vec![0; l.work],
-            };
+            let mut t = Tables::blank(l);
             lending::read_sheet(&mut t, l, &sheet::write(m, &stored)).expect("it is sound");
             line_of_check(&format!("{} {leaf_size}", data.name()), &t);
         }
@@ -338,8 +333,8 @@ fn line_of_batches(data: Data, leaf_size: usize) {
     println!("{:<14}{leaf_size:>5} |{}", data.name(), columns.join(" |"));
 }
 
-/// `bench batch`: sixteen queries near sixteen different traces, sixteen that are like none stored, and sixteen near one trace, as sweeps of
-/// one machine are.
+/// `bench batch`: sixteen queries near sixteen different traces, sixteen that are like none stored, and sixteen near one trace, as sweeps
+/// of one machine are.
 fn batch() {
     println!("n = {N}, {CAPACITY} traces, {TOGETHER} queries; microseconds, medians of {BATCHES}");
     println!("x: matches / batch; leaves that the matches read, and the batch");
@@ -386,8 +381,7 @@ fn line_of_recordings(leaf_size: usize) {
     let m = Measures { n: N as u64, capacity: CAPACITY as u64, leaf_size: leaf_size as u64 };
     let (file, sheet) = (recording::write(8000, &walks.concat()), sheet::write(m, &walks));
     let l = needs(m);
-    let mut t =
-        Tables { control: vec![0; l.control], samples: vec![0; l.samples], nodes: vec![0; l.nodes], links: vec![0; l.links], work: vec![0; l.work] };
+    let mut t = Tables::blank(l);
     let import = |t: &mut Tables| {
         let opened = lending::open(t, l, m);
         opened.and_then(|()| lending::import_recording(t, l, black_box(&file)))

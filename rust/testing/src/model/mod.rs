@@ -16,6 +16,14 @@ pub type Trace = Vec<i16>;
 /// A refusal: its number and its place.
 pub type Refused = (u64, u64);
 
+/// Document 02, §8: "Each trace gets a 16-bit fault code and a 32-bit machine serial, given when it is added, and zero from callers that
+/// give neither."
+#[derive(Clone, Copy, Debug, Default, PartialEq, Eq)]
+pub struct Label {
+    pub code: u16,
+    pub serial: u32,
+}
+
 /// n, capacity and leaf size.
 #[derive(Clone, Copy, Debug, PartialEq, Eq)]
 pub struct Measures {
@@ -267,11 +275,12 @@ pub struct Split {
     pub gain: i128,
 }
 
-/// Measures, traces in the order added, and the tree.
+/// Measures, traces in the order added with a label each, and the tree.
 #[derive(Clone, Debug, PartialEq, Eq)]
 pub struct Library {
     pub measures: Measures,
     pub traces: Vec<Trace>,
+    pub labels: Vec<Label>,
     pub nodes: Vec<Node>,
 }
 
@@ -306,7 +315,7 @@ pub struct Batch {
 impl Library {
     /// "An empty library has no node".
     pub fn open(measures: Measures) -> Library {
-        Library { measures, traces: Vec::new(), nodes: Vec::new() }
+        Library { measures, traces: Vec::new(), labels: Vec::new(), nodes: Vec::new() }
     }
 
     /// The library that these traces make, added in order.
@@ -316,6 +325,12 @@ impl Library {
             library.add(trace);
         }
         library
+    }
+
+    /// .. with these labels.
+    pub fn labelled(self, labels: &[Label]) -> Library {
+        assert_eq!(labels.len(), self.traces.len());
+        Library { labels: labels.to_vec(), ..self }
     }
 
     fn named(&self, numbers: &[usize]) -> Vec<&[i16]> {
@@ -343,10 +358,16 @@ impl Library {
         self.nodes.iter().enumerate().all(exact)
     }
 
-    /// Adds a trace that nothing refuses; its number is the answer.
+    /// Adds a trace that nothing refuses, with no label; its number is the answer.
     pub fn add(&mut self, trace: &[i16]) -> usize {
+        self.add_labelled(trace, Label::default())
+    }
+
+    /// .. with a label.
+    pub fn add_labelled(&mut self, trace: &[i16], label: Label) -> usize {
         let number = self.traces.len();
         self.traces.push(trace.to_vec());
+        self.labels.push(label);
         if self.nodes.is_empty() {
             // "its first trace makes leaf 0 with one segment"
             let segments = segments_of(&[self.measures.n as usize], &[trace]);
@@ -514,6 +535,11 @@ impl Library {
     pub fn nearest(&self, query: &[i16]) -> Option<Match> {
         let KNearest { list, leaves, traces, trail } = self.k_nearest(query, 1);
         list.first().map(|&(trace, distance)| Match { trace, distance, leaves, traces, trail })
+    }
+
+    /// Document 02, §8: "a match whose answer adds the fault code and nothing else".
+    pub fn remote_match(&self, query: &[i16]) -> Option<(Match, u16)> {
+        self.nearest(query).map(|found| (found.clone(), self.labels[found.trace].code))
     }
 
     /// Document 02, §1: "lists the k nearest traces by distance, then number; a smaller library lists all it has". "Leaves are read in the match's order,

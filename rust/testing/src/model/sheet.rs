@@ -1,10 +1,28 @@
 //! Sheets, and the line that the program prints of one.
 
-use super::{Library, Measures, Refused, Trace};
+use super::{Label, Library, Measures, Refused, Trace};
 
-/// "With k traces there are 1 + (k × n / 253 rounded up) blocks."
+/// "With k traces there are 1 + (k × n / 253 rounded up) blocks." Those of labels come behind them.
 pub fn blocks_needed(k: u64, n: u64) -> usize {
     (1 + (k * n).div_ceil(253)) as usize
+}
+
+/// Document 02, §8: "84 labels of 6 bytes each". So many blocks have all labels of k traces.
+pub fn all_label_blocks(k: u64) -> usize {
+    k.div_ceil(84) as usize
+}
+
+/// "None are written when every label is zero".
+pub fn label_blocks(labels: &[Label]) -> usize {
+    if labels.iter().all(|label| *label == Label::default()) {
+        return 0;
+    }
+    all_label_blocks(labels.len() as u64)
+}
+
+/// How many bytes a library's sheet has.
+pub fn need(library: &Library) -> usize {
+    512 * (blocks_needed(library.traces.len() as u64, library.measures.n) + label_blocks(&library.labels))
 }
 
 /// "total of (position + 1) × byte over positions 0 to 509, modulo 65,521"
@@ -22,29 +40,40 @@ fn field(bytes: &[u8], at: usize) -> u64 {
     u64::from(bytes[at]) + 256 * u64::from(bytes[at + 1])
 }
 
-/// The sheet of a library.
+/// A block of a kind with these bytes from byte 4 on, sealed.
+pub fn block(number: usize, kind: u8, bytes: &[u8]) -> [u8; 512] {
+    let mut block = [0u8; 512];
+    block[0..2].copy_from_slice(&(number as u16).to_le_bytes());
+    block[2] = kind;
+    block[4..4 + bytes.len()].copy_from_slice(bytes);
+    seal(&mut block);
+    block
+}
+
+/// The letters, the measures and the count, as block 0 has them from byte 4 on.
+pub fn head(m: Measures, count: u64) -> Vec<u8> {
+    let fields = [m.n, m.capacity, m.leaf_size, count].map(|value| (value as u16).to_le_bytes());
+    [&b"TRCL"[..], &fields.concat()].concat()
+}
+
+/// A label's "6 bytes each .., code first".
+pub fn label_bytes(label: Label) -> Vec<u8> {
+    [&label.code.to_le_bytes()[..], &label.serial.to_le_bytes()].concat()
+}
+
+/// The sheet of traces with no label.
 pub fn write(m: Measures, traces: &[Trace]) -> Vec<u8> {
-    let samples: Vec<i16> = traces.concat();
-    let mut sheet = Vec::new();
-    for number in 0..blocks_needed(traces.len() as u64, m.n) {
-        let mut block = [0u8; 512];
-        block[0..2].copy_from_slice(&(number as u16).to_le_bytes());
-        if number == 0 {
-            block[2] = 1;
-            block[4..8].copy_from_slice(b"TRCL");
-            for (i, value) in [m.n, m.capacity, m.leaf_size, traces.len() as u64].into_iter().enumerate() {
-                block[8 + 2 * i..10 + 2 * i].copy_from_slice(&(value as u16).to_le_bytes());
-            }
-        } else {
-            block[2] = 2;
-            for (i, sample) in samples.iter().skip((number - 1) * 253).take(253).enumerate() {
-                block[4 + 2 * i..6 + 2 * i].copy_from_slice(&sample.to_le_bytes());
-            }
-        }
-        seal(&mut block);
-        sheet.extend_from_slice(&block);
-    }
-    sheet
+    write_labelled(m, traces, &vec![Label::default(); traces.len()])
+}
+
+/// The sheet of a library: "labels follow the samples in blocks of kind 5, 84 labels of 6 bytes each from byte 4, code first".
+pub fn write_labelled(m: Measures, traces: &[Trace], labels: &[Label]) -> Vec<u8> {
+    let samples: Vec<u8> = traces.concat().iter().flat_map(|sample| sample.to_le_bytes()).collect();
+    let told: Vec<u8> = labels.iter().flat_map(|&label| label_bytes(label)).collect();
+    let sample_blocks = samples.chunks(2 * 253).map(|bytes| (2, bytes.to_vec()));
+    let label_blocks = told.chunks(6 * 84).take(label_blocks(labels)).map(|bytes| (5, bytes.to_vec()));
+    let all = std::iter::once((1, head(m, traces.len() as u64))).chain(sample_blocks).chain(label_blocks);
+    all.enumerate().flat_map(|(number, (kind, bytes))| block(number, kind, &bytes)).collect()
 }
 
 /// n, capacity and leaf size as a sheet's first block has them, if there are such bytes.
@@ -52,32 +81,80 @@ pub fn measures(bytes: &[u8]) -> Option<Measures> {
     (bytes.len() >= 14).then(|| Measures { n: field(bytes, 8), capacity: field(bytes, 10), leaf_size: field(bytes, 12) })
 }
 
-/// The measures and traces of a sheet, or the refusal: 8; 9 over all blocks; 10.
-pub fn read(bytes: &[u8]) -> Result<(Measures, Vec<Trace>), Refused> {
-    if bytes.is_empty() || !bytes.len().is_multiple_of(512) || bytes.len() / 512 > 4146 {
+/// What a sheet holds.
+#[derive(Clone, Debug, PartialEq, Eq)]
+pub struct Sheet {
+    pub measures: Measures,
+    pub traces: Vec<Trace>,
+    pub labels: Vec<Label>,
+}
+
+/// What a sheet holds, or the refusal: 8; 9 over all blocks; 10.
+pub fn read(bytes: &[u8]) -> Result<Sheet, Refused> {
+    // "above 4,146 blocks"; "Number 8's limit rises by 49 blocks"
+    if bytes.is_empty() || !bytes.len().is_multiple_of(512) || bytes.len() / 512 > 4146 + 49 {
         return Err((8, 0));
     }
     let blocks: Vec<&[u8]> = bytes.chunks(512).collect();
     for (number, block) in blocks.iter().enumerate() {
-        let kind = if number == 0 { 1 } else { 2 };
-        if field(block, 510) != check(block) || field(block, 0) != number as u64 || block[2] != kind {
+        if field(block, 510) != check(block) || field(block, 0) != number as u64 || !kind_fits(&blocks, number) {
             return Err((9, number as u64));
         }
     }
-    let head = blocks[0];
+    judge_blocks(&blocks).ok_or((10, 0))
+}
+
+/// Block 0 is of kind 1, the others are samples (2) or labels (5); "A sample block after a label block is a wrong kind".
+fn kind_fits(blocks: &[&[u8]], number: usize) -> bool {
+    match blocks[number][2] {
+        1 => number == 0,
+        2 => number > 0 && blocks[..number].iter().all(|before| before[2] != 5),
+        5 => number > 0,
+        _ => false,
+    }
+}
+
+/// What blocks hold that are all sound, if they are a sheet.
+fn judge_blocks(blocks: &[&[u8]]) -> Option<Sheet> {
+    let of_kind = |kind: u8| blocks.iter().filter(|block| block[2] == kind).copied().collect::<Vec<&[u8]>>();
+    let (head, samples, labels) = (blocks[0], of_kind(2), of_kind(5));
     let m = measures(head).expect("a block is longer than that");
     let count = field(head, 14);
-    if &head[4..8] != b"TRCL" || !m.in_range() || count > m.capacity || blocks.len() != blocks_needed(count, m.n) {
-        return Err((10, 0));
+    if &head[4..8] != b"TRCL" || !m.in_range() || count > m.capacity {
+        return None;
+    }
+    // "how many there are of each is tested under 10": "all its label blocks or none"
+    if 1 + samples.len() != blocks_needed(count, m.n) || (!labels.is_empty() && labels.len() != all_label_blocks(count)) {
+        return None;
     }
     // "All else is 0."
-    let cells: Vec<u8> = blocks[1..].iter().flat_map(|b| b[4..510].to_vec()).collect();
-    let used = 2 * (count * m.n) as usize;
-    if blocks.iter().any(|b| b[3] != 0) || head[16..510].iter().any(|&b| b != 0) || cells[used..].iter().any(|&b| b != 0) {
-        return Err((10, 0));
+    let told = if labels.is_empty() { 0 } else { 6 * count as usize };
+    if blocks.iter().any(|block| block[3] != 0) || head[16..510].iter().any(|&byte| byte != 0) {
+        return None;
     }
-    let samples: Vec<i16> = cells[..used].chunks(2).map(|c| i16::from_le_bytes([c[0], c[1]])).collect();
-    Ok((m, samples.chunks(m.n as usize).map(<[i16]>::to_vec).collect()))
+    let cells = filled(&samples, 2 * 253, 2 * (count * m.n) as usize)?;
+    let label_cells = filled(&labels, 6 * 84, told)?;
+    // "a sheet whose label blocks together hold only zero labels is refused as 10"
+    if !labels.is_empty() && label_cells.iter().all(|&byte| byte == 0) {
+        return None;
+    }
+    let samples: Vec<i16> = cells.chunks(2).map(|c| i16::from_le_bytes([c[0], c[1]])).collect();
+    let mut list: Vec<Label> = label_cells.chunks(6).map(said).collect();
+    list.resize(count as usize, Label::default());
+    Some(Sheet { measures: m, traces: samples.chunks(m.n as usize).map(<[i16]>::to_vec).collect(), labels: list })
+}
+
+/// The label that six bytes say.
+fn said(bytes: &[u8]) -> Label {
+    Label { code: u16::from_le_bytes([bytes[0], bytes[1]]), serial: u32::from_le_bytes([bytes[2], bytes[3], bytes[4], bytes[5]]) }
+}
+
+/// The first `used` bytes of all cells of these blocks, each of which has `room` bytes for them from byte 4 on; nothing if any byte behind
+/// them is not 0.
+fn filled(blocks: &[&[u8]], room: usize, used: usize) -> Option<Vec<u8>> {
+    let cells: Vec<u8> = blocks.iter().flat_map(|block| block[4..4 + room].to_vec()).collect();
+    let behind = blocks.iter().flat_map(|block| &block[4 + room..510]);
+    (cells[used..].iter().chain(behind).all(|&byte| byte == 0)).then(|| cells[..used].to_vec())
 }
 
 /// "It prints one line, in decimal with single spaces: trace, distance, leaves, traces read. .. A refusal prints `refused`, number, place."
@@ -93,7 +170,7 @@ fn answer(input: &[u8]) -> Result<[i128; 4], Refused> {
     if input.len() > 65_536 {
         return Err((8, 0));
     }
-    let (m, mut traces) = read(input)?;
+    let Sheet { measures: m, mut traces, .. } = read(input)?;
     if m.n > 64 || m.capacity > 64 {
         return Err((2, 0));
     }
@@ -107,23 +184,36 @@ fn answer(input: &[u8]) -> Result<[i128; 4], Refused> {
 mod tests {
     use super::*;
 
+    const SMALL: Measures = Measures { n: 1, capacity: 8, leaf_size: 2 };
+
     #[test]
     fn checks_of_the_example() {
-        let sheet = write(Measures { n: 1, capacity: 8, leaf_size: 2 }, &[vec![-1]]);
+        let sheet = write(SMALL, &[vec![-1]]);
         assert_eq!((check(&sheet[..512]), check(&sheet[512..])), (2130, 2812));
-        assert_eq!(read(&sheet), Ok((Measures { n: 1, capacity: 8, leaf_size: 2 }, vec![vec![-1]])));
+        assert_eq!(read(&sheet), Ok(Sheet { measures: SMALL, traces: vec![vec![-1]], labels: vec![Label::default()] }));
     }
 
     #[test]
     fn the_largest_sheet() {
-        assert_eq!(blocks_needed(4096, 256), 4146);
+        assert_eq!((blocks_needed(4096, 256), all_label_blocks(4096)), (4146, 49));
+    }
+
+    #[test]
+    fn labels_behind_the_samples() {
+        let label = Label { code: 0x0102, serial: 0x0304_0506 };
+        let sheet = write_labelled(SMALL, &[vec![-1], vec![7]], &[Label::default(), label]);
+        assert_eq!(sheet.len(), 3 * 512);
+        assert_eq!(sheet[1024..1040], [2, 0, 5, 0, 0, 0, 0, 0, 0, 0, 2, 1, 6, 5, 4, 3]);
+        assert_eq!(read(&sheet).map(|held| held.labels), Ok(vec![Label::default(), label]));
     }
 
     #[test]
     fn the_line_of_the_example() {
         let traces = [vec![0, 0, 0, 0], vec![4, 4, 4, 4], vec![0, 8, 0, 8], vec![1, 1, 1, 1]];
-        assert_eq!(program_line(&write(Measures { n: 4, capacity: 8, leaf_size: 2 }, &traces)), "0 4 1 1");
+        let m = Measures { n: 4, capacity: 8, leaf_size: 2 };
+        assert_eq!(program_line(&write(m, &traces)), "0 4 1 1");
+        assert_eq!(program_line(&write_labelled(m, &traces, &[Label { code: 1, serial: 2 }; 4])), "0 4 1 1");
         assert_eq!(program_line(&[]), "refused 8 0");
-        assert_eq!(program_line(&write(Measures { n: 4, capacity: 8, leaf_size: 2 }, &[])), "refused 6 0");
+        assert_eq!(program_line(&write(m, &[])), "refused 6 0");
     }
 }

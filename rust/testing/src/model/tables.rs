@@ -1,7 +1,7 @@
 //! The lent tables, read by `docs/LAYOUT.md`: what they stand for, whether they are well formed, and what document 01's table refuses.
 
 use super::{recording, sheet};
-use super::{runs, width, Figure, Kind, Library, Measures, Node, Refused, Segment, Test, Trace};
+use super::{runs, width, Figure, Kind, Label, Library, Measures, Node, Refused, Segment, Test, Trace};
 
 /// Fields of the control record.
 pub const CONTROL_FIELDS: usize = 5;
@@ -18,7 +18,17 @@ pub fn segment_place(segment: usize) -> usize {
     7 + 5 * segment
 }
 
-/// The five lent tables.
+/// The label that a place stands for, "code + 65,536 × serial": the upper 16 bits are free.
+pub fn label_at(place: u64) -> Label {
+    Label { code: (place % 65_536) as u16, serial: (place / 65_536 % (1 << 32)) as u32 }
+}
+
+/// The place of a label as calls write it.
+pub fn label_place(label: Label) -> u64 {
+    u64::from(label.code) + 65_536 * u64::from(label.serial)
+}
+
+/// The six lent tables.
 #[derive(Clone, Debug, PartialEq, Eq, Default)]
 pub struct Tables {
     pub control: Vec<u16>,
@@ -26,9 +36,10 @@ pub struct Tables {
     pub nodes: Vec<i64>,
     pub links: Vec<u16>,
     pub work: Vec<u64>,
+    pub labels: Vec<u64>,
 }
 
-/// The lengths of the five tables, in their places.
+/// The lengths of the six tables, in their places.
 #[derive(Clone, Copy, Debug, PartialEq, Eq)]
 pub struct Lengths {
     pub control: usize,
@@ -36,27 +47,48 @@ pub struct Lengths {
     pub nodes: usize,
     pub links: usize,
     pub work: usize,
+    pub labels: usize,
 }
 
 /// The tables' names, in the order in which they are lent.
-pub const TABLES: [&str; 5] = ["control", "samples", "nodes", "links", "work"];
+pub const TABLES: [&str; 6] = ["control", "samples", "nodes", "links", "work", "labels"];
 
 impl Lengths {
     /// The lengths in the order of [`TABLES`].
-    pub fn each(&mut self) -> [&mut usize; 5] {
-        [&mut self.control, &mut self.samples, &mut self.nodes, &mut self.links, &mut self.work]
+    pub fn each(&mut self) -> [&mut usize; 6] {
+        [&mut self.control, &mut self.samples, &mut self.nodes, &mut self.links, &mut self.work, &mut self.labels]
     }
 }
 
-/// "A capacity of c needs c × n samples, 2c − 1 node records, c links, one a trace, .. and 2c − 1 places of search work."
+/// "A capacity of c needs c × n samples, 2c − 1 node records, c links, one a trace, .. and 2c − 1 places of search work." Document 02, §8:
+/// "Labels lie in a table of c places, under 2".
 pub fn needs(m: Measures) -> Lengths {
     let (n, c) = (m.n as usize, m.capacity as usize);
-    Lengths { control: CONTROL_FIELDS, samples: c * n, nodes: (2 * c - 1) * RECORD_PLACES, links: c, work: 2 * c - 1 }
+    Lengths { control: CONTROL_FIELDS, samples: c * n, nodes: (2 * c - 1) * RECORD_PLACES, links: c, work: 2 * c - 1, labels: c }
 }
 
 impl Tables {
+    /// Tables of these lengths with zero in every place.
+    pub fn blank(l: Lengths) -> Tables {
+        Tables {
+            control: vec![0; l.control],
+            samples: vec![0; l.samples],
+            nodes: vec![0; l.nodes],
+            links: vec![0; l.links],
+            work: vec![0; l.work],
+            labels: vec![0; l.labels],
+        }
+    }
+
     pub fn lengths(&self) -> Lengths {
-        Lengths { control: self.control.len(), samples: self.samples.len(), nodes: self.nodes.len(), links: self.links.len(), work: self.work.len() }
+        Lengths {
+            control: self.control.len(),
+            samples: self.samples.len(),
+            nodes: self.nodes.len(),
+            links: self.links.len(),
+            work: self.work.len(),
+            labels: self.labels.len(),
+        }
     }
 
     /// The first so many places of each table.
@@ -67,6 +99,7 @@ impl Tables {
             nodes: self.nodes[..l.nodes].to_vec(),
             links: self.links[..l.links].to_vec(),
             work: self.work[..l.work].to_vec(),
+            labels: self.labels[..l.labels].to_vec(),
         }
     }
 
@@ -97,11 +130,12 @@ impl Tables {
             return None;
         }
         let traces: Vec<Trace> = (0..k).map(|t| self.samples[t * n..(t + 1) * n].to_vec()).collect();
+        let labels = self.labels[..k].iter().map(|&place| label_at(place)).collect();
         let mut nodes = Vec::new();
         for j in 0..m {
             nodes.push(Node { segments: self.segments(j, n)?, kind: self.kind(j, k, m)? });
         }
-        Some(Library { measures, traces, nodes })
+        Some(Library { measures, traces, labels, nodes })
     }
 
     /// "at most 16 ends, rising, last n"
@@ -165,16 +199,11 @@ impl Tables {
 
     /// The needed parts as opening and adding leave them: places that nothing uses are zero.
     pub fn of(library: &Library) -> Tables {
-        let m = library.measures;
-        let l = needs(m);
-        let mut t = Tables {
-            control: vec![m.n as u16, m.capacity as u16, m.leaf_size as u16, library.traces.len() as u16, library.nodes.len() as u16],
-            samples: library.traces.concat(),
-            nodes: vec![0; l.nodes],
-            links: vec![0; l.links],
-            work: vec![0; l.work],
-        };
-        t.samples.resize(l.samples, 0);
+        let (m, samples) = (library.measures, library.traces.concat());
+        let mut t = Tables::blank(needs(m));
+        t.control = vec![m.n as u16, m.capacity as u16, m.leaf_size as u16, library.traces.len() as u16, library.nodes.len() as u16];
+        t.samples[..samples.len()].copy_from_slice(&samples);
+        t.labels.iter_mut().zip(&library.labels).for_each(|(place, &label)| *place = label_place(label));
         for (j, node) in library.nodes.iter().enumerate() {
             let record = &mut t.nodes[j * RECORD_PLACES..(j + 1) * RECORD_PLACES];
             record[1] = node.segments.len() as i64;
@@ -254,9 +283,16 @@ impl Tables {
     /// Writing: then 8.
     pub fn judge_writing(&self, sheet: usize) -> Result<Library, Refused> {
         let library = self.judge_made()?;
-        if sheet < 512 * sheet::blocks_needed(library.traces.len() as u64, library.measures.n) {
+        if sheet < sheet::need(&library) {
             return Err((8, 0));
         }
+        Ok(library)
+    }
+
+    /// A trace's label: then 12.
+    pub fn judge_label(&self, number: u64) -> Result<Library, Refused> {
+        let library = self.judge_made()?;
+        library.judge_number(number)?;
         Ok(library)
     }
 
@@ -328,6 +364,14 @@ impl Library {
         Ok(traces)
     }
 
+    /// "one out of range is 12, as in export"
+    pub fn judge_number(&self, number: u64) -> Result<(), Refused> {
+        if number >= self.traces.len() as u64 {
+            return Err((12, 0));
+        }
+        Ok(())
+    }
+
     /// "12 .. an export rate or trace number out of range, ..; an export buffer too short is 8"
     pub fn judge_one(&self, number: u64, rate: u64, buffer: usize) -> Result<(), Refused> {
         match () {
@@ -341,7 +385,8 @@ impl Library {
 /// One of the tables is shorter than these measures need.
 fn short(l: Lengths, m: Measures) -> bool {
     let need = needs(m);
-    l.control < need.control || l.samples < need.samples || l.nodes < need.nodes || l.links < need.links || l.work < need.work
+    let tree = l.control < need.control || l.samples < need.samples || l.nodes < need.nodes || l.links < need.links;
+    tree || l.work < need.work || l.labels < need.labels
 }
 
 /// Opening: 1, then 2.
@@ -357,11 +402,11 @@ pub fn judge_opening(l: Lengths, m: Measures) -> Result<Library, Refused> {
 
 /// "Reading: 8; 9 over all blocks; 10; 2"
 pub fn judge_reading(l: Lengths, bytes: &[u8]) -> Result<Library, Refused> {
-    let (measures, traces) = sheet::read(bytes)?;
+    let sheet::Sheet { measures, traces, labels } = sheet::read(bytes)?;
     if short(l, measures) {
         return Err((2, 0));
     }
-    Ok(Library::of(measures, &traces))
+    Ok(Library::of(measures, &traces).labelled(&labels))
 }
 
 /// "least ≤ greatest; sums within w × 32,768 either side of 0, scatters 0 to w² × 2^30"

@@ -101,12 +101,12 @@ mod tests {
 
     #[test]
     fn words_and_suffix() {
-        let mut line = Line::parse("2 match 3 -4 | trail=7 short=nodes,work").ok().expect("a line");
+        let mut line = Line::parse("2 match 3 -4 | trail=7 short=nodes,labels").ok().expect("a line");
         assert_eq!((line.name, line.library), ("match", 1));
         assert_eq!(line.rest::<i16>().ok(), Some(vec![3, -4]));
         assert_eq!(line.places("trail", 1).ok(), Some(7));
         assert_eq!(line.places("list", 1).ok(), Some(1));
-        assert_eq!(line.tables("short").ok(), Some(vec![2, 4]));
+        assert_eq!(line.tables("short").ok(), Some(vec![2, 5]));
         assert!(line.only(&["short", "trail"]).is_ok() && line.only(&["short"]).is_err());
     }
 

@@ -5,7 +5,6 @@ use super::line::number;
 use super::{list, malformed, Line, Reply, Session, Unanswered};
 use crate::model::tables::{segment_place, Tables, RECORD_PLACES, RUN, THRESHOLD};
 use crate::model::{candidates, distance_within, Figure, Kind, Node, Segment, Within};
-use crate::program;
 
 /// Every node's record.
 pub fn tree(session: &mut Session, line: Line<'_>) -> Reply {
@@ -125,9 +124,9 @@ fn alter_node(tables: &mut Tables, node: usize, mut line: Line<'_>) -> Result<()
 }
 
 /// The line that the program prints of a sheet.
-pub fn program(_: &mut Session, mut line: Line<'_>) -> Reply {
+pub fn program(session: &mut Session, mut line: Line<'_>) -> Reply {
     let sheet = line.bytes()?;
     line.end()?;
-    let printed = program::printed(&sheet).map_err(|why| malformed(format!("the program does not run: {why}")))?;
+    let printed = (session.calls.program)(&sheet).map_err(malformed)?;
     Ok(printed.strip_suffix('\n').expect("the program prints a line").into())
 }

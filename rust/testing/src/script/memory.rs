@@ -40,9 +40,9 @@ fn extend<T: Mark>(table: &mut Vec<T>, length: usize) {
 /// What a call that is not refused does to the needed places of the tables. All other places stay.
 #[derive(Clone, Copy, Debug)]
 pub enum Effect {
-    /// It puts a library of these measures there; needed search work is then zero.
+    /// It puts a library of these measures there; needed search work, and labels of no trace, are then zero.
     Puts(Measures),
-    /// It changes the library, and leaves search work as it was.
+    /// It changes the library, and leaves search work, and the labels of traces that it does not add.
     Changes,
     /// It takes a query: needed search work is then zero, and all else stays.
     Searches,
@@ -65,7 +65,7 @@ impl Memory {
 
     /// How long the tables have to be, by the control record.
     fn need(&self) -> Lengths {
-        let nothing = Lengths { control: CONTROL_FIELDS, samples: 0, nodes: 0, links: 0, work: 0 };
+        let nothing = Lengths { control: CONTROL_FIELDS, samples: 0, nodes: 0, links: 0, work: 0, labels: 0 };
         Some(self.tables.measures()).filter(Measures::in_range).map_or(nothing, needs)
     }
 
@@ -76,6 +76,7 @@ impl Memory {
         extend(&mut self.tables.nodes, need.nodes + BEHIND);
         extend(&mut self.tables.links, need.links + BEHIND);
         extend(&mut self.tables.work, need.work + BEHIND);
+        extend(&mut self.tables.labels, need.labels + BEHIND);
     }
 
     /// Makes a call: it is lent the tables as long as needed, but for those that the line names under `short`, which are one place shorter. Needed search
@@ -123,6 +124,7 @@ impl Memory {
 impl Effect {
     /// Takes over what the call may have written, and sets to zero what it has to.
     fn allow(self, expected: &mut Tables, after: &Tables, need: Lengths) {
+        self.allow_labels(expected, after, need);
         if matches!(self, Effect::Puts(_) | Effect::Changes) {
             expected.control[..need.control].copy_from_slice(&after.control[..need.control]);
             expected.samples[..need.samples].copy_from_slice(&after.samples[..need.samples]);
@@ -131,6 +133,22 @@ impl Effect {
         }
         if matches!(self, Effect::Puts(_) | Effect::Searches) {
             expected.work[..need.work].fill(0);
+        }
+    }
+
+    /// Takes over the labels of traces that the call has added, in which the bits above code and serial are zero.
+    fn allow_labels(self, expected: &mut Tables, after: &Tables, need: Lengths) {
+        let count = |t: &Tables| usize::from(t.control[3]);
+        let added = match self {
+            Effect::Puts(_) => {
+                expected.labels[..need.labels].fill(0);
+                0..count(after)
+            }
+            Effect::Changes => count(expected)..count(after),
+            Effect::Searches | Effect::Looks => return,
+        };
+        for place in added.take_while(|&place| place < need.labels) {
+            expected.labels[place] = after.labels[place] % (1 << 48);
         }
     }
 }
@@ -145,6 +163,7 @@ fn difference(one: &Tables, other: &Tables) -> Option<(usize, &'static str)> {
         .or_else(|| first(&one.nodes, &other.nodes, "node records"))
         .or_else(|| first(&one.links, &other.links, "links"))
         .or_else(|| first(&one.work, &other.work, "search work"))
+        .or_else(|| first(&one.labels, &other.labels, "labels"))
 }
 
 /// Places that a call is lent beside the tables, to fill from the first on: marks in all of them, and behind them.
@@ -244,6 +263,23 @@ mod tests {
     #[should_panic(expected = "left place 6 of the samples")]
     fn a_place_behind_the_need() {
         call(Effect::Changes, Ok(()), |t, l| t.samples[l.samples] = 0);
+    }
+
+    #[test]
+    fn the_label_of_an_added_trace() {
+        assert!(call(Effect::Changes, Ok(()), |t, _| (t.control[3], t.labels[0]) = (1, 65_536 + 7)));
+    }
+
+    #[test]
+    #[should_panic(expected = "left place 0 of the labels")]
+    fn a_label_with_more_bits() {
+        call(Effect::Changes, Ok(()), |t, _| (t.control[3], t.labels[0]) = (1, 1 << 48));
+    }
+
+    #[test]
+    #[should_panic(expected = "left place 1 of the labels")]
+    fn a_label_of_no_trace() {
+        call(Effect::Changes, Ok(()), |t, _| (t.control[3], t.labels[1]) = (1, 7));
     }
 
     #[test]

@@ -15,26 +15,31 @@
 //! assert_eq!(session.play("# a comment"), None);
 //! ```
 //!
-//! A new call gets its form over a memory in [`crate::lending`], a function here and a row of `LINES`. The function takes its words from the line, lends
-//! an `Area` for each thing that the call fills, and says by an `Effect` what the call may do to the tables.
+//! [`Session::of_the_model`] plays them by the model instead, which so is held to the same replies.
+//!
+//! A new call gets its form over a memory in [`crate::lending`] and [`crate::by_model`], a function here and a row of `LINES`. The function
+//! takes its words from the line, lends an `Area` for each thing that the call fills, and says by an `Effect` what the call may do to the
+//! tables.
 
 pub mod bytes;
+mod calls;
 mod line;
 mod looking;
 mod memory;
 
-use crate::lending;
-use crate::model::{recording, sheet, Measures, Refused};
+use crate::model::{recording, sheet, Label, Measures, Refused};
+use calls::{Calls, LIBRARY, MODEL};
 use line::Line;
 use memory::{Area, Effect, Memory};
 use std::fmt::Display;
 
 /// How many of document 02's requests have landed.
-pub const STAGE: usize = 7;
+pub const STAGE: usize = 8;
 
 /// Two libraries, of which nothing was opened at first: the factory's is the first, the bench's the second.
 pub struct Session {
     libraries: [Memory; 2],
+    calls: &'static Calls,
 }
 
 /// Why a line has not the reply of an accepted call.
@@ -59,7 +64,7 @@ struct Played {
     play: fn(&mut Session, Line<'_>) -> Reply,
 }
 
-const LINES: [Played; 16] = [
+const LINES: [Played; 19] = [
     Played { name: "open", keys: &["short"], play: open },
     Played { name: "add", keys: &["short"], play: add },
     Played { name: "match", keys: &["short", "trail"], play: nearest },
@@ -70,6 +75,9 @@ const LINES: [Played; 16] = [
     Played { name: "export", keys: &["short", "buffer"], play: export },
     Played { name: "check", keys: &["short"], play: check },
     Played { name: "batch", keys: &["short", "trail"], play: batch },
+    Played { name: "addl", keys: &["short"], play: add_labelled },
+    Played { name: "label", keys: &["short"], play: label },
+    Played { name: "remote", keys: &["short", "trail"], play: remote_match },
     Played { name: "tree", keys: &[], play: looking::tree },
     Played { name: "below", keys: &[], play: looking::below },
     Played { name: "walks", keys: &[], play: looking::walks },
@@ -80,7 +88,12 @@ const LINES: [Played; 16] = [
 
 impl Session {
     pub fn new() -> Session {
-        Session { libraries: [Memory::unopened(), Memory::unopened()] }
+        Session { libraries: [Memory::unopened(), Memory::unopened()], calls: &LIBRARY }
+    }
+
+    /// The same, played by the model.
+    pub fn of_the_model() -> Session {
+        Session { calls: &MODEL, ..Session::new() }
     }
 
     /// The reply to a line; an empty line and a comment have none.
@@ -125,86 +138,113 @@ fn list(word: &str, items: impl IntoIterator<Item = impl Display>) -> String {
 fn open(session: &mut Session, mut line: Line<'_>) -> Reply {
     let measures = Measures { n: line.next()?, capacity: line.next()?, leaf_size: line.next()? };
     line.end()?;
-    session.library(&line).call(&line, Effect::Puts(measures), |t, l| lending::open(t, l, measures))?;
+    let open = session.calls.open;
+    session.library(&line).call(&line, Effect::Puts(measures), |t, l| open(t, l, measures))?;
     Ok("done".into())
 }
 
 fn add(session: &mut Session, mut line: Line<'_>) -> Reply {
-    let trace: Vec<i16> = line.rest()?;
-    let number = session.library(&line).call(&line, Effect::Changes, |t, l| lending::add(t, l, &trace))?;
+    let (trace, add): (Vec<i16>, _) = (line.rest()?, session.calls.add);
+    let number = session.library(&line).call(&line, Effect::Changes, |t, l| add(t, l, &trace))?;
     Ok(format!("added {number}"))
 }
 
+fn add_labelled(session: &mut Session, mut line: Line<'_>) -> Reply {
+    let label = Label { code: line.next()?, serial: line.next()? };
+    let (trace, add): (Vec<i16>, _) = (line.rest()?, session.calls.add_labelled);
+    let number = session.library(&line).call(&line, Effect::Changes, |t, l| add(t, l, &trace, label))?;
+    Ok(format!("added {number}"))
+}
+
+fn label(session: &mut Session, mut line: Line<'_>) -> Reply {
+    let (number, label): (u64, _) = (line.next()?, session.calls.label);
+    line.end()?;
+    let Label { code, serial } = session.library(&line).call(&line, Effect::Looks, |t, l| label(t, l, number))?;
+    Ok(format!("label {code} {serial}"))
+}
+
 fn nearest(session: &mut Session, mut line: Line<'_>) -> Reply {
-    let query: Vec<i16> = line.rest()?;
+    let (query, nearest): (Vec<i16>, _) = (line.rest()?, session.calls.nearest);
     let library = session.library(&line);
     let mut trail = Area::of("trail", line.places("trail", library.leaves())?);
-    let answer = library.call(&line, Effect::Searches, |t, l| lending::nearest(t, l, trail.lent(), &query));
-    let found = trail.kept_if_refused(answer)?;
-    let read = list("trail", trail.filled(found.leaves));
-    Ok(format!("matched {} {} {} {} {read}", found.trace, found.distance, found.leaves, found.traces))
+    let answer = library.call(&line, Effect::Searches, |t, l| nearest(t, l, trail.lent(), &query));
+    let [trace, distance, leaves, traces] = trail.kept_if_refused(answer)?;
+    Ok(format!("matched {trace} {distance} {leaves} {traces} {}", list("trail", trail.filled(leaves))))
+}
+
+fn remote_match(session: &mut Session, mut line: Line<'_>) -> Reply {
+    let (query, remote_match): (Vec<i16>, _) = (line.rest()?, session.calls.remote_match);
+    let library = session.library(&line);
+    let mut trail = Area::of("trail", line.places("trail", library.leaves())?);
+    let answer = library.call(&line, Effect::Searches, |t, l| remote_match(t, l, trail.lent(), &query));
+    let [trace, distance, leaves, traces, code] = trail.kept_if_refused(answer)?;
+    Ok(format!("remote {trace} {distance} {leaves} {traces} {code} {}", list("trail", trail.filled(leaves))))
 }
 
 fn k_nearest(session: &mut Session, mut line: Line<'_>) -> Reply {
-    let (k, query): (u64, Vec<i16>) = (line.next()?, line.rest()?);
+    let (k, query, k_nearest): (u64, Vec<i16>, _) = (line.next()?, line.rest()?, session.calls.k_nearest);
     let library = session.library(&line);
     let mut trail = Area::of("trail", line.places("trail", library.leaves())?);
     // a k above 16 is refused whatever the list
     let mut records = Area::of("list", 2 * line.places("list", k.min(17) as usize)?);
-    let answer = library.call(&line, Effect::Searches, |t, l| lending::k_nearest(t, l, trail.lent(), records.lent(), &query, k));
-    let found = records.kept_if_refused(trail.kept_if_refused(answer))?;
-    let read = list("trail", trail.filled(found.leaves));
-    let listed = records.filled(2 * found.listed).chunks(2).map(|record| format!("{}:{}", record[0], record[1]));
-    Ok(format!("near {} {} {read} {}", found.leaves, found.traces, list("list", listed)))
+    let answer = library.call(&line, Effect::Searches, |t, l| k_nearest(t, l, trail.lent(), records.lent(), &query, k));
+    let [leaves, traces, listed] = records.kept_if_refused(trail.kept_if_refused(answer))?;
+    let read = list("trail", trail.filled(leaves));
+    let listed = records.filled(2 * listed).chunks(2).map(|record| format!("{}:{}", record[0], record[1]));
+    Ok(format!("near {leaves} {traces} {read} {}", list("list", listed)))
 }
 
 fn write(session: &mut Session, line: Line<'_>) -> Reply {
     line.end()?;
+    let write = session.calls.write_sheet;
     let library = session.library(&line);
-    let (n, count) = (library.tables().measures().n, library.tables().control[3]);
-    let mut bytes = Area::of("sheet", line.places("sheet", 512 * sheet::blocks_needed(count.into(), n))?);
-    let answer = library.call(&line, Effect::Looks, |t, l| lending::write_sheet(t, l, bytes.lent()));
+    // tables that hold no library are refused whatever the sheet
+    let need = library.recorded().map_or(512, |library| sheet::need(&library));
+    let mut bytes = Area::of("sheet", line.places("sheet", need)?);
+    let answer = library.call(&line, Effect::Looks, |t, l| write(t, l, bytes.lent()));
     let blocks = bytes.kept_if_refused(answer)?;
     Ok(format!("written {blocks} {}", bytes::told(bytes.filled(512 * blocks))))
 }
 
 fn read(session: &mut Session, mut line: Line<'_>) -> Reply {
-    let bytes = line.bytes()?;
+    let (bytes, read) = (line.bytes()?, session.calls.read_sheet);
     line.end()?;
     let measures = sheet::measures(&bytes).unwrap_or(Measures { n: 0, capacity: 0, leaf_size: 0 });
-    session.library(&line).call(&line, Effect::Puts(measures), |t, l| lending::read_sheet(t, l, &bytes))?;
+    session.library(&line).call(&line, Effect::Puts(measures), |t, l| read(t, l, &bytes))?;
     Ok("done".into())
 }
 
 fn import(session: &mut Session, mut line: Line<'_>) -> Reply {
-    let bytes = line.bytes()?;
+    let (bytes, import) = (line.bytes()?, session.calls.import_recording);
     line.end()?;
-    let count = session.library(&line).call(&line, Effect::Changes, |t, l| lending::import_recording(t, l, &bytes))?;
+    let count = session.library(&line).call(&line, Effect::Changes, |t, l| import(t, l, &bytes))?;
     Ok(format!("imported {count}"))
 }
 
 fn export(session: &mut Session, mut line: Line<'_>) -> Reply {
-    let (rate, number): (u32, u64) = (line.next()?, line.next()?);
+    let (rate, number, export): (u32, u64, _) = (line.next()?, line.next()?, session.calls.export_recording);
     line.end()?;
     let library = session.library(&line);
     let mut buffer = Area::of("buffer", line.places("buffer", recording::size(library.tables().measures().n))?);
-    let answer = library.call(&line, Effect::Looks, |t, l| lending::export_recording(t, l, buffer.lent(), number, rate.into()));
+    let answer = library.call(&line, Effect::Looks, |t, l| export(t, l, buffer.lent(), number, rate.into()));
     let size = buffer.kept_if_refused(answer)?;
     Ok(format!("exported {size} {}", bytes::told(buffer.filled(size))))
 }
 
 fn check(session: &mut Session, line: Line<'_>) -> Reply {
     line.end()?;
-    session.library(&line).call(&line, Effect::Looks, |t, l| lending::check_tables(t, l))?;
+    let check = session.calls.check_tables;
+    session.library(&line).call(&line, Effect::Looks, |t, l| check(t, l))?;
     Ok("trusted".into())
 }
 
 fn batch(session: &mut Session, mut line: Line<'_>) -> Reply {
     let (many, places, queries): (usize, usize, Vec<i16>) = (line.next()?, line.next()?, line.rest()?);
+    let batch = session.calls.match_batch;
     let library = session.library(&line);
     let mut trail = Area::of("trail", line.places("trail", library.leaves())?);
     let mut records = Area::of("list", places);
-    let answer = library.call(&line, Effect::Searches, |t, l| lending::match_batch(t, l, trail.lent(), &queries, many, records.lent()));
+    let answer = library.call(&line, Effect::Searches, |t, l| batch(t, l, trail.lent(), &queries, many, records.lent()));
     let leaves = records.kept_if_refused(trail.kept_if_refused(answer))?;
     let read = list("trail", trail.filled(leaves));
     let answers = records.filled(many as u64).iter().map(|record| format!("{}:{}", record.trace, record.distance));

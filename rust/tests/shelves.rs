@@ -437,3 +437,21 @@ fn no_more_is_read_than_a_library_holds() {
     assert!(folder.refused("add l.sheet input").contains("larger than 64 MiB"));
     fs::remove_file(folder.0.join("input")).unwrap();
 }
+
+/// `l` would have its names where `l.sheet` has them.
+#[test]
+fn two_sheets_never_share_a_file_of_names() {
+    let folder = numbered("twins", 2);
+    let (sheet, names) = (folder.read("l.sheet"), folder.read("l.names"));
+    let said = folder.refused("build l --samples 8 --force 1.csv");
+    assert!(said.contains("l: l.sheet has its names in l.names too. Take another name"), "{said}");
+    assert!(!folder.0.join("l").exists() && folder.read("l.sheet") == sheet && folder.read("l.names") == names);
+    // nor is one written whose twin came by hand
+    folder.write("l", &sheet);
+    assert!(folder.refused("add l.sheet 1.csv").contains("l has its names in l.names too"));
+    assert!(folder.read("l.sheet") == sheet && folder.read("l.names") == names);
+    // a folder, or a file that is no sheet, is no twin
+    fs::remove_file(folder.0.join("l")).unwrap();
+    folder.write("l", "no sheet");
+    folder.done("add l.sheet 1.csv");
+}

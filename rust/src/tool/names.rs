@@ -2,7 +2,8 @@
 //! and a hash of the trace's samples. A name is shown only where the hash fits: two files cannot change at one moment, and may be mixed up.
 
 use super::plain::{clean, short, LONGEST};
-use super::{files, hash, plain, refused, Failure};
+use super::reading::is_sheet;
+use super::{disk, files, hash, plain, refused, Failure};
 use silkendoz::TraceLibrary;
 use std::collections::HashSet;
 use std::path::{Path, PathBuf};
@@ -37,6 +38,16 @@ pub fn with_ending(sheet: &Path, ending: &str) -> PathBuf {
         path.push(format!(".{ending}"));
         path.into()
     }
+}
+
+/// The other sheet whose names stand in the same file, if there is one: `faults` and `faults.sheet` both have `faults.names`.
+pub fn twin(sheet: &Path) -> Option<PathBuf> {
+    let other = match sheet.extension().is_some_and(|own| own == "sheet") {
+        true => sheet.with_extension(""),
+        false => with_ending(sheet, "sheet"),
+    };
+    let is_file = disk::follow(&other).ok().flatten().is_some_and(|it| it.is_file());
+    (is_file && files::read(&other).is_ok_and(|bytes| is_sheet(&bytes))).then_some(other)
 }
 
 /// A line of the file. One without a hash is from an older version, or somebody's: it is taken as it is.

@@ -137,6 +137,10 @@ impl Held {
         // what is there may have changed meanwhile
         let sheet = Place::of(path)?;
         let names = Place::of(&names::beside(sheet.real()))?;
+        if let Some(other) = names::twin(sheet.real()) {
+            let [shown, other, names] = [path, &other, &names::beside(path)].map(plain::path);
+            return refused(format!("{shown}: {other} has its names in {names} too. Take another name for one of them."));
+        }
         files::remove_strays(&[&sheet, &names]);
         Ok(Held { sheet, names, _lock: lock })
     }

@@ -2,7 +2,7 @@
 use mathlib.Core.Path.{_≡_, refl, sym, subst, _∙_}
 use mathlib.Core.Logic.{_⊎_, inl, inr}
 use mathlib.Core.List.{List}
-use Prim.Native.Nat.{ℕ, zero, suc, _+_, _*_, _^_, _≤_, _<_}
+use Prim.Native.Nat.{ℕ, zero, suc, _+_, _*_, _≤_, _<_}
 use native.Mathlib.Omega.{arith}
 use native.Mathlib.Decide.{decLe}
 use native.Mathlib.Nat.{lt-of-not-le}
@@ -11,7 +11,8 @@ use lib.ListN.{length, getD, set, take, replicate, length-set, length-replicate}
 use lib.Seq.{getD-set-same, getD-set-other}
 use borrow.Author.Count.{below-more}
 use Rattle.integer.proofs.Lists.{same-or-not}
-use Rattle.dstree.specs.Measures.{Trace}
+use Rattle.segment.specs.Limits.{sumMost, scatterMost}
+use Rattle.dstree.specs.Measures.{Trace, mostSamples}
 use Rattle.dstree.specs.Figures.{run, sumOn, scatterOn}
 use Rattle.tables.specs.View.{traceIn}
 use Rattle.leaf_figures.specs.Rows.{FiguresAt, Rows, PlacesInList, Column, Columns}
@@ -23,9 +24,9 @@ kept-at sums′ scatters′ k a b e g = record {
   in-sums = a;
   in-scatters = b;
   sum-is = e ∙ k .sum-is;
-  sum-small = subst (λ (z : ℤ). natAbs z ≤ 2 ^ 23) (sym e) (k .sum-small);
+  sum-small = subst (λ (z : ℤ). natAbs z ≤ sumMost mostSamples) (sym e) (k .sum-small);
   scatter-is = g ∙ k .scatter-is;
-  scatter-small = subst (λ (v : ℕ). v ≤ 2 ^ 46) (sym g) (k .scatter-small);
+  scatter-small = subst (λ (v : ℕ). v ≤ scatterMost mostSamples) (sym g) (k .scatter-small);
 }
 
 -- outside column f
@@ -50,8 +51,8 @@ module _ (samples : List ℤ) (n : ℕ) (list : List ℕ) (f first last : ℕ) (
   at = f * 65 + p
 
   -- one figure more
-  pub column-more : z ≡ sumOn (run first last) (traceIn samples n (getD list p 0)) → natAbs z ≤ 2 ^ 23
-      → v ≡ scatterOn (run first last) (traceIn samples n (getD list p 0)) → v ≤ 2 ^ 46
+  pub column-more : z ≡ sumOn (run first last) (traceIn samples n (getD list p 0)) → natAbs z ≤ sumMost mostSamples
+      → v ≡ scatterOn (run first last) (traceIn samples n (getD list p 0)) → v ≤ scatterMost mostSamples
       → Column samples n list f first last sums scatters p → Column samples n list f first last (set sums at z) (set scatters at v) (p + 1)
   column-more z-is z-small v-is v-small c =
       let same-sum : getD (set sums at z) at (pos 0) ≡ z = getD-set-same sums at z (pos 0) in-sums in
@@ -63,9 +64,9 @@ module _ (samples : List ℤ) (n : ℕ) (list : List ℕ) (f first last : ℕ) (
         in-sums = simp length-set in-sums;
         in-scatters = simp length-set in-scatters;
         sum-is = same-sum ∙ z-is;
-        sum-small = subst (λ (y : ℤ). natAbs y ≤ 2 ^ 23) (sym same-sum) z-small;
+        sum-small = subst (λ (y : ℤ). natAbs y ≤ sumMost mostSamples) (sym same-sum) z-small;
         scatter-is = same-scatter ∙ v-is;
-        scatter-small = subst (λ (y : ℕ). y ≤ 2 ^ 46) (sym same-scatter) v-small;
+        scatter-small = subst (λ (y : ℕ). y ≤ scatterMost mostSamples) (sym same-scatter) v-small;
       })
 
   -- .. in no other column

@@ -2,7 +2,7 @@
 use mathlib.Core.Path.{_≡_, refl, ap, _∙_}
 use mathlib.Core.Bool.{Bool, true, false}
 use mathlib.Core.List.{List, [], _∷_, map, foldl, map-map}
-use Prim.Native.Nat.{ℕ, _^_, _≤_, min, max}
+use Prim.Native.Nat.{ℕ, _≤_, min, max}
 use native.Mathlib.Omega.{arith}
 use lib.ListN.{getD}
 use lib.IntN.{ℤ, natAbs}
@@ -12,7 +12,8 @@ use mir.Syntax.{w64}
 use mir.Facts.{toZ-ofZ}
 use Rattle.integer.specs.Words.{if_then_else_, lesser, greater, those, chosen, leastℤ, greatestℤ, least, greatest}
 use Rattle.integer.proofs.Width.{small, read}
-use Rattle.dstree.specs.Measures.{Trace}
+use Rattle.segment.specs.Limits.{sumMost, scatterMost}
+use Rattle.dstree.specs.Measures.{Trace, mostSamples}
 use Rattle.dstree.specs.Figures.{Run, sumOn, scatterOn}
 use Rattle.dstree.specs.Node.{Segment}
 use Rattle.dstree.specs.Adding.{segmentOf, tracesOf}
@@ -97,7 +98,7 @@ greater-small a b m h k = by (ltZ a b)
     by true = k
     by false = h
 
-pub with-small : (f : SideRange) (s : ℤ) (v : ℕ) → SmallFigures f → natAbs s ≤ 2 ^ 23 → v ≤ 2 ^ 46 → SmallFigures (withFigures f s v)
+pub with-small : (f : SideRange) (s : ℤ) (v : ℕ) → SmallFigures f → natAbs s ≤ sumMost mostSamples → v ≤ scatterMost mostSamples → SmallFigures (withFigures f s v)
 unfolding withFigures
 with-small f s v h hs hv = by (f .any)
   where
@@ -115,8 +116,8 @@ with-small f s v h hs hv = by (f .any)
 
     by : (b : Bool) → SmallFigures (if b then more else one)
     by true = record {
-      least-sum = lesser-small (f .«least_sum») s (2 ^ 23) (h .least-sum) hs;
-      greatest-sum = greater-small (f .«greatest_sum») s (2 ^ 23) (h .greatest-sum) hs;
+      least-sum = lesser-small (f .«least_sum») s (sumMost mostSamples) (h .least-sum) hs;
+      greatest-sum = greater-small (f .«greatest_sum») s (sumMost mostSamples) (h .greatest-sum) hs;
       least-scatter = omega (arith, h .least-scatter);
       greatest-scatter = omega (arith, h .greatest-scatter);
     }

@@ -1,7 +1,7 @@
 -- The prefix sums at a run's two ends differ by the run's own sums. The figures that follow are those of the definition, with its sizes.
 use mathlib.Core.Path.{_≡_, ap, ap₂, subst, _∙_}
 use mathlib.Core.List.{List, [], _∷_, _++_}
-use Prim.Native.Nat.{ℕ, suc, _+_, _*_, _-_, _^_, _≤_}
+use Prim.Native.Nat.{ℕ, suc, _+_, _*_, _-_, _≤_}
 use native.Mathlib.Nat.{mul-le-mul}
 use native.Mathlib.Omega.{arith}
 use lib.IntN.{ℤ, pos, natAbs, _+ℤ_, _-ℤ_}
@@ -11,21 +11,21 @@ use Rattle.integer.specs.Words.{square}
 use Rattle.integer.proofs.Ring.{ring}
 use Rattle.integer.proofs.Facts.{reading}
 use Rattle.segment.specs.Figures.{sum, sumOfSquares, scatter}
-use Rattle.segment.specs.Limits.{SamplesWithin, sumLimit, scatterLimit}
+use Rattle.segment.specs.Limits.{SamplesWithin, sumLimit, scatterLimit, sumMost, scatterMost, sumRoom, squaresRoom}
 use Rattle.segment.proofs.Sums.{sum-append, squares-append}
 use Rattle.segment.proofs.Scatter.{scatter-law}
 use Rattle.segment.proofs.Limits.{within-take, within-drop, sum-limit, squares-limit, scatter-limit}
-use Rattle.dstree.specs.Measures.{Trace, sampleLimit}
+use Rattle.dstree.specs.Measures.{Trace, sampleLimit, mostSamples}
 use Rattle.dstree.specs.Figures.{run, width, samplesOn, sumOn, scatterOn}
 use Rattle.tables.specs.Runs.{Inside}
 use Rattle.prefixes.specs.Prefixes.{Prefixes}
 
 -- ---- sizes, by those of the widest run
-pub sum-most : {w v : ℕ} → w ≤ 256 → v ≤ sumLimit sampleLimit w → v ≤ 2 ^ 23
+pub sum-most : {w v : ℕ} → w ≤ mostSamples → v ≤ sumLimit sampleLimit w → v ≤ sumMost mostSamples
 unfolding sampleLimit sumLimit
 sum-most h l = omega arith
 
-pub scatter-most : {w v : ℕ} → w ≤ 256 → v ≤ scatterLimit sampleLimit w → v ≤ 2 ^ 46
+pub scatter-most : {w v : ℕ} → w ≤ mostSamples → v ≤ scatterLimit sampleLimit w → v ≤ scatterMost mostSamples
 unfolding sampleLimit scatterLimit
 scatter-most h l = omega (arith, mul-le-mul h h)
 
@@ -41,9 +41,9 @@ module _ {trace : Trace} {sums : List ℤ} {squares : List ℕ} (p : Prefixes tr
   abbrev squaresTo : ℕ → ℕ
   squaresTo j = getD squares j 0
 
-  pub prefix-size : (j : ℕ) → j ≤ length trace → natAbs (sumTo j) ≤ 2 ^ 23
+  pub prefix-size : (j : ℕ) → j ≤ length trace → natAbs (sumTo j) ≤ sumMost mostSamples
   prefix-size j h =
-      let few : length (take j trace) ≤ 256 = omega (arith, length-take-le j trace h, p .few) in
+      let few : length (take j trace) ≤ mostSamples = omega (arith, length-take-le j trace h, p .few) in
       rw (p .sums-are j h) (sum-most few (sum-limit sampleLimit (take j trace) (within-take j trace (p .within))))
 
   module _ {first last : ℕ} (i : Inside (length trace) first last) where
@@ -97,11 +97,11 @@ module _ {trace : Trace} {sums : List ℤ} {squares : List ℕ} (p : Prefixes tr
     total : squaresTo last - squaresTo before ≡ sumOfSquares there
     total = omega (arith, squares-are)
 
-    pub asked : (last - before ≤ 256) × (natAbs (sumOn (run first last) trace) ≤ 2 ^ 27) × (squaresTo last - squaresTo before ≤ 2 ^ 46)
+    pub asked : (last - before ≤ mostSamples) × (natAbs (sumOn (run first last) trace) ≤ sumRoom) × (squaresTo last - squaresTo before ≤ squaresRoom)
         × (square (sumOn (run first last) trace) ≤ (last - before) * (squaresTo last - squaresTo before))
     unfolding sampleLimit
     asked =
-        let few : width (run first last) ≤ 256 = omega (arith, i .from-1, i .to-n, p .few) in
+        let few : width (run first last) ≤ mostSamples = omega (arith, i .from-1, i .to-n, p .few) in
         rw (wide, total) (
           omega (arith, there-length),
           omega (arith, sum-most few sum-size),

@@ -1,17 +1,17 @@
--- Prefix sums that are filled in place by place: after i turns the places 0 to i hold them, and the samples passed are within 16 bits.
+-- Prefix sums that are filled in place by place: after i turns the places 0 to i hold them, and the samples passed are within the limit.
 use mathlib.Core.Path.{_≡_, sym, ap, _∙_}
 use mathlib.Core.List.{List}
-use Prim.Native.Nat.{ℕ, _+_, _*_, _^_, _≤_, _<_}
+use Prim.Native.Nat.{ℕ, _+_, _≤_, _<_}
 use native.Mathlib.Omega.{arith}
 use lib.IntN.{ℤ, pos, natAbs, _+ℤ_}
-use lib.Signed.{mag}
 use lib.ListN.{length, getD, take, set, length-set}
 use lib.Seq.{getD-set-same, getD-set-other, take-all, length-take-le}
 use borrow.Author.Count.{below-more}
 use Rattle.integer.specs.Words.{square}
 use Rattle.segment.specs.Figures.{sum, sumOfSquares}
-use Rattle.segment.specs.Limits.{SamplesWithin, sumLimit}
+use Rattle.segment.specs.Limits.{SamplesWithin, sumLimit, sumMost, squaresMost}
 use Rattle.segment.proofs.Sums.{sum-more, squares-more}
+use Rattle.segment.proofs.Steps.{FitsSample, sample-within}
 use Rattle.segment.proofs.Limits.{within-more, sum-limit, squares-limit}
 use Rattle.dstree.specs.Measures.{sampleLimit}
 use Rattle.prefixes.specs.Prefixes.{Prefixes}
@@ -38,20 +38,20 @@ passed-none trace sums squares a b =
     }
 
 module _ {trace sums : List ℤ} {squares : List ℕ} {i : ℕ} (p : Passed trace sums squares i) where
-  pub sum-size : natAbs (getD sums i (pos 0)) ≤ 32768 * i
+  pub sum-size : natAbs (getD sums i (pos 0)) ≤ sumMost i
   unfolding sampleLimit sumLimit
   sum-size =
       rw (p .sums-are i (omega arith))
       (omega (arith, sum-limit sampleLimit (take i trace) (p .within), length-take-le i trace (p .inside)))
 
-  pub squares-size : getD squares i 0 ≤ 2 ^ 30 * i
+  pub squares-size : getD squares i 0 ≤ squaresMost i
   unfolding sampleLimit
   squares-size =
       rw (p .squares-are i (omega arith))
       (omega (arith, squares-limit sampleLimit (take i trace) (p .within), length-take-le i trace (p .inside)))
 
   -- one sample more
-  pub passed-more : length trace ≤ 256 → i < length trace → mag (getD trace i (pos 0)) < 2 ^ 15 → (s : ℤ) (q : ℕ)
+  pub passed-more : length trace ≤ 256 → i < length trace → FitsSample (getD trace i (pos 0)) → (s : ℤ) (q : ℕ)
       → s ≡ getD sums i (pos 0) +ℤ getD trace i (pos 0) → q ≡ getD squares i 0 + square (getD trace i (pos 0))
       → Passed trace (set sums (i + 1) s) (set squares (i + 1) q) (i + 1)
   unfolding sampleLimit
@@ -64,7 +64,7 @@ module _ {trace sums : List ℤ} {squares : List ℕ} {i : ℕ} (p : Passed trac
         inside = omega arith;
         sum-places = length-set sums (i + 1) s ∙ p .sum-places;
         square-places = length-set squares (i + 1) q ∙ p .square-places;
-        within = within-more trace i (p .within) m;
+        within = within-more trace i (p .within) (sample-within (getD trace i (pos 0)) m);
         sums-are = below-more _ (i + 1)
             (λ j h. getD-set-other sums (i + 1) j s (pos 0) (λ x. omega arith) ∙ p .sums-are j h)
             (getD-set-same sums (i + 1) s (pos 0) (omega (arith, p .sum-places)) ∙ e);

@@ -1,17 +1,13 @@
--- A node's own bound, segment by segment, and how large it gets: a term of w samples is at most `boundLimit`.
+-- A node's own bound, segment by segment.
 use mathlib.Core.Path.{_≡_, refl, sym, subst, _∙_}
 use mathlib.Core.List.{List, [], _∷_, map}
-use Prim.Native.Nat.{ℕ, suc, _+_, _*_, _-_, _/_, _^_, _≤_, _<_}
-use native.Mathlib.Nat.{mul-le-mul, div-lt-iff-lt-mul}
+use Prim.Native.Nat.{ℕ, suc, _+_, _-_, _≤_, _<_}
 use native.Mathlib.Numerals.{add-one}
 use native.Mathlib.Omega.{arith}
-use lib.IntN.{ℤ, natAbs}
+use lib.IntN.{ℤ}
 use lib.ListN.{length, length-map}
-use Rattle.integer.specs.Words.{roundedUp, counting}
+use Rattle.integer.specs.Words.{counting}
 use Rattle.integer.proofs.Times.{counting-length}
-use Rattle.segment.specs.Limits.{sumLimit, scatterLimit}
-use Rattle.segment.specs.Terms.{sumGap, scatterGap, boundTerm}
-use Rattle.segment.proofs.Limits.{sum-gap-limit, scatter-gap-limit}
 use Rattle.dstree.specs.Measures.{Trace, sampleLimit}
 use Rattle.dstree.specs.Figures.{run, width}
 use Rattle.dstree.specs.Node.{Segment, ends, totalOver}
@@ -21,29 +17,12 @@ use Rattle.dstree.proofs.Cuts.{parted-rises}
 use Rattle.tables.proofs.Views.{end-at}
 use Rattle.tables.specs.Layout.{segmentsPlace, segmentAt}
 use Rattle.tables.specs.View.{smallAt, segmentIn, segmentsIn, nodeIn}
-use Rattle.query.specs.Bounded.{Bounded, boundBy, boundLimit}
+use Rattle.query.specs.Bounded.{Bounded, boundBy}
 
 -- the own bound of the node that a record stands for, whatever its kind
 pub own-bound-in : (query : Trace) (links : List ℕ) (count : ℕ) (r : List ℤ) → ownBound query (nodeIn links count r) ≡ boundBy query r
 unfolding ownBound nodeIn
 own-bound-in query links count r = refl
-
--- ---- sizes
-term-size : (w g h : ℕ) → 0 < w → g ≤ w * 65536 → h ≤ w * 32768 → boundTerm w g h ≤ boundLimit sampleLimit w
-unfolding boundTerm roundedUp sampleLimit boundLimit
-term-size w g h p hg hh =
-    let most : g * g + h * h + (w - 1) < (2 ^ 33 * w + 1) * w = omega (arith, mul-le-mul hg hg, mul-le-mul hh hh) in
-    let below : (g * g + h * h + (w - 1)) / w < 2 ^ 33 * w + 1 = div-lt-iff-lt-mul {k = w} {x = g * g + h * h + (w - 1)} {y = 2 ^ 33 * w + 1} p .1 most in
-    omega arith
-
-pub gaps-size : (w : ℕ) (t : ℤ) (u : ℕ) (s : Segment) → 0 < w → natAbs t ≤ sumLimit sampleLimit w → u ≤ scatterLimit sampleLimit w
-    → Limited sampleLimit w s
-    → boundTerm w (sumGap t (s .leastSum) (s .greatestSum)) (scatterGap u (s .leastScatter) (s .greatestScatter)) ≤ boundLimit sampleLimit w
-unfolding sampleLimit sumLimit scatterLimit
-gaps-size w t u s p ht hu l =
-    term-size w (sumGap t (s .leastSum) (s .greatestSum)) (scatterGap u (s .leastScatter) (s .greatestScatter)) p
-    (sum-gap-limit t (s .leastSum) (s .greatestSum) (w * 65536) (omega (arith, l .least-sum)) (omega (arith, l .greatest-sum)))
-    (scatter-gap-limit u (s .leastScatter) (s .greatestScatter) (w * 32768) (omega arith) (omega (arith, l .scatters, l .greatest-scatter)))
 
 -- ---- the segments from number i on
 abbrev pub segmentsAfter : List ℤ → ℕ → ℕ → List Segment

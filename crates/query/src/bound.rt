@@ -13,6 +13,7 @@ use tables::records::value_at;
 ghost use mathlib.Core.Path.{_≡_};
 ghost use Prim.Native.Nat.{_≤_, _<_};
 ghost use lib.ListN.{length};
+ghost use Rattle.segment.specs.Limits.{boundLimit};
 ghost use Rattle.dstree.specs.Measures.{sampleLimit, mostSamples};
 ghost use Rattle.dstree.specs.Figures.{run, width};
 ghost use Rattle.dstree.specs.Formed.{Limited};
@@ -22,7 +23,7 @@ ghost use Rattle.tables.specs.Layout.{recordPlaces};
 ghost use Rattle.tables.specs.View.{segmentIn};
 ghost use Rattle.tables.specs.Runs.{Inside};
 ghost use Rattle.prefixes.specs.Prefixes.{Prefixes};
-ghost use Rattle.query.specs.Bounded.{Bounded, boundBy, boundLimit};
+ghost use Rattle.query.specs.Bounded.{Bounded, boundBy};
 
 // The term of segment i, which is the samples `first` to `last`.
 fn segment_term(

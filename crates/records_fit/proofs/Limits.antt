@@ -11,7 +11,7 @@ use lib.Dec.{T, leb, leb→le, le→leb}
 use mir.Facts.{and-yes, yes-and}
 use Rattle.integer.proofs.Tests.{is-true, andAll, passed, passes, test-true, test-false, same-test}
 use Rattle.integer.proofs.Order.{≤ℤ→, →≤ℤ, ≤ℤ-trans, up, down, sum-parts, neg-parts}
-use Rattle.segment.specs.Limits.{sumLimit, scatterLimit, rootLimit}
+use Rattle.segment.specs.Limits.{sampleMost, sumLimit, scatterLimit, rootLimit}
 use Rattle.dstree.specs.Measures.{sampleLimit}
 use Rattle.dstree.specs.Node.{bySum, byScatter}
 use Rattle.dstree.specs.WellFormed.{withinℤ, segmentFits, thresholdFits}
@@ -57,7 +57,7 @@ module _ (x : ℕ) (h : x < 2 ^ 63) where
   scatters-shown (pos p) (negsuc q) t o u = absurd t
   scatters-shown (negsuc p) q t o u = absurd o
 
--- ---- the definitions, for samples of 16 bits
+-- ---- the definitions, at the samples' limit
 
 pub square-fits : (w x : ℕ) → w ≤ x → w * w ≤ x * x
 square-fits w x h = mul-le-mul {n₁ = w} {m₁ = w} {n₂ = x} {m₂ = x} h h
@@ -65,7 +65,7 @@ square-fits w x h = mul-le-mul {n₁ = w} {m₁ = w} {n₂ = x} {m₂ = x} h h
 -- a segment's figures: as least and greatest are in order, one side of each is enough
 module _ (w end : ℕ) (a b p q : ℤ) where
   abbrev limit : ℕ
-  limit = w * 32768
+  limit = w * sampleMost
 
   abbrev whole : Bool
   whole = segmentFits sampleLimit w (record { end = end; leastSum = a; greatestSum = b; leastScatter = scatterIn p; greatestScatter = scatterIn q })
@@ -74,7 +74,7 @@ module _ (w end : ℕ) (a b p q : ℤ) where
   abbrev tests : List Bool
   tests = leZ b (pos limit) ∷ leZ (negℤ (pos limit)) a ∷ leZ (pos 0) p ∷ leZ p q ∷ leZ q (pos (limit * limit)) ∷ []
 
-  squared : w * w * (32768 * 32768) ≡ limit * limit
+  squared : w * w * (sampleMost * sampleMost) ≡ limit * limit
   squared = omega arith
 
   module _ (h : w ≤ 256) where
@@ -84,7 +84,7 @@ module _ (w end : ℕ) (a b p q : ℤ) where
     meant : T whole → T (andAll (leZ a b) tests)
     unfolding segmentFits sumLimit scatterLimit sampleLimit withinℤ
     meant t =
-        let s = passed (leZ a b) (leb (scatterIn p) (scatterIn q) ∷ withinℤ limit a ∷ withinℤ limit b ∷ leb (scatterIn q) (w * w * (32768 * 32768)) ∷ []) t in
+        let s = passed (leZ a b) (leb (scatterIn p) (scatterIn q) ∷ withinℤ limit a ∷ withinℤ limit b ∷ leb (scatterIn q) (w * w * (sampleMost * sampleMost)) ∷ []) t in
         let least = and-yes (leZ (negℤ (pos limit)) a) (leZ a (pos limit)) (s .1 .1 .0) in
         let greatest = and-yes (leZ (negℤ (pos limit)) b) (leZ b (pos limit)) (s .1 .1 .1 .0) in
         let z = scatters-meant (limit * limit) top p q (s .1 .0) (subst (λ (x : ℕ). T (leb (scatterIn q) x)) squared (s .1 .1 .1 .1)) in
@@ -98,7 +98,7 @@ module _ (w end : ℕ) (a b p q : ℤ) where
         let order = leZ-yes {a = a} {b = b} (s .0) in
         let high = leZ-yes {a = b} {b = pos limit} (s .1 .0) in
         let z = scatters-shown (limit * limit) top p q (s .1 .1 .1 .1 .0) (s .1 .1 .1 .0) (s .1 .1 .1 .1 .1) in
-        passes (leZ a b) (leb (scatterIn p) (scatterIn q) ∷ withinℤ limit a ∷ withinℤ limit b ∷ leb (scatterIn q) (w * w * (32768 * 32768)) ∷ []) (
+        passes (leZ a b) (leb (scatterIn p) (scatterIn q) ∷ withinℤ limit a ∷ withinℤ limit b ∷ leb (scatterIn q) (w * w * (sampleMost * sampleMost)) ∷ []) (
           s .0,
           (
             z .0,
@@ -115,9 +115,9 @@ module _ (w end : ℕ) (a b p q : ℤ) where
     pub segment-is : whole ≡ andAll (leZ a b) tests
     segment-is = same-test meant shown
 
-pub sum-threshold : (w : ℕ) (t : ℤ) → thresholdFits sampleLimit bySum w t ≡ leZ t (pos (2 * (w * 32768))) && leZ (negℤ (pos (2 * (w * 32768)))) t
+pub sum-threshold : (w : ℕ) (t : ℤ) → thresholdFits sampleLimit bySum w t ≡ leZ t (pos (2 * (w * sampleMost))) && leZ (negℤ (pos (2 * (w * sampleMost)))) t
 unfolding thresholdFits withinℤ sumLimit sampleLimit
-sum-threshold w t = either-way (leZ (negℤ (pos (2 * (w * 32768)))) t) (leZ t (pos (2 * (w * 32768))))
+sum-threshold w t = either-way (leZ (negℤ (pos (2 * (w * sampleMost)))) t) (leZ t (pos (2 * (w * sampleMost))))
   where
     either-way : (a b : Bool) → a && b ≡ b && a
     either-way true true = refl
@@ -125,6 +125,6 @@ sum-threshold w t = either-way (leZ (negℤ (pos (2 * (w * 32768)))) t) (leZ t (
     either-way false true = refl
     either-way false false = refl
 
-pub scatter-threshold : (w : ℕ) (t : ℤ) → thresholdFits sampleLimit byScatter w t ≡ leZ (pos 0) t && leZ t (pos (2 * (w * 32768)))
+pub scatter-threshold : (w : ℕ) (t : ℤ) → thresholdFits sampleLimit byScatter w t ≡ leZ (pos 0) t && leZ t (pos (2 * (w * sampleMost)))
 unfolding thresholdFits rootLimit sampleLimit
 scatter-threshold w t = refl

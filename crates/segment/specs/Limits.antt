@@ -32,6 +32,11 @@ scatterLimit limit w = w * w * (limit * limit)
 unfoldable pub rootLimit : ℕ → ℕ → ℕ
 rootLimit limit w = w * limit
 
+-- Ours: no term of a segment that is w wide is above this, nor a bound over w samples. (g is at most 2 × w × limit and h at most
+-- w × limit, so that five times w × limit² and 1 would do)
+unfoldable pub boundLimit : ℕ → ℕ → ℕ
+boundLimit limit w = 8 * (w * (limit * limit))
+
 -- ---- what code counts on, of w samples of 16 bits: these compute, so that they are numbers wherever they stand
 
 -- the size of a sum
@@ -65,7 +70,7 @@ gapRoom = 2 ^ 30
 
 -- a total that samples or their squares are added to
 abbrev pub totalRoom : ℕ
-totalRoom = 2 ^ 40
+totalRoom = 2 ^ 47
 
 -- a segment's term of a spread, or of a bound, from figures within that room; and the spread of 16 segments
 abbrev pub termMost : ℕ

@@ -3,13 +3,14 @@ use mathlib.Core.Path.{_≡_, refl, sym, ap, _∙_}
 use mathlib.Core.Bool.{Bool, true, false}
 use mathlib.Core.Option.{Option, none, some}
 use mathlib.Core.List.{List, [], _∷_, _++_, map, foldl, foldl-append}
-use Prim.Native.Nat.{ℕ, suc, _+_, _^_, _≤_}
+use Prim.Native.Nat.{ℕ, suc, _+_, _*_, _≤_}
 use native.Mathlib.Numerals.{add-one}
 use lib.IntN.{ℤ, natAbs}
 use lib.Signed.{ltZ}
 use Rattle.integer.specs.Words.{if_then_else_, those, leastℤ, greatestℤ}
 use Rattle.integer.proofs.Lists.{}
-use Rattle.dstree.specs.Measures.{Trace}
+use Rattle.segment.specs.Limits.{scatterMost}
+use Rattle.dstree.specs.Measures.{Trace, mostSamples}
 use Rattle.dstree.specs.Figures.{run}
 use Rattle.dstree.specs.Node.{figureOf}
 use Rattle.dstree.specs.Adding.{Candidate, candidates, candidatesFrom, byEither, halves, Split, thresholdOf, testOf, splitByTest, splitBy, parts, gain, bestOf, best, tracesOf}
@@ -104,7 +105,7 @@ module _ (stored : List Trace) (all numbers : List ℕ) where
     module _ (c : Trial) (threshold g : ℤ) (above : ltZ (leastℤ (figures c)) (greatestℤ (figures c)) ≡ true)
         (t-is : threshold ≡ thresholdOf (figureBy (c .«by_scatter»)) (run (c .first) (c .last)) (tracesOf stored numbers))
         (g-is : g ≡ gain stored all numbers (splitByTest stored numbers (testBy (c .first) (c .last) (c .«by_scatter») threshold) (childEnds (c .cut) all)))
-        (small : natAbs threshold ≤ 2 ^ 47) (fit : TrialFits n all (c .first) (c .last) (c .cut)) where
+        (small : natAbs threshold ≤ 2 * scatterMost mostSamples) (fit : TrialFits n all (c .first) (c .last) (c .cut)) where
       good : ChoiceFound n stored all numbers (choiceOf c threshold g)
       good = record { gain-is = g-is; size = small; fit = fit }
 

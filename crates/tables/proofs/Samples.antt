@@ -1,5 +1,5 @@
 -- The samples of a lent slice, looked at one by one; and the stored traces, which are then traces.
-use Prim.Native.Nat.{ℕ, suc, _+_, _*_, _^_, _≤_, _<_}
+use Prim.Native.Nat.{ℕ, suc, _+_, _*_, _≤_, _<_}
 use native.Mathlib.Numerals.{add-one}
 use native.Mathlib.Nat.{mul-le-mul-right}
 use native.Mathlib.Omega.{arith}
@@ -17,6 +17,7 @@ use Rattle.integer.specs.Lists.{all-none, all-more}
 use Rattle.integer.proofs.Tests.{passes, is-true, eq→eqb}
 use Rattle.integer.proofs.Lists.{all-append, every-all, all-every, every-of, every-take, every-drop}
 use Rattle.integer.proofs.Lists.{InMap, of, from-map, from-counting}
+use Rattle.segment.proofs.Steps.{FitsSample, sample-within}
 use Rattle.dstree.specs.Measures.{Trace, sampleLimit, areSamples, isTrace, samplesNeeded}
 use Rattle.tables.specs.Tables.{Tables, measuresOf, traceCount}
 use Rattle.tables.specs.View.{traceIn, tracesIn}
@@ -27,12 +28,12 @@ abbrev isSample : ℤ → Bool
 isSample sample = ltb (mag sample) sampleLimit
 
 pub one-more-sample : (samples : List ℤ) (i : ℕ) → i < length samples → T (areSamples (take i samples))
-    → mag (getD samples i (pos 0)) < 2 ^ 15 → T (areSamples (take (i + 1) samples))
+    → FitsSample (getD samples i (pos 0)) → T (areSamples (take (i + 1) samples))
 unfolding sampleLimit
 one-more-sample samples i h t m =
     subst (λ (l : List ℤ). T (areSamples l)) (sym (ap (λ (k : ℕ). take k samples) (add-one i) ∙ take-suc samples i (pos 0) h))
     (all-every isSample (all-append (every-all isSample (take i samples) t)
-    (all-more (is-true (lt-ltb (mag (getD samples i (pos 0))) 32768 m)) all-none)))
+    (all-more (is-true (lt-ltb (mag (getD samples i (pos 0))) sampleLimit (sample-within (getD samples i (pos 0)) m))) all-none)))
 
 pub all-samples : (samples : List ℤ) (i : ℕ) → length samples ≤ i → T (areSamples (take i samples)) → T (areSamples samples)
 all-samples samples i h t = subst (λ (l : List ℤ). T (areSamples l)) (take-all i samples h) t

@@ -4,11 +4,12 @@ use Prim.Native.Nat.{_+_, _-_}
 use native.Mathlib.Omega.{arith}
 use lib.IntN.{ℤ, pos, _+ℤ_}
 use lib.ListN.{length, getD}
-use mir.Syntax.{w16, w64}
+use mir.Syntax.{w64}
 use mir.Val.{SFits}
 use mir.Facts.{toZ-ofZ}
 use Rattle.integer.specs.Words.{square}
 use Rattle.integer.proofs.Width.{of-mag}
+use Rattle.segment.proofs.Steps.{sampleWidth}
 use Rattle.prefixes.proofs.Passed.{Passed, passed-none, sum-size, squares-size, passed-more, passed-all}
 use Rattle.prefixes.proofs.prefix_sums.Statement.{statement}
 use Rattle.prefixes.proofs.prefix_sums.Tie as tie
@@ -40,7 +41,7 @@ loop-again c =
     let l = c .before .before .before .before .before .before .before .loop in
     let x = getD (s .args .trace .now) (l .i) (pos 0) in
     let a = getD (l .sums) (l .i) (pos 0) in
-    let here : SFits w16 x = of-mag {w = w16} x (c .before .with-square-arg2 .given) in
+    let here : SFits sampleWidth x = of-mag {w = sampleWidth} x (c .before .with-square-arg2 .given) in
     let sum : SFits w64 a = of-mag {w = w64} a (c .before .before .before .before .before .with-sample-arg .given) in
     let t = c .before .before .before .with-sample in
     passed-more (l .inv) (s .pre .0) (c .before .before .before .before .before .before .loop-test .taken) (c .before .with-square-arg2 .given) _ _

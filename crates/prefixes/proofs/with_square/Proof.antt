@@ -1,4 +1,4 @@
--- `prefixes::with_square` meets its contract: a sample of 16 bits has a square of at most 31.
+-- `prefixes::with_square` meets its contract: 64 bits have room for a total and the square of a sample.
 use mathlib.Core.Path.{_≡_, ap, _∙_}
 use native.Mathlib.Nat.{mul-le-mul}
 use native.Mathlib.Omega.{arith}

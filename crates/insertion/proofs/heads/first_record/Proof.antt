@@ -1,7 +1,7 @@
 -- `insertion::heads::first_record` meets its contract: what the three writers leave is the first leaf's record (`First`).
 use mathlib.Core.Path.{_≡_, ap, _∙_}
 use mathlib.Core.List.{List, _++_}
-use Prim.Native.Nat.{ℕ, _*_, _^_, _≤_}
+use Prim.Native.Nat.{ℕ, _≤_}
 use native.Mathlib.Nat.{mul-le-mul}
 use native.Mathlib.Omega.{arith}
 use lib.IntN.{ℤ, pos}
@@ -12,6 +12,8 @@ use denote.Ref.{now}
 use borrow.Author.Needs.{needs}
 use Rattle.integer.proofs.Width.{of-mag, read}
 use Rattle.segment.specs.Figures.{sum, scatter}
+use Rattle.segment.specs.Limits.{scatterMost, scatterRoom}
+use Rattle.dstree.specs.Measures.{mostSamples}
 use Rattle.tables.specs.Layout.{headPlaces, recordPlaces}
 use Rattle.tables.specs.Tables.{filled}
 use Rattle.insertion.specs.Widening.{withSegment}
@@ -25,9 +27,9 @@ write-segment-requires c κs =
     let f = c .before .before .before .figures-of in
     let s = c .before .before .before .before .before .before .before .before .before .before in
     let w : ℕ = length (now (s .args .trace)) in
-    let few : w ≤ 256 = s .pre .1 in
-    let m : f .result .scatter ≤ 2 ^ 30 * (w * w) = f .ensures .1 .1 in
-    let most : f .result .scatter ≤ 2 ^ 54 = omega (arith, mul-le-mul few few) in
+    let few : w ≤ mostSamples = s .pre .1 in
+    let m : f .result .scatter ≤ scatterMost w = f .ensures .1 .1 in
+    let most : f .result .scatter ≤ scatterRoom = omega (arith, mul-le-mul few few) in
     (search needs, omega arith, omega arith, most, most)
 
 returns : tie.Need-returns

@@ -5,11 +5,11 @@ use native.Mathlib.Omega.{arith}
 use lib.IntN.{pos}
 use lib.ListN.{getD}
 use lib.Seq.{ext-getD}
-use mir.Syntax.{w16}
 use mir.Facts.{toZ-ofZ}
 use borrow.Author.Count.{below-more}
 use borrow.Author.Tests.{eqb-true}
 use Rattle.integer.proofs.Width.{of-mag}
+use Rattle.segment.proofs.Steps.{sampleWidth}
 use Rattle.leaf_figures.proofs.sameness.same_trace.Statement.{statement}
 use Rattle.leaf_figures.proofs.sameness.same_trace.Tie as tie
 
@@ -24,8 +24,8 @@ loop-again c =
     let k = c .before .before .before in
     let l = k .before .loop in
     let a = k .before .before .args in
-    let x-back = toZ-ofZ (of-mag {w = w16} (getD (a .x .now) (l .i) (pos 0)) (c .before .before .differs-arg .given)) in
-    let y-back = toZ-ofZ (of-mag {w = w16} (getD (a .y .now) (l .i) (pos 0)) (c .before .differs-arg2 .given)) in (
+    let x-back = toZ-ofZ (of-mag {w = sampleWidth} (getD (a .x .now) (l .i) (pos 0)) (c .before .before .differs-arg .given)) in
+    let y-back = toZ-ofZ (of-mag {w = sampleWidth} (getD (a .y .now) (l .i) (pos 0)) (c .before .differs-arg2 .given)) in (
       omega arith,
       omega (arith, c .differs .ensures .1, l .inv .1),
       λ z. below-more _ (l .i) (l .inv .2 (omega (arith, z))) (sym x-back ∙ (c .differs .ensures .0 (omega (arith, z)) ∙ y-back)),

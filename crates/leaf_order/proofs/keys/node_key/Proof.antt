@@ -7,8 +7,9 @@ use lib.IntN.{ℤ}
 use lib.ListN.{length}
 use denote.Ref.{now}
 use borrow.Author.Needs.{needs}
+use Rattle.segment.specs.Limits.{boundLimit}
 use Rattle.dstree.specs.Measures.{sampleLimit}
-use Rattle.query.specs.Bounded.{Bounded, boundBy, boundLimit}
+use Rattle.query.specs.Bounded.{Bounded, boundBy}
 use Rattle.best_first.specs.NodeKeys.{boundsBelow}
 use Rattle.leaf_order.proofs.keys.node_key.Statement.{statement}
 use Rattle.leaf_order.proofs.keys.node_key.Tie as tie

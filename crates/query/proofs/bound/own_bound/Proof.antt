@@ -1,15 +1,16 @@
 -- `query::bound::own_bound` meets its contract: the total, and the terms of the segments that are left, make the whole bound. A term is at
--- most 2^33 for each of its samples (`boundLimit`).
+-- most so much for each of its samples (`boundLimit`).
 use mathlib.Core.Path.{_≡_, sym, ap, subst}
 use Prim.Native.Nat.{ℕ, _+_, _-_, _≤_}
 use native.Mathlib.Omega.{arith}
 use lib.ListN.{length}
+use Rattle.segment.specs.Limits.{boundLimit}
 use Rattle.dstree.specs.Measures.{sampleLimit}
 use Rattle.dstree.specs.Node.{totalOver}
 use Rattle.dstree.specs.Matching.{boundOn}
 use Rattle.tables.specs.Layout.{segmentsPlace}
 use Rattle.tables.specs.View.{smallAt, segmentsIn}
-use Rattle.query.specs.Bounded.{boundBy, boundLimit}
+use Rattle.query.specs.Bounded.{boundBy}
 use Rattle.query.proofs.Own.{segmentsAfter, Left, NextSegment, next-at, bound-more, bound-end, after-start, few-segments, left-all}
 use Rattle.query.proofs.bound.own_bound.Statement.{statement}
 use Rattle.query.proofs.bound.own_bound.Tie as tie

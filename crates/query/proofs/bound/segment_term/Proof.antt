@@ -1,5 +1,5 @@
 -- `query::bound::segment_term` meets its contract: it is the definition's term at the query's figures and the record's fields, and these
--- are within the limits (`Own`).
+-- are within the limits.
 use mathlib.Core.Path.{_≡_, ap, ap₂, _∙_}
 use Prim.Native.Nat.{ℕ, suc, _+_, _-_, _≤_}
 use native.Mathlib.Omega.{arith}
@@ -8,12 +8,13 @@ use mir.Syntax.{w64}
 use mir.Facts.{toZ-ofZ}
 use Rattle.integer.proofs.Width.{of-mag, read}
 use Rattle.segment.specs.Terms.{sumGap, scatterGap, boundTerm}
+use Rattle.segment.proofs.Limits.{bound-limit}
+use Rattle.dstree.specs.Measures.{sampleLimit, mostSamples}
 use Rattle.dstree.specs.Figures.{run, width}
 use Rattle.dstree.specs.Node.{Segment}
 use Rattle.dstree.specs.Matching.{boundOn}
 use Rattle.tables.specs.View.{scatterIn, segmentIn}
 use Rattle.prefixes.proofs.Cut.{sum-most, scatter-most}
-use Rattle.query.proofs.Own.{gaps-size}
 use borrow.Author.Needs.{needs}
 use Rattle.query.proofs.bound.segment_term.Statement.{statement}
 use Rattle.query.proofs.bound.segment_term.Tie as tie
@@ -52,7 +53,7 @@ segment-bound-requires : tie.Need-segment-bound-requires
 segment-bound-requires c κs =
     let s = start c in
     let f = c .before .before .before .before .before .before .before .figures-on in
-    let w : width (run (s .args .first) (s .args .last)) ≤ 256 = omega (arith, s .pre .1 .from-1, s .pre .1 .to-n, s .pre .0 .few) in
+    let w : width (run (s .args .first) (s .args .last)) ≤ mostSamples = omega (arith, s .pre .1 .from-1, s .pre .1 .to-n, s .pre .0 .few) in
     let m = s .pre .4 in
     rw (sum-read c, least-read c, greatest-read c) (
       omega arith,
@@ -72,6 +73,7 @@ returns c =
     let f = k .before .before .before .before .before .before .before .figures-on in
     let on = run (s .args .first) (s .args .last) in
     let g = segment k in
+    let m = s .pre .4 in
     let w : s .args .last - s .args .first + 1 ≡ suc (s .args .last) - s .args .first = omega (arith, s .pre .1 .rises) in
     let low = k .before .before .before .scatter .result in
     let high = k .before .scatter2 .result in
@@ -81,7 +83,8 @@ returns c =
     (scatterGap (f .result .scatter) (g .leastScatter) (g .greatestScatter)) =
     gives ∙ ap₂ (λ (a b : ℕ). boundTerm (width on) (sumGap (f .result .sum) (g .leastSum) (g .greatestSum)) (scatterGap (f .result .scatter) a b)) (least-scatter k) (greatest-scatter k) in (
       e ∙ ap₂ (λ (t : ℤ) (u : ℕ). boundTerm (width on) (sumGap t (g .leastSum) (g .greatestSum)) (scatterGap u (g .leastScatter) (g .greatestScatter))) (f .ensures .0) (f .ensures .1 .0),
-      rw e (gaps-size (width on) (f .result .sum) (f .result .scatter) g (omega (arith, s .pre .1 .rises)) (f .ensures .1 .1 .0) (f .ensures .1 .1 .1) (s .pre .4)),
+      rw e (bound-limit sampleLimit (width on) (f .result .sum) (f .result .scatter) (g .leastSum) (g .greatestSum) (g .leastScatter) (g .greatestScatter)
+          (omega (arith, s .pre .1 .rises)) (f .ensures .1 .1 .0) (m .least-sum) (m .greatest-sum) (f .ensures .1 .1 .1) (omega (arith, m .scatters, m .greatest-scatter))),
     )
 
 pub segment-term-spec : {M : Type 1} → statement M

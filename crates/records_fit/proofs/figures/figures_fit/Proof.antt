@@ -12,6 +12,7 @@ use mir.Val.{toZ, ofZ}
 use mir.ValLaws.{toZ-ofZ}
 use borrow.Author.Needs.{needs}
 use borrow.Author.Tests.{not-true, not-false}
+use Rattle.segment.specs.Limits.{sampleMost}
 use Rattle.dstree.specs.Measures.{sampleLimit}
 use Rattle.dstree.specs.WellFormed.{segmentFits}
 use Rattle.tables.specs.View.{scatterIn}
@@ -34,21 +35,21 @@ module _ (s : tie.Start) where
   high = toZ-ofZ w64 (s .args .greatest-scatter) (s .fits .greatest-scatter)
 
   -- the square of the sums' limit fits 64 bits
-  top : (s .args .w * 32768) * (s .args .w * 32768) < 2 ^ 63
+  top : (s .args .w * sampleMost) * (s .args .w * sampleMost) < 2 ^ 63
   top = omega (arith, square-fits (s .args .w) 256 (s .pre))
 
 -- what each test says
 sums : (c : tie.After-in-order) {b : Bool} → c .in-order .result ≡ b → leZ (c .before .args .least-sum) (c .before .args .greatest-sum) ≡ b
 sums c e = sym (ap₂ leZ (least (c .before)) (greatest (c .before))) ∙ (sym (c .in-order .ensures) ∙ e)
 
-to-greatest : (c : tie.After-not-above) {b : Bool} → c .not-above .result ≡ b → let a = c .before .before .before .args in leZ (a .greatest-sum) (pos (a .w * 32768)) ≡ b
-to-greatest c e = let s = c .before .before .before in sym (ap (λ (z : ℤ). leZ z (pos (s .args .w * 32768))) (greatest s)) ∙ (sym (c .not-above .ensures) ∙ e)
+to-greatest : (c : tie.After-not-above) {b : Bool} → c .not-above .result ≡ b → let a = c .before .before .before .args in leZ (a .greatest-sum) (pos (a .w * sampleMost)) ≡ b
+to-greatest c e = let s = c .before .before .before in sym (ap (λ (z : ℤ). leZ z (pos (s .args .w * sampleMost))) (greatest s)) ∙ (sym (c .not-above .ensures) ∙ e)
 
 from-least : (c : tie.After-not-below) {b : Bool} → c .not-below .result ≡ b
-    → let a = c .before .before .before .before .before .args in leZ (negℤ (pos (a .w * 32768))) (a .least-sum) ≡ b
+    → let a = c .before .before .before .before .before .args in leZ (negℤ (pos (a .w * sampleMost))) (a .least-sum) ≡ b
 from-least c e =
     let s = c .before .before .before .before .before in
-    sym (ap (leZ (negℤ (pos (s .args .w * 32768)))) (least s)) ∙ (sym (c .not-below .ensures) ∙ e)
+    sym (ap (leZ (negℤ (pos (s .args .w * sampleMost)))) (least s)) ∙ (sym (c .not-below .ensures) ∙ e)
 
 from-zero : (c : tie.After-in-order2) {b : Bool} → c .in-order2 .result ≡ b → let a = c .before .before .before .before .before .before .before .args in leZ (pos 0) (a .least-scatter) ≡ b
 from-zero c e =
@@ -69,9 +70,9 @@ module _ (s : tie.Start) (end : ℕ) where
     greatestSum = s .args .greatest-sum;
     leastScatter = scatterIn (s .args .least-scatter);
     greatestScatter = scatterIn (s .args .greatest-scatter);
-  }) ≡ leZ (s .args .least-sum) (s .args .greatest-sum) && leZ (s .args .greatest-sum) (pos (s .args .w * 32768))
-      && leZ (negℤ (pos (s .args .w * 32768))) (s .args .least-sum) && leZ (pos 0) (s .args .least-scatter)
-      && leZ (s .args .least-scatter) (s .args .greatest-scatter) && leZ (s .args .greatest-scatter) (pos ((s .args .w * 32768) * (s .args .w * 32768)))
+  }) ≡ leZ (s .args .least-sum) (s .args .greatest-sum) && leZ (s .args .greatest-sum) (pos (s .args .w * sampleMost))
+      && leZ (negℤ (pos (s .args .w * sampleMost))) (s .args .least-sum) && leZ (pos 0) (s .args .least-scatter)
+      && leZ (s .args .least-scatter) (s .args .greatest-scatter) && leZ (s .args .greatest-scatter) (pos ((s .args .w * sampleMost) * (s .args .w * sampleMost)))
   whole = segment-is (s .args .w) end (s .args .least-sum) (s .args .greatest-sum) (s .args .least-scatter) (s .args .greatest-scatter) (s .pre)
 
 returns : tie.Need-returns
@@ -86,7 +87,7 @@ returns-2 c end =
     let k = c .before .before in
     sym (whole (k .before .before) end ∙ rw (pass1 k, to-greatest (c .before) (not-true (c .before .not-above .result) (c .if2 .taken))))
 
-pass2 : (c : tie.Else2) → let a = c .before .before .before .before .args in leZ (a .greatest-sum) (pos (a .w * 32768)) ≡ true
+pass2 : (c : tie.Else2) → let a = c .before .before .before .before .args in leZ (a .greatest-sum) (pos (a .w * sampleMost)) ≡ true
 pass2 c = to-greatest (c .before) (not-false (c .before .not-above .result) (c .if2 .left))
 
 not-below-requires : tie.Need-not-below-requires
@@ -94,7 +95,7 @@ not-below-requires c κs =
     let k = c .before .before in
     let s = k .before .before in
     let a = s .args in
-    (omega (arith, s .pre), subst (λ (z : ℤ). T (leZ z (pos (a .w * 32768)))) (sym (least s)) (below-both (a .least-sum) (a .greatest-sum) (a .w * 32768) (pass1 k) (pass2 c)))
+    (omega (arith, s .pre), subst (λ (z : ℤ). T (leZ z (pos (a .w * sampleMost)))) (sym (least s)) (below-both (a .least-sum) (a .greatest-sum) (a .w * sampleMost) (pass1 k) (pass2 c)))
 
 returns-3 : tie.Need-returns-3
 returns-3 c end =
@@ -102,7 +103,7 @@ returns-3 c end =
     let k = f .before .before in
     sym (whole (k .before .before) end ∙ rw (pass1 k, pass2 f, from-least (c .before) (not-true (c .before .not-below .result) (c .if3 .taken))))
 
-pass3 : (c : tie.Else3) → let a = c .before .before .before .before .before .before .args in leZ (negℤ (pos (a .w * 32768))) (a .least-sum) ≡ true
+pass3 : (c : tie.Else3) → let a = c .before .before .before .before .before .before .args in leZ (negℤ (pos (a .w * sampleMost))) (a .least-sum) ≡ true
 pass3 c = from-least (c .before) (not-false (c .before .not-below .result) (c .if3 .left))
 
 returns-4 : tie.Need-returns-4
@@ -135,7 +136,7 @@ returns-6 c end =
     let k = f .before .before in
     let s = k .before .before in
     c .not-above2 .ensures
-    ∙ (ap (λ (z : ℤ). leZ z (pos ((s .args .w * 32768) * (s .args .w * 32768)))) (high s)
+    ∙ (ap (λ (z : ℤ). leZ z (pos ((s .args .w * sampleMost) * (s .args .w * sampleMost)))) (high s)
     ∙ sym (whole s end ∙ rw (pass1 k, pass2 f, pass3 g, pass4 h, scatters (i .before) (not-false (i .before .in-order3 .result) (i .if5 .left)))))
 
 pub figures-fit-spec : {M : Type 1} → statement M

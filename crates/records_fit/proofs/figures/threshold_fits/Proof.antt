@@ -12,6 +12,7 @@ use mir.ValLaws.{toZ-ofZ}
 use borrow.Author.Needs.{needs}
 use borrow.Author.Tests.{eq-eqb, ne-eqb, not-true, not-false}
 use Rattle.integer.proofs.Tests.{is-true}
+use Rattle.segment.specs.Limits.{sampleMost}
 use Rattle.records_fit.proofs.Limits.{sum-threshold, scatter-threshold}
 use Rattle.records_fit.proofs.figures.threshold_fits.Statement.{statement}
 use Rattle.records_fit.proofs.figures.threshold_fits.Tie as tie
@@ -21,8 +22,8 @@ same c = toZ-ofZ w64 (c .args .threshold) (c .fits .threshold)
 
 -- ---- by sum
 
-to-sum : (c : tie.After-not-above) {b : Bool} → c .not-above .result ≡ b → let a = c .before .before .args in leZ (a .threshold) (pos (2 * (a .w * 32768))) ≡ b
-to-sum c e = let s = c .before .before in sym (ap (λ (z : ℤ). leZ z (pos (2 * (s .args .w * 32768)))) (same s)) ∙ (sym (c .not-above .ensures) ∙ e)
+to-sum : (c : tie.After-not-above) {b : Bool} → c .not-above .result ≡ b → let a = c .before .before .args in leZ (a .threshold) (pos (2 * (a .w * sampleMost))) ≡ b
+to-sum c e = let s = c .before .before in sym (ap (λ (z : ℤ). leZ z (pos (2 * (s .args .w * sampleMost)))) (same s)) ∙ (sym (c .not-above .ensures) ∙ e)
 
 returns : tie.Need-returns
 returns c =
@@ -32,13 +33,13 @@ returns c =
     (sym (sum-threshold (a .w) (a .threshold) ∙ rw (to-sum (c .before) (not-true (c .before .not-above .result) (c .if2 .taken)))))
 
 -- the threshold is up to the limit
-up-to : (c : tie.Else2) → let a = c .before .before .before .args in leZ (a .threshold) (pos (2 * (a .w * 32768))) ≡ true
+up-to : (c : tie.Else2) → let a = c .before .before .before .args in leZ (a .threshold) (pos (2 * (a .w * sampleMost))) ≡ true
 up-to c = to-sum (c .before) (not-false (c .before .not-above .result) (c .if2 .left))
 
 not-below-requires : tie.Need-not-below-requires
 not-below-requires c κs =
     let s = c .before .before .before in
-    (omega (arith, s .pre), subst (λ (z : ℤ). T (leZ z (pos (2 * (s .args .w * 32768))))) (sym (same s)) (is-true (up-to c)))
+    (omega (arith, s .pre), subst (λ (z : ℤ). T (leZ z (pos (2 * (s .args .w * sampleMost))))) (sym (same s)) (is-true (up-to c)))
 
 returns-2 : tie.Need-returns-2
 returns-2 c =
@@ -46,7 +47,7 @@ returns-2 c =
     let k = f .before .before in
     let a = k .before .args in
     rw (eq-eqb (a .kind) 1 (k .if1 .taken))
-    (c .not-below .ensures ∙ (ap (leZ (negℤ (pos (2 * (a .w * 32768))))) (same (k .before)) ∙ sym (sum-threshold (a .w) (a .threshold) ∙ rw (up-to f))))
+    (c .not-below .ensures ∙ (ap (leZ (negℤ (pos (2 * (a .w * sampleMost))))) (same (k .before)) ∙ sym (sum-threshold (a .w) (a .threshold) ∙ rw (up-to f))))
 
 -- ---- by scatter
 
@@ -67,7 +68,7 @@ returns-4 c =
     let a = k .before .args in
     rw (ne-eqb (a .kind) 1 (k .if1 .left))
     (c .not-above2 .ensures
-    ∙ (ap (λ (z : ℤ). leZ z (pos (2 * (a .w * 32768)))) (same (k .before))
+    ∙ (ap (λ (z : ℤ). leZ z (pos (2 * (a .w * sampleMost)))) (same (k .before))
     ∙ sym (scatter-threshold (a .w) (a .threshold) ∙ rw (from-zero (f .before) (not-false (f .before .in-order .result) (f .if3 .left))))))
 
 pub threshold-fits-spec : {M : Type 1} → statement M

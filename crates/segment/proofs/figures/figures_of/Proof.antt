@@ -12,6 +12,7 @@ use mir.Facts.{toZ-ofZ}
 use Rattle.integer.specs.Words.{square}
 use Rattle.integer.proofs.Width.{of-mag, read}
 use Rattle.segment.specs.Figures.{sum, scatter}
+use Rattle.segment.specs.Limits.{sumMost}
 use Rattle.segment.proofs.Scatter.{scatter-law}
 use Rattle.segment.proofs.figures.figures_of.Statement.{statement}
 use Rattle.segment.proofs.figures.figures_of.Tie as tie
@@ -19,7 +20,7 @@ use Rattle.segment.proofs.figures.figures_of.Tie as tie
 sum-is : (c : tie.After-sum) → read w64 (c .sum .result) ≡ sum (c .before .args .samples .now)
 sum-is c = toZ-ofZ (of-mag {w = w64} (c .sum .result) (c .sum .ok)) ∙ c .sum .ensures .0
 
-sum-size : (c : tie.After-sum) → natAbs (read w64 (c .sum .result)) ≤ 32768 * length (c .before .args .samples .now)
+sum-size : (c : tie.After-sum) → natAbs (read w64 (c .sum .result)) ≤ sumMost (length (c .before .args .samples .now))
 sum-size c = rw (toZ-ofZ (of-mag {w = w64} (c .sum .result) (c .sum .ok))) (c .sum .ensures .1)
 
 square-most : (c : tie.After-sum-of-squares)

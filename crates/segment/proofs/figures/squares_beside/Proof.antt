@@ -1,16 +1,17 @@
 -- `segment::figures::squares_beside` meets its contract. After i turns the total is that of the first i samples
 -- and of the i from the sample h on.
 use mathlib.Core.Path.{_≡_, ap}
-use Prim.Native.Nat.{ℕ, _+_, _-_, _*_, _^_, _≤_}
+use Prim.Native.Nat.{ℕ, _+_, _-_, _*_, _≤_}
 use native.Mathlib.Omega.{arith}
 use Rattle.segment.specs.Figures.{sumOfSquares}
+use Rattle.segment.specs.Limits.{squaresMost}
 use Rattle.segment.proofs.Steps.{squaresTo, squares-grow}
 use Rattle.segment.proofs.figures.squares_beside.Statement.{statement}
 use Rattle.segment.proofs.figures.squares_beside.Tie as tie
 
 abbrev Inv-loop : tie.InvT-loop
 Inv-loop samples h total₀ i₀ total i =
-    (i ≤ h) × (total + squaresTo samples h ≡ squaresTo samples i + squaresTo samples (h + i)) × (total ≤ 2 ^ 31 * i)
+    (i ≤ h) × (total + squaresTo samples h ≡ squaresTo samples i + squaresTo samples (h + i)) × (total ≤ squaresMost 2 * i)
 
 abbrev μ-loop : tie.MeasureT-loop
 μ-loop samples h total₀ i₀ total i = h - i

@@ -1,14 +1,15 @@
--- `segment::figures::stretch_distance` meets its contract: the total is what the samples passed add, at most 2^32 each.
+-- `segment::figures::stretch_distance` meets its contract: the total is what the samples passed add.
 use mathlib.Core.Path.{_≡_, ap}
-use Prim.Native.Nat.{_+_, _-_, _*_, _^_, _≤_}
+use Prim.Native.Nat.{_+_, _-_, _≤_}
 use native.Mathlib.Omega.{arith}
+use Rattle.segment.specs.Limits.{distanceMost}
 use Rattle.segment.proofs.Steps.{distanceTo, distance-grows}
 use Rattle.segment.proofs.figures.stretch_distance.Statement.{statement}
 use Rattle.segment.proofs.figures.stretch_distance.Tie as tie
 
 abbrev Inv-loop : tie.InvT-loop
 Inv-loop x y from end total₀ i₀ total i =
-    (from ≤ i) × (i ≤ end) × (distanceTo x y from + total ≡ distanceTo x y i) × (total ≤ 2 ^ 32 * (i - from))
+    (from ≤ i) × (i ≤ end) × (distanceTo x y from + total ≡ distanceTo x y i) × (total ≤ distanceMost (i - from))
 
 abbrev μ-loop : tie.MeasureT-loop
 μ-loop x y from end total₀ i₀ total i = end - i

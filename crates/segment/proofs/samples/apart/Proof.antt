@@ -1,7 +1,8 @@
--- `segment::samples::apart` meets its contract: the lesser of two samples is taken from the greater, and the difference is at most 65,535.
+-- `segment::samples::apart` meets its contract: the lesser of two samples is taken from the greater, and the difference is less than twice
+-- the limit.
 use mathlib.Core.Path.{_≡_, sym, ap, ap₂, subst, _∙_}
 use mathlib.Core.Bool.{not}
-use Prim.Native.Nat.{_+_, _^_, _≤_, _<_}
+use Prim.Native.Nat.{_+_, _*_, _-_, _^_, _≤_, _<_}
 use native.Mathlib.Omega.{arith}
 use lib.IntN.{ℤ, natAbs, _-ℤ_}
 use lib.Dec.{T}
@@ -11,17 +12,19 @@ use mir.Val.{SFits, Fits}
 use mir.Facts.{toZ-ofZ}
 use Rattle.integer.proofs.Order.{≤ℤ→, →≤ℤ, <ℤ-≤ℤ, diff-parts, natAbs-diff}
 use Rattle.integer.proofs.Width.{size, read, read-test, fits-wider, fits-difference, read-difference, below}
+use Rattle.segment.specs.Limits.{sampleMost}
 use Rattle.segment.proofs.Limits.{gap-limit}
+use Rattle.segment.proofs.Steps.{sampleWidth, sample-within}
 use Rattle.segment.proofs.samples.apart.Statement.{statement}
 use Rattle.segment.proofs.samples.apart.Tie as tie
 
 -- y - z, at 32 bits
-module _ {y z : ℤ} (fy : SFits w16 y) (fz : SFits w16 z) where
+module _ {y z : ℤ} (fy : SFits sampleWidth y) (fz : SFits sampleWidth z) where
   -- as the machine takes it
   abbrev difference : ℤ
-  difference = read w32 (read w16 y) -ℤ read w32 (read w16 z)
+  difference = read w32 (read sampleWidth y) -ℤ read w32 (read sampleWidth z)
 
-  room : natAbs (read w16 y) + natAbs (read w16 z) < 2 ^ 31
+  room : natAbs (read sampleWidth y) + natAbs (read sampleWidth z) < 2 ^ 31
   room = rw (toZ-ofZ fy, toZ-ofZ fz) (omega (arith, size fy, size fz))
 
   fits : SFits w32 difference
@@ -30,8 +33,8 @@ module _ {y z : ℤ} (fy : SFits w16 y) (fz : SFits w16 z) where
   value : read w32 difference ≡ y -ℤ z
   value = read-difference {w = w32} (fits-wider tt fy) (fits-wider tt fz) room ∙ ap₂ _-ℤ_ (toZ-ofZ fy) (toZ-ofZ fz)
 
-  bound : natAbs (y -ℤ z) ≤ 65535
-  bound = gap-limit 32768 y z (fy .sfits) (fz .sfits)
+  bound : natAbs (y -ℤ z) ≤ 2 * sampleMost - 1
+  bound = gap-limit sampleMost y z (sample-within y (fy .sfits)) (sample-within z (fz .sfits))
 
   cast : z ≤ℤ y → T (nonNeg (read w32 difference)) × Fits w16 (natAbs (read w32 difference))
   cast h =

@@ -2,12 +2,13 @@
 -- Where sixteen more pass it, so do all together, and `passing` finds the sample.
 use mathlib.Core.Path.{_≡_, refl, ap₂}
 use mathlib.Core.List.{List}
-use Prim.Native.Nat.{ℕ, _+_, _-_, _*_, _^_, _≤_}
+use Prim.Native.Nat.{ℕ, _+_, _-_, _≤_}
 use native.Mathlib.Omega.{arith}
 use lib.IntN.{ℤ}
 use lib.ListN.{length}
 use lib.Seq.{take-all}
 use Rattle.segment.specs.Figures.{distance}
+use Rattle.segment.specs.Limits.{distanceMost}
 use Rattle.segment.specs.Within.{distanceWithin, IsFewest, DistanceSays}
 use Rattle.segment.specs.declared.within.Distance.the-variants as w
 use Rattle.segment.proofs.Steps.{distanceTo}
@@ -17,7 +18,7 @@ use Rattle.segment.proofs.within.distance_within.Tie as tie
 
 abbrev Inv-loop : tie.InvT-loop
 Inv-loop x y limit n total₀ k₀ total k =
-    (k ≤ length x) × (total ≡ distanceTo x y k) × (total ≤ limit) × (total ≤ 2 ^ 32 * k)
+    (k ≤ length x) × (total ≡ distanceTo x y k) × (total ≤ limit) × (total ≤ distanceMost k)
 
 abbrev μ-loop : tie.MeasureT-loop
 μ-loop x y limit n total₀ k₀ total k = length x - k

@@ -1,11 +1,12 @@
 -- `segment::within::passing` meets its contract: the total is the distance of the samples passed, which is at most the limit until it
 -- returns.
 use mathlib.Core.Path.{_≡_, ap₂}
-use Prim.Native.Nat.{_+_, _-_, _*_, _^_, _≤_}
+use Prim.Native.Nat.{_+_, _-_, _≤_}
 use native.Mathlib.Omega.{arith}
 use lib.ListN.{length}
 use lib.Seq.{take-all}
 use Rattle.segment.specs.Figures.{distance}
+use Rattle.segment.specs.Limits.{distanceMost}
 use Rattle.segment.proofs.Steps.{distanceTo, distance-grows}
 use Rattle.segment.proofs.Fewest.{fewest-at}
 use Rattle.segment.proofs.within.passing.Statement.{statement}
@@ -13,7 +14,7 @@ use Rattle.segment.proofs.within.passing.Tie as tie
 
 abbrev Inv-loop : tie.InvT-loop
 Inv-loop x y limit from start total₀ i₀ total i =
-    (i ≤ length x) × (total ≡ distanceTo x y i) × (total ≤ limit) × (total ≤ 2 ^ 32 * i)
+    (i ≤ length x) × (total ≡ distanceTo x y i) × (total ≤ limit) × (total ≤ distanceMost i)
 
 abbrev μ-loop : tie.MeasureT-loop
 μ-loop x y limit from start total₀ i₀ total i = length x - i

@@ -1,11 +1,12 @@
--- `segment_bound::terms::segment_bound` meets its contract: it is the definition's term at the two gaps, of at most 28 and 27 bits (`Limits`).
+-- `segment_bound::terms::segment_bound` meets its contract: it is the definition's term at the two gaps, which are within their room (`Limits`).
 use mathlib.Core.Path.{_≡_, ap₂, _∙_}
-use Prim.Native.Nat.{ℕ, _+_, _*_, _-_, _^_, _≤_}
+use Prim.Native.Nat.{ℕ, _+_, _*_, _-_, _≤_}
 use native.Mathlib.Nat.{mul-le-mul, div-le-self}
 use native.Mathlib.Omega.{arith}
 use borrow.Author.Needs.{needs}
 use mir.Facts.{toZ-ofZ}
 use Rattle.integer.specs.Words.{roundedUp}
+use Rattle.segment.specs.Limits.{sumRoom}
 use Rattle.segment.specs.Terms.{sumGap, boundTerm}
 use Rattle.segment.proofs.Limits.{sum-gap-limit, scatter-gap-limit}
 use Rattle.segment_bound.proofs.terms.segment_bound.Statement.{statement}
@@ -20,15 +21,15 @@ sum-gap-is c =
     let s = c .before in
     c .sum-gap .ensures ∙ rw (toZ-ofZ (s .fits .t), toZ-ofZ (s .fits .least-sum), toZ-ofZ (s .fits .greatest-sum))
 
-sum-gap-most : (c : tie.After-sum-gap) → c .sum-gap .result ≤ 2 ^ 28
+sum-gap-most : (c : tie.After-sum-gap) → c .sum-gap .result ≤ 2 * sumRoom
 sum-gap-most c =
     let s = c .before in
-    omega (arith, sum-gap-is c, sum-gap-limit (s .args .t) (s .args .least-sum) (s .args .greatest-sum) (2 ^ 28) (omega arith) (omega arith))
+    omega (arith, sum-gap-is c, sum-gap-limit (s .args .t) (s .args .least-sum) (s .args .greatest-sum) (2 * sumRoom) (omega arith) (omega arith))
 
-scatter-gap-most : (c : tie.After-scatter-gap) → c .scatter-gap .result ≤ 2 ^ 27
+scatter-gap-most : (c : tie.After-scatter-gap) → c .scatter-gap .result ≤ sumRoom
 scatter-gap-most c =
     let s = c .before .before in
-    omega (arith, c .scatter-gap .ensures, scatter-gap-limit (s .args .u) (s .args .least-scatter) (s .args .greatest-scatter) (2 ^ 27) (s .pre .5) (s .pre .6))
+    omega (arith, c .scatter-gap .ensures, scatter-gap-limit (s .args .u) (s .args .least-scatter) (s .args .greatest-scatter) sumRoom (s .pre .5) (s .pre .6))
 
 bound-term-requires : tie.Need-bound-term-requires
 bound-term-requires c κs = (omega arith, omega arith, omega (arith, sum-gap-most (c .before)), omega (arith, scatter-gap-most c))

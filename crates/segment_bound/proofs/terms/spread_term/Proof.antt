@@ -1,7 +1,7 @@
 -- `segment_bound::terms::spread_term` meets its contract: the difference of two sums of 27 bits has 28, and its square and a scatter have at most
 -- 57.
 use mathlib.Core.Path.{_≡_, ap, _∙_}
-use Prim.Native.Nat.{ℕ, _+_, _/_, _^_, _≤_}
+use Prim.Native.Nat.{ℕ, _+_, _*_, _/_, _^_, _≤_}
 use native.Mathlib.Nat.{mul-le-mul, div-le-self}
 use native.Mathlib.Omega.{arith}
 use lib.IntN.{ℤ, natAbs, _-ℤ_}
@@ -10,18 +10,19 @@ use mir.Val.{SFits}
 use Rattle.integer.specs.Words.{square}
 use Rattle.integer.proofs.Order.{natAbs-sub}
 use Rattle.integer.proofs.Width.{read, fits-difference, read-difference}
+use Rattle.segment.specs.Limits.{sumRoom}
 use Rattle.segment.specs.Terms.{spreadTerm}
 use Rattle.segment_bound.proofs.terms.spread_term.Statement.{statement}
 use Rattle.segment_bound.proofs.terms.spread_term.Tie as tie
 
-module _ {a b : ℤ} (fa : SFits w64 a) (fb : SFits w64 b) (ha : natAbs a ≤ 2 ^ 27) (hb : natAbs b ≤ 2 ^ 27) where
+module _ {a b : ℤ} (fa : SFits w64 a) (fb : SFits w64 b) (ha : natAbs a ≤ sumRoom) (hb : natAbs b ≤ sumRoom) where
   fits : SFits w64 (read w64 a -ℤ read w64 b)
   fits = fits-difference fa fb (omega arith)
 
   difference : read w64 (read w64 a -ℤ read w64 b) ≡ a -ℤ b
   difference = read-difference fa fb (omega arith)
 
-  bound : natAbs (a -ℤ b) ≤ 2 ^ 28
+  bound : natAbs (a -ℤ b) ≤ 2 * sumRoom
   bound = omega (arith, natAbs-sub a b)
 
 sub-square : tie.Need-sub-square

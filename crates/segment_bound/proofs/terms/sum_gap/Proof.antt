@@ -2,7 +2,7 @@
 -- test passed.
 use mathlib.Core.Path.{_≡_, sym, ap, _∙_}
 use mathlib.Core.Bool.{true, false}
-use Prim.Native.Nat.{_^_, _≤_}
+use Prim.Native.Nat.{_≤_}
 use native.Mathlib.Omega.{arith}
 use lib.IntN.{ℤ, natAbs, _-ℤ_}
 use lib.Dec.{T}
@@ -11,12 +11,13 @@ use mir.Syntax.{w64}
 use mir.Val.{SFits, Fits}
 use Rattle.integer.proofs.Order.{_<ℤ_, <ℤ→, →≤ℤ, diff-parts, natAbs-sub}
 use Rattle.integer.proofs.Width.{read, read-test, fits-difference, read-difference, below}
+use Rattle.segment.specs.Limits.{totalRoom}
 use Rattle.segment.specs.Terms.{sumGap}
 use Rattle.segment_bound.proofs.terms.sum_gap.Statement.{statement}
 use Rattle.segment_bound.proofs.terms.sum_gap.Tie as tie
 
--- y - z, of two numbers of at most 40 bits
-module _ {y z : ℤ} (fy : SFits w64 y) (fz : SFits w64 z) (hy : natAbs y ≤ 2 ^ 40) (hz : natAbs z ≤ 2 ^ 40) where
+-- y - z, of two numbers within the room of a total
+module _ {y z : ℤ} (fy : SFits w64 y) (fz : SFits w64 z) (hy : natAbs y ≤ totalRoom) (hz : natAbs z ≤ totalRoom) where
   fits : SFits w64 (read w64 y -ℤ read w64 z)
   fits = fits-difference fy fz (omega arith)
 

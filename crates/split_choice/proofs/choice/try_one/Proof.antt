@@ -3,7 +3,7 @@
 use mathlib.Core.Path.{_≡_, sym, ap, ap₂, subst, _∙_}
 use mathlib.Core.Bool.{true}
 use mathlib.Core.List.{List, map}
-use Prim.Native.Nat.{_^_, _≤_}
+use Prim.Native.Nat.{_*_, _≤_}
 use lib.IntN.{ℤ, natAbs, _+ℤ_}
 use lib.ListN.{take}
 use lib.Signed.{ltZ}
@@ -11,6 +11,8 @@ use mir.Syntax.{w64}
 use mir.Facts.{toZ-ofZ}
 use Rattle.integer.specs.Words.{leastℤ, greatestℤ}
 use Rattle.integer.proofs.Width.{of-mag, read}
+use Rattle.segment.specs.Limits.{scatterMost}
+use Rattle.dstree.specs.Measures.{mostSamples}
 use Rattle.dstree.specs.Figures.{run}
 use Rattle.dstree.specs.Node.{figureOf}
 use Rattle.dstree.specs.Adding.{tracesOf, thresholdOf}
@@ -76,7 +78,7 @@ returns c =
     let sum = sum-back (a .low) (a .high) (r .low-size) (r .high-size) in
     let t-is : t ≡ leastℤ (figures s) +ℤ greatestℤ (figures s) = sum ∙ ap₂ _+ℤ_ (r .low-is) (r .high-is) in
     let above : ltZ (leastℤ (figures s)) (greatestℤ (figures s)) ≡ true = below-is l ∙ c .before .before .before .if1 .taken in
-    let small-t : natAbs t ≤ 2 ^ 47 = rw sum (sum-small (a .low) (a .high) (r .low-size) (r .high-size)) in
+    let small-t : natAbs t ≤ 2 * scatterMost mostSamples = rw sum (sum-small (a .low) (a .high) (r .low-size) (r .high-size)) in
     let e : c .better .result ≡ betterOf (a .old) (choiceOf (a .c) t (g .result)) =
     c .better .ensures ∙ ap (λ (z : ℤ). betterOf (a .old) (choiceOf (a .c) t z)) (toZ-ofZ (of-mag {w = w64} (g .result) (g .ok))) in (
       record {

@@ -3,15 +3,16 @@
 use mathlib.Core.Path.{_≡_, ap, subst, _∙_}
 use mathlib.Core.Bool.{Bool, true, false}
 use mathlib.Core.List.{List, [], _∷_}
-use Prim.Native.Nat.{ℕ, _^_, _≤_}
+use Prim.Native.Nat.{ℕ, _≤_}
 use native.Mathlib.Omega.{arith}
 use lib.IntN.{ℤ, pos, natAbs}
 use lib.ListN.{take}
 use mir.Syntax.{w64}
 use mir.Facts.{toZ-ofZ}
 use Rattle.integer.proofs.Width.{of-mag, small, read}
+use Rattle.segment.specs.Limits.{scatterMost}
 use Rattle.segment.specs.Roots.{floorRoot}
-use Rattle.dstree.specs.Measures.{Trace}
+use Rattle.dstree.specs.Measures.{Trace, mostSamples}
 use Rattle.dstree.specs.Figures.{run}
 use Rattle.dstree.specs.Adding.{segmentOf, tracesOf}
 use Rattle.tables.specs.Walk.{storedIn}
@@ -62,8 +63,8 @@ module _ (g : tie.After-figures-along) where
         high-size = rw high (omega (arith, m .greatest-sum));
       }
 
-  by-scatter : (low high : ℤ) → (low ≡ pos (floorRoot (g .figures-along .result .«least_scatter»))) × (natAbs low ≤ 2 ^ 46)
-      → (high ≡ pos (floorRoot (g .figures-along .result .«greatest_scatter»))) × (natAbs high ≤ 2 ^ 46)
+  by-scatter : (low high : ℤ) → (low ≡ pos (floorRoot (g .figures-along .result .«least_scatter»))) × (natAbs low ≤ scatterMost mostSamples)
+      → (high ≡ pos (floorRoot (g .figures-along .result .«greatest_scatter»))) × (natAbs high ≤ scatterMost mostSamples)
       → TrialExtremes traces (trial true) low high
   by-scatter low high h k =
       let f = g .figures-along .result in

@@ -8,10 +8,10 @@ use lib.IntN.{pos}
 use lib.ListN.{length, length-set, getD}
 use lib.Seq.{paste, paste-zero, paste-suc}
 use denote.Ref.{now}
-use mir.Syntax.{w16}
 use mir.Val.{SFits}
 use mir.ValLaws.{toZ-ofZ}
 use borrow.Author.Needs.{needs, sfits-of}
+use Rattle.segment.proofs.Steps.{sampleWidth}
 use Rattle.tables.proofs.loops.copy_trace.Statement.{statement}
 use Rattle.tables.proofs.loops.copy_trace.Tie as tie
 
@@ -31,8 +31,8 @@ loop-again c =
     let h : a .at + l .j < length (now (a .samples)) = omega arith in
     let k : l .j < length (now (a .trace)) = omega arith in
     let z = getD (now (a .trace)) (l .j) (pos 0) in
-    let f : SFits w16 z = sfits-of {w = w16} {z = z} (c .samples .given) in
-    (omega arith, rw (l .inv .1, add-one (l .j), toZ-ofZ w16 z f) (paste-suc (now (a .samples)) (a .at) (now (a .trace)) (l .j) (pos 0) h k), simp length-set (l .inv .2))
+    let f : SFits sampleWidth z = sfits-of {w = sampleWidth} {z = z} (c .samples .given) in
+    (omega arith, rw (l .inv .1, add-one (l .j), toZ-ofZ sampleWidth z f) (paste-suc (now (a .samples)) (a .at) (now (a .trace)) (l .j) (pos 0) h k), simp length-set (l .inv .2))
 
 returns : tie.Need-returns Inv-loop μ-loop
 returns c =

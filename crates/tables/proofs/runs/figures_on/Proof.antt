@@ -1,6 +1,6 @@
 -- `tables::runs::figures_on` meets its contract: the part that is lent is the run's samples.
 use mathlib.Core.Path.{_≡_, ap, _∙_}
-use Prim.Native.Nat.{_*_, _-_, _^_, _≤_}
+use Prim.Native.Nat.{_-_, _≤_}
 use native.Mathlib.Nat.{mul-le-mul}
 use native.Mathlib.Omega.{arith}
 use lib.IntN.{natAbs}
@@ -8,6 +8,8 @@ use lib.ListN.{length, take, drop}
 use denote.Ref.{now}
 use borrow.Author.Needs.{needs}
 use Rattle.segment.specs.Figures.{sum, scatter}
+use Rattle.segment.specs.Limits.{sumMost, scatterMost}
+use Rattle.dstree.specs.Measures.{mostSamples}
 use Rattle.tables.proofs.Parts.{part-on, part-few}
 use Rattle.tables.proofs.runs.figures_on.Statement.{statement}
 use Rattle.tables.proofs.runs.figures_on.Tie as tie
@@ -20,10 +22,10 @@ returns c =
     let l = take (a .last - (a .first - 1)) (drop (a .first - 1) x) in
     let r = c .figures-of .result in
     let e : r .sum ≡ sum l = c .figures-of .ensures .0 .0 in
-    let m : natAbs (r .sum) ≤ 32768 * length l = c .figures-of .ensures .0 .1 in
+    let m : natAbs (r .sum) ≤ sumMost (length l) = c .figures-of .ensures .0 .1 in
     let f : r .scatter ≡ scatter l = c .figures-of .ensures .1 .0 in
-    let n : r .scatter ≤ 2 ^ 30 * (length l * length l) = c .figures-of .ensures .1 .1 in
-    let h : length l ≤ 256 = part-few x (s .pre) in
+    let n : r .scatter ≤ scatterMost (length l) = c .figures-of .ensures .1 .1 in
+    let h : length l ≤ mostSamples = part-few x (s .pre) in
     ((e ∙ ap sum (part-on x (s .pre)), omega (arith, m, h)), (f ∙ ap scatter (part-on x (s .pre)), omega (arith, n, mul-le-mul h h)))
 
 pub figures-on-spec : {M : Type 1} → statement M

@@ -193,7 +193,7 @@ module _ {memory : Tables} {b : Book} (k : Stores memory b) where
   n = b .measures .n
 
   pub exported-sound : ExportedSound b memory
-  unfolding effectOf besideOf exports isLibrary
+  unfolding effectOf besideOf exports isLibrary sampleLimit
   exported-sound lent number rate buffer said memory′ f size bytes answers =
       let t = firstPlaces lent memory in
       let e = exports t number rate buffer in

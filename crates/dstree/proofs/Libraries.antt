@@ -2,6 +2,7 @@
 use Prim.Native.Nat.{ℕ, _≤_, _<_}
 use mathlib.Core.Bool.{_&&_}
 use mathlib.Core.List.{List, [], _∷_}
+use native.Mathlib.Omega.{arith}
 use lib.ListN.{length}
 use lib.IntN.{ℤ}
 use lib.Signed.{mag}
@@ -75,3 +76,9 @@ module _ (limit : ℕ) where
     library-is l =
         passes (inRange m) (leb (length traces) (m .capacity) ∷ every (isTrace limit (m .n)) traces ∷ [])
         (l .measured, (le→leb (length traces) (m .capacity) (l .room), traces-are (m .n) (l .even) (l .small)))
+
+-- traces within a limit are within a wider one
+pub traces-wider : (narrower limit n : ℕ) (xs : List Trace) → narrower ≤ limit → T (every (isTrace narrower n) xs) → T (every (isTrace limit n) xs)
+traces-wider narrower limit n xs h t =
+    let each = every-all (isTrace narrower n) xs t in
+    traces-are limit n (all-mono (trace-length narrower n) each) (all-mono (λ x s. all-mono (λ z p. omega (arith, h, p)) (trace-small narrower n x s)) each)

@@ -15,12 +15,12 @@ use Rattle.integer.specs.Words.{if_then_else_, every}
 use Rattle.integer.proofs.Tests.{passed, passes, eq→eqb, is-true, test-true}
 use Rattle.integer.proofs.Lists.{All, all-none, all-more, all-take, all-drop, all-flatten, all-mono, every-all}
 use Rattle.dstree.specs.Measures.{Trace, sampleLimit, mostSamples, isTrace}
-use Rattle.dstree.specs.Sheet.{areBytes, bytesOf, numberIn, part, pieces, narrow, coded, codedAll, decoded}
+use Rattle.dstree.specs.Sheet.{areBytes, bytesOf, numberIn, part, pieces, narrow, narrowLimit, coded, codedAll, decoded}
 use Rattle.dstree.specs.Recording.{Field, number, word, lettersRIFF, lettersWAVE, lettersFmt, lettersData, header, headerSize}
 use Rattle.dstree.specs.Recording.{rateLimit, sizeLimit, fieldBytes, recordingOf, rateIn, sizeIn, begins, isRecording}
 use Rattle.dstree.specs.Recording.{Recording, recording, recordedTraces, judgeRecording, fileTraces, RecordingClaims}
 use Rattle.dstree.proofs.Limits.{trace-length}
-use Rattle.dstree.proofs.Libraries.{AllWithinLimit, trace-small, traces-are}
+use Rattle.dstree.proofs.Libraries.{AllWithinLimit, trace-small, traces-are, traces-wider}
 use Rattle.dstree.proofs.SheetPieces.{AllOfSize, part-length, pieces-length, pieces-sized, pieces-all, pieces-flatten}
 use Rattle.dstree.proofs.SheetPieces.{flatten-length, flatten-all}
 use Rattle.dstree.proofs.SheetFields.{Bytes, bytes-of, bytes-length, number-bytes, number-below, said, coded-sized, codes-length}
@@ -171,7 +171,7 @@ even-double : (a : ℕ) → 2 * a % 2 ≡ 0
 even-double a = omega arith
 
 module _ (n rate : ℕ) (traces : List Trace) (some-sample : 0 < n) (low : rate < rateLimit) (sized : AllOfSize n traces)
-    (small : All (AllWithinLimit sampleLimit) traces) (fits : 36 + 2 * length (flatten traces) < sizeLimit) where
+    (small : All (AllWithinLimit narrowLimit) traces) (fits : 36 + 2 * length (flatten traces) < sizeLimit) where
   abbrev samples : List ℤ
   samples = flatten traces
 
@@ -219,7 +219,7 @@ module _ (n rate : ℕ) (traces : List Trace) (some-sample : 0 < n) (low : rate 
           ap (λ (k : ℕ). pieces 2 k behind) (sym (length-map samples (coded narrow))) ∙ pieces-flatten 2 (coded-sized narrow samples)
 
       samples-back : map (decoded narrow) (pieces 2 (length samples) behind) ≡ samples
-      samples-back = ap (map (decoded narrow)) cells ∙ decoded-all narrow sampleLimit (narrow-sound .halves) (all-flatten small)
+      samples-back = ap (map (decoded narrow)) cells ∙ decoded-all narrow narrowLimit (narrow-sound .halves) (all-flatten small)
 
   written-back : judgeRecording n (recordingOf rate samples) ≡ some (recording rate traces)
   unfolding recordingOf
@@ -267,7 +267,7 @@ module _ (n : ℕ) (bytes : List ℕ) (h : Bytes bytes) (s : SoundFile n bytes) 
 
   data-back : codedAll narrow ys ≡ data-in
   data-back =
-      ap flatten (coded-all narrow sampleLimit (narrow-sound .halves) cells-sized cells-bytes)
+      ap flatten (coded-all narrow narrowLimit (narrow-sound .halves) cells-sized cells-bytes)
       ∙ flatten-all 2 samples-in data-in (le-of-eq data-length)
 
   abbrev fields : List Field
@@ -298,24 +298,24 @@ module _ (n : ℕ) (bytes : List ℕ) (h : Bytes bytes) (s : SoundFile n bytes) 
       rw (flat, ys-count, twice, ← riff-said) below
 
   -- what it holds are traces of n samples
-  traces-sound : T (every (isTrace sampleLimit n) (recordedTraces n bytes))
+  traces-sound : T (every (isTrace narrowLimit n) (recordedTraces n bytes))
   traces-sound =
-      rw traces-of (traces-are sampleLimit n (pieces-sized n (samples-in / n) ys (le-of-eq ys-whole))
-      (pieces-all n (samples-in / n) (decoded-all-fit narrow sampleLimit (narrow-sound .halves) cells-sized cells-bytes)))
+      rw traces-of (traces-are narrowLimit n (pieces-sized n (samples-in / n) ys (le-of-eq ys-whole))
+      (pieces-all n (samples-in / n) (decoded-all-fit narrow narrowLimit (narrow-sound .halves) cells-sized cells-bytes)))
 
 -- ---- all together
 
 module _ (n : ℕ) where
   -- "Export writes one stored trace so": one trace is a list of traces
-  one-back : 0 < n → n ≤ mostSamples → (rate : ℕ) (trace : Trace) → rate < rateLimit → T (isTrace sampleLimit n trace)
+  one-back : 0 < n → n ≤ mostSamples → (rate : ℕ) (trace : Trace) → rate < rateLimit → T (isTrace narrowLimit n trace)
       → judgeRecording n (recordingOf rate trace) ≡ some (recording rate (trace ∷ []))
   unfolding flatten
   one-back some-sample most rate trace low t =
       let one : flatten (trace ∷ []) ≡ trace = append-nil trace in
-      let long = trace-length sampleLimit n trace t in
+      let long = trace-length narrowLimit n trace t in
       ap (λ (samples : List ℤ). judgeRecording n (recordingOf rate samples)) (sym one)
       ∙ written-back n rate (trace ∷ []) some-sample low (all-more {a = trace} long all-none)
-      (all-more {a = trace} (trace-small sampleLimit n trace t) all-none) (rw one (omega arith))
+      (all-more {a = trace} (trace-small narrowLimit n trace t) all-none) (rw one (omega arith))
 
   module _ (bytes : List ℕ) (r : Recording) (t : T (areBytes bytes)) (e : judgeRecording n bytes ≡ some r) where
     -- "its header in WAV's usual 44 bytes .. then exactly that many bytes": a file of no other form is taken
@@ -331,28 +331,28 @@ module _ (n : ℕ) where
         subst (λ (x : Recording). (x .rate < rateLimit) × (36 + 2 * length (flatten (x .traces)) < sizeLimit)) (both .1)
         (both .0 .low, size-fits n bytes (bytes-of bytes t) (both .0))
 
-    its-traces : T (every (isTrace sampleLimit n) (r .traces))
+    its-traces : T (every (isTrace narrowLimit n) (r .traces))
     its-traces =
         let both = sound-judged n bytes r e in
-        subst (λ (x : Recording). T (every (isTrace sampleLimit n) (x .traces))) (both .1)
+        subst (λ (x : Recording). T (every (isTrace narrowLimit n) (x .traces))) (both .1)
         (traces-sound n bytes (bytes-of bytes t) (both .0))
 
 -- a bad recording has no trace, and what a sound one has are traces
 pub file-traces : (n : ℕ) (bytes : List ℕ) → T (areBytes bytes) → T (every (isTrace sampleLimit n) (fileTraces (judgeRecording n bytes)))
-unfolding fileTraces every
+unfolding sampleLimit fileTraces every
 file-traces n bytes t = by (judgeRecording n bytes) refl
   where
     by : (file : Option Recording) → judgeRecording n bytes ≡ file → T (every (isTrace sampleLimit n) (fileTraces file))
     by none e = tt
-    by (some r) e = its-traces n bytes r t e
+    by (some r) e = traces-wider narrowLimit sampleLimit n (r .traces) (omega arith) (its-traces n bytes r t e)
 
 -- document 02, §2, of files alone, for every n from 1 on
 pub recording-claims : (n : ℕ) → 0 < n → RecordingClaims n
 recording-claims n some-sample = record {
   read-back = λ rate traces low t fits.
-      let each = every-all (isTrace sampleLimit n) traces t in
-      let sized = all-mono (trace-length sampleLimit n) each in
-      written-back n rate traces some-sample low sized (all-mono (trace-small sampleLimit n) each) fits;
+      let each = every-all (isTrace narrowLimit n) traces t in
+      let sized = all-mono (trace-length narrowLimit n) each in
+      written-back n rate traces some-sample low sized (all-mono (trace-small narrowLimit n) each) fits;
   exported = λ rate trace low most t. one-back n some-sample most rate trace low t;
   fits = its-numbers n;
   are-traces = its-traces n;

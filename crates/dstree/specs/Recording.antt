@@ -9,8 +9,8 @@ use lib.ListN.{length, take, drop}
 use lib.IntN.{ℤ}
 use lib.Dec.{T, ltb, eqb}
 use Rattle.integer.specs.Words.{if_then_else_, every}
-use Rattle.dstree.specs.Measures.{Trace, sampleLimit, mostSamples, isTrace}
-use Rattle.dstree.specs.Sheet.{areBytes, bytesOf, numberIn, part, pieces, narrow, codedAll, decoded}
+use Rattle.dstree.specs.Measures.{Trace, mostSamples, isTrace}
+use Rattle.dstree.specs.Sheet.{areBytes, bytesOf, numberIn, part, pieces, narrow, narrowLimit, codedAll, decoded}
 
 -- ---- the header
 
@@ -147,17 +147,17 @@ isBadFile (some r) = false
 
 pub record RecordingClaims (n : ℕ) : Type 0 where
   -- what is written holds that rate and those traces. (Four bytes say a size below 2^32)
-  pub read-back : (rate : ℕ) (traces : List Trace) → rate < rateLimit → T (every (isTrace sampleLimit n) traces)
+  pub read-back : (rate : ℕ) (traces : List Trace) → rate < rateLimit → T (every (isTrace narrowLimit n) traces)
       → 36 + 2 * length (flatten traces) < sizeLimit → judgeRecording n (recordingOf rate (flatten traces)) ≡ some (recording rate traces)
   -- "Export writes one stored trace so, at a rate the caller gives, 0 to 2^31 − 1"
-  pub exported : (rate : ℕ) (trace : Trace) → rate < rateLimit → n ≤ mostSamples → T (isTrace sampleLimit n trace)
+  pub exported : (rate : ℕ) (trace : Trace) → rate < rateLimit → n ≤ mostSamples → T (isTrace narrowLimit n trace)
       → judgeRecording n (recordingOf rate trace) ≡ some (recording rate (trace ∷ []))
   -- "any rate below 2^31"; sizes are whole numbers, and none is above what its four bytes say
   pub fits : (bytes : List ℕ) (r : Recording) → T (areBytes bytes) → judgeRecording n bytes ≡ some r
       → (r .rate < rateLimit) × (36 + 2 * length (flatten (r .traces)) < sizeLimit)
   -- what a file holds are traces of n samples
   pub are-traces : (bytes : List ℕ) (r : Recording) → T (areBytes bytes) → judgeRecording n bytes ≡ some r
-      → T (every (isTrace sampleLimit n) (r .traces))
+      → T (every (isTrace narrowLimit n) (r .traces))
   -- a file is the header for its rate and size and its samples: what it holds, written again, is that file
   pub written-again : (bytes : List ℕ) (r : Recording) → T (areBytes bytes) → judgeRecording n bytes ≡ some r
       → recordingOf (r .rate) (flatten (r .traces)) ≡ bytes

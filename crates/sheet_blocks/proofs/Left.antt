@@ -9,8 +9,7 @@ use native.Mathlib.Nat.{suc-mul, lt-of-not-le}
 use lib.ListN.{drop}
 use lib.Seq.{drop-nil}
 use Rattle.integer.specs.Words.{every}
-use Rattle.dstree.specs.Measures.{sampleLimit}
-use Rattle.dstree.specs.Sheet.{blockSize, carriedSize, part, areZero, narrow, sampleSize, labelCells, cellsSize, labelBlocksNeeded}
+use Rattle.dstree.specs.Sheet.{blockSize, carriedSize, part, areZero, narrow, narrowLimit, sampleSize, labelCells, cellsSize, labelBlocksNeeded}
 use Rattle.dstree.proofs.SheetPieces.{drop-part}
 use Rattle.dstree.proofs.SheetFormat.{narrow-sound, needed-room, needed-tight, labels-sound, cells-room, cells-tight}
 use Rattle.sheet_blocks.specs.Blocks.{blockCount, InBlocks, labelStart, RightNumbers, cellsBetween, Fills}
@@ -67,8 +66,8 @@ module _ (size : ℕ) (room : size ≤ carriedSize) (bytes : List ℕ) (whole : 
 module _ (bytes : List ℕ) (count n : ℕ) (right : RightNumbers bytes count n) where
   pub samples-fill : Fills (sampleSize narrow) (labelStart bytes - 1) (narrow .sampleBytes * (count * n))
   samples-fill =
-      let room = needed-room narrow sampleLimit narrow-sound count n in
-      let tight = needed-tight narrow sampleLimit narrow-sound count n in
+      let room = needed-room narrow narrowLimit narrow-sound count n in
+      let tight = needed-tight narrow narrowLimit narrow-sound count n in
       record { above = omega (arith, tight, right .sampled); within = λ f. omega (arith, room, right .sampled) }
 
   -- the blocks of labels, if there are some

@@ -9,9 +9,9 @@ use lib.ListN.{length, getD, drop}
 use lib.Seq.{drop-drop}
 use Rattle.integer.proofs.Tests.{test-true}
 use Rattle.integer.proofs.Lists.{all-more, all-parts}
-use Rattle.dstree.specs.Measures.{inRange, sampleLimit}
+use Rattle.dstree.specs.Measures.{inRange}
 use Rattle.dstree.specs.Refusals.{firstOf}
-use Rattle.dstree.specs.Sheet.{blockSize, narrow, labelCells, sampleSize, part, blocksIn, measuresIn, sampleBlocksIn, cellBytesIn, sampleBytesIn}
+use Rattle.dstree.specs.Sheet.{blockSize, narrow, narrowLimit, labelCells, sampleSize, part, blocksIn, measuresIn, sampleBlocksIn, cellBytesIn, sampleBytesIn}
 use Rattle.dstree.specs.Sheet.{tracesInBlocks, sampleBlocksNeeded, tornConditions, badConditions, sheetConditions, conditionsAs}
 use Rattle.dstree.proofs.Conditions.{NoneOf, none-of}
 use Rattle.dstree.proofs.SheetFormat.{narrow-sound, needed-room, labels-sound, cells-room}
@@ -67,7 +67,7 @@ module _ (bytes : List ℕ) (f : SoundSheet bytes) where
       let n : ℕ = sizeOf bytes in
       let inside : suc number * n ≤ countOf bytes * n = mul-le-mul-right n h in
       let blocks : labelStart bytes - 1 ≡ sampleBlocksNeeded narrow (countOf bytes) n = sym (sample-blocks bytes (f .whole)) ∙ f .good .sampled in
-      omega (arith, inside, suc-mul number n, blocks, needed-room narrow sampleLimit narrow-sound (countOf bytes) n)
+      omega (arith, inside, suc-mul number n, blocks, needed-room narrow narrowLimit narrow-sound (countOf bytes) n)
 
   -- every label has its place
   pub labels-inside : HaveRoom bytes (countOf bytes)

@@ -8,8 +8,7 @@ use native.Mathlib.Omega.{arith}
 use lib.IntN.{ℤ}
 use lib.ListN.{length, take, drop, length-append, take-append-drop}
 use lib.Seq.{take-at, drop-append-add, drop-drop, length-take-le}
-use Rattle.dstree.specs.Measures.{sampleLimit}
-use Rattle.dstree.specs.Sheet.{part, pieces, blockSize, Cells, cellsSize, narrow, sampleCells, labelCells, coded, codedAll, block, blocksFrom}
+use Rattle.dstree.specs.Sheet.{part, pieces, blockSize, Cells, cellsSize, narrow, narrowLimit, sampleCells, labelCells, coded, codedAll, block, blocksFrom}
 use Rattle.dstree.specs.Book.{over}
 use Rattle.dstree.proofs.SheetPieces.{pieces-length, pieces-more, flatten-length, flatten-append}
 use Rattle.dstree.proofs.SheetFields.{coded-length, row-part}
@@ -110,7 +109,7 @@ module _ (samples : List ℤ) where
   codes = codedAll narrow samples
 
   pub none-sampled : (sheet : List ℕ) → sheet ≡ withSamples sheet 0 samples
-  none-sampled = none-yet (sampleCells narrow) (samples-sound narrow sampleLimit narrow-sound) 1 codes
+  none-sampled = none-yet (sampleCells narrow) (samples-sound narrow narrowLimit narrow-sound) 1 codes
 
   pub samples-more : (sheet : List ℕ) (i : ℕ) → blockSize * (1 + i) + blockSize ≤ length sheet
       → withBlock (withSamples sheet i samples) (1 + i) (sampleBlock samples i) ≡ withSamples sheet (i + 1) samples
@@ -121,7 +120,7 @@ module _ (samples : List ℤ) where
       let carried : codedAll narrow (part (i * per) per samples) ≡ part (i * size) size codes =
       sym (row-part (coded narrow) (narrow .sampleBytes) (coded-length narrow) (i * per) per samples) ∙ ap (λ (k : ℕ). part k size codes) place in
       ap (λ (l : List ℕ). withBlock (withSamples sheet i samples) (1 + i) (block (narrow .sampleKind) (1 + i) l)) carried
-      ∙ block-more (sampleCells narrow) (samples-sound narrow sampleLimit narrow-sound) 1 codes sheet i room
+      ∙ block-more (sampleCells narrow) (samples-sound narrow narrowLimit narrow-sound) 1 codes sheet i room
 
 module _ (places : List ℕ) (first : ℕ) where
   pub none-labelled : (sheet : List ℕ) → sheet ≡ withLabelBlocks sheet first 0 places

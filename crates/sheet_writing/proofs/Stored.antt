@@ -9,9 +9,9 @@ use lib.IntN.{ℤ}
 use lib.ListN.{length, take, drop, length-append}
 use lib.Seq.{take-add, drop-drop}
 use Rattle.integer.specs.Words.{counting}
-use Rattle.dstree.specs.Measures.{Measures, sampleLimit}
+use Rattle.dstree.specs.Measures.{Measures}
 use Rattle.dstree.specs.Labels.{Label, areZeroLabels}
-use Rattle.dstree.specs.Sheet.{pieces, blockSize, narrow, sampleCells, labelCells, labelKind, cellsSize, block, blocksFrom, headOf, codedAll}
+use Rattle.dstree.specs.Sheet.{pieces, blockSize, narrow, narrowLimit, sampleCells, labelCells, labelKind, cellsSize, block, blocksFrom, headOf, codedAll}
 use Rattle.dstree.specs.Sheet.{sampleParts, labelParts, blocksOf, sheetAs, sheetOf, sampleBlocksNeeded, labelBlocksNeeded, blocksNeeded}
 use Rattle.dstree.specs.Book.{over}
 use Rattle.dstree.proofs.SheetPieces.{pieces-length, flatten-append}
@@ -111,7 +111,7 @@ module _ (t : Tables) where
   -- its length
   pub stored-length : length (sheetOf m (tracesIn t) labels) ≡ blockSize * blocksNeeded k (m .n) labels
   stored-length =
-      written-length narrow sampleLimit narrow-sound m (tracesIn t) labels ∙ ap (λ (i : ℕ). blockSize * blocksNeeded i (m .n) labels) (traces-size t)
+      written-length narrow narrowLimit narrow-sound m (tracesIn t) labels ∙ ap (λ (i : ℕ). blockSize * blocksNeeded i (m .n) labels) (traces-size t)
 
   -- what the loops leave is the sheet, with what stood behind it
   pub filled-is : (sheet : List ℕ)
@@ -119,7 +119,7 @@ module _ (t : Tables) where
   filled-is sheet =
       let headed : length head ≡ blockSize = block-length (narrow .headKind) 0 (headOf m k) (omega (arith, head-length m k)) in
       let samples-long : length sampleBytes ≡ blockSize * sampled =
-      blocks-length (sampleCells narrow) (samples-sound narrow sampleLimit narrow-sound) 1 (codedAll narrow all) sampled in
+      blocks-length (sampleCells narrow) (samples-sound narrow narrowLimit narrow-sound) 1 (codedAll narrow all) sampled in
       let labels-long : length labelBytes ≡ blockSize * labelled = blocks-length labelCells labels-sound (1 + sampled) (labelCodes places) labelled in
       ap (λ (s : List ℕ). withLabelBlocks (withSamples s sampled all) (1 + sampled) labelled places) (head-over sheet head headed)
       ∙ ap (λ (s : List ℕ). withLabelBlocks s (1 + sampled) labelled places)

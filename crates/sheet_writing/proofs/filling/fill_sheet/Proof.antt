@@ -7,9 +7,8 @@ use native.Mathlib.Nat.{mul-le-mul}
 use native.Mathlib.Omega.{arith}
 use lib.ListN.{length, take}
 use denote.Ref.{now}
-use Rattle.dstree.specs.Measures.{sampleLimit}
 use Rattle.dstree.specs.Labels.{labelAt}
-use Rattle.dstree.specs.Sheet.{blockSize, mostBlocks, narrow, labelCells, block, headOf, sampleBlocksNeeded, labelBlocksNeeded, labelParts}
+use Rattle.dstree.specs.Sheet.{blockSize, mostBlocks, narrow, narrowLimit, labelCells, block, headOf, sampleBlocksNeeded, labelBlocksNeeded, labelParts}
 use Rattle.dstree.specs.Sheet.{blocksNeededAs}
 use Rattle.tables.specs.Layout.{nPlace, traceCountPlace}
 use Rattle.tables.specs.Tables.{Tables, field, measuresOf, traceCount}
@@ -84,7 +83,7 @@ module _ (b : tie.After-label-blocks) where
         arith,
         sampled-is,
         labelled-few,
-        needed-most narrow sampleLimit narrow-sound (k numbers) (n numbers) (start numbers .pre .count-few) (start numbers .pre .n-few),
+        needed-most narrow narrowLimit narrow-sound (k numbers) (n numbers) (start numbers .pre .count-few) (start numbers .pre .n-few),
       )
 
   -- the sheet has room for all
@@ -107,7 +106,7 @@ fill-blocks-requires c κs =
     let b = atSamples c in
     let w = numbers b in (
       b .before .sample-blocks .ensures .1,
-      omega (arith, sampled-is b, total-is w, needed-tight narrow sampleLimit narrow-sound (k w) (n w)),
+      omega (arith, sampled-is b, total-is w, needed-tight narrow narrowLimit narrow-sound (k w) (n w)),
       omega (arith, total-is w, start w .pre .samples-long),
       omega (arith, long b),
     )

@@ -11,9 +11,9 @@ use borrow.Author.Needs.{needs}
 use borrow.Author.Tests.{lt-ltb, le-ltb}
 use Rattle.dstree.specs.Refusals as word
 use Rattle.dstree.specs.Refusals.{Condition, _refuses_, firstOf}
-use Rattle.dstree.specs.Measures.{mostTraces, sampleLimit, labelsNeeded}
+use Rattle.dstree.specs.Measures.{mostTraces, labelsNeeded}
 use Rattle.dstree.specs.Labels.{labelAt}
-use Rattle.dstree.specs.Sheet.{blockSize, mostBlocks, narrow, sampleBlocksNeeded, labelParts, blocksNeeded, blocksNeededAs}
+use Rattle.dstree.specs.Sheet.{blockSize, mostBlocks, narrow, narrowLimit, sampleBlocksNeeded, labelParts, blocksNeeded, blocksNeededAs}
 use Rattle.dstree.proofs.Conditions.{first-none}
 use Rattle.dstree.proofs.SheetFormat.{narrow-sound, needed-most}
 use Rattle.tables.specs.Tables.{Tables, measuresOf, traceCount, labelledTables}
@@ -108,7 +108,7 @@ module _ (l : tie.After-label-blocks) where
         arith,
         l .before .sample-blocks .ensures .1,
         l .label-blocks .ensures .1,
-        needed-most narrow sampleLimit narrow-sound (tables .before .wide2 .result) 0 (few fineTables) (omega arith),
+        needed-most narrow narrowLimit narrow-sound (tables .before .wide2 .result) 0 (few fineTables) (omega arith),
       )
 
 returns : tie.Need-returns

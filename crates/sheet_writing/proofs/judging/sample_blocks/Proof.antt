@@ -4,8 +4,7 @@ use mathlib.Core.Path.{refl}
 use native.Mathlib.Omega.{arith}
 use native.Mathlib.Nat.{mul-le-mul}
 use Rattle.integer.specs.Words.{roundedUp}
-use Rattle.dstree.specs.Measures.{sampleLimit}
-use Rattle.dstree.specs.Sheet.{narrow, cellBlocksNeeded}
+use Rattle.dstree.specs.Sheet.{narrow, narrowLimit, cellBlocksNeeded}
 use Rattle.dstree.proofs.SheetFormat.{narrow-sound, needed-most}
 use Rattle.sheet_writing.proofs.judging.sample_blocks.Statement.{statement}
 use Rattle.sheet_writing.proofs.judging.sample_blocks.Tie as tie
@@ -15,7 +14,7 @@ few s = mul-le-mul {n₁ = s .args .k} {m₁ = s .args .n} {n₂ = 4096} {m₂ =
 
 returns : tie.Need-returns
 unfolding cellBlocksNeeded roundedUp
-returns c = (refl, omega (arith, needed-most narrow sampleLimit narrow-sound (c .args .k) (c .args .n) (c .pre .0) (c .pre .1)))
+returns c = (refl, omega (arith, needed-most narrow narrowLimit narrow-sound (c .args .k) (c .args .n) (c .pre .0) (c .pre .1)))
 
 pub sample-blocks-spec : {M : Type 1} → statement M
 sample-blocks-spec =

@@ -3,6 +3,7 @@ pub mod Scatter
 pub mod Apart
 pub mod Newton
 pub mod Sums
+pub mod Stored
 pub mod Steps
 pub mod Fewest
 pub mod Limits

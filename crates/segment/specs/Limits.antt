@@ -1,4 +1,4 @@
--- How large figures get, for any sample limit L: samples are from −L to L − 1. Document 01's 16 bits are L = 32,768.
+-- How large figures get, for any sample limit L: samples are from −L to L − 1. Document 02's 20 bits are L = 524,288.
 use Prim.Native.Nat.{ℕ, _*_, _-_, _^_, _≤_, _<_}
 use mathlib.Core.Path.{_≡_}
 use mathlib.Core.List.{List}
@@ -7,9 +7,9 @@ use lib.IntN.{ℤ, pos}
 use lib.Signed.{mag}
 use Rattle.segment.specs.Figures.{distance}
 
--- document 01's limit, of signed 16-bit samples. Laws take the limit as a parameter; this is its number
+-- document 02, §9: "−524,288 to 524,287". Laws take the limit as a parameter; this is its number
 abbrev pub sampleMost : ℕ
-sampleMost = 32768
+sampleMost = 524288
 
 -- the most samples of a segment: document 01's greatest n
 abbrev pub widthMost : ℕ
@@ -19,16 +19,16 @@ widthMost = 256
 abbrev pub SamplesWithin : ℕ → List ℤ → Type 0
 SamplesWithin limit xs = (i : ℕ) → i < length xs → mag (getD xs i (pos 0)) < limit
 
--- "sums within w × 32,768 either side of 0"
+-- document 01: "sums within w × 32,768 either side of 0"; document 02, §9, has 524,288
 unfoldable pub sumLimit : ℕ → ℕ → ℕ
 sumLimit limit w = w * limit
 
--- "scatters 0 to w² × 2^30"
+-- document 01: "scatters 0 to w² × 2^30"; document 02, §9, has 2^38
 unfoldable pub scatterLimit : ℕ → ℕ → ℕ
 scatterLimit limit w = w * w * (limit * limit)
 
 -- the floor root of such a scatter is at most this; document 02 §4: "T's limit among the well-formed rules becomes 2 × w × 32,768", twice
--- it
+-- it; §9 has 524,288
 unfoldable pub rootLimit : ℕ → ℕ → ℕ
 rootLimit limit w = w * limit
 
@@ -37,7 +37,7 @@ rootLimit limit w = w * limit
 unfoldable pub boundLimit : ℕ → ℕ → ℕ
 boundLimit limit w = 8 * (w * (limit * limit))
 
--- ---- what code counts on, of w samples of 16 bits: these compute, so that they are numbers wherever they stand
+-- ---- what code counts on, of w samples of 20 bits: these compute, so that they are numbers wherever they stand
 
 -- the size of a sum
 abbrev pub sumMost : ℕ → ℕ
@@ -53,7 +53,7 @@ scatterMost w = sampleMost * sampleMost * (w * w)
 abbrev pub distanceMost : ℕ → ℕ
 distanceMost w = 2 * sampleMost * (2 * sampleMost) * w
 
--- ---- what code has room for: figures of 256 samples of 20 bits, of which document 02 speaks
+-- ---- what code has room for: figures of 256 samples of 20 bits
 
 abbrev pub sumRoom : ℕ
 sumRoom = 2 ^ 27
@@ -81,7 +81,8 @@ spreadMost = 16 * termMost
 
 -- ---- the largest distance
 
--- "Its largest is 1,099,478,073,600", of n samples: the distance between −limit and limit − 1 at each
+-- "Its largest is 1,099,478,073,600", and "281,474,439,840,000" with document 02, §9, of 256 samples; of n samples: the distance between
+-- −limit and limit − 1 at each
 unfoldable pub largestDistance : ℕ → ℕ → ℕ
 largestDistance limit n = n * ((2 * limit - 1) * (2 * limit - 1))
 

@@ -1,15 +1,14 @@
--- `segment::figures::stretch_distance` meets its contract: the total is what the samples passed add.
+-- `segment::figures::stretch_distance` meets its contract: the total is what the samples passed add, at most 2^40 each.
 use mathlib.Core.Path.{_≡_, ap}
-use Prim.Native.Nat.{_+_, _-_, _≤_}
+use Prim.Native.Nat.{_+_, _-_, _*_, _^_, _≤_}
 use native.Mathlib.Omega.{arith}
-use Rattle.segment.specs.Limits.{distanceMost}
-use Rattle.segment.proofs.Steps.{distanceTo, distance-grows}
+use Rattle.segment.proofs.Steps.{wordsDistanceTo, distance-grows}
 use Rattle.segment.proofs.figures.stretch_distance.Statement.{statement}
 use Rattle.segment.proofs.figures.stretch_distance.Tie as tie
 
 abbrev Inv-loop : tie.InvT-loop
 Inv-loop x y from end total₀ i₀ total i =
-    (from ≤ i) × (i ≤ end) × (distanceTo x y from + total ≡ distanceTo x y i) × (total ≤ distanceMost (i - from))
+    (from ≤ i) × (i ≤ end) × (wordsDistanceTo x y from + total ≡ wordsDistanceTo x y i) × (total ≤ 2 ^ 40 * (i - from))
 
 abbrev μ-loop : tie.MeasureT-loop
 μ-loop x y from end total₀ i₀ total i = end - i
@@ -33,7 +32,7 @@ returns : tie.Need-returns Inv-loop μ-loop
 returns c =
     let s = c .before .before in
     let e : c .before .loop .i ≡ s .args .end = omega arith in
-    omega (arith, ap (distanceTo (s .args .x .now) (s .args .y .now)) e)
+    omega (arith, ap (wordsDistanceTo (s .args .x .now) (s .args .y .now)) e)
 
 pub stretch-distance-spec : {M : Type 1} → statement M
 stretch-distance-spec =

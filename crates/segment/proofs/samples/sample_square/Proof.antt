@@ -1,42 +1,44 @@
--- `segment::samples::sample_square` meets its contract: the square of a sample has 31 bits, so that the product does not wrap.
-use mathlib.Core.Path.{_≡_, refl, sym, ap, _∙_}
-use Prim.Native.Nat.{_≤_}
+-- `segment::samples::sample_square` meets its contract: the square of a number of 20 bits has at most 39.
+use mathlib.Core.Path.{_≡_, ap, _∙_}
+use Prim.Native.Nat.{ℕ, _*_, _≤_}
 use native.Mathlib.Nat.{mul-le-mul}
 use native.Mathlib.Omega.{arith}
-use lib.IntN.{ℤ, pos, _*ℤ_}
+use lib.IntN.{natAbs}
 use lib.Signed.{natAbs-le}
 use mir.Syntax.{w32}
-use mir.Val.{SFits}
 use mir.Facts.{toZ-ofZ}
-use Rattle.integer.specs.Words.{square}
-use Rattle.integer.proofs.Order.{natAbs-square}
-use Rattle.integer.proofs.Width.{small, read, read-wider, fits-wider}
-use Rattle.segment.specs.Limits.{squaresMost}
-use Rattle.segment.proofs.Steps.{sampleWidth, sample-within}
+use borrow.Author.Needs.{needs}
+use Rattle.integer.proofs.Width.{of-mag, read}
+use Rattle.segment.specs.Limits.{sampleMost}
+use Rattle.segment.specs.Stored.{sampleOf}
 use Rattle.segment.proofs.samples.sample_square.Statement.{statement}
 use Rattle.segment.proofs.samples.sample_square.Tie as tie
 
-module _ (a : ℤ) (f : SFits sampleWidth a) where
-  bound : square a ≤ squaresMost 1
-  bound = let h = natAbs-le a (sample-within a (f .sfits)) in omega (arith, mul-le-mul h h)
+sample : (c : tie.After-sample-of) → read w32 (c .sample-of .result) ≡ sampleOf (c .before .args .word)
+sample c =
+    toZ-ofZ (of-mag {w = w32} (c .sample-of .result) (c .sample-of .ok)) ∙ c .sample-of .ensures .0
+    ∙ ap sampleOf (toZ-ofZ (c .before .fits .word))
 
-  product : read w32 (read sampleWidth a) *ℤ read w32 (read sampleWidth a) ≡ pos (square a)
-  product = ap (λ (x : ℤ). x *ℤ x) (read-wider w32 tt f) ∙ sym (natAbs-square a)
+size : (c : tie.After-sample-of) → natAbs (read w32 (c .sample-of .result)) ≤ sampleMost
+size c =
+    rw (toZ-ofZ (of-mag {w = w32} (c .sample-of .result) (c .sample-of .ok)))
+    (natAbs-le (c .sample-of .result) (c .sample-of .ensures .1))
 
-  result : read w32 (read w32 (read sampleWidth a) *ℤ read w32 (read sampleWidth a)) ≡ pos (square a)
-  result = ap (read w32) product ∙ toZ-ofZ (small {w = w32} (omega (arith, bound)))
+size-of-requires : tie.Need-size-of-requires
+size-of-requires c κs = omega (arith, size c)
 
-cast-z : tie.Need-cast-z
-cast-z c = fits-wider tt (c .fits .a)
+squared : (c : tie.After-size-of) → c .size-of .result * c .size-of .result ≤ 274877906944
+squared c =
+    let h : c .size-of .result ≤ sampleMost = omega (arith, c .size-of .ensures, size (c .before)) in
+    omega (arith, mul-le-mul h h)
 
 mul-result : tie.Need-mul-result
-mul-result c = rw (product (c .args .a) (c .fits .a)) (small (omega (arith, bound (c .args .a) (c .fits .a))))
-
-cast-result : tie.Need-cast-result
-cast-result c = rw (result (c .args .a) (c .fits .a)) (tt, record { fits = omega (arith, bound (c .args .a) (c .fits .a)) })
+mul-result c = record { fits = omega (arith, squared c) }
 
 returns : tie.Need-returns
-returns c = rw (result (c .args .a) (c .fits .a)) (refl, bound (c .args .a) (c .fits .a))
+returns c =
+    let e = c .size-of .ensures ∙ ap natAbs (sample (c .before)) in
+    (ap (λ (d : ℕ). d * d) e, omega (arith, squared c))
 
 pub sample-square-spec : {M : Type 1} → statement M
-sample-square-spec = tie.close (tie.spec cast-z mul-result cast-result returns)
+sample-square-spec = tie.close (tie.spec (λ c κs. search needs) size-of-requires (λ c. search needs) mul-result returns)

@@ -2,23 +2,23 @@
 -- Where sixteen more pass it, so do all together, and `passing` finds the sample.
 use mathlib.Core.Path.{_≡_, refl, ap₂}
 use mathlib.Core.List.{List}
-use Prim.Native.Nat.{ℕ, _+_, _-_, _≤_}
+use Prim.Native.Nat.{ℕ, _+_, _-_, _*_, _^_, _≤_}
 use native.Mathlib.Omega.{arith}
 use lib.IntN.{ℤ}
 use lib.ListN.{length}
-use lib.Seq.{take-all}
 use Rattle.segment.specs.Figures.{distance}
-use Rattle.segment.specs.Limits.{distanceMost}
 use Rattle.segment.specs.Within.{distanceWithin, IsFewest, DistanceSays}
 use Rattle.segment.specs.declared.within.Distance.the-variants as w
-use Rattle.segment.proofs.Steps.{distanceTo}
+use Rattle.segment.proofs.Steps.{wordsDistanceTo}
+use Rattle.segment.proofs.Stored.{all-samples}
+use Rattle.segment.specs.Stored.{samplesOf}
 use Rattle.segment.proofs.Fewest.{first-less, is-distance-within}
 use Rattle.segment.proofs.within.distance_within.Statement.{statement}
 use Rattle.segment.proofs.within.distance_within.Tie as tie
 
 abbrev Inv-loop : tie.InvT-loop
 Inv-loop x y limit n total₀ k₀ total k =
-    (k ≤ length x) × (total ≡ distanceTo x y k) × (total ≤ limit) × (total ≤ distanceMost k)
+    (k ≤ length x) × (total ≡ wordsDistanceTo x y k) × (total ≤ limit) × (total ≤ 2 ^ 40 * k)
 
 abbrev μ-loop : tie.MeasureT-loop
 μ-loop x y limit n total₀ k₀ total k = length x - k
@@ -40,33 +40,39 @@ loop-holds c = (omega arith, refl, omega arith, omega arith)
 passing-requires : tie.Need-passing-requires Inv-loop μ-loop
 passing-requires c κs =
     let s = c .before .before .before .before in
-    omega (arith, first-less (c .before .before .before .loop .k + 16) (s .args .x .now) (s .args .y .now))
+    omega (arith, first-less (c .before .before .before .loop .k + 16) (samplesOf (s .args .x .now)) (samplesOf (s .args .y .now)))
 
 returns : tie.Need-returns Inv-loop μ-loop
 returns c =
-    let s = c .before .before .before .before .before in
-    beyond (s .args .x .now) (s .args .y .now) (s .args .limit) (c .passing .result) (c .passing .ensures)
+    let s = c .before .before .before .before .before in (
+      beyond (samplesOf (s .args .x .now)) (samplesOf (s .args .y .now)) (s .args .limit) (c .passing .result) (c .passing .ensures),
+      λ h. absurd (omega arith),
+    )
 
 -- the whole distance
 whole : (c : tie.After-stretch-distance2 Inv-loop μ-loop)
     → let s = c .before .before .before in
-    c .before .before .loop .total + c .stretch-distance2 .result ≡ distance (s .args .x .now) (s .args .y .now)
+    c .before .before .loop .total + c .stretch-distance2 .result ≡ distance (samplesOf (s .args .x .now)) (samplesOf (s .args .y .now))
 whole c =
     let s = c .before .before .before in
     let n = length (s .args .x .now) in
-    omega (arith, ap₂ distance (take-all n (s .args .x .now) (omega arith)) (take-all n (s .args .y .now) (omega arith)))
+    omega (arith, ap₂ distance (all-samples n (s .args .x .now) (omega arith)) (all-samples n (s .args .y .now) (omega arith)))
 
 returns-2 : tie.Need-returns-2 Inv-loop μ-loop
 returns-2 c =
-    let s = c .before .before .before .before .before in
-    beyond (s .args .x .now) (s .args .y .now) (s .args .limit) (c .passing2 .result) (c .passing2 .ensures)
+    let s = c .before .before .before .before .before in (
+      beyond (samplesOf (s .args .x .now)) (samplesOf (s .args .y .now)) (s .args .limit) (c .passing2 .result) (c .passing2 .ensures),
+      λ h. absurd (omega arith),
+    )
 
 returns-3 : tie.Need-returns-3 Inv-loop μ-loop
 returns-3 c =
-    let s = c .before .before .before .before in
-    exact (s .args .x .now) (s .args .y .now) (s .args .limit)
-    (c .before .before .before .loop .total + c .before .stretch-distance2 .result)
-    (whole (c .before)) (omega (arith, c .if2 .left))
+    let s = c .before .before .before .before in (
+      exact (samplesOf (s .args .x .now)) (samplesOf (s .args .y .now)) (s .args .limit)
+          (c .before .before .before .loop .total + c .before .stretch-distance2 .result)
+          (whole (c .before)) (omega (arith, c .if2 .left)),
+      λ h. omega (arith, whole (c .before)),
+    )
 
 pub distance-within-spec : {M : Type 1} → statement M
 distance-within-spec =

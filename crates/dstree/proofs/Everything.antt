@@ -25,6 +25,7 @@ use Rattle.dstree.specs.Sheet.{letters, headOf, coded, cellBlocksNeeded,
 use Rattle.dstree.specs.Sheet.{blocksIn, measuresIn, countIn, beforeLabels, cellBytesIn, zerosBehind, decoded, tracesInBlocks}
 use Rattle.dstree.specs.Sheet.{labelIn, labelsInBlocks, isWrongLength, isKind, isTorn}
 use Rattle.dstree.specs.Sheet.{tornConditions, areZero, zerosIn, badConditions, conditionsAs, libraryIn, judgedBy, judgeAs}
+use Rattle.dstree.specs.SheetWidths.{allNarrow, formatOf, sheetOf, blocksNeeded, isWide, tracesHeld, rangeConditions, sheetConditions, judgeSheet}
 use Rattle.dstree.specs.Book.{besideOf, controlShort, tablesShort, readingConditions, putRead, openingEntry, addingEntry}
 use Rattle.dstree.specs.Book.{writingEntry, readingEntry, importingEntry, exportingEntry, checkingEntry, labellingEntry}
 use Rattle.dstree.specs.Book.{entryOf, judge, putUnless, turn, after, replyUnless, replyOf, repliesOf, start}
@@ -103,6 +104,10 @@ unfoldable sheetTestsOpen : Unit {0}
 unfolding isWrongLength isTorn tornConditions areZero zerosBehind zerosIn badConditions conditionsAs libraryIn judgedBy judgeAs labelIn labelsInBlocks
 sheetTestsOpen = tt
 
+unfoldable widthsOpen : Unit {0}
+unfolding allNarrow formatOf sheetOf blocksNeeded isWide tracesHeld rangeConditions sheetConditions judgeSheet
+widthsOpen = tt
+
 unfoldable labelsOpen : Unit {0}
 unfolding isLabel isZeroLabel areLabels labelPlace labelAt
 labelsOpen = tt
@@ -129,5 +134,5 @@ linesOpen = tt
 
 unfoldable pub everything : Unit {0}
 unfolding wordsOpen figuresOpen figuresOpen2 nodesOpen nodesOpen2 addingOpen addingOpen2 matchingOpen matchingOpen2 nearestOpen batchesOpen rulesOpen
-    rulesOpen2 sheetsOpen sheetsOpen2 sheetTestsOpen labelsOpen recordingsOpen checkingOpen booksOpen booksOpen2 linesOpen
+    rulesOpen2 sheetsOpen sheetsOpen2 sheetTestsOpen widthsOpen labelsOpen recordingsOpen checkingOpen booksOpen booksOpen2 linesOpen
 everything = tt

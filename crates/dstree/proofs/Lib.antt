@@ -53,7 +53,10 @@ pub mod Libraries
 pub mod ReadBack
 pub mod WrittenAgain
 pub mod SheetTorn
+pub mod SheetWidths
 pub mod RoundTrips
+pub mod WidthExamples
+pub mod Wider
 pub mod Remote
 pub mod Laws
 pub mod KLaws

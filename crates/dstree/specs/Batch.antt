@@ -32,7 +32,7 @@ abbrev pub queriesIn : ℕ → ℕ → Trace → List Trace
 queriesIn n count run = pieces n count run
 
 -- "14 bad batch, for 0 or more than 16 queries, or an answer list of another length than the batch, after 3; .. and a run not n times their
--- number long is 4"; then 6 and 7 as a match. Of a library for traces of n samples with so many traces and leaves
+-- number long is 4"; then 15, 6 and 7 as a match. Of a library for traces of n samples with so many traces and leaves
 abbrev pub batchConditions : ℕ → ℕ → ℕ → ℕ → ℕ → Trace → List ℕ → List Condition
 batchConditions n traces leaves count places run trail =
     not (isBatch count places) refuses badBatch ∷ runConditions (n * count) traces leaves run trail

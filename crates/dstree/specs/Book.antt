@@ -7,7 +7,7 @@ use mathlib.Core.List.{List, [], _∷_, _++_, map}
 use lib.ListN.{length, getD, drop, replicate}
 use lib.Dec.{ltb, eqb}
 use Rattle.dstree.specs.Measures.{Trace, Measures, measures, inRange, samplesNeeded, recordsNeeded, linksNeeded, workNeeded}
-use Rattle.dstree.specs.Measures.{labelsNeeded}
+use Rattle.dstree.specs.Measures.{labelsNeeded, areWithin, areSamples}
 use Rattle.dstree.specs.Labels.{Label, noLabel}
 use Rattle.dstree.specs.Node.{Tree}
 use Rattle.dstree.specs.Adding.{treeOf}
@@ -15,9 +15,10 @@ use Rattle.dstree.specs.Matching.{leaves, Near, Match, Search, searched,
 use Rattle.dstree.specs.KNearest.{isK, listPlaces, KNearest, kNearestBySteps, kNearestOf}
 use Rattle.dstree.specs.Batch.{queriesIn, batchConditions, Batch, nearOrZero, batchBySteps, batchOf}
 use Rattle.dstree.specs.Refusals.{Refusal, measure, shortTable, wrongTrace, full, shortTrail, sheetLength, badK, badRecording}
-use Rattle.dstree.specs.Refusals.{Condition, _refuses_, firstOf, runConditions}
+use Rattle.dstree.specs.Refusals.{sampleRange, Condition, _refuses_, firstOf, runConditions}
 use Rattle.dstree.specs.Recording.{rateLimit, recordingSize, recordingOf, Recording, judgeRecording, isBadFile, fileTraces}
-use Rattle.dstree.specs.Sheet.{blockSize, blocksNeeded, sheetOf, Judged, refused, holds, judgeSheet}
+use Rattle.dstree.specs.Sheet.{blockSize, narrowLimit, Judged, refused, holds}
+use Rattle.dstree.specs.SheetWidths.{blocksNeeded, sheetOf, judgeSheet}
 
 -- ---- calls
 
@@ -160,17 +161,21 @@ shortConditions layout lent m = controlShort layout lent refuses shortTable ∷ 
 -- What each call refuses behind 2 and 3, of a library of these measures, with so many traces and this tree: the book's here, and what the
 -- tables hold where a call is lent some (`calls/specs/Effects`).
 
--- adding, of its trace: 4, 5
+-- adding, of its trace: 4, 15, 5
 abbrev pub addConditions : Measures → ℕ → Trace → List Condition
-addConditions m count x = not (eqb (length x) (m .n)) refuses wrongTrace ∷ eqb count (m .capacity) refuses full ∷ []
+addConditions m count x =
+    not (eqb (length x) (m .n)) refuses wrongTrace
+    ∷ not (areSamples x) refuses sampleRange
+    ∷ eqb count (m .capacity) refuses full
+    ∷ []
 
 -- a search, of its query and its trail
 abbrev pub queryConditions : Measures → ℕ → Tree → Trace → List ℕ → List Condition
 queryConditions m count tree query trail = runConditions (m .n) count (length (leaves tree)) query trail
 
 -- writing, of its sheet: 8
-abbrev pub writeConditions : Measures → ℕ → List Label → List ℕ → List Condition
-writeConditions m count labels sheet = ltb (length sheet) (blockSize * blocksNeeded count (m .n) labels) refuses sheetLength ∷ []
+abbrev pub writeConditions : Measures → List Trace → List Label → List ℕ → List Condition
+writeConditions m traces labels sheet = ltb (length sheet) (blockSize * blocksNeeded m traces labels) refuses sheetLength ∷ []
 
 -- document 02, §8, of the bench's call: a trace number "out of range is 12, as in export"
 abbrev pub labelConditions : ℕ → ℕ → List Condition
@@ -185,14 +190,16 @@ listConditions m count tree k query trail list =
 abbrev pub importConditions : Measures → ℕ → Option Recording → List Condition
 importConditions m count file = isBadFile file refuses badRecording ∷ ltb (m .capacity) (count + length (fileTraces file)) refuses full ∷ []
 
--- ".. or an export rate or trace number out of range ..; an export buffer too short is 8"
-abbrev pub exportConditions : Measures → ℕ → ℕ → ℕ → List ℕ → List Condition
-exportConditions m count number rate buffer =
+-- ".. or an export rate or trace number out of range ..; an export buffer too short is 8"; §9: "WAV export refuses wider samples as 12",
+-- of the trace that has this number
+abbrev pub exportConditions : Measures → ℕ → Trace → ℕ → ℕ → List ℕ → List Condition
+exportConditions m count x number rate buffer =
     not (ltb rate rateLimit && ltb number count) refuses badRecording
+    ∷ not (areWithin narrowLimit x) refuses badRecording
     ∷ ltb (length buffer) (recordingSize (m .n)) refuses sheetLength
     ∷ []
 
--- "Reading: 8; 9 over all blocks; 10; 2"
+-- "Reading: 8; 9 over all blocks; 10; 2", and document 02, §9, 15 before 2
 unfoldable pub readingConditions : Layout → Lent → Judged → List Condition
 readingConditions layout lent (refused r) = true refuses r ∷ []
 readingConditions layout lent (holds m traces labels) = shortConditions layout lent m
@@ -334,9 +341,9 @@ module _ (layout : Layout) (lent : Lent) (b : Book) where
   writingEntry sheet =
       let bytes = sheetOf (b .measures) (b .traces) (b .labels) in
       record {
-        conditions = shortConditions layout lent (b .measures) ++ writeConditions (b .measures) (length (b .traces)) (b .labels) sheet;
+        conditions = shortConditions layout lent (b .measures) ++ writeConditions (b .measures) (b .traces) (b .labels) sheet;
         puts = b;
-        result = written (blocksNeeded (length (b .traces)) (b .measures .n) (b .labels)) bytes;
+        result = written (blocksNeeded (b .measures) (b .traces) (b .labels)) bytes;
         beside = over bytes sheet ∷ [];
       }
 
@@ -363,9 +370,10 @@ module _ (layout : Layout) (lent : Lent) (b : Book) where
   -- "Export writes one stored trace so, at a rate the caller gives, .. and answers its bytes' number"
   unfoldable pub exportingEntry : ℕ → ℕ → List ℕ → Entry
   exportingEntry number rate buffer =
-      let bytes = recordingOf rate (getD (b .traces) number []) in
+      let x = getD (b .traces) number [] in
+      let bytes = recordingOf rate x in
       record {
-        conditions = shortConditions layout lent (b .measures) ++ exportConditions (b .measures) (length (b .traces)) number rate buffer;
+        conditions = shortConditions layout lent (b .measures) ++ exportConditions (b .measures) (length (b .traces)) x number rate buffer;
         puts = b;
         result = exported (recordingSize (b .measures .n)) bytes;
         beside = over bytes buffer ∷ [];

@@ -87,10 +87,10 @@ pub record Limited (limit w : ℕ) (s : Segment) : Type 0 where
   -- "least ≤ greatest"
   pub sums : s .leastSum ≤ℤ s .greatestSum
   pub scatters : s .leastScatter ≤ s .greatestScatter
-  -- "sums within w × 32,768 either side of 0"
+  -- sums within document 02 §9's "w × 524,288" either side of 0
   pub least-sum : natAbs (s .leastSum) ≤ sumLimit limit w
   pub greatest-sum : natAbs (s .greatestSum) ≤ sumLimit limit w
-  -- "scatters 0 to w² × 2^30"
+  -- scatters 0 to "w² × 2^38"
   pub greatest-scatter : s .greatestScatter ≤ scatterLimit limit w
 
 -- .. of each segment, the first from sample `from` on
@@ -99,7 +99,7 @@ pub data AllLimited (limit : ℕ) : ℕ → List Segment → Type 0 where
   l-more : {from : ℕ} {s : Segment} {rest : List Segment} → Limited limit (width (run from (s .end))) s
       → AllLimited limit (suc (s .end)) rest → AllLimited limit from (s ∷ rest)
 
--- "T between twice those limits", on a run that is w wide; by scatter, document 02 §4, "2 × w × 32,768"
+-- "T between twice those limits", on a run that is w wide; by scatter, document 02 §9, "2 × w × 524,288"
 abbrev pub Between : ℕ → Figure → ℕ → ℤ → Type 0
 Between limit bySum w t = natAbs t ≤ 2 * sumLimit limit w
 Between limit byScatter w t = (pos 0 ≤ℤ t) × (t ≤ℤ pos (2 * rootLimit limit w))
@@ -110,7 +110,7 @@ pub record TestIn (limit n : ℕ) (test : Test) : Type 0 where
 
 -- the figures that a tree records, and its tests
 pub record Limits (limit n : ℕ) (tree : Tree) : Type 0 where
-  -- "least ≤ greatest; sums within w × 32,768 either side of 0, scatters 0 to w² × 2^30"
+  -- "least ≤ greatest"; document 02, §9: "The well-formed limits become w × 524,288 and w² × 2^38"
   pub figures : (k : ℕ) → k < length tree → AllLimited limit 1 (nodeAt tree k .segments)
   -- "T between twice those limits, on a run inside 1 to n"
   pub tests : (k : ℕ) (test : Test) (left right : ℕ) → nodeAt tree k .kind ≡ inner test left right → TestIn limit n test

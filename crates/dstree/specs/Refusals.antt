@@ -6,7 +6,7 @@ use mathlib.Core.List.{List, [], _∷_}
 use lib.ListN.{length}
 use lib.Dec.{eqb, ltb}
 use Rattle.integer.specs.Words.{if_then_else_}
-use Rattle.dstree.specs.Measures.{Trace}
+use Rattle.dstree.specs.Measures.{Trace, areSamples}
 
 -- the table's words. A torn block has a place: "the first block at fault"
 pub data Refusal : Type 0 where
@@ -21,6 +21,8 @@ pub data Refusal : Type 0 where
   looseRecord : Refusal
   -- document 02, §7: "14 bad batch"
   badBatch : Refusal
+  -- document 02, §9: "15 sample range, for an added trace, query or sheet with a sample outside the limits"
+  sampleRange : Refusal
 
 -- the table's numbers
 unfoldable pub numberOf : Refusal → ℕ
@@ -38,6 +40,7 @@ numberOf badK = 11
 numberOf badRecording = 12
 numberOf looseRecord = 13
 numberOf badBatch = 14
+numberOf sampleRange = 15
 
 -- "a place: the first block at fault for 9, else 0"
 unfoldable pub placeOf : Refusal → ℕ
@@ -55,6 +58,7 @@ placeOf badK = 0
 placeOf badRecording = 0
 placeOf looseRecord = 0
 placeOf badBatch = 0
+placeOf sampleRange = 0
 
 -- a condition of the table with its refusal
 pub record Condition : Type 0 where
@@ -71,10 +75,11 @@ firstOf [] = none
 firstOf (c ∷ rest) = let later = firstOf rest in if c .holds then some (c .refusal) else later
 
 -- what every search refuses of its run of samples, which is to be so long, and of its trail, in a library with so many traces and leaves:
--- 4, 6, 7
+-- 4, 15, 6, 7
 abbrev pub runConditions : ℕ → ℕ → ℕ → Trace → List ℕ → List Condition
 runConditions size traces leaves run trail =
     not (eqb (length run) size) refuses wrongTrace
+    ∷ not (areSamples run) refuses sampleRange
     ∷ eqb traces 0 refuses empty
     ∷ ltb (length trail) leaves refuses shortTrail
     ∷ []

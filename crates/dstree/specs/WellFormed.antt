@@ -80,8 +80,8 @@ unfoldable pub segmentsFit : ℕ → ℕ → List Segment → Bool
 segmentsFit limit first [] = true
 segmentsFit limit first (s ∷ rest) = segmentFits limit (width (run first (s .end))) s && segmentsFit limit (suc (s .end)) rest
 
--- "T between twice those limits"; by scatter, document 02 §4, "T's limit among the well-formed rules becomes 2 × w × 32,768", in place of
--- twice that of scatters
+-- "T between twice those limits"; by scatter, document 02 §9, "the deviation threshold becomes 2 × w × 524,288", in place of twice the
+-- limit of scatters
 unfoldable pub thresholdFits : ℕ → Figure → ℕ → ℤ → Bool
 thresholdFits limit bySum w t = withinℤ (2 * sumLimit limit w) t
 thresholdFits limit byScatter w t = leZ (pos 0) t && leZ t (pos (2 * rootLimit limit w))

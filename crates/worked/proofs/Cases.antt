@@ -15,7 +15,8 @@ use Rattle.dstree.specs.Node.{bySum, byScatter, leaf, inner, node, Tree}
 use Rattle.dstree.specs.Adding.{treeOf}
 use Rattle.dstree.specs.Matching.{bound, Match, matchBySteps, matchOf}
 use Rattle.dstree.specs.WellFormed.{wellFormedTree}
-use Rattle.dstree.specs.Sheet.{Judged, judgeSheet}
+use Rattle.dstree.specs.Sheet.{Judged}
+use Rattle.dstree.specs.SheetWidths.{judgeSheet}
 use Rattle.dstree.specs.Examples.{matchWith}
 use Rattle.dstree.proofs.Notation.{+, −, seg, test, plainSheet, holdsPlain}
 use Rattle.dstree.proofs.Everything.{everything}

@@ -23,9 +23,10 @@ use Rattle.dstree.specs.Matching.{ownBound, parentFrom, bound, LeafBound, leave
 use Rattle.dstree.specs.Claims.{numbersAmong}
 use Rattle.dstree.specs.WellFormed.{wellFormedTree}
 use Rattle.dstree.specs.Refusals.{Refusal, measure, shortTable, spoiled, wrongTrace, full, empty, shortTrail, sheetLength, tornBlock}
-use Rattle.dstree.specs.Refusals.{badSheet, badK, badRecording, looseRecord, badBatch, numberOf, placeOf, _refuses_, firstOf}
-use Rattle.dstree.specs.Sheet.{bytesOf, numberIn, part, narrow, isKind, weighted, checkOf, block, headOf, coded, blocksNeeded}
-use Rattle.dstree.specs.Sheet.{blocksOf, decoded, isWrongLength, isTorn, refused, judgeSheet}
+use Rattle.dstree.specs.Refusals.{badSheet, badK, badRecording, looseRecord, badBatch, sampleRange, numberOf, placeOf, _refuses_, firstOf}
+use Rattle.dstree.specs.Sheet.{bytesOf, numberIn, part, narrow, isKind, weighted, checkOf, block, headOf, coded, blocksNeededAs}
+use Rattle.dstree.specs.Sheet.{blocksOf, decoded, isWrongLength, isTorn, refused}
+use Rattle.dstree.specs.SheetWidths.{judgeSheet}
 use Rattle.dstree.specs.Program as program
 use Rattle.dstree.specs.Examples.{level, ABC, tree, gains, matchWith, twins}
 use Rattle.dstree.proofs.Notation.{+, −, seg, test, unlabelled, plainSheet, holdsPlain}
@@ -44,13 +45,13 @@ pub record MeasureExamples : Type 0 where
   pub records : map recordsNeeded (measures 4 8 2 ∷ measures 256 1 64 ∷ measures 256 4096 64 ∷ []) ≡ 15 ∷ 1 ∷ 8191 ∷ []
   pub links : map linksNeeded (measures 4 8 2 ∷ measures 256 1 64 ∷ measures 256 4096 64 ∷ []) ≡ 8 ∷ 1 ∷ 4096 ∷ []
   pub work : map workNeeded (measures 4 8 2 ∷ measures 256 1 64 ∷ measures 256 4096 64 ∷ []) ≡ 15 ∷ 1 ∷ 8191 ∷ []
-  -- "A trace is n signed 16-bit samples": the least and the greatest one; one less, one more; a sample too few, one too many
-  pub traces-of-2 : map (isTrace sampleLimit 2) ((− 32768 ∷ + 32767 ∷ []) ∷ (+ 0 ∷ − 32769 ∷ []) ∷ (+ 32768 ∷ + 0 ∷ []) ∷ (+ 0 ∷ []) ∷ (+ 0 ∷ + 0 ∷ + 0 ∷ []) ∷ [])
+  -- document 02, §9, "−524,288 to 524,287": the least and the greatest sample; one less, one more; a sample too few, one too many
+  pub traces-of-2 : map (isTrace sampleLimit 2) ((− 524288 ∷ + 524287 ∷ []) ∷ (+ 0 ∷ − 524289 ∷ []) ∷ (+ 524288 ∷ + 0 ∷ []) ∷ (+ 0 ∷ []) ∷ (+ 0 ∷ + 0 ∷ + 0 ∷ []) ∷ [])
       ≡ true ∷ false ∷ false ∷ false ∷ false ∷ []
   -- a library may be empty, and full
-  pub libraries : map (isLibrary sampleLimit (measures 1 2 1)) ([] ∷ ((+ 32767 ∷ []) ∷ (− 32768 ∷ []) ∷ []) ∷ []) ≡ true ∷ true ∷ []
+  pub libraries : map (isLibrary sampleLimit (measures 1 2 1)) ([] ∷ ((+ 524287 ∷ []) ∷ (− 524288 ∷ []) ∷ []) ∷ []) ≡ true ∷ true ∷ []
   -- one trace above the capacity; a trace of another length; a sample past its limit; measures out of range
-  pub no-libraries : map (isLibrary sampleLimit (measures 1 2 1)) (((+ 0 ∷ []) ∷ (+ 0 ∷ []) ∷ (+ 0 ∷ []) ∷ []) ∷ ((+ 0 ∷ + 0 ∷ []) ∷ []) ∷ ((+ 32768 ∷ []) ∷ []) ∷ []) ≡ false ∷ false ∷ false ∷ []
+  pub no-libraries : map (isLibrary sampleLimit (measures 1 2 1)) (((+ 0 ∷ []) ∷ (+ 0 ∷ []) ∷ (+ 0 ∷ []) ∷ []) ∷ ((+ 0 ∷ + 0 ∷ []) ∷ []) ∷ ((+ 524288 ∷ []) ∷ []) ∷ []) ≡ false ∷ false ∷ false ∷ []
   pub out-of-range : isLibrary sampleLimit (measures 1 2 65) [] ≡ false
 
 pub measure-examples : MeasureExamples
@@ -87,12 +88,12 @@ pub record FigureExamples : Type 0 where
   pub ceiling-roots : map ceilingRoot (0 ∷ 1 ∷ 2 ∷ 3 ∷ 4 ∷ 8 ∷ 9 ∷ (2 ^ 54 - 1) ∷ (2 ^ 54) ∷ []) ≡ 0 ∷ 1 ∷ 2 ∷ 2 ∷ 2 ∷ 3 ∷ 3 ∷ 134217728 ∷ 134217728 ∷ []
   -- "Distance is the sum of squared differences, never its root"
   pub distance-of-three : distance (+ 5 ∷ − 3 ∷ + 1 ∷ []) (+ 3 ∷ + 3 ∷ + 1 ∷ []) ≡ 40
-  -- "Its largest is 1,099,478,073,600"; with two samples it is that between (−32,768, −32,768) and (32,767, 32,767)
-  pub largest : largestDistance sampleLimit 256 ≡ 1099478073600
-  pub largest-of-two : distance (− 32768 ∷ − 32768 ∷ []) (+ 32767 ∷ + 32767 ∷ []) ≡ largestDistance sampleLimit 2
-  -- "sums within w × 32,768 either side of 0, scatters 0 to w² × 2^30"
-  pub limits-of-four : sumLimit sampleLimit 4 ∷ scatterLimit sampleLimit 4 ∷ [] ≡ 131072 ∷ 17179869184 ∷ []
-  pub sum-at-limit : sum (− 32768 ∷ − 32768 ∷ − 32768 ∷ − 32768 ∷ []) ≡ − 131072
+  -- document 02, §9: "the largest distance becomes 281,474,439,840,000"; with two samples it is that between the least and the greatest ones
+  pub largest : largestDistance sampleLimit 256 ≡ 281474439840000
+  pub largest-of-two : distance (− 524288 ∷ − 524288 ∷ []) (+ 524287 ∷ + 524287 ∷ []) ≡ largestDistance sampleLimit 2
+  -- "The well-formed limits become w × 524,288 and w² × 2^38"
+  pub limits-of-four : sumLimit sampleLimit 4 ∷ scatterLimit sampleLimit 4 ∷ [] ≡ 2097152 ∷ 4398046511104 ∷ []
+  pub sum-at-limit : sum (− 524288 ∷ − 524288 ∷ − 524288 ∷ − 524288 ∷ []) ≡ − 2097152
 
 pub figure-examples : FigureExamples
 unfolding everything
@@ -386,9 +387,9 @@ pub record WellFormedExamples : Type 0 where
   -- what adding makes; a tree that somebody altered: the test, the children's order, the ranges, up to their limits; the traces of the
   -- leaves; leaves above the leaf size
   pub as-made : fits tree ≡ true
-  pub other-tests : map (λ t. fits (testedBy t)) (test 2 3 bySum (− 131072) ∷ test 4 4 bySum (+ 65536) ∷ test 2 3 byScatter (+ 0) ∷ test 2 3 byScatter (+ 131072) ∷ []) ≡ replicate 4 true
+  pub other-tests : map (λ t. fits (testedBy t)) (test 2 3 bySum (− 2097152) ∷ test 4 4 bySum (+ 1048576) ∷ test 2 3 byScatter (+ 0) ∷ test 2 3 byScatter (+ 2097152) ∷ []) ≡ replicate 4 true
   pub other-children : fits (withChildren 2 1) ≡ true
-  pub other-ranges : map (λ s. fits (segmentsAt 1 s)) ((seg 2 (+ 9) (+ 9) 0 1 ∷ seg 4 (− 65536) (+ 65536) 7 7 ∷ []) ∷ (seg 4 (− 131072) (− 131072) 0 17179869184 ∷ []) ∷ []) ≡ true ∷ true ∷ []
+  pub other-ranges : map (λ s. fits (segmentsAt 1 s)) ((seg 2 (+ 9) (+ 9) 0 1 ∷ seg 4 (− 1048576) (+ 1048576) 7 7 ∷ []) ∷ (seg 4 (− 2097152) (− 2097152) 0 4398046511104 ∷ []) ∷ []) ≡ true ∷ true ∷ []
   pub other-leaves : map fits (withLeaves (1 ∷ []) (0 ∷ 2 ∷ []) ∷ withLeaves (0 ∷ 1 ∷ []) (2 ∷ []) ∷ []) ≡ true ∷ true ∷ []
   pub over-size : wellFormedTree sampleLimit (measures 4 8 1) 3 tree ≡ true
   pub nothing-stored : wellFormedTree sampleLimit (measures 4 8 2) 0 [] ≡ true
@@ -422,10 +423,10 @@ pub record WellFormedExamples : Type 0 where
   pub empty-leaf : map fits (withLeaves [] (0 ∷ 1 ∷ 2 ∷ []) ∷ withLeaves (0 ∷ 1 ∷ 2 ∷ []) [] ∷ []) ≡ false ∷ false ∷ []
   -- "least ≤ greatest"
   pub least-above : map (λ s. fits (segmentsAt 1 (s ∷ []))) (seg 4 (+ 1) (+ 0) 0 0 ∷ seg 4 (+ 0) (+ 0) 2 1 ∷ []) ≡ false ∷ false ∷ []
-  -- "sums within w × 32,768 either side of 0, scatters 0 to w² × 2^30"
-  pub past-limits : map (λ s. fits (segmentsAt 1 (s ∷ []))) (seg 4 (− 131073) (+ 0) 0 0 ∷ seg 4 (+ 0) (+ 131073) 0 0 ∷ seg 4 (+ 0) (+ 0) 0 17179869185 ∷ []) ≡ replicate 3 false
+  -- "The well-formed limits become w × 524,288 and w² × 2^38"
+  pub past-limits : map (λ s. fits (segmentsAt 1 (s ∷ []))) (seg 4 (− 2097153) (+ 0) 0 0 ∷ seg 4 (+ 0) (+ 2097153) 0 0 ∷ seg 4 (+ 0) (+ 0) 0 4398046511105 ∷ []) ≡ replicate 3 false
   -- "T between twice those limits"
-  pub thresholds-refused : map (λ t. fits (testedBy t)) (test 4 4 bySum (+ 65537) ∷ test 4 4 bySum (− 65537) ∷ test 4 4 byScatter (− 1) ∷ test 4 4 byScatter (+ 65537) ∷ []) ≡ replicate 4 false
+  pub thresholds-refused : map (λ t. fits (testedBy t)) (test 4 4 bySum (+ 1048577) ∷ test 4 4 bySum (− 1048577) ∷ test 4 4 byScatter (− 1) ∷ test 4 4 byScatter (+ 1048577) ∷ []) ≡ replicate 4 false
   -- "on a run inside 1 to n": from 0, to 5, none
   pub runs-refused : map (λ t. fits (testedBy t)) (test 0 4 bySum (+ 0) ∷ test 1 5 bySum (+ 0) ∷ test 3 2 bySum (+ 0) ∷ []) ≡ replicate 3 false
 
@@ -467,12 +468,12 @@ well-formed-examples = record {
 abbrev refusals : List Refusal
 refusals =
     measure ∷ shortTable ∷ spoiled ∷ wrongTrace ∷ full ∷ empty ∷ shortTrail ∷ sheetLength ∷ tornBlock 7 ∷ badSheet ∷ badK ∷ badRecording
-    ∷ looseRecord ∷ badBatch ∷ []
+    ∷ looseRecord ∷ badBatch ∷ sampleRange ∷ []
 
 pub record RefusalExamples : Type 0 where
   -- "A refusal gives its number and a place: the first block at fault for 9, else 0"
-  pub numbers : map numberOf refusals ≡ counting 14 1
-  pub places : map placeOf refusals ≡ 0 ∷ 0 ∷ 0 ∷ 0 ∷ 0 ∷ 0 ∷ 0 ∷ 0 ∷ 7 ∷ 0 ∷ 0 ∷ 0 ∷ 0 ∷ 0 ∷ []
+  pub numbers : map numberOf refusals ≡ counting 15 1
+  pub places : map placeOf refusals ≡ 0 ∷ 0 ∷ 0 ∷ 0 ∷ 0 ∷ 0 ∷ 0 ∷ 0 ∷ 7 ∷ 0 ∷ 0 ∷ 0 ∷ 0 ∷ 0 ∷ 0 ∷ []
   -- the first condition that holds counts; "No condition, no refusal"
   pub first : firstOf (false refuses measure ∷ true refuses full ∷ true refuses empty ∷ []) ≡ some full
   pub no-condition : firstOf (false refuses measure ∷ false refuses full ∷ []) ≡ none
@@ -524,7 +525,7 @@ pub record SheetExamples : Type 0 where
   pub sample-254 : inBlock 2 4 4 ≡ 254 ∷ 0 ∷ 0 ∷ 0 ∷ []
   pub long-read-back : judgeSheet (plainSheet (measures 254 1 1) long) ≡ holdsPlain (measures 254 1 1) long
   -- "With k traces there are 1 + (k × n / 253 rounded up) blocks": none, 253 samples, 254, the largest library
-  pub block-counts : blocksNeeded 0 256 [] ∷ blocksNeeded 1 253 [] ∷ blocksNeeded 2 127 [] ∷ blocksNeeded 4096 256 [] ∷ [] ≡ 1 ∷ 2 ∷ 3 ∷ 4146 ∷ []
+  pub block-counts : blocksNeededAs narrow 0 256 [] ∷ blocksNeededAs narrow 1 253 [] ∷ blocksNeededAs narrow 2 127 [] ∷ blocksNeededAs narrow 4096 256 [] ∷ [] ≡ 1 ∷ 2 ∷ 3 ∷ 4146 ∷ []
   -- the bytes of a sheet, as another implementation writes them
   pub bytes : sheet
       ≡ 0 ∷ 0 ∷ 1 ∷ 0 ∷ 84 ∷ 82 ∷ 67 ∷ 76 ∷ 2 ∷ 0 ∷ 8 ∷ 0 ∷ 2 ∷ 0 ∷ 8 ∷ 0 ∷ (replicate 494 0
@@ -533,8 +534,8 @@ pub record SheetExamples : Type 0 where
       ++ 237 ∷ 22 ∷ []))
   -- a library without traces is one block, and is read back
   pub empty-sheet : judgeSheet (plainSheet (measures 2 8 2) []) ≡ holdsPlain (measures 2 8 2) []
-  -- 8, "reading: 0, not a multiple of 512, above 4,146 blocks"
-  pub lengths : map isWrongLength (0 ∷ 511 ∷ 512 ∷ 513 ∷ 2147840 ∷ 2148352 ∷ []) ≡ true ∷ true ∷ false ∷ true ∷ false ∷ true ∷ []
+  -- 8, "reading: 0, not a multiple of 512, above" document 02 §9's "8,373 blocks"
+  pub lengths : map isWrongLength (0 ∷ 511 ∷ 512 ∷ 513 ∷ 4286976 ∷ 4287488 ∷ []) ≡ true ∷ true ∷ false ∷ true ∷ false ∷ true ∷ []
   -- 9, the check: one that is 0, and the same with 65,521 in its place
   pub check-field : map (λ edits. isTorn narrow 1 1 (edited ((0, 1) ∷ (2, 2) ∷ (233, 1) ∷ (509, 128) ∷ edits) (replicate 512 0))) ([] ∷ ((510, 241) ∷ (511, 255) ∷ []) ∷ []) ≡ false ∷ true ∷ []
   -- "9 over all blocks", the place being "the first block at fault"

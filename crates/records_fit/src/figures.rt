@@ -10,7 +10,7 @@ ghost use Rattle.dstree.specs.WellFormed.{segmentFits, thresholdFits};
 ghost use Rattle.tables.specs.View.{scatterIn};
 ghost use Rattle.records_fit.specs.Fits.{figureNamed};
 
-const SAMPLE_LIMIT: u64 = 32768; // samples are from −SAMPLE_LIMIT to SAMPLE_LIMIT − 1
+const SAMPLE_LIMIT: u64 = 524288; // samples are from −SAMPLE_LIMIT to SAMPLE_LIMIT − 1
 
 // ---- numbers with a sign
 

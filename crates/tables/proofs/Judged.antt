@@ -17,6 +17,7 @@ use Rattle.tables.specs.View.{wellFormed}
 use Rattle.tables.specs.Judge.{lentConditionsOf, InRange, Room, LongEnough}
 use Rattle.tables.specs.Answers.{madeConditions, Lends}
 use Rattle.tables.proofs.Range.{in-range}
+use Rattle.tables.proofs.Samples.{made-is}
 
 pub room-of : (lengths : Lent) (m : Measures) → controlShort layout lengths ≡ false → tablesShort layout lengths m ≡ false → Room lengths m
 unfolding controlShort tablesShort
@@ -62,9 +63,8 @@ pub record Accepted (t : Tables) : Type 0 where
   pub formed : T (wellFormed t)
 
 pub accepted : (t : Tables) → firstOf (madeConditions t) ≡ none → Accepted t
-unfolding madeConditions
 accepted t e =
-    let parts = none-both (lentConditionsOf (lentOf t) (measuresOf t)) (not (wellFormed t) refuses spoiled ∷ []) e in
+    let parts = none-both (lentConditionsOf (lentOf t) (measuresOf t)) (not (wellFormed t) refuses spoiled ∷ []) (rw (made-is t) at e) in
     let lent = lent-long-enough (lentOf t) (measuresOf t) (parts .0) in
     let one = none-first (not (wellFormed t)) spoiled [] (parts .1) in
     record { range = lent .range; room = lent .room; formed = is-true {b = wellFormed t} (not-false _ (one .0)) }

@@ -1,7 +1,7 @@
 -- Refusals as code has them, in document 01's terms; what every call that is lent made tables refuses first; what opening leaves.
 use Prim.Native.Nat.{ℕ, _*_, _-_, _≤_}
 use mathlib.Core.Path.{_≡_}
-use mathlib.Core.Bool.{true, not}
+use mathlib.Core.Bool.{true}
 use mathlib.Core.Option.{Option, none, some}
 use mathlib.Core.List.{List, [], _∷_, _++_}
 use lib.IntN.{ℤ, pos}
@@ -11,7 +11,7 @@ use Rattle.dstree.specs.Refusals as word
 use Rattle.dstree.specs.Refusals.{Condition, _refuses_}
 use Rattle.tables.specs.Layout.{capacityPlace, recordPlaces, controlFields}
 use Rattle.tables.specs.Tables.{Tables, labelledTables, tables, lentOf, field, measuresOf, filled}
-use Rattle.tables.specs.View.{wellFormed}
+use Rattle.tables.specs.View.{isSpoiled}
 use Rattle.tables.specs.Judge.{openingConditionsOf, lentConditionsOf}
 use Rattle.tables.specs.declared.Refusal.{Refusal}
 use Rattle.tables.specs.declared.Refusal.the-variants as r
@@ -36,6 +36,7 @@ wordOf r.BadK = word.badK
 wordOf r.BadRecording = word.badRecording
 wordOf r.LooseRecord = word.looseRecord
 wordOf r.BadBatch = word.badBatch
+wordOf r.SampleRange = word.sampleRange
 
 -- what a judge found: the first condition that holds, or none
 unfoldable pub foundBy : Verdict → Option word.Refusal
@@ -46,7 +47,7 @@ foundBy (v.Refused why) = some (wordOf why)
 
 -- "control record too short (2); its measures (3); other tables (2); the rest of 3"
 unfoldable pub madeConditions : Tables → List Condition
-madeConditions t = lentConditionsOf (lentOf t) (measuresOf t) ++ not (wellFormed t) refuses word.spoiled ∷ []
+madeConditions t = lentConditionsOf (lentOf t) (measuresOf t) ++ isSpoiled t refuses word.spoiled ∷ []
 
 -- tables with measures in range and the places that these need, as far as their contents are tested
 pub record Lends (control : List ℕ) (nodes : List ℤ) (links : List ℕ) : Type 0 where

@@ -7,8 +7,8 @@ use Rattle.dstree.specs.Measures.{Measures, measures}
 use Rattle.dstree.specs.Book.{Lent}
 use Rattle.tables.specs.Layout.{nPlace, capacityPlace, leafSizePlace, traceCountPlace, nodeCountPlace, recordPlaces}
 
--- control record and links are 16-bit numbers, samples 16-bit and node records 64-bit numbers with a sign, search work and labels 64-bit
--- numbers
+-- control record and links are 16-bit numbers, samples words of 32 bits and node records 64-bit numbers with a sign, search work and labels
+-- 64-bit numbers
 pub record Tables : Type 0 where
   pub control : List ℕ
   pub samples : List ℤ

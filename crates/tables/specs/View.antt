@@ -1,13 +1,14 @@
 -- What tables stand for: the traces and the tree of document 01, read from any contents whatever; and "Well-formed tables".
 use Prim.Native.Nat.{ℕ, zero, suc, _+_, _*_, _^_}
-use mathlib.Core.Bool.{Bool, _&&_}
+use mathlib.Core.Bool.{Bool, not, _&&_}
 use mathlib.Core.List.{List, [], _∷_, map}
 use lib.IntN.{ℤ, pos, negsuc}
 use lib.ListN.{length, getD, take, drop}
 use lib.Seq.{paste}
 use lib.Dec.{leb, ltb, eqb}
 use Rattle.integer.specs.Words.{if_then_else_, counting, every}
-use Rattle.dstree.specs.Measures.{Trace, sampleLimit}
+use Rattle.segment.specs.Stored.{samplesOf}
+use Rattle.dstree.specs.Measures.{Trace, sampleLimit, areSamples}
 use Rattle.dstree.specs.Labels.{Label, labelPlace, labelAt}
 use Rattle.dstree.specs.Figures.{run}
 use Rattle.dstree.specs.Node.{Segment, Figure, bySum, byScatter, Test, Kind, leaf, inner, Node, node, Tree}
@@ -87,9 +88,9 @@ treeIn t = map (λ j. nodeIn (t .links) (traceCount t) (recordOf (t .nodes) j)) 
 unfoldable pub shapeIn : List ℤ → ℕ → Tree
 shapeIn nodes count = map (λ j. nodeIn [] 0 (recordOf nodes j)) (counting count 0)
 
--- trace i from i × n on
+-- trace i: the samples that n words from i × n on stand for
 unfoldable pub traceIn : List ℤ → ℕ → ℕ → Trace
-traceIn samples n i = take n (drop (i * n) samples)
+traceIn samples n i = samplesOf (take n (drop (i * n) samples))
 
 unfoldable pub tracesIn : Tables → List Trace
 tracesIn t = map (traceIn (t .samples) (measuresOf t .n)) (counting (traceCount t) 0)
@@ -115,3 +116,11 @@ kindsNamed t = every (λ j. leb (smallAt (recordOf (t .nodes) j) kindPlace) 2) (
 -- the other rules are of what the tables stand for. "Recorded sums and scatters are not recomputed": no sample is looked at
 unfoldable pub wellFormed : Tables → Bool
 wellFormed t = kindsNamed t && abstract.wellFormedTree sampleLimit (measuresOf t) (traceCount t) (treeIn t)
+
+-- document 02, §9: no "stored sample outside the limits". Every word stands for a sample within them, so that this holds of any contents
+unfoldable pub samplesInside : Tables → Bool
+samplesInside t = every areSamples (tracesIn t)
+
+-- "A stored sample outside the limits makes the tables spoiled", as does a rule of "Well-formed tables" that does not hold
+unfoldable pub isSpoiled : Tables → Bool
+isSpoiled t = not (wellFormed t && samplesInside t)

@@ -24,6 +24,7 @@ pub fn number(why: Refusal) -> u64
         Refusal::BadRecording => 12,
         Refusal::LooseRecord => 13,
         Refusal::BadBatch => 14,
+        Refusal::SampleRange => 15,
     }
 }
 
@@ -46,5 +47,6 @@ pub fn place(why: Refusal) -> u64
         Refusal::BadRecording => 0,
         Refusal::LooseRecord => 0,
         Refusal::BadBatch => 0,
+        Refusal::SampleRange => 0,
     }
 }

@@ -8,6 +8,7 @@ pub mod records; // fields of a node's record, and records as parts of the table
 pub mod walk; // along a leaf's list of traces
 pub mod runs; // stored traces, and figures on a run of samples
 pub mod loops; // zeroing and copying
+pub mod given; // samples that a caller gives
 pub mod label_table; // codes and serials, in their places
 
 // A word of the table of refusals, document 01's and then document 02's. A torn block has its number for a place.
@@ -26,6 +27,7 @@ pub enum Refusal {
     BadRecording,
     LooseRecord,
     BadBatch,
+    SampleRange,
 }
 
 // What a judge found.

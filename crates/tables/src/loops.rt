@@ -1,17 +1,18 @@
-// Zeroing the needed part of a table, copying a trace into the samples, and looking at samples.
+// Zeroing the needed part of a table, and copying a trace into the samples.
 
-use segment::Sample;
+use segment::Word;
+use segment::samples::sample_of;
+use segment::samples::word_of;
 ghost use mathlib.Core.Path.{_≡_};
 ghost use Prim.Native.Nat.{_+_, _≤_};
 ghost use lib.IntN.{pos};
 ghost use lib.ListN.{length};
 ghost use lib.Seq.{paste};
-ghost use lib.Dec.{T};
-ghost use Rattle.dstree.specs.Measures.{areSamples};
+ghost use Rattle.segment.specs.Stored.{samplesOf, wordsOf};
 ghost use Rattle.tables.specs.Tables.{filled};
 
 // The first k places become 0, and the places behind them stay. A loop for each table, since their numbers differ in width and sign.
-pub fn zero_samples(samples: &mut [Sample], k: usize)
+pub fn zero_samples(samples: &mut [Word], k: usize)
     requires { ⌜ k ≤ length (now samples) ⌝ }
     ensures { λ _. ⌜ now (samples .exit) ≡ filled k (pos 0) (now (samples .entry)) ⌝ }
 {
@@ -55,26 +56,15 @@ pub fn zero_work(work: &mut [u64], k: usize)
     }
 }
 
-// A trace's samples, from a place of the samples on.
-pub fn copy_trace(samples: &mut [Sample], at: usize, trace: &[Sample])
+// A trace's samples, from a place of the table on. The low bits of each word are written as zero.
+pub fn copy_trace(samples: &mut [Word], at: usize, trace: &[Word])
     requires { ⌜ at + length (now trace) ≤ length (now samples) ⌝ }
-    ensures { λ _. ⌜ now (samples .exit) ≡ paste (now (samples .entry)) at (now (trace .entry)) (length (now (trace .entry))) ⌝ }
+    ensures { λ _. ⌜ now (samples .exit)
+        ≡ paste (now (samples .entry)) at (wordsOf (samplesOf (now (trace .entry)))) (length (now (trace .entry))) ⌝ }
 {
     let mut j = 0;
     while j < trace.len() {
-        samples[at + j] = trace[j];
+        samples[at + j] = word_of(sample_of(trace[j]));
         j += 1;
-    }
-}
-
-// Looks at every sample: each is a number of 16 bits, as a lent slice's type says and a look at it shows. Nothing is left of it when it
-// runs.
-pub fn look(samples: &[Sample])
-    ensures { λ _. ⌜ T (areSamples (now (samples .entry))) ⌝ }
-{
-    let mut i = 0;
-    while i < samples.len() {
-        let sample = samples[i];
-        i += 1;
     }
 }

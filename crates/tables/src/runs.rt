@@ -1,7 +1,7 @@
 // A stored trace as a part of the samples, and a trace's figures on a run of its samples, which are numbered from 1. Nothing else computes
 // where a trace lies, or where a run does.
 
-use segment::Sample;
+use segment::Word;
 ghost use mathlib.Core.Path.{_≡_};
 ghost use Prim.Native.Nat.{_+_, _*_, _≤_};
 ghost use lib.IntN.{pos, natAbs, _*ℤ_};
@@ -9,6 +9,7 @@ ghost use lib.ListN.{length};
 ghost use lib.Signed.{leZ};
 ghost use Rattle.integer.specs.Words.{if_then_else_};
 ghost use Rattle.segment.specs.Roots.{floorRoot};
+ghost use Rattle.segment.specs.Stored.{samplesOf};
 ghost use Rattle.segment.specs.Limits.{sumMost, scatterMost, sumRoom};
 ghost use Rattle.dstree.specs.Figures.{run, sumOn, scatterOn};
 ghost use Rattle.dstree.specs.Node.{goesLeft};
@@ -16,10 +17,10 @@ ghost use Rattle.dstree.specs.Measures.{mostSamples};
 ghost use Rattle.tables.specs.View.{traceIn};
 ghost use Rattle.tables.specs.Runs.{testBy, RunOf};
 
-// Trace t.
-pub fn trace_at(samples: &[Sample], n: usize, t: usize) -> &[Sample]
+// Trace t, as the words that hold it.
+pub fn trace_at(samples: &[Word], n: usize, t: usize) -> &[Word]
     requires { ⌜ t * n + n ≤ length (now samples) ⌝ }
-    ensures { λ r. ⌜ now r ≡ traceIn (now (samples .entry)) n t ⌝ }
+    ensures { λ r. ⌜ samplesOf (now r) ≡ traceIn (now (samples .entry)) n t ⌝ }
 {
     let a = t * n;
     let e = a + n;
@@ -27,10 +28,11 @@ pub fn trace_at(samples: &[Sample], n: usize, t: usize) -> &[Sample]
 }
 
 // Both figures on the samples `first` to `last`.
-pub fn figures_on(trace: &[Sample], first: usize, last: usize) -> segment::figures::Figures
+pub fn figures_on(trace: &[Word], first: usize, last: usize) -> segment::figures::Figures
     requires { ⌜ RunOf (length (now trace)) first last ⌝ }
-    ensures sum { λ r. ⌜ (r .sum ≡ sumOn (run first last) (now (trace .entry))) × (natAbs (r .sum) ≤ sumMost mostSamples) ⌝ }
-    ensures scatter { λ r. ⌜ (r .scatter ≡ scatterOn (run first last) (now (trace .entry))) × (r .scatter ≤ scatterMost mostSamples) ⌝ }
+    ensures sum { λ r. ⌜ (r .sum ≡ sumOn (run first last) (samplesOf (now (trace .entry)))) × (natAbs (r .sum) ≤ sumMost mostSamples) ⌝ }
+    ensures scatter { λ r. ⌜ (r .scatter ≡ scatterOn (run first last) (samplesOf (now (trace .entry))))
+        × (r .scatter ≤ scatterMost mostSamples) ⌝ }
 {
     let before = first - 1;
     segment::figures::figures_of(&trace[before..last])
@@ -51,14 +53,14 @@ pub fn is_left(sum: i64, scatter: u64, by_scatter: bool, threshold: i64) -> bool
 
 // Whether a trace goes left by a test.
 pub fn goes_left(
-    trace: &[Sample],
+    trace: &[Word],
     first: usize,
     last: usize,
     by_scatter: bool,
     threshold: i64,
 ) -> bool
     requires { ⌜ RunOf (length (now trace)) first last ⌝ }
-    ensures { λ r. ⌜ r ≡ goesLeft (testBy first last «by_scatter» threshold) (now (trace .entry)) ⌝ }
+    ensures { λ r. ⌜ r ≡ goesLeft (testBy first last «by_scatter» threshold) (samplesOf (now (trace .entry))) ⌝ }
 {
     let own = figures_on(trace, first, last);
     is_left(own.sum, own.scatter, by_scatter, threshold)

@@ -1,7 +1,7 @@
 // The test that every call on made tables begins with, in the table's order: a short control record (2), its measures (3), another short
 // table (2), spoiled tables (3). What else a call refuses comes behind it.
 
-use segment::Sample;
+use segment::Word;
 use tables::Refusal;
 use tables::Verdict;
 use tables::control::field;
@@ -18,7 +18,7 @@ ghost use Rattle.tables.specs.Answers.{foundBy, madeConditions};
 // Tables of any lengths and contents. Contents are tested only if lengths and measures refuse nothing.
 pub fn judge_tables(
     control: &[u16],
-    samples: &[Sample],
+    samples: &[Word],
     nodes: &[i64],
     links: &[u16],
     work: &[u64],

@@ -9,7 +9,7 @@ use mir.Val.{SFits}
 use mir.Facts.{toZ-ofZ}
 use Rattle.integer.specs.Words.{square}
 use Rattle.integer.proofs.Width.{of-mag}
-use Rattle.segment.proofs.Steps.{sampleWidth}
+use Rattle.segment.proofs.Steps.{read-word}
 use Rattle.prefixes.proofs.Passed.{Passed, passed-none, sum-size, squares-size, passed-more, passed-all}
 use Rattle.prefixes.proofs.prefix_sums.Statement.{statement}
 use Rattle.prefixes.proofs.prefix_sums.Tie as tie
@@ -39,14 +39,13 @@ loop-again : tie.Need-loop-again Inv-loop μ-loop
 loop-again c =
     let s = c .before .before .before .before .before .before .before .before in
     let l = c .before .before .before .before .before .before .before .loop in
-    let x = getD (s .args .trace .now) (l .i) (pos 0) in
+    let here = read-word (s .args .trace .now) (l .i) (c .before .with-square-arg2 .given) in
     let a = getD (l .sums) (l .i) (pos 0) in
-    let here : SFits sampleWidth x = of-mag {w = sampleWidth} x (c .before .with-square-arg2 .given) in
     let sum : SFits w64 a = of-mag {w = w64} a (c .before .before .before .before .before .with-sample-arg .given) in
     let t = c .before .before .before .with-sample in
-    passed-more (l .inv) (s .pre .0) (c .before .before .before .before .before .before .loop-test .taken) (c .before .with-square-arg2 .given) _ _
-    (toZ-ofZ (of-mag {w = w64} (t .result) (t .ok)) ∙ (t .ensures ∙ ap₂ _+ℤ_ (toZ-ofZ sum) (toZ-ofZ here)))
-    (c .with-square .ensures ∙ ap (λ (z : ℤ). getD (l .squares) (l .i) 0 + square z) (toZ-ofZ here))
+    passed-more (l .inv) (s .pre .0) (c .before .before .before .before .before .before .loop-test .taken) _ _
+    (toZ-ofZ (of-mag {w = w64} (t .result) (t .ok)) ∙ (t .ensures ∙ ap₂ _+ℤ_ (toZ-ofZ sum) here))
+    (c .with-square .ensures ∙ ap (λ (z : ℤ). getD (l .squares) (l .i) 0 + square z) here)
 
 returns : tie.Need-returns Inv-loop μ-loop
 returns c =

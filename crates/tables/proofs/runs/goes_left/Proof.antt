@@ -8,6 +8,7 @@ use mir.Syntax.{w64}
 use mir.Facts.{toZ-ofZ}
 use Rattle.integer.specs.Words.{if_then_else_}
 use Rattle.integer.proofs.Width.{of-mag, read}
+use Rattle.segment.specs.Stored.{samplesOf}
 use Rattle.segment.specs.Roots.{floorRoot}
 use Rattle.tables.proofs.Compared.{left-is}
 use Rattle.tables.proofs.runs.goes_left.Statement.{statement}
@@ -30,7 +31,7 @@ returns c =
     let g = f .figures-on in
     c .is-left .ensures
     ∙ ap₂ (λ (s t : ℤ). leZ (pos 2 *ℤ (if a .by-scatter then pos (floorRoot (g .result .scatter)) else s)) t) (sum-read (c .before)) (toZ-ofZ (f .before .fits .threshold))
-    ∙ left-is (a .first) (a .last) (now (a .trace)) (g .ensures .0 .0) (g .ensures .1 .0) (a .by-scatter) (a .threshold)
+    ∙ left-is (a .first) (a .last) (samplesOf (now (a .trace))) (g .ensures .0 .0) (g .ensures .1 .0) (a .by-scatter) (a .threshold)
 
 pub goes-left-spec : {M : Type 1} → statement M
 goes-left-spec = tie.close (tie.spec figures-on-requires is-left-requires returns)

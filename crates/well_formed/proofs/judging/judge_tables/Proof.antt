@@ -13,6 +13,7 @@ use Rattle.tables.specs.View.{wellFormed}
 use Rattle.tables.specs.Judge.{lentConditionsOf}
 use Rattle.tables.specs.Answers.{wordOf, foundBy, madeConditions}
 use Rattle.tables.proofs.Judged.{lends}
+use Rattle.tables.proofs.Samples.{made-is}
 use Rattle.well_formed.proofs.Refused.{by-contents, refused-first}
 use Rattle.well_formed.proofs.judging.judge_tables.Statement.{statement}
 use Rattle.well_formed.proofs.judging.judge_tables.Tie as tie
@@ -51,11 +52,12 @@ unfolding foundBy wordOf firstOf
 returns c = let w = c .before in rw (contents (w .before), ← w .well-formed .ensures, not-true (w .well-formed .result) (c .if1 .taken))
 
 returns-2 : tie.Need-returns-2
-unfolding foundBy madeConditions
+unfolding foundBy
 returns-2 c =
     let j = c .before .before .before in
     let t = lentTables (start j) in
-    refused-first (lentConditionsOf (lentOf t) (measuresOf t)) (not (wellFormed t) refuses word.spoiled ∷ []) _ (found j ∙ ap foundBy (c .before .lent .given .1))
+    refused-first (lentConditionsOf (lentOf t) (measuresOf t)) (not (wellFormed t) refuses word.spoiled ∷ []) _
+    (found j ∙ ap foundBy (c .before .lent .given .1)) ∙ ap firstOf (sym (made-is t))
 
 returns-3 : tie.Need-returns-3
 unfolding foundBy firstOf

@@ -1,3 +1,4 @@
 pub mod Conditions
+pub mod Sized
 pub mod Ready
 pub mod Joins

@@ -1,7 +1,7 @@
 // A stored trace joins the tree: the first one makes leaf 0, a later one goes down, joins a leaf, and leaves above the leaf size split.
 // Its samples stand behind those of the traces before it.
 
-use segment::Sample;
+use segment::Word;
 use tables::control::field;
 use tables::numbers::wide;
 use tables::places::FIRST;
@@ -12,6 +12,7 @@ ghost use mathlib.Core.Path.{_≡_};
 ghost use mathlib.Core.List.{[]};
 ghost use Prim.Native.Nat.{_≤_, _<_};
 ghost use lib.ListN.{length, set};
+ghost use Rattle.segment.specs.Stored.{samplesOf};
 ghost use Rattle.tables.specs.Layout.{controlFields, traceCountPlace, nodeCountPlace};
 ghost use Rattle.tables.specs.Tables as t;
 ghost use Rattle.tables.specs.Tables.{tables};
@@ -22,16 +23,17 @@ ghost use Rattle.adding.specs.Putting.{Takes};
 // A later trace. The answer is how many nodes there are then.
 pub fn insert_more(
     control: &[u16],
-    samples: &[Sample],
+    samples: &[Word],
     nodes: &mut [i64],
     links: &mut [u16],
-    trace: &[Sample],
+    trace: &[Word],
 ) -> usize
-    requires { ⌜ Takes (now control) (now samples) (now nodes) (now links) (now trace)
-        × (traceIn (now samples) (length (now trace)) (t.field (now control) traceCountPlace) ≡ now trace)
+    requires { ⌜ Takes (now control) (now samples) (now nodes) (now links) (samplesOf (now trace))
+        × (traceIn (now samples) (length (now trace)) (t.field (now control) traceCountPlace) ≡ samplesOf (now trace))
         × (0 < t.field (now control) nodeCountPlace) ⌝ }
     ensures { λ r. ⌜ treeTables (now (nodes .exit)) (now (links .exit)) r ≡ treeTablesAfter
-        (tables (now (control .entry)) (now (samples .entry)) (now (nodes .entry)) (now (links .entry)) []) (now (trace .entry)) ⌝ }
+        (tables (now (control .entry)) (now (samples .entry)) (now (nodes .entry)) (now (links .entry)) [])
+        (samplesOf (now (trace .entry))) ⌝ }
 {
     let k = wide(field(control, TRACE_COUNT));
     let leaf_size = wide(field(control, LEAF_SIZE));
@@ -47,15 +49,16 @@ pub fn insert_more(
 // Any trace: with no node yet, it makes leaf 0.
 pub fn insert(
     control: &[u16],
-    samples: &[Sample],
+    samples: &[Word],
     nodes: &mut [i64],
     links: &mut [u16],
-    trace: &[Sample],
+    trace: &[Word],
 ) -> usize
-    requires { ⌜ Takes (now control) (now samples) (now nodes) (now links) (now trace)
-        × (traceIn (now samples) (length (now trace)) (t.field (now control) traceCountPlace) ≡ now trace) ⌝ }
+    requires { ⌜ Takes (now control) (now samples) (now nodes) (now links) (samplesOf (now trace))
+        × (traceIn (now samples) (length (now trace)) (t.field (now control) traceCountPlace) ≡ samplesOf (now trace)) ⌝ }
     ensures { λ r. ⌜ treeTables (now (nodes .exit)) (now (links .exit)) r ≡ treeTablesAfter
-        (tables (now (control .entry)) (now (samples .entry)) (now (nodes .entry)) (now (links .entry)) []) (now (trace .entry)) ⌝ }
+        (tables (now (control .entry)) (now (samples .entry)) (now (nodes .entry)) (now (links .entry)) [])
+        (samplesOf (now (trace .entry))) ⌝ }
 {
     if field(control, NODE_COUNT) == 0 {
         insertion::heads::first_leaf(nodes, links, trace);

@@ -1,9 +1,12 @@
-// What adding refuses: what every call on made tables does, then a trace of another length (4), then a full library (5).
+// What adding refuses: what every call on made tables does, then a trace of another length (4), samples outside the limits (15), and last a
+// full library (5).
 
 use segment::Sample;
+use segment::Word;
 use tables::Refusal;
 use tables::Verdict;
 use tables::control::field;
+use tables::given::are_samples;
 use tables::numbers::wide;
 use tables::places::CAPACITY;
 use tables::places::N;
@@ -19,7 +22,7 @@ ghost use Rattle.calls.specs.Effects.{adds};
 // Whatever the trace's label is.
 pub fn judge(
     control: &[u16],
-    samples: &[Sample],
+    samples: &[Word],
     nodes: &[i64],
     links: &[u16],
     work: &[u64],
@@ -40,6 +43,10 @@ pub fn judge(
             let full = k == capacity;
             if wrong {
                 return Verdict::Refused(Refusal::WrongTrace);
+            }
+            let outside = !are_samples(trace);
+            if outside {
+                return Verdict::Refused(Refusal::SampleRange);
             }
             if full {
                 return Verdict::Refused(Refusal::Full);

@@ -5,6 +5,7 @@ pub mod inserting; // a stored trace joins the tree
 pub mod putting; // a trace put into tables that refuse nothing
 
 use segment::Sample;
+use segment::Word;
 use tables::Refusal;
 use tables::Verdict;
 use tables::control::field;
@@ -34,7 +35,7 @@ pub enum Added {
 // before a trace of another length.
 pub fn add_with(
     control: &mut [u16],
-    samples: &mut [Sample],
+    samples: &mut [Word],
     nodes: &mut [i64],
     links: &mut [u16],
     work: &[u64],
@@ -54,7 +55,7 @@ pub fn add_with(
         Verdict::Fine => {
             let k = wider(field(control, TRACE_COUNT));
             store(labels, k as usize, place);
-            putting::put(control, samples, nodes, links, trace);
+            putting::put_given(control, samples, nodes, links, trace);
             Added::At(k)
         }
     }
@@ -66,7 +67,7 @@ pub fn add_with(
 // the labels of all traces.
 pub fn add(
     control: &mut [u16],
-    samples: &mut [Sample],
+    samples: &mut [Word],
     nodes: &mut [i64],
     links: &mut [u16],
     work: &[u64],
@@ -88,7 +89,7 @@ pub fn add(
 // half of the serial alone.
 pub fn add_labelled(
     control: &mut [u16],
-    samples: &mut [Sample],
+    samples: &mut [Word],
     nodes: &mut [i64],
     links: &mut [u16],
     work: &[u64],

@@ -4,7 +4,7 @@ use crate::siding::list_side;
 use leaf_figures::ends::Ends;
 use leaf_figures::ends::with_cut;
 use leaf_figures::spread::spread_along;
-use segment::Sample;
+use segment::Word;
 ghost use mathlib.Core.Path.{_≡_};
 ghost use Prim.Native.Nat.{_+_, _*_, _<_, _≤_};
 ghost use lib.IntN.{pos, _-ℤ_};
@@ -44,7 +44,7 @@ pub fn child_ends(e: Ends, cut: usize) -> Ends
 
 // The spread of one side of a trial, over the children's ends. `side` is room for the side's list.
 fn side_spread(
-    samples: &[Sample],
+    samples: &[Word],
     n: usize,
     list: &[u16; 4096],
     count: usize,
@@ -110,7 +110,7 @@ fn halved_by(column: usize) -> usize {
 // The gain of the candidate on a run with this threshold: the spread of each of its sides is over the children's ends. `side` is room for a
 // side's list. k, how many traces are stored, is for the contract alone.
 pub fn gain_of(
-    samples: &[Sample],
+    samples: &[Word],
     n: usize,
     k: usize,
     list: &[u16; 4096],

@@ -1,5 +1,5 @@
 // The sides that a test parts a leaf's traces into, as marks.
-use segment::Sample;
+use segment::Word;
 ghost use mathlib.Core.Path.{_≡_};
 ghost use mathlib.Core.List.{[]};
 ghost use Prim.Native.Nat.{ℕ};
@@ -14,7 +14,7 @@ ghost use Rattle.candidate.specs.Marking.{sideMark, marksBy};
 
 // 1 if trace t goes left, and 2 if it goes right.
 pub fn side_of(
-    samples: &[Sample],
+    samples: &[Word],
     n: usize,
     t: usize,
     first: usize,
@@ -35,7 +35,7 @@ pub fn side_of(
 
 // The leaf's traces marked by their sides. Marks of other traces stay.
 pub fn mark_sides(
-    samples: &[Sample],
+    samples: &[Word],
     links: &[u16],
     n: usize,
     k: usize,

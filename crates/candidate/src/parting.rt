@@ -2,7 +2,7 @@
 use crate::siding::Trial;
 use crate::siding::goes_left_at;
 use leaf_figures::rows::column_of;
-use segment::Sample;
+use segment::Word;
 use tables::numbers::wide;
 ghost use mathlib.Core.Path.{_≡_};
 ghost use Prim.Native.Nat.{ℕ, _<_};
@@ -25,7 +25,7 @@ pub struct Look {
 
 // Whether the listed trace at place i goes left. k, how many traces are stored, is for the contract alone.
 fn goes_listed(
-    samples: &[Sample],
+    samples: &[Word],
     n: usize,
     k: usize,
     list: &[u16; 4096],
@@ -65,7 +65,7 @@ fn goes_listed(
 // The listed traces in their order, which is by rising number, until one goes to the other side than the first: that one is the last to be
 // taken. If none does, all are taken.
 pub fn look_along(
-    samples: &[Sample],
+    samples: &[Word],
     n: usize,
     k: usize,
     list: &[u16; 4096],
@@ -136,7 +136,7 @@ pub fn look_along(
 // Whether a candidate parts the leaf, by its least and its greatest figure and the walk with their sum as threshold. Where the two are the
 // same, every trace goes left: then the walk would take all and see one side, and is spared.
 pub fn look_at(
-    samples: &[Sample],
+    samples: &[Word],
     n: usize,
     k: usize,
     list: &[u16; 4096],

@@ -2,7 +2,7 @@
 
 use leaf_figures::rows::column_of;
 use leaf_figures::rows::figures_at;
-use segment::Sample;
+use segment::Word;
 use tables::numbers::wide;
 use tables::runs::is_left;
 ghost use mathlib.Core.Path.{_≡_};
@@ -27,7 +27,7 @@ pub struct Trial {
 
 // Whether trace t goes left, by its figures from the table.
 pub fn goes_left_at(
-    samples: &[Sample],
+    samples: &[Word],
     n: usize,
     place: &[u16],
     sums: &[i64],
@@ -61,7 +61,7 @@ fn counted(count: usize, left: bool, goes: bool) -> usize
 
 // The list's traces on one side of a test, in the list's order. The answer is how many there are; places behind them are not looked at.
 pub fn list_side(
-    samples: &[Sample],
+    samples: &[Word],
     n: usize,
     list: &[u16; 4096],
     count: usize,

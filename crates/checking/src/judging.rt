@@ -1,6 +1,6 @@
 // What the check refuses: what every call on made tables does, then a loose record (13).
 
-use segment::Sample;
+use segment::Word;
 use tables::Refusal;
 use tables::Verdict;
 use well_formed::judging::judge_tables;
@@ -12,7 +12,7 @@ ghost use Rattle.calls.specs.Effects.{checks};
 
 pub fn judge(
     control: &[u16],
-    samples: &[Sample],
+    samples: &[Word],
     nodes: &[i64],
     links: &[u16],
     work: &[u64],

@@ -5,7 +5,7 @@ pub mod sizes; // how many traces are below each node
 pub mod order; // the traces below every node, in one array
 pub mod judging; // what the check refuses
 
-use segment::Sample;
+use segment::Word;
 use tables::Refusal;
 use tables::Verdict;
 use tables::control::field;
@@ -34,7 +34,7 @@ pub enum Checked {
 
 // Of tables that are well formed and long enough. Each sample is taken once for its leaf, and once more for each node on the way up in
 // which its segment of the parent is cut: 16 times at most, as a record has 16 segments at most. Lists and places are the call's own.
-pub fn is_exact(control: &[u16], samples: &[Sample], nodes: &[i64], links: &[u16]) -> bool
+pub fn is_exact(control: &[u16], samples: &[Word], nodes: &[i64], links: &[u16]) -> bool
     requires { ⌜ T (wellFormed (tables (now control) (now samples) (now nodes) (now links) []))
         × Long (tables (now control) (now samples) (now nodes) (now links) []) ⌝ }
     ensures { λ r. ⌜ r ≡ isExact (tracesIn (tables (now (control .entry)) (now (samples .entry)) (now (nodes .entry))
@@ -59,7 +59,7 @@ pub fn is_exact(control: &[u16], samples: &[Sample], nodes: &[i64], links: &[u16
 // one that looks at leaves only.
 pub fn check_tables(
     control: &[u16],
-    samples: &[Sample],
+    samples: &[Word],
     nodes: &[i64],
     links: &[u16],
     work: &[u64],

@@ -2,7 +2,7 @@
 
 use leaf_figures::sides::SideRange;
 use leaf_figures::sides::widened;
-use segment::Sample;
+use segment::Word;
 use segment_bound::terms::larger;
 use tables::numbers::greater;
 use tables::numbers::lesser;
@@ -42,13 +42,7 @@ ghost use Rattle.leaf_figures.specs.Sides.{segmentBy};
 ghost use Rattle.figures_below.specs.Compared.{joinedFigures, firstOn, tracesUnder, exactIn, ReadyAt, AboveExact};
 
 // Of the traces whose numbers are listed.
-fn listed_figures(
-    samples: &[Sample],
-    n: usize,
-    list: &[u16],
-    first: usize,
-    last: usize,
-) -> SideRange
+fn listed_figures(samples: &[Word], n: usize, list: &[u16], first: usize, last: usize) -> SideRange
     requires { ⌜ (n ≤ mostSamples) × Inside n first last × (length (now list) ≤ mostTraces)
         × ((t : ℕ) → In t (now list) → t * n + n ≤ length (now samples)) ⌝ }
     ensures { λ r. ⌜ segmentBy last r ≡ segmentOf (tracesAt (now (samples .entry)) n (now (list .entry))) (run first last) ⌝ }
@@ -72,7 +66,7 @@ fn listed_figures(
 
 // Of the traces below node j, from their samples.
 fn figures_below(
-    samples: &[Sample],
+    samples: &[Word],
     nodes: &[i64],
     n: usize,
     sizes: &[u16; 8192],
@@ -143,7 +137,7 @@ fn segment_on(record: &[i64], first: usize, last: usize) -> usize
 
 // Of the traces below node c, whose record has exactly their figures: from that record where it has the segment, else from the samples.
 fn child_figures(
-    samples: &[Sample],
+    samples: &[Word],
     nodes: &[i64],
     n: usize,
     sizes: &[u16; 8192],
@@ -169,7 +163,7 @@ fn child_figures(
 
 // Of the traces below node j: a leaf's from their samples, an inner node's by its children.
 pub fn node_figures(
-    samples: &[Sample],
+    samples: &[Word],
     nodes: &[i64],
     n: usize,
     sizes: &[u16; 8192],

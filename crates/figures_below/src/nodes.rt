@@ -3,7 +3,7 @@
 use crate::figures::node_figures;
 use crate::figures::recorded;
 use leaf_figures::sides::SideRange;
-use segment::Sample;
+use segment::Word;
 use tables::places::HEAD;
 use tables::places::SEGMENT;
 use tables::places::SEGMENTS;
@@ -35,7 +35,7 @@ fn same_figures(a: SideRange, b: SideRange) -> bool
 
 // Node j, all nodes above it having been found exact.
 fn node_exact(
-    samples: &[Sample],
+    samples: &[Word],
     nodes: &[i64],
     n: usize,
     sizes: &[u16; 8192],
@@ -66,7 +66,7 @@ fn node_exact(
 
 // Every one of m nodes, the last one first: children are numbered above their parent, so that they come before it.
 pub fn all_exact(
-    samples: &[Sample],
+    samples: &[Word],
     nodes: &[i64],
     n: usize,
     m: usize,

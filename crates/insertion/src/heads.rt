@@ -1,6 +1,6 @@
 // The heads of records: a leaf's, an inner node's, and the first leaf of all.
 
-use segment::Sample;
+use segment::Word;
 use tables::places::FIRST;
 use tables::places::GREATEST_SCATTER;
 use tables::places::GREATEST_SUM;
@@ -22,6 +22,7 @@ ghost use mathlib.Core.List.{_∷_, [], _++_};
 ghost use Prim.Native.Nat.{_+_, _*_, _≤_, _<_};
 ghost use lib.ListN.{length, drop, set};
 ghost use Rattle.segment.specs.Limits.{scatterRoom};
+ghost use Rattle.segment.specs.Stored.{samplesOf};
 ghost use Rattle.dstree.specs.Measures.{mostSamples, mostNodes};
 ghost use Rattle.dstree.specs.Adding.{segmentsOf};
 ghost use Rattle.dstree.specs.Node.{mostSegments};
@@ -109,9 +110,10 @@ pub fn write_segment(
 }
 
 // The record of a leaf with the first trace alone, and one segment. Least and greatest are that trace's own figures.
-fn first_record(record: &mut [i64], trace: &[Sample])
+fn first_record(record: &mut [i64], trace: &[Word])
     requires { ⌜ (length (now «record») ≡ recordPlaces) × (length (now trace) ≤ mostSamples) ⌝ }
-    ensures { λ _. ⌜ now («record» .exit) ≡ leafRecord (segmentsOf (length (now (trace .entry)) ∷ []) (now (trace .entry) ∷ [])) 0 ⌝ }
+    ensures { λ _. ⌜ now («record» .exit)
+        ≡ leafRecord (segmentsOf (length (now (trace .entry)) ∷ []) (samplesOf (now (trace .entry)) ∷ [])) 0 ⌝ }
 {
     tables::loops::zero_nodes(record, RECORD_PLACES);
     write_leaf_head(record, 1, 0);
@@ -121,10 +123,11 @@ fn first_record(record: &mut [i64], trace: &[Sample])
 }
 
 // The first trace makes leaf 0 with one segment, and its list is trace 0 alone.
-pub fn first_leaf(nodes: &mut [i64], links: &mut [u16], trace: &[Sample])
+pub fn first_leaf(nodes: &mut [i64], links: &mut [u16], trace: &[Word])
     requires { ⌜ (recordPlaces ≤ length (now nodes)) × (1 ≤ length (now links)) × (length (now trace) ≤ mostSamples) ⌝ }
     ensures { λ _. ⌜ now (nodes .exit)
-        ≡ withRecord (now (nodes .entry)) 0 (leafRecord (segmentsOf (length (now (trace .entry)) ∷ []) (now (trace .entry) ∷ [])) 0) ⌝ }
+        ≡ withRecord (now (nodes .entry)) 0
+        (leafRecord (segmentsOf (length (now (trace .entry)) ∷ []) (samplesOf (now (trace .entry)) ∷ [])) 0) ⌝ }
     ensures linked { λ _. ⌜ now (links .exit) ≡ set (now (links .entry)) 0 0 ⌝ }
 {
     let a = record_start(0);

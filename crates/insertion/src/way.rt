@@ -1,7 +1,7 @@
 // The way down by the tests, and the widening of the nodes that are met.
 
 use crate::widening::widen_record;
-use segment::Sample;
+use segment::Word;
 use tables::places::FIRST;
 use tables::places::KIND;
 use tables::places::RIGHT;
@@ -18,6 +18,7 @@ ghost use mathlib.Core.Path.{_≡_};
 ghost use Prim.Native.Nat.{_≤_};
 ghost use lib.ListN.{length};
 ghost use Rattle.integer.specs.Words.{if_then_else_, lastOf};
+ghost use Rattle.segment.specs.Stored.{samplesOf};
 ghost use Rattle.dstree.specs.Node.{goesLeft};
 ghost use Rattle.tables.specs.Layout.{kindPlace, recordPlaces};
 ghost use Rattle.tables.specs.View.{smallAt, testIn};
@@ -26,9 +27,9 @@ ghost use Rattle.insertion_memory.specs.Memory.{widenedOn};
 ghost use Rattle.insertion.specs.Way.{figureIn, nextIn, orZero, wayIn, TestReadable, Descendable};
 
 // Whether a trace goes left at an inner node's record.
-pub fn goes_left(record: &[i64], trace: &[Sample], sums: &[i64; 257], squares: &[u64; 257]) -> bool
-    requires { ⌜ Prefixes (now trace) (now sums) (now squares) × TestReadable (now «record») (length (now trace)) ⌝ }
-    ensures { λ r. ⌜ r ≡ goesLeft (testIn (now («record» .entry)) (figureIn (now («record» .entry)))) (now (trace .entry)) ⌝ }
+pub fn goes_left(record: &[i64], trace: &[Word], sums: &[i64; 257], squares: &[u64; 257]) -> bool
+    requires { ⌜ Prefixes (samplesOf (now trace)) (now sums) (now squares) × TestReadable (now «record») (length (now trace)) ⌝ }
+    ensures { λ r. ⌜ r ≡ goesLeft (testIn (now («record» .entry)) (figureIn (now («record» .entry)))) (samplesOf (now (trace .entry))) ⌝ }
 {
     let by_scatter = small_at(record, KIND) == 2;
     let first = small_at(record, RUN_FIRST);
@@ -49,11 +50,11 @@ fn either(test: bool, a: usize, b: usize) -> usize
 }
 
 // The child that a trace goes to from a record. It is 0 at a leaf: no node has node 0 for a child.
-pub fn next_of(record: &[i64], trace: &[Sample], sums: &[i64; 257], squares: &[u64; 257]) -> usize
-    requires { ⌜ Prefixes (now trace) (now sums) (now squares) ⌝ }
+pub fn next_of(record: &[i64], trace: &[Word], sums: &[i64; 257], squares: &[u64; 257]) -> usize
+    requires { ⌜ Prefixes (samplesOf (now trace)) (now sums) (now squares) ⌝ }
     requires readable { ⌜ (length (now «record») ≡ recordPlaces) × (smallAt (now «record») kindPlace ≤ 2)
         × (1 ≤ smallAt (now «record») kindPlace → TestReadable (now «record») (length (now trace))) ⌝ }
-    ensures { λ r. ⌜ r ≡ orZero (nextIn (now («record» .entry)) (now (trace .entry))) ⌝ }
+    ensures { λ r. ⌜ r ≡ orZero (nextIn (now («record» .entry)) (samplesOf (now (trace .entry)))) ⌝ }
 {
     let kind = small_at(record, KIND);
     if kind == 0 {
@@ -69,14 +70,15 @@ pub fn next_of(record: &[i64], trace: &[Sample], sums: &[i64; 257], squares: &[u
 fn descend_by(
     nodes: &mut [i64],
     count: usize,
-    trace: &[Sample],
+    trace: &[Word],
     sums: &[i64; 257],
     squares: &[u64; 257],
 ) -> usize
-    requires { ⌜ Descendable (now nodes) count (length (now trace)) × Prefixes (now trace) (now sums) (now squares) ⌝ }
-    ensures { λ r. ⌜ r ≡ lastOf (wayIn (now (nodes .entry)) count (now (trace .entry))) ⌝ }
+    requires { ⌜ Descendable (now nodes) count (length (now trace)) × Prefixes (samplesOf (now trace)) (now sums) (now squares) ⌝ }
+    ensures { λ r. ⌜ r ≡ lastOf (wayIn (now (nodes .entry)) count (samplesOf (now (trace .entry)))) ⌝ }
     ensures widened { λ _. ⌜ now (nodes .exit)
-        ≡ widenedOn (now (trace .entry)) (now (nodes .entry)) (wayIn (now (nodes .entry)) count (now (trace .entry))) ⌝ }
+        ≡ widenedOn (samplesOf (now (trace .entry))) (now (nodes .entry))
+        (wayIn (now (nodes .entry)) count (samplesOf (now (trace .entry)))) ⌝ }
 {
     let mut at: usize = 0;
     loop {
@@ -93,11 +95,12 @@ fn descend_by(
 
 // Down from node 0 by the tests, widening every node met, the leaf too. The answer is the leaf's number. The trace's samples are looked at
 // once, whatever the number of nodes.
-pub fn descend(nodes: &mut [i64], count: usize, trace: &[Sample]) -> usize
+pub fn descend(nodes: &mut [i64], count: usize, trace: &[Word]) -> usize
     requires { ⌜ Descendable (now nodes) count (length (now trace)) ⌝ }
-    ensures { λ r. ⌜ r ≡ lastOf (wayIn (now (nodes .entry)) count (now (trace .entry))) ⌝ }
+    ensures { λ r. ⌜ r ≡ lastOf (wayIn (now (nodes .entry)) count (samplesOf (now (trace .entry)))) ⌝ }
     ensures widened { λ _. ⌜ now (nodes .exit)
-        ≡ widenedOn (now (trace .entry)) (now (nodes .entry)) (wayIn (now (nodes .entry)) count (now (trace .entry))) ⌝ }
+        ≡ widenedOn (samplesOf (now (trace .entry))) (now (nodes .entry))
+        (wayIn (now (nodes .entry)) count (samplesOf (now (trace .entry)))) ⌝ }
 {
     let mut sums: [i64; 257] = [0; 257];
     let mut squares: [u64; 257] = [0; 257];

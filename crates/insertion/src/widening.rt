@@ -1,7 +1,7 @@
 // A node's record widened by a trace: the least and the greatest of each segment's figures. The head is never written, so that no threshold
 // moves.
 
-use segment::Sample;
+use segment::Word;
 use tables::numbers::greater;
 use tables::numbers::lesser;
 use tables::places::HEAD;
@@ -13,6 +13,7 @@ use tables::records::small_at;
 ghost use mathlib.Core.Path.{_≡_};
 ghost use Prim.Native.Nat.{_+_, _<_};
 ghost use lib.ListN.{length};
+ghost use Rattle.segment.specs.Stored.{samplesOf};
 ghost use Rattle.dstree.specs.Figures.{run};
 ghost use Rattle.dstree.specs.Adding.{widenSegment};
 ghost use Rattle.dstree.specs.Node.{mostSegments};
@@ -36,16 +37,17 @@ pub fn widen_segment(
     record: &mut [i64],
     i: usize,
     first: usize,
-    trace: &[Sample],
+    trace: &[Word],
     sums: &[i64; 257],
     squares: &[u64; 257],
 )
-    requires { ⌜ Prefixes (now trace) (now sums) (now squares) ⌝ }
+    requires { ⌜ Prefixes (samplesOf (now trace)) (now sums) (now squares) ⌝ }
     requires readable { ⌜ (length (now «record») ≡ recordPlaces) × (i < mostSegments)
         × SegmentReadable (now «record») i first (length (now trace)) ⌝ }
     ensures { λ _. ⌜ now («record» .exit)
         ≡ withSegment (now («record» .entry)) i
-        (widenSegment (now (trace .entry)) (run first (endIn (now («record» .entry)) i)) (segmentIn (now («record» .entry)) i)) ⌝ }
+        (widenSegment (samplesOf (now (trace .entry))) (run first (endIn (now («record» .entry)) i))
+        (segmentIn (now («record» .entry)) i)) ⌝ }
 {
     let at = HEAD + i * SEGMENT;
     let end = small_at(record, at);
@@ -56,9 +58,9 @@ pub fn widen_segment(
 }
 
 // Every segment of a record.
-pub fn widen_record(record: &mut [i64], trace: &[Sample], sums: &[i64; 257], squares: &[u64; 257])
-    requires { ⌜ Prefixes (now trace) (now sums) (now squares) × Readable (now «record») (length (now trace)) ⌝ }
-    ensures { λ _. ⌜ now («record» .exit) ≡ widenRecord (now (trace .entry)) (now («record» .entry)) ⌝ }
+pub fn widen_record(record: &mut [i64], trace: &[Word], sums: &[i64; 257], squares: &[u64; 257])
+    requires { ⌜ Prefixes (samplesOf (now trace)) (now sums) (now squares) × Readable (now «record») (length (now trace)) ⌝ }
+    ensures { λ _. ⌜ now («record» .exit) ≡ widenRecord (samplesOf (now (trace .entry))) (now («record» .entry)) ⌝ }
 {
     let count = small_at(record, SEGMENTS);
     let mut first: usize = 1;

@@ -10,7 +10,8 @@ use lib.Seq.{set-append-left, paste}
 use lib.Dec.{T}
 use Rattle.integer.specs.Words.{lastOf}
 use Rattle.integer.proofs.Lists.{in-is}
-use Rattle.dstree.specs.Measures.{Trace, Measures, samplesNeeded}
+use Rattle.segment.specs.Stored.{wordsOf}
+use Rattle.dstree.specs.Measures.{Trace, Measures, sampleLimit, isTrace, samplesNeeded}
 use Rattle.dstree.specs.Node.{Tree, nodeAt}
 use Rattle.dstree.specs.Adding.{way, widenAll, join, segmentsOf}
 use Rattle.dstree.specs.Matching.{numbersIn}
@@ -32,7 +33,8 @@ use Rattle.insertion_memory.proofs.Meaning.{inserted-first, inserted-mo
 use Rattle.insertion_memory.proofs.Beginnings.{Agree, measures-same, traces-counted, nodes-counted, tree-same, traces-same, extended-agree}
 use Rattle.insertion_memory.proofs.Longer.{with-more, paste-more, joined-more, longer, widen-more, split-all-more}
 
-module _ (part more : Tables) (x : Trace) (w : T (wellFormed part)) (long : Long part) (size : length x ≡ measuresOf part .n) (less : traceCount part < measuresOf part .capacity) where
+module _ (part more : Tables) (x : Trace) (w : T (wellFormed part)) (long : Long part)
+    (is : T (isTrace sampleLimit (measuresOf part .n) x)) (less : traceCount part < measuresOf part .capacity) where
   abbrev n : ℕ
   n = measuresOf part .n
 
@@ -135,13 +137,14 @@ module _ (part more : Tables) (x : Trace) (w : T (wellFormed part)) (long : Long
       ap (λ (l : List ℕ). set l nodeCountPlace count) (set-append-left (part .control) (more .control) traceCountPlace (suc k) (omega (arith, long .control-long)))
       ∙ set-append-left (set (part .control) traceCountPlace (suc k)) (more .control) nodeCountPlace count (omega (arith, long .control-long, length-set (part .control) traceCountPlace (suc k)))
 
-  samples-more : paste (whole .samples) (traceCount whole * measuresOf whole .n) x (measuresOf whole .n) ≡ paste (part .samples) (k * n) x n ++ more .samples
+  samples-more : paste (whole .samples) (traceCount whole * measuresOf whole .n) (wordsOf x) (measuresOf whole .n)
+      ≡ paste (part .samples) (k * n) (wordsOf x) n ++ more .samples
   unfolding samplesNeeded
   samples-more =
       let g : suc k * n ≤ c * n = mul-le-mul-right n less in
-      ap (λ (j : ℕ). paste (whole .samples) (j * measuresOf whole .n) x (measuresOf whole .n)) (traces-counted same)
-      ∙ ap (λ (m : Measures). paste (whole .samples) (k * m .n) x (m .n)) (measures-same same)
-      ∙ paste-more (part .samples) (more .samples) x (k * n) n (omega (arith, g, long .samples-long))
+      ap (λ (j : ℕ). paste (whole .samples) (j * measuresOf whole .n) (wordsOf x) (measuresOf whole .n)) (traces-counted same)
+      ∙ ap (λ (m : Measures). paste (whole .samples) (k * m .n) (wordsOf x) (m .n)) (measures-same same)
+      ∙ paste-more (part .samples) (more .samples) (wordsOf x) (k * n) n (omega (arith, g, long .samples-long))
 
   pub added-extended : addedTo (extended part more) x ≡ extended (addedTo part x) more
   unfolding addedTo
@@ -159,14 +162,16 @@ module _ (part more : Tables) (x : Trace) (w : T (wellFormed part)) (long : Long
 -- ---- a memory and its first places
 
 -- what adding to the first places leaves in the memory is what adding to the memory does
-pub added-left : (part memory : Tables) (x : Trace) → Begins part memory → T (wellFormed part) → Long part → length x ≡ measuresOf part .n → traceCount part < measuresOf part .capacity
+pub added-left : (part memory : Tables) (x : Trace) → Begins part memory → T (wellFormed part) → Long part → T (isTrace sampleLimit (measuresOf part .n) x)
+    → traceCount part < measuresOf part .capacity
     → left (addedTo part x) memory ≡ addedTo memory x
-added-left part memory x b w long size less = by memory (restOf part memory) (begins-is part memory b)
+added-left part memory x b w long is less = by memory (restOf part memory) (begins-is part memory b)
   where
     by : (memory more : Tables) → memory ≡ extended part more → left (addedTo part x) memory ≡ addedTo memory x
-    by memory more e = rw e (left-extended part (addedTo part x) more (meaning part x w long size less .lengths-stay) ∙ sym (added-extended part more x w long size less))
+    by memory more e = rw e (left-extended part (addedTo part x) more (meaning part x w long is less .lengths-stay) ∙ sym (added-extended part more x w long is less))
 
 -- adding to a memory does to its first places what adding to these alone does
-pub added-begins : (part memory : Tables) (x : Trace) → Begins part memory → T (wellFormed part) → Long part → length x ≡ measuresOf part .n → traceCount part < measuresOf part .capacity
+pub added-begins : (part memory : Tables) (x : Trace) → Begins part memory → T (wellFormed part) → Long part → T (isTrace sampleLimit (measuresOf part .n) x)
+    → traceCount part < measuresOf part .capacity
     → Begins (addedTo part x) (addedTo memory x)
-added-begins part memory x b w long size less = subst (λ (t : Tables). Begins (addedTo part x) t) (added-left part memory x b w long size less) (left-begins (addedTo part x) memory)
+added-begins part memory x b w long is less = subst (λ (t : Tables). Begins (addedTo part x) t) (added-left part memory x b w long is less) (left-begins (addedTo part x) memory)

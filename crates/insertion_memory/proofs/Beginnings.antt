@@ -13,6 +13,7 @@ use mir.Facts.{yes-and, and-yes}
 use Rattle.integer.specs.Words.{counting}
 use Rattle.integer.proofs.Lists.{in-is, every-of, from-counting, map-agree}
 use Rattle.integer.proofs.Rows.{table-is}
+use Rattle.segment.specs.Stored.{samplesOf}
 use Rattle.dstree.specs.Measures.{Trace, Measures, sampleLimit, samplesNeeded, recordsNeeded, linksNeeded}
 use Rattle.dstree.specs.Node.{leaf, node, Tree, nodeAt}
 use Rattle.dstree.specs.WellFormed as abstract
@@ -144,7 +145,7 @@ module _ (part more : Tables) (long : Long part) where
   extended-agree = record {
     control-agrees = λ i h. List·getD-append (part .control) (more .control) 0 i (omega (arith, h, long .control-long));
     samples-agree = λ i h. let g : suc i * measuresOf part .n ≤ measuresOf part .capacity * measuresOf part .n = mul-le-mul-right (measuresOf part .n) h in
-        part-more (measuresOf part .n) (part .samples) (more .samples) i (omega (arith, g, long .samples-long));
+        ap samplesOf (part-more (measuresOf part .n) (part .samples) (more .samples) i (omega (arith, g, long .samples-long)));
     nodes-agree = λ j h. record-more (part .nodes) (more .nodes) j (record-inside (2 * measuresOf part .capacity - 1) j (part .nodes) (long .nodes-long) h);
     links-agree = λ i h. List·getD-append (part .links) (more .links) 0 i (omega (arith, h, long .links-long));
   }

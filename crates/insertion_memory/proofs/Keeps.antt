@@ -27,16 +27,15 @@ use Rattle.insertion_memory.proofs.Meaning.{AfterAdding, meaning, well-
 use Rattle.insertion_memory.proofs.Made.{count-is, long-after}
 
 -- adding keeps tables well formed
-pub keeps-well-formed : (t : Tables) (x : Trace) → T (wellFormed t) → Long t → length x ≡ measuresOf t .n
-    → traceCount t < measuresOf t .capacity → T (every (isTrace sampleLimit (measuresOf t .n)) (tracesIn t)) → T (isTrace sampleLimit (measuresOf t .n) x)
-    → T (wellFormed (addedTo t x))
-keeps-well-formed t x w long size room all is-trace =
+pub keeps-well-formed : (t : Tables) (x : Trace) → T (wellFormed t) → Long t → T (isTrace sampleLimit (measuresOf t .n) x)
+    → traceCount t < measuresOf t .capacity → T (every (isTrace sampleLimit (measuresOf t .n)) (tracesIn t)) → T (wellFormed (addedTo t x))
+keeps-well-formed t x w long is-trace room all =
     let m : Measures = measuresOf t in
     let f : Formed sampleLimit m (length (tracesIn t)) (treeIn t) = subst (λ (k : ℕ). Formed sampleLimit m k (treeIn t)) (count-is t) (facts t w) in
     let g : Formed sampleLimit m (length (tracesIn t ++ (x ∷ []))) (insertion m (tracesIn t) (treeIn t) x) =
     insertion-formed sampleLimit m (tracesIn t) (treeIn t) x f (omega (arith, count-is t)) all is-trace in
     let e : length (tracesIn t ++ (x ∷ [])) ≡ suc (traceCount t) = omega (arith, count-is t, length-append (tracesIn t) (x ∷ [])) in
-    well-formed-after t x w long size room (subst (λ (k : ℕ). T (abstract.wellFormedTree sampleLimit m k (insertion m (tracesIn t) (treeIn t) x))) e (well-formed g))
+    well-formed-after t x w long is-trace room (subst (λ (k : ℕ). T (abstract.wellFormedTree sampleLimit m k (insertion m (tracesIn t) (treeIn t) x))) e (well-formed g))
 
 more-traces : (is : Trace → Bool) (stored : List Trace) (x : Trace) → T (every is stored) → T (is x) → {y : Trace} → In y (stored ++ (x ∷ [])) → T (is y)
 more-traces is stored x all one {y} i = by (in-snoc stored i)
@@ -89,14 +88,14 @@ module _ {t : Tables} {x : Trace} {more : List Trace} (k : TakesAll t (x ∷ mor
   abbrev n : ℕ
   n = measuresOf t .n
 
-  first-is : T (isTrace sampleLimit n x)
+  pub first-is : T (isTrace sampleLimit n x)
   first-is = from-every (isTrace sampleLimit n) (x ∷ more) (k .each) first
 
   pub first-size : length x ≡ n
   first-size = trace-length sampleLimit n x first-is
 
   pub takes-first : AfterAdding t x
-  takes-first = meaning t x (k .formed) (k .long) first-size (omega (arith, k .room))
+  takes-first = meaning t x (k .formed) (k .long) first-is (omega (arith, k .room))
 
   -- the first of them is added, and the tables refuse nothing of the others
   pub takes-others : TakesAll (addedTo t x) more
@@ -109,7 +108,7 @@ module _ {t : Tables} {x : Trace} {more : List Trace} (k : TakesAll t (x ∷ mor
       let others : T (every (isTrace sampleLimit n) more) =
       every-of (isTrace sampleLimit n) more (λ y i. from-every (isTrace sampleLimit n) (x ∷ more) (k .each) (later i)) in
       record {
-        formed = keeps-well-formed t x (k .formed) (k .long) first-size (omega (arith, k .room)) (k .stored) first-is;
+        formed = keeps-well-formed t x (k .formed) (k .long) first-is (omega (arith, k .room)) (k .stored);
         long = long-after t x (k .long) a;
         room = omega (arith, k .room, a .trace-count, ap (λ (m : Measures). m .capacity) (a .measures-stay));
         stored = subst (λ (j : ℕ). T (every (isTrace sampleLimit j) (tracesIn (addedTo t x)))) same all;

@@ -15,7 +15,7 @@ use Rattle.dstree.specs.Measures.{Trace, Measures, sampleLimit, inRange, isTrac
 use Rattle.dstree.specs.Node.{Tree}
 use Rattle.dstree.specs.Adding.{insertion, grown, treeOf}
 use Rattle.dstree.specs.WellFormed as abstract
-use Rattle.dstree.proofs.Laws.{trace-length, shape}
+use Rattle.dstree.proofs.Laws.{shape}
 use Rattle.dstree.specs.Book.{Lent}
 use Rattle.tables.specs.Layout.{controlFields, recordPlaces}
 use Rattle.tables.specs.Tables.{Tables, lentOf, measuresOf, traceCount}
@@ -83,18 +83,19 @@ module _ (m : Measures) where
         ),
       )
 
-  -- tables that hold all but the last of a library's traces take that one: it has n samples, and there is room
+  -- tables that hold all but the last of a library's traces take that one: it has n samples within the limits, and there is room
   pub takes-more : (t : Tables) (traces : List Trace) (x : Trace) → Holds t m traces → T (isLibrary sampleLimit m (traces ++ (x ∷ [])))
-      → (length x ≡ measuresOf t .n) × (traceCount t < measuresOf t .capacity)
+      → T (isTrace sampleLimit (measuresOf t .n) x) × (traceCount t < measuresOf t .capacity)
   takes-more t traces x h library =
-      let size : length x ≡ m .n = trace-length sampleLimit (m .n) x (is-trace sampleLimit m traces (x ∷ []) library first) in
-      let counted : traceCount t ≡ length traces = count-is t ∙ ap length (h .traces-are) in
-      (size ∙ ap (λ (k : Measures). k .n) (sym (h .measures-are)), omega (arith, counted, room sampleLimit m traces (x ∷ []) library, ap (λ (k : Measures). k .capacity) (h .measures-are)))
+      let counted : traceCount t ≡ length traces = count-is t ∙ ap length (h .traces-are) in (
+        subst (λ (k : Measures). T (isTrace sampleLimit (k .n) x)) (sym (h .measures-are)) (is-trace sampleLimit m traces (x ∷ []) library first),
+        omega (arith, counted, room sampleLimit m traces (x ∷ []) library, ap (λ (k : Measures). k .capacity) (h .measures-are)),
+      )
 
   -- an adding to tables that hold some traces leaves tables that hold one more
   pub holds-more : (t : Tables) (traces : List Trace) (x : Trace) → Holds t m traces → T (isLibrary sampleLimit m (traces ++ (x ∷ []))) → Holds (addedTo t x) m (traces ++ (x ∷ []))
   holds-more t traces x h library = record {
-    formed = well-formed-after t x (h .formed) (h .long) size less
+    formed = well-formed-after t x (h .formed) (h .long) is less
         (subst (λ (tree : Tree). T (abstract.wellFormedTree sampleLimit (measuresOf t) (suc (traceCount t)) tree))
         (sym new-tree) new-formed);
     long = long-after t x (h .long) a;
@@ -103,8 +104,8 @@ module _ (m : Measures) where
     tree-is = a .tree ∙ new-tree;
   }
     where
-      size : length x ≡ measuresOf t .n
-      size = takes-more t traces x h library .0
+      is : T (isTrace sampleLimit (measuresOf t .n) x)
+      is = takes-more t traces x h library .0
 
       counted : traceCount t ≡ length traces
       counted = count-is t ∙ ap length (h .traces-are)
@@ -113,7 +114,7 @@ module _ (m : Measures) where
       less = takes-more t traces x h library .1
 
       a : AfterAdding t x
-      a = meaning t x (h .formed) (h .long) size less
+      a = meaning t x (h .formed) (h .long) is less
 
       new-tree : insertion (measuresOf t) (tracesIn t) (treeIn t) x ≡ treeOf m (traces ++ (x ∷ []))
       new-tree = by (measuresOf t) (tracesIn t) (treeIn t) (h .measures-are) (h .traces-are) (h .tree-is)

@@ -14,7 +14,7 @@ use mir.Facts.{yes-and}
 use Rattle.integer.specs.Words.{counting, every, lastOf}
 use Rattle.integer.proofs.Lists.{every-of, from-counting}
 use Rattle.integer.proofs.Tests.{test-true}
-use Rattle.dstree.specs.Measures.{Trace, Measures, sampleLimit, samplesNeeded, recordsNeeded, linksNeeded}
+use Rattle.dstree.specs.Measures.{Trace, Measures, sampleLimit, isTrace, samplesNeeded, recordsNeeded, linksNeeded}
 use Rattle.dstree.specs.Node.{Kind, leaf, Tree, nodeAt}
 use Rattle.dstree.specs.Adding.{way, widenAll, join, splitAll, insertion}
 use Rattle.dstree.specs.Matching.{numbersIn}
@@ -125,7 +125,8 @@ pub record AfterAdding (t : Tables) (x : Trace) : Type 0 where
   pub nodes-behind : drop (recordsNeeded (measuresOf t) * recordPlaces) (addedTo t x .nodes) ≡ drop (recordsNeeded (measuresOf t) * recordPlaces) (t .nodes)
   pub links-behind : drop (linksNeeded (measuresOf t)) (addedTo t x .links) ≡ drop (linksNeeded (measuresOf t)) (t .links)
 
-module _ (t : Tables) (x : Trace) (w : T (wellFormed t)) (long : Long t) (size : length x ≡ measuresOf t .n) (less : traceCount t < measuresOf t .capacity) where
+module _ (t : Tables) (x : Trace) (w : T (wellFormed t)) (long : Long t)
+    (is-trace : T (isTrace sampleLimit (measuresOf t .n) x)) (less : traceCount t < measuresOf t .capacity) where
   abbrev n : ℕ
   n = measuresOf t .n
 
@@ -183,7 +184,7 @@ module _ (t : Tables) (x : Trace) (w : T (wellFormed t)) (long : Long t) (size :
   traces-after =
       ap (λ (j : ℕ). map (traceIn (addedTo t x .samples) (measuresOf (addedTo t x) .n)) (counting j 0)) count-after
       ∙ ap (λ (j : ℕ). map (traceIn (addedTo t x .samples) j) (counting (suc k) 0)) (field-after nPlace (omega arith))
-      ∙ stored-more (t .samples) n k c x size less (long .samples-long)
+      ∙ stored-more (t .samples) n k c x is-trace less (long .samples-long)
 
   kinds-after : kindsNamed (addedTo t x) ≡ true
   unfolding kindsNamed addedTo
@@ -197,7 +198,7 @@ module _ (t : Tables) (x : Trace) (w : T (wellFormed t)) (long : Long t) (size :
   unfolding addedTo samplesNeeded
   lengths-after = rw (
     length-set control₁ nodeCountPlace (after .count) ∙ control-size,
-    stored-length (t .samples) n k c x size less (long .samples-long),
+    stored-length (t .samples) n k c x is-trace less (long .samples-long),
     after-represents .nodes-size,
     after-represents .links-size,
   )
@@ -216,7 +217,7 @@ module _ (t : Tables) (x : Trace) (w : T (wellFormed t)) (long : Long t) (size :
     work-stays = refl;
     labels-stay = refl;
     control-behind = drop-set-lt controlFields control₁ nodeCountPlace (after .count) (omega arith) ∙ drop-set-lt controlFields (t .control) traceCountPlace (suc k) (omega arith);
-    samples-behind = stored-behind (t .samples) n k c x size less (long .samples-long);
+    samples-behind = stored-behind (t .samples) n k c x is-trace less (long .samples-long);
     nodes-behind = after-represents .nodes-behind;
     links-behind = after-represents .links-behind;
   }

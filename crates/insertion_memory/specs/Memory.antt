@@ -7,6 +7,7 @@ use lib.ListN.{length, getD, set}
 use lib.Seq.{paste}
 use lib.Dec.{ltb}
 use Rattle.integer.specs.Words.{if_then_else_, lastOf}
+use Rattle.segment.specs.Stored.{wordsOf}
 use Rattle.dstree.specs.Measures.{Trace, Measures}
 use Rattle.dstree.specs.Labels.{Label}
 use Rattle.dstree.specs.Node.{Kind, leaf, inner, Tree, nodeAt, ends}
@@ -102,7 +103,7 @@ unfoldable pub addedTo : Tables → Trace → Tables
 addedTo t x =
     let h = treeTablesAfter t x in
     labelledTables (set (set (t .control) traceCountPlace (suc (traceCount t))) nodeCountPlace (h .count))
-    (paste (t .samples) (traceCount t * measuresOf t .n) x (measuresOf t .n))
+    (paste (t .samples) (traceCount t * measuresOf t .n) (wordsOf x) (measuresOf t .n))
     (h .nodes) (h .links) (t .work) (t .labels)
 
 -- document 02, §8: traces added in order, each with its label, "given when it is added". One definition for adding, import and reading

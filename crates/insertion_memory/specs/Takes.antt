@@ -13,6 +13,6 @@ pub record TakesAll (t : Tables) (more : List Trace) : Type 0 where
   pub formed : T (wellFormed t)
   pub long : Long t
   pub room : traceCount t + length more ≤ measuresOf t .capacity
-  -- samples are 16-bit numbers, n of them a trace
+  -- n samples within the limits each
   pub stored : T (every (isTrace sampleLimit (measuresOf t .n)) (tracesIn t))
   pub each : T (every (isTrace sampleLimit (measuresOf t .n)) more)

@@ -42,7 +42,7 @@ withFigures f s v =
     } in
     if f .any then more else oneFigures s v
 
--- figures of at most 256 samples of 16 bits
+-- figures of at most 256 samples
 pub record SmallFigures (f : SideRange) : Type 0 where
   pub least-sum : natAbs (f .«least_sum») ≤ sumMost mostSamples
   pub greatest-sum : natAbs (f .«greatest_sum») ≤ sumMost mostSamples

@@ -4,7 +4,7 @@ use crate::rows::column_of;
 use crate::rows::figures_at;
 use crate::sides::SideRange;
 use crate::sides::widened;
-use segment::Sample;
+use segment::Word;
 use tables::numbers::wide;
 ghost use mathlib.Core.Path.{_≡_};
 ghost use lib.ListN.{take};
@@ -16,7 +16,7 @@ ghost use Rattle.leaf_figures.specs.Rows.{tracesAt, TracesListed, Rows};
 
 // A loop that leaves the last trace out does not meet this. `guess` is the column that the run may have.
 pub fn figures_along(
-    samples: &[Sample],
+    samples: &[Word],
     n: usize,
     list: &[u16; 4096],
     count: usize,

@@ -1,6 +1,6 @@
 // The table of figures that are kept: a column for each of a leaf's segments and for the halves of each.
 
-use segment::Sample;
+use segment::Word;
 use tables::numbers::wide;
 use tables::runs::figures_on;
 use tables::runs::trace_at;
@@ -17,7 +17,7 @@ ghost use Rattle.leaf_figures.specs.Rows.{TracesListed, Column, Columns,
 
 // Column f becomes the figures of the list's traces on a run. Other columns stay.
 fn fill_column(
-    samples: &[Sample],
+    samples: &[Word],
     n: usize,
     list: &[u16; 4096],
     count: usize,
@@ -52,7 +52,7 @@ fn fill_column(
 
 // A run with its column at f. What column f held before goes.
 fn fill_run(
-    samples: &[Sample],
+    samples: &[Word],
     n: usize,
     list: &[u16; 4096],
     count: usize,
@@ -75,7 +75,7 @@ fn fill_run(
 
 // A segment's column, and where its halves can be tried those of its halves, the left one rounded down.
 fn fill_segment(
-    samples: &[Sample],
+    samples: &[Word],
     n: usize,
     list: &[u16; 4096],
     count: usize,
@@ -142,7 +142,7 @@ fn fill_segment(
 
 // The columns of all segments with these right ends. A list of more than 65 traces gets none.
 pub fn fill_rows(
-    samples: &[Sample],
+    samples: &[Word],
     n: usize,
     list: &[u16; 4096],
     count: usize,

@@ -1,6 +1,6 @@
 // Figures from the table of those that are kept, or else from the samples.
 
-use segment::Sample;
+use segment::Word;
 use segment::figures::Figures;
 use tables::numbers::wide;
 use tables::runs::figures_on;
@@ -36,7 +36,7 @@ pub fn column_of(runs: &[usize; 96], guess: usize, first: usize, last: usize) ->
 
 // Trace t's figures on a run: from its row of a column, or from its samples where there is no column.
 pub fn figures_at(
-    samples: &[Sample],
+    samples: &[Word],
     n: usize,
     place: &[u16],
     sums: &[i64],

@@ -1,6 +1,6 @@
-// Whether all traces of a list are the same, sample by sample.
+// Whether all traces of a list are the same, word by word. Words that differ can stand for the same sample: so only a yes says something.
 
-use segment::Sample;
+use segment::Word;
 use tables::numbers::wide;
 use tables::runs::trace_at;
 ghost use mathlib.Core.Path.{_≡_};
@@ -12,16 +12,16 @@ ghost use Rattle.dstree.specs.Measures.{mostSamples};
 ghost use Rattle.tables.specs.View.{traceIn};
 ghost use Rattle.leaf_figures.specs.Rows.{TracesListed};
 
-// 0 if two samples are the same, and else 1.
-fn differs(a: Sample, b: Sample) -> u16
+// 0 if two words are the same, and else 1.
+fn differs(a: Word, b: Word) -> u16
     ensures { λ r. ⌜ (r ≡ 0 → a ≡ b) ⌝ }
     ensures size { λ r. ⌜ r ≤ 1 ⌝ }
 {
     if a == b { 0 } else { 1 }
 }
 
-// Samples that differ are counted, and the loop does not end at the first: so the compiler takes several at a time.
-fn same_trace(x: &[Sample], y: &[Sample]) -> bool
+// Words that differ are counted, and the loop does not end at the first: so the compiler takes several at a time.
+fn same_trace(x: &[Word], y: &[Word]) -> bool
     requires { ⌜ (length (now x) ≡ length (now y)) × (length (now x) ≤ mostSamples) ⌝ }
     ensures { λ r. ⌜ (r ≡ true → now (x .entry) ≡ now (y .entry)) ⌝ }
 {
@@ -36,7 +36,7 @@ fn same_trace(x: &[Sample], y: &[Sample]) -> bool
 }
 
 // Yes says that all of the list's traces are its first one. Of fewer than two it says no, which promises nothing.
-pub fn all_same(samples: &[Sample], n: usize, list: &[u16; 4096], count: usize) -> bool
+pub fn all_same(samples: &[Word], n: usize, list: &[u16; 4096], count: usize) -> bool
     requires { ⌜ TracesListed (now samples) n (now list) count ⌝ }
     ensures { λ r. ⌜ (r ≡ true → (t : ℕ) → In t (take count (now (list .entry))) → traceIn (now (samples .entry)) n t
         ≡ traceIn (now (samples .entry)) n (getD (now (list .entry)) 0 0)) ⌝ }

@@ -1,7 +1,7 @@
 // The least and greatest figures of a leaf's traces on a run of samples, or of one side of them. Each trace has a mark, and a side is the
 // traces with one mark.
 
-use segment::Sample;
+use segment::Word;
 use segment_bound::terms::larger;
 use tables::numbers::greater;
 use tables::numbers::lesser;
@@ -53,7 +53,7 @@ pub fn widened(f: SideRange, sum: i64, scatter: u64) -> SideRange
 
 // Trace t's figures more, if it is on the side.
 fn with_trace(
-    samples: &[Sample],
+    samples: &[Word],
     n: usize,
     t: usize,
     first: usize,
@@ -78,7 +78,7 @@ fn with_trace(
 // The figures of the leaf's traces with a mark. The leaf is the list that starts at `head`; a walk that leaves its last trace out does not
 // meet this.
 pub fn side_figures(
-    samples: &[Sample],
+    samples: &[Word],
     links: &[u16],
     n: usize,
     k: usize,

@@ -1,5 +1,5 @@
 // The spread of the traces of a list.
-use segment::Sample;
+use segment::Word;
 ghost use mathlib.Core.Path.{_≡_};
 ghost use Prim.Native.Nat.{_≤_, _<_};
 ghost use lib.ListN.{take};
@@ -14,7 +14,7 @@ ghost use Rattle.leaf_figures.specs.Rows.{tracesAt, TracesListed, Rows};
 
 // One segment's term of the spread.
 fn segment_spread(
-    samples: &[Sample],
+    samples: &[Word],
     n: usize,
     list: &[u16; 4096],
     count: usize,
@@ -68,7 +68,7 @@ fn guess_at(i: usize, halved: usize) -> usize
 
 // The spread of the list's traces, over segments with these right ends.
 pub fn spread_along(
-    samples: &[Sample],
+    samples: &[Word],
     n: usize,
     list: &[u16; 4096],
     count: usize,

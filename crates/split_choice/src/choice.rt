@@ -7,7 +7,7 @@ use leaf_figures::lists::list_leaf;
 use leaf_figures::lists::place_list;
 use leaf_figures::sameness::all_same;
 use leaf_figures::spread::spread_along;
-use segment::Sample;
+use segment::Word;
 ghost use mathlib.Core.Path.{_≡_};
 ghost use mathlib.Core.Bool.{true, false};
 ghost use mathlib.Core.List.{_∷_, [], _++_};
@@ -80,7 +80,7 @@ fn better(best: Choice, c: Trial, threshold: i64, gain: i64) -> Choice
 
 // One candidate tried: if both its sides are seen it parts the leaf, and its gain is compared. Otherwise no spread is taken.
 fn try_one(
-    samples: &[Sample],
+    samples: &[Word],
     n: usize,
     k: usize,
     list: &[u16; 4096],
@@ -174,7 +174,7 @@ fn root_of(scatter: u64) -> i64
 
 // A run tried by sum. The least and greatest of both figures are taken at once, and two roots a run.
 fn try_sum(
-    samples: &[Sample],
+    samples: &[Word],
     n: usize,
     k: usize,
     list: &[u16; 4096],
@@ -242,7 +242,7 @@ fn try_sum(
 
 // A run tried by sum, then by scatter.
 fn try_both(
-    samples: &[Sample],
+    samples: &[Word],
     n: usize,
     k: usize,
     list: &[u16; 4096],
@@ -310,7 +310,7 @@ fn try_both(
 // The halves of a segment, the left one rounded down, where another end has room and the segment has two samples or more. Segment i's
 // columns are i, 16 + i and 32 + i.
 fn try_halves(
-    samples: &[Sample],
+    samples: &[Word],
     n: usize,
     k: usize,
     list: &[u16; 4096],
@@ -381,7 +381,7 @@ fn try_halves(
 
 // One segment's candidates: the whole segment, then its halves, where it has them.
 fn try_segment(
-    samples: &[Sample],
+    samples: &[Word],
     n: usize,
     k: usize,
     list: &[u16; 4096],
@@ -453,7 +453,7 @@ fn try_segment(
 
 // The best of all candidates of a leaf whose numbers are listed.
 fn best_along(
-    samples: &[Sample],
+    samples: &[Word],
     n: usize,
     k: usize,
     list: &[u16; 4096],
@@ -506,7 +506,7 @@ fn best_along(
 
 // The same, with a table of the figures of a list that is not too long.
 fn best_kept(
-    samples: &[Sample],
+    samples: &[Word],
     n: usize,
     k: usize,
     list: &[u16; 4096],
@@ -551,7 +551,7 @@ fn best_kept(
 // The split that a leaf takes, over the right ends of its node: the greatest gain, which can be below zero, and the earliest among equals.
 // Nothing is found if no candidate parts the leaf. A leaf whose traces are all the same is not tried: nothing parts it, and it may hold
 // many.
-pub fn choose(samples: &[Sample], links: &[u16], n: usize, k: usize, head: usize, e: Ends) -> Choice
+pub fn choose(samples: &[Word], links: &[u16], n: usize, k: usize, head: usize, e: Ends) -> Choice
     requires { ⌜ Stored (now samples) (now links) n k head × EndsRoom e × Rises n 1 (endsOf e) ⌝ }
     ensures { λ r. ⌜ chosenIn (now (samples .entry)) (now (links .entry)) n k head e r
         ≡ best (storedIn (now (samples .entry)) n k) (endsOf e) (numbersOf (now (links .entry)) k head) ⌝ }

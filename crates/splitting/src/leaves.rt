@@ -2,7 +2,7 @@
 
 use insertion::heads::write_leaf_head;
 use insertion::heads::write_segment;
-use segment::Sample;
+use segment::Word;
 use tables::loops::zero_nodes;
 use tables::places::RECORD_PLACES;
 use tables::records::record_end;
@@ -23,7 +23,7 @@ ghost use Rattle.splitting.specs.Leaves.{withSegments, Side, sideRecord}
 // The segments of a record, over those of the leaf's traces that have a mark. Its head stays, and so does what is behind the segments.
 pub fn write_segments(
     record: &mut [i64],
-    samples: &[Sample],
+    samples: &[Word],
     links: &[u16],
     n: usize,
     k: usize,
@@ -73,7 +73,7 @@ pub fn write_segments(
 pub fn write_leaf(
     nodes: &mut [i64],
     j: usize,
-    samples: &[Sample],
+    samples: &[Word],
     links: &[u16],
     n: usize,
     k: usize,

@@ -1,6 +1,6 @@
 // The joined leaf split, then the new ones, lowest number first.
 
-use segment::Sample;
+use segment::Word;
 ghost use mathlib.Core.Path.{_≡_};
 ghost use Prim.Native.Nat.{_*_, _<_};
 ghost use Rattle.tables.specs.Walk.{storedIn};
@@ -12,7 +12,7 @@ ghost use Rattle.splitting.specs.Represented.{Represented};
 pub fn split_pass(
     nodes: &mut [i64],
     links: &mut [u16],
-    samples: &[Sample],
+    samples: &[Word],
     n: usize,
     k: usize,
     leaf_size: usize,
@@ -37,7 +37,7 @@ pub fn split_pass(
 pub fn split_all(
     nodes: &mut [i64],
     links: &mut [u16],
-    samples: &[Sample],
+    samples: &[Word],
     n: usize,
     k: usize,
     leaf_size: usize,

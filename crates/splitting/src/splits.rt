@@ -1,7 +1,7 @@
 // One leaf split by the best candidate that parts it.
 
 use insertion::heads::become_inner;
-use segment::Sample;
+use segment::Word;
 use tables::places::FIRST;
 use tables::places::KIND;
 use tables::records::node_small;
@@ -24,7 +24,7 @@ ghost use Rattle.splitting.specs.Splits.{Parts, Splits};
 fn write_sides(
     nodes: &mut [i64],
     count: usize,
-    samples: &[Sample],
+    samples: &[Word],
     links: &[u16],
     n: usize,
     k: usize,
@@ -50,7 +50,7 @@ fn write_sides(
 fn split_by(
     nodes: &mut [i64],
     links: &mut [u16],
-    samples: &[Sample],
+    samples: &[Word],
     n: usize,
     k: usize,
     count: usize,
@@ -93,7 +93,7 @@ fn split_by(
 pub fn split_at(
     nodes: &mut [i64],
     links: &mut [u16],
-    samples: &[Sample],
+    samples: &[Word],
     n: usize,
     k: usize,
     leaf_size: usize,

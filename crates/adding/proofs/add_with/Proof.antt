@@ -57,8 +57,8 @@ store-requires c κs =
     let e = w .before .before .before in
     omega (arith, number-is w, has-place (lentTables (came e)) (x (came e)) (l (came e)) (nothing e))
 
-put-requires : tie.Need-put-requires
-put-requires c κs = let e = c .before .before .before .before .before .before .before .before .before .before .before in takes (lentTables (came e)) (x (came e)) (l (came e)) (nothing e)
+put-given-requires : tie.Need-put-given-requires
+put-given-requires c κs = let e = c .before .before .before .before .before .before .before .before .before .before .before in takes (lentTables (came e)) (x (came e)) (l (came e)) (nothing e)
 
 returns : tie.Need-returns
 unfolding answerBy outcomeOn effectOf besideOf
@@ -83,7 +83,7 @@ returns-2 c =
     let s = came e in
     let t = lentTables s in
     ends-done t [] (adds t (x s) (l s)) _ _ [] (nothing e) (ap added (number-is w))
-    (ap (withLabels (kept .store .last .0)) (p .put .ensures (now (s .args .work)))
+    (ap (withLabels (kept .store .last .0)) (p .put-given .ensures (now (s .args .work)))
     ∙ (ap (λ (ls : List ℕ). withLabels ls (addedTo (withLabels [] t) (x s))) (stored-is kept)
     ∙ sym (added-labels (nextLabelled t (l s ∷ [])) (x s)))) refl
 
@@ -92,6 +92,6 @@ add-with-spec =
     tie.close
     (tie.spec
     (λ c κs. search needs) (λ c. search needs) (λ c. search needs) (λ c κs. search needs) (λ c κs. search needs) store-requires
-    put-requires
+    put-given-requires
     (λ c. search needs) (λ c. search needs) (λ c. search needs) (λ c. search needs) (λ c. search needs) returns
     (λ c. search needs) (λ c. search needs) (λ c. search needs) (λ c. search needs) (λ c. search needs) returns-2)

@@ -6,6 +6,7 @@ use native.Mathlib.Omega.{arith}
 use lib.IntN.{ℤ}
 use denote.Ref.{now}
 use borrow.Author.Needs.{needs}
+use Rattle.segment.specs.Stored.{samplesOf}
 use Rattle.dstree.specs.Adding.{segmentsOf}
 use Rattle.tables.specs.Tables.{Tables, tables, measuresOf, nodeCount, withRecord}
 use Rattle.tables.specs.View.{treeIn, tracesIn}
@@ -14,6 +15,7 @@ use Rattle.insertion_memory.specs.Records.{leafRecord}
 use Rattle.insertion_memory.specs.Memory.{treeTables, firstTables, treeTablesIn}
 use Rattle.insertion_memory.proofs.FromTables.{space}
 use Rattle.insertion_memory.proofs.Meaning.{inserted-first}
+use Rattle.adding.proofs.Sized.{words-size}
 use Rattle.adding.proofs.inserting.insert.Statement.{statement}
 use Rattle.adding.proofs.inserting.insert.Tie as tie
 
@@ -29,7 +31,7 @@ first-leaf-requires c κs =
     let s = c .before .before .before .before .before .before in
     let p = s .pre .0 in
     let room = space (lent s) (p .formed) (p .long) in
-    (omega (arith, room .nodes-room, p .less), omega (arith, room .links-room, p .less), omega (arith, room .narrow, p .size))
+    (omega (arith, room .nodes-room, p .less), omega (arith, room .links-room, p .less), omega (arith, room .narrow, words-size (now (s .args .trace)) p))
 
 returns : tie.Need-returns
 unfolding firstTables
@@ -38,9 +40,9 @@ returns c =
     let e = f .before .before .before in
     let s = e .before .before .before .before in
     let t = lent s in
-    let x = now (s .args .trace) in
+    let x = samplesOf (now (s .args .trace)) in
     let made : f .first-leaf .last .0 ≡ withRecord (t .nodes) 0 (leafRecord (segmentsOf (measuresOf t .n ∷ []) (x ∷ [])) 0) =
-    f .first-leaf .ensures .0 ∙ ap (λ (m : ℕ). withRecord (t .nodes) 0 (leafRecord (segmentsOf (m ∷ []) (x ∷ [])) 0)) (s .pre .0 .size) in
+    f .first-leaf .ensures .0 ∙ ap (λ (m : ℕ). withRecord (t .nodes) 0 (leafRecord (segmentsOf (m ∷ []) (x ∷ [])) 0)) (words-size (now (s .args .trace)) (s .pre .0)) in
     let none-yet : nodeCount t ≡ 0 = sym (e .before .field .ensures) ∙ e .if1 .taken in
     ap₂ (λ (u : List ℤ) (v : List ℕ). treeTables u v 1) made (f .first-leaf .ensures .1)
     ∙ sym (inserted-first (measuresOf t) (tracesIn t) (treeIn t) x (treeTablesIn t) (tree-size t ∙ none-yet))

@@ -9,6 +9,7 @@ use lib.ListN.{length}
 use denote.Ref.{now}
 use borrow.Author.Needs.{needs}
 use Rattle.integer.specs.Words.{lastOf}
+use Rattle.segment.specs.Stored.{samplesOf}
 use Rattle.dstree.specs.Measures.{Trace}
 use Rattle.tables.specs.Layout.{firstPlace}
 use Rattle.tables.specs.Tables.{Tables, tables, measuresOf, traceCount, nodeCount, recordOf}
@@ -24,6 +25,7 @@ use Rattle.insertion_memory.proofs.FromTables.{space, tables-stand}
 use Rattle.insertion_memory.proofs.Represents.{links-rise}
 use Rattle.insertion_memory.proofs.Meaning.{inserted-more}
 use Rattle.splitting.specs.Represented.{Represented}
+use Rattle.adding.proofs.Sized.{words-size}
 use Rattle.adding.proofs.Ready.{descendable}
 use Rattle.adding.proofs.Joins.{leafIn, nodesAfter, headIn, linksAfter, leaf-low, head-low, joined-is, represented}
 use Rattle.adding.proofs.inserting.insert_more.Statement.{statement}
@@ -42,8 +44,14 @@ module _ (a : tie.After-wide3) where
   abbrev lent : Tables
   lent = tables (now (start .args .control)) (now (start .args .samples)) (now (start .args .nodes)) (now (start .args .links)) []
 
+  abbrev words : List ℤ
+  words = now (start .args .trace)
+
   abbrev x : Trace
-  x = now (start .args .trace)
+  x = samplesOf words
+
+  size : length words ≡ measuresOf lent .n
+  size = words-size words (start .pre .0)
 
   abbrev some : 0 < length (treeIn lent)
   some = omega (arith, start .pre .2, tree-size lent)
@@ -98,8 +106,8 @@ links-are j =
 descend-requires : tie.Need-descend-requires
 descend-requires c κs =
     let a = c .before in
-    subst (λ (m : ℕ). Descendable (lent a .nodes) m (length (x a))) (sym (count-is a))
-    (subst (λ (n : ℕ). Descendable (lent a .nodes) (nodeCount (lent a)) n) (sym (start a .pre .0 .size)) (down a))
+    subst (λ (m : ℕ). Descendable (lent a .nodes) m (length (words a))) (sym (count-is a))
+    (subst (λ (n : ℕ). Descendable (lent a .nodes) (nodeCount (lent a)) n) (sym (size a)) (down a))
 
 node-small-requires : tie.Need-node-small-requires
 node-small-requires c κs =
@@ -133,7 +141,7 @@ split-all-requires c κs =
     let f = fields d in
     let p = start f .pre .0 in
     moved (λ (N : List ℤ) (L : List ℕ) (n k m a : ℕ). Represented N L (t d .samples) n k m × (a < m))
-    (nodes-are d) (links-are j) (p .size) (one-more f) (count-is f) (leaf-is d)
+    (nodes-are d) (links-are j) (size f) (one-more f) (count-is f) (leaf-is d)
     (represented (t d) (x f) (p .formed) (p .long) (p .less) (some f), inside d)
 
 returns : tie.Need-returns
@@ -147,10 +155,10 @@ returns c =
     let T = t d in
     let k = traceCount T in
     let same = joined-is T (x f) (p .formed) (p .long) (p .less) (some f) in
-    let traces : storedIn (T .samples) (length (x f)) (suc k) ≡ tracesIn T ++ (x f ∷ []) =
-    stored-last (T .samples) (length (x f)) k (x f) (start f .pre .1) ∙ ap (λ (n : ℕ). storedIn (T .samples) n k ++ (x f ∷ [])) (p .size) in
+    let traces : storedIn (T .samples) (length (words f)) (suc k) ≡ tracesIn T ++ (x f ∷ []) =
+    stored-last (T .samples) (length (words f)) k (x f) (start f .pre .1) ∙ ap (λ (n : ℕ). storedIn (T .samples) n k ++ (x f ∷ [])) (size f) in
     m .split-all .ensures
-    ∙ moved (λ (N : List ℤ) (L : List ℕ) (s j m a : ℕ). splitAllOf s (storedIn (T .samples) (length (x f)) j) (treeTables N L m) a
+    ∙ moved (λ (N : List ℤ) (L : List ℕ) (s j m a : ℕ). splitAllOf s (storedIn (T .samples) (length (words f)) j) (treeTables N L m) a
     ≡ splitAllOf (measuresOf T .leafSize) (tracesIn T ++ (x f ∷ []))
     (joinedTables (tracesIn T) (treeIn T) (x f) (treeTablesIn T)) (leafIn T (x f)))
     (nodes-are d) (links-are j) (leaf-size-is f) (one-more f) (count-is f) (leaf-is d)

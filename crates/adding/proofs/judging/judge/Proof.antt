@@ -2,10 +2,11 @@
 -- being false.
 use mathlib.Core.Path.{_≡_, sym, ap, ap₂, _∙_}
 use Prim.Native.Nat.{ℕ}
+use mathlib.Core.Bool.{not}
 use mathlib.Core.List.{List}
 use denote.Ref.{now}
 use borrow.Author.Needs.{needs}
-use Rattle.dstree.specs.Measures.{Trace, measures}
+use Rattle.dstree.specs.Measures.{Trace, measures, areSamples}
 use Rattle.dstree.specs.Labels.{Label}
 use Rattle.dstree.specs.Refusals.{Condition, firstOf}
 use Rattle.dstree.specs.Book.{addConditions}
@@ -56,23 +57,37 @@ returns : tie.Need-returns
 unfolding foundBy wordOf firstOf
 returns c = λ l. rw (only (c .before) l, c .if1 .taken)
 
+-- what the look at the samples says
+outside-is : (a : tie.After-are-samples) → not (a .are-samples .result) ≡ not (areSamples (x (a .before .before .before .before)))
+outside-is a = ap not (a .are-samples .ensures)
+
 returns-2 : tie.Need-returns-2
 unfolding foundBy wordOf firstOf
-returns-2 c = λ l. rw (only (c .before .before) l, c .before .if1 .left, c .if2 .taken)
+returns-2 c = λ l.
+    let a = c .before in
+    rw (only (a .before .before) l, a .before .if1 .left, sym (outside-is a) ∙ c .if2 .taken)
 
 returns-3 : tie.Need-returns-3
-unfolding adds
+unfolding foundBy wordOf firstOf
 returns-3 c = λ l.
+    let a = c .before .before in
+    rw (only (a .before .before) l, a .before .if1 .left, sym (outside-is a) ∙ c .before .if2 .left, c .if3 .taken)
+
+returns-4 : tie.Need-returns-4
+unfolding adds
+returns-4 c = λ l.
     let j = c .before .before .before in
     refused-first (madeConditions (lent j)) _ _ (sym (j .judge-tables .ensures) ∙ ap foundBy (c .before .made .given .1))
 
-returns-4 : tie.Need-returns-4
+returns-5 : tie.Need-returns-5
 unfolding foundBy firstOf
-returns-4 c = λ l. rw (only (c .before .before) l, c .before .if1 .left, c .if2 .left)
+returns-5 c = λ l.
+    let a = c .before .before in
+    rw (only (a .before .before) l, a .before .if1 .left, sym (outside-is a) ∙ c .before .if2 .left, c .if3 .left)
 
 pub judge-spec : {M : Type 1} → statement M
 judge-spec =
     tie.close
     (tie.spec
     (λ c κs. search needs) (λ c κs. search needs) (λ c κs. search needs) (λ c κs. search needs) (λ c κs. search needs)
-    (λ c. search needs) enum-told returns returns-2 returns-3 returns-4)
+    (λ c. search needs) enum-told returns (λ c κs. search needs) returns-2 returns-3 returns-4 returns-5)

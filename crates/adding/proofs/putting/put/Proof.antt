@@ -11,6 +11,7 @@ use lib.ListN.{length, set}
 use lib.Seq.{paste}
 use denote.Ref.{now}
 use borrow.Author.Needs.{needs}
+use Rattle.segment.specs.Stored.{samplesOf, wordsOf}
 use Rattle.dstree.specs.Measures.{Trace, samplesNeeded}
 use Rattle.dstree.proofs.Nodes.{nodes-most}
 use Rattle.tables.specs.Layout.{traceCountPlace, nodeCountPlace}
@@ -22,6 +23,7 @@ use Rattle.insertion_memory.proofs.FromTables.{range}
 use Rattle.insertion_memory.proofs.Storing.{trace-new, stored-same, stored-length}
 use Rattle.insertion_memory.proofs.Meaning.{after-represents}
 use Rattle.adding.specs.Putting.{Takes}
+use Rattle.adding.proofs.Sized.{words-size}
 use Rattle.adding.proofs.putting.put.Statement.{statement}
 use Rattle.adding.proofs.putting.put.Tie as tie
 
@@ -40,11 +42,11 @@ module _ (t : Tables) (x : Trace) (p : Takes (t .control) (t .samples) (t .nodes
 
   -- the samples with the new trace
   abbrev stored : List ℤ
-  stored = paste (t .samples) (k * n) x n
+  stored = paste (t .samples) (k * n) (wordsOf x) n
 
   same-length : length stored ≡ length (t .samples)
   unfolding samplesNeeded
-  same-length = stored-length (t .samples) n k (measuresOf t .capacity) x (p .size) (p .less) (p .long .samples-long)
+  same-length = stored-length (t .samples) n k (measuresOf t .capacity) x (p .is-trace) (p .less) (p .long .samples-long)
 
   -- the tables with them take it too
   takes-stored : Takes (t .control) stored (t .nodes) (t .links) x
@@ -57,7 +59,7 @@ module _ (t : Tables) (x : Trace) (p : Takes (t .control) (t .samples) (t .nodes
       nodes-long = p .long .nodes-long;
       links-long = p .long .links-long;
     };
-    size = p .size;
+    is-trace = p .is-trace;
     less = p .less;
   }
 
@@ -65,13 +67,16 @@ module _ (t : Tables) (x : Trace) (p : Takes (t .control) (t .samples) (t .nodes
   after-stored : treeTablesAfter (tables (t .control) stored (t .nodes) (t .links) []) x ≡ treeTablesAfter t x
   unfolding tracesIn treeIn samplesNeeded
   after-stored = ap (λ (l : List Trace). insertedTables (measuresOf t) l (treeIn t) x (treeTablesIn t))
-      (stored-same (t .samples) n k (measuresOf t .capacity) x (p .size) (p .less) (p .long .samples-long))
+      (stored-same (t .samples) n k (measuresOf t .capacity) x (p .is-trace) (p .less) (p .long .samples-long))
 
 -- ---- the call
 
 module _ (s : tie.Start) where
+  abbrev words : List ℤ
+  words = now (s .args .trace)
+
   abbrev x : Trace
-  x = now (s .args .trace)
+  x = samplesOf words
 
   -- the tables that it came with, whatever the search work holds
   abbrev lent : List ℕ → Tables
@@ -84,13 +89,16 @@ module _ (a : tie.After-wide) where
   k-is : a .wide .result ≡ traceCount (lent start [])
   k-is = a .wide .ensures ∙ a .before .field .ensures
 
-  at-is : a .wide .result * length (x start) ≡ traceCount (lent start []) * measuresOf (lent start []) .n
-  at-is = ap₂ _*_ k-is (start .pre .size)
+  size : length (words start) ≡ measuresOf (lent start []) .n
+  size = words-size (words start) (start .pre)
+
+  at-is : a .wide .result * length (words start) ≡ traceCount (lent start []) * measuresOf (lent start []) .n
+  at-is = ap₂ _*_ k-is size
 
 stored-is : (b : tie.After-copy-trace) → let s = start (b .before .before) in b .copy-trace .last .0 ≡ stored (lent s []) (x s) (s .pre)
 stored-is b =
     let s = start (b .before .before) in
-    b .copy-trace .ensures ∙ ap₂ (λ (p q : ℕ). paste (now (s .args .samples)) p (x s) q) (at-is (b .before .before)) (s .pre .size)
+    b .copy-trace .ensures ∙ ap₂ (λ (p q : ℕ). paste (now (s .args .samples)) p (wordsOf (x s)) q) (at-is (b .before .before)) (size (b .before .before))
 
 -- nodes and links with the new trace
 module _ (i : tie.After-insert) where
@@ -113,8 +121,8 @@ mul-at c =
     let p = start c .pre in
     let fit = range (lent (start c) []) (p .formed) in
     record {
-      fits = samples-fit (c .wide .result) (length (x (start c)))
-          (omega (arith, k-is c, p .less, fit .capacity-high)) (omega (arith, p .size, fit .n-high));
+      fits = samples-fit (c .wide .result) (length (words (start c)))
+          (omega (arith, k-is c, p .less, fit .capacity-high)) (omega (arith, size c, fit .n-high));
     }
 
 copy-trace-requires : tie.Need-copy-trace-requires
@@ -124,7 +132,7 @@ copy-trace-requires c κs =
     let p = start a .pre in
     let t = lent (start a) [] in
     let g : suc (traceCount t) * measuresOf t .n ≤ measuresOf t .capacity * measuresOf t .n = mul-le-mul-right (measuresOf t .n) (p .less) in
-    omega (arith, at-is a, g, p .long .samples-long, p .size)
+    omega (arith, at-is a, g, p .long .samples-long, size a)
 
 insert-requires : tie.Need-insert-requires
 unfolding samplesNeeded
@@ -133,11 +141,11 @@ insert-requires c κs =
     let s = start (b .before .before) in
     let t = lent s [] in
     let p = s .pre in
-    subst (λ (l : List ℤ). Takes (t .control) l (t .nodes) (t .links) (x s) × (traceIn l (length (x s)) (traceCount t) ≡ x s))
+    subst (λ (l : List ℤ). Takes (t .control) l (t .nodes) (t .links) (x s) × (traceIn l (length (words s)) (traceCount t) ≡ x s))
     (sym (stored-is b)) (
       takes-stored t (x s) p,
-      ap (λ (n : ℕ). traceIn (stored t (x s) p) n (traceCount t)) (p .size)
-          ∙ trace-new (t .samples) (measuresOf t .n) (traceCount t) (measuresOf t .capacity) (x s) (p .size) (p .less) (p .long .samples-long),
+      ap (λ (n : ℕ). traceIn (stored t (x s) p) n (traceCount t)) (size (b .before .before))
+          ∙ trace-new (t .samples) (measuresOf t .n) (traceCount t) (measuresOf t .capacity) (x s) (p .is-trace) (p .less) (p .long .samples-long),
     )
 
 write-counts-requires : tie.Need-write-counts-requires
@@ -146,7 +154,7 @@ write-counts-requires c κs =
     let s = begun i in
     let t = lent s [] in
     let p = s .pre in
-    let after = after-represents t (x s) (p .formed) (p .long) (p .size) (p .less) in
+    let after = after-represents t (x s) (p .formed) (p .long) (p .is-trace) (p .less) in
     let few = range t (p .formed) .capacity-high in
     let count : i .insert .result ≡ treeTablesAfter t (x s) .count = ap (λ (h : TreeTables). h .count) (after-is i []) in
     let nodes : i .insert .result ≤ smallMost = omega (arith, count, after .count, nodes-most (after .shape), p .less, few) in

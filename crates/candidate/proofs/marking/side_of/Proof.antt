@@ -1,21 +1,18 @@
 -- `candidate::marking::side_of` meets its contract: the mark by the test, on trace t.
-use mathlib.Core.Path.{_≡_, sym, ap₂, subst, _∙_}
+use mathlib.Core.Path.{_≡_, sym, ap₂, _∙_}
 use lib.IntN.{ℤ}
-use lib.ListN.{length}
 use mir.Facts.{toZ-ofZ}
 use borrow.Author.Needs.{needs}
 use Rattle.dstree.specs.Measures.{Trace}
 use Rattle.dstree.specs.Node.{goesLeft}
 use Rattle.tables.specs.View.{traceIn}
-use Rattle.tables.specs.Runs.{RunOf, testBy}
-use Rattle.tables.proofs.Parts.{run-of}
+use Rattle.tables.specs.Runs.{testBy}
+use Rattle.tables.proofs.Parts.{run-of-words}
 use Rattle.candidate.proofs.marking.side_of.Statement.{statement}
 use Rattle.candidate.proofs.marking.side_of.Tie as tie
 
 goes-left-requires : tie.Need-goes-left-requires
-goes-left-requires c κs =
-    let s = c .before in
-    subst (λ (x : Trace). RunOf (length x) (s .args .first) (s .args .last)) (sym (c .trace-at .ensures)) (run-of (s .pre))
+goes-left-requires c κs = run-of-words (c .trace-at .result .now) (c .trace-at .ensures) (c .before .pre)
 
 -- the test, on trace t
 test-is : (c : tie.After-goes-left) →

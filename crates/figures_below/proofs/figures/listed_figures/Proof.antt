@@ -11,9 +11,10 @@ use mir.Facts.{toZ-ofZ}
 use borrow.Author.Needs.{needs}
 use Rattle.integer.proofs.Width.{of-mag}
 use Rattle.integer.proofs.Lists.{in-getD}
+use Rattle.segment.specs.Stored.{samplesOf}
 use Rattle.dstree.specs.Figures.{run, sumOn, scatterOn}
 use Rattle.tables.specs.View.{traceIn}
-use Rattle.tables.proofs.Parts.{run-of}
+use Rattle.tables.proofs.Parts.{run-of-words}
 use Rattle.leaf_figures.specs.Sides.{noFigures, withFigures, segmentBy}
 use Rattle.leaf_figures.specs.declared.sides.SideRange.{SideRange}
 use Rattle.leaf_figures.proofs.Taken.{takingAt, along-taken}
@@ -52,13 +53,13 @@ trace-at-requires : tie.Need-trace-at-requires Inv-loop μ-loop
 trace-at-requires c κs = rw (c .wide .ensures) (inside c)
 
 traced : (c : tie.After-trace-at Inv-loop μ-loop)
-    → c .trace-at .result .now ≡ traceIn (s (c .before) .args .samples .now) (s (c .before) .args .n) (t (c .before))
+    → samplesOf (c .trace-at .result .now) ≡ traceIn (s (c .before) .args .samples .now) (s (c .before) .args .n) (t (c .before))
 traced c = c .trace-at .ensures ∙ ap (traceIn (s (c .before) .args .samples .now) (s (c .before) .args .n)) (c .before .wide .ensures)
 
 figures-on-requires : tie.Need-figures-on-requires Inv-loop μ-loop
 figures-on-requires c κs =
     let k = c .before in
-    rw (traced c) (run-of (record { narrow = s k .pre .0; room = inside k; inside = s k .pre .1 }))
+    run-of-words (c .trace-at .result .now) (traced c) (record { narrow = s k .pre .0; room = inside k; inside = s k .pre .1 })
 
 loop-again : tie.Need-loop-again Inv-loop μ-loop
 loop-again c =

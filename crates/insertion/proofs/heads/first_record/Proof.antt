@@ -13,6 +13,8 @@ use borrow.Author.Needs.{needs}
 use Rattle.integer.proofs.Width.{of-mag, read}
 use Rattle.segment.specs.Figures.{sum, scatter}
 use Rattle.segment.specs.Limits.{scatterMost, scatterRoom}
+use Rattle.segment.specs.Stored.{samplesOf}
+use Rattle.segment.proofs.Stored.{samples-length}
 use Rattle.dstree.specs.Measures.{mostSamples}
 use Rattle.tables.specs.Layout.{headPlaces, recordPlaces}
 use Rattle.tables.specs.Tables.{filled}
@@ -38,7 +40,8 @@ returns c =
     let f = k .figures-of .result in
     let s = k .before .before .before .before .before .before .before in
     let r = now (s .args .«record») in
-    let x = now (s .args .trace) in
+    let words = now (s .args .trace) in
+    let x = samplesOf words in
     let zero = k .before .before .before .before .before .zero-nodes in
     let zeros : zero .last .0 ≡ filled recordPlaces (pos 0) r = zero .ensures in
     let headed : k .before .before .write-leaf-head .last .0 ≡ leafHead 1 0 ++ drop headPlaces (filled recordPlaces (pos 0) r) =
@@ -47,8 +50,8 @@ returns c =
     toZ-ofZ (of-mag {w = w64} (f .sum) (c .before .before .before .struct-told .given .0 .1)) ∙ k .figures-of .ensures .0 .0 in
     let v : f .scatter ≡ scatter x = k .figures-of .ensures .1 .0 in
     let e : c .before .write-segment .last .0 ≡ withSegment (k .before .before .write-leaf-head .last .0) 0
-    (segmentOfParts (length x) (read w64 (f .sum)) (read w64 (f .sum)) (f .scatter) (f .scatter)) = c .before .write-segment .ensures in
-    e ∙ rw (headed, z, v) (first-is r x (s .pre .0))
+    (segmentOfParts (length words) (read w64 (f .sum)) (read w64 (f .sum)) (f .scatter) (f .scatter)) = c .before .write-segment .ensures in
+    e ∙ rw (headed, z, v, ← samples-length words) (first-is r x (s .pre .0))
 
 pub first-record-spec : {M : Type 1} → statement M
 first-record-spec =

@@ -8,6 +8,7 @@ use lib.IntN.{ℤ}
 use lib.ListN.{length}
 use denote.Ref.{now}
 use borrow.Rule.Slice.PartMut.{putMid}
+use Rattle.segment.specs.Stored.{samplesOf}
 use Rattle.dstree.specs.Measures.{Trace, mostNodes}
 use Rattle.tables.specs.Layout.{kindPlace, recordPlaces}
 use Rattle.tables.specs.Tables.{recordOf, withRecord}
@@ -22,7 +23,7 @@ use Rattle.insertion.proofs.way.descend_by.Statement.{statement}
 use Rattle.insertion.proofs.way.descend_by.Tie as tie
 
 abbrev Inv-loop : tie.InvT-loop
-Inv-loop nodes₀ count trace sums squares at₀ nodes at = GoingDown nodes₀ count trace nodes at
+Inv-loop nodes₀ count trace sums squares at₀ nodes at = GoingDown nodes₀ count (samplesOf trace) nodes at
 
 abbrev μ-loop : tie.MeasureT-loop
 μ-loop nodes₀ count trace sums squares at₀ nodes at = count - at
@@ -35,10 +36,13 @@ module _ (l : tie.At-loop Inv-loop μ-loop) where
   abbrev at : ℕ
   at = l .loop .at
 
-  abbrev x : Trace
-  x = now (l .before .args .trace)
+  abbrev n : ℕ
+  n = length (now (l .before .args .trace))
 
-  abbrev ok : Descendable (now (l .before .args .nodes)) (l .before .args .count) (length x)
+  abbrev x : Trace
+  x = samplesOf (now (l .before .args .trace))
+
+  abbrev ok : Descendable (now (l .before .args .nodes)) (l .before .args .count) n
   ok = l .before .pre .0
 
   inside : at * recordPlaces + recordPlaces ≤ length nodes
@@ -87,8 +91,7 @@ next-of-requires : tie.Need-next-of-requires Inv-loop μ-loop
 next-of-requires c κs =
     let l = c .before .before in
     let i = l .loop .inv .inside in
-    let n = length (x l) in
-    let P : List ℤ → Type 0 = λ r. (length r ≡ recordPlaces) × (smallAt r kindPlace ≤ 2) × (1 ≤ smallAt r kindPlace → TestReadable r n) in
+    let P : List ℤ → Type 0 = λ r. (length r ≡ recordPlaces) × (smallAt r kindPlace ≤ 2) × (1 ≤ smallAt r kindPlace → TestReadable r (n l)) in
     let there : P (recordOf (now (l .before .args .nodes)) (at l)) =
     (ok l .readable (at l) i .size, ok l .kind (at l) i, ok l .test (at l) i) in
     (l .before .pre .1, subst P (sym (read-is c ∙ same l)) there)
@@ -98,7 +101,7 @@ widen-record-requires c κs =
     let k = c .before in
     let l = turn k in
     let lent = part-is (nodes l) (at l) (a k) (e k) (starts k) (ends k) ∙ same l in
-    (l .before .pre .1, subst (λ (r : List ℤ). Readable r (length (x l))) (sym lent) (ok l .readable (at l) (l .loop .inv .inside)))
+    (l .before .pre .1, subst (λ (r : List ℤ). Readable r (n l)) (sym lent) (ok l .readable (at l) (l .loop .inv .inside)))
 
 same-length : tie.Need-same-length Inv-loop μ-loop
 same-length c =
@@ -133,7 +136,7 @@ pub descend-by-spec : {M : Type 1} → statement M
 descend-by-spec =
     tie.close
     (tie.spec
-    Inv-loop μ-loop (λ c. going-starts (c .pre .0) (now (c .args .trace))) (λ c κs. (inside (c .before), low (c .before))) next-of-requires
+    Inv-loop μ-loop (λ c. going-starts (c .pre .0) (samplesOf (now (c .args .trace)))) (λ c κs. (inside (c .before), low (c .before))) next-of-requires
     (λ c κs. low (c .before .before .before)) (λ c κs. low (c .before .before .before .before)) (λ c. omega (arith, starts c, low (turn c)))
     (λ c. omega (arith, starts c, ends c)) (λ c. omega (arith, starts c, ends c)) (λ c. omega (arith, ends c, inside (turn c)))
     widen-record-requires same-length returns loop-less loop-again)

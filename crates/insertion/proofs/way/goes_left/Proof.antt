@@ -13,6 +13,8 @@ use borrow.Author.Needs.{needs, sfits-of}
 use Rattle.integer.specs.Words.{if_then_else_}
 use Rattle.integer.proofs.Width.{of-mag, read}
 use Rattle.segment.specs.Roots.{floorRoot}
+use Rattle.segment.specs.Stored.{samplesOf}
+use Rattle.segment.proofs.Stored.{samples-length}
 use Rattle.dstree.specs.Figures.{run, width}
 use Rattle.tables.specs.Layout.{kindPlace, runFirstPlace, runLastPlace, thresholdPlace}
 use Rattle.tables.specs.View.{valueAt, smallAt, testIn}
@@ -30,7 +32,7 @@ module _ (c : tie.After-struct-told) where
   narrow =
       let k = c .before .before .before in
       let s = k .before .before .before in
-      omega (arith, s .pre .1 .on .from-1, s .pre .1 .on .to-n, s .pre .0 .few, k .before .small-at2 .ensures, k .small-at3 .ensures)
+      omega (arith, s .pre .1 .on .from-1, s .pre .1 .on .to-n, s .pre .0 .few, samples-length (now (s .args .trace)), k .before .small-at2 .ensures, k .small-at3 .ensures)
 
 is-left-requires : tie.Need-is-left-requires
 is-left-requires c κs = rw (sum-read c) (omega (arith, sum-most (narrow c) (c .before .before .figures-on .ensures .1 .1 .0)))
@@ -42,7 +44,7 @@ returns c =
     let k = f .before in
     let s = k .before .before .before in
     let r = now (s .args .«record») in
-    let x = now (s .args .trace) in
+    let x = samplesOf (now (s .args .trace)) in
     let g = f .figures-on in
     let value = c .before .before .value-at in
     let kind : k .before .before .small-at .result ≡ smallAt r kindPlace = k .before .before .small-at .ensures in

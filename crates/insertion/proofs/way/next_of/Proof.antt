@@ -4,6 +4,7 @@ use native.Mathlib.Omega.{arith}
 use denote.Ref.{now}
 use borrow.Author.Needs.{needs}
 use Rattle.integer.specs.Words.{if_then_else_}
+use Rattle.segment.specs.Stored.{samplesOf}
 use Rattle.dstree.specs.Node.{goesLeft}
 use Rattle.tables.specs.Layout.{kindPlace, firstPlace, rightPlace}
 use Rattle.tables.specs.View.{smallAt, testIn}
@@ -15,7 +16,7 @@ use Rattle.insertion.proofs.way.next_of.Tie as tie
 returns : tie.Need-returns
 returns c =
     let s = c .before .before in
-    sym (ap orZero (child-leaf (now (s .args .«record»)) (now (s .args .trace)) (smallAt (now (s .args .«record»)) kindPlace) (sym (c .before .small-at .ensures) ∙ c .if1 .taken)))
+    sym (ap orZero (child-leaf (now (s .args .«record»)) (samplesOf (now (s .args .trace))) (smallAt (now (s .args .«record»)) kindPlace) (sym (c .before .small-at .ensures) ∙ c .if1 .taken)))
 
 goes-left-requires : tie.Need-goes-left-requires
 goes-left-requires c κs =
@@ -29,7 +30,7 @@ returns-2 c =
     let k = c .before .before .before .before in
     let s = k .before .before in
     let r = now (s .args .«record») in
-    let x = now (s .args .trace) in
+    let x = samplesOf (now (s .args .trace)) in
     let e : k .before .small-at .result ≡ smallAt r kindPlace = k .before .small-at .ensures in
     let left : c .before .before .before .small-at2 .result ≡ smallAt r firstPlace = c .before .before .before .small-at2 .ensures in
     let right : c .before .before .small-at3 .result ≡ smallAt r rightPlace = c .before .before .small-at3 .ensures in

@@ -8,6 +8,8 @@ use native.Mathlib.Numerals.{add-one}
 use lib.IntN.{ℤ}
 use lib.ListN.{length}
 use denote.Ref.{now}
+use Rattle.segment.specs.Stored.{samplesOf}
+use Rattle.segment.proofs.Stored.{samples-length}
 use Rattle.dstree.specs.Measures.{Trace}
 use Rattle.dstree.specs.Figures.{run}
 use Rattle.dstree.specs.Adding.{widenSegment}
@@ -19,7 +21,7 @@ use Rattle.insertion.proofs.widening.widen_record.Statement.{statement}
 use Rattle.insertion.proofs.widening.widen_record.Tie as tie
 
 abbrev Inv-loop : tie.InvT-loop
-Inv-loop record₀ trace sums squares count first₀ i₀ «record» first i = (i ≤ count) × (first ≡ startIn record₀ i) × («record» ≡ partly trace record₀ i)
+Inv-loop record₀ trace sums squares count first₀ i₀ «record» first i = (i ≤ count) × (first ≡ startIn record₀ i) × («record» ≡ partly (samplesOf trace) record₀ i)
 
 abbrev μ-loop : tie.MeasureT-loop
 μ-loop record₀ trace sums squares count first₀ i₀ «record» first i = count - i
@@ -29,8 +31,11 @@ module _ (c : tie.In-loop Inv-loop μ-loop) where
   abbrev old : List ℤ
   old = now (c .before .before .before .before .args .«record»)
 
+  abbrev words : List ℤ
+  words = now (c .before .before .before .before .args .trace)
+
   abbrev x : Trace
-  x = now (c .before .before .before .before .args .trace)
+  x = samplesOf words
 
   inside : c .before .loop .i < smallAt old segmentsPlace
   inside = omega (arith, c .before .before .small-at .ensures)
@@ -41,14 +46,14 @@ module _ (c : tie.In-loop Inv-loop μ-loop) where
   long : length (c .before .loop .«record») ≡ recordPlaces
   long = ap length (c .before .loop .inv .2) ∙ (partly-length x old (c .before .loop .i) (omega (arith, room)) ∙ c .before .before .before .before .pre .1 .size)
 
-  readable : SegmentReadable old (c .before .loop .i) (startIn old (c .before .loop .i)) (length x)
+  readable : SegmentReadable old (c .before .loop .i) (startIn old (c .before .loop .i)) (length words)
   readable = c .before .before .before .before .pre .1 .segment (c .before .loop .i) inside
 
   end-is : endIn (c .before .loop .«record») (c .before .loop .i) ≡ endIn old (c .before .loop .i)
   end-is = ap (λ (r : List ℤ). endIn r (c .before .loop .i)) (c .before .loop .inv .2) ∙ end-later x old (c .before .loop .i) room
 
 loop-holds : tie.Need-loop-holds Inv-loop μ-loop
-loop-holds c = let s = c .before .before in (omega arith, refl, sym (partly-none (now (s .args .trace)) (now (s .args .«record»))))
+loop-holds c = let s = c .before .before in (omega arith, refl, sym (partly-none (samplesOf (now (s .args .trace))) (now (s .args .«record»))))
 
 widen-segment-requires : tie.Need-widen-segment-requires Inv-loop μ-loop
 widen-segment-requires c κs =
@@ -59,7 +64,7 @@ widen-segment-requires c κs =
       (
         long k,
         omega (arith, inside k),
-        rw (l .inv .2, l .inv .1) (readable-later (x k) (old k) (l .i) (room k) (startIn (old k) (l .i)) (length (x k)) (readable k)),
+        rw (l .inv .2, l .inv .1) (readable-later (x k) (old k) (l .i) (room k) (startIn (old k) (l .i)) (length (words k)) (readable k)),
       ),
     )
 
@@ -67,7 +72,7 @@ add-first : tie.Need-add-first Inv-loop μ-loop
 add-first c =
     let k = c .before .before .before .before .before in
     let e : c .before .before .before .small-at2 .result ≡ endIn (k .before .loop .«record») (k .before .loop .i) = c .before .before .before .small-at2 .ensures in
-    omega (arith, e ∙ end-is k, readable k .on .to-n, k .before .before .before .before .pre .0 .few)
+    omega (arith, e ∙ end-is k, readable k .on .to-n, k .before .before .before .before .pre .0 .few, samples-length (words k))
 
 loop-again : tie.Need-loop-again Inv-loop μ-loop
 loop-again c =
@@ -90,7 +95,7 @@ same-length c =
     let s = c .before .before .before .before in
     let l = c .before .loop in
     let e : c .before .before .small-at .result ≡ smallAt (now (s .args .«record»)) segmentsPlace = c .before .before .small-at .ensures in
-    ap length (l .inv .2) ∙ partly-length (now (s .args .trace)) (now (s .args .«record»)) (l .i) (omega (arith, s .pre .1 .few, s .pre .1 .size))
+    ap length (l .inv .2) ∙ partly-length (samplesOf (now (s .args .trace))) (now (s .args .«record»)) (l .i) (omega (arith, s .pre .1 .few, s .pre .1 .size))
 
 returns : tie.Need-returns Inv-loop μ-loop
 returns c =
@@ -98,7 +103,7 @@ returns c =
     let l = c .before .loop in
     let e : c .before .before .small-at .result ≡ smallAt (now (s .args .«record»)) segmentsPlace = c .before .before .small-at .ensures in
     let all : l .i ≡ smallAt (now (s .args .«record»)) segmentsPlace = omega arith in
-    l .inv .2 ∙ (ap (partly (now (s .args .trace)) (now (s .args .«record»))) all ∙ partly-all (now (s .args .trace)) (now (s .args .«record»)))
+    l .inv .2 ∙ (ap (partly (samplesOf (now (s .args .trace))) (now (s .args .«record»))) all ∙ partly-all (samplesOf (now (s .args .trace))) (now (s .args .«record»)))
 
 pub widen-record-spec : {M : Type 1} → statement M
 widen-record-spec =

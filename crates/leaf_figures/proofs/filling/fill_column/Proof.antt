@@ -10,11 +10,11 @@ use mir.Syntax.{w64}
 use mir.Facts.{toZ-ofZ}
 use Rattle.integer.proofs.Width.{of-mag}
 use Rattle.integer.proofs.Lists.{In}
-use Rattle.dstree.specs.Measures.{Trace}
+use Rattle.segment.specs.Stored.{samplesOf}
 use Rattle.dstree.specs.Figures.{run, sumOn, scatterOn}
 use Rattle.tables.specs.View.{traceIn}
-use Rattle.tables.specs.Runs.{RunOf, RunOfTrace}
-use Rattle.tables.proofs.Parts.{run-of}
+use Rattle.tables.specs.Runs.{RunOfTrace}
+use Rattle.tables.proofs.Parts.{run-of-words}
 use Rattle.leaf_figures.specs.Rows.{Column}
 use Rattle.leaf_figures.proofs.Listing.{in-listed}
 use Rattle.leaf_figures.proofs.Filled.{Out, column-more, sums-out, scatters-out}
@@ -50,8 +50,7 @@ run-at c =
 
 figures-on-requires : tie.Need-figures-on-requires Inv-loop μ-loop
 figures-on-requires c κs =
-    let a = c .before .before .before .before .before .args in
-    subst (λ (x : Trace). RunOf (length x) (a .first) (a .last)) (sym (c .trace-at .ensures)) (run-of (run-at (c .before)))
+    run-of-words (c .trace-at .result .now) (c .trace-at .ensures) (run-at (c .before))
 
 -- the place that is written
 inside : (c : tie.After-figures-on Inv-loop μ-loop) → c .before .before .before .before .before .before .args .f * 65 + c .before .before .before .before .before .loop .p < 3120
@@ -74,7 +73,7 @@ loop-again c =
     let few : l .p < 65 = omega (arith, s .pre .2, k .loop-test .taken) in
     let in-sums : at < length (l .sums) = omega (arith, inside (c .before), l .inv .2) in
     let in-scatters : at < length (l .scatters) = omega (arith, inside (c .before), l .inv .4) in
-    let trace : c .before .before .trace-at .result .now ≡ traceIn (a .samples .now) (a .n) (getD list (l .p) 0) =
+    let trace : samplesOf (c .before .before .trace-at .result .now) ≡ traceIn (a .samples .now) (a .n) (getD list (l .p) 0) =
     c .before .before .trace-at .ensures ∙ ap (traceIn (a .samples .now) (a .n)) (c .before .before .before .wide .ensures) in
     rw (toZ-ofZ (of-mag {w = w64} (r .sum) (c .struct-told .given .0 .1))) (
       omega arith,

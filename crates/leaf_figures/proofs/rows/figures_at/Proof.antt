@@ -8,11 +8,9 @@ use borrow.Author.Needs.{needs}
 use mir.Syntax.{w64}
 use mir.Facts.{toZ-ofZ}
 use Rattle.integer.proofs.Width.{small}
-use Rattle.dstree.specs.Measures.{Trace}
 use Rattle.dstree.specs.Figures.{run, sumOn, scatterOn}
 use Rattle.tables.specs.View.{traceIn}
-use Rattle.tables.specs.Runs.{RunOf}
-use Rattle.tables.proofs.Parts.{run-of}
+use Rattle.tables.proofs.Parts.{run-of-words}
 use Rattle.leaf_figures.specs.Rows.{FiguresAt}
 use Rattle.leaf_figures.proofs.rows.figures_at.Statement.{statement}
 use Rattle.leaf_figures.proofs.rows.figures_at.Tie as tie
@@ -47,8 +45,7 @@ shared-slice-read-t22 c = kept (c .before .before) .in-scatters
 
 figures-on-requires : tie.Need-figures-on-requires
 figures-on-requires c κs =
-    let s = c .before .before .before .before in
-    subst (λ (x : Trace). RunOf (length x) (s .args .first) (s .args .last)) (sym (c .trace-at .ensures)) (run-of (s .pre .0))
+    run-of-words (c .trace-at .result .now) (c .trace-at .ensures) (c .before .before .before .before .pre .0)
 
 returns : tie.Need-returns
 returns c =

@@ -8,8 +8,9 @@ use lib.Dec.{T}
 use borrow.Author.Needs.{needs}
 use borrow.Author.Tests.{not-false}
 use Rattle.integer.proofs.Lists.{In, in-nil}
+use Rattle.segment.specs.Stored.{samplesOf}
 use Rattle.tables.specs.View.{traceIn}
-use Rattle.tables.proofs.Parts.{trace-length}
+use Rattle.tables.proofs.Parts.{words-length}
 use Rattle.leaf_figures.proofs.Listing.{in-listed, all-taken-more}
 use Rattle.leaf_figures.proofs.sameness.all_same.Statement.{statement}
 use Rattle.leaf_figures.proofs.sameness.all_same.Tie as tie
@@ -50,8 +51,8 @@ same-trace-requires c κs =
     let f = w .before .before .before .before in
     let s = f .before .before .before .before in
     let a = s .args in
-    let first : length (f .trace-at .result .now) ≡ a .n = ap length (f .trace-at .ensures) ∙ trace-length (a .samples .now) (a .n) (f .before .wide .result) (first-room (f .before)) in
-    let other : length (c .trace-at2 .result .now) ≡ a .n = ap length (c .trace-at2 .ensures) ∙ trace-length (a .samples .now) (a .n) (w .wide2 .result) (room w) in
+    let first : length (f .trace-at .result .now) ≡ a .n = words-length (a .samples .now) (f .trace-at .result .now) (a .n) (f .before .wide .result) (f .trace-at .ensures) (first-room (f .before)) in
+    let other : length (c .trace-at2 .result .now) ≡ a .n = words-length (a .samples .now) (c .trace-at2 .result .now) (a .n) (w .wide2 .result) (c .trace-at2 .ensures) (room w) in
     (first ∙ sym other, omega (arith, first, s .pre .narrow))
 
 loop-again : tie.Need-loop-again Inv-loop μ-loop
@@ -68,7 +69,7 @@ loop-again c =
     let trace = traceIn (a .samples .now) (a .n) in
     let equal = t .same-trace .ensures (not-false (t .same-trace .result) (c .if2 .left)) in
     let here : trace (getD list (l .i) 0) ≡ trace (getD list 0 0) =
-    sym (ap trace (w .wide2 .ensures)) ∙ (sym (o .trace-at2 .ensures) ∙ (sym equal ∙ (f .trace-at .ensures ∙ ap trace (f .before .wide .ensures)))) in
+    sym (ap trace (w .wide2 .ensures)) ∙ (sym (o .trace-at2 .ensures) ∙ (ap samplesOf (sym equal) ∙ (f .trace-at .ensures ∙ ap trace (f .before .wide .ensures)))) in
     (omega arith, all-taken-more list (λ (u : ℕ). trace u ≡ trace (getD list 0 0)) (l .i) (omega (arith, s .pre .places, s .pre .few, k .loop-test .taken)) (l .inv .1) here)
 
 returns-3 : tie.Need-returns-3 Inv-loop μ-loop

@@ -1,15 +1,13 @@
--- `leaf_figures::sameness::same_trace` meets its contract: while none is counted, all samples so far are the same.
+-- `leaf_figures::sameness::same_trace` meets its contract: while none is counted, all words so far are the same.
 use mathlib.Core.Path.{_≡_, sym, _∙_}
 use Prim.Native.Nat.{ℕ, _-_, _≤_, _<_}
 use native.Mathlib.Omega.{arith}
 use lib.IntN.{pos}
 use lib.ListN.{getD}
 use lib.Seq.{ext-getD}
-use mir.Facts.{toZ-ofZ}
 use borrow.Author.Count.{below-more}
 use borrow.Author.Tests.{eqb-true}
-use Rattle.integer.proofs.Width.{of-mag}
-use Rattle.segment.proofs.Steps.{sampleWidth}
+use Rattle.segment.proofs.Steps.{read-plain}
 use Rattle.leaf_figures.proofs.sameness.same_trace.Statement.{statement}
 use Rattle.leaf_figures.proofs.sameness.same_trace.Tie as tie
 
@@ -24,8 +22,8 @@ loop-again c =
     let k = c .before .before .before in
     let l = k .before .loop in
     let a = k .before .before .args in
-    let x-back = toZ-ofZ (of-mag {w = sampleWidth} (getD (a .x .now) (l .i) (pos 0)) (c .before .before .differs-arg .given)) in
-    let y-back = toZ-ofZ (of-mag {w = sampleWidth} (getD (a .y .now) (l .i) (pos 0)) (c .before .differs-arg2 .given)) in (
+    let x-back = read-plain (a .x .now) (l .i) (c .before .before .differs-arg .given) in
+    let y-back = read-plain (a .y .now) (l .i) (c .before .differs-arg2 .given) in (
       omega arith,
       omega (arith, c .differs .ensures .1, l .inv .1),
       λ z. below-more _ (l .i) (l .inv .2 (omega (arith, z))) (sym x-back ∙ (c .differs .ensures .0 (omega (arith, z)) ∙ y-back)),

@@ -5,17 +5,16 @@ use borrow.Author.Needs.{needs}
 use mir.Syntax.{w64}
 use mir.Facts.{toZ-ofZ}
 use Rattle.integer.proofs.Width.{of-mag}
-use Rattle.dstree.specs.Measures.{Trace}
 use Rattle.dstree.specs.Figures.{run, sumOn, scatterOn}
 use Rattle.tables.specs.Runs.{RunOf}
-use Rattle.tables.proofs.Parts.{run-of}
+use Rattle.tables.proofs.Parts.{run-of-words}
 use Rattle.leaf_figures.specs.Sides.{withFigures, SmallFigures}
 use Rattle.leaf_figures.proofs.Taken.{with-small}
 use Rattle.leaf_figures.proofs.sides.with_trace.Statement.{statement}
 use Rattle.leaf_figures.proofs.sides.with_trace.Tie as tie
 
 on-trace : (c : tie.After-trace-at) → RunOf (length (c .trace-at .result .now)) (c .before .before .args .first) (c .before .before .args .last)
-on-trace c = let a = c .before .before .args in subst (λ (x : Trace). RunOf (length x) (a .first) (a .last)) (sym (c .trace-at .ensures)) (run-of (c .before .before .pre .0))
+on-trace c = run-of-words (c .trace-at .result .now) (c .trace-at .ensures) (c .before .before .pre .0)
 
 returns : tie.Need-returns
 returns c =

@@ -6,12 +6,12 @@ use mathlib.Core.Bool.{Bool, true, false}
 use mathlib.Core.Option.{Option, some}
 use mathlib.Core.List.{List, [], _∷_, _++_, map, foldl}
 use native.Mathlib.Omega.{arith}
+use lib.IntN.{ℤ}
 use lib.ListN.{length, set}
 use lib.Seq.{getD-set-same, getD-set-other}
 use Rattle.integer.specs.Words.{if_then_else_, isIn}
 use Rattle.integer.proofs.Tests.{test-true}
 use Rattle.integer.proofs.Lists.{same-or-not, In, first, in-is, in-append-left, in-append-right, in-snoc}
-use Rattle.dstree.specs.Measures.{Trace}
 use Rattle.dstree.specs.Matching.{Near, bestWith, distancesIn}
 use Rattle.dstree.specs.Batch.{bestAmong, readOnce}
 use Rattle.dstree.proofs.BatchSteps.{same-in, best-more}
@@ -42,7 +42,7 @@ in-other read j k f = same-in k (read ++ (j ∷ [])) read (λ i. by (in-snoc rea
     by (inl i) = i
     by (inr e) = absurd (f e)
 
-module _ (t : Tables) (run : Trace) (many j : ℕ) (at : LeafInTables t j) {read bests marks : List ℕ} {leaves : ℕ}
+module _ (t : Tables) (run : List ℤ) (many j : ℕ) (at : LeafInTables t j) {read bests marks : List ℕ} {leaves : ℕ}
     (k : BestsAndMarks t run many read bests marks leaves) where
   pub once-old : isMarked marks j ≡ true → BestsAndMarks t run many (readOnce read j) bests marks leaves
   once-old e =

@@ -4,9 +4,11 @@ use mathlib.Core.Path.{_≡_}
 use mathlib.Core.Bool.{Bool, not}
 use mathlib.Core.Option.{Option, none, some}
 use mathlib.Core.List.{List, foldl}
+use lib.IntN.{ℤ}
 use lib.ListN.{length, getD}
 use lib.Dec.{T, eqb}
 use Rattle.integer.specs.Words.{counting, those, isIn}
+use Rattle.segment.specs.Stored.{samplesOf}
 use Rattle.dstree.specs.Measures.{Trace}
 use Rattle.dstree.specs.Matching.{Near, bestWith}
 use Rattle.dstree.specs.Batch.{mostQueries, queriesIn, bestAmong}
@@ -17,8 +19,8 @@ use Rattle.reading.specs.Listed.{recordAt}
 
 -- ---- what is asked of the tables
 
--- well-formed tables with a trace, and a run of so many queries of their length, 1 to 16
-pub record Searchable (t : Tables) (run : Trace) (many : ℕ) : Type 0 where
+-- well-formed tables with a trace, and a run of words for so many queries of their length, 1 to 16
+pub record Searchable (t : Tables) (run : List ℤ) (many : ℕ) : Type 0 where
   pub formed : T (wellFormed t)
   pub long : Long t
   pub some-trace : 0 < traceCount t
@@ -27,12 +29,12 @@ pub record Searchable (t : Tables) (run : Trace) (many : ℕ) : Type 0 where
   pub few : many ≤ mostQueries
 
 -- query i of a run
-abbrev pub queryAt : Tables → Trace → ℕ → Trace
+abbrev pub queryAt : Tables → List ℤ → ℕ → Trace
 queryAt t run i = traceIn run (measuresOf t .n) i
 
 -- the queries of a run
-abbrev pub queriesOf : Tables → Trace → ℕ → List Trace
-queriesOf t run many = queriesIn (measuresOf t .n) many run
+abbrev pub queriesOf : Tables → List ℤ → ℕ → List Trace
+queriesOf t run many = queriesIn (measuresOf t .n) many (samplesOf run)
 
 -- ---- marks
 
@@ -63,12 +65,12 @@ pub record BatchRoom (t : Tables) (many : ℕ) (bests marks : List ℕ) (leaves 
   pub counted : CountedOnce t marks leaves
 
 -- with these leaves read: each query's best of the traces in them, and a mark for each of them
-pub record BestsAndMarks (t : Tables) (run : Trace) (many : ℕ) (read bests marks : List ℕ) (leaves : ℕ) : Type 0 where
+pub record BestsAndMarks (t : Tables) (run : List ℤ) (many : ℕ) (read bests marks : List ℕ) (leaves : ℕ) : Type 0 where
   pub best-is : (i : ℕ) → i < many → bestBy leaves (recordAt bests i) ≡ bestAmong (tracesIn t) (treeIn t) (queryAt t run i) read
   pub mark-is : (j : ℕ) → j < nodeCount t → isMarked marks j ≡ isIn j read
 
 -- a function that makes these leaves of those read before, whatever they were
-abbrev pub Turns : Tables → Trace → ℕ → (List ℕ → List ℕ) → List ℕ → List ℕ → ℕ → List ℕ → List ℕ → ℕ → Type 0
+abbrev pub Turns : Tables → List ℤ → ℕ → (List ℕ → List ℕ) → List ℕ → List ℕ → ℕ → List ℕ → List ℕ → ℕ → Type 0
 Turns t run many reads bests marks leaves bests′ marks′ leaves′ =
     (read : List ℕ) → BestsAndMarks t run many read bests marks leaves → BestsAndMarks t run many (reads read) bests′ marks′ leaves′
 

@@ -1,6 +1,6 @@
 // A leaf read for all queries at once, marked and counted. Each query keeps its nearest trace so far in a record of two places, trace
 // number and distance.
-use segment::Sample;
+use segment::Word;
 use tables::control::field;
 use tables::numbers::wide;
 use tables::places::FIRST;
@@ -10,6 +10,7 @@ ghost use mathlib.Core.Path.{_≡_};
 ghost use mathlib.Core.List.{map};
 ghost use Prim.Native.Nat.{_+_, _*_, _≤_, _<_, min};
 ghost use lib.ListN.{length, getD, set};
+ghost use Rattle.segment.specs.Stored.{samplesOf};
 ghost use Rattle.dstree.specs.Batch.{mostQueries, readOnce};
 ghost use Rattle.tables.specs.Layout.{kindPlace};
 ghost use Rattle.tables.specs.Tables.{nodeCount, recordOf};
@@ -28,12 +29,12 @@ fn filled(leaves: usize) -> usize
 
 // The leaf whose list starts at `head`, for one query, whose record is record i. So many leaves were read before.
 fn read_for(
-    samples: &[Sample],
+    samples: &[Word],
     links: &[u16],
     n: usize,
     count: usize,
     head: usize,
-    query: &[Sample],
+    query: &[Word],
     bests: &mut [u64],
     i: usize,
     leaves: usize,
@@ -41,7 +42,7 @@ fn read_for(
     requires { ⌜ Stored (now samples) (now links) n count head × (length (now query) ≡ n) × (i < mostQueries)
         × (2 * i + 2 ≤ length (now bests)) ⌝ }
     ensures { λ _. ⌜ OneRead leaves i
-        (map (nearOf (now (samples .entry)) n (now (query .entry))) (numbersOf (now (links .entry)) count head))
+        (map (nearOf (now (samples .entry)) n (samplesOf (now (query .entry)))) (numbersOf (now (links .entry)) count head))
         (now (bests .entry)) (now (bests .exit)) ⌝ }
 {
     let listed = filled(leaves);
@@ -57,12 +58,12 @@ fn read_for(
 // .. for all queries of the run, with one more in the mark of the leaf, node j. Answers how many leaves were read, this one too. So a
 // reading shows in the caller's marks, whatever becomes of its answer.
 fn read_for_all(
-    samples: &[Sample],
+    samples: &[Word],
     links: &[u16],
     n: usize,
     count: usize,
     head: usize,
-    queries: &[Sample],
+    queries: &[Word],
     many: usize,
     bests: &mut [u64],
     marks: &mut [u8],
@@ -94,10 +95,10 @@ fn read_for_all(
 // then lack its traces; and one that reads a leaf with a mark again, since the mark is then above 1, be the answer kept or not.
 pub fn read_once(
     control: &[u16],
-    samples: &[Sample],
+    samples: &[Word],
     nodes: &[i64],
     links: &[u16],
-    queries: &[Sample],
+    queries: &[Word],
     many: usize,
     j: usize,
     bests: &mut [u64],

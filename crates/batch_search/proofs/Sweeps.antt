@@ -1,15 +1,17 @@
 -- Query after query: what the first ones read, and what is found in the end.
-use Prim.Native.Nat.{ℕ, zero, suc, _+_, _≤_, _<_}
+use Prim.Native.Nat.{ℕ, zero, suc, _+_, _*_, _≤_, _<_}
 use mathlib.Core.Path.{_≡_, refl, sym, _∙_, ap, subst}
 use mathlib.Core.Option.{some, Option·some-injective}
-use mathlib.Core.List.{List, [], _∷_, map, foldl, flatten, foldl-append}
+use mathlib.Core.List.{List, [], _∷_, _++_, map, foldl, flatten, foldl-append}
 use native.Mathlib.Numerals.{add-one}
 use native.Mathlib.Nat.{le-antisymm}
 use native.Mathlib.Omega.{arith}
+use lib.IntN.{ℤ}
 use lib.ListN.{length, getD, take, drop, length-map, List·getD-map}
 use Rattle.integer.specs.Words.{counting, those, isIn}
 use Rattle.integer.proofs.Lists.{In, in-getD, those-agree, those-lengths, from-counting}
 use Rattle.integer.proofs.Rows.{table-is}
+use Rattle.segment.specs.Stored.{samplesOf}
 use Rattle.dstree.specs.Measures.{Trace, workNeeded}
 use Rattle.dstree.specs.Formed.{Shape}
 use Rattle.dstree.specs.Matching.{Near, leaves}
@@ -20,13 +22,19 @@ use Rattle.dstree.proofs.SheetPieces.{pieces-length, pieces-at, pieces-more}
 use Rattle.dstree.proofs.BatchSteps.{HasBest, has-best, batch-leaves, trail-counted}
 use Rattle.tables.specs.Tables.{Tables, measuresOf, nodeCount, filled}
 use Rattle.tables.specs.View.{treeIn, traceIn, tracesIn}
+use Rattle.tables.proofs.Parts.{part-of-words}
 use Rattle.tables.proofs.Views.{tree-size, traces-size, tree-formed}
 use Rattle.reading.specs.Listed.{recordAt, nearsIn}
 use Rattle.batch_leaves.specs.LeavesRead.{Searchable, queryAt, queriesOf, isMarked, markedOf, CountedOnce, bestBy, BatchRoom, BestsAndMarks, Turns}
 use Rattle.batch_search.specs.Batched.{TrailBegins, batch, BatchSearched}
 use Rattle.batch_leaves.proofs.Marks.{marked-no}
 
-module _ (t : Tables) (run : Trace) (many : ℕ) where
+module _ (t : Tables) (run : List ℤ) (many : ℕ) where
+  -- a query is its words' samples, or a piece of the run's
+  piece-is : (i : ℕ) → queryAt t run i ≡ take (measuresOf t .n) (drop (i * measuresOf t .n) (samplesOf run))
+  unfolding traceIn
+  piece-is i = part-of-words (measuresOf t .n) (i * measuresOf t .n) run
+
   -- the leaves that the first i queries read
   abbrev readBy : ℕ → List ℕ
   readBy i = batchRead (tracesIn t) (treeIn t) (queriesOf t run i)
@@ -36,9 +44,10 @@ module _ (t : Tables) (run : Trace) (many : ℕ) where
   read-none = refl
 
   read-more : (i : ℕ) → readBy (suc i) ≡ readFor (tracesIn t) (treeIn t) (readBy i) (queryAt t run i)
-  unfolding batchRead traceIn
+  unfolding batchRead
   read-more i =
-      ap (foldl (readFor (tracesIn t) (treeIn t)) []) (pieces-more (measuresOf t .n) i run)
+      ap (foldl (readFor (tracesIn t) (treeIn t)) [])
+      (pieces-more (measuresOf t .n) i (samplesOf run) ∙ ap (λ (x : Trace). queriesOf t run i ++ (x ∷ [])) (sym (piece-is i)))
       ∙ foldl-append (readFor (tracesIn t) (treeIn t)) [] (queriesOf t run i) (queryAt t run i ∷ [])
 
   -- ---- the loop over the queries
@@ -110,13 +119,12 @@ module _ (t : Tables) (run : Trace) (many : ℕ) where
         subst (λ (m : ℕ). Shape (measuresOf t .n) m (treeIn t)) (sym (traces-size t)) (tree-formed t (s .formed) .shape)
 
     query-at : (j : ℕ) → j < many → getD (queriesOf t run many) j [] ≡ queryAt t run j
-    unfolding traceIn
-    query-at j h = pieces-at (measuresOf t .n) many run j h
+    query-at j h = pieces-at (measuresOf t .n) many (samplesOf run) j h ∙ sym (piece-is j)
 
     in-queries : (j : ℕ) → j < many → In (queryAt t run j) (queriesOf t run many)
     in-queries j h =
         subst (λ (x : Trace). In x (queriesOf t run many)) (query-at j h)
-        (in-getD (queriesOf t run many) j [] (omega (arith, pieces-length (measuresOf t .n) many run)))
+        (in-getD (queriesOf t run many) j [] (omega (arith, pieces-length (measuresOf t .n) many (samplesOf run))))
 
     answer : Trace → Near
     answer query = nearOrZero (bestAmong (tracesIn t) (treeIn t) query read)
@@ -139,7 +147,7 @@ module _ (t : Tables) (run : Trace) (many : ℕ) where
     unfolding nearsIn
     answers-are =
         let long : length (map answer (queriesOf t run many)) ≡ many =
-        length-map (queriesOf t run many) answer ∙ pieces-length (measuresOf t .n) many run in
+        length-map (queriesOf t run many) answer ∙ pieces-length (measuresOf t .n) many (samplesOf run) in
         table-is (recordAt bests) (answer []) (map answer (queriesOf t run many)) many (sym long)
         (λ j h.
         let g : j < many = omega (arith, h, long) in
@@ -147,7 +155,7 @@ module _ (t : Tables) (run : Trace) (many : ℕ) where
 
     pub batch-found : CountedOnce t marks out → (work work′ trail trail′ : List ℕ) → TrailBegins (markedOf marks (nodeCount t)) trail trail′
         → length (leaves (treeIn t)) ≤ length trail → work′ ≡ filled (workNeeded (measuresOf t)) 0 work
-        → BatchSearched t run many work work′ trail trail′ bests out
+        → BatchSearched t (samplesOf run) many work work′ trail trail′ bests out
     unfolding batchBySteps answer
     batch-found counted work work′ trail trail′ w room zeroed =
         let T = those (λ number. isIn number read) (leaves (treeIn t)) in

@@ -4,6 +4,7 @@ use mathlib.Core.Path.{_≡_, refl, sym, _∙_, ap, subst}
 use mathlib.Core.Bool.{Bool, true, false}
 use mathlib.Core.List.{List}
 use native.Mathlib.Omega.{arith}
+use lib.IntN.{ℤ}
 use lib.ListN.{length}
 use lib.Dec.{ltb}
 use borrow.Author.Tests.{lt-ltb}
@@ -28,7 +29,7 @@ unfolding isPast isAbove
 past-is zero a bound = refl
 past-is (suc more) a bound = let e : ltb 0 (suc more) ≡ true = lt-ltb 0 (suc more) (omega arith) in rw e
 
-module _ (t : Tables) (run : Trace) (many i : ℕ) where
+module _ (t : Tables) (run : List ℤ) (many i : ℕ) where
   abbrev query : Trace
   query = queryAt t run i
 

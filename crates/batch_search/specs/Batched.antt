@@ -6,11 +6,10 @@ use mathlib.Core.List.{List}
 use lib.ListN.{length, take, drop, set}
 use Rattle.dstree.specs.Measures.{Trace, workNeeded}
 use Rattle.dstree.specs.Matching.{Near}
-use Rattle.dstree.specs.Batch.{Batch, batchBySteps}
+use Rattle.dstree.specs.Batch.{Batch, queriesIn, batchBySteps}
 use Rattle.tables.specs.Tables.{Tables, measuresOf, filled}
 use Rattle.tables.specs.View.{treeIn, tracesIn}
 use Rattle.reading.specs.Listed.{nearsIn}
-use Rattle.batch_leaves.specs.LeavesRead.{queriesOf}
 
 -- ---- the trail
 
@@ -33,7 +32,7 @@ batch answers leaves trail = record { answers = answers; leaves = leaves; trail 
 -- the first records, the leaves read and the trail's beginning are what the steps give; the trail's other places stay, and the needed
 -- places of search work are zero
 pub record BatchSearched (t : Tables) (run : Trace) (many : ℕ) (work work′ trail trail′ bests : List ℕ) (out : ℕ) : Type 0 where
-  pub found : batch (nearsIn many bests) out (take out trail′) ≡ batchBySteps (tracesIn t) (treeIn t) (queriesOf t run many)
+  pub found : batch (nearsIn many bests) out (take out trail′) ≡ batchBySteps (tracesIn t) (treeIn t) (queriesIn (measuresOf t .n) many run)
   pub within : out ≤ length trail
   pub trail-rest : drop out trail′ ≡ drop out trail
   pub work-zero : work′ ≡ filled (workNeeded (measuresOf t)) 0 work

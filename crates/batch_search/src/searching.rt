@@ -1,5 +1,5 @@
 // Query after query, with the sums that each needs, and search work left zero.
-use segment::Sample;
+use segment::Word;
 use tables::control::field;
 use tables::numbers::wide;
 use tables::places::CAPACITY;
@@ -9,6 +9,7 @@ ghost use mathlib.Core.Path.{_≡_};
 ghost use mathlib.Core.List.{[]};
 ghost use Prim.Native.Nat.{_<_, _≤_};
 ghost use lib.ListN.{length};
+ghost use Rattle.segment.specs.Stored.{samplesOf};
 ghost use Rattle.dstree.specs.Measures.{workNeeded};
 ghost use Rattle.dstree.specs.Matching.{leaves};
 ghost use Rattle.dstree.specs.Batch.{readFor, batchRead};
@@ -21,10 +22,10 @@ ghost use Rattle.batch_search.specs.Batched.{BatchSearched};
 // Query i: its sums, then its leaves. Answers how many leaves were read so far.
 fn search_query(
     control: &[u16],
-    samples: &[Sample],
+    samples: &[Word],
     nodes: &[i64],
     links: &[u16],
-    queries: &[Sample],
+    queries: &[Word],
     many: usize,
     i: usize,
     work: &mut [u64],
@@ -74,10 +75,10 @@ fn search_query(
 // read.
 fn search_queries(
     control: &[u16],
-    samples: &[Sample],
+    samples: &[Word],
     nodes: &[i64],
     links: &[u16],
-    queries: &[Sample],
+    queries: &[Word],
     many: usize,
     work: &mut [u64],
     bests: &mut [u64],
@@ -123,10 +124,10 @@ fn search_queries(
 // .. with the needed places of search work zero when it ends, whatever they held.
 fn search_marks(
     control: &[u16],
-    samples: &[Sample],
+    samples: &[Word],
     nodes: &[i64],
     links: &[u16],
-    queries: &[Sample],
+    queries: &[Word],
     many: usize,
     work: &mut [u64],
     bests: &mut [u64],
@@ -182,10 +183,10 @@ pub struct BatchRead {
 // leaves in the order in which they were read.
 pub fn search_batch(
     control: &[u16],
-    samples: &[Sample],
+    samples: &[Word],
     nodes: &[i64],
     links: &[u16],
-    queries: &[Sample],
+    queries: &[Word],
     many: usize,
     work: &mut [u64],
     trail: &mut [u16],
@@ -194,7 +195,7 @@ pub fn search_batch(
         × (workNeeded (measuresOf (withoutWork (now control) (now samples) (now nodes) (now links))) ≤ length (now work))
         × (length (leaves (treeIn (withoutWork (now control) (now samples) (now nodes) (now links)))) ≤ length (now trail)) ⌝ }
     ensures { λ r. ⌜ BatchSearched (withoutWork (now (control .entry)) (now (samples .entry)) (now (nodes .entry)) (now (links .entry)))
-        (now (queries .entry)) many (now (work .entry)) (now (work .exit)) (now (trail .entry)) (now (trail .exit)) (r .bests)
+        (samplesOf (now (queries .entry))) many (now (work .entry)) (now (work .exit)) (now (trail .entry)) (now (trail .exit)) (r .bests)
         (r .leaves) ⌝ }
 {
     let mut bests: [u64; 32] = [0; 32];

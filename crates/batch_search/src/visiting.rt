@@ -1,6 +1,6 @@
 // The leaves that one query of a batch asks for.
 use leaf_order::leaves::Next;
-use segment::Sample;
+use segment::Word;
 use tables::control::field;
 use tables::numbers::wide;
 use tables::places::N;
@@ -30,10 +30,10 @@ fn distance_at(bests: &[u64], i: usize) -> u64
 // the distance.
 pub fn visit(
     control: &[u16],
-    samples: &[Sample],
+    samples: &[Word],
     nodes: &[i64],
     links: &[u16],
-    queries: &[Sample],
+    queries: &[Word],
     many: usize,
     i: usize,
     sums: &[i64; 257],

@@ -12,9 +12,9 @@ use Rattle.dstree.specs.Measures.{Trace}
 use Rattle.dstree.specs.Matching.{Near}
 use Rattle.dstree.specs.KNearest.{listPlaces}
 use Rattle.dstree.specs.Refusals.{firstOf}
-use Rattle.dstree.specs.Batch.{Batch, batchBySteps}
+use Rattle.dstree.specs.Batch.{Batch, queriesIn, batchBySteps}
 use Rattle.dstree.specs.Book.{batching, batched, besideOf, answering, over}
-use Rattle.tables.specs.Tables.{Tables, labelledTables}
+use Rattle.tables.specs.Tables.{Tables, labelledTables, measuresOf}
 use Rattle.tables.specs.View.{treeIn, tracesIn}
 use Rattle.tables.specs.Answers.{foundBy, madeConditions}
 use Rattle.tables.specs.declared.Refusal.{Refusal}
@@ -24,7 +24,6 @@ use Rattle.search.specs.Searched.{withoutWork}
 use Rattle.calls.specs.Outcome.{outcome, unlessRefused}
 use Rattle.calls.specs.Effects.{batchConditionsIn, cleared, effectOf, outcomeOn}
 use Rattle.calls.proofs.Ends.{over-first}
-use Rattle.batch_leaves.specs.LeavesRead.{queriesOf}
 use Rattle.batch_search.specs.Batched.{batch, BatchSearched}
 use Rattle.batching.specs.Answered.{answerBy, listBy}
 use Rattle.batching.specs.declared.Batched.the-variants as o
@@ -56,7 +55,7 @@ module _ (control : List ℕ) (samples nodes : List ℤ) (links work labels : Li
     abbrev found : Batch
     found = batch (nearsIn many bests) out (take out trail′)
 
-    by-steps : found ≡ batchBySteps (tracesIn lent) (treeIn lent) (queriesOf lent run many)
+    by-steps : found ≡ batchBySteps (tracesIn lent) (treeIn lent) (queriesIn (measuresOf lent .n) many run)
     unfolding tracesIn treeIn
     by-steps = s .found
 

@@ -1,8 +1,10 @@
 // What a batch refuses: what every call on made tables does, then another number of queries than 1 to 16 or a list of another length
-// (14), then a run of another length (4), no trace stored (6), and a trail with fewer places than leaves (7).
+// (14), then a run of another length (4), a sample outside the limits (15), no trace stored (6), and a trail with fewer places than
+// leaves (7).
 
 use query_judging::judge_run;
 use segment::Sample;
+use segment::Word;
 use tables::Refusal;
 use tables::Verdict;
 use tables::control::field;
@@ -61,7 +63,7 @@ fn judge_own(
 
 pub fn judge(
     control: &[u16],
-    samples: &[Sample],
+    samples: &[Word],
     nodes: &[i64],
     links: &[u16],
     work: &[u64],

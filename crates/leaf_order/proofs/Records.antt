@@ -4,7 +4,10 @@ use mathlib.Core.Path.{_≡_, refl, sym, _∙_, ap, subst}
 use mathlib.Core.List.{List, []}
 use native.Mathlib.Omega.{arith}
 use lib.IntN.{ℤ}
+use lib.ListN.{length}
 use lib.Dec.{T}
+use Rattle.segment.specs.Stored.{samplesOf}
+use Rattle.segment.proofs.Stored.{samples-length}
 use Rattle.dstree.specs.Measures.{Trace}
 use Rattle.dstree.specs.Node.{bySum, byScatter, Test, Kind, leaf, inner, Node, nodeAt}
 use Rattle.dstree.specs.Matching.{ownBound, isLeaf}
@@ -12,7 +15,7 @@ use Rattle.tables.specs.Layout.{kindPlace, firstPlace, rightPlace}
 use Rattle.tables.specs.Tables.{recordOf}
 use Rattle.tables.specs.View.{smallAt, testIn, numbersFrom, kindIn, nodeIn, shapeIn}
 use Rattle.tables.proofs.Views.{shape-size, shape-node}
-use Rattle.query.specs.Bounded.{boundBy}
+use Rattle.query.specs.Bounded.{Bounded, boundBy}
 use Rattle.query.proofs.Own.{own-bound-in}
 use Rattle.best_first.specs.NodeKeys.{keyOf, childKey}
 use Rattle.best_first.proofs.Branching.{left-above, right-above}
@@ -44,6 +47,10 @@ module _ (nodes : List ℤ) (m : ℕ) where
   inner-by j (suc zero) h f e = record { test = testIn (recordOf nodes j) bySum; is-inner = e }
   inner-by j (suc (suc zero)) h f e = record { test = testIn (recordOf nodes j) byScatter; is-inner = e }
   inner-by j (suc (suc (suc v))) h f e = absurd (omega arith)
+
+  -- a query of words has as many samples
+  pub bounded-words : (query : List ℤ) → Walkable nodes m (samplesOf query) → (j : ℕ) → j < m → Bounded (recordOf nodes j) (length query)
+  bounded-words query w j h = subst (Bounded (recordOf nodes j)) (samples-length query) (w .bounded j h)
 
   module _ (query : Trace) (w : Walkable nodes m query) where
     pub number-fits : (j : ℕ) → j < m → j ≤ 8191

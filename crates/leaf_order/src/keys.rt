@@ -1,8 +1,9 @@
 // The key that a node waits by, and what is past a limit.
-use segment::Sample;
+use segment::Word;
 ghost use mathlib.Core.Path.{_≡_};
 ghost use Prim.Native.Nat.{_+_, _*_, _≤_, _<_, max};
 ghost use lib.ListN.{length};
+ghost use Rattle.segment.specs.Stored.{samplesOf};
 ghost use Rattle.tables.specs.Layout.{recordPlaces};
 ghost use Rattle.tables.specs.Tables.{recordOf};
 ghost use Rattle.prefixes.specs.Prefixes.{Prefixes};
@@ -17,13 +18,13 @@ pub fn node_key(
     nodes: &[i64],
     j: usize,
     above: u64,
-    query: &[Sample],
+    query: &[Word],
     sums: &[i64; 257],
     squares: &[u64; 257],
 ) -> u64
     requires { ⌜ (j * recordPlaces + recordPlaces ≤ length (now nodes)) × (j < keyBase) × (above < boundsBelow)
-        × Prefixes (now query) (now sums) (now squares) × Bounded (recordOf (now nodes) j) (length (now query)) ⌝ }
-    ensures { λ r. ⌜ r ≡ keyOf (max (boundBy (now (query .entry)) (recordOf (now (nodes .entry)) j)) above) j ⌝ }
+        × Prefixes (samplesOf (now query)) (now sums) (now squares) × Bounded (recordOf (now nodes) j) (length (now query)) ⌝ }
+    ensures { λ r. ⌜ r ≡ keyOf (max (boundBy (samplesOf (now (query .entry))) (recordOf (now (nodes .entry)) j)) above) j ⌝ }
 {
     let record = tables::records::record_at(nodes, j);
     let own = query::bound::own_bound(record, query, sums, squares);

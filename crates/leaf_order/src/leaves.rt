@@ -1,12 +1,13 @@
 // The leaves of a tree, by bound and then by number, one at a time.
 use crate::keys::KEY_BASE;
-use segment::Sample;
+use segment::Word;
 use tables::places::FIRST;
 use tables::places::KIND;
 use tables::places::RIGHT;
 use tables::records::node_small;
 ghost use Prim.Native.Nat.{_≤_, _<_};
 ghost use lib.ListN.{length, getD};
+ghost use Rattle.segment.specs.Stored.{samplesOf};
 ghost use Rattle.heap.specs.Heap.{IsHeap};
 ghost use Rattle.tables.specs.Layout.{kindPlace};
 ghost use Rattle.tables.specs.Tables.{recordOf};
@@ -26,13 +27,15 @@ pub enum Next {
 // Search work has a place for each node. What stands in it before does not matter; one key waits then, for all leaves.
 pub fn begin(
     nodes: &[i64],
-    query: &[Sample],
+    query: &[Word],
     sums: &[i64; 257],
     squares: &[u64; 257],
     work: &mut [u64],
 )
-    requires { ⌜ Walkable (now nodes) (length (now work)) (now query) × Prefixes (now query) (now sums) (now squares) ⌝ }
-    ensures { λ _. ⌜ Begun (shapeIn (now (nodes .entry)) (length (now (work .entry)))) (now (query .entry)) (now (work .exit)) ⌝ }
+    requires { ⌜ Walkable (now nodes) (length (now work)) (samplesOf (now query))
+        × Prefixes (samplesOf (now query)) (now sums) (now squares) ⌝ }
+    ensures { λ _. ⌜ Begun (shapeIn (now (nodes .entry)) (length (now (work .entry)))) (samplesOf (now (query .entry)))
+        (now (work .exit)) ⌝ }
 {
     let root = crate::keys::node_key(nodes, 0, 0, query, sums, squares);
     heap::push(work, 0, root);
@@ -42,7 +45,7 @@ pub fn begin(
 // bound is at least its parent's and its number is higher.
 fn open_node(
     nodes: &[i64],
-    query: &[Sample],
+    query: &[Word],
     sums: &[i64; 257],
     squares: &[u64; 257],
     work: &mut [u64],
@@ -50,11 +53,12 @@ fn open_node(
     j: usize,
     above: u64,
 )
-    requires { ⌜ Walkable (now nodes) (length (now work)) (now query) × Prefixes (now query) (now sums) (now squares)
+    requires { ⌜ Walkable (now nodes) (length (now work)) (samplesOf (now query))
+        × Prefixes (samplesOf (now query)) (now sums) (now squares)
         × (0 < n) × (n < length (now work)) × IsHeap n (now work) ⌝ }
     requires inner { ⌜ (j < length (now work)) × (above < boundsBelow) × (1 ≤ smallAt (recordOf (now nodes) j) kindPlace)
         × (getD (now work) 0 0 ≤ keyOf above j) ⌝ }
-    ensures { λ _. ⌜ ChildrenPushed (shapeIn (now (nodes .entry)) (length (now (work .entry)))) (now (query .entry)) n
+    ensures { λ _. ⌜ ChildrenPushed (shapeIn (now (nodes .entry)) (length (now (work .entry)))) (samplesOf (now (query .entry))) n
         (recordOf (now (nodes .entry)) j) above (now (work .entry)) (now (work .exit)) ⌝ }
 {
     let first = node_small(nodes, j, FIRST);
@@ -71,7 +75,7 @@ fn open_node(
 // inner node with a lesser key.
 pub fn next_leaf(
     nodes: &[i64],
-    query: &[Sample],
+    query: &[Word],
     sums: &[i64; 257],
     squares: &[u64; 257],
     work: &mut [u64],
@@ -79,10 +83,11 @@ pub fn next_leaf(
     limited: bool,
     limit: u64,
 ) -> Next
-    requires { ⌜ Walkable (now nodes) (length (now work)) (now query) × Prefixes (now query) (now sums) (now squares)
-        × Waits (shapeIn (now nodes) (length (now work))) (now query) waiting (now work) ⌝ }
-    ensures { λ r. ⌜ Handed (shapeIn (now (nodes .entry)) (length (now (work .entry)))) (now (query .entry)) limited limit waiting
-        (now (work .entry)) (now (work .exit)) r ⌝ }
+    requires { ⌜ Walkable (now nodes) (length (now work)) (samplesOf (now query))
+        × Prefixes (samplesOf (now query)) (now sums) (now squares)
+        × Waits (shapeIn (now nodes) (length (now work))) (samplesOf (now query)) waiting (now work) ⌝ }
+    ensures { λ r. ⌜ Handed (shapeIn (now (nodes .entry)) (length (now (work .entry)))) (samplesOf (now (query .entry)))
+        limited limit waiting (now (work .entry)) (now (work .exit)) r ⌝ }
 {
     let mut n = waiting;
     while 0 < n {

@@ -3,6 +3,7 @@
 
 use query_judging::judge_query;
 use segment::Sample;
+use segment::Word;
 use tables::Refusal;
 use tables::Verdict;
 use well_formed::judging::judge_tables;
@@ -62,7 +63,7 @@ fn judge_own(
 
 pub fn judge(
     control: &[u16],
-    samples: &[Sample],
+    samples: &[Word],
     nodes: &[i64],
     links: &[u16],
     work: &[u64],

@@ -2,6 +2,7 @@
 
 use query_judging::judge_query;
 use segment::Sample;
+use segment::Word;
 use tables::Verdict;
 use well_formed::judging::judge_tables;
 ghost use mathlib.Core.Path.{_≡_};
@@ -12,7 +13,7 @@ ghost use Rattle.calls.specs.Effects.{matches};
 
 pub fn judge(
     control: &[u16],
-    samples: &[Sample],
+    samples: &[Word],
     nodes: &[i64],
     links: &[u16],
     work: &[u64],

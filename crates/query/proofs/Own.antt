@@ -8,7 +8,9 @@ use lib.IntN.{ℤ}
 use lib.ListN.{length, length-map}
 use Rattle.integer.specs.Words.{counting}
 use Rattle.integer.proofs.Times.{counting-length}
-use Rattle.dstree.specs.Measures.{Trace, sampleLimit}
+use Rattle.segment.specs.Stored.{samplesOf}
+use Rattle.segment.proofs.Stored.{samples-length}
+use Rattle.dstree.specs.Measures.{Trace, sampleLimit, mostSamples}
 use Rattle.dstree.specs.Figures.{run, width}
 use Rattle.dstree.specs.Node.{Segment, ends, totalOver}
 use Rattle.dstree.specs.Formed.{Rises, rises-more, Limited, AllLimited, l-more}
@@ -17,6 +19,7 @@ use Rattle.dstree.proofs.Cuts.{parted-rises}
 use Rattle.tables.proofs.Views.{end-at}
 use Rattle.tables.specs.Layout.{segmentsPlace, segmentAt}
 use Rattle.tables.specs.View.{smallAt, segmentIn, segmentsIn, nodeIn}
+use Rattle.prefixes.specs.Prefixes.{Prefixes}
 use Rattle.query.specs.Bounded.{Bounded, boundBy}
 
 -- the own bound of the node that a record stands for, whatever its kind
@@ -90,6 +93,10 @@ bound-end r count query first i h = rw (after-none r count i h)
 pub after-start : (r : List ℤ) → segmentsAfter r (smallAt r segmentsPlace) 0 ≡ segmentsIn r
 unfolding segmentsIn
 after-start r = let e : smallAt r segmentsPlace - 0 ≡ smallAt r segmentsPlace = omega arith in rw e
+
+-- a query whose sums are kept is of 256 words at most
+pub few-words : (query : List ℤ) {sums : List ℤ} {squares : List ℕ} → Prefixes (samplesOf query) sums squares → length query ≤ mostSamples
+few-words query p = omega (arith, p .few, samples-length query)
 
 -- ---- of a bounded record
 module _ (r : List ℤ) (n : ℕ) (b : Bounded r n) where

@@ -1,5 +1,5 @@
 // A node's own bound for a query, from the node's record and the query's prefix sums.
-use segment::Sample;
+use segment::Word;
 use tables::places::GREATEST_SCATTER;
 use tables::places::GREATEST_SUM;
 use tables::places::HEAD;
@@ -14,6 +14,7 @@ ghost use mathlib.Core.Path.{_≡_};
 ghost use Prim.Native.Nat.{_≤_, _<_};
 ghost use lib.ListN.{length};
 ghost use Rattle.segment.specs.Limits.{boundLimit};
+ghost use Rattle.segment.specs.Stored.{samplesOf};
 ghost use Rattle.dstree.specs.Measures.{sampleLimit, mostSamples};
 ghost use Rattle.dstree.specs.Figures.{run, width};
 ghost use Rattle.dstree.specs.Formed.{Limited};
@@ -28,17 +29,17 @@ ghost use Rattle.query.specs.Bounded.{Bounded, boundBy};
 // The term of segment i, which is the samples `first` to `last`.
 fn segment_term(
     record: &[i64],
-    query: &[Sample],
+    query: &[Word],
     sums: &[i64; 257],
     squares: &[u64; 257],
     i: usize,
     first: usize,
     last: usize,
 ) -> u64
-    requires { ⌜ Prefixes (now query) (now sums) (now squares) × Inside (length (now query)) first last
+    requires { ⌜ Prefixes (samplesOf (now query)) (now sums) (now squares) × Inside (length (now query)) first last
         × (length (now «record») ≡ recordPlaces)
         × (i < mostSegments) × Limited sampleLimit (width (run first last)) (segmentIn (now «record») i) ⌝ }
-    ensures { λ r. ⌜ r ≡ boundOn (now (query .entry)) (run first last) (segmentIn (now («record» .entry)) i) ⌝ }
+    ensures { λ r. ⌜ r ≡ boundOn (samplesOf (now (query .entry))) (run first last) (segmentIn (now («record» .entry)) i) ⌝ }
     ensures size { λ r. ⌜ r ≤ boundLimit sampleLimit (width (run first last)) ⌝ }
 {
     let f = prefixes::figures_on(query, sums, squares, first, last);
@@ -60,9 +61,9 @@ fn segment_term(
 }
 
 // A node's own bound: the terms of its segments, totalled. Its size is told so that a key that holds it is known to fit 64 bits.
-pub fn own_bound(record: &[i64], query: &[Sample], sums: &[i64; 257], squares: &[u64; 257]) -> u64
-    requires { ⌜ Prefixes (now query) (now sums) (now squares) × Bounded (now «record») (length (now query)) ⌝ }
-    ensures { λ r. ⌜ r ≡ boundBy (now (query .entry)) (now («record» .entry)) ⌝ }
+pub fn own_bound(record: &[i64], query: &[Word], sums: &[i64; 257], squares: &[u64; 257]) -> u64
+    requires { ⌜ Prefixes (samplesOf (now query)) (now sums) (now squares) × Bounded (now «record») (length (now query)) ⌝ }
+    ensures { λ r. ⌜ r ≡ boundBy (samplesOf (now (query .entry))) (now («record» .entry)) ⌝ }
     ensures size { λ r. ⌜ r ≤ boundLimit sampleLimit mostSamples ⌝ }
 {
     let count = small_at(record, SEGMENTS);

@@ -6,6 +6,7 @@ use segment::Sample;
 use tables::Refusal;
 use tables::Verdict;
 use tables::control::field;
+use tables::given::are_samples;
 use tables::numbers::wide;
 use tables::places::N;
 use tables::places::NODE_COUNT;
@@ -22,8 +23,8 @@ ghost use Rattle.tables.specs.Tables.{tables};
 ghost use Rattle.tables.specs.Answers.{foundBy};
 ghost use Rattle.calls.specs.Effects.{runConditionsIn, queryConditionsIn};
 
-// A run of another length than so many samples (4), no trace stored (6), a trail with fewer places than leaves (7). Neither samples nor
-// links nor search work bear on these.
+// A run of another length than so many samples (4), a sample outside the limits (15), no trace stored (6), a trail with fewer places than
+// leaves (7). Neither stored samples nor links nor search work bear on these.
 pub fn judge_run(
     control: &[u16],
     nodes: &[i64],
@@ -41,6 +42,10 @@ pub fn judge_run(
     let empty = stored == 0;
     if wrong {
         return Verdict::Refused(Refusal::WrongTrace);
+    }
+    let outside = !are_samples(run);
+    if outside {
+        return Verdict::Refused(Refusal::SampleRange);
     }
     if empty {
         return Verdict::Refused(Refusal::Empty);

@@ -3,22 +3,25 @@ use Prim.Native.Nat.{ℕ, zero, suc, _+_, _*_, _-_, _≤_, _<_}
 use mathlib.Core.Path.{_≡_, refl, sym, _∙_, ap, subst}
 use mathlib.Core.Bool.{true, false}
 use mathlib.Core.List.{List, [], _∷_, _++_, map}
+use native.Mathlib.Decide.{decLt}
 use native.Mathlib.Omega.{arith}
 use lib.ListN.{length, getD, take, drop, set, length-map, length-set, drop-of-length-le}
 use lib.Seq.{length-take-le, take-all, take-at, take-take, take-set-le, drop-cons, drop-set-lt, set-split, getD-take, getD-set-same}
 use lib.Seq.{getD-set-other, ext-getD}
-use borrow.Author.Tests.{le-ltb, ne-eqb}
+use borrow.Author.Tests.{lt-ltb, le-ltb, ne-eqb}
 use Rattle.integer.specs.Words.{counting}
 use Rattle.integer.specs.Sorting.{sortedWith, Ordered}
 use Rattle.integer.proofs.Lists.{same-or-not, map-take, All, all-none, all-more}
 use Rattle.integer.proofs.Times.{counting-length}
 use Rattle.integer.proofs.Rows.{getD-table}
 use Rattle.integer.proofs.Sorting.{inserted-length, inserted-at, inserted-ahead, take-ordered, up-to}
+use Rattle.segment.specs.Limits.{distanceMost}
+use Rattle.dstree.specs.Measures.{mostSamples}
 use Rattle.dstree.specs.Matching.{Near, isNearer}
 use Rattle.dstree.specs.KNearest.{listWith}
 use Rattle.dstree.proofs.Ranks.{linear}
 use Rattle.reading.specs.Nearest.{near}
-use Rattle.reading.specs.Listed.{recordAt, nearsIn, ListRoom, ListBegins}
+use Rattle.reading.specs.Listed.{recordAt, nearsIn, noLimit, limitOf, ListRoom, ListBegins}
 
 -- ---- the first m records
 
@@ -261,3 +264,18 @@ module _ (k many t d : ℕ) (l : List ℕ) (r : ListRoom k many l) where
 
     pub ordered-ahead : Ordered isNearer (nearsIn (k - 1) l)
     ordered-ahead = subst (Ordered isNearer) (nears-take (k - 1) many l (omega (arith, full))) (take-ordered linear (k - 1) (r .ordered))
+
+  -- the trace is beyond the limit. While the list is not full none is: n samples are not so far apart
+  pub placed-past : limitOf k many l < d → (n : ℕ) → n ≤ mostSamples → (distanceMost n ≤ limitOf k many l → d ≤ distanceMost n)
+      → ListBegins k k (listWith k soFar (near t d)) l l
+  unfolding limitOf
+  placed-past h n few size = by (decLt many k)
+    where
+      by : Dec (many < k) → ListBegins k k (listWith k soFar (near t d)) l l
+      by (yes j) =
+          let none : limitOf k many l ≡ noLimit = rw (lt-ltb many k j) in
+          absurd (omega (arith, none, h, few, size (omega (arith, none, few))))
+      by (no j) =
+          let full : k ≤ many = omega (arith, j) in
+          let last : limitOf k many l ≡ recordAt l (k - 1) .distance = rw (le-ltb many k full) in
+          placed-beyond full (omega (arith, last, h))

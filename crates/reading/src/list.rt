@@ -7,7 +7,7 @@ ghost use Rattle.integer.specs.Sorting.{sortedWith, Ordered};
 ghost use Rattle.dstree.specs.Matching.{isNearer};
 ghost use Rattle.dstree.specs.KNearest.{listWith};
 ghost use Rattle.reading.specs.Nearest.{near};
-ghost use Rattle.reading.specs.Listed.{recordAt, nearsIn, ListRoom, ListBegins};
+ghost use Rattle.reading.specs.Listed.{recordAt, nearsIn, limitOf, ListRoom, ListBegins};
 
 // A trace comes before record i: it is nearer, or as near with a lower number.
 fn comes_before(list: &[u64], i: usize, trace: u64, distance: u64) -> bool
@@ -32,6 +32,20 @@ pub fn kth_distance(list: &[u64], k: usize) -> u64
 {
     let at = 2 * (k - 1);
     list[at + 1]
+}
+
+// 2^49, which no distance of 256 samples passes. (A limit of 2^64 - 1 the compiler would see to be none, and make no vector code.)
+const NO_LIMIT: u64 = 562949953421312;
+
+// The distance beyond which a trace has no place: the k-th record's. While fewer than k are listed every trace has a place.
+pub fn limit_of(list: &[u64], listed: usize, k: usize) -> u64
+    requires { ⌜ (1 ≤ k) × (2 * k ≤ length (now list)) ⌝ }
+    ensures { λ r. ⌜ r ≡ limitOf k listed (now (list .entry)) ⌝ }
+{
+    if listed < k {
+        return NO_LIMIT;
+    }
+    kth_distance(list, k)
 }
 
 // Record i is this trace then.

@@ -3,6 +3,7 @@
 use matching::Found;
 use matching::nearest;
 use segment::Sample;
+use segment::Word;
 use tables::Refusal;
 use tables::label_table::code_in;
 use tables::label_table::place_at;
@@ -27,7 +28,7 @@ pub enum RemoteFound {
 // zero.
 pub fn remote_match(
     control: &[u16],
-    samples: &[Sample],
+    samples: &[Word],
     nodes: &[i64],
     links: &[u16],
     work: &mut [u64],

@@ -1,10 +1,11 @@
 // The whole search: the query's sums, the loop, and search work left zero. The match is the one nearest.
-use segment::Sample;
+use segment::Word;
 use tables::control::field;
 use tables::places::CAPACITY;
 use tables::places::NODE_COUNT;
 ghost use Prim.Native.Nat.{_*_, _≤_};
 ghost use lib.ListN.{length};
+ghost use Rattle.segment.specs.Stored.{samplesOf};
 ghost use Rattle.dstree.specs.Measures.{workNeeded};
 ghost use Rattle.tables.specs.Tables.{measuresOf};
 ghost use Rattle.search.specs.Searched.{withoutWork, Ready, ListSearched, Searched};
@@ -13,20 +14,20 @@ ghost use Rattle.search.specs.Searched.{withoutWork, Ready, ListSearched
 // needed places of search work are zero when it ends, whatever they held.
 pub fn search_list(
     control: &[u16],
-    samples: &[Sample],
+    samples: &[Word],
     nodes: &[i64],
     links: &[u16],
-    query: &[Sample],
+    query: &[Word],
     work: &mut [u64],
     trail: &mut [u16],
     list: &mut [u64],
     k: usize,
 ) -> crate::visiting::Seen
-    requires { ⌜ Ready (withoutWork (now control) (now samples) (now nodes) (now links)) (now query) (length (now trail))
+    requires { ⌜ Ready (withoutWork (now control) (now samples) (now nodes) (now links)) (samplesOf (now query)) (length (now trail))
         × (workNeeded (measuresOf (withoutWork (now control) (now samples) (now nodes) (now links))) ≤ length (now work)) ⌝ }
     requires list { ⌜ (1 ≤ k) × (2 * k ≤ length (now list)) ⌝ }
     ensures { λ r. ⌜ ListSearched k (withoutWork (now (control .entry)) (now (samples .entry)) (now (nodes .entry)) (now (links .entry)))
-        (now (query .entry)) (now (work .entry)) (now (work .exit)) (now (trail .entry)) (now (trail .exit)) (now (list .entry))
+        (samplesOf (now (query .entry))) (now (work .entry)) (now (work .exit)) (now (trail .entry)) (now (trail .exit)) (now (list .entry))
         (now (list .exit)) (r .listed) (r .out) (r .traces) ⌝ }
 {
     let mut sums: [i64; 257] = [0; 257];
@@ -64,18 +65,18 @@ pub struct Matched {
 // needed.
 pub fn search_all(
     control: &[u16],
-    samples: &[Sample],
+    samples: &[Word],
     nodes: &[i64],
     links: &[u16],
-    query: &[Sample],
+    query: &[Word],
     work: &mut [u64],
     trail: &mut [u16],
 ) -> Matched
-    requires { ⌜ Ready (withoutWork (now control) (now samples) (now nodes) (now links)) (now query) (length (now trail))
+    requires { ⌜ Ready (withoutWork (now control) (now samples) (now nodes) (now links)) (samplesOf (now query)) (length (now trail))
         × (workNeeded (measuresOf (withoutWork (now control) (now samples) (now nodes) (now links))) ≤ length (now work)) ⌝ }
     ensures { λ r. ⌜ Searched (withoutWork (now (control .entry)) (now (samples .entry)) (now (nodes .entry)) (now (links .entry)))
-        (now (query .entry)) (now (work .entry)) (now (work .exit)) (now (trail .entry)) (now (trail .exit)) (r .trace) (r .distance)
-        (r .out) (r .traces) ⌝ }
+        (samplesOf (now (query .entry))) (now (work .entry)) (now (work .exit)) (now (trail .entry)) (now (trail .exit)) (r .trace)
+        (r .distance) (r .out) (r .traces) ⌝ }
 {
     let mut list: [u64; 2] = [0; 2];
     let seen = search_list(

@@ -1,12 +1,13 @@
 // Leaves are read by bound, then by number, until k traces are listed and the next bound is above the k-th distance.
 use leaf_order::leaves::Next;
-use segment::Sample;
+use segment::Word;
 use tables::control::field;
 use tables::places::FIRST;
 use tables::places::TRACE_COUNT;
 ghost use mathlib.Core.Path.{_≡_};
 ghost use Prim.Native.Nat.{_*_, _≤_};
 ghost use lib.ListN.{length};
+ghost use Rattle.segment.specs.Stored.{samplesOf};
 ghost use Rattle.tables.specs.Tables.{nodeCount};
 ghost use Rattle.tables.specs.View.{smallMost};
 ghost use Rattle.prefixes.specs.Prefixes.{Prefixes};
@@ -33,10 +34,10 @@ pub fn narrow(j: usize) -> u16
 // number alone.
 pub fn visit(
     control: &[u16],
-    samples: &[Sample],
+    samples: &[Word],
     nodes: &[i64],
     links: &[u16],
-    query: &[Sample],
+    query: &[Word],
     sums: &[i64; 257],
     squares: &[u64; 257],
     work: &mut [u64],
@@ -44,13 +45,13 @@ pub fn visit(
     list: &mut [u64],
     k: usize,
 ) -> Seen
-    requires { ⌜ Ready (withoutWork (now control) (now samples) (now nodes) (now links)) (now query) (length (now trail))
-        × Prefixes (now query) (now sums) (now squares)
+    requires { ⌜ Ready (withoutWork (now control) (now samples) (now nodes) (now links)) (samplesOf (now query)) (length (now trail))
+        × Prefixes (samplesOf (now query)) (now sums) (now squares)
         × (length (now work) ≡ nodeCount (withoutWork (now control) (now samples) (now nodes) (now links))) ⌝ }
     requires list { ⌜ (1 ≤ k) × (2 * k ≤ length (now list)) ⌝ }
     ensures { λ r. ⌜ Visited k (withoutWork (now (control .entry)) (now (samples .entry)) (now (nodes .entry)) (now (links .entry)))
-        (now (query .entry)) (now (trail .entry)) (now (trail .exit)) (now (list .entry)) (now (list .exit)) (r .listed) (r .out)
-        (r .traces) ⌝ }
+        (samplesOf (now (query .entry))) (now (trail .entry)) (now (trail .exit)) (now (list .entry)) (now (list .exit)) (r .listed)
+        (r .out) (r .traces) ⌝ }
 {
     let n = query.len();
     let count = tables::numbers::wide(field(control, TRACE_COUNT));

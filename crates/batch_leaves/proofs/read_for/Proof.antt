@@ -4,6 +4,7 @@ use native.Mathlib.Omega.{arith}
 use borrow.Author.Needs.{needs}
 use lib.ListN.{length-set}
 use denote.Ref.{now}
+use Rattle.segment.specs.Stored.{samplesOf}
 use Rattle.batch_leaves.proofs.Bests.{one-room, some-number, one-read}
 use Rattle.batch_leaves.proofs.read_for.Statement.{statement}
 use Rattle.batch_leaves.proofs.read_for.Tie as tie
@@ -31,7 +32,7 @@ returns c =
     let a = s .args in
     one-read (now (a .bests)) (a .i) (a .leaves) (f .filled .result) _ (r .last .1 .1 .1 .1 .1 .1 .0) (r .result .listed) _ (s .pre .3)
     (f .filled .ensures) refl
-    (some-number (now (a .samples)) (a .n) (now (a .query)) (now (a .links)) (a .count) (a .head)) (r .ensures .0 .nears-are)
+    (some-number (now (a .samples)) (a .n) (samplesOf (now (a .query))) (now (a .links)) (a .count) (a .head)) (r .ensures .0 .nears-are)
 
 pub read-for-spec : {M : Type 1} → statement M
 read-for-spec =

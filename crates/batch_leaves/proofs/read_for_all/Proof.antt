@@ -1,5 +1,5 @@
 -- `batch_leaves::read_for_all` meets its contract: the first records are read, the others are as they were (`Bests`).
-use mathlib.Core.Path.{_≡_, refl, ap, subst, _∙_}
+use mathlib.Core.Path.{_≡_, refl, subst, _∙_}
 use mathlib.Core.List.{List, map}
 use Prim.Native.Nat.{ℕ, _+_, _*_, _-_, _≤_}
 use native.Mathlib.Omega.{arith}
@@ -11,7 +11,7 @@ use Rattle.dstree.specs.Measures.{Trace}
 use Rattle.dstree.specs.Matching.{Near}
 use Rattle.tables.specs.View.{traceIn}
 use Rattle.tables.specs.Walk.{numbersOf}
-use Rattle.tables.proofs.Parts.{trace-length}
+use Rattle.tables.proofs.Parts.{words-length}
 use Rattle.reading.specs.Nearest.{nearOf}
 use Rattle.batch_leaves.specs.LeavesRead.{OneRead}
 use Rattle.batch_leaves.proofs.Bests.{Reading, reading-start, reading-next}
@@ -55,7 +55,7 @@ read-for-requires c κs =
     let s = start t in
     let i = t .before .loop .i in
     let long : length (now (q .trace-at .result)) ≡ s .args .n =
-    ap length (q .trace-at .ensures) ∙ trace-length (now (s .args .queries)) (s .args .n) i (room t) in (
+    words-length (now (s .args .queries)) (now (q .trace-at .result)) (s .args .n) i (q .trace-at .ensures) (room t) in (
       s .pre .0 .0,
       long,
       omega (arith, t .loop-test .taken, s .pre .0 .2),

@@ -38,8 +38,8 @@ module _ (e : tie.After-enum-told) where
   may : BatchAccepted (lentTables s) (now (s .args .queries)) (s .args .many) (now (s .args .trail)) × (s .args .places ≡ s .args .many)
   may = taken (lentTables s) (s .args .many) (s .args .places) (now (s .args .queries)) (now (s .args .trail)) nothing
 
-search-batch-requires : tie.Need-search-batch-requires
-search-batch-requires c κs = let m = may (c .before .before) .0 in (m .searchable, m .work-room, m .trail-room)
+search-given-requires : tie.Need-search-given-requires
+search-given-requires c κs = let m = may (c .before .before) .0 in (m .searchable, m .work-room, m .trail-room, m .inside)
 
 returns : tie.Need-returns
 returns c = λ list size.
@@ -54,16 +54,16 @@ returns-2 c = λ list size.
     let q = c .before .before .before .before .before in
     let e = q .before .before .before in
     let a = s e .args in
-    let r = q .search-batch .result in
-    let left = q .search-batch .last .1 .1 .1 .1 .1 .1 in
+    let r = q .search-given .result in
+    let left = q .search-given .last .1 .1 .1 .1 .1 .1 in
     batch-answer (now (a .control)) (now (a .samples)) (now (a .nodes)) (now (a .links)) (now (a .work)) (now (a .labels)) (a .many)
     (now (a .queries)) (now (a .trail)) list (left .0) (left .1 .0) (r .bests) (r .leaves)
-    (q .search-batch .kept .1 .1 .1 .1 .1 .1 .1 .0) (q .search-batch .ensures)
+    (q .search-given .kept .1 .1 .1 .1 .1 .1 .1 .0) (q .search-given .ensures)
     (ap (λ (p : ℕ). firstOf (conditions (s e) p)) size ∙ nothing e) (size ∙ may e .1)
 
 pub match-all-spec : {M : Type 1} → statement M
 match-all-spec =
     tie.close
     (tie.spec
-    (λ c κs. search needs) (λ c. search needs) (λ c. search needs) search-batch-requires
+    (λ c κs. search needs) (λ c. search needs) (λ c. search needs) search-given-requires
     (λ c. search needs) (λ c. search needs) returns (λ c. search needs) (λ c. search needs) returns-2)

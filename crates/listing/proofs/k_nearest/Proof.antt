@@ -37,10 +37,10 @@ module _ (e : tie.After-enum-told) where
   may : MayList (lentTables s) (s .args .k) (now (s .args .query)) (now (s .args .trail)) (now (s .args .list))
   may = may-list (lentTables s) (s .args .k) (now (s .args .query)) (now (s .args .trail)) (now (s .args .list)) nothing
 
-search-list-requires : tie.Need-search-list-requires
-search-list-requires c κs =
+search-given-requires : tie.Need-search-given-requires
+search-given-requires c κs =
     let m = may (c .before .before .before) in
-    ((m .may-search .ready, m .may-search .work-room), (m .k-low, m .list-room))
+    ((m .may-search .ready, m .may-search .work-room, m .may-search .inside), (m .k-low, m .list-room))
 
 returns : tie.Need-returns
 unfolding answerBy outcomeOn effectOf besideOf
@@ -56,16 +56,16 @@ returns-2 c =
     let q = c .before .before .before .before .before .before in
     let e = q .before .before .before .before in
     let a = s e .args in
-    let r = q .search-list .result in
-    let left = q .search-list .last .1 .1 .1 .1 .1 in
-    let kept = q .search-list .kept .1 .1 .1 .1 .1 .1 in
+    let r = q .search-given .result in
+    let left = q .search-given .last .1 .1 .1 .1 .1 in
+    let kept = q .search-given .kept .1 .1 .1 .1 .1 .1 in
     list-answer (now (a .control)) (now (a .samples)) (now (a .nodes)) (now (a .links)) (now (a .work)) (now (a .labels)) (a .k) (now (a .query))
     (now (a .trail)) (now (a .list)) (left .0) (left .1 .0) (left .1 .1 .0) (r .listed) (r .out) (r .traces) (kept .0) (kept .1 .0)
-    (may e .list-room) (q .search-list .ensures) (nothing e)
+    (may e .list-room) (q .search-given .ensures) (nothing e)
 
 pub k-nearest-spec : {M : Type 1} → statement M
 k-nearest-spec =
     tie.close
     (tie.spec
-    (λ c κs. search needs) (λ c. search needs) (λ c. search needs) search-list-requires (λ c. search needs) (λ c. search needs)
+    (λ c κs. search needs) (λ c. search needs) (λ c. search needs) search-given-requires (λ c. search needs) (λ c. search needs)
     (λ c. search needs) returns (λ c. search needs) (λ c. search needs) (λ c. search needs) returns-2)

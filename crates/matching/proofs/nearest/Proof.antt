@@ -39,16 +39,16 @@ module _ (e : tie.After-enum-told) where
   may : QueryAccepted (lentTables s) (now (s .args .query)) (now (s .args .trail))
   may = may-search (lentTables s) (now (s .args .query)) (now (s .args .trail)) nothing
 
-search-all-requires : tie.Need-search-all-requires
-search-all-requires c κs = let m = may (c .before .before) in (m .ready, m .work-room)
+search-given-requires : tie.Need-search-given-requires
+search-given-requires c κs = let m = may (c .before .before) in (m .ready, m .work-room, m .inside)
 
 -- what the search leaves
-module _ (q : tie.After-search-all) where
+module _ (q : tie.After-search-given) where
   abbrev workAfter : List ℕ
-  workAfter = q .search-all .last .1 .1 .1 .1 .1 .0
+  workAfter = q .search-given .last .1 .1 .1 .1 .1 .0
 
   abbrev trailAfter : List ℕ
-  trailAfter = q .search-all .last .1 .1 .1 .1 .1 .1 .0
+  trailAfter = q .search-given .last .1 .1 .1 .1 .1 .1 .0
 
 returns : tie.Need-returns
 unfolding answerBy outcomeOn effectOf besideOf
@@ -63,14 +63,14 @@ returns-2 c =
     let q = c .before .before .before .before in
     let e = q .before .before .before in
     let a = s e .args in
-    let r = q .search-all .result in
+    let r = q .search-given .result in
     found-answer (now (a .control)) (now (a .samples)) (now (a .nodes)) (now (a .links)) (now (a .work)) (now (a .labels)) (now (a .query)) (now (a .trail))
-    (workAfter q) (trailAfter q) (r .trace) (r .distance) (r .out) (r .traces) (q .search-all .kept .1 .1 .1 .1 .1 .1 .0)
-    (q .search-all .ensures) (nothing e)
+    (workAfter q) (trailAfter q) (r .trace) (r .distance) (r .out) (r .traces) (q .search-given .kept .1 .1 .1 .1 .1 .1 .0)
+    (q .search-given .ensures) (nothing e)
 
 pub nearest-spec : {M : Type 1} → statement M
 nearest-spec =
     tie.close
     (tie.spec
-    (λ c κs. tt) (λ c. search needs) (λ c. search needs) search-all-requires (λ c. search needs) (λ c. search needs) returns
+    (λ c κs. tt) (λ c. search needs) (λ c. search needs) search-given-requires (λ c. search needs) (λ c. search needs) returns
     (λ c. search needs) (λ c. search needs) returns-2)

@@ -1,6 +1,7 @@
 -- `query_judging::judge_run` meets its contract: each return answers for one condition, the ones before it being false.
 use Prim.Native.Nat.{ℕ}
 use mathlib.Core.Path.{_≡_, sym, ap, _∙_}
+use mathlib.Core.Bool.{not}
 use mathlib.Core.List.{List}
 use native.Mathlib.Omega.{arith}
 use lib.IntN.{ℤ}
@@ -9,6 +10,7 @@ use lib.Dec.{eqb}
 use denote.Ref.{now}
 use borrow.Author.Needs.{needs}
 use borrow.Author.Tests.{lt-ltb, le-ltb}
+use Rattle.dstree.specs.Measures.{areSamples}
 use Rattle.dstree.specs.Matching.{leaves}
 use Rattle.dstree.specs.Refusals.{firstOf}
 use Rattle.tables.specs.Tables.{Tables, tables, traceCount}
@@ -37,10 +39,24 @@ module _ (samples : List ℤ) (links work : List ℕ) where
     stored-is : eqb (traceCount t) 0 ≡ eqb (f .field .result) 0
     stored-is = ap (λ (k : ℕ). eqb k 0) (sym (f .field .ensures))
 
+  -- what the samples' test said
+  module _ (a : tie.After-are-samples) where
+    abbrev g : tie.After-field
+    g = a .before .before
+
+    outside-is : not (areSamples (now (start g .args .run))) ≡ not (a .are-samples .result)
+    outside-is = ap not (sym (a .are-samples .ensures))
+
   -- the leaves counted are the tree's
   module _ (l : tie.After-leaf-count) where
+    abbrev e : tie.Else3
+    e = l .before .before .before
+
+    abbrev tested : tie.After-are-samples
+    tested = e .before .before
+
     abbrev f : tie.After-field
-    f = l .before .before .before .before .before
+    f = g tested
 
     counted : l .leaf-count .result ≡ leafs f
     counted =
@@ -50,7 +66,7 @@ module _ (samples : List ℤ) (links work : List ℕ) where
 
 leaf-count-requires : tie.Need-leaf-count-requires
 leaf-count-requires c κs =
-    let s = start (c .before .before .before .before) in
+    let s = start (c .before .before .before .before .before .before) in
     rw (c .wide .ensures ∙ c .before .field2 .ensures) (s .pre)
 
 returns : tie.Need-returns
@@ -59,28 +75,53 @@ returns c samples links work = rw (stored-is samples links work (c .before), c .
 
 returns-2 : tie.Need-returns-2
 unfolding foundBy wordOf firstOf
-returns-2 c samples links work = rw (stored-is samples links work (c .before .before), c .before .if1 .left, c .if2 .taken)
+returns-2 c samples links work =
+    let a = c .before in
+    rw (outside-is samples links work a, a .before .if1 .left, c .if2 .taken)
 
 returns-3 : tie.Need-returns-3
 unfolding foundBy wordOf firstOf
 returns-3 c samples links work =
-    let l = c .before in
-    let e = l .before .before .before in
-    let r : ℕ = room samples links work (f samples links work l) in
-    let short = lt-ltb r (leafs samples links work (f samples links work l)) (omega (arith, c .if3 .taken, counted samples links work l)) in
-    rw (stored-is samples links work (e .before .before), e .before .if1 .left, e .if2 .left, short)
+    let a = c .before .before in
+    rw (outside-is samples links work a, stored-is samples links work (a .before .before), a .before .if1 .left, c .before .if2 .left, c .if3 .taken)
 
 returns-4 : tie.Need-returns-4
-unfolding foundBy firstOf
+unfolding foundBy wordOf firstOf
 returns-4 c samples links work =
     let l = c .before in
-    let e = l .before .before .before in
-    let r : ℕ = room samples links work (f samples links work l) in
-    let long = le-ltb r (leafs samples links work (f samples links work l)) (omega (arith, c .if3 .left, counted samples links work l)) in
-    rw (stored-is samples links work (e .before .before), e .before .if1 .left, e .if2 .left, long)
+    let a = tested samples links work l in
+    let i = f samples links work l in
+    let r : ℕ = room samples links work i in
+    let short = lt-ltb r (leafs samples links work i) (omega (arith, c .if4 .taken, counted samples links work l)) in
+    rw (
+      outside-is samples links work a,
+      stored-is samples links work i,
+      a .before .if1 .left,
+      e samples links work l .before .if2 .left,
+      e samples links work l .if3 .left,
+      short,
+    )
+
+returns-5 : tie.Need-returns-5
+unfolding foundBy firstOf
+returns-5 c samples links work =
+    let l = c .before in
+    let a = tested samples links work l in
+    let i = f samples links work l in
+    let r : ℕ = room samples links work i in
+    let long = le-ltb r (leafs samples links work i) (omega (arith, c .if4 .left, counted samples links work l)) in
+    rw (
+      outside-is samples links work a,
+      stored-is samples links work i,
+      a .before .if1 .left,
+      e samples links work l .before .if2 .left,
+      e samples links work l .if3 .left,
+      long,
+    )
 
 pub judge-run-spec : {M : Type 1} → statement M
 judge-run-spec =
     tie.close
     (tie.spec
-    (λ c κs. search needs) returns returns-2 (λ c κs. search needs) (λ c κs. search needs) leaf-count-requires returns-3 returns-4)
+    (λ c κs. search needs) returns (λ c κs. search needs) returns-2 returns-3 (λ c κs. search needs) (λ c κs. search needs)
+    leaf-count-requires returns-4 returns-5)

@@ -5,6 +5,8 @@ use native.Mathlib.Omega.{arith}
 use borrow.Author.Needs.{needs}
 use lib.ListN.{length}
 use denote.Ref.{now}
+use Rattle.segment.specs.Stored.{samplesOf}
+use Rattle.segment.proofs.Stored.{samples-length}
 use Rattle.dstree.specs.Measures.{Trace}
 use Rattle.dstree.specs.Matching.{leaves}
 use Rattle.tables.specs.Tables.{Tables, measuresOf}
@@ -34,7 +36,7 @@ module _ (q : tie.After-trace-at) where
   abbrev query : Trace
   query = queryAt (given start) (now (start .args .queries)) (start .args .i)
 
-  query-is : now (q .trace-at .result) ≡ query
+  query-is : samplesOf (now (q .trace-at .result)) ≡ query
   query-is =
       q .trace-at .ensures
       ∙ ap (λ (n : ℕ). traceIn (now (start .args .queries)) n (start .args .i))
@@ -46,7 +48,7 @@ prefix-sums-requires c κs =
     let s = start q in
     let t = given s in
     let ready = ready-for t (now (s .args .queries)) (s .args .many) (s .pre .0 .0) (s .args .i) (s .pre .1 .0) in
-    (omega (arith, length-fits t (query q) (length (leaves (treeIn t))) ready, ap length (query-is q)), refl, refl)
+    (omega (arith, length-fits t (query q) (length (leaves (treeIn t))) ready, ap length (query-is q), samples-length (now (q .trace-at .result))), refl, refl)
 
 visit-requires : tie.Need-visit-requires
 visit-requires c κs =

@@ -5,9 +5,11 @@ use mathlib.Core.List.{List}
 use Prim.Native.Nat.{ℕ, _<_}
 use native.Mathlib.Omega.{arith}
 use borrow.Author.Needs.{needs}
+use lib.IntN.{ℤ}
 use lib.ListN.{length}
 use lib.Dec.{ltb}
 use denote.Ref.{now}
+use Rattle.segment.specs.Stored.{samplesOf}
 use Rattle.dstree.specs.Measures.{Trace}
 use Rattle.dstree.specs.Node.{Tree}
 use Rattle.dstree.specs.Matching.{leaves}
@@ -44,7 +46,7 @@ module _ (s : tie.Start Inv-loop μ-loop) where
   abbrev given : Tables
   given = withoutWork (now (s .args .control)) (now (s .args .samples)) (now (s .args .nodes)) (now (s .args .links))
 
-  abbrev run : Trace
+  abbrev run : List ℤ
   run = now (s .args .queries)
 
   abbrev query : Trace
@@ -76,7 +78,7 @@ module _ (q : tie.After-trace-at Inv-loop μ-loop) where
   abbrev start : tie.Start Inv-loop μ-loop
   start = q .before .before .before .before .before .before .before .before
 
-  query-is : now (q .trace-at .result) ≡ query start
+  query-is : samplesOf (now (q .trace-at .result)) ≡ query start
   query-is =
       q .trace-at .ensures
       ∙ ap (λ (n : ℕ). traceIn (run start) n (start .args .i)) (q .before .wide .ensures ∙ q .before .before .field .ensures)
@@ -100,7 +102,7 @@ loop-holds c =
     let work = b .begin .last .1 .1 .1 .1 .0 in
     let begun : Begun (shape s) (query s) work =
     subst (λ (x : Trace). Begun (shape s) x work) (query-is q)
-    (subst (λ (m : ℕ). Begun (shapeIn (given s .nodes) m) (now (q .trace-at .result)) work) (s .pre .1 .2) (b .begin .ensures)) in (
+    (subst (λ (m : ℕ). Begun (shapeIn (given s .nodes) m) (samplesOf (now (q .trace-at .result))) work) (s .pre .1 .2) (b .begin .ensures)) in (
       state-start (given s) (run s) (a .many) (a .i) (nodes s) refl work (now (a .bests)) (now (a .marks)) (a .leaves) begun (s .pre .0 .1),
       b .begin .kept .1 .1 .1 .1 .0 ∙ s .pre .1 .2,
     )
@@ -161,7 +163,7 @@ module _ (a : tie.After-next-leaf Inv-loop μ-loop) where
       (subst (λ (x : Trace). Handed (shape from) x limited d (L .waiting) (L .work) left-work (a .next-leaf .result))
       (query-is (asked turn))
       (subst
-      (λ (m : ℕ). Handed (shapeIn (given from .nodes) m) (now (asked turn .trace-at .result)) limited d (L .waiting) (L .work) left-work
+      (λ (m : ℕ). Handed (shapeIn (given from .nodes) m) (samplesOf (now (asked turn .trace-at .result))) limited d (L .waiting) (L .work) left-work
       (a .next-leaf .result)) (L .inv .1) (a .next-leaf .ensures)))
 
   long : length left-work ≡ nodes from

@@ -8,6 +8,7 @@ use lib.ListN.{length}
 use denote.Ref.{now}
 use borrow.Author.Needs.{needs}
 use Rattle.segment.specs.Limits.{boundLimit}
+use Rattle.segment.specs.Stored.{samplesOf}
 use Rattle.dstree.specs.Measures.{sampleLimit}
 use Rattle.query.specs.Bounded.{Bounded, boundBy}
 use Rattle.best_first.specs.NodeKeys.{boundsBelow}
@@ -28,7 +29,7 @@ returns : tie.Need-returns
 returns c =
     let b = c .before in
     let s = b .before .before in
-    let own = b .own-bound .ensures .0 ∙ ap (boundBy (now (s .args .query))) (b .before .record-at .ensures) in
+    let own = b .own-bound .ensures .0 ∙ ap (boundBy (samplesOf (now (s .args .query)))) (b .before .record-at .ensures) in
     rw (c .larger .ensures, own)
 
 pub node-key-spec : {M : Type 1} → statement M

@@ -9,6 +9,8 @@ use lib.ListN.{length, getD}
 use denote.Ref.{now}
 use Rattle.integer.proofs.Lists.{All, all-none}
 use Rattle.heap.proofs.Popping.{least-at}
+use Rattle.segment.specs.Stored.{samplesOf}
+use Rattle.dstree.specs.Measures.{Trace}
 use Rattle.dstree.specs.Node.{Tree}
 use Rattle.tables.specs.Layout.{kindPlace}
 use Rattle.tables.specs.Tables.{recordOf}
@@ -27,7 +29,8 @@ use Rattle.leaf_order.proofs.leaves.next_leaf.Tie as tie
 abbrev Inv-loop : tie.InvT-loop
 Inv-loop nodes query sums squares work₀ waiting limited limit n₀ work n =
     let tree = shapeIn nodes (length work₀) in
-    Waits tree query n work × (remaining tree query n work ≡ remaining tree query waiting work₀) × (length work ≡ length work₀)
+    let q = samplesOf query in
+    Waits tree q n work × (remaining tree q n work ≡ remaining tree q waiting work₀) × (length work ≡ length work₀)
 
 abbrev μ-loop : tie.MeasureT-loop
 μ-loop nodes query sums squares work₀ waiting limited limit n₀ work n = nodesWaiting (shapeIn nodes (length work₀)) (keysIn n work)
@@ -41,8 +44,8 @@ module _ (s : tie.Start Inv-loop μ-loop) where
   abbrev places : ℕ
   places = length (now (s .args .work))
 
-  abbrev query : List ℤ
-  query = now (s .args .query)
+  abbrev query : Trace
+  query = samplesOf (now (s .args .query))
 
   abbrev tree : Tree
   tree = shapeIn nodes places

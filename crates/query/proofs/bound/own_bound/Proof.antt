@@ -5,13 +5,14 @@ use Prim.Native.Nat.{ℕ, _+_, _-_, _≤_}
 use native.Mathlib.Omega.{arith}
 use lib.ListN.{length}
 use Rattle.segment.specs.Limits.{boundLimit}
+use Rattle.segment.specs.Stored.{samplesOf}
 use Rattle.dstree.specs.Measures.{sampleLimit}
 use Rattle.dstree.specs.Node.{totalOver}
 use Rattle.dstree.specs.Matching.{boundOn}
 use Rattle.tables.specs.Layout.{segmentsPlace}
 use Rattle.tables.specs.View.{smallAt, segmentsIn}
 use Rattle.query.specs.Bounded.{boundBy}
-use Rattle.query.proofs.Own.{segmentsAfter, Left, NextSegment, next-at, bound-more, bound-end, after-start, few-segments, left-all}
+use Rattle.query.proofs.Own.{segmentsAfter, Left, NextSegment, next-at, bound-more, bound-end, after-start, few-words, few-segments, left-all}
 use Rattle.query.proofs.bound.own_bound.Statement.{statement}
 use Rattle.query.proofs.bound.own_bound.Tie as tie
 
@@ -19,7 +20,7 @@ abbrev Inv-loop : tie.InvT-loop
 Inv-loop «record» query sums squares count total₀ first₀ i₀ total first i =
     (i ≤ count)
     × (1 ≤ first)
-    × (total + totalOver (boundOn query) first (segmentsAfter «record» count i) ≡ boundBy query «record»)
+    × (total + totalOver (boundOn (samplesOf query)) first (segmentsAfter «record» count i) ≡ boundBy (samplesOf query) «record»)
     × (total + boundLimit sampleLimit 1 ≤ boundLimit sampleLimit first)
     × (first ≤ length query + 1)
     × Left «record» (length query) count first i
@@ -39,7 +40,7 @@ loop-holds c =
     let a : segmentsAfter r (c .small-at .result) 0 ≡ segmentsIn r = rw e (after-start r) in (
       omega arith,
       omega arith,
-      omega (arith, ap (totalOver (boundOn (s .args .query .now)) 1) a),
+      omega (arith, ap (totalOver (boundOn (samplesOf (s .args .query .now))) 1) a),
       omega arith,
       omega arith,
       subst (λ (k : ℕ). Left r (length (s .args .query .now)) k 1 0) (sym e) (left-all r (length (s .args .query .now)) (s .pre .1)),
@@ -84,11 +85,11 @@ add-total c = omega (
   c .before .before .before .loop .inv .3,
   next (c .before) .rises,
   next (c .before) .to-n,
-  c .before .before .before .before .before .pre .0 .few,
+  few-words (c .before .before .before .before .before .args .query .now) (c .before .before .before .before .before .pre .0),
 )
 
 add-first : tie.Need-add-first Inv-loop μ-loop
-add-first c = omega (arith, next (c .before) .to-n, c .before .before .before .before .before .pre .0 .few)
+add-first c = omega (arith, next (c .before) .to-n, few-words (c .before .before .before .before .before .args .query .now) (c .before .before .before .before .before .pre .0))
 
 add-i : tie.Need-add-i Inv-loop μ-loop
 add-i c = omega (arith, few (c .before .before .before))
@@ -100,7 +101,7 @@ loop-again c =
     let l = c .before .before .before .loop in
     let x = next (c .before) in
     let more = bound-more (s .args .«record» .now) (c .before .before .before .before .small-at .result) (l .i)
-    (c .before .before .loop-test .taken) (c .before .small-at2 .result) (c .before .small-at2 .ensures) (s .args .query .now) (l .first) in
+    (c .before .before .loop-test .taken) (c .before .small-at2 .result) (c .before .small-at2 .ensures) (samplesOf (s .args .query .now)) (l .first) in
     (omega arith, omega arith, omega (arith, l .inv .2, more, c .segment-term .ensures .0), omega (arith, l .inv .3, c .segment-term .ensures .1, x .rises), omega (arith, x .to-n), x .on)
 
 returns : tie.Need-returns Inv-loop μ-loop
@@ -108,8 +109,8 @@ unfolding sampleLimit boundLimit
 returns c =
     let s = c .before .before .before in
     let l = c .before .loop in
-    let rest = bound-end (s .args .«record» .now) (c .before .before .small-at .result) (s .args .query .now) (l .first) (l .i) (c .loop-test .left) in
-    (omega (arith, l .inv .2, rest), omega (arith, l .inv .3, l .inv .4, s .pre .0 .few))
+    let rest = bound-end (s .args .«record» .now) (c .before .before .small-at .result) (samplesOf (s .args .query .now)) (l .first) (l .i) (c .loop-test .left) in
+    (omega (arith, l .inv .2, rest), omega (arith, l .inv .3, l .inv .4, few-words (s .args .query .now) (s .pre .0)))
 
 pub own-bound-spec : {M : Type 1} → statement M
 own-bound-spec =

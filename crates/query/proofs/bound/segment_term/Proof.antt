@@ -16,6 +16,7 @@ use Rattle.dstree.specs.Matching.{boundOn}
 use Rattle.tables.specs.View.{scatterIn, segmentIn}
 use Rattle.prefixes.proofs.Cut.{sum-most, scatter-most}
 use borrow.Author.Needs.{needs}
+use Rattle.query.proofs.Own.{few-words}
 use Rattle.query.proofs.bound.segment_term.Statement.{statement}
 use Rattle.query.proofs.bound.segment_term.Tie as tie
 
@@ -53,11 +54,11 @@ segment-bound-requires : tie.Need-segment-bound-requires
 segment-bound-requires c κs =
     let s = start c in
     let f = c .before .before .before .before .before .before .before .figures-on in
-    let w : width (run (s .args .first) (s .args .last)) ≤ mostSamples = omega (arith, s .pre .1 .from-1, s .pre .1 .to-n, s .pre .0 .few) in
+    let w : width (run (s .args .first) (s .args .last)) ≤ mostSamples = omega (arith, s .pre .1 .from-1, s .pre .1 .to-n, few-words (s .args .query .now) (s .pre .0)) in
     let m = s .pre .4 in
     rw (sum-read c, least-read c, greatest-read c) (
       omega arith,
-      omega (arith, s .pre .1 .from-1, s .pre .1 .to-n, s .pre .0 .few),
+      omega (arith, s .pre .1 .from-1, s .pre .1 .to-n, few-words (s .args .query .now) (s .pre .0)),
       omega (arith, sum-most w (f .ensures .1 .1 .0)),
       omega (arith, sum-most w (m .least-sum)),
       omega (arith, sum-most w (m .greatest-sum)),

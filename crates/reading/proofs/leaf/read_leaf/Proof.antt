@@ -5,6 +5,7 @@ use mathlib.Core.Path.{_≡_, ap}
 use Prim.Native.Nat.{ℕ, _+_, _-_, _≤_, _<_}
 use native.Mathlib.Omega.{arith}
 use lib.ListN.{length}
+use Rattle.segment.specs.Stored.{samplesOf}
 use Rattle.tables.specs.Walk.{numbersOf, behindOf}
 use Rattle.tables.proofs.Listed.{metFrom, met-start, behind-rises}
 use Rattle.reading.proofs.Walked.{Walking, walk-start, walk-next, walk-end, length-more, length-end, trace-room}
@@ -15,7 +16,7 @@ abbrev Inv-loop : tie.InvT-loop
 Inv-loop samples links n count head query list₀ listed k m₀ traces₀ t₀ list m traces t =
     (t ≤ count)
     × (traces ≤ t)
-    × Walking samples n query links count k head listed list₀ list m t
+    × Walking samples n (samplesOf query) links count k head listed list₀ list m t
     × (traces + length (metFrom links count t) ≡ length (numbersOf links count head))
 
 abbrev μ-loop : tie.MeasureT-loop
@@ -32,7 +33,7 @@ loop-holds c =
     let e = met-start (a .links .now) (a .count) (a .head) (p .inside) in (
       omega (arith, p .inside),
       omega arith,
-      walk-start (a .samples .now) (a .n) (a .query .now) (a .links .now) (a .count) (a .k) (a .head) (a .listed) (a .list .now)
+      walk-start (a .samples .now) (a .n) (samplesOf (a .query .now)) (a .links .now) (a .count) (a .k) (a .head) (a .listed) (a .list .now)
           (p .inside) (s .pre .2),
       omega (arith, ap length e),
     )
@@ -76,7 +77,7 @@ loop-again c =
       omega (arith, c .behind .ensures, rises c),
       omega (arith, c .behind .ensures, rises c, L .inv .1),
       rw (c .behind .ensures)
-          (walk-next (a .samples .now) (a .n) (a .query .now) (a .links .now) (a .count) (a .k) (a .head) (a .listed) (a .list .now)
+          (walk-next (a .samples .now) (a .n) (samplesOf (a .query .now)) (a .links .now) (a .count) (a .k) (a .head) (a .listed) (a .list .now)
           (s c .pre .0 .rising) (L .inv .2) (inside c) (p .take-trace .ensures) (p .take-trace .kept .0)),
       omega (
         arith,
@@ -91,7 +92,7 @@ returns c =
     let a = given (c .before) .args in
     let L = c .before .loop in
     let done : a .count ≤ L .t = omega (arith, c .loop-test .left) in (
-      walk-end (a .samples .now) (a .n) (a .query .now) (a .links .now) (a .count) (a .k) (a .head) (a .listed) (a .list .now)
+      walk-end (a .samples .now) (a .n) (samplesOf (a .query .now)) (a .links .now) (a .count) (a .k) (a .head) (a .listed) (a .list .now)
           (L .inv .2) done,
       (omega (arith, L .inv .3, length-end (a .links .now) (a .count) (L .t) done), omega (arith, L .inv .0, L .inv .1)),
     )

@@ -2,6 +2,7 @@
 use native.Mathlib.Omega.{arith}
 use denote.Ref.{now}
 use borrow.Author.Needs.{needs}
+use Rattle.segment.specs.Stored.{samplesOf}
 use Rattle.search.specs.Searched.{withoutWork}
 use Rattle.search.proofs.One.{one-found}
 use Rattle.search.proofs.searching.search_all.Statement.{statement}
@@ -17,7 +18,7 @@ returns c =
     let q = c .before .before .before .before .before in
     let a = q .before .before .before .before .before .before .before .before .args in
     let l = q .search-list in
-    one-found (withoutWork (now (a .control)) (now (a .samples)) (now (a .nodes)) (now (a .links))) (now (a .query)) (now (a .work))
+    one-found (withoutWork (now (a .control)) (now (a .samples)) (now (a .nodes)) (now (a .links))) (samplesOf (now (a .query))) (now (a .work))
     (l .last .1 .1 .1 .1 .1 .0) (now (a .trail)) (l .last .1 .1 .1 .1 .1 .1 .0) (l .last .1 .1 .1 .1 .1 .1 .1 .0)
     (l .result .listed) (l .result .out) (l .result .traces) (l .kept .1 .1 .1 .1 .1 .1 .0) (l .ensures)
 

@@ -6,6 +6,8 @@ use native.Mathlib.Omega.{arith}
 use lib.ListN.{length, drop}
 use lib.Seq.{length-front, length-take-le, drop-at}
 use denote.Ref.{now}
+use Rattle.segment.specs.Stored.{samplesOf}
+use Rattle.segment.proofs.Stored.{samples-length}
 use Rattle.dstree.specs.Measures.{measures, recordsNeeded, workNeeded}
 use Rattle.tables.specs.Tables.{Tables, measuresOf, nodeCount, field, filled}
 use Rattle.search.specs.Searched.{withoutWork}
@@ -20,7 +22,8 @@ tablesOf s = withoutWork (now (s .args .control)) (now (s .args .samples)) (now 
 prefix-sums-requires : tie.Need-prefix-sums-requires
 prefix-sums-requires c κs =
     let s = c .before .before .before .before .before .before .before in
-    (length-fits (tablesOf s) (now (s .args .query)) (length (now (s .args .trail))) (s .pre .0 .0), refl, refl)
+    let few = length-fits (tablesOf s) (samplesOf (now (s .args .query))) (length (now (s .args .trail))) (s .pre .0 .0) in
+    (omega (arith, few, samples-length (now (s .args .query))), refl, refl)
 
 -- ---- a place of search work for each node
 
@@ -36,7 +39,7 @@ module _ (w : tie.After-wide) where
       omega (
         arith,
         count-is,
-        nodes-needed (tablesOf begin) (now (begin .args .query)) (length (now (begin .args .trail)))
+        nodes-needed (tablesOf begin) (samplesOf (now (begin .args .query))) (length (now (begin .args .trail)))
             (begin .pre .0 .0),
         begin .pre .0 .1,
       )
@@ -104,7 +107,7 @@ needed-is c =
 records-needed-requires : tie.Need-records-needed-requires
 records-needed-requires c κs =
     let s = start (c .before .before .before .before .before .before .before .before) in
-    omega (arith, capacity-is c, capacity-fits (tablesOf s) (now (s .args .query)) (length (now (s .args .trail))) (s .pre .0 .0))
+    omega (arith, capacity-is c, capacity-fits (tablesOf s) (samplesOf (now (s .args .query))) (length (now (s .args .trail))) (s .pre .0 .0))
 
 zero-work-requires : tie.Need-zero-work-requires
 zero-work-requires c κs =
@@ -132,7 +135,7 @@ returns c =
     let v = visited (c .before .before) in
     let a = start v .args in
     let r = v .visit .result in
-    cleared (a .k) (tablesOf (start v)) (now (a .query)) (length (now (a .trail))) (start v .pre .0 .0) (now (a .work)) (whole v)
+    cleared (a .k) (tablesOf (start v)) (samplesOf (now (a .query))) (length (now (a .trail))) (start v .pre .0 .0) (now (a .work)) (whole v)
     (z .last .0)
     (now (a .trail)) (v .visit .last .1 .1 .1 .1 .1 .1 .1 .1 .0) (now (a .list)) (v .visit .last .1 .1 .1 .1 .1 .1 .1 .1 .1 .0)
     (r .listed) (r .out) (r .traces) (v .visit .ensures) (behind v)

@@ -9,8 +9,11 @@ use lib.IntN.{ℤ}
 use lib.ListN.{length, set}
 use lib.Dec.{eqb}
 use denote.Ref.{now}
+use Rattle.segment.specs.Stored.{samplesOf}
+use Rattle.segment.proofs.Stored.{samples-length}
+use Rattle.dstree.specs.Measures.{Trace}
 use Rattle.dstree.specs.Node.{Tree}
-use Rattle.tables.specs.Tables.{Tables, traceCount, nodeCount}
+use Rattle.tables.specs.Tables.{Tables, measuresOf, traceCount, nodeCount}
 use Rattle.reading.specs.Listed.{recordAt}
 use Rattle.reading.proofs.Meaning.{LeafInTables}
 use Rattle.tables.specs.View.{shapeIn}
@@ -29,12 +32,12 @@ abbrev Inv-loop : tie.InvT-loop
 Inv-loop control samples nodes links query sums squares work₀ trail₀ list₀ k n count waiting₀ out₀ traces₀ listed₀
     work trail list waiting out traces listed =
     let t = withoutWork control samples nodes links in
-    SearchState k t query (shapeIn nodes (nodeCount t)) trail₀ list₀ work trail list waiting out traces listed × (length work ≡ nodeCount t)
+    SearchState k t (samplesOf query) (shapeIn nodes (nodeCount t)) trail₀ list₀ work trail list waiting out traces listed × (length work ≡ nodeCount t)
 
 abbrev μ-loop : tie.MeasureT-loop
 μ-loop control samples nodes links query sums squares work₀ trail₀ list₀ k n count waiting₀ out₀ traces₀ listed₀
     work trail list waiting out traces listed =
-    length (remaining (shapeIn nodes (nodeCount (withoutWork control samples nodes links))) query waiting work)
+    length (remaining (shapeIn nodes (nodeCount (withoutWork control samples nodes links))) (samplesOf query) waiting work)
 
 -- ---- what the call was given
 
@@ -42,8 +45,11 @@ module _ (s : tie.Start Inv-loop μ-loop) where
   abbrev given : Tables
   given = withoutWork (now (s .args .control)) (now (s .args .samples)) (now (s .args .nodes)) (now (s .args .links))
 
-  abbrev query : List ℤ
-  query = now (s .args .query)
+  abbrev words : List ℤ
+  words = now (s .args .query)
+
+  abbrev query : Trace
+  query = samplesOf words
 
   abbrev trail : List ℕ
   trail = now (s .args .trail)
@@ -63,6 +69,9 @@ module _ (s : tie.Start Inv-loop μ-loop) where
 
   ready : Ready given query (length trail)
   ready = s .pre .0 .0
+
+  words-long : length words ≡ measuresOf given .n
+  words-long = sym (samples-length words) ∙ ready .same-length
 
   walks : Walkable (given .nodes) nodes query
   walks = walkable given query (length trail) ready
@@ -212,8 +221,8 @@ node-small-requires c κs = (walks (start c) .record-room (number c) (inside c),
 read-leaf-requires : tie.Need-read-leaf-requires Inv-loop μ-loop
 read-leaf-requires c κs =
     let m = c .before .before in (
-      stored-as (lent m) (number m) (at-leaf m) (length (query (start m))) (count m) (c .before .node-small .result)
-          (ready (start m) .same-length) (count-is m) (c .before .node-small .ensures),
+      stored-as (lent m) (number m) (at-leaf m) (length (words (start m))) (count m) (c .before .node-small .result)
+          (words-long (start m)) (count-is m) (c .before .node-small .ensures),
       refl,
       turn (call m) .loop .inv .0 .room,
     )
@@ -240,7 +249,7 @@ module _ (c : tie.After-read-leaf Inv-loop μ-loop) where
       let s = start known in
       let small = c .before .before .node-small in
       state-leaf (k s) (given s) (query s) (trail s) (list s) (ready s) (turn (call known) .loop .inv .0) (leaf known) (at-leaf known)
-      (length (query s)) (count known) (small .result) (r .result .traces) (r .result .listed) list-after (ready s .same-length)
+      (length (words s)) (count known) (small .result) (r .result .traces) (r .result .listed) list-after (words-long s)
       (count-is known) (small .ensures) (r .ensures .0) (r .kept .1 .1 .1 .1 .1 .1 .0) (r .ensures .1 .0) (r .ensures .1 .1)
 
 add-traces : tie.Need-add-traces Inv-loop μ-loop

@@ -3,7 +3,7 @@
 pub mod judging; // what exporting refuses
 
 use recording::writing::write_recording;
-use segment::Sample;
+use segment::Word;
 use tables::Refusal;
 use tables::Verdict;
 use tables::control::field;
@@ -27,11 +27,11 @@ pub enum Exported {
 // Writes a stored trace as a recording, at a rate, to the buffer's first places. Every refusal is decided before anything is written. All
 // six tables are lent only to be read and to be long enough: they stay as they were.
 //
-// Two wrong programs that the contract rules out: one that says the number of samples for the number of bytes, and one that zeroes the
-// buffer behind the recording.
+// Two wrong programs that the contract rules out: one that says the number of samples for the number of bytes, and one that cuts a sample
+// beyond 16 bits to its low ones.
 pub fn export_recording(
     control: &[u16],
-    samples: &[Sample],
+    samples: &[Word],
     nodes: &[i64],
     links: &[u16],
     work: &[u64],

@@ -8,7 +8,7 @@ use native.Mathlib.Omega.{arith}
 use lib.ListN.{length}
 use lib.Dec.{T}
 use Rattle.integer.specs.Words.{if_then_else_}
-use Rattle.dstree.specs.Measures.{Trace, areSamples, labelsNeeded}
+use Rattle.dstree.specs.Measures.{Trace, labelsNeeded}
 use Rattle.dstree.specs.Refusals.{firstOf, badRecording}
 use Rattle.dstree.specs.Sheet.{areBytes}
 use Rattle.dstree.specs.Recording.{Recording, isRecording, recordedTraces, judgeRecording, isBadFile, fileTraces}
@@ -60,10 +60,10 @@ module _ (t : Tables) (bytes : List ℕ) (e : firstOf (imports t bytes .conditio
   unfolding judgeRecording
   traces-are = are-traces (isRecording n bytes) _ sound
 
-  pub loads : T (areBytes bytes) → T (areSamples (t .samples)) → (count : ℕ) → count ≡ length (fileTraces (judgeRecording n bytes))
+  pub loads : T (areBytes bytes) → (count : ℕ) → count ≡ length (fileTraces (judgeRecording n bytes))
       → Loads s.Recording (t .control) (t .samples) (t .nodes) (t .links) bytes n count
-  loads are-bytes typed count counted =
-      let all : TakesAll t (recordedTraces n bytes) = subst (TakesAll t) traces-are (import-takes t bytes are-bytes typed e) in
+  loads are-bytes count counted =
+      let all : TakesAll t (recordedTraces n bytes) = subst (TakesAll t) traces-are (import-takes t bytes are-bytes e) in
       let range = measures-fit t (all .formed) in
       let many : count ≡ length (recordedTraces n bytes) = counted ∙ ap (λ (l : List Trace). length l) traces-are in
       record {
@@ -74,13 +74,13 @@ module _ (t : Tables) (bytes : List ℕ) (e : firstOf (imports t bytes .conditio
       }
 
   -- there is a place for the label of each
-  pub has-places : T (areBytes bytes) → T (areSamples (t .samples)) → (count : ℕ) → count ≡ length (fileTraces (judgeRecording n bytes))
+  pub has-places : T (areBytes bytes) → (count : ℕ) → count ≡ length (fileTraces (judgeRecording n bytes))
       → traceCount t + count ≤ length (t .labels)
   unfolding imports labelsNeeded
-  has-places are-bytes typed count counted =
+  has-places are-bytes count counted =
       omega (
         arith,
         counted,
-        import-takes t bytes are-bytes typed e .room,
+        import-takes t bytes are-bytes e .room,
         accepted t (none-both (madeConditions t) _ e .0) .room .labels-room,
       )

@@ -4,7 +4,7 @@
 use crate::Imported;
 use recording::FileTraces;
 use recording::judging::judge_recording;
-use segment::Sample;
+use segment::Word;
 use tables::Refusal;
 use tables::Verdict;
 use tables::control::field;
@@ -49,7 +49,7 @@ fn judge_file(control: &[u16], bytes: &[u8]) -> Imported
 
 pub fn judge(
     control: &[u16],
-    samples: &[Sample],
+    samples: &[Word],
     nodes: &[i64],
     links: &[u16],
     work: &[u64],

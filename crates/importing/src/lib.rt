@@ -4,11 +4,10 @@ pub mod judging; // what importing refuses
 
 use loading::Source;
 use loading::load;
-use segment::Sample;
+use segment::Word;
 use tables::Refusal;
 use tables::control::field;
 use tables::label_table::clear;
-use tables::loops::look;
 use tables::numbers::wide;
 use tables::places::N;
 use tables::places::TRACE_COUNT;
@@ -34,7 +33,7 @@ pub enum Imported {
 // file whose last trace is short.
 pub fn import_recording(
     control: &mut [u16],
-    samples: &mut [Sample],
+    samples: &mut [Word],
     nodes: &mut [i64],
     links: &mut [u16],
     work: &[u64],
@@ -53,7 +52,6 @@ pub fn import_recording(
         Imported::Traces(count) => {
             let n = wide(field(control, N));
             let k = wide(field(control, TRACE_COUNT));
-            look(samples);
             clear(labels, k, count as usize);
             load(
                 control,

@@ -10,7 +10,7 @@ use Rattle.dstree.specs.Measures.{Trace}
 use Rattle.tables.specs.Tables.{Tables, tables}
 use Rattle.insertion_memory.specs.Memory.{addedTo}
 use Rattle.insertion_memory.specs.Takes.{TakesAll}
-use Rattle.insertion_memory.proofs.Keeps.{first-size, takes-rest}
+use Rattle.insertion_memory.proofs.Keeps.{first-is, takes-rest}
 use Rattle.adding.specs.Putting.{Takes}
 
 first-taken : (t : Tables) (x : Trace) (more : List Trace) → TakesAll t (x ∷ more)
@@ -18,7 +18,7 @@ first-taken : (t : Tables) (x : Trace) (more : List Trace) → TakesAll t (x ∷
     → Takes control samples nodes links x
 first-taken t x more k control samples nodes links e =
     let k′ : TakesAll (tables control samples nodes links []) (x ∷ more) = subst (λ (u : Tables). TakesAll u (x ∷ more)) (sym e) k in
-    record { formed = k′ .formed; long = k′ .long; size = first-size k′; less = omega (arith, k′ .room) }
+    record { formed = k′ .formed; long = k′ .long; is-trace = first-is k′; less = omega (arith, k′ .room) }
 
 pub takes-next : (t : Tables) (traces : List Trace) → TakesAll t traces → (i : ℕ) → i < length traces
     → (control : List ℕ) (samples nodes : List ℤ) (links : List ℕ)

@@ -7,7 +7,7 @@ use lib.IntN.{ℤ}
 use lib.ListN.{length, getD}
 use Rattle.dstree.specs.Measures.{Trace, mostSamples}
 use Rattle.dstree.specs.Refusals.{firstOf}
-use Rattle.dstree.specs.Sheet.{sheetConditions}
+use Rattle.dstree.specs.SheetWidths.{sheetConditions}
 use Rattle.dstree.specs.Recording.{recordedTraces}
 use Rattle.recording.specs.HoldsTrace as file
 use Rattle.tables.specs.Tables.{tables}

@@ -42,13 +42,13 @@ module _ (n : ℕ) (bytes : List ℕ) (number : ℕ) (h : HoldsTrace n bytes num
       omega (arith, suc-mul number n, mul-le-mul-right n numbered, all-cut, s .long)
 
   -- and say its samples
-  pub trace-is : samplesIn n (part firstByte (2 * n) bytes) ≡ getD (recordedTraces n bytes) number []
+  pub trace-is : samplesIn narrow n (part firstByte (2 * n) bytes) ≡ getD (recordedTraces n bytes) number []
   unfolding recordedTraces
   trace-is =
       let data-bytes = drop headerSize bytes in
       let from : headerSize + number * n * 2 ≡ firstByte = omega arith in
       let long : n * 2 ≡ 2 * n = omega arith in
-      sym (trace-at n count samples number data-bytes numbered all-cut
-      ∙ samples-first n (drop (number * n * 2) data-bytes)
-      ∙ ap (λ (l : List ℕ). samplesIn n (take (n * 2) l)) (drop-drop (number * n * 2) headerSize bytes)
-      ∙ ap₂ (λ (a k : ℕ). samplesIn n (part a k bytes)) from long)
+      sym (trace-at narrow n count samples number data-bytes numbered all-cut
+      ∙ samples-first narrow n (drop (number * n * 2) data-bytes)
+      ∙ ap (λ (l : List ℕ). samplesIn narrow n (take (n * 2) l)) (drop-drop (number * n * 2) headerSize bytes)
+      ∙ ap₂ (λ (a k : ℕ). samplesIn narrow n (part a k bytes)) from long)

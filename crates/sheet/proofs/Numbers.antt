@@ -1,5 +1,5 @@
 -- Fields of two and of four bytes: where they stand in a list, and what they are worth.
-use mathlib.Core.Path.{_≡_, ap, ap₂, _∙_}
+use mathlib.Core.Path.{_≡_, sym, ap, ap₂, _∙_}
 use mathlib.Core.List.{List, [], _∷_, _++_}
 use Prim.Native.Nat.{ℕ, zero, suc, _+_, _*_, _/_, _%_, _≤_, _<_}
 use native.Mathlib.Nat.{not-suc-le-zero, le-of-suc-le-suc, mul-add-mod-self-left}
@@ -38,6 +38,13 @@ second-byte : (v : ℕ) → v / 256 % 256 ≡ v % 65536 / 256 % 256
 second-byte v =
     let e : v / 256 ≡ 256 * (v / 65536) + v % 65536 / 256 = omega arith in
     ap (λ (k : ℕ). k % 256) e ∙ mul-add-mod-self-left 256 (v / 65536) (v % 65536 / 256)
+
+-- two bytes say a number modulo 65,536
+pub two-bytes-are : (v : ℕ) → bytesOf 2 (v % 65536) ≡ bytesOf 2 v
+unfolding bytesOf
+two-bytes-are v =
+    let first : v % 65536 % 256 ≡ v % 256 = omega arith in
+    ap₂ (λ (x y : ℕ). x ∷ y ∷ []) first (sym (second-byte v))
 
 pub four-bytes-are : (v : ℕ) → bytesOf 4 v ≡ bytesOf 2 (v % 65536) ++ bytesOf 2 (v / 65536 % 65536)
 unfolding bytesOf

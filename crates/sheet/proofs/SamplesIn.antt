@@ -3,17 +3,15 @@ use Prim.Native.Nat.{ℕ, zero, suc, _+_, _*_, _-_, _≤_, _<_}
 use mathlib.Core.Path.{_≡_, refl, sym, _∙_, ap, ap₂}
 use mathlib.Core.List.{List, [], _∷_, _++_, map}
 use native.Mathlib.Omega.{arith}
-use native.Mathlib.Nat.{suc-mul, mul-le-mul-right}
-use lib.ListN.{getD, take, drop}
+use native.Mathlib.Nat.{suc-mul, mul-le-mul-right, le-of-suc-le-suc}
+use lib.IntN.{pos}
+use lib.ListN.{length, getD, take, drop, length-map}
 use lib.Seq.{drop-drop, take-take}
 use Rattle.integer.proofs.Lists.{drop-take, map-take}
 use Rattle.integer.proofs.Rows.{map-append}
-use Rattle.dstree.specs.Sheet.{narrow, part, pieces, decoded}
-use Rattle.dstree.proofs.SheetPieces.{pieces-at, pieces-drop, pieces-take, pieces-more}
+use Rattle.dstree.specs.Sheet.{Format, part, pieces, decoded}
+use Rattle.dstree.proofs.SheetPieces.{pieces-length, pieces-at, pieces-drop, pieces-take, pieces-more}
 use Rattle.sheet.specs.Codes.{samplesIn}
-
-abbrev width : ℕ
-width = narrow .sampleBytes
 
 module _ {A : Type 0} where
   pieces-add : (size a b : ℕ) (xs : List A) → pieces size (a + b) xs ≡ pieces size a xs ++ pieces size b (drop (a * size) xs)
@@ -43,37 +41,57 @@ module _ {A B : Type 0} (f : A → B) where
   map-drop (suc k) [] = refl
   map-drop (suc k) (x ∷ l) = map-drop k l
 
-pub samples-none : (bytes : List ℕ) → samplesIn 0 bytes ≡ []
-unfolding samplesIn pieces
-samples-none bytes = refl
+  map-at : (l : List A) (i : ℕ) (d : A) (e : B) → i < length l → getD (map f l) i e ≡ f (getD l i d)
+  map-at [] i d e h = absurd (omega arith)
+  map-at (x ∷ l) zero d e h = refl
+  map-at (x ∷ l) (suc i) d e h = map-at l i d e (le-of-suc-le-suc h)
 
--- one sample more
-pub samples-more : (k : ℕ) (bytes : List ℕ)
-    → samplesIn (suc k) bytes ≡ samplesIn k bytes ++ (decoded narrow (part (k * width) width bytes) ∷ [])
-unfolding samplesIn
-samples-more k bytes =
-    ap (map (decoded narrow)) (pieces-more width k bytes)
-    ∙ map-append (decoded narrow) (pieces width k bytes) (part (k * width) width bytes ∷ [])
+module _ (f : Format) where
+  abbrev width : ℕ
+  width = f .sampleBytes
 
-pub samples-add : (a b : ℕ) (bytes : List ℕ) → samplesIn (a + b) bytes ≡ samplesIn a bytes ++ samplesIn b (drop (a * width) bytes)
-unfolding samplesIn
-samples-add a b bytes =
-    ap (map (decoded narrow)) (pieces-add width a b bytes)
-    ∙ map-append (decoded narrow) (pieces width a bytes) (pieces width b (drop (a * width) bytes))
+  pub samples-none : (bytes : List ℕ) → samplesIn f 0 bytes ≡ []
+  unfolding samplesIn pieces
+  samples-none bytes = refl
 
--- what stands behind them does not bear on them
-pub samples-first : (k : ℕ) (bytes : List ℕ) → samplesIn k bytes ≡ samplesIn k (take (k * width) bytes)
-unfolding samplesIn
-samples-first k bytes = ap (map (decoded narrow)) (pieces-first width k bytes)
+  -- one sample more
+  pub samples-more : (k : ℕ) (bytes : List ℕ)
+      → samplesIn f (suc k) bytes ≡ samplesIn f k bytes ++ (decoded f (part (k * width) width bytes) ∷ [])
+  unfolding samplesIn
+  samples-more k bytes =
+      ap (map (decoded f)) (pieces-more width k bytes)
+      ∙ map-append (decoded f) (pieces width k bytes) (part (k * width) width bytes ∷ [])
 
--- a trace is the n samples from n times its number on
-pub trace-at : (n count all number : ℕ) (bytes : List ℕ) → number < count → count * n ≤ all
-    → getD (pieces n count (map (decoded narrow) (pieces width all bytes))) number [] ≡ samplesIn n (drop (number * n * width) bytes)
-unfolding samplesIn
-trace-at n count all number bytes h room =
-    let inside : suc number * n ≤ count * n = mul-le-mul-right n h in
-    pieces-at n count (map (decoded narrow) (pieces width all bytes)) number h
-    ∙ ap (take n) (map-drop (decoded narrow) (number * n) (pieces width all bytes) ∙ ap (map (decoded narrow)) (pieces-drop width (number * n) all bytes))
-    ∙ sym (map-take (decoded narrow) n (pieces width (all - number * n) (drop (number * n * width) bytes)))
-    ∙ ap (map (decoded narrow))
-    (pieces-take width n (all - number * n) (drop (number * n * width) bytes) (omega (arith, inside, room, suc-mul number n)))
+  pub samples-add : (a b : ℕ) (bytes : List ℕ) → samplesIn f (a + b) bytes ≡ samplesIn f a bytes ++ samplesIn f b (drop (a * width) bytes)
+  unfolding samplesIn
+  samples-add a b bytes =
+      ap (map (decoded f)) (pieces-add width a b bytes)
+      ∙ map-append (decoded f) (pieces width a bytes) (pieces width b (drop (a * width) bytes))
+
+  -- what stands behind them does not bear on them
+  pub samples-first : (k : ℕ) (bytes : List ℕ) → samplesIn f k bytes ≡ samplesIn f k (take (k * width) bytes)
+  unfolding samplesIn
+  samples-first k bytes = ap (map (decoded f)) (pieces-first width k bytes)
+
+  -- a trace is the n samples from n times its number on
+  pub trace-at : (n count all number : ℕ) (bytes : List ℕ) → number < count → count * n ≤ all
+      → getD (pieces n count (map (decoded f) (pieces width all bytes))) number [] ≡ samplesIn f n (drop (number * n * width) bytes)
+  unfolding samplesIn
+  trace-at n count all number bytes h room =
+      let inside : suc number * n ≤ count * n = mul-le-mul-right n h in
+      pieces-at n count (map (decoded f) (pieces width all bytes)) number h
+      ∙ ap (take n) (map-drop (decoded f) (number * n) (pieces width all bytes) ∙ ap (map (decoded f)) (pieces-drop width (number * n) all bytes))
+      ∙ sym (map-take (decoded f) n (pieces width (all - number * n) (drop (number * n * width) bytes)))
+      ∙ ap (map (decoded f))
+      (pieces-take width n (all - number * n) (drop (number * n * width) bytes) (omega (arith, inside, room, suc-mul number n)))
+
+  pub samples-length : (k : ℕ) (bytes : List ℕ) → length (samplesIn f k bytes) ≡ k
+  unfolding samplesIn
+  samples-length k bytes = length-map (pieces width k bytes) (decoded f) ∙ pieces-length width k bytes
+
+  -- one of them
+  pub samples-at : (k i : ℕ) (bytes : List ℕ) → i < k
+      → getD (samplesIn f k bytes) i (pos 0) ≡ decoded f (part (i * width) width bytes)
+  unfolding samplesIn
+  samples-at k i bytes h =
+      map-at (decoded f) (pieces width k bytes) i [] (pos 0) (omega (arith, h, pieces-length width k bytes)) ∙ ap (decoded f) (pieces-at width k bytes i h)

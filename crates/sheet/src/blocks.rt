@@ -3,18 +3,22 @@
 use crate::check::check_of;
 use crate::fields::put_bytes;
 use crate::fields::put_two;
+use crate::formats::head_kind;
+use crate::formats::sample_kind;
 use crate::labels::put_labels;
 use crate::letters::LETTERS;
 use crate::samples::put_samples;
-use segment::Sample;
+use segment::Word;
 ghost use mathlib.Core.Path.{_≡_};
 ghost use mathlib.Core.List.{_∷_, [], _++_};
 ghost use Prim.Native.Nat.{_≤_};
 ghost use lib.ListN.{length, take, replicate};
 ghost use lib.Seq.{sets};
 ghost use Rattle.dstree.specs.Measures.{measures};
-ghost use Rattle.dstree.specs.Sheet.{bytesOf, filledTo, blockSize, checkedSize, narrow, sealed, block, measureBytes, headOf, codedAll};
+ghost use Rattle.dstree.specs.Sheet.{bytesOf, filledTo, blockSize, checkedSize, sealed, block, measureBytes, headOf, codedAll};
 ghost use Rattle.dstree.specs.Sheet.{labelCells, labelKind};
+ghost use Rattle.dstree.specs.SheetWidths.{formatBy};
+ghost use Rattle.segment.specs.Stored.{samplesOf};
 ghost use Rattle.sheet.specs.LabelCodes.{labelCodes};
 
 // "All else is 0": before a block's fields are put, every byte is 0.
@@ -59,23 +63,24 @@ fn put_measures(part: &mut [u8], n: u16, capacity: u16, leaf_size: u16, count: u
 }
 
 // Block 0: the letters, the measures and the number of traces.
-pub fn write_head(part: &mut [u8], n: u16, capacity: u16, leaf_size: u16, count: u16)
+pub fn write_head(part: &mut [u8], n: u16, capacity: u16, leaf_size: u16, count: u16, four: bool)
     requires { ⌜ length (now part) ≡ blockSize ⌝ }
-    ensures { λ _. ⌜ now (part .exit) ≡ block (narrow .headKind) 0 (headOf (measures n capacity «leaf_size») count) ⌝ }
+    ensures { λ _. ⌜ now (part .exit) ≡ block (formatBy four .headKind) 0 (headOf (measures n capacity «leaf_size») count) ⌝ }
 {
-    begin(part, 0, 1);
+    begin(part, 0, head_kind(four));
     put_bytes(part, 4, &LETTERS);
     put_measures(part, n, capacity, leaf_size, count);
     seal(part);
 }
 
-// Another block: at most 253 samples from byte 4 on.
-pub fn write_samples(part: &mut [u8], number: u16, samples: &[Sample])
-    requires { ⌜ (length (now part) ≡ blockSize) × (length (now samples) ≤ narrow .samplesPerBlock) ⌝ }
-    ensures { λ _. ⌜ now (part .exit) ≡ block (narrow .sampleKind) number (codedAll narrow (now (samples .entry))) ⌝ }
+// Another block: the samples of words from byte 4 on, at most as many as a block carries.
+pub fn write_samples(part: &mut [u8], number: u16, words: &[Word], four: bool)
+    requires { ⌜ (length (now part) ≡ blockSize) × (length (now words) ≤ formatBy four .samplesPerBlock) ⌝ }
+    ensures { λ _. ⌜ now (part .exit)
+        ≡ block (formatBy four .sampleKind) number (codedAll (formatBy four) (samplesOf (now (words .entry)))) ⌝ }
 {
-    begin(part, number, 2);
-    put_samples(part, 4, samples);
+    begin(part, number, sample_kind(four));
+    put_samples(part, 4, words, four);
     seal(part);
 }
 

@@ -4,11 +4,12 @@ use mathlib.Core.Path.{_≡_, refl, sym, _∙_, ap, ap₂}
 use mathlib.Core.Bool.{Bool, true, false, _&&_}
 use mathlib.Core.List.{List, [], _∷_, _++_, map, flatten}
 use native.Mathlib.Omega.{arith}
+use native.Mathlib.Nat.{mul-comm}
 use lib.ListN.{length, getD, drop}
 use lib.Dec.{eqb}
 use borrow.Author.Tests.{eq-eqb, ne-eqb}
 use Rattle.integer.specs.Words.{every}
-use Rattle.dstree.specs.Sheet.{blockSize, checkedSize, carriedSize, narrow, part, areZero, thirdsIn, blocksIn, carriedIn, sampleBlocksIn}
+use Rattle.dstree.specs.Sheet.{blockSize, checkedSize, carriedSize, Format, part, areZero, thirdsIn, blocksIn, carriedIn, sampleBlocksIn}
 use Rattle.dstree.specs.Sheet.{labelBlocksIn, sampleCells, labelCells, cellsSize, cellBytesIn, zerosBehind, zerosIn}
 use Rattle.sheet_blocks.specs.Blocks.{blockCount, InBlocks, blockAt, laterBlocks, labelStart, spareBetween, zerosBetween}
 use Rattle.dstree.proofs.SheetPieces.{part-part, drop-part, part-at, part-cons, part-none}
@@ -92,7 +93,7 @@ module _ (a b c d : List ℕ) where
       zero-append (a ++ b ++ c) d
       ∙ ap (λ (t : Bool). t && areZero d) (zero-append (a ++ b) c ∙ ap (λ (t : Bool). t && areZero c) (zero-append a b))
 
-module _ (bytes : List ℕ) (whole : InBlocks bytes) (count n : ℕ) where
+module _ (f : Format) (bytes : List ℕ) (whole : InBlocks bytes) (count n : ℕ) where
   abbrev others : List (List ℕ)
   others = laterBlocks bytes 1
 
@@ -101,7 +102,7 @@ module _ (bytes : List ℕ) (whole : InBlocks bytes) (count n : ℕ) where
   behind = part 16 (checkedSize - 16) bytes
 
   abbrev pub sampleZeros : List ℕ
-  sampleZeros = zerosBetween (cellsSize (sampleCells narrow)) (narrow .sampleBytes * (count * n)) bytes 1 (labelStart bytes)
+  sampleZeros = zerosBetween (cellsSize (sampleCells f)) (f .sampleBytes * (count * n)) bytes 1 (labelStart bytes)
 
   abbrev pub labelZeros : List ℕ
   labelZeros = zerosBetween (cellsSize labelCells) (labelCells .cellBytes * count) bytes (labelStart bytes) (blockCount bytes)
@@ -109,20 +110,20 @@ module _ (bytes : List ℕ) (whole : InBlocks bytes) (count n : ℕ) where
   head-is : drop 12 (carriedIn (blockAt bytes 0)) ≡ behind
   head-is = drop-part 12 4 carriedSize (blockAt bytes 0) ∙ part-part 16 (checkedSize - 16) 0 blockSize bytes (omega arith)
 
-  samples-are : zerosBehind (sampleCells narrow) (count * n) (sampleBlocksIn others) ≡ sampleZeros
+  samples-are : zerosBehind (sampleCells f) (count * n) (sampleBlocksIn others) ≡ sampleZeros
   unfolding zerosBehind cellBytesIn
-  samples-are = let e : count * n * 2 ≡ 2 * (count * n) = omega arith in rw (samples-between bytes whole, e) refl
+  samples-are = let e : count * n * f .sampleBytes ≡ f .sampleBytes * (count * n) = mul-comm (count * n) (f .sampleBytes) in rw (samples-between bytes whole, e) refl
 
   labels-are : zerosBehind labelCells count (labelBlocksIn others) ≡ labelZeros
   unfolding zerosBehind cellBytesIn
   labels-are = let e : count * 6 ≡ 6 * count = omega arith in rw (labels-between bytes whole, e) refl
 
-  pub zeros-apart : areZero (zerosIn narrow count n (blockAt bytes 0) others)
+  pub zeros-apart : areZero (zerosIn f count n (blockAt bytes 0) others)
       ≡ (((areZero (thirdsIn (blocksIn bytes)) && areZero behind) && areZero sampleZeros) && areZero labelZeros)
   unfolding zerosIn
   zeros-apart =
       let first = blockAt bytes 0 in
-      let samples = zerosBehind (sampleCells narrow) (count * n) (sampleBlocksIn others) in
+      let samples = zerosBehind (sampleCells f) (count * n) (sampleBlocksIn others) in
       let labels = zerosBehind labelCells count (labelBlocksIn others) in
       four-apart (thirdsIn (first ∷ others)) (drop 12 (carriedIn first)) samples labels
       ∙ ap₂ (λ (l k : List ℕ). ((areZero l && areZero k) && areZero samples) && areZero labels) (ap thirdsIn (sym (blocks-are bytes whole))) head-is

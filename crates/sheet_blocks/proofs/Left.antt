@@ -1,7 +1,7 @@
 -- What is left behind the last cell: it lies in the last block.
 use Prim.Native.Nat.{ℕ, suc, _+_, _*_, _-_, _≤_, _<_}
 use mathlib.Core.Path.{_≡_, _∙_, ap}
-use mathlib.Core.Bool.{true}
+use mathlib.Core.Bool.{Bool, true, false}
 use mathlib.Core.List.{List, _++_, flatten, append-nil}
 use native.Mathlib.Omega.{arith}
 use native.Mathlib.Decide.{decLe}
@@ -9,9 +9,10 @@ use native.Mathlib.Nat.{suc-mul, lt-of-not-le}
 use lib.ListN.{drop}
 use lib.Seq.{drop-nil}
 use Rattle.integer.specs.Words.{every}
-use Rattle.dstree.specs.Sheet.{blockSize, carriedSize, part, areZero, narrow, narrowLimit, sampleSize, labelCells, cellsSize, labelBlocksNeeded}
+use Rattle.dstree.specs.Sheet.{blockSize, carriedSize, part, areZero, Format, narrow, wide, narrowLimit, sampleSize, labelCells, cellsSize, labelBlocksNeeded}
+use Rattle.dstree.specs.SheetWidths.{formatBy}
 use Rattle.dstree.proofs.SheetPieces.{drop-part}
-use Rattle.dstree.proofs.SheetFormat.{narrow-sound, needed-room, needed-tight, labels-sound, cells-room, cells-tight}
+use Rattle.dstree.proofs.SheetFormat.{narrow-sound, wideHalf, wide-sound, needed-room, needed-tight, labels-sound, cells-room, cells-tight}
 use Rattle.sheet_blocks.specs.Blocks.{blockCount, InBlocks, labelStart, RightNumbers, cellsBetween, Fills}
 use Rattle.sheet_blocks.proofs.Places.{no-block}
 use Rattle.sheet_blocks.proofs.Carried.{carriedFrom, carriedAt, carried-on, carried-none}
@@ -63,13 +64,18 @@ module _ (size : ℕ) (room : size ≤ carriedSize) (bytes : List ℕ) (whole : 
 
 -- ---- as many blocks as are needed
 
-module _ (bytes : List ℕ) (count n : ℕ) (right : RightNumbers bytes count n) where
-  pub samples-fill : Fills (sampleSize narrow) (labelStart bytes - 1) (narrow .sampleBytes * (count * n))
-  samples-fill =
-      let room = needed-room narrow narrowLimit narrow-sound count n in
-      let tight = needed-tight narrow narrowLimit narrow-sound count n in
-      record { above = omega (arith, tight, right .sampled); within = λ f. omega (arith, room, right .sampled) }
+pub samples-fill : (four : Bool) (bytes : List ℕ) (count n : ℕ) → RightNumbers (formatBy four) bytes count n
+    → Fills (sampleSize (formatBy four)) (labelStart bytes - 1) (formatBy four .sampleBytes * (count * n))
+samples-fill true bytes count n right =
+    let room = needed-room wide wideHalf wide-sound count n in
+    let tight = needed-tight wide wideHalf wide-sound count n in
+    record { above = omega (arith, tight, right .sampled); within = λ f. omega (arith, room, right .sampled) }
+samples-fill false bytes count n right =
+    let room = needed-room narrow narrowLimit narrow-sound count n in
+    let tight = needed-tight narrow narrowLimit narrow-sound count n in
+    record { above = omega (arith, tight, right .sampled); within = λ f. omega (arith, room, right .sampled) }
 
+module _ (format : Format) (bytes : List ℕ) (count n : ℕ) (right : RightNumbers format bytes count n) where
   -- the blocks of labels, if there are some
   abbrev labelled : ℕ
   labelled = blockCount bytes - labelStart bytes

@@ -9,6 +9,7 @@ use lib.ListN.{length, getD, take, drop}
 use lib.Seq.{drop-drop}
 use lib.Dec.{eqb}
 use Rattle.dstree.specs.Sheet.{blockSize, part, pieces, labelKind, blocksIn, kindIn, beforeLabels, sampleBlocksIn, labelBlocksIn}
+use Rattle.dstree.specs.SheetWidths.{formatBy}
 use Rattle.dstree.proofs.SheetPieces.{part-at, part-length, pieces-length, pieces-take, pieces-drop}
 use Rattle.dstree.proofs.SheetRead.{Blocks, in-blocks}
 use Rattle.sheet_blocks.specs.Blocks.{blockCount, InBlocks, blockAt, blocksBetween, laterBlocks, labelStart}
@@ -114,3 +115,9 @@ module _ (bytes : List ℕ) (whole : InBlocks bytes) where
       let k : 1 * blockSize + s * blockSize ≡ suc s * blockSize = omega arith in
       pieces-drop blockSize s (blockCount bytes - 1) (drop (1 * blockSize) bytes)
       ∙ ap₂ (λ (a : ℕ) (l : List ℕ). pieces blockSize a l) e (drop-drop (s * blockSize) (1 * blockSize) bytes ∙ ap (λ (i : ℕ). drop i bytes) k)
+
+-- ---- the two formats
+
+pub each-most : (four : Bool) → (126 ≤ formatBy four .samplesPerBlock) × (formatBy four .samplesPerBlock ≤ 253)
+each-most true = (omega arith, omega arith)
+each-most false = (omega arith, omega arith)

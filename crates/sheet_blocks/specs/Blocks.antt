@@ -4,7 +4,7 @@ use mathlib.Core.Path.{_≡_}
 use mathlib.Core.Bool.{false}
 use mathlib.Core.List.{List, _++_, map, flatten}
 use lib.ListN.{length, take, drop}
-use Rattle.dstree.specs.Sheet.{blockSize, part, pieces, narrow, carriedIn, kindIn, beforeLabels, isWrongLength, sampleBlocksNeeded}
+use Rattle.dstree.specs.Sheet.{Format, blockSize, part, pieces, carriedIn, kindIn, beforeLabels, isWrongLength, sampleBlocksNeeded}
 use Rattle.dstree.specs.Sheet.{labelBlocksNeeded}
 
 -- no wrong length (8): at least one block, nothing behind the last, and no more than the largest library has
@@ -36,9 +36,9 @@ kindBefore bytes (suc number) = kindIn (blockAt bytes number)
 abbrev pub labelStart : List ℕ → ℕ
 labelStart bytes = suc (beforeLabels (laterBlocks bytes 1))
 
--- there are as many blocks of samples as so many traces need, and all their label blocks or none
-pub record RightNumbers (bytes : List ℕ) (count n : ℕ) : Type 0 where
-  pub sampled : labelStart bytes ≡ suc (sampleBlocksNeeded narrow count n)
+-- there are as many blocks of samples as so many traces need in a format, and all their label blocks or none
+pub record RightNumbers (f : Format) (bytes : List ℕ) (count n : ℕ) : Type 0 where
+  pub sampled : labelStart bytes ≡ suc (sampleBlocksNeeded f count n)
   pub labelled : (labelStart bytes ≡ blockCount bytes → ⊥) → blockCount bytes ≡ labelStart bytes + labelBlocksNeeded count
 
 -- ---- what some of the blocks carry

@@ -1,11 +1,14 @@
 // Bytes that must be 0.
 
 use crate::blocks::Cursor;
+use sheet::formats::block_samples;
+use sheet::formats::sample_bytes;
 ghost use mathlib.Core.Path.{_≡_};
 ghost use Prim.Native.Nat.{_-_, _≤_};
 ghost use lib.ListN.{length, drop};
 ghost use Rattle.dstree.specs.Measures.{mostSamples, mostTraces};
-ghost use Rattle.dstree.specs.Sheet.{part, carriedSize, narrow, areZero, thirdsIn, blocksIn, zerosIn};
+ghost use Rattle.dstree.specs.Sheet.{part, carriedSize, areZero, thirdsIn, blocksIn, zerosIn};
+ghost use Rattle.dstree.specs.SheetWidths.{formatBy};
 ghost use Rattle.sheet_blocks.specs.Blocks.{InBlocks, blockCount, blockAt, laterBlocks, labelStart, RightNumbers};
 ghost use Rattle.sheet_blocks.specs.Blocks.{cellsBetween, spareBetween, zerosBetween, Fills};
 
@@ -84,12 +87,13 @@ fn behind_zero(sheet: &[u8], from: usize, to: usize, size: usize, taken: usize) 
     left_zero(sheet, from, to, size, taken)
 }
 
-// Every byte that must be 0, of a sheet with as many blocks of each kind as so many traces need. 253 samples take 506 bytes of a block,
-// 84 labels take 504.
-pub fn all_zero(sheet: &[u8], start: usize, count: usize, n: usize) -> bool
+// Every byte that must be 0, of a sheet with as many blocks of each kind as so many traces need. 253 samples of two bytes take 506 bytes of
+// a block, 126 of four take 504, as 84 labels do.
+pub fn all_zero(sheet: &[u8], start: usize, count: usize, n: usize, four: bool) -> bool
     requires { ⌜ InBlocks (now sheet) × (start ≡ labelStart (now sheet)) × (count ≤ mostTraces) × (n ≤ mostSamples)
-        × RightNumbers (now sheet) count n ⌝ }
-    ensures { λ r. ⌜ r ≡ areZero (zerosIn narrow count n (blockAt (now (sheet .entry)) 0) (laterBlocks (now (sheet .entry)) 1)) ⌝ }
+        × RightNumbers (formatBy four) (now sheet) count n ⌝ }
+    ensures { λ r. ⌜ r
+        ≡ areZero (zerosIn (formatBy four) count n (blockAt (now (sheet .entry)) 0) (laterBlocks (now (sheet .entry)) 1)) ⌝ }
 {
     if !thirds_zero(sheet) {
         return false;
@@ -97,7 +101,14 @@ pub fn all_zero(sheet: &[u8], start: usize, count: usize, n: usize) -> bool
     if !zeros(sheet, 16, 510) {
         return false;
     }
-    if !behind_zero(sheet, 1, start, 506, 2 * (count * n)) {
+    let size = sample_bytes(four);
+    if !behind_zero(
+        sheet,
+        1,
+        start,
+        size * block_samples(four),
+        size * (count * n),
+    ) {
         return false;
     }
     behind_zero(sheet, start, sheet.len() / 512, 504, 6 * count)

@@ -14,7 +14,7 @@ use Rattle.dstree.specs.Measures.{Measures, inRange}
 use Rattle.dstree.specs.Labels.{areZeroLabels}
 use Rattle.dstree.specs.Refusals.{badSheet, Condition, _refuses_, firstOf}
 use Rattle.dstree.specs.Sheet.{blockSize, part, letters, blocksIn, measuresIn, countIn, sampleBlocksIn, sampleBlocksNeeded, labelBlocksNeeded}
-use Rattle.dstree.specs.Sheet.{labelsInBlocks, narrow, areZero, zerosIn, badConditions}
+use Rattle.dstree.specs.Sheet.{labelsInBlocks, Format, areZero, zerosIn, badConditions}
 use Rattle.dstree.proofs.SheetPieces.{pieces-length}
 use Rattle.dstree.proofs.SheetRead.{or-second}
 use Rattle.sheet_blocks.specs.Blocks.{blockCount, InBlocks, blockAt, laterBlocks, labelStart, RightNumbers}
@@ -61,14 +61,14 @@ module _ (bytes : List ℕ) (whole : InBlocks bytes) where
       ∙ pieces-length blockSize (blockCount bytes - labelStart bytes) (drop (labelStart bytes * blockSize) bytes)
 
   -- where the numbers are not bad
-  pub right-numbers : (count n : ℕ) → labelStart bytes - 1 ≡ sampleBlocksNeeded narrow count n → areBad count (labelBlocks bytes) ≡ false
-      → RightNumbers bytes count n
+  pub right-numbers : (f : Format) (count n : ℕ) → labelStart bytes - 1 ≡ sampleBlocksNeeded f count n → areBad count (labelBlocks bytes) ≡ false
+      → RightNumbers f bytes count n
   unfolding areBad
-  right-numbers count n e f =
+  right-numbers f count n e g =
       let blocks : ℕ = length (labelBlocks bytes) in
       let test : Bool = eqb blocks 0 || eqb blocks (labelBlocksNeeded count) in
       let zeros : Bool = not (eqb blocks 0) && areZeroLabels (labelsInBlocks count (labelBlocks bytes)) in
-      let either : test ≡ true = not-false test (neither (not test) zeros f .0) in
+      let either : test ≡ true = not-false test (neither (not test) zeros g .0) in
       let all : eqb blocks 0 ≡ false → blocks ≡ labelBlocksNeeded count =
       λ none. eqb-true blocks (labelBlocksNeeded count) (or-second (eqb blocks 0) (eqb blocks (labelBlocksNeeded count)) either none) in
       record {
@@ -82,20 +82,20 @@ module _ (bytes : List ℕ) (whole : InBlocks bytes) where
       }
 
   -- each test, as code makes it of the sheet and of what block 0 says
-  pub bad-are : (m : Measures) (count : ℕ) → measuresIn (blockAt bytes 0) ≡ m → countIn (blockAt bytes 0) ≡ count
-      → firstOf (badConditions narrow (blocksIn bytes))
+  pub bad-are : (f : Format) (m : Measures) (count : ℕ) → measuresIn (blockAt bytes 0) ≡ m → countIn (blockAt bytes 0) ≡ count
+      → firstOf (badConditions f (blocksIn bytes))
       ≡ firstOf
       (badBy (same (part 4 4 bytes) letters) (inRange m) (ltb (m .capacity) count)
-      (eqb (labelStart bytes - 1) (sampleBlocksNeeded narrow count (m .n))) (areBad count (labelBlocks bytes))
-      (areZero (zerosIn narrow count (m .n) (blockAt bytes 0) others)))
+      (eqb (labelStart bytes - 1) (sampleBlocksNeeded f count (m .n))) (areBad count (labelBlocks bytes))
+      (areZero (zerosIn f count (m .n) (blockAt bytes 0) others)))
   unfolding badConditions areBad
-  bad-are m count e f =
-      rw (blocks-are bytes whole, e, f, first-letters bytes, sample-blocks)
+  bad-are f m count e g =
+      rw (blocks-are bytes whole, e, g, first-letters bytes, sample-blocks)
       (joined (not (same (part 4 4 bytes) letters)) (not (inRange m)) (ltb (m .capacity) count)
-      (not (eqb (labelStart bytes - 1) (sampleBlocksNeeded narrow count (m .n))))
+      (not (eqb (labelStart bytes - 1) (sampleBlocksNeeded f count (m .n))))
       (not (eqb (length (labelBlocks bytes)) 0 || eqb (length (labelBlocks bytes)) (labelBlocksNeeded count)))
       (not (eqb (length (labelBlocks bytes)) 0) && areZeroLabels (labelsInBlocks count (labelBlocks bytes)))
-      (not (areZero (zerosIn narrow count (m .n) (blockAt bytes 0) others))))
+      (not (areZero (zerosIn f count (m .n) (blockAt bytes 0) others))))
 
 module _ (lettered measured above sampled labelled zeros : Bool) where
   pub bad-letters : lettered ≡ false → some badSheet ≡ firstOf (badBy lettered measured above sampled labelled zeros)

@@ -2,4 +2,5 @@
 pub mod Heads
 pub mod Bad
 pub mod Samples
+pub mod Ranged
 pub mod LabelsIn

@@ -2,6 +2,7 @@
 
 use crate::labels::labels_bad;
 use sheet::fields::two_bytes;
+use sheet::formats::blocks_for;
 use sheet::letters::LETTERS;
 use sheet_blocks::blocks::label_start;
 use sheet_blocks::zeros::all_zero;
@@ -13,7 +14,8 @@ ghost use Prim.Native.Nat.{_≤_, _<_};
 ghost use lib.ListN.{length};
 ghost use Rattle.integer.specs.Words.{same};
 ghost use Rattle.dstree.specs.Refusals.{firstOf};
-ghost use Rattle.dstree.specs.Sheet.{part, blockSize, narrow, letters, blocksIn, badConditions};
+ghost use Rattle.dstree.specs.Sheet.{part, blockSize, letters, blocksIn, badConditions};
+ghost use Rattle.dstree.specs.SheetWidths.{formatBy};
 ghost use Rattle.tables.specs.Answers.{foundBy};
 ghost use Rattle.sheet_blocks.specs.Blocks.{InBlocks, blockAt};
 ghost use Rattle.sheet_judging.specs.HeadBlock.{HeadSays};
@@ -54,9 +56,9 @@ pub fn head_of(sheet: &[u8]) -> Head
 }
 
 // 10: letters, measures, count above capacity, number of blocks of each kind, only zero labels, or a nonzero byte that must be 0.
-pub fn judge_contents(sheet: &[u8]) -> Verdict
+pub fn judge_contents(sheet: &[u8], four: bool) -> Verdict
     requires { ⌜ InBlocks (now sheet) ⌝ }
-    ensures { λ r. ⌜ foundBy r ≡ firstOf (badConditions narrow (blocksIn (now (sheet .entry)))) ⌝ }
+    ensures { λ r. ⌜ foundBy r ≡ firstOf (badConditions (formatBy four) (blocksIn (now (sheet .entry)))) ⌝ }
 {
     if !letters_fit(sheet) {
         return Verdict::Refused(Refusal::BadSheet);
@@ -73,13 +75,13 @@ pub fn judge_contents(sheet: &[u8]) -> Verdict
     }
     let start = label_start(sheet);
     let samples = (count as usize) * (n as usize);
-    if start - 1 != (samples + 252) / 253 {
+    if start - 1 != blocks_for(samples, four) {
         return Verdict::Refused(Refusal::BadSheet);
     }
     if labels_bad(sheet, start, count as usize) {
         return Verdict::Refused(Refusal::BadSheet);
     }
-    if !all_zero(sheet, start, count as usize, n as usize) {
+    if !all_zero(sheet, start, count as usize, n as usize, four) {
         return Verdict::Refused(Refusal::BadSheet);
     }
     Verdict::Fine

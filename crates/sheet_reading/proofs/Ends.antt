@@ -7,7 +7,8 @@ use native.Mathlib.Omega.{arith}
 use Rattle.dstree.specs.Measures.{Measures}
 use Rattle.dstree.specs.Refusals as word
 use Rattle.dstree.specs.Refusals.{Condition, firstOf}
-use Rattle.dstree.specs.Sheet.{measuresIn, sheetConditions, refused, holds, libraryIn, judgedBy, judgeAs, judgeSheet}
+use Rattle.dstree.specs.Sheet.{measuresIn, refused, holds, libraryIn, judgedBy}
+use Rattle.dstree.specs.SheetWidths.{sheetConditions, judgeSheet}
 use Rattle.dstree.specs.Book.{Lent, reading, besideOf, done, controlShort, tablesShort, shortConditions, readingConditions}
 use Rattle.tables.specs.Layout.{layout}
 use Rattle.tables.specs.Tables.{Tables, lentOf}
@@ -33,11 +34,11 @@ module _ (bytes : List ℕ) where
   said = measuresIn (blockAt bytes 0)
 
   judged-refused : (why : word.Refusal) → firstOf (sheetConditions bytes) ≡ some why → judgeSheet bytes ≡ refused why
-  unfolding judgeAs judgedBy
+  unfolding judgeSheet judgedBy
   judged-refused why e = rw e
 
   pub judged-holds : firstOf (sheetConditions bytes) ≡ none → judgeSheet bytes ≡ holds said (sheetTraces bytes) (sheetLabels bytes)
-  unfolding judgeAs judgedBy libraryIn
+  unfolding judgeSheet judgedBy libraryIn
   judged-holds e = rw (e, blocks-are bytes (fine bytes e .whole))
 
   -- ---- conditions

@@ -11,7 +11,8 @@ use Rattle.integer.specs.Words.{every}
 use Rattle.integer.proofs.Lists.{in-getD, every-of}
 use Rattle.dstree.specs.Measures.{Trace, Measures, sampleLimit, isTrace, isLibrary}
 use Rattle.dstree.specs.Refusals.{firstOf}
-use Rattle.dstree.specs.Sheet.{areBytes, tracesInBlocks, sheetConditions}
+use Rattle.dstree.specs.Sheet.{areBytes, tracesInBlocks}
+use Rattle.dstree.specs.SheetWidths.{sheetConditions}
 use Rattle.dstree.proofs.Laws.{trace-length}
 use Rattle.dstree.proofs.RoundTrips.{is-library}
 use Rattle.dstree.proofs.SheetPieces.{pieces-length}

@@ -1,4 +1,5 @@
-// What reading refuses, in the table's order: the sheet's length (8), torn blocks (9), its contents (10), short tables (2).
+// What reading refuses, in the table's order: the sheet's length (8), torn blocks (9), its contents (10), its samples (15), short tables
+// (2).
 
 use sheet_judging::contents::head_of;
 use sheet_judging::judge_sheet;
@@ -10,7 +11,7 @@ ghost use mathlib.Core.Path.{_≡_};
 ghost use Prim.Native.Nat.{ℕ, _≤_};
 ghost use Rattle.dstree.specs.Measures.{mostSamples, mostTraces, measures};
 ghost use Rattle.dstree.specs.Refusals.{firstOf};
-ghost use Rattle.dstree.specs.Sheet.{judgeSheet};
+ghost use Rattle.dstree.specs.SheetWidths.{judgeSheet};
 ghost use Rattle.dstree.specs.Book.{shortConditions, readingConditions};
 ghost use Rattle.tables.specs.Layout.{layout};
 ghost use Rattle.tables.specs.Judge.{lent};

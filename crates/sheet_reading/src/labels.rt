@@ -7,7 +7,7 @@ ghost use mathlib.Core.Option.{none};
 ghost use Prim.Native.Nat.{_≤_};
 ghost use lib.ListN.{length};
 ghost use Rattle.dstree.specs.Refusals.{firstOf};
-ghost use Rattle.dstree.specs.Sheet.{sheetConditions};
+ghost use Rattle.dstree.specs.SheetWidths.{sheetConditions};
 ghost use Rattle.tables.specs.View.{labelsOver};
 ghost use Rattle.sheet_blocks.specs.Traces.{countOf, sheetLabels};
 

@@ -6,7 +6,7 @@ pub mod labels; // the labels of its traces
 use loading::Source;
 use loading::load;
 use opening::put_empty;
-use segment::Sample;
+use segment::Word;
 use sheet_judging::contents::head_of;
 use tables::Refusal;
 use tables::Verdict;
@@ -31,7 +31,7 @@ pub enum Read {
 // tables changed), and one that leaves the labels of the library before where the sheet has none.
 pub fn read_sheet(
     control: &mut [u16],
-    samples: &mut [Sample],
+    samples: &mut [Word],
     nodes: &mut [i64],
     links: &mut [u16],
     work: &mut [u64],

@@ -2,17 +2,17 @@
 use mathlib.Core.Path.{_≡_, sym, ap, ap₂, _∙_}
 use mathlib.Core.List.{List, [], _∷_, _++_, flatten, append-assoc, append-nil}
 use Prim.Native.Nat.{ℕ, suc, _+_, _*_, _≤_}
-use native.Mathlib.Nat.{add-zero}
+use native.Mathlib.Nat.{add-zero, mul-comm}
 use native.Mathlib.Numerals.{add-one}
 use native.Mathlib.Omega.{arith}
 use lib.IntN.{ℤ}
 use lib.ListN.{length, take, drop, length-append, take-append-drop}
 use lib.Seq.{take-at, drop-append-add, drop-drop, length-take-le}
-use Rattle.dstree.specs.Sheet.{part, pieces, blockSize, Cells, cellsSize, narrow, narrowLimit, sampleCells, labelCells, coded, codedAll, block, blocksFrom}
+use Rattle.dstree.specs.Sheet.{part, pieces, blockSize, Format, Cells, cellsSize, sampleCells, labelCells, coded, codedAll, block, blocksFrom}
 use Rattle.dstree.specs.Book.{over}
 use Rattle.dstree.proofs.SheetPieces.{pieces-length, pieces-more, flatten-length, flatten-append}
 use Rattle.dstree.proofs.SheetFields.{coded-length, row-part}
-use Rattle.dstree.proofs.SheetFormat.{SoundCells, samples-sound, labels-sound, narrow-sound}
+use Rattle.dstree.proofs.SheetFormat.{SoundCells, SoundFormat, samples-sound, labels-sound}
 use Rattle.dstree.proofs.SheetBlocks.{blocks-count, blocks-sized}
 use Rattle.dstree.proofs.SheetCells.{cells-carried}
 use Rattle.sheet.specs.LabelCodes.{labelCodes}
@@ -104,23 +104,24 @@ module _ (c : Cells) (sound : SoundCells c) (first : ℕ) (bytes : List ℕ) whe
 
 -- ---- samples, and labels
 
-module _ (samples : List ℤ) where
+module _ (f : Format) (half : ℕ) (sound : SoundFormat f half) (samples : List ℤ) where
   abbrev codes : List ℕ
-  codes = codedAll narrow samples
+  codes = codedAll f samples
 
-  pub none-sampled : (sheet : List ℕ) → sheet ≡ withSamples sheet 0 samples
-  none-sampled = none-yet (sampleCells narrow) (samples-sound narrow narrowLimit narrow-sound) 1 codes
+  pub none-sampled : (sheet : List ℕ) → sheet ≡ withSamples f sheet 0 samples
+  none-sampled = none-yet (sampleCells f) (samples-sound f half sound) 1 codes
 
   pub samples-more : (sheet : List ℕ) (i : ℕ) → blockSize * (1 + i) + blockSize ≤ length sheet
-      → withBlock (withSamples sheet i samples) (1 + i) (sampleBlock samples i) ≡ withSamples sheet (i + 1) samples
+      → withBlock (withSamples f sheet i samples) (1 + i) (sampleBlock f samples i) ≡ withSamples f sheet (i + 1) samples
   samples-more sheet i room =
-      let per : ℕ = narrow .samplesPerBlock in
-      let size : ℕ = cellsSize (sampleCells narrow) in
-      let place : i * per * narrow .sampleBytes ≡ i * size = omega arith in
-      let carried : codedAll narrow (part (i * per) per samples) ≡ part (i * size) size codes =
-      sym (row-part (coded narrow) (narrow .sampleBytes) (coded-length narrow) (i * per) per samples) ∙ ap (λ (k : ℕ). part k size codes) place in
-      ap (λ (l : List ℕ). withBlock (withSamples sheet i samples) (1 + i) (block (narrow .sampleKind) (1 + i) l)) carried
-      ∙ block-more (sampleCells narrow) (samples-sound narrow narrowLimit narrow-sound) 1 codes sheet i room
+      let per : ℕ = f .samplesPerBlock in
+      let size : ℕ = cellsSize (sampleCells f) in
+      let place : i * per * f .sampleBytes ≡ i * size = omega arith in
+      let carried : codedAll f (part (i * per) per samples) ≡ part (i * size) size codes =
+      sym (row-part (coded f) (f .sampleBytes) (coded-length f) (i * per) per samples)
+      ∙ ap₂ (λ (a b : ℕ). part a b codes) place (mul-comm per (f .sampleBytes)) in
+      ap (λ (l : List ℕ). withBlock (withSamples f sheet i samples) (1 + i) (block (f .sampleKind) (1 + i) l)) carried
+      ∙ block-more (sampleCells f) (samples-sound f half sound) 1 codes sheet i room
 
 module _ (places : List ℕ) (first : ℕ) where
   pub none-labelled : (sheet : List ℕ) → sheet ≡ withLabelBlocks sheet first 0 places

@@ -5,8 +5,8 @@ use lib.IntN.{ℤ}
 use lib.ListN.{length, take, drop}
 use Rattle.dstree.specs.Measures.{mostSamples, mostTraces}
 use Rattle.dstree.specs.Labels.{labelAt}
-use Rattle.dstree.specs.Sheet.{part, pieces, blockSize, narrow, Cells, sampleCells, labelCells, labelKind, cellsSize, block, blocksFrom}
-use Rattle.dstree.specs.Sheet.{codedAll, blocksNeeded}
+use Rattle.dstree.specs.Sheet.{part, pieces, blockSize, Format, Cells, sampleCells, labelCells, labelKind, cellsSize, block, blocksFrom}
+use Rattle.dstree.specs.Sheet.{codedAll, blocksNeededAs}
 use Rattle.sheet.specs.LabelCodes.{labelCodes}
 use Rattle.tables.specs.Layout.{nPlace, traceCountPlace}
 use Rattle.tables.specs.Tables.{Tables, labelledTables, field}
@@ -27,14 +27,14 @@ withBlocks sheet first count bytes = take (blockSize * first) sheet ++ bytes ++ 
 abbrev pub cellBlocks : Cells → ℕ → ℕ → List ℕ → List ℕ
 cellBlocks c first count bytes = flatten (blocksFrom (c .cellKind) first (pieces (cellsSize c) count bytes))
 
--- block 1 + i of these samples: "253 samples each"
-abbrev pub sampleBlock : List ℤ → ℕ → List ℕ
-sampleBlock samples i =
-    block (narrow .sampleKind) (1 + i) (codedAll narrow (part (i * narrow .samplesPerBlock) (narrow .samplesPerBlock) samples))
+module _ (f : Format) where
+  -- block 1 + i of these samples: "253 samples each", or 126
+  abbrev pub sampleBlock : List ℤ → ℕ → List ℕ
+  sampleBlock samples i = block (f .sampleKind) (1 + i) (codedAll f (part (i * f .samplesPerBlock) (f .samplesPerBlock) samples))
 
--- a sheet with as many blocks of samples behind block 0
-abbrev pub withSamples : List ℕ → ℕ → List ℤ → List ℕ
-withSamples sheet count samples = withBlocks sheet 1 count (cellBlocks (sampleCells narrow) 1 count (codedAll narrow samples))
+  -- a sheet with as many blocks of samples behind block 0
+  abbrev pub withSamples : List ℕ → ℕ → List ℤ → List ℕ
+  withSamples sheet count samples = withBlocks sheet 1 count (cellBlocks (sampleCells f) 1 count (codedAll f samples))
 
 -- the block of these labels behind i others, the first of which has this number: "84 labels of 6 bytes each"
 abbrev pub labelBlock : List ℕ → ℕ → ℕ → List ℕ
@@ -45,12 +45,13 @@ labelBlock places first i =
 abbrev pub withLabelBlocks : List ℕ → ℕ → ℕ → List ℕ → List ℕ
 withLabelBlocks sheet first count places = withBlocks sheet first count (cellBlocks labelCells first count (labelCodes places))
 
--- a control record whose counts and measures are in range, samples and labels for every trace, and a sheet with room for every block
-pub record Fillable (control : List ℕ) (samples : List ℤ) (labels : List ℕ) (sheet : ℕ) : Type 0 where
+-- a control record whose counts and measures are in range, samples and labels for every trace, and a sheet with room for every block of a
+-- format
+pub record Fillable (control : List ℕ) (samples : List ℤ) (labels : List ℕ) (f : Format) (sheet : ℕ) : Type 0 where
   pub count-few : field control traceCountPlace ≤ mostTraces
   pub n-few : field control nPlace ≤ mostSamples
   pub samples-long : field control traceCountPlace * field control nPlace ≤ length samples
   pub labels-long : field control traceCountPlace ≤ length labels
   pub sheet-long : blockSize
-      * blocksNeeded (field control traceCountPlace) (field control nPlace) (map labelAt (take (field control traceCountPlace) labels))
+      * blocksNeededAs f (field control traceCountPlace) (field control nPlace) (map labelAt (take (field control traceCountPlace) labels))
       ≤ sheet

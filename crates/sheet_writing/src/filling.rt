@@ -2,10 +2,11 @@
 
 use crate::judging::label_blocks;
 use crate::judging::sample_blocks;
-use segment::Sample;
+use segment::Word;
 use sheet::blocks::write_head;
 use sheet::blocks::write_labels;
 use sheet::blocks::write_samples;
+use sheet::formats::block_samples;
 use tables::control::field;
 use tables::numbers::wide;
 use tables::places::CAPACITY;
@@ -16,7 +17,9 @@ ghost use mathlib.Core.Path.{_≡_};
 ghost use mathlib.Core.List.{[]};
 ghost use Prim.Native.Nat.{_+_, _*_, _≤_, _<_};
 ghost use lib.ListN.{length, take};
-ghost use Rattle.dstree.specs.Sheet.{blockSize, mostBlocks, narrow, labelCells, block, headOf, sheetOf, blocksNeeded};
+ghost use Rattle.segment.specs.Stored.{samplesOf};
+ghost use Rattle.dstree.specs.Sheet.{blockSize, mostBlocks, labelCells, block, headOf, sheetAs, blocksNeededAs};
+ghost use Rattle.dstree.specs.SheetWidths.{formatBy};
 ghost use Rattle.dstree.specs.Book.{over};
 ghost use Rattle.tables.specs.Tables.{tables, measuresOf, traceCount};
 ghost use Rattle.tables.specs.View.{tracesIn, labelsIn};
@@ -33,29 +36,37 @@ fn run_end(from: usize, total: usize, most: usize) -> usize
     from + most
 }
 
-// Block 1 + i, with the samples that it carries.
-fn fill_block(sheet: &mut [u8], samples: &[Sample], i: usize, total: usize)
-    requires { ⌜ (i < mostBlocks) × (i * narrow .samplesPerBlock ≤ total) × (total ≤ length (now samples))
+// Block 1 + i, with the samples that it carries, 253 or 126 at most.
+fn fill_block(sheet: &mut [u8], samples: &[Word], i: usize, total: usize, four: bool)
+    requires { ⌜ (i < mostBlocks) × (i * formatBy four .samplesPerBlock ≤ total) × (total ≤ length (now samples))
         × (blockSize * (1 + i) + blockSize ≤ length (now sheet)) ⌝ }
-    ensures { λ _. ⌜ now (sheet .exit) ≡ withBlock (now (sheet .entry)) (1 + i) (sampleBlock (take total (now (samples .entry))) i) ⌝ }
+    ensures { λ _. ⌜ now (sheet .exit)
+        ≡ withBlock (now (sheet .entry)) (1 + i) (sampleBlock (formatBy four) (samplesOf (take total (now (samples .entry)))) i) ⌝ }
 {
-    let from = i * 253;
-    let to = run_end(from, total, 253);
+    let each = block_samples(four);
+    let from = i * each;
+    let to = run_end(from, total, each);
     let number = 1 + i;
     let start = 512 * number;
     let end = start + 512;
-    write_samples(&mut sheet[start..end], number as u16, &samples[from..to]);
+    write_samples(
+        &mut sheet[start..end],
+        number as u16,
+        &samples[from..to],
+        four,
+    );
 }
 
 // The blocks of samples behind block 0.
-fn fill_blocks(sheet: &mut [u8], samples: &[Sample], count: usize, total: usize)
-    requires { ⌜ (count < mostBlocks) × (count * narrow .samplesPerBlock < total + narrow .samplesPerBlock) × (total ≤ length (now samples))
-        × (blockSize * (1 + count) ≤ length (now sheet)) ⌝ }
-    ensures { λ _. ⌜ now (sheet .exit) ≡ withSamples (now (sheet .entry)) count (take total (now (samples .entry))) ⌝ }
+fn fill_blocks(sheet: &mut [u8], samples: &[Word], count: usize, total: usize, four: bool)
+    requires { ⌜ (count < mostBlocks) × (count * formatBy four .samplesPerBlock < total + formatBy four .samplesPerBlock)
+        × (total ≤ length (now samples)) × (blockSize * (1 + count) ≤ length (now sheet)) ⌝ }
+    ensures { λ _. ⌜ now (sheet .exit)
+        ≡ withSamples (formatBy four) (now (sheet .entry)) count (samplesOf (take total (now (samples .entry)))) ⌝ }
 {
     let mut i = 0;
     while i < count {
-        fill_block(sheet, samples, i, total);
+        fill_block(sheet, samples, i, total, four);
         i += 1;
     }
 }
@@ -76,50 +87,57 @@ fn fill_label_block(sheet: &mut [u8], labels: &[u64], first: usize, i: usize, to
 }
 
 // The blocks of labels behind those of samples.
-fn fill_labels(sheet: &mut [u8], labels: &[u64], first: usize, count: usize, total: usize)
-    requires { ⌜ (first + count ≤ mostBlocks) × (count * labelCells .cellsPerBlock < total + labelCells .cellsPerBlock)
-        × (total ≤ length (now labels)) × (blockSize * (first + count) ≤ length (now sheet)) ⌝ }
-    ensures { λ _. ⌜ now (sheet .exit) ≡ withLabelBlocks (now (sheet .entry)) first count (take total (now (labels .entry))) ⌝ }
+fn fill_labels(sheet: &mut [u8], labels: &[u64], first: usize, labelled: usize, total: usize)
+    requires { ⌜ (first + labelled ≤ mostBlocks) × (labelled * labelCells .cellsPerBlock < total + labelCells .cellsPerBlock)
+        × (total ≤ length (now labels)) × (blockSize * (first + labelled) ≤ length (now sheet)) ⌝ }
+    ensures { λ _. ⌜ now (sheet .exit) ≡ withLabelBlocks (now (sheet .entry)) first labelled (take total (now (labels .entry))) ⌝ }
 {
     let mut i = 0;
-    while i < count {
+    while i < labelled {
         fill_label_block(sheet, labels, first, i, total);
         i += 1;
     }
 }
 
 // Block 0.
-fn fill_head(sheet: &mut [u8], control: &[u16])
+fn fill_head(sheet: &mut [u8], control: &[u16], four: bool)
     requires { ⌜ blockSize ≤ length (now sheet) ⌝ }
     ensures { λ _. ⌜ now (sheet .exit) ≡ withBlock (now (sheet .entry)) 0
-        (block (narrow .headKind) 0
+        (block (formatBy four .headKind) 0
         (headOf (measuresOf (tables (now (control .entry)) [] [] [] [])) (traceCount (tables (now (control .entry)) [] [] [] [])))) ⌝ }
 {
     let n = field(control, N);
     let capacity = field(control, CAPACITY);
     let leaf_size = field(control, LEAF_SIZE);
     let k = field(control, TRACE_COUNT);
-    write_head(&mut sheet[0..512], n, capacity, leaf_size, k);
+    write_head(&mut sheet[0..512], n, capacity, leaf_size, k, four);
 }
 
-// The whole sheet of a library that the tables hold, and the number of its blocks.
-pub fn fill_sheet(control: &[u16], samples: &[Sample], labels: &[u64], sheet: &mut [u8]) -> u64
-    requires { ⌜ Fillable (now control) (now samples) (now labels) (length (now sheet)) ⌝ }
-    ensures { λ r. ⌜ (r ≡ blocksNeeded (traceCount (sheetTables (now (control .entry)) (now (samples .entry)) (now (labels .entry))))
+// The whole sheet of a library that the tables hold, in either format, and the number of its blocks.
+pub fn fill_sheet(
+    control: &[u16],
+    samples: &[Word],
+    labels: &[u64],
+    sheet: &mut [u8],
+    four: bool,
+) -> u64
+    requires { ⌜ Fillable (now control) (now samples) (now labels) (formatBy four) (length (now sheet)) ⌝ }
+    ensures { λ r. ⌜ (r ≡ blocksNeededAs (formatBy four)
+        (traceCount (sheetTables (now (control .entry)) (now (samples .entry)) (now (labels .entry))))
         (measuresOf (sheetTables (now (control .entry)) (now (samples .entry)) (now (labels .entry))) .n)
         (labelsIn (sheetTables (now (control .entry)) (now (samples .entry)) (now (labels .entry)))))
         × (now (sheet .exit) ≡ over
-        (sheetOf (measuresOf (sheetTables (now (control .entry)) (now (samples .entry)) (now (labels .entry))))
+        (sheetAs (formatBy four) (measuresOf (sheetTables (now (control .entry)) (now (samples .entry)) (now (labels .entry))))
         (tracesIn (sheetTables (now (control .entry)) (now (samples .entry)) (now (labels .entry))))
         (labelsIn (sheetTables (now (control .entry)) (now (samples .entry)) (now (labels .entry)))))
         (now (sheet .entry))) ⌝ }
 {
     let n = wide(field(control, N));
     let k = wide(field(control, TRACE_COUNT));
-    let count = sample_blocks(k, n);
+    let count = sample_blocks(k, n, four);
     let labelled = label_blocks(labels, k);
-    fill_head(sheet, control);
-    fill_blocks(sheet, samples, count, k * n);
+    fill_head(sheet, control, four);
+    fill_blocks(sheet, samples, count, k * n, four);
     fill_labels(sheet, labels, 1 + count, labelled, k);
     (1 + count + labelled) as u64
 }

@@ -1,6 +1,8 @@
-// What writing refuses: what every call on made tables does, then a sheet below the need (8).
+// What writing refuses: what every call on made tables does, then a sheet below the need (8), which is that of the library's own format.
 
-use segment::Sample;
+use segment::Word;
+use sheet::formats::blocks_for;
+use sheet::samples::all_narrow;
 use tables::Refusal;
 use tables::Verdict;
 use tables::control::field;
@@ -13,20 +15,37 @@ ghost use mathlib.Core.Bool.{not};
 ghost use mathlib.Core.List.{map};
 ghost use Prim.Native.Nat.{_≤_, _<_};
 ghost use lib.ListN.{length, take};
-ghost use Rattle.dstree.specs.Measures.{mostSamples, mostTraces};
+ghost use Rattle.segment.specs.Stored.{samplesOf};
+ghost use Rattle.dstree.specs.Measures.{mostSamples, mostTraces, areWithin};
 ghost use Rattle.dstree.specs.Refusals.{firstOf};
 ghost use Rattle.dstree.specs.Labels.{areZeroLabels, labelAt};
-ghost use Rattle.dstree.specs.Sheet.{mostBlocks, narrow, sampleBlocksNeeded, labelBlocksNeeded, labelParts};
+ghost use Rattle.dstree.specs.Sheet.{mostBlocks, narrowLimit, sampleBlocksNeeded, labelBlocksNeeded, labelParts};
+ghost use Rattle.dstree.specs.SheetWidths.{formatBy};
 ghost use Rattle.tables.specs.Lent.{tablesBefore};
-ghost use Rattle.tables.specs.Answers.{foundBy};
+ghost use Rattle.tables.specs.View.{tracesIn};
 ghost use Rattle.calls.specs.Effects.{writes};
+ghost use Rattle.sheet_writing.specs.Answered.{refusalIn, FindsFormat};
 
-// The blocks behind block 0 that samples need: "k × n / 253 rounded up".
-pub fn sample_blocks(k: usize, n: usize) -> usize
-    requires { ⌜ (k ≤ mostTraces) × (n ≤ mostSamples) ⌝ }
-    ensures { λ r. ⌜ (r ≡ sampleBlocksNeeded narrow k n) × (r < mostBlocks) ⌝ }
+// What the judge found: a refusal, or none, and then whether the library takes the wide format. Filling goes by it.
+pub enum WriteVerdict {
+    Refused(Refusal),
+    Fine(bool),
+}
+
+// "A library whose samples all fit 16 bits is written as before. Any other" is wide. The samples are those of the first words.
+fn is_wide(samples: &[Word], total: usize) -> bool
+    requires { ⌜ total ≤ length (now samples) ⌝ }
+    ensures { λ r. ⌜ r ≡ not (areWithin narrowLimit (samplesOf (take total (now (samples .entry))))) ⌝ }
 {
-    (k * n + 252) / 253
+    !all_narrow(&samples[0..total])
+}
+
+// The blocks behind block 0 that samples need: "k × n / 253 rounded up", or by 126 on a wide sheet.
+pub fn sample_blocks(k: usize, n: usize, four: bool) -> usize
+    requires { ⌜ (k ≤ mostTraces) × (n ≤ mostSamples) ⌝ }
+    ensures { λ r. ⌜ (r ≡ sampleBlocksNeeded (formatBy four) k n) × (r < mostBlocks) ⌝ }
+{
+    blocks_for(k * n, four)
 }
 
 // A label among the first k is not zero. Bits above code and serial do not count.
@@ -57,28 +76,30 @@ pub fn label_blocks(labels: &[u64], k: usize) -> usize
 
 pub fn judge(
     control: &[u16],
-    samples: &[Sample],
+    samples: &[Word],
     nodes: &[i64],
     links: &[u16],
     work: &[u64],
     labels: &[u64],
     sheet: &[u8],
-) -> Verdict
-    ensures { λ r. ⌜ foundBy r ≡ firstOf (writes
+) -> WriteVerdict
+    ensures { λ r. ⌜ refusalIn r ≡ firstOf (writes
         (tablesBefore control samples nodes links work labels)
         (now (sheet .entry)) .conditions) ⌝ }
+    ensures format { λ r. ⌜ FindsFormat (tracesIn (tablesBefore control samples nodes links work labels)) r ⌝ }
 {
     let n = wide(field(control, N));
     let k = wide(field(control, TRACE_COUNT));
     let made = judge_tables(control, samples, nodes, links, work, labels);
     match made {
-        Verdict::Refused(why) => Verdict::Refused(why),
+        Verdict::Refused(why) => WriteVerdict::Refused(why),
         Verdict::Fine => {
-            let blocks = 1 + sample_blocks(k, n) + label_blocks(labels, k);
+            let four = is_wide(samples, k * n);
+            let blocks = 1 + sample_blocks(k, n, four) + label_blocks(labels, k);
             if sheet.len() < 512 * blocks {
-                return Verdict::Refused(Refusal::SheetLength);
+                return WriteVerdict::Refused(Refusal::SheetLength);
             }
-            Verdict::Fine
+            WriteVerdict::Fine(four)
         }
     }
 }

@@ -3,9 +3,9 @@
 pub mod judging; // what writing refuses
 pub mod filling; // the blocks of a sheet
 
-use segment::Sample;
+use crate::judging::WriteVerdict;
+use segment::Word;
 use tables::Refusal;
-use tables::Verdict;
 ghost use mathlib.Core.Path.{_≡_};
 ghost use mathlib.Core.List.{[], _∷_};
 ghost use Rattle.dstree.specs.Book.{writing};
@@ -27,7 +27,7 @@ pub enum Written {
 // every label is zero.
 pub fn write_sheet(
     control: &[u16],
-    samples: &[Sample],
+    samples: &[Word],
     nodes: &[i64],
     links: &[u16],
     work: &[u64],
@@ -42,7 +42,13 @@ pub fn write_sheet(
 {
     let verdict = judging::judge(control, samples, nodes, links, work, labels, sheet);
     match verdict {
-        Verdict::Refused(why) => Written::Refused(why),
-        Verdict::Fine => Written::Blocks(filling::fill_sheet(control, samples, labels, sheet)),
+        WriteVerdict::Refused(why) => Written::Refused(why),
+        WriteVerdict::Fine(four) => Written::Blocks(filling::fill_sheet(
+            control,
+            samples,
+            labels,
+            sheet,
+            four,
+        )),
     }
 }

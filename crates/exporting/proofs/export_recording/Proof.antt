@@ -8,6 +8,7 @@ use native.Mathlib.Omega.{arith}
 use lib.ListN.{length}
 use denote.Ref.{now}
 use borrow.Author.Needs.{needs}
+use Rattle.segment.specs.Stored.{samplesOf}
 use Rattle.dstree.specs.Measures.{Trace}
 use Rattle.dstree.specs.Refusals.{firstOf}
 use Rattle.dstree.specs.Recording.{recordingSize, recordingOf}
@@ -15,7 +16,7 @@ use Rattle.dstree.specs.Book.{over}
 use Rattle.tables.specs.Tables.{Tables, measuresOf, labelledTables}
 use Rattle.tables.specs.View.{traceIn}
 use Rattle.tables.specs.Answers.{foundBy}
-use Rattle.tables.proofs.Parts.{trace-length}
+use Rattle.tables.proofs.Parts.{words-length}
 use Rattle.calls.specs.Effects.{exports}
 use Rattle.exporting.proofs.Exportable.{Exportable, exportable}
 use Rattle.exporting.proofs.Ends.{refused-answer, exported-answer}
@@ -70,12 +71,12 @@ module _ (a : tie.After-trace-at) where
   abbrev stored : Trace
   stored = traceIn (now (start (judged wide) .args .samples)) n (number wide)
 
-  trace-is : now (a .trace-at .result) ≡ stored
+  trace-is : samplesOf (now (a .trace-at .result)) ≡ stored
   trace-is =
       a .trace-at .ensures ∙ ap (λ (k : ℕ). traceIn (now (start (judged wide) .args .samples)) k (number wide)) (n-is wide)
 
   size-is : length (now (a .trace-at .result)) ≡ n
-  size-is = ap length trace-is ∙ trace-length (now (start (judged wide) .args .samples)) n (number wide) (ok wide .inside)
+  size-is = words-length (now (start (judged wide) .args .samples)) (now (a .trace-at .result)) n (number wide) trace-is (ok wide .inside)
 
 write-recording-requires : tie.Need-write-recording-requires
 write-recording-requires c κs =

@@ -52,10 +52,7 @@ module _ (j : tie.After-judge) where
   are-bytes = known-bytes bytes (λ i. known .shared-slice-known2 .given i .fits)
 
 -- nothing was refused, and the file has so many traces
-module _ (l : tie.After-look) where
-  abbrev counted-at : tie.After-wide2
-  counted-at = l .before .before
-
+module _ (counted-at : tie.After-wide2) where
   abbrev wide : tie.After-wide
   wide = counted-at .before .before .before
 
@@ -92,7 +89,7 @@ clear-requires c κs =
     omega (
       arith,
       stored-is l,
-      has-places (t l) (bytes j) (taken l .0) (are-bytes j) (l .look .ensures) (count l) (taken l .1),
+      has-places (t l) (bytes j) (taken l .0) (are-bytes j) (count l) (taken l .1),
     )
 
 load-requires : tie.Need-load-requires
@@ -102,7 +99,7 @@ load-requires c κs =
     let g = start j .args in
     subst (λ (k : ℕ). Loads s.Recording (now (g .control)) (now (g .samples)) (now (g .nodes)) (now (g .links)) (bytes j) k (count l))
     (sym (n-is l))
-    (loads (t l) (bytes j) (taken l .0) (are-bytes j) (l .look .ensures) (count l) (taken l .1))
+    (loads (t l) (bytes j) (taken l .0) (are-bytes j) (count l) (taken l .1))
 
 returns : tie.Need-returns
 unfolding answerBy outcomeOn effectOf besideOf foundBy
@@ -142,6 +139,6 @@ import-recording-spec =
     tie.close
     (tie.spec
     (λ c κs. search needs) (λ c. search needs) (λ c. search needs) (λ c κs. search needs) (λ c κs. search needs) (λ c κs. search needs)
-    (λ c κs. search needs) (λ c κs. search needs) clear-requires
+    (λ c κs. search needs) clear-requires
     load-requires (λ c. search needs) (λ c. search needs) (λ c. search needs) (λ c. search needs) (λ c. search needs) returns
     (λ c. search needs) (λ c. search needs) (λ c. search needs) (λ c. search needs) (λ c. search needs) returns-2)

@@ -4,6 +4,7 @@ use mathlib.Core.List.{[]}
 use lib.ListN.{length, getD}
 use denote.Ref.{now}
 use borrow.Author.Needs.{needs}
+use Rattle.segment.specs.Stored.{samplesOf}
 use Rattle.dstree.specs.Measures.{Trace}
 use Rattle.tables.specs.Tables.{tables}
 use Rattle.insertion_memory.specs.Memory.{addedTo}
@@ -23,7 +24,7 @@ module _ (r : tie.After-read-trace) where
   abbrev next : Trace
   next = getD (tracesBy (start .args .source) (length (now (start .args .trace))) (now (start .args .bytes))) (start .args .number) []
 
-  trace-is : r .read-trace .last .1 .1 .1 .0 ≡ next
+  trace-is : samplesOf (r .read-trace .last .1 .1 .1 .0) ≡ next
   trace-is = r .read-trace .ensures
 
 put-requires : tie.Need-put-requires

@@ -12,7 +12,8 @@ use denote.Ref.{now}
 use borrow.Author.Needs.{needs}
 use Rattle.dstree.specs.Measures.{Measures, measures, labelsNeeded}
 use Rattle.dstree.specs.Refusals.{firstOf}
-use Rattle.dstree.specs.Sheet.{areBytes, sheetConditions, judgeSheet}
+use Rattle.dstree.specs.Sheet.{areBytes}
+use Rattle.dstree.specs.SheetWidths.{sheetConditions, judgeSheet}
 use Rattle.dstree.specs.Book.{Lent, readingConditions}
 use Rattle.dstree.proofs.SheetFields.{known-bytes}
 use Rattle.tables.specs.Layout.{layout}

@@ -6,7 +6,7 @@ use native.Mathlib.Omega.{arith}
 use lib.ListN.{take}
 use lib.Seq.{sets}
 use Rattle.dstree.specs.Measures.{measures}
-use Rattle.dstree.specs.Sheet.{checkedSize, narrow, letters, measureBytes, headOf, sealed}
+use Rattle.dstree.specs.Sheet.{checkedSize, letters, measureBytes, headOf, sealed, block}
 use Rattle.dstree.proofs.SheetWritten.{head-length}
 use Rattle.sheet.proofs.Laid.{block-is, head-put}
 use borrow.Author.Needs.{needs}
@@ -16,22 +16,23 @@ use Rattle.sheet.proofs.blocks.write_head.Tie as tie
 returns : tie.Need-returns
 unfolding letters
 returns c =
-    let a = c .before .before .before .before .before .before .before .before .before .before .before .before .before .before .before .before .before .before .args in
+    let p = c .before .before .before .before .before .before in
+    let l = p .before .before .before .before in
+    let b = l .before .before .before .before .before in
+    let a = b .before .before .before .before .args in
     let m = measures (a .n) (a .capacity) (a .leaf-size) in
-    let lettered =
-    c .before .before .before .before .before .before .before .before .before .before .put-bytes .ensures
-    ∙ ap (λ (l : List ℕ). sets l 4 letters)
-    (c .before .before .before .before .before .before .before .before .before .before .before .before .before .before .before .begin .ensures) in
+    let lettered = l .put-bytes .ensures ∙ ap (λ (x : List ℕ). sets x 4 letters) (b .begin .ensures) in
     let put =
-    c .before .before .before .before .before .before .put-measures .ensures
-    ∙ ap (λ (l : List ℕ). sets l 8 (measureBytes m (a .count))) lettered ∙ head-put m (a .count) _ in
+    p .put-measures .ensures
+    ∙ ap (λ (x : List ℕ). sets x 8 (measureBytes m (a .count))) lettered ∙ head-put m (a .count) _ in
     c .before .before .seal .ensures
-    ∙ ap (λ (l : List ℕ). sealed (take checkedSize l)) put
-    ∙ block-is (narrow .headKind) 0 (headOf m (a .count)) (omega (arith, head-length m (a .count)))
+    ∙ ap (λ (x : List ℕ). sealed (take checkedSize x)) put
+    ∙ block-is (b .before .head-kind .result) 0 (headOf m (a .count)) (omega (arith, head-length m (a .count)))
+    ∙ ap (λ (k : ℕ). block k 0 (headOf m (a .count))) (b .before .head-kind .ensures)
 
 pub write-head-spec : {M : Type 1} → statement M
 write-head-spec =
     tie.close
     (tie.spec
-    (λ c κs. search needs) (λ c. search needs) (λ c κs. search needs) (λ c κs. search needs) (λ c κs. search needs)
+    (λ c κs. tt) (λ c κs. search needs) (λ c. search needs) (λ c κs. search needs) (λ c κs. search needs) (λ c κs. search needs)
     (λ c. search needs) returns)

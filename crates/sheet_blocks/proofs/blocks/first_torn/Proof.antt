@@ -7,7 +7,8 @@ use native.Mathlib.Omega.{arith}
 use lib.ListN.{length, take, drop}
 use denote.Ref.{now}
 use Rattle.dstree.specs.Refusals.{firstOf}
-use Rattle.dstree.specs.Sheet.{blockSize, narrow, isTorn, blocksIn, tornConditions}
+use Rattle.dstree.specs.Sheet.{Format, blockSize, isTorn, blocksIn, tornConditions}
+use Rattle.dstree.specs.SheetWidths.{formatBy}
 use Rattle.tables.specs.Answers.{wordOf, foundBy}
 use Rattle.sheet_blocks.specs.Blocks.{blockCount, blockAt, laterBlocks, kindBefore}
 use Rattle.sheet_blocks.proofs.Places.{blocks, block-inside, block-length, part-is}
@@ -16,19 +17,19 @@ use Rattle.sheet_blocks.proofs.blocks.first_torn.Statement.{statement}
 use Rattle.sheet_blocks.proofs.blocks.first_torn.Tie as tie
 
 abbrev Inv-loop : tie.InvT-loop
-Inv-loop sheet count cursor₀ cursor =
+Inv-loop sheet four count cursor₀ cursor =
     (cursor .number ≤ count) ×
-    (firstOf (tornConditions narrow 0 0 (blocksIn sheet))
-    ≡ firstOf (tornConditions narrow (kindBefore sheet (cursor .number)) (cursor .number) (laterBlocks sheet (cursor .number))))
+    (firstOf (tornConditions (formatBy four) 0 0 (blocksIn sheet))
+    ≡ firstOf (tornConditions (formatBy four) (kindBefore sheet (cursor .number)) (cursor .number) (laterBlocks sheet (cursor .number))))
 
 abbrev μ-loop : tie.MeasureT-loop
-μ-loop sheet count cursor₀ cursor = count - cursor .number
+μ-loop sheet four count cursor₀ cursor = count - cursor .number
 
 loop-holds : tie.Need-loop-holds Inv-loop μ-loop
 loop-holds c =
     let l = now (c .before .before .args .sheet) in
     let e = c .first .ensures in
-    (omega arith, rw e (torn-first l))
+    (omega arith, rw e (torn-first (formatBy (c .before .before .args .four)) l))
 
 -- inside the loop
 module _ (t : tie.Then1 Inv-loop μ-loop) where
@@ -68,21 +69,24 @@ module _ (t : tie.After-is-torn Inv-loop μ-loop) where
   abbrev at : tie.After-start Inv-loop μ-loop
   at = t .before .before .before
 
+  abbrev format : Format
+  format = formatBy (start (at .before) .args .four)
+
   abbrev asked : tie.After-kind-before Inv-loop μ-loop
   asked = t .before .before
 
-  torn-is : t .is-torn .result ≡ isTorn narrow (kindBefore (bytes at) (number (at .before))) (number (at .before)) (blockAt (bytes at) (number (at .before)))
+  torn-is : t .is-torn .result ≡ isTorn format (kindBefore (bytes at) (number (at .before))) (number (at .before)) (blockAt (bytes at) (number (at .before)))
   torn-is =
       t .is-torn .ensures
-      ∙ ap (λ (k : ℕ). isTorn narrow k (number (at .before)) (take (at .start .result + blockSize - at .start .result) (drop (at .start .result) (bytes at)))) (asked .kind-before .ensures)
-      ∙ ap (isTorn narrow (kindBefore (bytes at) (number (at .before))) (number (at .before))) (is-block at)
+      ∙ ap (λ (k : ℕ). isTorn format k (number (at .before)) (take (at .start .result + blockSize - at .start .result) (drop (at .start .result) (bytes at)))) (asked .kind-before .ensures)
+      ∙ ap (isTorn format (kindBefore (bytes at) (number (at .before))) (number (at .before))) (is-block at)
 
 returns : tie.Need-returns Inv-loop μ-loop
 unfolding foundBy wordOf
 returns c =
     let s = at (c .before) in
     let i = s .before in
-    sym (i .before .before .loop .inv .1 ∙ torn-here (bytes s) (number i) (inside i) (sym (torn-is (c .before)) ∙ c .if2 .taken))
+    sym (i .before .before .loop .inv .1 ∙ torn-here (format (c .before)) (bytes s) (number i) (inside i) (sym (torn-is (c .before)) ∙ c .if2 .taken))
 
 next-requires : tie.Need-next-requires Inv-loop μ-loop
 next-requires c κs =
@@ -99,16 +103,16 @@ loop-again c =
     let s = at t in
     let i = s .before in
     let e : c .next .result .number ≡ suc (number i) = c .next .ensures .0 in
-    let f : firstOf (tornConditions narrow 0 0 (blocksIn (bytes s)))
-    ≡ firstOf (tornConditions narrow (kindBefore (bytes s) (suc (number i))) (suc (number i)) (laterBlocks (bytes s) (suc (number i)))) =
-    i .before .before .loop .inv .1 ∙ torn-later (bytes s) (number i) (inside i) (sym (torn-is t) ∙ c .before .if2 .left) in
+    let f : firstOf (tornConditions (format t) 0 0 (blocksIn (bytes s)))
+    ≡ firstOf (tornConditions (format t) (kindBefore (bytes s) (suc (number i))) (suc (number i)) (laterBlocks (bytes s) (suc (number i)))) =
+    i .before .before .loop .inv .1 ∙ torn-later (format t) (bytes s) (number i) (inside i) (sym (torn-is t) ∙ c .before .if2 .left) in
     (omega arith, rw e f)
 
 returns-2 : tie.Need-returns-2 Inv-loop μ-loop
 unfolding foundBy
 returns-2 c =
     let l = c .before .before in
-    sym (l .loop .inv .1 ∙ torn-none (now (l .before .before .before .args .sheet)) (l .loop .cursor .number) (c .if1 .left))
+    sym (l .loop .inv .1 ∙ torn-none (formatBy (l .before .before .before .args .four)) (now (l .before .before .before .args .sheet)) (l .loop .cursor .number) (c .if1 .left))
 
 pub first-torn-spec : {M : Type 1} → statement M
 first-torn-spec =

@@ -6,7 +6,8 @@ use lib.Dec.{eqb}
 use denote.Ref.{now}
 use borrow.Author.Needs.{needs}
 use borrow.Author.Tests.{eq-eqb, ne-eqb}
-use Rattle.dstree.specs.Sheet.{checkedSize, part, numberIn, checkOf, narrow, isKind, isTorn}
+use Rattle.dstree.specs.Sheet.{checkedSize, part, numberIn, checkOf, isKind, isTorn}
+use Rattle.dstree.specs.SheetWidths.{formatBy}
 use Rattle.sheet_blocks.proofs.blocks.is_torn.Statement.{statement}
 use Rattle.sheet_blocks.proofs.blocks.is_torn.Tie as tie
 
@@ -42,7 +43,7 @@ returns-3 c =
     let n = c .before .before .before in
     let a = start (n .before .before .before) .args in
     simp (whole-check (n .before .before), eq-eqb _ _ (sym (n .before .two-bytes2 .ensures .0) ∙ n .if2 .left))
-    (ap not (c .kind-fits .ensures ∙ ap (isKind narrow (a .number) (a .before)) (c .before .wide .ensures .0)))
+    (ap not (c .kind-fits .ensures ∙ ap (isKind (formatBy (a .four)) (a .number) (a .before)) (c .before .wide .ensures .0)))
 
 pub is-torn-spec : {M : Type 1} → statement M
 is-torn-spec =

@@ -8,7 +8,7 @@ use denote.Ref.{now}
 use borrow.Author.Needs.{needs}
 use Rattle.dstree.specs.Measures.{Measures}
 use Rattle.dstree.specs.Refusals.{firstOf}
-use Rattle.dstree.specs.Sheet.{sheetConditions}
+use Rattle.dstree.specs.SheetWidths.{sheetConditions}
 use Rattle.dstree.specs.Book.{Lent, shortConditions}
 use Rattle.tables.specs.Layout.{layout}
 use Rattle.tables.specs.Judge.{lent}

@@ -12,11 +12,11 @@ use Rattle.sheet_writing.proofs.filling.fill_labels.Statement.{statemen
 use Rattle.sheet_writing.proofs.filling.fill_labels.Tie as tie
 
 abbrev Inv-loop : tie.InvT-loop
-Inv-loop sheet₀ labels first count total i₀ sheet i =
-    (i ≤ count) × (sheet ≡ withLabelBlocks sheet₀ first i (take total labels)) × (length sheet ≡ length sheet₀)
+Inv-loop sheet₀ labels first labelled total i₀ sheet i =
+    (i ≤ labelled) × (sheet ≡ withLabelBlocks sheet₀ first i (take total labels)) × (length sheet ≡ length sheet₀)
 
 abbrev μ-loop : tie.MeasureT-loop
-μ-loop sheet₀ labels first count total i₀ sheet i = count - i
+μ-loop sheet₀ labels first labelled total i₀ sheet i = labelled - i
 
 loop-holds : tie.Need-loop-holds Inv-loop μ-loop
 loop-holds c = let a = c .before .before .args in (omega arith, none-labelled (take (a .total) (now (a .labels))) (a .first) (now (a .sheet)), refl)
@@ -41,7 +41,7 @@ returns : tie.Need-returns Inv-loop μ-loop
 returns c =
     let l = c .before .loop in
     let a = c .before .before .before .before .args in
-    let e : l .i ≡ a .count = omega arith in
+    let e : l .i ≡ a .labelled = omega arith in
     subst (λ (k : ℕ). l .sheet ≡ withLabelBlocks (now (a .sheet)) (a .first) k (take (a .total) (now (a .labels)))) e (l .inv .1)
 
 pub fill-labels-spec : {M : Type 1} → statement M

@@ -8,12 +8,15 @@ use native.Mathlib.Omega.{arith}
 use lib.ListN.{length, take}
 use denote.Ref.{now}
 use Rattle.dstree.specs.Labels.{labelAt}
-use Rattle.dstree.specs.Sheet.{blockSize, mostBlocks, narrow, narrowLimit, labelCells, block, headOf, sampleBlocksNeeded, labelBlocksNeeded, labelParts}
+use Rattle.segment.specs.Stored.{samplesOf}
+use Rattle.dstree.specs.Sheet.{Format, blockSize, mostBlocks, labelCells, block, headOf, sampleBlocksNeeded, labelBlocksNeeded, labelParts}
 use Rattle.dstree.specs.Sheet.{blocksNeededAs}
+use Rattle.dstree.specs.SheetWidths.{formatBy}
 use Rattle.tables.specs.Layout.{nPlace, traceCountPlace}
 use Rattle.tables.specs.Tables.{Tables, field, measuresOf, traceCount}
 use Rattle.tables.specs.View.{labelsIn}
-use Rattle.dstree.proofs.SheetFormat.{narrow-sound, needed-tight, needed-most, labels-sound, cells-tight}
+use Rattle.dstree.proofs.SheetFormat.{SoundFormat, needed-tight, needed-most, labels-sound, cells-tight}
+use Rattle.dstree.proofs.SheetWidths.{halfBy, format-sound}
 use Rattle.sheet_writing.specs.Filled.{sheetTables, withBlock, withSamples, withLabelBlocks}
 use Rattle.sheet_writing.proofs.Stored.{filled-is}
 use borrow.Author.Needs.{needs}
@@ -30,6 +33,12 @@ module _ (w : tie.After-wide2) where
 
   abbrev k : ℕ
   k = field (now (start .args .control)) traceCountPlace
+
+  abbrev f : Format
+  f = formatBy (start .args .four)
+
+  sound : SoundFormat f (halfBy (start .args .four))
+  sound = format-sound (start .args .four)
 
   abbrev stored : Tables
   stored = sheetTables (now (start .args .control)) (now (start .args .samples)) (now (start .args .labels))
@@ -65,8 +74,8 @@ module _ (b : tie.After-label-blocks) where
   abbrev labelled : ℕ
   labelled = b .label-blocks .result
 
-  sampled-is : sampled ≡ sampleBlocksNeeded narrow (k numbers) (n numbers)
-  sampled-is = b .before .sample-blocks .ensures .0 ∙ ap₂ (sampleBlocksNeeded narrow) (k-is numbers) (n-is numbers)
+  sampled-is : sampled ≡ sampleBlocksNeeded (f numbers) (k numbers) (n numbers)
+  sampled-is = b .before .sample-blocks .ensures .0 ∙ ap₂ (sampleBlocksNeeded (f numbers)) (k-is numbers) (n-is numbers)
 
   labelled-is : labelled ≡ length (labelParts (labelsIn (stored numbers)))
   unfolding labelsIn
@@ -83,7 +92,7 @@ module _ (b : tie.After-label-blocks) where
         arith,
         sampled-is,
         labelled-few,
-        needed-most narrow narrowLimit narrow-sound (k numbers) (n numbers) (start numbers .pre .count-few) (start numbers .pre .n-few),
+        needed-most (f numbers) _ (sound numbers) (k numbers) (n numbers) (start numbers .pre .count-few) (start numbers .pre .n-few),
       )
 
   -- the sheet has room for all
@@ -106,7 +115,7 @@ fill-blocks-requires c κs =
     let b = atSamples c in
     let w = numbers b in (
       b .before .sample-blocks .ensures .1,
-      omega (arith, sampled-is b, total-is w, needed-tight narrow narrowLimit narrow-sound (k w) (n w)),
+      omega (arith, ap (λ (i : ℕ). i * f w .samplesPerBlock) (sampled-is b), total-is w, needed-tight (f w) _ (sound w) (k w) (n w)),
       omega (arith, total-is w, start w .pre .samples-long),
       omega (arith, long b),
     )
@@ -131,24 +140,25 @@ returns c =
     let l = c .before .before in
     let b = atLabels (l .before) in
     let w = numbers b in
-    let f = l .before .before .before .before in
+    let filling = l .before .before .before .before in
     let a = start w .args in
     let t = stored w in
     let sheet = now (a .sheet) in
     let samples = now (a .samples) in
     let labels = now (a .labels) in
-    let headed = withBlock sheet 0 (block (narrow .headKind) 0 (headOf (measuresOf t) (traceCount t))) in (
+    let g = f w in
+    let headed = withBlock sheet 0 (block (g .headKind) 0 (headOf (measuresOf t) (traceCount t))) in (
       omega (arith, sampled-is b, labelled-is b),
       l .fill-labels .ensures
-          ∙ ap (λ (x : List ℕ). withLabelBlocks x (1 + sampled b) (labelled b) (take (w .wide2 .result) labels)) (f .fill-blocks .ensures)
-          ∙ ap (λ (x : List ℕ). withLabelBlocks (withSamples x (sampled b) (take (w .wide2 .result * w .before .before .wide .result) samples))
+          ∙ ap (λ (x : List ℕ). withLabelBlocks x (1 + sampled b) (labelled b) (take (w .wide2 .result) labels)) (filling .fill-blocks .ensures)
+          ∙ ap (λ (x : List ℕ). withLabelBlocks (withSamples g x (sampled b) (samplesOf (take (w .wide2 .result * w .before .before .wide .result) samples)))
           (1 + sampled b) (labelled b) (take (w .wide2 .result) labels))
-          (f .before .before .before .before .fill-head .ensures)
-          ∙ ap₂ (λ (count total : ℕ). withLabelBlocks (withSamples headed count (take total samples)) (1 + count) (labelled b) (take (w .wide2 .result) labels))
+          (filling .before .before .before .before .fill-head .ensures)
+          ∙ ap₂ (λ (count total : ℕ). withLabelBlocks (withSamples g headed count (samplesOf (take total samples))) (1 + count) (labelled b) (take (w .wide2 .result) labels))
           (sampled-is b) (total-is w)
-          ∙ ap₂ (λ (count total : ℕ). withLabelBlocks (withSamples headed (sampleBlocksNeeded narrow (k w) (n w)) (take (k w * n w) samples))
-          (1 + sampleBlocksNeeded narrow (k w) (n w)) count (take total labels)) (labelled-is b) (k-is w)
-          ∙ filled-is t sheet,
+          ∙ ap₂ (λ (count total : ℕ). withLabelBlocks (withSamples g headed (sampleBlocksNeeded g (k w) (n w)) (samplesOf (take (k w * n w) samples)))
+          (1 + sampleBlocksNeeded g (k w) (n w)) count (take total labels)) (labelled-is b) (k-is w)
+          ∙ filled-is t g _ (sound w) sheet,
     )
 
 pub fill-sheet-spec : {M : Type 1} → statement M

@@ -73,4 +73,4 @@ adds-anywhere lent x l memory memory′ said f number answers = record {
 
     labels-known : labelsIn after ≡ labelsIn t ++ (l ∷ [])
     labels-known = next-stored t (l ∷ []) fits after (a .trace-count ∙ omega arith) (a .labels-stay)
-        (all-more {a = l} (fits-of l (f .typed .1)) all-none)
+        (all-more {a = l} (fits-of l (f .typed)) all-none)

@@ -8,15 +8,16 @@ use mathlib.Core.List.{List, [], _∷_, _++_}
 use native.Mathlib.Omega.{arith}
 use lib.ListN.{length, getD, drop, replicate, length-append, length-replicate}
 use lib.Seq.{take-append-seam}
-use lib.Dec.{T, leb, ltb, eqb, le→leb}
-use borrow.Author.Tests.{not-false, eqb-true, eqb-false, ltb-false}
+use lib.Dec.{T, leb, ltb, le→leb}
+use borrow.Author.Tests.{not-false, ltb-false}
 use Rattle.integer.specs.Words.{every}
-use Rattle.integer.proofs.Tests.{passed, passes, is-true, eq→eqb}
-use Rattle.integer.proofs.Lists.{all-none, all-more, all-append, all-replicate, every-all, all-every, strict}
-use Rattle.dstree.specs.Measures.{Trace, Measures, sampleLimit, inRange, areSamples, isTrace, isLibrary, workNeeded}
+use Rattle.integer.proofs.Tests.{passed, passes, is-true}
+use Rattle.integer.proofs.Lists.{all-none, all-more, all-append, all-replicate, every-all, all-every}
+use Rattle.dstree.specs.Measures.{Trace, Measures, sampleLimit, inRange, isTrace, isLibrary, workNeeded}
 use Rattle.dstree.specs.Labels.{Label, noLabel, isLabel, areLabels}
-use Rattle.dstree.specs.Refusals.{Condition, _refuses_, firstOf, measure, wrongTrace, full, sheetLength, badRecording}
-use Rattle.dstree.specs.Sheet.{areBytes, blockSize, blocksNeeded, sheetOf, Judged, refused, holds, judgeSheet}
+use Rattle.dstree.specs.Refusals.{Condition, _refuses_, firstOf, measure, full, sheetLength, badRecording}
+use Rattle.dstree.specs.Sheet.{areBytes, blockSize, Judged, refused, holds}
+use Rattle.dstree.specs.SheetWidths.{blocksNeeded, sheetOf, judgeSheet}
 use Rattle.dstree.specs.Recording.{recordingSize, recordingOf, Recording, judgeRecording, fileTraces, isBadFile}
 use Rattle.dstree.specs.Book.{Ask, opening, adding, searching, writing, reading, importing, exporting, checking, labelling}
 use Rattle.dstree.specs.Book.{Book, book, bookTree, Entry, added, written, imported, exported, labelled, over, importConditions, exportConditions, labelConditions}
@@ -44,6 +45,7 @@ use Rattle.calls.specs.Outcome.{Effect}
 use Rattle.calls.specs.Library.{loaded, libraryTables, Keeps}
 use Rattle.calls.specs.Effects.{opens, adds, cleared, searches, writes, loadedBy, reads, imports, exports, checks, tellsLabel, effectOf}
 use Rattle.calls.specs.Follows.{Typed}
+use Rattle.calls.proofs.Taken.{taken}
 use Rattle.calls.proofs.Searches.{laws}
 use Rattle.calls.proofs.Library.{library-work, loaded-begins, more-begins}
 use Rattle.calls.proofs.Trusted.{accepted-same, kept-trusts}
@@ -141,12 +143,6 @@ zero-labels k = labels-are k (replicate k noLabel) (record {
   all-fit = all-replicate k noLabel (record { code-fits = omega arith; serial-fits = omega arith });
 })
 
--- one trace alone
-one-trace : (m : Measures) (x : Trace) → T (areSamples x) → length x ≡ m .n → T (every (isTrace sampleLimit (m .n)) (x ∷ []))
-unfolding isTrace every
-one-trace m x samples size = passes (isTrace sampleLimit (m .n) x) (true ∷ [])
-    (passes (eqb (length x) (m .n)) (areSamples x ∷ []) (eq→eqb size, samples), tt)
-
 module _ (memory part : Tables) (begins : Begins part memory) (b : Book) (keeps : Keeps memory b) where
   abbrev m : Measures
   m = b .measures
@@ -186,22 +182,20 @@ module _ (memory part : Tables) (begins : Begins part memory) (b : Book) (keeps 
   abbrev addingRest : Trace → List Condition
   addingRest x = addConditions m (length (b .traces)) x
 
-  adding-puts : (x : Trace) (l : Label) → T (areSamples x) → T (isLabel l)
+  adding-puts : (x : Trace) (l : Label) → T (isLabel l)
       → firstOf (shortConditions layout (lentOf part) m ++ addingRest x) ≡ none
       → Keeps (left (addedWith part (x ∷ []) (l ∷ [])) memory) (book m (b .traces ++ (x ∷ [])) (b .labels ++ (l ∷ [])))
-  adding-puts x l samples is-label e =
-      let parts = none-both (shortConditions layout (lentOf part) m) (addingRest x) e in
-      let one = none-first (not (eqb (length x) (m .n))) wrongTrace _ (parts .1) in
-      let two = none-first (eqb (length (b .traces)) (m .capacity)) full _ (one .1) in
-      let most = library-of sampleLimit m (b .traces) (keeps .library) .room in
-      let less : length (b .traces) < m .capacity = strict most (λ q. eqb-false (length (b .traces)) (m .capacity) (two .0) q) in
-      more-kept (addingRest x) e (x ∷ []) (l ∷ []) (one-trace m x samples (eqb-true (length x) (m .n) (not-false _ (one .0))))
+  unfolding every
+  adding-puts x l is-label e =
+      let t = taken m (length (b .traces)) x (none-both (shortConditions layout (lentOf part) m) (addingRest x) e .1) in
+      let less : length (b .traces) < m .capacity = t .less (library-of sampleLimit m (b .traces) (keeps .library) .room) in
+      more-kept (addingRest x) e (x ∷ []) (l ∷ []) (passes (isTrace sampleLimit (m .n) x) (true ∷ []) (t .is-trace, tt))
       (omega (arith, less)) (one-label l is-label)
 
-  pub adding-agrees : (x : Trace) (l : Label) → T (areSamples x) → T (isLabel l)
+  pub adding-agrees : (x : Trace) (l : Label) → T (isLabel l)
       → Agrees memory (adds part x l) (addingEntry layout (lentOf part) b x l)
   unfolding adds addingEntry
-  adding-agrees x l samples is-label = record {
+  adding-agrees x l is-label = record {
     judged = made-same keeps part begins _ (addingRest x)
         (λ h labels. rw (
           ap (λ (k : Measures). k .n) (h .measures-are),
@@ -211,7 +205,7 @@ module _ (memory part : Tables) (begins : Begins part memory) (b : Book) (keeps 
         ));
     result-is = λ e. ap added (counted keeps part begins (holds-it (addingRest x) e));
     beside-is = λ e. refl;
-    puts = adding-puts x l samples is-label;
+    puts = adding-puts x l is-label;
   }
 
   -- "The needed search work is left zero", as it was
@@ -270,14 +264,14 @@ module _ (memory part : Tables) (begins : Begins part memory) (b : Book) (keeps 
   }
     where
       rest : List Condition
-      rest = writeConditions m (length (b .traces)) (b .labels) sheet
+      rest = writeConditions m (b .traces) (b .labels) sheet
 
       tooShort : ℕ → List Condition
       tooShort blocks = ltb (length sheet) (blockSize * blocks) refuses sheetLength ∷ []
 
       blocks-same : Holds part m (b .traces) → labelsIn part ≡ b .labels
-          → blocksNeeded (traceCount part) (measuresOf part .n) (labelsIn part) ≡ blocksNeeded (length (b .traces)) (m .n) (b .labels)
-      blocks-same h labels = λ i. blocksNeeded (counted keeps part begins h i) (h .measures-are i .n) (labels i)
+          → blocksNeeded (measuresOf part) (tracesIn part) (labelsIn part) ≡ blocksNeeded m (b .traces) (b .labels)
+      blocks-same h labels = λ i. blocksNeeded (h .measures-are i) (h .traces-are i) (labels i)
 
       bytes-same : Holds part m (b .traces) → labelsIn part ≡ b .labels
           → sheetOf (measuresOf part) (tracesIn part) (labelsIn part) ≡ sheetOf m (b .traces) (b .labels)
@@ -327,7 +321,8 @@ module _ (memory part : Tables) (begins : Begins part memory) (b : Book) (keeps 
       → Agrees memory (exports part number rate buffer) (exportingEntry layout (lentOf part) b number rate buffer)
   unfolding exports exportingEntry
   exporting-agrees number rate buffer = record {
-    judged = made-same keeps part begins _ rest (λ h labels. rw (ap (λ (k : Measures). k .n) (h .measures-are), counted keeps part begins h));
+    judged = made-same keeps part begins _ rest
+        (λ h labels. rw (ap (λ (k : Measures). k .n) (h .measures-are), counted keeps part begins h, same-trace h));
     result-is = λ e. let h = holds-it rest e in
         ap₂ exported (ap (λ (k : Measures). recordingSize (k .n)) (h .measures-are)) (same-bytes h);
     beside-is = λ e. ap (λ (l : List ℕ). over l buffer ∷ []) (same-bytes (holds-it rest e));
@@ -335,10 +330,13 @@ module _ (memory part : Tables) (begins : Begins part memory) (b : Book) (keeps 
   }
     where
       rest : List Condition
-      rest = exportConditions m (length (b .traces)) number rate buffer
+      rest = exportConditions m (length (b .traces)) (getD (b .traces) number []) number rate buffer
+
+      same-trace : Holds part m (b .traces) → getD (tracesIn part) number [] ≡ getD (b .traces) number []
+      same-trace h = ap (λ (l : List Trace). getD l number []) (h .traces-are)
 
       same-bytes : Holds part m (b .traces) → recordingOf rate (getD (tracesIn part) number []) ≡ recordingOf rate (getD (b .traces) number [])
-      same-bytes h = ap (λ (l : List Trace). recordingOf rate (getD l number [])) (h .traces-are)
+      same-bytes h = ap (recordingOf rate) (same-trace h)
 
   -- document 02, §6: "It accepts every library made by calls"
   pub checking-agrees : Agrees memory (checks part) (checkingEntry layout (lentOf part) b)
@@ -365,14 +363,14 @@ module _ (memory part : Tables) (begins : Begins part memory) (b : Book) (keeps 
 
   -- ---- any call
 
-  pub agrees : (ask : Ask) → Typed ask part → Agrees memory (effectOf ask part) (entryOf layout (lentOf part) b ask)
+  pub agrees : (ask : Ask) → Typed ask → Agrees memory (effectOf ask part) (entryOf layout (lentOf part) b ask)
   unfolding effectOf entryOf Typed
   agrees (opening m) typed = opening-agrees memory part b m
-  agrees (adding x l) typed = adding-agrees x l (typed .0) (typed .1)
+  agrees (adding x l) typed = adding-agrees x l typed
   agrees (searching q) typed = searching-agrees q
   agrees (writing sheet) typed = writing-agrees sheet
   agrees (reading bytes) typed = reading-agrees memory part b bytes typed
-  agrees (importing bytes) typed = importing-agrees bytes (typed .0)
+  agrees (importing bytes) typed = importing-agrees bytes typed
   agrees (exporting number rate buffer) typed = exporting-agrees number rate buffer
   agrees checking typed = checking-agrees
   agrees (labelling number) typed = labelling-agrees number

@@ -8,9 +8,8 @@ use mathlib.Core.List.{List, [], _∷_}
 use native.Mathlib.Omega.{arith}
 use lib.ListN.{length, length-map}
 use lib.Seq.{take-all}
-use lib.Dec.{T, eqb}
-use borrow.Author.Tests.{eqb-false}
-use Rattle.integer.proofs.Lists.{Up, strict}
+use lib.Dec.{T}
+use Rattle.integer.proofs.Lists.{Up}
 use Rattle.dstree.specs.Measures.{Trace, sampleLimit}
 use Rattle.dstree.specs.Node.{Tree}
 use Rattle.dstree.specs.Matching.{matchOf}
@@ -19,14 +18,14 @@ use Rattle.dstree.specs.Batch.{isBatch, queriesIn, Batch, answerIn, batchOf, ne
 use Rattle.dstree.specs.Batch.{BatchClaims, OneClaims}
 use Rattle.dstree.specs.Sheet.{pieces}
 use Rattle.dstree.specs.WellFormed as abstract
-use Rattle.dstree.specs.Refusals.{Refusal, firstOf, wrongTrace, empty, badBatch}
+use Rattle.dstree.specs.Refusals.{Refusal, firstOf, badBatch}
 use Rattle.dstree.specs.Book.{Call, besideOf, batched, Reply, Book, aBatch}
 use Rattle.dstree.proofs.Conditions.{none-first, none-both}
 use Rattle.dstree.proofs.SheetPieces.{pieces-length}
 use Rattle.dstree.proofs.BatchSteps.{steps-of-formed}
 use Rattle.dstree.proofs.BatchClosed.{batch-of-exact, one-claims}
 use Rattle.dstree.proofs.BatchLaws.{query-size}
-use Rattle.tables.specs.Tables.{Tables, measuresOf, traceCount}
+use Rattle.tables.specs.Tables.{Tables, measuresOf}
 use Rattle.tables.specs.View.{treeIn, tracesIn}
 use Rattle.tables.specs.Beginning.{firstPlaces}
 use Rattle.tables.specs.Answers.{madeConditions}
@@ -35,6 +34,7 @@ use Rattle.tables.proofs.Judged.{accepted}
 use Rattle.calls.specs.Trusted.{Trusts}
 use Rattle.calls.specs.Effects.{batches, effectOf}
 use Rattle.calls.specs.Demands.{trailFound, BatchedIn, BatchesAnywhere, OfAnyBatch}
+use Rattle.calls.proofs.Finds.{run-fits}
 use Rattle.calls.proofs.Trusted.{tree-is-formed, exact-tree}
 use Rattle.calls.proofs.Steps.{reply-is}
 use Rattle.calls.proofs.OneCall.{one-call}
@@ -91,12 +91,10 @@ batches-anywhere lent count run trail list memory memory′ said f m answers =
     (sym (ap (λ (r : Reply). r .answer) (reply-is f)) ∙ answers) in
     let parts = none-both (madeConditions t) _ (known .0) in
     let one = none-first (not (isBatch count (length list))) badBatch _ (parts .1) in
-    let two = none-first (not (eqb (length run) (measuresOf t .n * count))) wrongTrace _ (one .1) in
-    let three = none-first (eqb (traceCount t) 0) empty _ (two .1) in
+    let fits = run-fits t (measuresOf t .n * count) run trail (one .1) in
     let formed = subst (λ (n : ℕ). T (abstract.wellFormedTree sampleLimit (measuresOf t) n (treeIn t))) (sym (traces-size t))
     (tree-passes t (accepted t (parts .0) .formed)) in
-    let some-trace : 0 < length (tracesIn t) =
-    strict (omega arith) (λ q. eqb-false (traceCount t) 0 (three .0) (omega (arith, q, traces-size t))) in
+    let some-trace : 0 < length (tracesIn t) = omega (arith, fits .some-trace, traces-size t) in
     let queries = queriesIn (measuresOf t .n) count run in
     let is : batchBySteps (tracesIn t) (treeIn t) queries ≡ m = cc in
     let read = batchRead (tracesIn t) (treeIn t) queries in (

@@ -11,7 +11,7 @@ use lib.Dec.{T}
 use borrow.Author.Tests.{eq-eqb}
 use Rattle.integer.specs.Lists.{In}
 use Rattle.integer.proofs.Tests.{is-true, test-true}
-use Rattle.dstree.specs.Measures.{Trace, sampleLimit}
+use Rattle.dstree.specs.Measures.{Trace, sampleLimit, areSamples}
 use Rattle.dstree.specs.Node.{Tree}
 use Rattle.dstree.specs.Matching.{Near, searched, matchFrom, matchBySteps}
 use Rattle.dstree.specs.KNearest.{ranking, Listing, kNearestBySteps, distancesAmong}
@@ -41,7 +41,7 @@ use Rattle.calls.specs.Demands.{MatchedIn, MatchesAnywhere, ListedIn, Li
 use Rattle.calls.specs.Demands.{OfAnyBatch, AfterList, ReadBack, OfStored, AfterCheck, Demands}
 use Rattle.calls.proofs.Kept.{kept-holds, kept-labels}
 use Rattle.calls.proofs.Finds.{Some, found}
-use Rattle.calls.proofs.Stored.{Stores, kept-stores, trusted-stores, typed-stores}
+use Rattle.calls.proofs.Stored.{Stores, kept-stores, trusted-stores, any-stores, samples-inside}
 use Rattle.calls.proofs.Trusted.{exact-tree, accepted-same, kept-trusts}
 use Rattle.calls.proofs.Agrees.{agrees}
 use Rattle.calls.proofs.Steps.{reply-is, stepped, started, ran}
@@ -54,7 +54,7 @@ use Rattle.calls.proofs.Trails.{list-by-bound, search-by-bound}
 use Rattle.calls.proofs.Differ.{may-differ}
 use Rattle.calls.proofs.Adds.{adds-anywhere}
 use Rattle.calls.proofs.Imports.{imports-anywhere, exported-sound, exported-and-imported}
-use Rattle.calls.proofs.Trusting.{check-stays, part-checked, loose-is, loose-fine, loose-stores, trusted, all-trusting}
+use Rattle.calls.proofs.Trusting.{check-stays, part-checked, loose-is, loose-fine, trusted, all-trusting}
 use Rattle.calls.proofs.Trees.{tree-of-book}
 use Rattle.calls.proofs.Queries.{Judges, of-any-query}
 use Rattle.calls.proofs.Batches.{of-any-batch, batches-anywhere}
@@ -100,11 +100,11 @@ module _ {memory : Tables} {b : Book} (keeps : Keeps memory b) where
   -- "an empty one is still 6"
   empty-is-six : EmptyIsSix b memory
   unfolding replyOf replyUnless judge entryOf firstOf
-  empty-is-six lent k query trail list said memory′ f long ok size none-stored =
+  empty-is-six lent k query trail list said memory′ f long ok size samples none-stored =
       let judged : judge layout b (call lent (listing k query trail list)) ≡ some empty =
       first-none (shortConditions layout lent (b .measures))
       (listConditions (b .measures) (length (b .traces)) (bookTree b) k query trail list) long
-      ∙ rw (ok, eq-eqb (length query) (b .measures .n) size, none-stored) in
+      ∙ rw (ok, eq-eqb (length query) (b .measures .n) size, test-true (areSamples query) samples, none-stored) in
       ap (λ (r : Reply). r .answer) (stepped f keeps .0) ∙ rw judged
 
 -- a match on any tables: what is answered are the steps, and they find a trace
@@ -239,7 +239,7 @@ checks-anywhere lent memory memory′ said f = record {
   accepts-exact = accepts-exact f;
   loose-refused = loose-refused f;
   loose-written = λ a. is-written lent memory (loose-fine f a);
-  loose-stored = λ a. of-stored (loose-stores f a);
+  loose-stored = λ a. of-stored (any-stores memory);
 }
 
 -- ---- a list of calls, from its first on
@@ -283,7 +283,8 @@ demands = record {
   remote-is-match = remote-is-match;
   sees-no-serials = sees-no-serials;
   serials-may-differ = serials-may-differ;
-  stored-anywhere = λ memory typed. of-stored (typed-stores memory typed);
+  samples-inside = samples-inside;
+  stored-anywhere = λ memory. of-stored (any-stores memory);
   after-list = from-first;
   after-check = from-check;
   tree-of-book = tree-of-book;

@@ -12,6 +12,7 @@ use lib.Dec.{T, T-not, ltb}
 use borrow.Author.Tests.{ltb-true, ltb-false}
 use Rattle.integer.specs.Words.{isIn}
 use Rattle.integer.proofs.Lists.{strict}
+use Rattle.segment.specs.Stored.{samplesOf}
 use Rattle.dstree.specs.Claims.{numbersAmong}
 use Rattle.tables.specs.Tables.{Tables, measuresOf}
 use Rattle.tables.specs.View.{traceIn, treeIn}
@@ -24,7 +25,7 @@ module _ (l : List ℤ) (n i j at : ℕ) (z : ℤ) (h : at < n) (apart : j ≡ i
 
   trace-set : traceIn (set l (i * n + at) z) n j ≡ traceIn l n j
   unfolding traceIn
-  trace-set = by (ltb j i) refl
+  trace-set = ap samplesOf (by (ltb j i) refl)
     where
       by : (b : Bool) → ltb j i ≡ b → take n (drop (j * n) (set l (i * n + at) z)) ≡ take n (drop (j * n) l)
       by true e =
@@ -48,14 +49,14 @@ may-differ those these = record {
     as-long = refl;
     samples-same = λ trace read. refl;
   };
-  in-a-sample = λ other differ trace at sample h out. record {
+  in-a-sample = λ other differ trace at word h out. record {
     control-same = differ .control-same;
     nodes-same = differ .nodes-same;
     links-same = differ .links-same;
     work-same = differ .work-same;
     labels-same = differ .labels-same;
     as-long = simp length-set (differ .as-long);
-    samples-same = λ j read. trace-set (other .samples) (measuresOf these .n) trace j at sample h
+    samples-same = λ j read. trace-set (other .samples) (measuresOf these .n) trace j at word h
         (λ q. T-not (isIn trace (numbersAmong (treeIn these) those)) out
         (subst (λ (k : ℕ). T (isIn k (numbersAmong (treeIn these) those))) q read))
         ∙ differ .samples-same j read;

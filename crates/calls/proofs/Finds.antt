@@ -12,13 +12,14 @@ use lib.Dec.{T, eqb, ltb}
 use borrow.Author.Tests.{not-false, eqb-true, eqb-false, ltb-false}
 use Rattle.integer.specs.Words.{if_then_else_}
 use Rattle.integer.specs.Lists.{In, first, later}
+use Rattle.integer.proofs.Tests.{is-true}
 use Rattle.integer.proofs.Lists.{some-in, in-is, InMap, of, from-map}
-use Rattle.dstree.specs.Measures.{Trace}
+use Rattle.dstree.specs.Measures.{Trace, areSamples}
 use Rattle.dstree.specs.Node.{Tree, nodeAt}
 use Rattle.dstree.specs.Matching.{LeafBound, numbersIn, leaves, readingOrder, readOn, Near, nearAt, isNearer, nearer, bestWith, Search}
 use Rattle.dstree.specs.Matching.{distancesIn, readLeaf, isAbove, searchOn, searched}
 use Rattle.dstree.specs.Batch.{nearOrZero}
-use Rattle.dstree.specs.Refusals.{firstOf, wrongTrace, empty, shortTrail}
+use Rattle.dstree.specs.Refusals.{firstOf, wrongTrace, sampleRange, empty, shortTrail}
 use Rattle.dstree.proofs.Conditions.{none-first, none-both}
 use Rattle.dstree.proofs.Reading.{kept-leaf, leaf-full, reading-of, in-reading}
 use Rattle.tables.specs.Tables.{Tables, measuresOf, traceCount}
@@ -148,6 +149,8 @@ module _ (t : Tables) (w : T (wellFormed t)) (some-trace : 0 < traceCount t) (qu
 -- a run, tables and a trail of which nothing is refused
 pub record RunFits (t : Tables) (size : ℕ) (run : Trace) (trail : List ℕ) : Type 0 where
   pub as-long : length run ≡ size
+  -- 15 has tested them
+  pub samples : T (areSamples run)
   pub some-trace : 0 < traceCount t
   pub trail-long : length (leaves (treeIn t)) ≤ length trail
 
@@ -155,12 +158,14 @@ pub run-fits : (t : Tables) (size : ℕ) (run : Trace) (trail : List ℕ) → fi
     → RunFits t size run trail
 run-fits t size run trail e =
     let one = none-first (not (eqb (length run) size)) wrongTrace _ e in
-    let two = none-first (eqb (traceCount t) 0) empty _ (one .1) in
-    let three = none-first (ltb (length trail) (length (leaves (treeIn t)))) shortTrail _ (two .1) in
+    let two = none-first (not (areSamples run)) sampleRange _ (one .1) in
+    let three = none-first (eqb (traceCount t) 0) empty _ (two .1) in
+    let four = none-first (ltb (length trail) (length (leaves (treeIn t)))) shortTrail _ (three .1) in
     record {
       as-long = eqb-true (length run) size (not-false _ (one .0));
-      some-trace = pos-of-ne-zero (eqb-false (traceCount t) 0 (two .0));
-      trail-long = ltb-false (length trail) (length (leaves (treeIn t))) (three .0);
+      samples = is-true {b = areSamples run} (not-false _ (two .0));
+      some-trace = pos-of-ne-zero (eqb-false (traceCount t) 0 (three .0));
+      trail-long = ltb-false (length trail) (length (leaves (treeIn t))) (four .0);
     }
 
 -- where a match refuses nothing, it finds a trace

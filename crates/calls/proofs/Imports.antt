@@ -9,17 +9,18 @@ use mathlib.Core.Option.{Option, none, some}
 use mathlib.Core.List.{List, [], _∷_, map}
 use native.Mathlib.Omega.{arith}
 use lib.ListN.{length, getD, drop, replicate, length-replicate}
-use lib.Dec.{ltb, leb, ltb→lt}
+use lib.Dec.{T, ltb, leb, eqb, ltb→lt}
 use borrow.Author.Tests.{not-false, eq-eqb, ne-eqb}
 use mir.Facts.{and-yes}
 use Rattle.integer.specs.Words.{every, counting}
-use Rattle.integer.proofs.Tests.{passed, is-true, test-true}
+use Rattle.integer.proofs.Tests.{passed, passes, is-true, test-true, eq→eqb}
 use Rattle.integer.proofs.Lists.{in-getD, from-every}
-use Rattle.dstree.specs.Measures.{Trace, Measures, sampleLimit, inRange, isTrace, isLibrary, labelsNeeded}
+use Rattle.dstree.specs.Measures.{Trace, Measures, sampleLimit, inRange, areWithin, areSamples, isTrace, isLibrary, labelsNeeded}
 use Rattle.dstree.specs.Labels.{Label, noLabel}
 use Rattle.dstree.specs.Refusals.{firstOf, _refuses_, spoiled, badRecording}
 use Rattle.dstree.specs.Recording.{rateLimit, recordingSize, recordingOf, Recording, recording, judgeRecording, fileTraces, isBadFile}
-use Rattle.dstree.specs.Book.{Lent, Reply, reply, answering, added, imported, exported, over, Book, exportConditions, besideOf}
+use Rattle.dstree.specs.Sheet.{narrowLimit}
+use Rattle.dstree.specs.Book.{Lent, Reply, reply, answering, added, imported, exported, over, Book, besideOf}
 use Rattle.dstree.proofs.Conditions.{first-none, none-first, none-both}
 use Rattle.dstree.proofs.Recordings.{recording-length, recording-claims}
 use Rattle.dstree.proofs.Limits.{trace-length}
@@ -31,10 +32,12 @@ use Rattle.tables.specs.Answers.{madeConditions}
 use Rattle.tables.proofs.Range.{in-range}
 use Rattle.tables.proofs.Views.{traces-size}
 use Rattle.tables.proofs.Judged.{accepted}
+use Rattle.tables.proofs.Samples.{made-is}
 use Rattle.tables.proofs.Labels.{no-labels, next-lent}
 use Rattle.tables.proofs.Beginning.{extended, restOf, left-same, left-begins, left-extended}
 use Rattle.insertion_memory.specs.Memory.{addedWith}
-use Rattle.insertion_memory.proofs.Keeps.{TakesAll, first-size, takes-first, takes-others, keeps-all}
+use Rattle.insertion_memory.proofs.Keeps.{TakesAll, first-is, first-size, takes-first, takes-others, keeps-all}
+use Rattle.insertion_memory.proofs.Storing.{trace-samples}
 use Rattle.insertion_memory.proofs.Labels.{labelled-takes, with-others}
 use Rattle.calls.specs.Effects.{adds, imports, exports, effectOf}
 use Rattle.calls.specs.Follows.{Typed, Ran, no-call, a-call}
@@ -83,6 +86,7 @@ module _ {t : Tables} {x : Trace} {more : List Trace} (o : Open t (x ∷ more)) 
       first-none (madeConditions t) _ (o .fine)
       ∙ rw (
         eq-eqb (length x) (measuresOf t .n) (first-size (o .takes)),
+        test-true (areSamples x) (trace-samples (measuresOf t .n) x (first-is (o .takes))),
         ne-eqb (traceCount t) (measuresOf t .capacity) (λ e. omega (arith, e, less)),
       )
 
@@ -101,10 +105,11 @@ module _ {t : Tables} {x : Trace} {more : List Trace} (o : Open t (x ∷ more)) 
   next-as-long = takes-first next-takes .lengths-stay ∙ next-lent t (noLabel ∷ []) next-fits
 
   others-fine : firstOf (madeConditions next) ≡ none
-  unfolding madeConditions firstOf
+  unfolding firstOf
   others-fine =
-      let before = none-both (lentConditionsOf (lentOf t) (measuresOf t)) (not (wellFormed t) refuses spoiled ∷ []) (o .fine) .0 in
-      first-none (lentConditionsOf (lentOf next) (measuresOf next)) _ (rw (next-as-long, takes-first next-takes .measures-stay) before)
+      let before = none-both (lentConditionsOf (lentOf t) (measuresOf t)) (not (wellFormed t) refuses spoiled ∷ []) (rw (made-is t) at (o .fine)) .0 in
+      ap firstOf (made-is next)
+      ∙ first-none (lentConditionsOf (lentOf next) (measuresOf next)) _ (rw (next-as-long, takes-first next-takes .measures-stay) before)
       ∙ rw (test-true (wellFormed next) (takes-others next-takes .formed))
 
   open-others : Open next more
@@ -164,7 +169,7 @@ imports-anywhere lent bytes memory memory′ said f count answers = by (judgeRec
     opened : Open t (fileTraces (judgeRecording (measuresOf t .n) bytes))
     opened = record {
       fine = none-both (madeConditions t) _ (known .0) .0;
-      takes = import-takes t bytes (f .typed .0) (f .typed .1) (known .0);
+      takes = import-takes t bytes (f .typed) (known .0);
     }
 
     left-is : memory′ ≡ left (unlabelled t (fileTraces (judgeRecording (measuresOf t .n) bytes))) memory
@@ -193,14 +198,15 @@ module _ {memory : Tables} {b : Book} (k : Stores memory b) where
   n = b .measures .n
 
   pub exported-sound : ExportedSound b memory
-  unfolding effectOf besideOf exports isLibrary sampleLimit
+  unfolding effectOf besideOf exports isLibrary isTrace sampleLimit
   exported-sound lent number rate buffer said memory′ f size bytes answers =
       let t = firstPlaces lent memory in
       let e = exports t number rate buffer in
       let known = answered (firstOf (e .conditions)) t (buffer ∷ []) e (exported size bytes)
       (sym (ap (λ (r : Reply). r .answer) (reply-is f)) ∙ answers) in
-      let parts = none-both (madeConditions t) (exportConditions (measuresOf t) (traceCount t) number rate buffer) (known .0) in
+      let parts = none-both (madeConditions t) _ (known .0) in
       let one = none-first (not (ltb rate rateLimit && ltb number (traceCount t))) badRecording _ (parts .1) in
+      let two = none-first (not (areWithin narrowLimit (getD (tracesIn t) number []))) badRecording _ (one .1) in
       let both = and-yes (ltb rate rateLimit) (ltb number (traceCount t))
       (is-true {b = ltb rate rateLimit && ltb number (traceCount t)} (not-false _ (one .0))) in
       let inside : number < length (b .traces) =
@@ -215,12 +221,15 @@ module _ {memory : Tables} {b : Book} (k : Stores memory b) where
       let trace-is : getD (tracesIn t) number [] ≡ trace = ap (λ (l : List Trace). getD l number []) (lent-traces k lent (parts .0)) in
       let written-is : recordingOf rate (getD (tracesIn t) number []) ≡ bytes = cc (known .1) in
       let size-is : recordingSize n ≡ size = ap recordingSize (sym n-is) ∙ cc (known .1) in
+      let size-of = trace-length sampleLimit n trace is-trace in
+      let fits = subst (λ (x : Trace). T (areWithin narrowLimit x)) trace-is (is-true {b = areWithin narrowLimit (getD (tracesIn t) number [])} (not-false _ (two .0))) in
+      let narrow-trace = passes (eqb (length trace) n) (areWithin narrowLimit trace ∷ []) (eq→eqb size-of, fits) in
       let bytes-are : recordingOf rate trace ≡ bytes = ap (recordingOf rate) (sym trace-is) ∙ written-is in (
         ap (λ (r : Reply). r .beside) (one-call _ memory memory′ said f .works (known .0) .0)
             ∙ ap (λ (l : List ℕ). over l buffer ∷ []) written-is,
         (
-          omega (arith, size-is, ap length bytes-are, recording-length rate trace, trace-length sampleLimit n trace is-trace),
-          ap (judgeRecording n) (sym bytes-are) ∙ claims .exported rate trace (ltb→lt rate rateLimit (both .0)) (range .n-high) is-trace,
+          omega (arith, size-is, ap length bytes-are, recording-length rate trace, size-of),
+          ap (judgeRecording n) (sym bytes-are) ∙ claims .exported rate trace (ltb→lt rate rateLimit (both .0)) (range .n-high) narrow-trace,
         ),
       )
 

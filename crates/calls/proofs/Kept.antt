@@ -25,6 +25,7 @@ use Rattle.tables.specs.Judge.{lentConditionsOf, Room}
 use Rattle.tables.specs.Beginning.{Begins, LentWithin}
 use Rattle.tables.specs.Answers.{madeConditions}
 use Rattle.tables.proofs.Judged.{room-of}
+use Rattle.tables.proofs.Samples.{spoiled-is}
 use Rattle.tables.proofs.Beginning.{begins-between}
 use Rattle.tables.proofs.Labels.{labels-begin}
 use Rattle.tables.specs.Holds.{Holds}
@@ -57,7 +58,7 @@ module _ (rest others : List Condition) (t : Tables) (m : Measures) where
       → (c ≡ false → (wellFormed t ≡ true) × (firstOf rest ≡ firstOf others)) → SameRefusal rest others t m
   unfolding madeConditions lentConditionsOf firstOf
   by-long long measured range true e f = rw (long, measured, range, e)
-  by-long long measured range false e f = rw (long, measured, range, e, f refl .0) (f refl .1)
+  by-long long measured range false e f = rw (long, measured, range, e, spoiled-is t, f refl .0) (f refl .1)
 
 -- ---- tables lent of a memory, whatever it holds
 

@@ -1,4 +1,5 @@
 -- What each call does to tables is what the book says of it: the step of the theorem over lists of calls, once for all calls.
+pub mod Taken
 pub mod Finds
 pub mod Library
 pub mod Kept

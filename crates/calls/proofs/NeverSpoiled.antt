@@ -2,10 +2,10 @@
 -- is refused for.
 use Prim.Native.Nat.{ℕ, suc}
 use mathlib.Core.Path.{_≡_, sym, ap, subst, _∙_}
-use mathlib.Core.Bool.{true}
+use mathlib.Core.Bool.{Bool, true}
 use mathlib.Core.Option.{Option, none, some}
 use mathlib.Core.Logic.{_⊎_, inl, inr}
-use mathlib.Core.List.{List, [], _∷_, _++_}
+use mathlib.Core.List.{List, [], _∷_, _++_, append-assoc}
 use native.Mathlib.Omega.{arith}
 use lib.ListN.{length}
 use lib.Dec.{T}
@@ -13,9 +13,10 @@ use Rattle.integer.specs.Words.{every}
 use Rattle.integer.proofs.Tests.{passes}
 use Rattle.integer.specs.Lists.{In}
 use Rattle.integer.proofs.Lists.{in-nil, in-cons}
+use Rattle.dstree.specs.Measures.{Trace}
 use Rattle.dstree.specs.Refusals.{Refusal, numberOf, Condition, _refuses_, firstOf}
-use Rattle.dstree.specs.Sheet.{Format, narrow, blocksIn, kindIn, tornConditions, badConditions, conditionsAs, Judged, refused, holds, libraryIn}
-use Rattle.dstree.specs.Sheet.{judgedBy, judgeAs, judgeSheet}
+use Rattle.dstree.specs.Sheet.{Format, blocksIn, kindIn, tornConditions, badConditions, conditionsAs, Judged, refused, holds, libraryIn, judgedBy}
+use Rattle.dstree.specs.SheetWidths.{isWide, formatIn, tracesHeld, rangeConditions, sheetConditions, judgeSheet}
 use Rattle.dstree.specs.Book.{Layout, Lent, Ask, opening, adding, searching, writing, reading, importing, exporting, checking, labelling}
 use Rattle.dstree.specs.Book.{Call, refusing, Reply, Book, bookTree, Entry}
 use Rattle.dstree.specs.Book.{readingConditions, openingEntry, addingEntry, writingEntry, readingEntry, importingEntry, exportingEntry}
@@ -39,27 +40,44 @@ module _ (f : Format) where
   torn-other before number [] rest t = t
   torn-other before number (b ∷ blocks) rest t = torn-other (kindIn b) (suc number) blocks rest t
 
-  bad-other : (blocks : List (List ℕ)) → T (every other (badConditions f blocks))
+  bad-other : (blocks : List (List ℕ)) (rest : List Condition) → T (every other rest) → T (every other (badConditions f blocks ++ rest))
   unfolding badConditions every ofArguments numberOf
-  bad-other [] = tt
-  bad-other (first ∷ others) = tt
+  bad-other [] rest t = t
+  bad-other (first ∷ others) rest t = t
 
-  sheet-other : (bytes : List ℕ) → T (every other (conditionsAs f bytes))
+  format-other : (bytes : List ℕ) (rest : List Condition) → T (every other rest) → T (every other (conditionsAs f bytes ++ rest))
   unfolding conditionsAs every ofArguments numberOf
-  sheet-other bytes = torn-other 0 0 (blocksIn bytes) (badConditions f (blocksIn bytes)) (bad-other (blocksIn bytes))
+  format-other bytes rest t =
+      let torn : List Condition = tornConditions f 0 0 (blocksIn bytes) in
+      let bad : List Condition = badConditions f (blocksIn bytes) in
+      subst (λ (l : List Condition). T (every other l)) (sym (append-assoc torn bad rest))
+      (torn-other 0 0 (blocksIn bytes) (bad ++ rest) (bad-other (blocksIn bytes) rest t))
 
   library-other : (blocks : List (List ℕ)) → T (ifAny ofArguments (refusalIn (libraryIn f blocks)))
   unfolding libraryIn ifAny ofArguments numberOf
   library-other [] = tt
   library-other (first ∷ others) = tt
 
-  judge-other : (bytes : List ℕ) → T (ifAny ofArguments (refusalIn (judgeAs f bytes)))
-  unfolding judgeAs judgedBy ifAny
-  judge-other bytes = by (firstOf (conditionsAs f bytes)) (first-other (conditionsAs f bytes) (sheet-other bytes))
-    where
-      by : (o : Option Refusal) → T (ifAny ofArguments o) → T (ifAny ofArguments (refusalIn (judgedBy o (libraryIn f (blocksIn bytes)))))
-      by none t = library-other (blocksIn bytes)
-      by (some why) t = t
+-- .. in the format that it says, with what document 02, §9, adds
+range-other : (saysWide : Bool) (traces : List Trace) → T (every other (rangeConditions saysWide traces))
+unfolding rangeConditions every ofArguments numberOf
+range-other saysWide traces = tt
+
+judge-other : (bytes : List ℕ) → T (ifAny ofArguments (refusalIn (judgeSheet bytes)))
+unfolding judgeSheet sheetConditions judgedBy ifAny
+judge-other bytes = by (firstOf (sheetConditions bytes))
+    (first-other (sheetConditions bytes)
+    (format-other f bytes (rangeConditions (isWide bytes) traces) (range-other (isWide bytes) traces)))
+  where
+    f : Format
+    f = formatIn bytes
+
+    traces : List Trace
+    traces = tracesHeld f (blocksIn bytes)
+
+    by : (o : Option Refusal) → T (ifAny ofArguments o) → T (ifAny ofArguments (refusalIn (judgedBy o (libraryIn f (blocksIn bytes)))))
+    by none t = library-other f (blocksIn bytes)
+    by (some why) t = t
 
 -- ---- the book
 
@@ -76,7 +94,7 @@ module _ (layout : Layout) where
   entry-other lent b (adding x l) = tt
   entry-other lent b (searching q) = laws q .by-arguments (b .measures) (length (b .traces)) (bookTree b)
   entry-other lent b (writing sheet) = tt
-  entry-other lent b (reading bytes) = reading-other lent (judgeSheet bytes) (judge-other narrow bytes)
+  entry-other lent b (reading bytes) = reading-other lent (judgeSheet bytes) (judge-other bytes)
   entry-other lent b (importing bytes) = tt
   entry-other lent b (exporting number rate buffer) = tt
   entry-other lent b checking = tt

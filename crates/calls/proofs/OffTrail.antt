@@ -33,6 +33,7 @@ use Rattle.calls.specs.Outcome.{Effect, unlessRefused}
 use Rattle.calls.specs.Effects.{opens, adds, searches, writes, reads, imports, exports, checks, tellsLabel, effectOf, outcomeOn}
 use Rattle.calls.specs.Demands.{DifferOutside, trailFound, SamplesOffTrail}
 use Rattle.tables.proofs.Judged.{Accepted, accepted}
+use Rattle.tables.proofs.Samples.{made-is}
 use Rattle.calls.proofs.Searches.{laws}
 use Rattle.calls.proofs.Steps.{reply-is}
 
@@ -44,8 +45,8 @@ module _ (t : Tables) (samples : List ℤ) (as-many : length samples ≡ length 
 
   -- no condition of a search reads a sample
   conditions-same : (s : AnySearch) → firstOf (searches with-others s .conditions) ≡ firstOf (searches t s .conditions)
-  unfolding madeConditions wellFormed kindsNamed treeIn
-  conditions-same s = rw as-many
+  unfolding wellFormed kindsNamed treeIn
+  conditions-same s = rw (made-is with-others, made-is t, as-many)
 
 -- ---- the traces that a search reads
 

@@ -8,14 +8,14 @@ use mathlib.Core.List.{List, [], _∷_, _++_}
 use native.Mathlib.Omega.{arith}
 use lib.ListN.{length, drop, replicate, length-replicate, List·getD-append}
 use lib.Seq.{drop-append-le}
-use lib.Dec.{T, eqb, ltb}
-use borrow.Author.Tests.{not-false, eqb-true, eqb-false, ltb-false}
-use Rattle.integer.proofs.Lists.{strict}
-use Rattle.dstree.specs.Measures.{Trace, Measures, sampleLimit, inRange, areSamples, isLibrary, samplesNeeded, recordsNeeded, linksNeeded, workNeeded, labelsNeeded}
+use lib.Dec.{T, ltb}
+use borrow.Author.Tests.{ltb-false}
+use Rattle.dstree.specs.Measures.{Trace, Measures, sampleLimit, inRange, isLibrary, samplesNeeded, recordsNeeded, linksNeeded, workNeeded, labelsNeeded}
 use Rattle.dstree.specs.Labels.{Label, noLabel, areLabels}
-use Rattle.dstree.specs.Refusals.{Refusal, _refuses_, firstOf, measure, wrongTrace, full, badRecording}
+use Rattle.dstree.specs.Refusals.{Refusal, _refuses_, firstOf, measure, full, badRecording}
 use Rattle.dstree.specs.Recording.{judgeRecording, fileTraces, isBadFile}
-use Rattle.dstree.specs.Sheet.{areBytes, Judged, refused, holds, judgeSheet}
+use Rattle.dstree.specs.Sheet.{areBytes, Judged, refused, holds}
+use Rattle.dstree.specs.SheetWidths.{judgeSheet}
 use Rattle.dstree.specs.Book.{Ask, opening, adding, searching, writing, reading, importing, exporting, checking, labelling, Call, besideOf}
 use Rattle.dstree.specs.Book.{Reply, reply, shortConditions, readingConditions}
 use Rattle.dstree.proofs.Conditions.{none-first, none-both}
@@ -43,15 +43,16 @@ use Rattle.calls.specs.Effects.{opens, adds, cleared, writes, loadedBy, 
 use Rattle.calls.specs.Follows.{Typed, Follows}
 use Rattle.calls.specs.Demands.{OneCall}
 use Rattle.tables.proofs.Judged.{accepted}
+use Rattle.calls.proofs.Taken.{Taken, taken}
 use Rattle.calls.proofs.Library.{opened-beyond, few-labels, loaded-holds, loaded-lent, loaded-beyond, fill-behind}
 use Rattle.calls.proofs.Kept.{short-room}
 use Rattle.calls.proofs.Steps.{reply-is, memory-is}
 
 -- tables into which an import is not refused refuse nothing of its traces
-pub import-takes : (t : Tables) (bytes : List ℕ) → T (areBytes bytes) → T (areSamples (t .samples))
+pub import-takes : (t : Tables) (bytes : List ℕ) → T (areBytes bytes)
     → firstOf (imports t bytes .conditions) ≡ none → TakesAll t (fileTraces (judgeRecording (measuresOf t .n) bytes))
 unfolding imports
-import-takes t bytes are-bytes typed e =
+import-takes t bytes are-bytes e =
     let file = judgeRecording (measuresOf t .n) bytes in
     let one = none-first (isBadFile file) badRecording _ (none-both (madeConditions t) _ e .1) in
     let two = none-first (ltb (measuresOf t .capacity) (traceCount t + length (fileTraces file))) full _ (one .1) in
@@ -61,7 +62,7 @@ import-takes t bytes are-bytes typed e =
       formed = ok .formed;
       long = long;
       room = ltb-false (measuresOf t .capacity) (traceCount t + length (fileTraces file)) (two .0);
-      stored = stored-are t typed long (tree-formed t (ok .formed) .room);
+      stored = stored-are t long (tree-formed t (ok .formed) .room);
       each = file-traces (measuresOf t .n) bytes are-bytes;
     }
 
@@ -80,27 +81,25 @@ module _ (t : Tables) where
       let r = short-room (lentOf t) m [] (none-first (not (inRange m)) measure (shortConditions layout (lentOf t) m) e .1) in
       record { lengths-same = opened-lent t m r; room = r; beyond-same = opened-beyond t m r }
 
+  adding-taken : (x : Trace) (l : Label) → firstOf (adds t x l .conditions) ≡ none → Taken (measuresOf t) (traceCount t) x
+  unfolding adds
+  adding-taken x l e = taken (measuresOf t) (traceCount t) x (none-both (madeConditions t) _ e .1)
+
+  adding-room : (x : Trace) (l : Label) → firstOf (adds t x l .conditions) ≡ none → traceCount t < measuresOf t .capacity
+  unfolding adds
+  adding-room x l e = adding-taken x l e .less (tree-formed t (accepted t (none-both (madeConditions t) _ e .0) .formed) .room)
+
   -- what an adding that is not refused means, its label being put first
   pub adding-means : (x : Trace) (l : Label) → firstOf (adds t x l .conditions) ≡ none → AfterAdding (nextLabelled t (l ∷ [])) x
   unfolding adds
   adding-means x l e =
-      let own = none-both (madeConditions t) _ e .1 in
-      let one = none-first (not (eqb (length x) (measuresOf t .n))) wrongTrace _ own in
-      let two = none-first (eqb (traceCount t) (measuresOf t .capacity)) full _ (one .1) in
       let ok = accepted t (none-both (madeConditions t) _ e .0) in
-      let size = eqb-true (length x) (measuresOf t .n) (not-false _ (one .0)) in
-      let less = strict (tree-formed t (ok .formed) .room) (λ q. eqb-false (traceCount t) (measuresOf t .capacity) (two .0) q) in
-      meaning (nextLabelled t (l ∷ [])) x (labelled-formed t (labelsOver (t .labels) (traceCount t) (l ∷ [])) (ok .formed)) (long-of t (ok .room)) size less
+      meaning (nextLabelled t (l ∷ [])) x (labelled-formed t (labelsOver (t .labels) (traceCount t) (l ∷ [])) (ok .formed)) (long-of t (ok .room))
+      (adding-taken x l e .is-trace) (adding-room x l e)
 
   -- there is a place for its label
   pub adding-fits : (x : Trace) (l : Label) → firstOf (adds t x l .conditions) ≡ none → traceCount t + 1 ≤ measuresOf t .capacity
-  unfolding adds
-  adding-fits x l e =
-      let own = none-both (madeConditions t) _ e .1 in
-      let two = none-first (eqb (traceCount t) (measuresOf t .capacity)) full _ (none-first (not (eqb (length x) (measuresOf t .n))) wrongTrace _ own .1) in
-      let ok = accepted t (none-both (madeConditions t) _ e .0) in
-      let less = strict (tree-formed t (ok .formed) .room) (λ q. eqb-false (traceCount t) (measuresOf t .capacity) (two .0) q) in
-      omega (arith, less)
+  adding-fits x l e = omega (arith, adding-room x l e)
 
   -- some labels more, where there is room for as many traces
   next-untouched : (labels : List Label) → Room (lentOf t) (measuresOf t) → traceCount t + length labels ≤ measuresOf t .capacity
@@ -162,15 +161,15 @@ module _ (t : Tables) where
             (loaded-beyond t m r traces labels library few);
       }
 
-  importing-untouched : (bytes : List ℕ) → T (areBytes bytes) → T (areSamples (t .samples)) → firstOf (imports t bytes .conditions) ≡ none
+  importing-untouched : (bytes : List ℕ) → T (areBytes bytes) → firstOf (imports t bytes .conditions) ≡ none
       → let traces = fileTraces (judgeRecording (measuresOf t .n) bytes) in
       Untouched t (addedWith t traces (replicate (length traces) noLabel))
   unfolding imports
-  importing-untouched bytes are-bytes typed e =
+  importing-untouched bytes are-bytes e =
       let ok = accepted t (none-both (madeConditions t) _ e .0) in
       let traces = fileTraces (judgeRecording (measuresOf t .n) bytes) in
       let zeros : List Label = replicate (length traces) noLabel in
-      let takes = import-takes t bytes are-bytes typed e in
+      let takes = import-takes t bytes are-bytes e in
       let a = keeps-all (nextLabelled t zeros) traces (labelled-takes t (labelsOver (t .labels) (traceCount t) zeros) takes) in
       let u = next-untouched zeros (ok .room) (omega (arith, takes .room, length-replicate (length traces) noLabel)) in
       record {
@@ -182,7 +181,7 @@ module _ (t : Tables) where
             ∙ u .beyond-same);
       }
 
-  pub after-untouched : (ask : Ask) → Typed ask t → firstOf (effectOf ask t .conditions) ≡ none → Untouched t (effectOf ask t .after)
+  pub after-untouched : (ask : Ask) → Typed ask → firstOf (effectOf ask t .conditions) ≡ none → Untouched t (effectOf ask t .after)
   unfolding effectOf opens adds writes reads imports exports checks tellsLabel Typed
   after-untouched (opening m) typed e = opening-untouched m e
   after-untouched (adding x l) typed e = adding-untouched x l e
@@ -190,7 +189,7 @@ module _ (t : Tables) where
   after-untouched (writing sheet) typed e = read-untouched (none-both (madeConditions t) _ e .0)
   after-untouched (reading bytes) typed e = reading-by (judgeSheet bytes)
       (λ m traces labels j. (is-library bytes m traces labels typed j, are-labels bytes m traces labels typed j)) e
-  after-untouched (importing bytes) typed e = importing-untouched bytes (typed .0) (typed .1) e
+  after-untouched (importing bytes) typed e = importing-untouched bytes typed e
   after-untouched (exporting number rate buffer) typed e = read-untouched (none-both (madeConditions t) _ e .0)
   after-untouched checking typed e = read-untouched (none-both (madeConditions t) _ e .0)
   after-untouched (labelling number) typed e = read-untouched (none-both (madeConditions t) _ e .0)

@@ -89,13 +89,13 @@ places-here {c} {memory} {other} differ g =
     first-lent (c .lent) memory (subst (LentWithin (c .lent)) (same-lengths differ) within)
 
 -- the call there, as it is made here
-pub call-here : (c : Call) (memory : Tables) → lentOf (firstPlaces (c .lent) memory) ≡ c .lent → Typed (c .ask) (firstPlaces (c .lent) memory)
+pub call-here : (c : Call) (memory : Tables) → lentOf (firstPlaces (c .lent) memory) ≡ c .lent → Typed (c .ask)
     → let o = outcomeIn c memory in Follows c memory (reply (o .answer) (o .beside)) (o .after)
 call-here c memory places typed = record { has-places = places; typed = typed; follows = refl }
 
 -- which refusals by arguments are those of a memory's tables, for the calls that it has places for
 abbrev pub Judges : (Call → Option Refusal) → Tables → Type 0
-Judges judges memory = (c : Call) → lentOf (firstPlaces (c .lent) memory) ≡ c .lent → Typed (c .ask) (firstPlaces (c .lent) memory)
+Judges judges memory = (c : Call) → lentOf (firstPlaces (c .lent) memory) ≡ c .lent → Typed (c .ask)
     → judges c ≡ none → judgeIn memory c ≡ none
 
 -- a search that is not refused gives its closed form, on a memory that the check would accept and on one that differs from it off the trail

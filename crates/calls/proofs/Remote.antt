@@ -20,7 +20,7 @@ use Rattle.dstree.specs.Book.{matching, remoteMatching, Call, call, besideOf, m
 use Rattle.dstree.specs.Book.{AnySearch, matchSeen, searchOf}
 use Rattle.dstree.specs.Remote.{codesOf, isRemote}
 use Rattle.tables.specs.Tables.{Tables, withLabels, measuresOf, traceCount}
-use Rattle.tables.specs.View.{treeIn, tracesIn, labelsIn, kindsNamed, wellFormed}
+use Rattle.tables.specs.View.{treeIn, tracesIn, labelsIn, kindsNamed, wellFormed, samplesInside, isSpoiled}
 use Rattle.tables.specs.Beginning.{over, firstPlaces, left}
 use Rattle.tables.specs.Answers.{madeConditions}
 use Rattle.tables.proofs.Beginning.{tables-same, left-same, first-begins}
@@ -154,7 +154,7 @@ module _ (t : Tables) (labels : List ℕ) (same : map codeAt labels ≡ map code
   as-many = sym (length-map labels codeAt) ∙ (ap length same ∙ length-map (t .labels) codeAt)
 
   same-conditions : firstOf (searches (withLabels labels t) s .conditions) ≡ firstOf (searches t s .conditions)
-  unfolding madeConditions wellFormed kindsNamed treeIn
+  unfolding madeConditions isSpoiled samplesInside wellFormed kindsNamed treeIn tracesIn
   same-conditions = rw as-many refl
 
   same-codes : codesOf (labelsIn (withLabels labels t)) ≡ codesOf (labelsIn t)

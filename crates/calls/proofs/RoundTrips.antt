@@ -11,17 +11,17 @@ use borrow.Author.Tests.{le-ltb}
 use Rattle.dstree.specs.Measures.{Trace, Measures, measures, sampleLimit, isLibrary}
 use Rattle.dstree.specs.Labels.{Label, areLabels}
 use Rattle.dstree.specs.Refusals.{firstOf}
-use Rattle.dstree.specs.Sheet.{blockSize, blocksNeeded, sheetOf, Judged, refused, holds, judgeSheet}
+use Rattle.dstree.specs.Sheet.{blockSize, Judged, refused, holds}
+use Rattle.dstree.specs.SheetWidths.{blocksNeeded, sheetOf, judgeSheet}
 use Rattle.dstree.specs.Book.{Lent, writing, reading, call, besideOf, done, written, refusing, answering, Reply, Book, book, putRead}
 use Rattle.dstree.specs.Book.{reply, over, shortConditions, readingConditions, readingEntry, entryOf, start}
 use Rattle.dstree.proofs.Conditions.{first-none, none-both}
 use Rattle.dstree.proofs.RoundTrips.{read-back, written-again}
 use Rattle.tables.specs.Layout.{layout}
-use Rattle.tables.specs.Tables.{Tables, lentOf, measuresOf, traceCount}
+use Rattle.tables.specs.Tables.{Tables, lentOf, measuresOf}
 use Rattle.tables.specs.View.{tracesIn, labelsIn}
 use Rattle.tables.specs.Beginning.{firstPlaces}
 use Rattle.tables.specs.Answers.{madeConditions}
-use Rattle.tables.proofs.Views.{traces-size}
 use Rattle.calls.specs.Library.{Keeps}
 use Rattle.calls.specs.Effects.{writes, reads, effectOf}
 use Rattle.calls.specs.Follows.{Typed, Follows}
@@ -59,13 +59,11 @@ is-written lent memory fine sheet said memory′ f long =
     let m-same = measures-stored lent memory fine in
     let traces-same = traces-stored lent memory fine in
     let labels-same = labels-stored lent memory fine in
-    let counted : traceCount t ≡ length (tracesIn memory) = sym (traces-size t) ∙ ap length traces-same in
-    let blocks-same : blocksNeeded (traceCount t) (measuresOf t .n) (labelsIn t)
-    ≡ blocksNeeded (length (tracesIn memory)) (measuresOf memory .n) (labelsIn memory) =
-    λ i. blocksNeeded (counted i) (m-same i .n) (labels-same i) in
+    let blocks-same : blocksNeeded (measuresOf t) (tracesIn t) (labelsIn t) ≡ blocksNeeded (measuresOf memory) (tracesIn memory) (labelsIn memory) =
+    λ i. blocksNeeded (m-same i) (traces-same i) (labels-same i) in
     let bytes-same : sheetOf (measuresOf t) (tracesIn t) (labelsIn t) ≡ sheetOf (measuresOf memory) (tracesIn memory) (labelsIn memory) =
     λ i. sheetOf (m-same i) (traces-same i) (labels-same i) in
-    let enough : blockSize * blocksNeeded (traceCount t) (measuresOf t .n) (labelsIn t) ≤ length sheet =
+    let enough : blockSize * blocksNeeded (measuresOf t) (tracesIn t) (labelsIn t) ≤ length sheet =
     subst (λ (k : ℕ). blockSize * k ≤ length sheet) (sym blocks-same) long in
     let nothing : firstOf (writes t sheet .conditions) ≡ none = first-none (madeConditions t) _ fine ∙ rw (le-ltb _ _ enough) in
     one-call _ memory memory′ said f .works nothing .0

@@ -11,12 +11,12 @@ use lib.Dec.{T, eqb}
 use borrow.Author.Tests.{not-false, eqb-true, eqb-false}
 use Rattle.integer.specs.Words.{every}
 use Rattle.integer.proofs.Lists.{strict}
-use Rattle.dstree.specs.Measures.{Trace, Measures, sampleLimit}
+use Rattle.dstree.specs.Measures.{Trace, Measures, sampleLimit, areSamples}
 use Rattle.dstree.specs.Node.{Tree}
 use Rattle.dstree.specs.Matching.{Near, Match, Search, searched, matchFrom, matchBySteps, matchOf}
 use Rattle.dstree.specs.KNearest.{isK, SameIn, listed, kNearestBySteps}
 use Rattle.dstree.specs.Batch.{isBatch, queriesIn, nearOrZero, batchBySteps}
-use Rattle.dstree.specs.Refusals.{firstOf, wrongTrace, empty, badK, badBatch, numberOf}
+use Rattle.dstree.specs.Refusals.{firstOf, wrongTrace, sampleRange, empty, badK, badBatch, numberOf}
 use Rattle.dstree.specs.Claims.{ExactTree}
 use Rattle.dstree.specs.Book.{AnySearch, Sought, aMatch, aListing, aBatch, aRemote, queryConditions, matchSeen, matchFound, matchSearch, listFound, listSearch}
 use Rattle.dstree.specs.Book.{batchFound, batchSearch, remoteFound, remoteSearch, searchOf}
@@ -64,8 +64,9 @@ module _ (query : Trace) (trail : List ℕ) where
   unfolding matchBySteps
   seen-exact m traces tree exact e =
       let one = none-first (not (eqb (length query) (m .n))) wrongTrace _ e in
-      let two = none-first (eqb (length traces) 0) empty _ (one .1) in
-      let c = match-exact sampleLimit m traces tree exact query (some-of (length traces) (two .0))
+      let two = none-first (not (areSamples query)) sampleRange _ (one .1) in
+      let three = none-first (eqb (length traces) 0) empty _ (two .1) in
+      let c = match-exact sampleLimit m traces tree exact query (some-of (length traces) (three .0))
       (eqb-true (length query) (m .n) (not-false _ (one .0))) in
       let s = searched traces tree query in
       seen-is s (s .best) _ (c .steps-give-it)
@@ -122,9 +123,10 @@ batch-laws count run trail list = record {
   gives = λ m traces codes tree exact e.
       let one = none-first (not (isBatch count (length list))) badBatch _ e in
       let two = none-first (not (eqb (length run) (m .n * count))) wrongTrace _ (one .1) in
-      let three = none-first (eqb (length traces) 0) empty _ (two .1) in
+      let three = none-first (not (areSamples run)) sampleRange _ (two .1) in
+      let four = none-first (eqb (length traces) 0) empty _ (three .1) in
       ap (batchFound trail)
-      (batch-of-exact sampleLimit m traces tree exact (some-of (length traces) (three .0)) (queriesIn (m .n) count run)
+      (batch-of-exact sampleLimit m traces tree exact (some-of (length traces) (four .0)) (queriesIn (m .n) count run)
       (query-size (m .n) count run (eqb-true (length run) (m .n * count) (not-false _ (two .0)))) .steps-give-it);
   unmoved = λ m stored others codes tree read found same.
       let queries = queriesIn (m .n) count run in

@@ -85,7 +85,7 @@ module _ (memory part : Tables) (lent : Lent) where
   abbrev noBook : Book
   noBook = book (measures 0 0 0) [] []
 
-  started-by : (ask : Ask) → Typed ask part → outcomeOn ask part .answer ≡ answering done
+  started-by : (ask : Ask) → Typed ask → outcomeOn ask part .answer ≡ answering done
       → Keeps (left (outcomeOn ask part .after) memory) (start layout (call lent ask))
   unfolding outcomeOn effectOf besideOf entryOf start openingEntry readingEntry adds writes imports exports checks tellsLabel Typed trailFound
   started-by (opening m) typed d = start-by memory part noBook [] (opening-agrees memory part noBook m) d

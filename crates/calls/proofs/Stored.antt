@@ -1,17 +1,16 @@
 -- What a memory stores, whoever made its tree. Tables lent of it that no call refuses for what they hold have its measures, its traces and
--- its labels, and where samples are 16-bit numbers, these are a library's: nothing of that is read from a node.
+-- its labels, and these are a library's: nothing of that is read from a node. No sample stored is outside the limits, whatever the words in
+-- the table are.
 use Prim.Native.Nat.{ℕ, _≤_}
 use mathlib.Core.Path.{_≡_, refl, sym, ap, subst, _∙_}
 use mathlib.Core.Option.{none}
 use mathlib.Core.List.{List, [], _∷_}
 use native.Mathlib.Omega.{arith}
 use lib.ListN.{length}
-use lib.Signed.{mag}
-use lib.Dec.{T, leb, ltb, le→leb}
+use lib.Dec.{T, leb, le→leb}
 use Rattle.integer.specs.Words.{every}
 use Rattle.integer.proofs.Tests.{passes}
-use Rattle.integer.proofs.Lists.{every-take}
-use Rattle.dstree.specs.Measures.{Trace, Measures, sampleLimit, inRange, areSamples, isTrace, isLibrary, labelsNeeded}
+use Rattle.dstree.specs.Measures.{Trace, Measures, sampleLimit, inRange, isTrace, isLibrary, labelsNeeded}
 use Rattle.dstree.specs.Labels.{Label, areLabels}
 use Rattle.dstree.specs.Refusals.{firstOf}
 use Rattle.dstree.specs.Book.{Lent, Book}
@@ -21,7 +20,7 @@ use Rattle.tables.specs.Beginning.{firstPlaces}
 use Rattle.tables.specs.Answers.{madeConditions}
 use Rattle.tables.specs.Holds.{Long}
 use Rattle.tables.proofs.Views.{traces-size, tree-formed}
-use Rattle.tables.proofs.Samples.{stored-are}
+use Rattle.tables.proofs.Samples.{no-sample-outside, spoiled-is, stored-are, words-are-samples}
 use Rattle.tables.proofs.Judged.{Accepted, accepted}
 use Rattle.tables.proofs.Beginning.{first-begins}
 use Rattle.tables.proofs.Labels.{stored-labels, labels-begin}
@@ -29,21 +28,32 @@ use Rattle.insertion_memory.proofs.FromTables.{long-of}
 use Rattle.insertion_memory.proofs.Beginnings.{Agree, begins-agree, measures-same, traces-counted, traces-same}
 use Rattle.calls.specs.Library.{Keeps}
 use Rattle.calls.specs.Trusted.{bookIn, Trusts}
+use Rattle.calls.specs.Demands.{SamplesInside}
 use Rattle.calls.proofs.Kept.{kept-holds, kept-labels}
+
+-- ---- any tables
+
+-- "A stored sample outside the limits makes the tables spoiled": a rule that refuses none
+pub samples-inside : (t : Tables) → SamplesInside t
+samples-inside t = record {
+  traces-inside = no-sample-outside t;
+  words-inside = words-are-samples (t .samples);
+  by-others = spoiled-is t;
+}
 
 -- ---- tables that no call refuses for what they hold
 
--- their measures and traces are a library's, if their samples are 16-bit numbers
-pub stored-library : (t : Tables) → Accepted t → T (areSamples (t .samples)) → T (isLibrary sampleLimit (measuresOf t) (tracesIn t))
+-- their measures and traces are a library's
+pub stored-library : (t : Tables) → Accepted t → T (isLibrary sampleLimit (measuresOf t) (tracesIn t))
 unfolding isLibrary
-stored-library t ok typed =
+stored-library t ok =
     let f = tree-formed t (ok .formed) in
     let m : Measures = measuresOf t in
     passes (inRange m) (leb (length (tracesIn t)) (m .capacity) ∷ every (isTrace sampleLimit (m .n)) (tracesIn t) ∷ []) (
       f .measured,
       (
         le→leb (length (tracesIn t)) (m .capacity) (omega (arith, traces-size t, f .room)),
-        stored-are t typed (long-of t (ok .room)) (f .room),
+        stored-are t (long-of t (ok .room)) (f .room),
       ),
     )
 
@@ -84,11 +94,11 @@ module _ (lent : Lent) (memory : Tables) (fine : Fine lent memory) where
       subst (λ (k : ℕ). T (areLabels k (labelsIn memory))) (sym (traces-size part) ∙ ap length traces-stored)
       (subst (λ (l : List Label). T (areLabels (traceCount part) l)) labels-stored (stored-labels part places-stored))
 
-  memory-library : T (areSamples (part .samples)) → T (isLibrary sampleLimit (measuresOf memory) (tracesIn memory))
-  memory-library typed =
+  memory-library : T (isLibrary sampleLimit (measuresOf memory) (tracesIn memory))
+  memory-library =
       subst (λ (m : Measures). T (isLibrary sampleLimit m (tracesIn memory))) measures-stored
       (subst (λ (l : List Trace). T (isLibrary sampleLimit (measuresOf part) l)) traces-stored
-      (stored-library part (accepted part fine) typed))
+      (stored-library part (accepted part fine)))
 
 -- ---- a memory with a book's measures, traces and labels
 
@@ -130,18 +140,11 @@ trusted-stores k = record {
   library = λ lent fine. k .library;
 }
 
--- .. with what it has, one of which tables are lent that are not refused for what they hold, if their samples are 16-bit numbers ..
-pub lent-stores : (lent : Lent) (memory : Tables) → Fine lent memory → T (areSamples (firstPlaces lent memory .samples))
-    → Stores memory (bookIn memory)
-lent-stores lent memory fine typed =
-    record { measures-are = refl; traces-are = refl; labels-are = refl; library = λ others also. memory-library lent memory fine typed }
-
--- .. and any whose samples all are
-pub typed-stores : (memory : Tables) → T (areSamples (memory .samples)) → Stores memory (bookIn memory)
-typed-stores memory typed = record {
+-- .. and any, with what it has
+pub any-stores : (memory : Tables) → Stores memory (bookIn memory)
+any-stores memory = record {
   measures-are = refl;
   traces-are = refl;
   labels-are = refl;
-  library = λ lent fine.
-      memory-library lent memory fine (every-take (λ sample. ltb (mag sample) sampleLimit) (lent .samples) (memory .samples) typed);
+  library = λ lent fine. memory-library lent memory fine;
 }

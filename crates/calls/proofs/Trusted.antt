@@ -12,7 +12,7 @@ use borrow.Author.Tests.{not-false}
 use Rattle.integer.specs.Words.{every}
 use Rattle.integer.proofs.Tests.{passed, is-true, test-true}
 use Rattle.integer.proofs.Lists.{in-getD, from-every}
-use Rattle.dstree.specs.Measures.{Trace, Measures, sampleLimit, inRange, areSamples, isTrace, isLibrary, labelsNeeded}
+use Rattle.dstree.specs.Measures.{Trace, Measures, sampleLimit, inRange, isTrace, isLibrary, labelsNeeded}
 use Rattle.dstree.specs.Claims.{ExactTree}
 use Rattle.dstree.specs.Checking.{isExact}
 use Rattle.dstree.specs.WellFormed as abstract
@@ -155,14 +155,14 @@ module _ {memory : Tables} {b : Book} (k : Trusts memory b) {part : Tables} (beg
 -- ---- which memories these are
 
 -- those on which a check has just accepted
-pub checked-trusts : (t : Tables) → T (areSamples (t .samples)) → firstOf (checks t .conditions) ≡ none → Trusts t (bookIn t)
+pub checked-trusts : (t : Tables) → firstOf (checks t .conditions) ≡ none → Trusts t (bookIn t)
 unfolding checks
-checked-trusts t typed e =
+checked-trusts t e =
     let parts = none-both (madeConditions t) _ e in
     let ok = accepted t (parts .0) in
     let one = none-first (not (isExact (tracesIn t) (treeIn t))) looseRecord [] (parts .1) in
     record {
-      library = stored-library t ok typed;
+      library = stored-library t ok;
       room = ok .room;
       formed = ok .formed;
       measures-are = refl;

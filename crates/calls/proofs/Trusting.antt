@@ -10,17 +10,17 @@ use mathlib.Core.Logic.{_⊎_, inl, inr}
 use mathlib.Core.List.{List, [], _∷_, _++_, append-assoc, append-nil}
 use native.Mathlib.Omega.{arith}
 use lib.ListN.{length, replicate, length-append}
-use lib.Dec.{T, ltb, eqb}
-use borrow.Author.Tests.{not-false, eqb-false, ltb-false}
+use lib.Dec.{T, ltb}
+use borrow.Author.Tests.{ltb-false}
 use Rattle.integer.specs.Words.{if_then_else_, every}
 use Rattle.integer.specs.Lists.{In, first, later}
-use Rattle.integer.proofs.Tests.{passes, is-true, test-true}
-use Rattle.integer.proofs.Lists.{All, all-none, all-more, in-nil, in-cons, from-every, every-of, strict}
-use Rattle.dstree.specs.Measures.{Trace, Measures, sampleLimit, areSamples, isTrace, isLibrary, workNeeded, labelsNeeded}
+use Rattle.integer.proofs.Tests.{passes, test-true}
+use Rattle.integer.proofs.Lists.{All, all-none, all-more, in-nil, in-cons, from-every, every-of}
+use Rattle.dstree.specs.Measures.{Trace, Measures, sampleLimit, isTrace, isLibrary, workNeeded, labelsNeeded}
 use Rattle.dstree.specs.Labels.{Label, noLabel, isLabel}
 use Rattle.dstree.specs.Node.{Tree}
 use Rattle.dstree.specs.Adding.{insertion, grown}
-use Rattle.dstree.specs.Refusals.{Refusal, Condition, _refuses_, firstOf, wrongTrace, full, badRecording, looseRecord, numberOf}
+use Rattle.dstree.specs.Refusals.{Refusal, Condition, _refuses_, firstOf, full, badRecording, looseRecord, numberOf}
 use Rattle.dstree.specs.Claims.{RangesOf}
 use Rattle.dstree.specs.Checking.{isExact}
 use Rattle.dstree.specs.WellFormed as abstract
@@ -32,7 +32,6 @@ use Rattle.dstree.specs.Book.{importConditions, openingEntry, addingEntry, writ
 use Rattle.dstree.specs.Book.{checkingEntry, labellingEntry, entryOf, judge}
 use Rattle.dstree.specs.Book.{putUnless, turn, after}
 use Rattle.dstree.proofs.Conditions.{none-first, none-both, first-some, first-none}
-use Rattle.dstree.proofs.Limits.{trace-length}
 use Rattle.dstree.specs.Remote.{codesOf}
 use Rattle.dstree.proofs.Recordings.{file-traces}
 use Rattle.dstree.proofs.SheetLabels.{LabelFits, fits-of, Labels, labels-of}
@@ -58,7 +57,8 @@ use Rattle.calls.specs.Effects.{opens, adds, cleared, writes, reads, imp
 use Rattle.calls.specs.Demands.{trailFound}
 use Rattle.calls.specs.Follows.{Typed, Follows, Ran, no-call, a-call}
 use Rattle.calls.proofs.Kept.{kept-holds}
-use Rattle.calls.proofs.Stored.{Fine, Stores, lent-stores}
+use Rattle.calls.proofs.Taken.{taken}
+use Rattle.calls.proofs.Stored.{Fine}
 use Rattle.calls.proofs.Trusted.{long-in, count-in, each-is, whole-trusts, whole-tree, part-trusts, part-tree, fine-room}
 use Rattle.calls.proofs.Trusted.{trusted-same, accepted-same, checked-trusts, kept-trusts}
 use Rattle.calls.proofs.Agrees.{Agrees, opening-agrees, reading-agrees, library-grows, zero-labels}
@@ -108,14 +108,11 @@ module _ {t : Tables} {b : Book} (k : Trusts t b) (x : Trace) (l : Label) (is-tr
   is-there : T (isTrace sampleLimit (measuresOf s .n) x)
   is-there = subst (λ (m : Measures). T (isTrace sampleLimit (m .n) x)) (sym (k .measures-are)) is-trace
 
-  size : length x ≡ measuresOf s .n
-  size = trace-length sampleLimit (measuresOf s .n) x is-there
-
   room-there : traceCount s < measuresOf s .capacity
   room-there = omega (arith, less, count-in k, ap (λ (m : Measures). m .capacity) (k .measures-are))
 
   means : AfterAdding s x
-  means = meaning s x formed-there (long-in k) size room-there
+  means = meaning s x formed-there (long-in k) is-there room-there
 
   exact-there : T (isExact (tracesIn s) (treeIn s))
   exact-there = rw (labelled-traces t places, labelled-tree t places) (k .exact)
@@ -129,7 +126,7 @@ module _ {t : Tables} {b : Book} (k : Trusts t b) (x : Trace) (l : Label) (is-tr
     library = library-grows m₀ (b .traces) (x ∷ []) (k .library) (passes (isTrace sampleLimit (m₀ .n) x) (true ∷ []) (is-trace, tt))
         (omega (arith, less));
     room = subst (λ (lengths : Lent). Room lengths m₀) (sym (means .lengths-stay ∙ next-lent t (l ∷ []) label-fits)) (k .room);
-    formed = keeps-well-formed s x formed-there (long-in k) size room-there each-there is-there;
+    formed = keeps-well-formed s x formed-there (long-in k) is-there room-there each-there;
     measures-are = means .measures-stay ∙ k .measures-are;
     traces-are = means .traces ∙ ap (λ (l : List Trace). l ++ (x ∷ [])) traces-there;
     labels-are = next-stored t (l ∷ []) label-fits grew (means .trace-count ∙ omega arith) (means .labels-stay) (all-more {a = l} fits all-none)
@@ -272,10 +269,10 @@ module _ (memory part : Tables) (begins : Begins part memory) (b : Book) (k : Tr
   abbrev m : Measures
   m = b .measures
 
-  adding-leads : (x : Trace) (l : Label) → T (areSamples x) → T (isLabel l)
+  adding-leads : (x : Trace) (l : Label) → T (isLabel l)
       → Leads memory b (adds part x l) (addingEntry layout (lentOf part) b x l) (insertion m (b .traces) (treeIn memory) x)
-  unfolding adds addingEntry isLibrary isTrace every ofArguments numberOf
-  adding-leads x l samples is-label = record {
+  unfolding adds addingEntry isLibrary every ofArguments numberOf
+  adding-leads x l is-label = record {
     puts-same = ap (λ (o : Option Refusal). putUnless o b (addingEntry layout (lentOf part) b x l)) (sym judged);
     tree-same = ap (λ (o : Option Refusal). treeUnless o (treeIn memory) (insertion m (b .traces) (treeIn memory) x)) (sym judged);
     trusts = λ f. left-trusts (added f);
@@ -298,14 +295,9 @@ module _ (memory part : Tables) (begins : Begins part memory) (b : Book) (k : Tr
       added : firstOf (adds part x l .conditions) ≡ none → Grew (treeIn memory)
       added f =
           let t = lent-trusts _ f in
-          let own = none-both (shortConditions layout (lentOf part) m) rest (sym judged ∙ f) .1 in
-          let one = none-first (not (eqb (length x) (m .n))) wrongTrace _ own in
-          let two = none-first (eqb (length (b .traces)) (m .capacity)) full _ (one .1) in
-          let most = library-of sampleLimit m (b .traces) (k .library) .room in
+          let own = taken m (length (b .traces)) x (none-both (shortConditions layout (lentOf part) m) rest (sym judged ∙ f) .1) in
           subst Grew (t .tree-is)
-          (add-trusts (t .trusts) x l (passes (eqb (length x) (m .n)) (areSamples x ∷ []) (is-true {b = eqb (length x) (m .n)} (not-false _ (one .0)), samples))
-          (fits-of l is-label)
-          (strict most (λ q. eqb-false (length (b .traces)) (m .capacity) (two .0) q)))
+          (add-trusts (t .trusts) x l (own .is-trace) (fits-of l is-label) (own .less (library-of sampleLimit m (b .traces) (k .library) .room)))
 
   importing-leads : (bytes : List ℕ) → T (areBytes bytes)
       → Leads memory b (imports part bytes) (importingEntry layout (lentOf part) b bytes)
@@ -348,16 +340,16 @@ module _ (memory part : Tables) (begins : Begins part memory) (b : Book) (k : Tr
           (all-trust (fileTraces file) (replicate (length (fileTraces file)) noLabel) (t .trusts) (file-traces (m .n) bytes typed)
           (ltb-false (m .capacity) (length (b .traces) + length (fileTraces file)) (two .0)) (zeros .each-one) (zeros .all-fit)))
 
-  leads : (ask : Ask) → Typed ask part
+  leads : (ask : Ask) → Typed ask
       → Leads memory b (effectOf ask part) (entryOf layout (lentOf part) b ask) (treePut b (treeIn memory) ask)
   unfolding effectOf entryOf Typed writes exports checks tellsLabel openingEntry readingEntry writingEntry exportingEntry checkingEntry labellingEntry
       every ofArguments numberOf treePut grown
   leads (opening x) typed = of-agrees (opening-agrees memory part b x) (entry-other layout (lentOf part) b (opening x))
-  leads (adding x l) typed = adding-leads x l (typed .0) (typed .1)
+  leads (adding x l) typed = adding-leads x l typed
   leads (searching q) typed = search-leads _ _ _ refl refl refl (laws q .by-arguments (measuresOf part) (traceCount part) (treeIn part))
   leads (writing sheet) typed = staying _ _ refl refl (by-own _ tt)
   leads (reading bytes) typed = of-agrees (reading-agrees memory part b bytes typed) (entry-other layout (lentOf part) b (reading bytes))
-  leads (importing bytes) typed = importing-leads bytes (typed .0)
+  leads (importing bytes) typed = importing-leads bytes typed
   leads (exporting number rate buffer) typed = staying _ _ refl refl (by-own _ tt)
   leads checking typed = staying _ _ refl refl
       (subst (λ (o : Option Refusal). T (ifAny ofArguments o)) (sym (accepted-same k begins))
@@ -452,8 +444,7 @@ module _ {lent : Lent} {memory memory′ : Tables} {said : Reply} (f : Follows (
       (sym (ap (λ (r : Reply). r .answer) (reply-is f)) ∙ a) .0
 
   pub part-checked : said .answer ≡ answering accepted → Trusts lentPart (bookIn lentPart)
-  unfolding Typed
-  part-checked a = checked-trusts lentPart (f .typed) (check-fine a)
+  part-checked a = checked-trusts lentPart (check-fine a)
 
   -- the memory is accepted with what it holds
   whole-checked : said .answer ≡ answering accepted → Trusts memory (bookIn memory)
@@ -519,13 +510,9 @@ module _ {lent : Lent} {memory memory′ : Tables} {said : Reply} (f : Follows (
             let z : _≡_ {A = ℕ} 0 1 = cc (loose-last .1, e) in omega arith,
       )
 
-  -- so no other call refuses them for what they hold, and the memory stores what it has
+  -- so no other call refuses them for what they hold
   pub loose-fine : Fine lent memory
   loose-fine = loose-last .0
-
-  pub loose-stores : Stores memory (bookIn memory)
-  unfolding Typed
-  loose-stores = lent-stores lent memory loose-fine (f .typed)
 
 -- ---- a memory on which a check has just accepted
 

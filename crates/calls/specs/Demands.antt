@@ -13,6 +13,7 @@ use Rattle.integer.specs.Words.{every, isIn, counting}
 use Rattle.integer.specs.Lists.{In, Up}
 use Rattle.integer.specs.Sorting.{Ordered}
 use Rattle.segment.specs.Figures.{distance}
+use Rattle.segment.specs.Stored.{samplesOf}
 use Rattle.dstree.specs.Measures.{Trace, Measures, sampleLimit, areSamples}
 use Rattle.dstree.specs.Labels.{Label, noLabel, labelAt}
 use Rattle.dstree.specs.Node.{Tree}
@@ -22,7 +23,8 @@ use Rattle.dstree.specs.KNearest.{isK, ranking, listPlaces, KNearest, kNearestB
 use Rattle.dstree.specs.KNearest.{KNearestClaims, OneIsMatch}
 use Rattle.dstree.specs.Batch.{queriesIn, Batch, answerIn, batchOf, batchBySteps, StepsClaims, BatchClaims, OneClaims}
 use Rattle.dstree.specs.Refusals.{Refusal, spoiled, empty, looseRecord, firstOf}
-use Rattle.dstree.specs.Sheet.{blockSize, blocksNeeded, sheetOf}
+use Rattle.dstree.specs.Sheet.{blockSize}
+use Rattle.dstree.specs.SheetWidths.{blocksNeeded, sheetOf}
 use Rattle.dstree.specs.Recording.{Recording, recording, judgeRecording}
 use Rattle.dstree.specs.Book.{Lent, adding, matching, writing, reading, listing, importing, exporting, checking, batching, labelling}
 use Rattle.dstree.specs.Book.{Call, call, besideOf}
@@ -32,7 +34,7 @@ use Rattle.dstree.specs.Book.{repliesOf, start}
 use Rattle.dstree.specs.Claims.{Below, numbersAmong, LeavesOutOnlyAbove, RangesOf, ExactTree}
 use Rattle.tables.specs.Layout.{layout}
 use Rattle.tables.specs.Tables.{Tables, labelledTables, lentOf, measuresOf, traceCount}
-use Rattle.tables.specs.View.{traceIn, treeIn, tracesIn, labelsIn, wellFormed}
+use Rattle.tables.specs.View.{traceIn, treeIn, tracesIn, labelsIn, wellFormed, samplesInside, isSpoiled}
 use Rattle.tables.specs.Beginning.{firstPlaces, left}
 use Rattle.tables.specs.Answers.{madeConditions}
 use Rattle.tables.specs.Holds.{Holds}
@@ -63,6 +65,16 @@ pub record OneCall (c : Call) (memory : Tables) (said : Reply) (memory′ : Tabl
   pub untouched : (r : Result) → said .answer ≡ answering r
       → (lentOf memory′ ≡ lentOf memory) × (beyond (measuresOf memory′) memory′ ≡ beyond (measuresOf memory′) memory)
 
+-- ---- "A stored sample outside the limits makes the tables spoiled" (document 02, §9)
+
+-- no tables have one, whoever wrote them
+pub record SamplesInside (t : Tables) : Type 0 where
+  pub traces-inside : T (samplesInside t)
+  -- every word of the samples table stands for a sample within the limits, those behind the stored traces too
+  pub words-inside : T (areSamples (samplesOf (t .samples)))
+  -- so the other rules alone say whether tables are spoiled
+  pub by-others : isSpoiled t ≡ not (wellFormed t)
+
 -- ---- "Samples in leaves off the trail don't bear on a search"
 
 -- tables that differ "only in samples of traces outside" some leaves: what is not a sample is the same, and so are the samples of the
@@ -77,16 +89,17 @@ pub record DifferOutside (set : List ℕ) (these other : Tables) : Type 0 where
   pub samples-same : (trace : ℕ) → T (isIn trace (numbersAmong (treeIn these) set))
       → traceIn (other .samples) (measuresOf these .n) trace ≡ traceIn (these .samples) (measuresOf these .n) trace
 
-abbrev pub withSample : Tables → ℕ → ℤ → Tables
-withSample t place sample =
-    labelledTables (t .control) (set (t .samples) place sample) (t .nodes) (t .links) (t .work) (t .labels)
+-- with another word at a place of the samples table
+abbrev pub withWord : Tables → ℕ → ℤ → Tables
+withWord t place word =
+    labelledTables (t .control) (set (t .samples) place word) (t .nodes) (t .links) (t .work) (t .labels)
 
--- there are such tables: every sample of every trace outside these leaves may be any number, one after another
+-- there are such tables: every sample of every trace outside these leaves may be any, one after another
 pub record MayDiffer (those : List ℕ) (these : Tables) : Type 0 where
   pub not-at-all : DifferOutside those these these
-  pub in-a-sample : (other : Tables) → DifferOutside those these other → (trace at : ℕ) (sample : ℤ) → at < measuresOf these .n
+  pub in-a-sample : (other : Tables) → DifferOutside those these other → (trace at : ℕ) (word : ℤ) → at < measuresOf these .n
       → T (not (isIn trace (numbersAmong (treeIn these) those)))
-      → DifferOutside those these (withSample other (trace * measuresOf these .n + at) sample)
+      → DifferOutside those these (withWord other (trace * measuresOf these .n + at) word)
 
 -- the leaves that a search has read, by its answer: a match's, that of the k nearest, a batch's, or the remote's. No other call answers
 -- with a trail
@@ -363,11 +376,13 @@ abbrev pub WrittenAndRead : Book → Tables → Type 0
 WrittenAndRead b memory =
     WrittenThenRead (λ (said : Reply) (memory′ : Tables). (said .answer ≡ answering done) × Keeps memory′ b) (b .measures) memory
 
--- document 02, §1: "an empty one is still 6", for a query of n samples and any k from 1 to 16, whatever trail and list are lent
+-- document 02, §1: "an empty one is still 6", for a query of n samples within the limits and any k from 1 to 16, whatever trail and list
+-- are lent
 abbrev pub EmptyIsSix : Book → Tables → Type 0
 EmptyIsSix b memory = (lent : Lent) (k : ℕ) (query : Trace) (trail list : List ℕ) (said : Reply) (memory′ : Tables)
     → Follows (call lent (listing k query trail list)) memory said memory′
-    → firstOf (shortConditions layout lent (b .measures)) ≡ none → isK k ≡ true → length query ≡ b .measures .n → b .traces ≡ []
+    → firstOf (shortConditions layout lent (b .measures)) ≡ none → isK k ≡ true → length query ≡ b .measures .n
+    → T (areSamples query) → b .traces ≡ []
     → said .answer ≡ refusing empty
 
 -- document 02, §2: an export "writes one stored trace so, at a rate the caller gives, .. and answers its bytes' number": what it wrote is
@@ -456,7 +471,7 @@ pub record OfStored (b : Book) (memory : Tables) : Type 0 where
 -- a writing that is lent so many places, and bytes enough, is not refused
 abbrev pub IsWritten : Lent → Tables → Type 0
 IsWritten lent memory = (sheet : List ℕ) (said : Reply) (memory′ : Tables) → Follows (call lent (writing sheet)) memory said memory′
-    → let blocks = blocksNeeded (length (tracesIn memory)) (measuresOf memory .n) (labelsIn memory) in
+    → let blocks = blocksNeeded (measuresOf memory) (tracesIn memory) (labelsIn memory) in
     let bytes = sheetOf (measuresOf memory) (tracesIn memory) (labelsIn memory) in
     blockSize * blocks ≤ length sheet → said ≡ reply (answering (written blocks bytes)) (over bytes sheet ∷ [])
 
@@ -528,9 +543,11 @@ pub record Demands : Type 0 where
   -- "Two libraries alike but for serials must give the remote equal answers and equal refusals", and there are such
   pub sees-no-serials : RemoteSeesNoSerials
   pub serials-may-differ : (these : Tables) → MayDifferInSerials these
-  -- of any memory, whatever it holds, with the measures, traces and labels that it has. (That samples are 16-bit numbers, the type of a
-  -- lent slice says; that they make a library, a writing or an export that is not refused has tested)
-  pub stored-anywhere : (memory : Tables) → T (areSamples (memory .samples)) → OfStored (bookIn memory) memory
+  -- document 02, §9: "A stored sample outside the limits makes the tables spoiled", and there is none
+  pub samples-inside : (memory : Tables) → SamplesInside memory
+  -- of any memory, whatever it holds, with the measures, traces and labels that it has. (That they make a library, a writing or an export
+  -- that is not refused has tested)
+  pub stored-anywhere : (memory : Tables) → OfStored (bookIn memory) memory
   -- "An opening or a sheet reading has just succeeded when it starts": the first call is one that answers `done`
   pub after-list : (first : Call) (calls : List Call) (memory₀ memory : Tables) (said₀ : Reply) (said : List Reply)
       → Ran memory₀ (first ∷ calls) (said₀ ∷ said) memory → said₀ .answer ≡ answering done

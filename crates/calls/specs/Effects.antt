@@ -10,7 +10,8 @@ use Rattle.dstree.specs.Matching.{leaves, Near}
 use Rattle.dstree.specs.Batch.{batchConditions}
 use Rattle.dstree.specs.Refusals.{Condition, _refuses_, looseRecord, runConditions}
 use Rattle.dstree.specs.Checking.{isExact}
-use Rattle.dstree.specs.Sheet.{blocksNeeded, sheetOf, Judged, refused, holds, judgeSheet}
+use Rattle.dstree.specs.Sheet.{Judged, refused, holds}
+use Rattle.dstree.specs.SheetWidths.{blocksNeeded, sheetOf, judgeSheet}
 use Rattle.dstree.specs.Recording.{recordingSize, recordingOf, judgeRecording, fileTraces}
 use Rattle.dstree.specs.Book.{Ask, opening, adding, searching, writing, reading, importing, exporting, checking, labelling, besideOf}
 use Rattle.dstree.specs.Book.{done, added, written, imported, exported, accepted, labelled, over}
@@ -31,7 +32,7 @@ pub use Rattle.calls.specs.Library.{loaded}
 unfoldable pub opens : Tables → Measures → Effect
 opens t m = record { conditions = openingConditions t m; result = done; after = opened t m; beside = [] }
 
--- ---- adding: "control record too short (2); its measures (3); other tables (2); the rest of 3; then 4", 5
+-- ---- adding: "control record too short (2); its measures (3); other tables (2); the rest of 3; then 4"; document 02, §9: 15 "after 4"; 5
 
 -- document 02, §8: the trace's label is "given when it is added, and zero from callers that give neither" code nor serial
 unfoldable pub adds : Tables → Trace → Label → Effect
@@ -65,7 +66,7 @@ searches t s =
 abbrev pub runConditionsIn : Tables → ℕ → Trace → List ℕ → List Condition
 runConditionsIn t size run trail = runConditions size (traceCount t) (length (leaves (treeIn t))) run trail
 
--- a match, of its query: 4, 6, 7
+-- a match, of its query: 4, 15, 6, 7
 abbrev pub queryConditionsIn : Tables → Trace → List ℕ → List Condition
 queryConditionsIn t query trail = queryConditions (measuresOf t) (traceCount t) (treeIn t) query trail
 
@@ -79,7 +80,7 @@ listConditionsIn t k query trail list = listConditions (measuresOf t) (traceCoun
 abbrev pub lists : Tables → ℕ → Trace → List ℕ → List ℕ → Effect
 lists t k query trail list = searches t (listSearch k query trail list)
 
--- a batch (document 02, §7), with a list of so many records: "14 bad batch .., after 3", then 4, 6, 7
+-- a batch (document 02, §7), with a list of so many records: "14 bad batch .., after 3", then 4, 15, 6, 7
 abbrev pub batchConditionsIn : Tables → ℕ → ℕ → Trace → List ℕ → List Condition
 batchConditionsIn t count places run trail =
     batchConditions (measuresOf t .n) (traceCount t) (length (leaves (treeIn t))) count places run trail
@@ -97,13 +98,13 @@ unfoldable pub writes : Tables → List ℕ → Effect
 writes t sheet =
     let bytes = sheetOf (measuresOf t) (tracesIn t) (labelsIn t) in
     record {
-      conditions = madeConditions t ++ writeConditions (measuresOf t) (traceCount t) (labelsIn t) sheet;
-      result = written (blocksNeeded (traceCount t) (measuresOf t .n) (labelsIn t)) bytes;
+      conditions = madeConditions t ++ writeConditions (measuresOf t) (tracesIn t) (labelsIn t) sheet;
+      result = written (blocksNeeded (measuresOf t) (tracesIn t) (labelsIn t)) bytes;
       after = t;
       beside = over bytes sheet ∷ [];
     }
 
--- ---- reading: "8; 9 over all blocks; 10; 2"
+-- ---- reading: "8; 9 over all blocks; 10; 2", and document 02, §9, 15 before 2
 
 -- "Reading opens the library and adds the traces in order", each with the label that its sheet has for it
 unfoldable pub loadedBy : Tables → Judged → Tables
@@ -132,12 +133,13 @@ imports t bytes =
       beside = [];
     }
 
--- "Export writes one stored trace so, at a rate the caller gives"
+-- "Export writes one stored trace so, at a rate the caller gives"; §9: it "refuses wider samples as 12"
 unfoldable pub exports : Tables → ℕ → ℕ → List ℕ → Effect
 exports t number rate buffer =
-    let bytes = recordingOf rate (getD (tracesIn t) number []) in
+    let x = getD (tracesIn t) number [] in
+    let bytes = recordingOf rate x in
     record {
-      conditions = madeConditions t ++ exportConditions (measuresOf t) (traceCount t) number rate buffer;
+      conditions = madeConditions t ++ exportConditions (measuresOf t) (traceCount t) x number rate buffer;
       result = exported (recordingSize (measuresOf t .n)) bytes;
       after = t;
       beside = over bytes buffer ∷ [];

@@ -3,7 +3,6 @@
 use mathlib.Core.Path.{_≡_}
 use mathlib.Core.List.{List, [], _∷_}
 use lib.Dec.{T}
-use Rattle.dstree.specs.Measures.{areSamples}
 use Rattle.dstree.specs.Labels.{isLabel}
 use Rattle.dstree.specs.Sheet.{areBytes}
 use Rattle.dstree.specs.Book.{Ask, opening, adding, searching, writing, reading, importing, exporting, checking, labelling}
@@ -13,19 +12,19 @@ use Rattle.tables.specs.Beginning.{firstPlaces, left}
 use Rattle.calls.specs.Outcome.{Outcome, outcome}
 use Rattle.calls.specs.Effects.{outcomeOn}
 
--- what types say of what a call brings and of the tables, as far as it bears. The samples of a trace that is added are 16-bit numbers, its
--- label is a code of 16 bits and a serial of 32. A sheet that is read is bytes, and so is a recording that is imported. The samples of
--- tables are 16-bit numbers: of those that an import adds to, and of those that are checked
-unfoldable pub Typed : Ask → Tables → Type 0
-Typed (opening m) t = Unit
-Typed (adding x l) t = T (areSamples x) × T (isLabel l)
-Typed (searching q) t = Unit
-Typed (writing sheet) t = Unit
-Typed (reading bytes) t = T (areBytes bytes)
-Typed (importing bytes) t = T (areBytes bytes) × T (areSamples (t .samples))
-Typed (exporting number rate buffer) t = Unit
-Typed checking t = T (areSamples (t .samples))
-Typed (labelling number) t = Unit
+-- what types say of what a call brings, as far as it bears. The label of a trace that is added is a code of 16 bits and a serial of 32. A
+-- sheet that is read is bytes, and so is a recording that is imported. Of samples nothing is asked: a call refuses those outside the limits
+-- (15), and the words of a samples table stand for samples, whatever they are
+unfoldable pub Typed : Ask → Type 0
+Typed (opening m) = Unit
+Typed (adding x l) = T (isLabel l)
+Typed (searching q) = Unit
+Typed (writing sheet) = Unit
+Typed (reading bytes) = T (areBytes bytes)
+Typed (importing bytes) = T (areBytes bytes)
+Typed (exporting number rate buffer) = Unit
+Typed checking = Unit
+Typed (labelling number) = Unit
 
 -- what a call answers, and what it leaves in the memory and in what it is lent beside the tables. Places behind those that it is lent stay
 abbrev pub outcomeIn : Call → Tables → Outcome
@@ -37,7 +36,7 @@ outcomeIn c memory =
 pub record Follows (c : Call) (memory : Tables) (said : Reply) (memory′ : Tables) : Type 0 where
   -- the memory has the places that are lent
   pub has-places : lentOf (firstPlaces (c .lent) memory) ≡ c .lent
-  pub typed : Typed (c .ask) (firstPlaces (c .lent) memory)
+  pub typed : Typed (c .ask)
   pub follows : outcome (said .answer) memory′ (said .beside) ≡ outcomeIn c memory
 
 -- ---- a list of calls, "in any order, with any arguments, any of them refused"; "Each call gets the tables as the last one left them", and

@@ -8,7 +8,7 @@ use Rattle.dstree.specs.Node.{Tree}
 use Rattle.dstree.specs.Adding.{grown}
 use Rattle.dstree.specs.Checking.{isExact}
 use Rattle.dstree.specs.Refusals.{Refusal}
-use Rattle.dstree.specs.Sheet.{judgeSheet}
+use Rattle.dstree.specs.SheetWidths.{judgeSheet}
 use Rattle.dstree.specs.Recording.{judgeRecording, fileTraces}
 use Rattle.dstree.specs.Book.{Ask, opening, adding, searching, writing, reading, importing, exporting, checking, labelling}
 use Rattle.dstree.specs.Book.{Call, Book, book, Layout, bookTree, putRead, judge, turn}

@@ -17,7 +17,7 @@ pub placed-follows : {ask : Ask} {before after memory memory′ : Tables} {c : C
     → Follows c memory (reply answer beside) memory′
 placed-follows {memory = memory} {c = c} d claim = record {
   has-places = subst (λ (t : Tables). lentOf t ≡ c .lent) (d .first-places) (d .so-many);
-  typed = rw (d .asks, ← d .first-places) (d .typed);
+  typed = rw (d .asks) (d .typed);
   follows = rw (d .leaves, d .asks, ← d .first-places)
       (ap (λ (o : Outcome). outcome (o .answer) (left (o .after) memory) (o .beside)) claim);
 }

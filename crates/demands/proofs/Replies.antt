@@ -19,7 +19,8 @@ use Rattle.dstree.specs.KNearest.{KNearest, listPlaces, kNearestBySteps}
 use Rattle.dstree.specs.Batch.{queriesIn, Batch, batchBySteps}
 use Rattle.dstree.specs.Refusals as word
 use Rattle.dstree.specs.Refusals.{firstOf}
-use Rattle.dstree.specs.Sheet.{blockSize, blocksNeeded, sheetOf}
+use Rattle.dstree.specs.Sheet.{blockSize}
+use Rattle.dstree.specs.SheetWidths.{blocksNeeded, sheetOf}
 use Rattle.dstree.specs.Remote.{codesOf}
 use Rattle.dstree.specs.Book.{Ask, opening, adding, searching, writing, reading, importing, exporting, checking, labelling, Call}
 use Rattle.dstree.specs.Book.{aMatch, aListing, aBatch, aRemote, matchSeen, matching, listing, batching, remoteMatching, besideOf, Answer, answering, imported}
@@ -37,7 +38,6 @@ use Rattle.tables.specs.declared.Refusal.the-variants as r
 use Rattle.tables.proofs.Views.{trace-at}
 use Rattle.tables.proofs.Parts.{trace-length}
 use Rattle.insertion_memory.specs.Memory.{addedTo, addedWith}
-use Rattle.insertion_memory.proofs.Made.{count-is}
 use Rattle.calls.specs.Outcome.{Outcome, outcome, unlessRefused}
 use Rattle.calls.specs.Effects.{opens, adds, matches, remotes, writes, reads, lists, imports, exports, checks, tellsLabel}
 use Rattle.calls.specs.Effects.{batches, batchConditionsIn, cleared, effectOf, outcomeOn}
@@ -118,6 +118,7 @@ caseOf word.badK = r.BadK
 caseOf word.badRecording = r.BadRecording
 caseOf word.looseRecord = r.LooseRecord
 caseOf word.badBatch = r.BadBatch
+caseOf word.sampleRange = r.SampleRange
 
 case-word : (why : word.Refusal) → wordOf (caseOf why) ≡ why
 unfolding wordOf
@@ -135,6 +136,7 @@ case-word word.badK = refl
 case-word word.badRecording = refl
 case-word word.looseRecord = refl
 case-word word.badBatch = refl
+case-word word.sampleRange = refl
 
 -- a result, and what is left beside the tables, with which code says an outcome
 record Said {R Beside : Type 0} (outcomeBy : R → Beside → Outcome) (o : Outcome) : Type 0 where
@@ -204,15 +206,13 @@ writing-said t sheet none = record {
 }
   where
     blocks : ℕ
-    blocks = blocksNeeded (traceCount t) (measuresOf t .n) (labelsIn t)
+    blocks = blocksNeeded (measuresOf t) (tracesIn t) (labelsIn t)
 
     bytes : List ℕ
     bytes = sheetOf (measuresOf t) (tracesIn t) (labelsIn t)
 
     size : length bytes ≡ blockSize * blocks
-    size =
-        sheet-length (measuresOf t) (tracesIn t) (labelsIn t)
-        ∙ ap (λ (k : ℕ). blockSize * blocksNeeded k (measuresOf t .n) (labelsIn t)) (sym (count-is t))
+    size = sheet-length (measuresOf t) (tracesIn t) (labelsIn t)
 
 listing-said : (t : Tables) (k : ℕ) (query : Trace) (trail list : List ℕ) (o : Option word.Refusal)
     → let e = unlessRefused o t (trail ∷ list ∷ []) (lists t k query trail list) in
@@ -371,7 +371,7 @@ module _ (c : Call) (memory : Tables) (places : lentOf (firstPlaces (c .lent) me
   abbrev t : Tables
   t = firstPlaces (c .lent) memory
 
-  in-place : {ask : Ask} {before : Tables} {answer : Answer} {after : Tables} {beside : List (List ℕ)} → c .ask ≡ ask → Typed ask before
+  in-place : {ask : Ask} {before : Tables} {answer : Answer} {after : Tables} {beside : List (List ℕ)} → c .ask ≡ ask → Typed ask
       → before ≡ t → CallMade ask before answer after beside c memory (reply answer beside) (left after memory)
   in-place asked typed before = record {
     placed = record { asks = asked; typed = typed; first-places = before; so-many = ap lentOf before ∙ places; leaves = refl };
@@ -383,7 +383,7 @@ module _ (c : Call) (memory : Tables) (places : lentOf (firstPlaces (c .lent) me
       {seen : (κs : Lfts n) → Dens κs ps → resT r κs .Denot → AtExit (endedOf n ps r) κs → Exchange}
       → ((said : Reply) (memory′ : Tables) → Made ps r Learnt seen c memory said memory′ → Did c memory said memory′)
       → (κs : Lfts n) (args : Dens κs ps) (exits : AtExit (endedOf n ps r) κs) (result : resT r κs .Denot) → Learnt κs args result exits
-      → c .ask ≡ seen κs args result exits .ask → Typed (seen κs args result exits .ask) t → seen κs args result exits .before ≡ t
+      → c .ask ≡ seen κs args result exits .ask → Typed (seen κs args result exits .ask) → seen κs args result exits .before ≡ t
       → Replied c memory
   reply-by {seen = seen} did κs args exits result claim asked typed before =
       let x = seen κs args result exits in
@@ -396,11 +396,11 @@ module _ (c : Call) (memory : Tables) (places : lentOf (firstPlaces (c .lent) me
           exits = exits;
           result = result;
           claim = claim;
-          made = in-place asked (subst (Typed (x .ask)) (sym before) typed) before;
+          made = in-place asked typed before;
         });
       }
 
-  by-ask : (ask : Ask) → c .ask ≡ ask → Typed ask t → Replied c memory
+  by-ask : (ask : Ask) → c .ask ≡ ask → Typed ask → Replied c memory
   unfolding outcomeOn effectOf besideOf
   by-ask (opening m) asked typed =
       let s = opening-said t m (firstOf (opens t m .conditions)) in
@@ -462,7 +462,7 @@ module _ (c : Call) (memory : Tables) (places : lentOf (firstPlaces (c .lent) me
             result = s .found;
             claim = s .is;
             made = in-place (asked ∙ ap (batching many run trail) (sym (nears-back list)))
-                (subst (λ (l : List Near). Typed (batching many run trail l) t) (sym (nears-back list)) typed) refl;
+                (subst (λ (l : List Near). Typed (batching many run trail l)) (sym (nears-back list)) typed) refl;
           };
           so-long = length-map list _;
           done = stored .done;
@@ -471,5 +471,5 @@ module _ (c : Call) (memory : Tables) (places : lentOf (firstPlaces (c .lent) me
       }
 
 pub replies : (c : Call) (memory : Tables) → lentOf (firstPlaces (c .lent) memory) ≡ c .lent
-    → Typed (c .ask) (firstPlaces (c .lent) memory) → Replied c memory
+    → Typed (c .ask) → Replied c memory
 replies c memory places typed = by-ask c memory places (c .ask) refl typed

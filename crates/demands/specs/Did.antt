@@ -106,8 +106,8 @@ module _ {Own Own′ : Type 0} (args : WithTables Own) (exits : WithTables Own�
 -- the first so many places of each
 pub record Placed (ask : Ask) (before after : Tables) (c : Call) (memory memory′ : Tables) : Type 0 where
   pub asks : c .ask ≡ ask
-  -- what the types of lent slices say of it
-  pub typed : Typed ask before
+  -- what the types of its arguments say of it
+  pub typed : Typed ask
   pub first-places : before ≡ firstPlaces (c .lent) memory
   pub so-many : lentOf before ≡ c .lent
   pub leaves : memory′ ≡ left after memory

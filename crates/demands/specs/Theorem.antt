@@ -115,7 +115,5 @@ pub record Theorem : Type 2 where
   -- demand 1: the reply and the memory after are those that the definition makes of the call and the memory before
   pub follows : (c : Call) (memory memory′ : Tables) (said : Reply) → Did c memory said memory′ → Follows c memory said memory′
   -- every call that its types allow has a reply and a memory after it, on every memory that has the places that it is lent
-  pub replies : (c : Call) (memory : Tables) → lentOf (firstPlaces (c .lent) memory) ≡ c .lent
-      → Typed (c .ask) (firstPlaces (c .lent) memory)
-      → Replied c memory
+  pub replies : (c : Call) (memory : Tables) → lentOf (firstPlaces (c .lent) memory) ≡ c .lent → Typed (c .ask) → Replied c memory
   pub demands : Demands

@@ -17,9 +17,10 @@ use candidate::parting::Look;
 use matching::Found;
 use opening::Opened;
 use segment::Sample;
-use segment::samples::apart;
+use segment::Word;
 use segment::within::Distance;
 use sheet::fields::put_bytes;
+use sheet::samples::magnitude;
 use sheet_reading::Read;
 use sheet_writing::Written;
 use tables::Refusal;
@@ -77,10 +78,11 @@ fn print_adding(step: AddingStep) {
 fn print_sample(x: Sample) {
     if x < 0 {
         io::write_all(1, b" -");
+        io::print_decimal(1, magnitude(x) + 1);
     } else {
         io::write_all(1, b" ");
+        io::print_decimal(1, magnitude(x));
     }
-    io::print_decimal(1, apart(x, 0) as u64);
 }
 
 fn print_query(samples: &[Sample]) {
@@ -175,7 +177,7 @@ fn print_distance(answer: Distance) {
 // contract; with tables of a million places in a contract of its own the prover would compute.
 fn in_largest_tables(n: u64, capacity: u64, leaf_size: u64) -> Opened {
     let mut control = [7u16; 5];
-    let mut samples: [Sample; 1048576] = [7; 1048576];
+    let mut samples: [Word; 1048576] = [7; 1048576];
     let mut nodes = [7i64; 712617];
     let mut links = [7u16; 4096];
     let mut work = [7u64; 8191];
@@ -234,7 +236,7 @@ fn part_end(length: usize, at: usize, size: usize) -> usize
 // Every n samples added as a trace, the last ones even if they are fewer.
 fn add_all(
     control: &mut [u16],
-    samples: &mut [Sample],
+    samples: &mut [Word],
     nodes: &mut [i64],
     links: &mut [u16],
     work: &[u64],
@@ -266,7 +268,7 @@ fn add_all(
 // Every n samples matched, in a line that begins with them.
 fn match_all(
     control: &[u16],
-    samples: &[Sample],
+    samples: &[Word],
     nodes: &[i64],
     links: &[u16],
     work: &mut [u64],
@@ -294,7 +296,7 @@ fn library(n: u16, leaf_size: u64, traces: &[Sample], queries: &[Sample])
     requires { ⌜ 0 < n ⌝ }
 {
     let mut control = [7u16; 5];
-    let mut samples: [Sample; 32] = [7; 32];
+    let mut samples: [Word; 32] = [7; 32];
     let mut nodes = [7i64; 1305];
     let mut links = [7u16; 8];
     let mut work = [7u64; 15];
@@ -344,6 +346,13 @@ fn run_libraries() {
     library(3, 2, &[0, 0, 0], &[1, 0, 0]);
     // "Leaf size 1, (1,2,1,2) and (2,1,2,1): one leaf of two"
     library(4, 1, &[1, 2, 1, 2, 2, 1, 2, 1], &[2, 1, 2, 1]);
+    // document 02, §9: "−524,288 to 524,287", and 15 for a sample outside these
+    library(
+        2,
+        2,
+        &[524287, 524287, 0, 524288, -524289, 0],
+        &[-524288, -524288, 524287, 524288],
+    );
 }
 
 // ---- a sheet: written, read back into other tables and searched there; then read damaged
@@ -353,7 +362,7 @@ fn write_to(sheet: &mut [u8], line: &[u8])
     ensures { λ _. ⌜ now (sheet .exit) ∷ [] ≡ outcomeOn (writing (now (sheet .entry))) (starredIn junk) .beside ⌝ }
 {
     let mut control = [7u16; 5];
-    let mut samples: [Sample; 8] = [7; 8];
+    let mut samples: [Word; 8] = [7; 8];
     let mut nodes = [7i64; 1305];
     let mut links = [7u16; 8];
     let mut work = [7u64; 15];
@@ -393,7 +402,7 @@ fn reading_line(number: usize) {
 // A sheet read, and the trace matched in the tables as that leaves them.
 fn read_one(
     control: &mut [u16],
-    samples: &mut [Sample],
+    samples: &mut [Word],
     nodes: &mut [i64],
     links: &mut [u16],
     work: &mut [u64],
@@ -412,7 +421,7 @@ fn read_one(
 // trace is found after each.
 fn read_all(
     control: &mut [u16],
-    samples: &mut [Sample],
+    samples: &mut [Word],
     nodes: &mut [i64],
     links: &mut [u16],
     work: &mut [u64],
@@ -442,7 +451,7 @@ fn read_all(
 
 fn read_back(sheets: &[u8]) {
     let mut control = [7u16; 5];
-    let mut samples: [Sample; 8] = [7; 8];
+    let mut samples: [Word; 8] = [7; 8];
     let mut nodes = [7i64; 1305];
     let mut links = [7u16; 8];
     let mut work = [7u64; 15];
@@ -492,8 +501,8 @@ fn run_walks() {
 
 // ---- distances with a limit: document 02, "Leave a hopeless trace early"
 
-// How far x is from y, in a line that begins with words and the limit.
-fn distance_of(words: &[u8], x: &[Sample], y: &[Sample], limit: u64)
+// How far the samples of x are from those of y, as they are stored, in a line that begins with words and the limit.
+fn distance_of(words: &[u8], x: &[Word], y: &[Word], limit: u64)
     requires { ⌜ (length (now x) ≡ length (now y)) × (length (now x) ≤ mostSamples) ⌝ }
 {
     item(words, limit);
@@ -503,8 +512,8 @@ fn distance_of(words: &[u8], x: &[Sample], y: &[Sample], limit: u64)
 
 fn run_distances() {
     let words = b"two samples, 2 apart, limit ";
-    let x: [Sample; 2] = [0, 0];
-    let y: [Sample; 2] = [2, 2];
+    let x: [Word; 2] = [0, 0];
+    let y: [Word; 2] = [8192, 8192];
     distance_of(words, &x, &y, 3);
     distance_of(words, &x, &y, 4);
     distance_of(words, &x, &y, 8);
@@ -513,8 +522,8 @@ fn run_distances() {
 // More samples than are taken at once.
 fn run_longer_distances() {
     let words = b"twenty samples, 1 apart, limit ";
-    let x: [Sample; 20] = [0; 20];
-    let y: [Sample; 20] = [1; 20];
+    let x: [Word; 20] = [0; 20];
+    let y: [Word; 20] = [4096; 20];
     distance_of(words, &x, &y, 15);
     distance_of(words, &x, &y, 16);
     distance_of(words, &x, &y, 20);

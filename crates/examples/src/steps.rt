@@ -3,6 +3,7 @@
 use adding::Added;
 use matching::Found;
 use segment::Sample;
+use segment::Word;
 ghost use mathlib.Core.Path.{_≡_};
 ghost use mathlib.Core.List.{[], _∷_};
 ghost use Rattle.dstree.specs.Labels.{noLabel};
@@ -29,7 +30,7 @@ pub struct MatchStep {
 
 pub fn add_to(
     control: &mut [u16],
-    samples: &mut [Sample],
+    samples: &mut [Word],
     nodes: &mut [i64],
     links: &mut [u16],
     work: &[u64],
@@ -54,7 +55,7 @@ pub fn add_to(
 // The trail holds junk, and has places behind its leaves.
 pub fn match_of(
     control: &[u16],
-    samples: &[Sample],
+    samples: &[Word],
     nodes: &[i64],
     links: &[u16],
     work: &mut [u64],
@@ -86,7 +87,7 @@ pub fn match_of(
 // The library of the starred example of a sheet: "n = 1, capacity 8, leaf size 2, trace (−1): checks 2,130 and 2,812".
 pub fn put_starred(
     control: &mut [u16],
-    samples: &mut [Sample],
+    samples: &mut [Word],
     nodes: &mut [i64],
     links: &mut [u16],
     work: &mut [u64],

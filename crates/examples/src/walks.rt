@@ -5,7 +5,7 @@ use candidate::parting::look_along;
 use candidate::siding::Trial;
 use leaf_figures::lists::list_leaf;
 use leaf_figures::lists::place_list;
-use segment::Sample;
+use segment::Word;
 ghost use mathlib.Core.Path.{_≡_};
 ghost use mathlib.Core.Bool.{false};
 ghost use mathlib.Core.List.{[], _∷_};
@@ -17,7 +17,7 @@ ghost use Rattle.examples.specs.Steps.{nineTraces, twinTraces};
 
 // The whole run of n samples, by its sum or by its scatter. No figures are kept: they are taken from the samples.
 pub fn walk_of(
-    samples: &[Sample],
+    samples: &[Word],
     links: &[u16],
     n: usize,
     k: usize,
@@ -58,16 +58,32 @@ pub fn walk_of(
     )
 }
 
-// 0, 1 and 9 in one leaf, n = 1.
+// 0, 1 and 9 in one leaf, n = 1. A word is 4,096 times its sample.
 pub fn nine(by_scatter: bool, threshold: i64) -> Look
     ensures { λ r. ⌜ r ≡ lookOf nineTraces (testBy 1 1 «by_scatter» threshold) (0 ∷ 1 ∷ 2 ∷ []) ⌝ }
 {
-    walk_of(&[0, 1, 9], &[1u16, 2, 0], 1, 3, 0, by_scatter, threshold)
+    walk_of(
+        &[0, 4096, 36864],
+        &[1u16, 2, 0],
+        1,
+        3,
+        0,
+        by_scatter,
+        threshold,
+    )
 }
 
 // "(1,2,1,2) and (2,1,2,1): one leaf of two", by sum, T = 12.
 pub fn twins() -> Look
     ensures { λ r. ⌜ r ≡ lookOf twinTraces (testBy 1 4 false (pos 12)) (0 ∷ 1 ∷ []) ⌝ }
 {
-    walk_of(&[1, 2, 1, 2, 2, 1, 2, 1], &[1u16, 0], 4, 2, 0, false, 12)
+    walk_of(
+        &[4096, 8192, 4096, 8192, 8192, 4096, 8192, 4096],
+        &[1u16, 0],
+        4,
+        2,
+        0,
+        false,
+        12,
+    )
 }

@@ -1,6 +1,6 @@
 // What the bench's call refuses: what every call on made tables does, then the number of no stored trace (12).
 
-use segment::Sample;
+use segment::Word;
 use tables::Refusal;
 use tables::Verdict;
 use tables::control::field;
@@ -15,7 +15,7 @@ ghost use Rattle.calls.specs.Effects.{tellsLabel};
 
 pub fn judge(
     control: &[u16],
-    samples: &[Sample],
+    samples: &[Word],
     nodes: &[i64],
     links: &[u16],
     work: &[u64],

@@ -2,7 +2,7 @@
 
 pub mod judging; // what the call refuses
 
-use segment::Sample;
+use segment::Word;
 use tables::Refusal;
 use tables::Verdict;
 use tables::label_table::code_in;
@@ -28,7 +28,7 @@ pub enum Labelled {
 // one that refuses a trace whose label is zero.
 pub fn label(
     control: &[u16],
-    samples: &[Sample],
+    samples: &[Word],
     nodes: &[i64],
     links: &[u16],
     work: &[u64],

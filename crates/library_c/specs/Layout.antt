@@ -2,4 +2,4 @@
 use Prim.Native.Nat.{ℕ}
 
 abbrev pub layoutVersion : ℕ
-layoutVersion = 3
+layoutVersion = 4

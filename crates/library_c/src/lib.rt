@@ -4,12 +4,14 @@
 // traces read, the remote's match these and the fault code, a listing leaves read, traces read and how many it lists, a writing the number
 // of blocks, an import the number of traces, an export the number of bytes, a batch leaves read, the bench's call for a label fault code
 // and serial, a refusal its place; an opening, a reading and a check have none. A shorter `out` takes the first of them, and places behind
-// them stay.
+// them stay. The samples of a trace or a query are plain numbers, of which a call refuses those outside the limits; a place of the samples
+// table is a word that has its sample in the high bits.
 
 pub mod version; // which layout of the tables this is for
 
 use batching::AnswerRecord;
 use segment::Sample;
+use segment::Word;
 ghost use mathlib.Core.Path.{_≡_};
 ghost use mathlib.Core.List.{[], _∷_};
 ghost use Rattle.dstree.specs.Measures.{measures};
@@ -26,7 +28,7 @@ ghost use Rattle.telling.specs.COutcome.{cOutcome, cOutcomeOf};
 #[no_mangle]
 pub extern "C" fn silkendoz_open(
     control: &mut [u16],
-    samples: &mut [Sample],
+    samples: &mut [Word],
     nodes: &mut [i64],
     links: &mut [u16],
     work: &mut [u64],
@@ -61,7 +63,7 @@ pub extern "C" fn silkendoz_open(
 #[no_mangle]
 pub extern "C" fn silkendoz_add(
     control: &mut [u16],
-    samples: &mut [Sample],
+    samples: &mut [Word],
     nodes: &mut [i64],
     links: &mut [u16],
     work: &[u64],
@@ -85,7 +87,7 @@ pub extern "C" fn silkendoz_add(
 #[no_mangle]
 pub extern "C" fn silkendoz_add_labelled(
     control: &mut [u16],
-    samples: &mut [Sample],
+    samples: &mut [Word],
     nodes: &mut [i64],
     links: &mut [u16],
     work: &[u64],
@@ -120,7 +122,7 @@ pub extern "C" fn silkendoz_add_labelled(
 #[no_mangle]
 pub extern "C" fn silkendoz_nearest(
     control: &[u16],
-    samples: &[Sample],
+    samples: &[Word],
     nodes: &[i64],
     links: &[u16],
     work: &mut [u64],
@@ -147,7 +149,7 @@ pub extern "C" fn silkendoz_nearest(
 #[no_mangle]
 pub extern "C" fn silkendoz_k_nearest(
     control: &[u16],
-    samples: &[Sample],
+    samples: &[Word],
     nodes: &[i64],
     links: &[u16],
     work: &mut [u64],
@@ -185,7 +187,7 @@ pub extern "C" fn silkendoz_k_nearest(
 #[no_mangle]
 pub extern "C" fn silkendoz_write_sheet(
     control: &[u16],
-    samples: &[Sample],
+    samples: &[Word],
     nodes: &[i64],
     links: &[u16],
     work: &[u64],
@@ -209,7 +211,7 @@ pub extern "C" fn silkendoz_write_sheet(
 #[no_mangle]
 pub extern "C" fn silkendoz_read_sheet(
     control: &mut [u16],
-    samples: &mut [Sample],
+    samples: &mut [Word],
     nodes: &mut [i64],
     links: &mut [u16],
     work: &mut [u64],
@@ -233,7 +235,7 @@ pub extern "C" fn silkendoz_read_sheet(
 #[no_mangle]
 pub extern "C" fn silkendoz_import_recording(
     control: &mut [u16],
-    samples: &mut [Sample],
+    samples: &mut [Word],
     nodes: &mut [i64],
     links: &mut [u16],
     work: &[u64],
@@ -256,7 +258,7 @@ pub extern "C" fn silkendoz_import_recording(
 #[no_mangle]
 pub extern "C" fn silkendoz_export_recording(
     control: &[u16],
-    samples: &[Sample],
+    samples: &[Word],
     nodes: &[i64],
     links: &[u16],
     work: &[u64],
@@ -291,7 +293,7 @@ pub extern "C" fn silkendoz_export_recording(
 #[no_mangle]
 pub extern "C" fn silkendoz_check_tables(
     control: &[u16],
-    samples: &[Sample],
+    samples: &[Word],
     nodes: &[i64],
     links: &[u16],
     work: &[u64],
@@ -313,7 +315,7 @@ pub extern "C" fn silkendoz_check_tables(
 #[no_mangle]
 pub extern "C" fn silkendoz_label(
     control: &[u16],
-    samples: &[Sample],
+    samples: &[Word],
     nodes: &[i64],
     links: &[u16],
     work: &[u64],
@@ -337,7 +339,7 @@ pub extern "C" fn silkendoz_label(
 #[no_mangle]
 pub extern "C" fn silkendoz_remote_match(
     control: &[u16],
-    samples: &[Sample],
+    samples: &[Word],
     nodes: &[i64],
     links: &[u16],
     work: &mut [u64],
@@ -364,7 +366,7 @@ pub extern "C" fn silkendoz_remote_match(
 #[no_mangle]
 pub extern "C" fn silkendoz_match_batch(
     control: &[u16],
-    samples: &[Sample],
+    samples: &[Word],
     nodes: &[i64],
     links: &[u16],
     work: &mut [u64],

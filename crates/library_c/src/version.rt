@@ -6,8 +6,8 @@ ghost use Rattle.library_c.specs.Layout.{layoutVersion};
 
 // A wrong program that the contract rules out: one that gives an earlier layout's number.
 #[no_mangle]
-pub extern "C" fn silkendoz_layout_3() -> u64
+pub extern "C" fn silkendoz_layout_4() -> u64
     ensures { λ r. ⌜ r ≡ layoutVersion ⌝ }
 {
-    3
+    4
 }

@@ -1,6 +1,6 @@
 // Opening a library in lent tables.
 
-use segment::Sample;
+use segment::Word;
 use tables::Refusal;
 use tables::Verdict;
 use tables::control::judge_opening;
@@ -52,7 +52,7 @@ fn write_control(control: &mut [u16], n: u16, capacity: u16, leaf_size: u16)
 // record is written last. Sheet reading, which has its own refusals, begins with it too.
 pub fn put_empty(
     control: &mut [u16],
-    samples: &mut [Sample],
+    samples: &mut [Word],
     nodes: &mut [i64],
     links: &mut [u16],
     work: &mut [u64],
@@ -84,7 +84,7 @@ pub fn put_empty(
 // zeroes the samples before it looks at the length of the other tables (a refused call then leaves them changed).
 pub fn open(
     control: &mut [u16],
-    samples: &mut [Sample],
+    samples: &mut [Word],
     nodes: &mut [i64],
     links: &mut [u16],
     work: &mut [u64],

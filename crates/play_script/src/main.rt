@@ -7,7 +7,7 @@ use replay::replies::REPLY_PLACES;
 use replay::replies::lay;
 use replay::rows::number_at;
 use replay::rows::row_end;
-use segment::Sample;
+use segment::Word;
 use tables::numbers::wider;
 ghost use mathlib.Core.Path.{_≡_};
 ghost use Prim.Native.Nat.{_≤_};
@@ -123,7 +123,7 @@ fn put_read(script: &mut [u64])
 // In tables, trails and sheets with junk in every place.
 fn main() {
     let mut control = [7u16; 5];
-    let mut samples: [Sample; 12] = [7; 12];
+    let mut samples: [Word; 12] = [7; 12];
     let mut nodes = [7i64; 435];
     let mut links = [7u16; 3];
     let mut work = [7u64; 5];

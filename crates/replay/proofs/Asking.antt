@@ -5,17 +5,14 @@ use mathlib.Core.Path.{_≡_, refl, sym, ap, subst, _∙_}
 use mathlib.Core.Bool.{Bool, true, false}
 use mathlib.Core.Option.{Option, none, some, Option·none-ne-some, Option·some-injective}
 use mathlib.Core.List.{List, [], _∷_}
-use lib.IntN.{ℤ}
 use lib.ListN.{length}
-use lib.Signed.{mag}
 use lib.Dec.{T, leb, ltb, leb→le}
 use Rattle.integer.specs.Words.{if_then_else_}
 use Rattle.integer.proofs.Tests.{passed, is-true}
 use Rattle.integer.proofs.Lists.{every-take, every-drop}
-use Rattle.dstree.specs.Measures.{sampleLimit, areSamples}
 use Rattle.dstree.specs.Sheet.{areBytes}
 use Rattle.dstree.specs.Book.{Lent}
-use Rattle.tables.specs.Tables.{Tables, lentOf}
+use Rattle.tables.specs.Tables.{lentOf}
 use Rattle.tables.specs.Beginning.{LentWithin}
 use Rattle.calls.specs.Follows.{Typed}
 use Rattle.replay.specs.declared.Amounts.{Amounts}
@@ -195,26 +192,21 @@ asked-is lengths row s ask e = by (playable lengths (aheadOf s) row) refl e
 -- what the slices' types say of a state, and that its tables are as long as they were
 pub record SoundState (lengths : Lent) (s : State) : Type 0 where
   pub as-long : lentOf (s .memory) ≡ lengths
-  pub of-samples : T (areSamples (s .samples))
   pub of-bytes : T (areBytes (s .sheets .ahead))
-
-abbrev pub isSample : ℤ → Bool
-isSample sample = ltb (mag sample) sampleLimit
 
 abbrev pub isByte : ℕ → Bool
 isByte byte = ltb byte 256
 
 pub asked-typed : (lengths : Lent) (row : List ℕ) (s : State) → SoundState lengths s → (ask : RowAsk) → asks lengths row s ≡ some ask
-    → (t : Tables) → Typed (askOf ask) t
+    → Typed (askOf ask)
 unfolding areBytes
-asked-typed lengths row s sound ask e t =
+asked-typed lengths row s sound ask e =
     let a = asked-is lengths row s ask e in
     let k = a .kind in
     let size = k .takes row in
-    subst (λ (ask : RowAsk). Typed (askOf ask) t) (a .ask-is)
-    (of-kind (numberAt row 0) k (playable-is lengths (aheadOf s) row k (a .can) .is-kind) .typed row (nextOf size s) t
-    (every-take isSample (size .samples) (s .samples) (sound .of-samples)) (every-take isByte (size .sheets) (s .sheets .ahead) (sound
-    .of-bytes)))
+    subst (λ (ask : RowAsk). Typed (askOf ask)) (a .ask-is)
+    (of-kind (numberAt row 0) k (playable-is lengths (aheadOf s) row k (a .can) .is-kind) .typed row (nextOf size s)
+    (every-take isByte (size .sheets) (s .sheets .ahead) (sound .of-bytes)))
 
 -- a call is asked for only where it is lent no more than there is
 pub asked-within : (lengths : Lent) (row : List ℕ) (s : State) (ask : RowAsk) → asks lengths row s ≡ some ask → LentWithin (lentBy row) lengths
@@ -228,6 +220,5 @@ pub sound-after : (lengths : Lent) (s : State) → SoundState lengths s → (len
 unfolding stateAfter areBytes
 sound-after lengths s sound lent ask e = record {
   as-long = e;
-  of-samples = every-drop isSample (length (takenBy ask .samples)) (s .samples) (sound .of-samples);
   of-bytes = every-drop isByte (length (takenBy ask .sheet)) (s .sheets .ahead) (sound .of-bytes);
 }

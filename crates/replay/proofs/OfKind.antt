@@ -10,7 +10,6 @@ use lib.ListN.{length}
 use lib.Dec.{T}
 use Rattle.integer.specs.Lists.{All, all-none, all-more}
 use Rattle.integer.proofs.Tests.{never-both}
-use Rattle.dstree.specs.Measures.{areSamples}
 use Rattle.dstree.specs.Labels.{isLabel}
 use Rattle.dstree.specs.Sheet.{areBytes}
 use Rattle.dstree.specs.Book.{Answer}
@@ -55,33 +54,33 @@ pub record KindLaws (k : CallKind) : Type 0 where
   -- its call takes all that its row takes
   pub takes-all : (row : List ℕ) (x : Taken) → amountsOf x ≡ k .takes row → takenBy (k .ask row x) ≡ x
   -- and what it brings is as the slices' types say
-  pub typed : (row : List ℕ) (x : Taken) (t : Tables) → T (areSamples (x .samples)) → T (areBytes (x .sheet)) → Typed (askOf (k .ask row x)) t
+  pub typed : (row : List ℕ) (x : Taken) → T (areBytes (x .sheet)) → Typed (askOf (k .ask row x))
 
 of-openings : KindLaws openingCalls
 unfolding takenBy Typed askOf
 of-openings = record {
   takes-all = λ row x e. taken-same (sym (no-samples x e refl)) (sym (no-trail x e refl)) (sym (no-sheet x e refl));
-  typed = λ row x t s b. tt;
+  typed = λ row x b. tt;
 }
 
 of-addings : KindLaws addingCalls
 unfolding takenBy Typed askOf isLabel
 of-addings = record {
   takes-all = λ row x e. taken-same refl (sym (no-trail x e refl)) (sym (no-sheet x e refl));
-  typed = λ row x t s b. (s, tt);
+  typed = λ row x b. tt;
 }
 
 of-matchings : KindLaws matchingCalls
 unfolding takenBy Typed askOf
-of-matchings = record { takes-all = λ row x e. taken-same refl refl (sym (no-sheet x e refl)); typed = λ row x t s b. tt }
+of-matchings = record { takes-all = λ row x e. taken-same refl refl (sym (no-sheet x e refl)); typed = λ row x b. tt }
 
 of-writings : KindLaws writingCalls
 unfolding takenBy Typed askOf
-of-writings = record { takes-all = λ row x e. sym (bytes-only x e refl); typed = λ row x t s b. tt }
+of-writings = record { takes-all = λ row x e. sym (bytes-only x e refl); typed = λ row x b. tt }
 
 of-readings : KindLaws readingCalls
 unfolding takenBy Typed askOf
-of-readings = record { takes-all = λ row x e. sym (bytes-only x e refl); typed = λ row x t s b. b }
+of-readings = record { takes-all = λ row x e. sym (bytes-only x e refl); typed = λ row x b. b }
 
 of-kinds : All KindLaws kinds
 of-kinds = all-more of-openings (all-more of-addings (all-more of-matchings (all-more of-writings (all-more of-readings all-none))))

@@ -10,11 +10,10 @@ use lib.IntN.{ℤ}
 use lib.ListN.{length, drop, take-append-drop, length-append, drop-of-length-le}
 use lib.Dec.{T}
 use Rattle.integer.specs.Words.{if_then_else_}
-use Rattle.dstree.specs.Measures.{areSamples}
 use Rattle.dstree.specs.Sheet.{areBytes}
 use Rattle.dstree.specs.Book.{Lent, Call, call, Answer, Reply}
 use Rattle.tables.specs.Tables.{Tables, lentOf}
-use Rattle.tables.specs.Beginning.{LentWithin, firstPlaces}
+use Rattle.tables.specs.Beginning.{LentWithin}
 use Rattle.tables.proofs.Beginning.{first-lent}
 use Rattle.calls.specs.Follows.{Follows, Ran, no-call, a-call}
 use Rattle.calls.proofs.Demands.{demands}
@@ -90,7 +89,7 @@ module _ (t₀ : Tables) (replies₀ : List ℕ) where
       follows = record {
         has-places = first-lent (lentBy row) (p .now .memory)
             (subst (λ (x : Lent). LentWithin (lentBy row) x) (sym (f .sound .as-long)) (asked-within (lentOf t₀) row (p .now) ask a));
-        typed = asked-typed (lentOf t₀) row (p .now) (f .sound) ask a (firstPlaces (lentBy row) (p .now .memory));
+        typed = asked-typed (lentOf t₀) row (p .now) (f .sound) ask a;
         follows = refl;
       }
 
@@ -129,12 +128,12 @@ module _ (t₀ : Tables) (script : List ℕ) (pool : List ℤ) (trails₀ sheets
     pub inside : AmountsInside at pool trails sheets
     pub few : k ≤ place
 
-  pub playing-first : T (areSamples pool) → T (areBytes sheets₀) → Playing t₀ trails₀ sheets₀ replies₀ (amounts 0 0 0) 0 0
+  pub playing-first : T (areBytes sheets₀) → Playing t₀ trails₀ sheets₀ replies₀ (amounts 0 0 0) 0 0
   unfolding repliesLaid
-  playing-first s b = record {
+  playing-first b = record {
     so-far = begun t₀ pool trails₀ sheets₀;
     state-is = refl;
-    fine = record { ran = no-call; sound = record { as-long = refl; of-samples = s; of-bytes = b }; counted = refl; laid = refl };
+    fine = record { ran = no-call; sound = record { as-long = refl; of-bytes = b }; counted = refl; laid = refl };
     onward = refl;
     inside = record { samples-inside = omega arith; trails-inside = omega arith; sheets-inside = omega arith };
     few = omega arith;

@@ -25,9 +25,9 @@ use Rattle.replay.specs.Script.{openingCalls, addingCalls, matchingCalls
 use Rattle.replay.specs.Script.{fitsIn, enough, ifEnough, playable, askedBy, asks, takenBy, stateAfter, turnMade, Played, begun}
 use Rattle.replay.specs.Script.{playedOne, playedRow}
 use Rattle.replay.specs.declared.Amounts.{Amounts}
-use Rattle.replay.specs.Scripts.{Word, Mark, ListCall, callOf, ArgumentsFit, Possible, MachineLengths, Script}
+use Rattle.replay.specs.Scripts.{Number, Mark, Given, ListCall, callOf, ArgumentsFit, Possible, MachineLengths, Script}
 use Rattle.replay.proofs.ReadBack.{scriptOf, rows-of-script}
-use Rattle.replay.proofs.Asking.{isSample, isByte}
+use Rattle.replay.proofs.Asking.{isByte}
 
 -- ---- a call's row
 
@@ -43,9 +43,9 @@ record Row (ask : RowAsk) : Type 0 where
   pub takes-that : (lent : Lent) → kind .takes (number ∷ lengthsAnd lent own) ≡ amountsOf (takenBy ask)
   pub asks-that : (lent : Lent) → kind .ask (number ∷ lengthsAnd lent own) (takenBy ask) ≡ ask
   pub short : length own < 2 ^ 63
-  pub numbers-fit : ArgumentsFit ask → All Word own
-  pub number-fits : Word number
-  pub samples-fit : ArgumentsFit ask → All (λ z. T (isSample z)) (takenBy ask .samples)
+  pub numbers-fit : ArgumentsFit ask → All Number own
+  pub number-fits : Number number
+  pub samples-fit : ArgumentsFit ask → All Given (takenBy ask .samples)
   pub marks-fit : ArgumentsFit ask → All Mark (takenBy ask .trail)
   pub bytes-fit : ArgumentsFit ask → All (λ b. T (isByte b)) (takenBy ask .sheet)
 
@@ -75,7 +75,7 @@ rowFor (anAdding x) = record {
   short = lit< tt;
   numbers-fit = λ s. all-more (s .1) all-none;
   number-fits = lit< tt;
-  samples-fit = λ s. every-all isSample x (s .0);
+  samples-fit = λ s. s .0;
   marks-fit = λ s. all-none;
   bytes-fit = λ s. all-none;
 }
@@ -89,7 +89,7 @@ rowFor (aMatching x trail) = record {
   short = lit< tt;
   numbers-fit = λ s. all-more (s .1) (all-more (s .3) all-none);
   number-fits = lit< tt;
-  samples-fit = λ s. every-all isSample x (s .0);
+  samples-fit = λ s. s .0;
   marks-fit = λ s. s .2;
   bytes-fit = λ s. all-none;
 }
@@ -272,7 +272,7 @@ behind-all lengths f each [] all-none = all-none
 behind-all lengths f each (c ∷ calls) (all-more h others) = all-append (each c h) (behind-all lengths f each calls others)
 
 module _ (lengths : Lent) (long : MachineLengths lengths) where
-  lengths-fit : (lent : Lent) → LentWithin lent lengths → (own : List ℕ) → All Word own → All Word (lengthsAnd lent own)
+  lengths-fit : (lent : Lent) → LentWithin lent lengths → (own : List ℕ) → All Number own → All Number (lengthsAnd lent own)
   unfolding lengthsAnd
   lengths-fit lent w own h =
       all-more (lt-of-le-of-lt (w .control-within) (long .control-long))
@@ -282,15 +282,15 @@ module _ (lengths : Lent) (long : MachineLengths lengths) where
       (all-more (lt-of-le-of-lt (w .work-within) (long .work-long))
       (all-more (lt-of-le-of-lt (w .labels-within) (long .labels-long)) h)))))
 
-  row-fits : (lent : Lent) (ask : RowAsk) → LentWithin lent lengths → ArgumentsFit ask → All Word (rowBy lent ask)
+  row-fits : (lent : Lent) (ask : RowAsk) → LentWithin lent lengths → ArgumentsFit ask → All Number (rowBy lent ask)
   unfolding rowBy
   row-fits lent ask w s = all-more (rowFor ask .number-fits) (lengths-fit lent w _ (rowFor ask .numbers-fit s))
 
-  row-short : (lent : Lent) (ask : RowAsk) → Word (length (rowBy lent ask))
+  row-short : (lent : Lent) (ask : RowAsk) → Number (length (rowBy lent ask))
   unfolding rowBy lengthsAnd
   row-short lent ask = omega (arith, rowFor ask .short)
 
-  script-fits : (calls : List ListCall) → All (Possible lengths) calls → All Word (scriptOf (map rowOf calls))
+  script-fits : (calls : List ListCall) → All (Possible lengths) calls → All Number (scriptOf (map rowOf calls))
   unfolding scriptOf
   script-fits [] all-none = all-none
   script-fits (c ∷ calls) (all-more h others) =
@@ -316,7 +316,7 @@ every-list memory calls long possible =
           rowOf calls))
           ∙ asks-all lengths calls (begun memory pool trails sheets) possible refl refl refl;
       numbers-fit = script-fits lengths long calls possible;
-      pool-fits = all-every isSample (behind-all lengths samplesOf (λ c h. rowFor (c .ask) .samples-fit (h .sized)) calls possible);
+      pool-fits = behind-all lengths samplesOf (λ c h. rowFor (c .ask) .samples-fit (h .sized)) calls possible;
       trails-fit = behind-all lengths trailOf (λ c h. rowFor (c .ask) .marks-fit (h .sized)) calls possible;
       sheets-fit = all-every isByte (behind-all lengths sheetOf (λ c h. rowFor (c .ask) .bytes-fit (h .sized)) calls possible);
     }

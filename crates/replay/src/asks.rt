@@ -3,6 +3,7 @@
 use crate::replies::of_refusal;
 use matching::Found;
 use segment::Sample;
+use segment::Word;
 use sheet_writing::Written;
 ghost use mathlib.Core.Path.{_≡_};
 ghost use mathlib.Core.Bool.{false};
@@ -37,7 +38,7 @@ fn of_written(answer: Written) -> [u64; 5]
 // A row of such a kind, lent the tables and all that it takes.
 pub fn play(
     control: &[u16],
-    samples: &[Sample],
+    samples: &[Word],
     nodes: &[i64],
     links: &[u16],
     work: &mut [u64],

@@ -5,6 +5,7 @@ use crate::rows::number_at;
 use adding::Added;
 use opening::Opened;
 use segment::Sample;
+use segment::Word;
 use sheet_reading::Read;
 ghost use mathlib.Core.Path.{_≡_};
 ghost use mathlib.Core.Bool.{true};
@@ -47,7 +48,7 @@ fn of_read(answer: Read) -> [u64; 5]
 // A row of such a kind, lent the tables and all that it takes.
 pub fn play(
     control: &mut [u16],
-    samples: &mut [Sample],
+    samples: &mut [Word],
     nodes: &mut [i64],
     links: &mut [u16],
     work: &mut [u64],

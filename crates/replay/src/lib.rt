@@ -11,7 +11,7 @@ use crate::replies::tell;
 use crate::rows::row_end;
 use crate::turns::turn;
 use segment::Sample;
-use tables::loops::look;
+use segment::Word;
 ghost use mathlib.Core.Path.{_≡_};
 ghost use Rattle.tables.specs.Lent.{tablesAfter, tablesBefore};
 ghost use Rattle.replay.specs.ReplyRows.{repliesLaid};
@@ -65,7 +65,7 @@ pub struct Turn {
 // out an adding, and one that lends a call a table one place shorter than it asks for.
 pub fn play(
     control: &mut [u16],
-    samples: &mut [Sample],
+    samples: &mut [Word],
     nodes: &mut [i64],
     links: &mut [u16],
     work: &mut [u64],
@@ -99,7 +99,6 @@ pub fn play(
         (now (script .entry)) (now (pool .entry)) (now (trails .entry)) (now (sheets .entry)) .said)
         (tablesAfter control samples nodes links work labels) ⌝ }
 {
-    look(pool);
     let mut at = Amounts {
         samples: 0,
         trails: 0,

@@ -9,6 +9,7 @@ use crate::plans;
 use crate::rows::lengths;
 use crate::rows::number_at;
 use segment::Sample;
+use segment::Word;
 ghost use mathlib.Core.Path.{_≡_};
 ghost use mathlib.Core.Option.{some};
 ghost use mathlib.Core.List.{[], _∷_};
@@ -32,7 +33,7 @@ fn no_call(at: Amounts) -> Turn
 // A row of any kind, lent the tables and all that it takes.
 fn call(
     control: &mut [u16],
-    samples: &mut [Sample],
+    samples: &mut [Word],
     nodes: &mut [i64],
     links: &mut [u16],
     work: &mut [u64],
@@ -82,7 +83,7 @@ fn call(
 // sheet.
 fn lend(
     control: &mut [u16],
-    samples: &mut [Sample],
+    samples: &mut [Word],
     nodes: &mut [i64],
     links: &mut [u16],
     work: &mut [u64],
@@ -142,7 +143,7 @@ fn lend(
 // One row of a script. A row that cannot be played makes no call and takes nothing.
 pub fn turn(
     control: &mut [u16],
-    samples: &mut [Sample],
+    samples: &mut [Word],
     nodes: &mut [i64],
     links: &mut [u16],
     work: &mut [u64],

@@ -14,7 +14,8 @@ use Rattle.integer.proofs.Tests.{neither}
 use Rattle.dstree.specs.Measures.{Trace, Measures, samplesNeeded, recordsNeeded, linksNeeded, workNeeded, labelsNeeded}
 use Rattle.dstree.specs.Labels.{Label}
 use Rattle.dstree.specs.Refusals.{Refusal, Condition, firstOf, shortTable, empty, sheetLength}
-use Rattle.dstree.specs.Sheet.{holds, judgedBy, judgeAs, judgeSheet, sheetConditions}
+use Rattle.dstree.specs.Sheet.{holds, judgedBy}
+use Rattle.dstree.specs.SheetWidths.{judgeSheet, sheetConditions}
 use Rattle.dstree.specs.Program.{Line, refusalLine, lineOf, programMost, mostBytes, judgedLine, programLine}
 use Rattle.dstree.specs.Book.{Lent}
 use Rattle.tables.specs.Answers.{foundBy}
@@ -62,7 +63,7 @@ module _ (bytes : List ℕ) where
   small = smallConditions (said bytes) (countOf bytes)
 
   at-some : (why : Refusal) → firstOf (sheetConditions bytes) ≡ some why → judgedLine (judgeSheet bytes) ≡ unless (firstOf (sheetConditions bytes ++ small))
-  unfolding judgeAs judgedBy judgedLine lineUnless
+  unfolding judgeSheet judgedBy judgedLine lineUnless
   at-some why e = rw (e, first-some (sheetConditions bytes) small why e)
 
   sheet-line : judgedLine (judgeSheet bytes) ≡ unless (firstOf (sheetConditions bytes ++ small))

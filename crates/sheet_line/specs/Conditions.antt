@@ -6,7 +6,8 @@ use lib.ListN.{length}
 use lib.Dec.{leb, ltb}
 use Rattle.dstree.specs.Measures.{Measures}
 use Rattle.dstree.specs.Refusals.{Condition, _refuses_, shortTable, empty, sheetLength}
-use Rattle.dstree.specs.Sheet.{measuresIn, countIn, sheetConditions}
+use Rattle.dstree.specs.Sheet.{measuresIn, countIn}
+use Rattle.dstree.specs.SheetWidths.{sheetConditions}
 use Rattle.dstree.specs.Program.{programMost, mostBytes}
 use Rattle.sheet_blocks.specs.Blocks.{blockAt}
 

@@ -4,7 +4,7 @@ use loading::Source;
 use loading::load;
 use matching::Found;
 use opening::put_empty;
-use segment::Sample;
+use segment::Word;
 use sheet_judging::contents::head_of;
 use sheet_judging::traces::read_trace;
 ghost use mathlib.Core.Path.{_≡_};
@@ -23,17 +23,17 @@ ghost use Rattle.sheet_line.specs.Conditions.{programConditions};
 ghost use Rattle.sheet_line.specs.Lines.{lineBy};
 ghost use Rattle.sheet_line.specs.Stored.{EarlierStored, Roomy, most};
 
-// The match of the last trace among those that the tables hold. `query` is a place for its samples.
+// The match of the last trace among those that the tables hold. `query` is a place for its samples, as words.
 fn match_query(
     control: &[u16],
-    samples: &[Sample],
+    samples: &[Word],
     nodes: &[i64],
     links: &[u16],
     work: &mut [u64],
     trail: &mut [u16],
     sheet: &[u8],
     last: usize,
-    query: &mut [Sample],
+    query: &mut [Word],
 ) -> Found
     requires { ⌜ EarlierStored (now control) (now samples) (now nodes) (now links) (now work) (now sheet) (length (now query)) last
         × (recordsNeeded most ≤ length (now trail)) ⌝ }
@@ -54,7 +54,7 @@ fn match_query(
 // The same with places of its own: for 64 samples, and for as many leaves as 64 traces can have nodes.
 fn match_last(
     control: &[u16],
-    samples: &[Sample],
+    samples: &[Word],
     nodes: &[i64],
     links: &[u16],
     work: &mut [u64],
@@ -67,7 +67,7 @@ fn match_last(
         ≡ lineOf (measuresIn (blockAt (now (sheet .entry)) 0)) (take last (sheetTraces (now (sheet .entry))))
         (getD (sheetTraces (now (sheet .entry))) last []) ⌝ }
 {
-    let mut query: [Sample; 64] = [0; 64];
+    let mut query: [Word; 64] = [0; 64];
     let mut trail = [0u16; 127];
     match_query(
         control,
@@ -85,7 +85,7 @@ fn match_last(
 // A library of the earlier traces, and the match of the last one in it.
 fn match_in(
     control: &mut [u16],
-    samples: &mut [Sample],
+    samples: &mut [Word],
     nodes: &mut [i64],
     links: &mut [u16],
     work: &mut [u64],
@@ -139,7 +139,7 @@ pub fn match_sound(sheet: &[u8]) -> Found
     ensures { λ r. ⌜ lineBy r ≡ programLine (now (sheet .entry)) ⌝ }
 {
     let mut control = [0u16; 5];
-    let mut samples: [Sample; 4096] = [0; 4096];
+    let mut samples: [Word; 4096] = [0; 4096];
     let mut nodes = [0i64; 11049];
     let mut links = [0u16; 64];
     let mut work = [0u64; 127];

@@ -1,5 +1,5 @@
-// What the program refuses: a sheet above 65,536 bytes (8), what reading refuses of a sheet (8, 9, 10), measures above its tables (2), no
-// earlier trace (6).
+// What the program refuses: a sheet above 65,536 bytes (8), what reading refuses of a sheet (8, 9, 10, 15), measures above its tables (2),
+// no earlier trace (6).
 
 use sheet_judging::contents::head_of;
 use sheet_judging::judge_sheet;

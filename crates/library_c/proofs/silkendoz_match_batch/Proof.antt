@@ -29,7 +29,7 @@ use sound.WpLaws.{FmC, fmOf, WpFn-mono}
 use denote.RattleType.{owns}
 use denote.Laws.{Is, shows}
 use denote.Plain.{uint-makes, uint-vals, uint-tells, uint-lawful, bool-lawful}
-use denote.Builtin.{bool, i16, i64, u16, u64, usize}
+use denote.Builtin.{bool, i32, i64, u16, u64, usize}
 use denote.Ref.{RefT}
 use denote.Slice.{sliceVal, ShrSlice, MutSlice, Room, finally, slice-vals, shr-slice-tells, shr-slice-copy, mut-slice-tells}
 use denote.Steps.{owned, peeks, heard, nothing}
@@ -81,7 +81,7 @@ abbrev stayed : Stays (f.ended .signature .params) (f.ended .kept)
 stayed = (
   stay-none-slice (0 ∷ []) tt (plain (λ _. u16)) yes,
   (
-    stay-none-slice (1 ∷ []) tt (plain (λ _. i16)) yes,
+    stay-none-slice (1 ∷ []) tt (plain (λ _. i32)) yes,
     (
       stay-none-slice (2 ∷ []) tt (plain (λ _. i64)) yes,
       (
@@ -93,7 +93,7 @@ stayed = (
             (
               gave-slice (6 ∷ []) tt (plain (λ _. u16)),
               (
-                stay-none-slice (7 ∷ []) tt (plain (λ _. i16)) yes,
+                stay-none-slice (7 ∷ []) tt (plain (λ _. i32)) yes,
                 (
                   stay-none (λ _. usize) yes,
                   (
@@ -161,7 +161,7 @@ module _ {M : Type 1} (𝓤 : URA M) (H : Heap 𝓤) (A : Atoms 𝓤) (W : Given
   Own-control = ShrSlice (named 0) κ₀ u16 .own control (v-control ∷ [])
 
   abbrev Own-samples : Fml
-  Own-samples = ShrSlice (named 1) κ₁ i16 .own samples (v-samples ∷ [])
+  Own-samples = ShrSlice (named 1) κ₁ i32 .own samples (v-samples ∷ [])
 
   abbrev Own-nodes : Fml
   Own-nodes = ShrSlice (named 2) κ₂ i64 .own nodes (v-nodes ∷ [])
@@ -179,7 +179,7 @@ module _ {M : Type 1} (𝓤 : URA M) (H : Heap 𝓤) (A : Atoms 𝓤) (W : Given
   Own-trail = MutSlice (named 6) κ₆ u16 .own trail (v-trail ∷ [])
 
   abbrev Own-queries : Fml
-  Own-queries = ShrSlice (named 7) κ₇ i16 .own queries (v-queries ∷ [])
+  Own-queries = ShrSlice (named 7) κ₇ i32 .own queries (v-queries ∷ [])
 
   abbrev Own-list : Fml
   Own-list = MutSlice (named 8) κ₈ T.the-row .own list (v-list ∷ [])
@@ -366,8 +366,8 @@ module _ {M : Type 1} (𝓤 : URA M) (H : Heap 𝓤) (A : Atoms 𝓤) (W : Given
 
   module _ (C : Calls 𝓤 H) (Λ : Loops 𝓤 H) (fm : FmC 𝓤 H (W .laws) C) (known-search : Triple 𝓤 (C #search) (Search 𝓤 H A mem run))
       (known-store : Triple 𝓤 (C #store) (Store 𝓤 H A mem run)) (known-tell : Triple 𝓤 (C #tell) (Tell 𝓤 H A mem run)) where
-    walk : Room u16 (length (control .now)) → Room i16 (length (samples .now)) → Room i64 (length (nodes .now)) → Room u16
-        (length (links .now)) → Room u64 (length (work .now)) → Room u64 (length (labels .now)) → Room u16 (length (trail .now)) → Room i16
+    walk : Room u16 (length (control .now)) → Room i32 (length (samples .now)) → Room i64 (length (nodes .now)) → Room u16
+        (length (links .now)) → Room u64 (length (work .now)) → Room u64 (length (labels .now)) → Room u16 (length (trail .now)) → Room i32
         (length (queries .now))
         → Room T.the-row (length (list .now)) → Room u64 (length (out .now))
         → ent 𝓤 (onEntry 𝓤 H A f.signature (κ₀, (κ₁, (κ₂, (κ₃, (κ₄, (κ₅, (κ₆, (κ₇, (κ₈, (κ₉, tt))))))))))
@@ -375,8 +375,8 @@ module _ {M : Type 1} (𝓤 : URA M) (H : Heap 𝓤) (A : Atoms 𝓤) (W : Given
         (WpFn 𝓤 H C Λ code.function
         (v-control ∷ v-samples ∷ v-nodes ∷ v-links ∷ v-work ∷ v-labels ∷ v-trail ∷ v-queries ∷ vint w64 many ∷ v-list ∷ v-out ∷ []) Post)
     walk room-control room-samples room-nodes room-links room-work room-labels room-trail room-queries room-list room-out =
-        qed W (Tokens ∷ ‵ (owns (ShrSlice (named 0) κ₀ u16 ∷ ShrSlice (named 1) κ₁ i16 ∷ ShrSlice (named 2) κ₂ i64 ∷ ShrSlice
-        (named 3) κ₃ u16 ∷ MutSlice (named 4) κ₄ u64 ∷ ShrSlice (named 5) κ₅ u64 ∷ MutSlice (named 6) κ₆ u16 ∷ ShrSlice (named 7) κ₇ i16 ∷
+        qed W (Tokens ∷ ‵ (owns (ShrSlice (named 0) κ₀ u16 ∷ ShrSlice (named 1) κ₁ i32 ∷ ShrSlice (named 2) κ₂ i64 ∷ ShrSlice
+        (named 3) κ₃ u16 ∷ MutSlice (named 4) κ₄ u64 ∷ ShrSlice (named 5) κ₅ u64 ∷ MutSlice (named 6) κ₆ u16 ∷ ShrSlice (named 7) κ₇ i32 ∷
         usize ∷ MutSlice
         (named 8) κ₈ T.the-row ∷ MutSlice (named 9) κ₉ u64 ∷ []) a vals) ∷ []) ∵ enter ! C Λ code.function
         (v-control ∷ v-samples ∷ v-nodes ∷ v-links ∷ v-work ∷ v-labels ∷ v-trail ∷ v-queries ∷ vint w64 many ∷ v-list ∷ v-out ∷ []) _ $
@@ -413,7 +413,7 @@ module _ {M : Type 1} (𝓤 : URA M) (H : Heap 𝓤) (A : Atoms 𝓤) (W : Given
         move ! (47 ∷ []) $ fsplit ! $
         use1 W (‵ Own-control ⊛ ‵ Own-control) (shr-slice-copy 𝓤 H A W (named 0) κ₀ u16 .twice control (v-control ∷ [])) $ split ! $
         move ! (2 ∷ []) $ fsplit ! $
-        use1 W (‵ Own-samples ⊛ ‵ Own-samples) (shr-slice-copy 𝓤 H A W (named 1) κ₁ i16 .twice samples (v-samples ∷ [])) $ split ! $
+        use1 W (‵ Own-samples ⊛ ‵ Own-samples) (shr-slice-copy 𝓤 H A W (named 1) κ₁ i32 .twice samples (v-samples ∷ [])) $ split ! $
         move ! (2 ∷ []) $ fsplit ! $
         use1 W (‵ Own-nodes ⊛ ‵ Own-nodes) (shr-slice-copy 𝓤 H A W (named 2) κ₂ i64 .twice nodes (v-nodes ∷ [])) $ split ! $
         move ! (2 ∷ []) $ fsplit ! $
@@ -421,7 +421,7 @@ module _ {M : Type 1} (𝓤 : URA M) (H : Heap 𝓤) (A : Atoms 𝓤) (W : Given
         move ! (2 ∷ []) $ fsplit ! $ move ! (1 ∷ []) $ fsplit ! $
         use1 W (‵ Own-labels ⊛ ‵ Own-labels) (shr-slice-copy 𝓤 H A W (named 5) κ₅ u64 .twice labels (v-labels ∷ [])) $ split ! $
         move ! (2 ∷ []) $ fsplit ! $ move ! (1 ∷ []) $ fsplit ! $
-        use1 W (‵ Own-queries ⊛ ‵ Own-queries) (shr-slice-copy 𝓤 H A W (named 7) κ₇ i16 .twice queries (v-queries ∷ [])) $ split ! $
+        use1 W (‵ Own-queries ⊛ ‵ Own-queries) (shr-slice-copy 𝓤 H A W (named 7) κ₇ i32 .twice queries (v-queries ∷ [])) $ split ! $
         move ! (2 ∷ []) $ fsplit ! $ drop ! $ fsplit ! $ move ! (1 ∷ []) $ fsplit ! $ move ! (1 ∷ []) $ drop ! $
         move ! (62 ∷ []) $ split ! $ move ! (1 ∷ []) $ split ! $ move ! (1 ∷ []) $ split ! $ move ! (1 ∷ []) $ split ! $ move ! (1 ∷ []) $
         split ! $ move ! (1 ∷ []) $ split ! $ move ! (1 ∷ []) $ split ! $ move ! (1 ∷ []) $ split ! $ move ! (1 ∷ []) $ split ! $
@@ -547,7 +547,7 @@ module _ {M : Type 1} (𝓤 : URA M) (H : Heap 𝓤) (A : Atoms 𝓤) (W : Given
       (λ κs. (
         shr-slice-tells (named 0) (κs .0) u16,
         (
-          shr-slice-tells (named 1) (κs .1 .0) i16,
+          shr-slice-tells (named 1) (κs .1 .0) i32,
           (
             shr-slice-tells (named 2) (κs .1 .1 .0) i64,
             (
@@ -559,7 +559,7 @@ module _ {M : Type 1} (𝓤 : URA M) (H : Heap 𝓤) (A : Atoms 𝓤) (W : Given
                   (
                     mut-slice-tells (named 6) (κs .1 .1 .1 .1 .1 .1 .0) u16,
                     (
-                      shr-slice-tells (named 7) (κs .1 .1 .1 .1 .1 .1 .1 .0) i16,
+                      shr-slice-tells (named 7) (κs .1 .1 .1 .1 .1 .1 .1 .0) i32,
                       (
                         uint-tells w64,
                         (
@@ -591,7 +591,7 @@ module _ {M : Type 1} (𝓤 : URA M) (H : Heap 𝓤) (A : Atoms 𝓤) (W : Given
   call-meets = walk-meets 𝓤 H A f.ended stayed W (
     goes-none-slice 𝓤 H A W 10 (0 ∷ []) tt (plain (λ _. u16)) yes,
     (
-      goes-none-slice 𝓤 H A W 10 (1 ∷ []) tt (plain (λ _. i16)) yes,
+      goes-none-slice 𝓤 H A W 10 (1 ∷ []) tt (plain (λ _. i32)) yes,
       (
         goes-none-slice 𝓤 H A W 10 (2 ∷ []) tt (plain (λ _. i64)) yes,
         (
@@ -603,7 +603,7 @@ module _ {M : Type 1} (𝓤 : URA M) (H : Heap 𝓤) (A : Atoms 𝓤) (W : Given
               (
                 goes-gave-slice 𝓤 H A W 10 6 tt (plain (λ _. u16)),
                 (
-                  goes-none-slice 𝓤 H A W 10 (7 ∷ []) tt (plain (λ _. i16)) yes,
+                  goes-none-slice 𝓤 H A W 10 (7 ∷ []) tt (plain (λ _. i32)) yes,
                   (
                     goes-none 𝓤 H A W 10 (λ _. usize) yes (λ κs x f. refl),
                     (goes-gave-slice 𝓤 H A W 10 8 tt (plain (λ _. T.the-row)), (goes-gave-slice 𝓤 H A W 10 9 tt (plain (λ _. u64)), tt)),

@@ -39,15 +39,15 @@ module _ (s : tie.Start Inv-loop μ-loop) where
   abbrev t₀ : Tables
   t₀ = labelledTables (now (s .args .control)) (now (s .args .samples)) (now (s .args .nodes)) (now (s .args .links)) (now (s .args .work)) (now (s .args .labels))
 
-abbrev start : tie.After-look Inv-loop μ-loop → tie.Start Inv-loop μ-loop
-start c = c .before .before .before .before .before .before .before .before .before
+abbrev start : tie.After-slice-known7 Inv-loop μ-loop → tie.Start Inv-loop μ-loop
+start c = c .before .before .before .before .before .before .before .before
 
 loop-holds : tie.Need-loop-holds Inv-loop μ-loop
 loop-holds c =
     let a = start c .args in
-    let bytes = known-bytes (now (a .sheets)) (λ i. omega (arith, c .before .before .before .slice-known6 .given i)) in (
+    let bytes = known-bytes (now (a .sheets)) (λ i. omega (arith, c .before .before .slice-known6 .given i)) in (
       omega arith,
-      playing-first (t₀ (start c)) (now (a .script)) (now (a .pool)) (now (a .trails)) (now (a .sheets)) (now (a .replies)) (c .look .ensures) bytes,
+      playing-first (t₀ (start c)) (now (a .script)) (now (a .pool)) (now (a .trails)) (now (a .sheets)) (now (a .replies)) bytes,
       refl,
       refl,
       refl,
@@ -131,7 +131,7 @@ pub play-spec : {M : Type 1} → statement M
 play-spec =
     tie.close
     (tie.spec
-    Inv-loop μ-loop (λ c κs. tt) loop-holds (λ c. omega arith) (λ c κs. omega arith) (λ c. omega arith) (λ c. omega arith)
+    Inv-loop μ-loop loop-holds (λ c. omega arith) (λ c κs. omega arith) (λ c. omega arith) (λ c. omega arith)
     (λ c. omega arith) (λ c. omega arith)
     (λ c κs. c .before .before .before .before .before .before .before .before .before .before .before .loop .inv .1 .inside) (λ c κs. few-rows (ended (turned c) .before))
     loop-less loop-again

@@ -8,6 +8,7 @@ use lib.IntN.{ℤ}
 use mir.Facts.{toZ-ofZ}
 use borrow.Author.Needs.{needs}
 use Rattle.integer.specs.Words.{counting}
+use Rattle.segment.specs.Stored.{sampleOf}
 use Rattle.tables.specs.View.{traceIn, numbersFrom}
 use Rattle.tables.specs.Walk.{Rising}
 use Rattle.tables.specs.Runs.{testBy}
@@ -34,7 +35,7 @@ walk-of-requires c κs = record {
 }
 
 returns : tie.Need-returns
-unfolding traceIn counting numbersFrom
+unfolding traceIn sampleOf counting numbersFrom
 returns c =
     let s = c .before .before .before in
     c .walk-of .ensures

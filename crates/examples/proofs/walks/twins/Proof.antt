@@ -6,6 +6,7 @@ use Prim.Native.Nat.{zero, suc}
 use native.Mathlib.Omega.{arith}
 use borrow.Author.Needs.{needs}
 use Rattle.integer.specs.Words.{counting}
+use Rattle.segment.specs.Stored.{sampleOf}
 use Rattle.tables.specs.View.{traceIn, numbersFrom}
 use Rattle.tables.specs.Walk.{Rising}
 use Rattle.examples.proofs.walks.twins.Statement.{statement}
@@ -28,7 +29,7 @@ walk-of-requires c κs = record {
 }
 
 returns : tie.Need-returns
-unfolding traceIn counting numbersFrom
+unfolding traceIn sampleOf counting numbersFrom
 returns c = c .walk-of .ensures
 
 pub twins-spec : {M : Type 1} → statement M

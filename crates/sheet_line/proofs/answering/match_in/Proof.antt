@@ -10,7 +10,8 @@ use denote.Ref.{now}
 use borrow.Author.Needs.{needs}
 use Rattle.dstree.specs.Measures.{Measures, measures}
 use Rattle.dstree.specs.Refusals.{firstOf}
-use Rattle.dstree.specs.Sheet.{areBytes, sheetConditions}
+use Rattle.dstree.specs.Sheet.{areBytes}
+use Rattle.dstree.specs.SheetWidths.{sheetConditions}
 use Rattle.tables.specs.Tables.{Tables, tables, labelledTables, lentOf}
 use Rattle.tables.specs.Answers.{opened}
 use Rattle.tables.specs.Judge.{LongEnough}

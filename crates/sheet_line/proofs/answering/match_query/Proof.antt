@@ -10,9 +10,11 @@ use lib.Seq.{length-take-le}
 use lib.Dec.{T}
 use denote.Ref.{now}
 use borrow.Author.Needs.{needs}
+use Rattle.segment.specs.Stored.{samplesOf}
 use Rattle.dstree.specs.Measures.{Trace, sampleLimit, isLibrary, recordsNeeded, workNeeded}
 use Rattle.dstree.specs.Refusals.{firstOf}
-use Rattle.dstree.specs.Sheet.{areBytes, sheetConditions}
+use Rattle.dstree.specs.Sheet.{areBytes}
+use Rattle.dstree.specs.SheetWidths.{sheetConditions}
 use Rattle.dstree.specs.Program.{lineOf}
 use Rattle.tables.specs.Tables.{Tables, tables}
 use Rattle.sheet_blocks.specs.Traces.{countOf, sheetTraces}
@@ -77,7 +79,7 @@ module _ (r : tie.After-read-trace) where
   at = r .before .before
 
   abbrev query : Trace
-  query = r .read-trace .last .1 .1 .0
+  query = samplesOf (r .read-trace .last .1 .1 .0)
 
   query-is : query ≡ lastTrace at
   query-is = r .read-trace .ensures

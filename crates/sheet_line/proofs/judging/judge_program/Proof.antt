@@ -9,7 +9,8 @@ use borrow.Author.Needs.{needs}
 use borrow.Author.Tests.{lt-ltb, le-ltb}
 use Rattle.dstree.specs.Measures.{Measures}
 use Rattle.dstree.specs.Refusals.{firstOf}
-use Rattle.dstree.specs.Sheet.{measuresIn, countIn, sheetConditions}
+use Rattle.dstree.specs.Sheet.{measuresIn, countIn}
+use Rattle.dstree.specs.SheetWidths.{sheetConditions}
 use Rattle.dstree.specs.Program.{mostBytes}
 use Rattle.dstree.proofs.Conditions.{first-some, first-none}
 use Rattle.tables.specs.Answers.{wordOf, foundBy}

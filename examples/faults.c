@@ -30,7 +30,7 @@ static uint8_t recording[SILKENDOZ_RECORDING_BYTES(N)];
 /* The library keeps no names. Trace 0 is the first one added, and so on. */
 struct fault {
     const char *name;
-    int16_t trace[N];
+    int32_t trace[N];
 };
 static const struct fault faults[] = {
     {"healthy", {0, 5200, 1600, 1600, 1600, 1600, 1600, -3400}},
@@ -52,7 +52,7 @@ static int done(const char *what, uint64_t number)
     return number == SILKENDOZ_DONE;
 }
 
-static int find(const int16_t *query, size_t length)
+static int find(const int32_t *query, size_t length)
 {
     if (!done("nearest", silkendoz_nearest_in(&tables, trail, SILKENDOZ_TRAIL(CAPACITY), query, length, out, SILKENDOZ_OUT)))
         return 0;
@@ -62,7 +62,7 @@ static int find(const int16_t *query, size_t length)
 }
 
 /* The nearest and the runner-up: is the first far ahead? A library of one trace lists one. */
-static int find_two(const int16_t *query, size_t length)
+static int find_two(const int32_t *query, size_t length)
 {
     struct silkendoz_neighbour list[2];
     uint64_t i;
@@ -176,7 +176,7 @@ static int record(uint64_t trace)
 
 int main(void)
 {
-    static const int16_t today[N] = {10, 5150, 1620, 1590, 1690, 2050, 2260, -2950};
+    static const int32_t today[N] = {10, 5150, 1620, 1590, 1690, 2050, 2260, -2950};
     int i;
 
     if (!done("open", silkendoz_open_in(&tables, N, CAPACITY, LEAF_SIZE, out, SILKENDOZ_OUT)))

@@ -5,13 +5,14 @@
  * between calls, allocates, or calls anything but memcpy and memset. The pages GUIDE.md and LAYOUT.md, which come with the library (its
  * folder docs/, installed share/doc/silkendoz/), have a complete program, times and the tables' fields.
  *
- * A TRACE is n signed 16-bit samples. A library keeps up to c traces, numbered from 0 as they are added.
+ * A TRACE is n samples, whole numbers from SILKENDOZ_MIN_SAMPLE to SILKENDOZ_MAX_SAMPLE, which is what a converter of 20 bits gives. A call
+ * takes them as plain int32_t; one that lies outside is refused (15). A library keeps up to c traces, numbered from 0 as they are added.
  *
  * TABLES. A library lives in six tables that the caller lends to every call:
  *
  *   table     element    places needed for n samples, capacity c
  *   control   uint16_t   SILKENDOZ_CONTROL
- *   samples   int16_t    SILKENDOZ_SAMPLES(n, c)      c * n
+ *   samples   int32_t    SILKENDOZ_SAMPLES(n, c)      c * n, words
  *   nodes     int64_t    SILKENDOZ_NODES(c)           (2c - 1) * 87
  *   links     uint16_t   SILKENDOZ_LINKS(c)           c
  *   work      uint64_t   SILKENDOZ_WORK(c)            2c - 1
@@ -23,6 +24,11 @@
  * A slice is passed as a pointer and then its length, which counts elements (not bytes). A table may be longer than its need: places behind
  * the need are neither read nor written. A shorter one is refused (2). The tables hold no pointers, and numbers in the machine's own byte
  * order.
+ *
+ * WORDS. In the table `samples` a stored sample is a word: its 20 bits are the upper ones of 32. SILKENDOZ_SAMPLE(word) is the sample that
+ * a word stands for, and SILKENDOZ_WORD(sample) the word of a sample. The lower twelve bits are written as zero and ignored, so that every
+ * word stands for a sample. Traces and queries, as arguments, are plain samples: who takes a stored trace for one takes SILKENDOZ_SAMPLE of
+ * each of its words. Without it most are refused (15), but one of very small samples is taken for 4,096 times itself.
  *
  * LABELS. A trace has a label: a fault code of 16 bits and a machine's serial of 32 bits, any numbers, given as it is added by
  * silkendoz_add_labelled, and zero from every other call that adds. A sheet keeps labels, a recording does not. silkendoz_label tells both
@@ -38,7 +44,7 @@
  *   - no slice that a call may write overlaps another slice of the same call;
  *   - until the call is back, nobody else writes a lent slice, nor reads one that the call may write;
  *   - the stack has room. On x86-64 adding, reading a sheet and importing a recording take less than 96 KiB, checking tables less than
- *     64 KiB, a batch less than 32 KiB, every other call less than 16 KiB (measured, not proved).
+ *     64 KiB, a batch less than 48 KiB, every other call less than 16 KiB (measured, not proved).
  *
  * There is nothing else: any contents, any lengths and any numbers are answered.
  *
@@ -55,7 +61,7 @@
  *                         the call write behind the table
  *   null with length 0    a null pointer is wrong even then: take the address of any object of that type
  *   overlapping slices    one buffer for work and sheet, or a query that lies in the trail's memory; a trace to be added that lies in
- *                         `samples` itself has to be copied first
+ *                         `samples` itself has to be copied first, by SILKENDOZ_SAMPLE
  *   interrupts            a handler that matches, or only looks at the tables, while the main program adds; or that uses the same work,
  *                         trail or out as a match that it interrupted. Give it its own, and keep it out while the tables are written
  *   DMA                   a query or sheet that the converter or the card is still filling: wait for its end, and where there is a data
@@ -84,8 +90,8 @@
  *
  * REFUSALS. A refused call leaves every table, the trail, the list, the answers, the sheet, the buffer and all of `out` behind its first
  * place as they were. The place is 0, but for a torn block, where it is the first block at fault. The numbers are tested in this order: 1;
- * a control record too short (2); its measures (3); other tables (2); the rest of 3; 11, 12 or 14, directly behind 3; then 4 to 8; 13.
- * Reading a sheet: 8; 9 over all blocks; 10; 2.
+ * a control record too short (2); its measures (3); other tables (2); the rest of 3; 11, 12 or 14, directly behind 3; then 4, 15, 5 to 8;
+ * 13. Reading a sheet: 8; 9 over all blocks; 10; 15; 2.
  */
 #ifndef SILKENDOZ_H
 #define SILKENDOZ_H
@@ -106,24 +112,28 @@ extern "C" {
 /* The version of the tables' layout (LAYOUT.md). Another number is another layout, or another tree: a firmware that keeps tables in
  * battery-backed memory keeps this number beside them, and reads its sheet if it finds another one there after an update. Sheets stay
  * readable. */
-#define SILKENDOZ_LAYOUT 3
+#define SILKENDOZ_LAYOUT 4
 
-/* Gives 3. An archive has a function of this name for its own layout alone. So that a program does not link with an archive of another
+/* Gives 4. An archive has a function of this name for its own layout alone. So that a program does not link with an archive of another
  * layout than its header's, each file that includes this header keeps the function's address (with GCC and Clang). */
-uint64_t silkendoz_layout_3(void);
+uint64_t silkendoz_layout_4(void);
 #if defined(__GNUC__)
 #if defined(__ELF__) && defined(__has_attribute)
 #if __has_attribute(retain)
 __attribute__((retain))
 #endif
 #endif
-__attribute__((used)) static uint64_t (*const silkendoz_layout_of_the_archive)(void) = silkendoz_layout_3;
+__attribute__((used)) static uint64_t (*const silkendoz_layout_of_the_archive)(void) = silkendoz_layout_4;
 #endif
 
 /* Measures: n from 1 to 256, capacity 1 to 4,096, leaf size 1 to 64. */
 #define SILKENDOZ_MAX_N 256
 #define SILKENDOZ_MAX_CAPACITY 4096
 #define SILKENDOZ_MAX_LEAF_SIZE 64
+
+/* The least and the greatest sample. */
+#define SILKENDOZ_MIN_SAMPLE (-524288)
+#define SILKENDOZ_MAX_SAMPLE 524287
 
 /* As many traces as one search lists at most. */
 #define SILKENDOZ_MAX_K 16
@@ -138,6 +148,20 @@ __attribute__((used)) static uint64_t (*const silkendoz_layout_of_the_archive)(v
 #define SILKENDOZ_SIZE(x) ((size_t)(x))
 #endif
 
+/* A number as a sample or a word. */
+#ifdef __cplusplus
+#define SILKENDOZ_INT32(x) static_cast<int32_t>(x)
+#else
+#define SILKENDOZ_INT32(x) ((int32_t)(x))
+#endif
+
+/* The sample that a word of the table `samples` stands for: the word over 4,096, rounded down. (A shift to the right, said so that it is
+ * the same with every compiler for words below 0.) And the word of a sample, which has to be within the limits. Both may stand in
+ * initialisers; an argument may be taken more than once. */
+#define SILKENDOZ_SAMPLE(word) \
+    (SILKENDOZ_INT32(word) < 0 ? -1 - (-1 - SILKENDOZ_INT32(word)) / 4096 : SILKENDOZ_INT32(word) / 4096)
+#define SILKENDOZ_WORD(sample) (SILKENDOZ_INT32(sample) * 4096)
+
 /* Places that the tables need; none for a capacity of 0. An argument may be taken more than once. */
 #define SILKENDOZ_CONTROL 5
 #define SILKENDOZ_SAMPLES(n, c) (SILKENDOZ_SIZE(n) * SILKENDOZ_SIZE(c))
@@ -150,7 +174,7 @@ __attribute__((used)) static uint64_t (*const silkendoz_layout_of_the_archive)(v
  * search work is; `with` is handed on. Whatever goes through all tables below is made of this list. */
 #define SILKENDOZ_EACH_TABLE(TABLE, lent, work_lent, with, n, c) \
     TABLE(lent, with, uint16_t, control, SILKENDOZ_CONTROL) \
-    TABLE(lent, with, int16_t, samples, SILKENDOZ_SAMPLES(n, c)) \
+    TABLE(lent, with, int32_t, samples, SILKENDOZ_SAMPLES(n, c)) \
     TABLE(lent, with, int64_t, nodes, SILKENDOZ_NODES(c)) \
     TABLE(lent, with, uint16_t, links, SILKENDOZ_LINKS(c)) \
     TABLE(work_lent, with, uint64_t, work, SILKENDOZ_WORK(c)) \
@@ -185,14 +209,16 @@ enum silkendoz_refusal {
     SILKENDOZ_FULL = 5,           /* count equals capacity; an import: not all traces fit */
     SILKENDOZ_EMPTY = 6,          /* a search with no trace stored */
     SILKENDOZ_SHORT_TRAIL = 7,    /* trail shorter than the number of leaves, or list shorter than k records */
-    SILKENDOZ_SHEET_LENGTH = 8,   /* writing, export: below the need; reading: 0, not a multiple of 512, above 4,195 blocks */
+    SILKENDOZ_SHEET_LENGTH = 8,   /* writing, export: below the need; reading: 0, not a multiple of 512, above 8,373 blocks */
     SILKENDOZ_TORN_BLOCK = 9,     /* check, block number or kind wrong; the place is the first block at fault */
-    SILKENDOZ_BAD_SHEET = 10,     /* letters, measures, count above capacity, number of blocks, or a nonzero byte that must be 0 */
+    SILKENDOZ_BAD_SHEET = 10,     /* letters, measures, count above capacity, number of blocks, a nonzero byte that must be 0, or blocks of
+                                     labels or of wide samples that need not be */
     SILKENDOZ_BAD_K = 11,         /* the k nearest, k not in 1 to 16 */
-    SILKENDOZ_BAD_RECORDING = 12, /* import: another form or length, no whole traces; export: rate or trace number out of range. It has a
-                                     second use: a label of no stored trace */
+    SILKENDOZ_BAD_RECORDING = 12, /* import: another form or length, no whole traces; export: rate or trace number out of range, or a trace
+                                     with a sample beyond 16 bits. It has a second use: a label of no stored trace */
     SILKENDOZ_LOOSE_RECORD = 13,  /* check: well-formed tables hold a figure that is not exactly the recomputed one */
-    SILKENDOZ_BAD_BATCH = 14      /* a batch: 0 or more than 16 queries, or an answer list of another length than the batch */
+    SILKENDOZ_BAD_BATCH = 14,     /* a batch: 0 or more than 16 queries, or an answer list of another length than the batch */
+    SILKENDOZ_SAMPLE_RANGE = 15   /* an added trace, a query or a sheet has a sample outside -524,288 to 524,287 */
 };
 
 /* Opens an empty library with these measures: the needed parts of the tables are set to zero, then the control record is written. What the
@@ -202,17 +228,18 @@ uint64_t silkendoz_open(
     uint64_t n, uint64_t capacity, uint64_t leaf_size,
     uint64_t *out, size_t out_len);
 
-/* Adds a trace of n samples; its label is zero, whatever stood in its place. Of `work` only the length is looked at. Refuses 2, 3, 4, 5. */
+/* Adds a trace of n samples; its label is zero, whatever stood in its place. Of `work` only the length is looked at. Refuses 2, 3, 4, 15,
+ * 5. */
 uint64_t silkendoz_add(
     SILKENDOZ_TABLES_TO_ADD_TO
-    const int16_t *trace, size_t trace_len,
+    const int32_t *trace, size_t trace_len,
     uint64_t *out, size_t out_len);
 
 /* Adds a trace of n samples with a label: a fault code and a machine's serial, neither of which is tested. All else is as by silkendoz_add.
- * Refuses 2, 3, 4, 5. */
+ * Refuses 2, 3, 4, 15, 5. */
 uint64_t silkendoz_add_labelled(
     SILKENDOZ_TABLES_TO_ADD_TO
-    const int16_t *trace, size_t trace_len,
+    const int32_t *trace, size_t trace_len,
     uint16_t code, uint32_t serial,
     uint64_t *out, size_t out_len);
 
@@ -226,20 +253,20 @@ uint64_t silkendoz_label(
 /* Finds the stored trace that is nearest to a query of n samples: the least sum of squared differences, the lowest number among equals. The
  * trail begins with the numbers of the leaves read, in order; its places behind them stay. The needed part of `work` is left zero, whatever
  * it held. Of well-formed tables with loose records, which silkendoz_check_tables refuses, it is the nearest of the traces in the leaves
- * read. Refuses 2, 3, 4, 6, 7. */
+ * read. Refuses 2, 3, 4, 15, 6, 7. */
 uint64_t silkendoz_nearest(
     SILKENDOZ_TABLES_TO_SEARCH
     uint16_t *trail, size_t trail_len,
-    const int16_t *query, size_t query_len,
+    const int32_t *query, size_t query_len,
     uint64_t *out, size_t out_len);
 
 /* The jog remote's call: silkendoz_nearest, and out[4] is the nearest trace's fault code. Over tables of any contents and lengths that are
  * alike but for serials it gives back the same, writes the same into `out` and the trail, and leaves the same in `work`. Refuses 2, 3, 4,
- * 6, 7. */
+ * 15, 6, 7. */
 uint64_t silkendoz_remote_match(
     SILKENDOZ_TABLES_TO_SEARCH
     uint16_t *trail, size_t trail_len,
-    const int16_t *query, size_t query_len,
+    const int32_t *query, size_t query_len,
     uint64_t *out, size_t out_len);
 
 /* Lists the k stored traces, k from 1 to 16, that are nearest to a query of n samples: by distance, then by number. The list takes two
@@ -247,33 +274,38 @@ uint64_t silkendoz_remote_match(
  * silkendoz_k_nearest_in takes an array of records instead. A library of fewer than k traces lists all it has, and out[2] says how many
  * these are. Places behind them stay. Trail and `work` are left as by a search that reads until no bound is within the k-th distance. Of
  * tables that calls made, or that silkendoz_check_tables accepted, these are the k nearest, and the first is silkendoz_nearest's answer.
- * Refuses 2, 3, 11, 4, 6, 7. */
+ * Refuses 2, 3, 11, 4, 15, 6, 7. */
 uint64_t silkendoz_k_nearest(
     SILKENDOZ_TABLES_TO_SEARCH
     uint16_t *trail, size_t trail_len,
     uint64_t *list, size_t list_len,
-    const int16_t *query, size_t query_len,
+    const int32_t *query, size_t query_len,
     uint64_t k,
     uint64_t *out, size_t out_len);
 
-/* Bytes of a sheet that are enough for traces of n samples, k of them: blocks of 512 bytes, block 0, 253 samples in each block behind it
- * and 84 labels in each behind these. That is the greatest need: a library of which every label is zero is written without the blocks of
- * labels, which are (k + 83) / 84. For every library of capacity c, SILKENDOZ_SHEET(n, c) is enough. */
-#define SILKENDOZ_SHEET(n, k) (512 * (1 + (SILKENDOZ_SAMPLES(n, k) + 252) / 253 + (SILKENDOZ_LABELS(k) + 83) / 84))
+/* Bytes of a sheet that are enough for traces of n samples, k of them. Blocks have 512 bytes: block 0, 126 samples in each block behind it
+ * and 84 labels in each behind these. That is the greatest need. A library of which every label is zero is written without the blocks of
+ * labels, which are (k + 83) / 84. One whose samples all fit 16 bits (-32,768 to 32,767) has 253 of them in a block. For every library of
+ * capacity c, SILKENDOZ_SHEET(n, c) is enough; where no trace has a wider sample, so is SILKENDOZ_NARROW_SHEET(n, c). */
+#define SILKENDOZ_SHEET_BLOCKS(n, k, a_block) (1 + (SILKENDOZ_SAMPLES(n, k) + (a_block) - 1) / (a_block) + (SILKENDOZ_LABELS(k) + 83) / 84)
+#define SILKENDOZ_SHEET(n, k) (512 * SILKENDOZ_SHEET_BLOCKS(n, k, 126))
+#define SILKENDOZ_NARROW_SHEET(n, k) (512 * SILKENDOZ_SHEET_BLOCKS(n, k, 253))
 
 /* Writes the library as a sheet, into the first blocks of `sheet`; bytes behind them stay. out[0] is the number of blocks, those of labels
- * among them; there are such if any label of a stored trace is not zero, be it its serial alone. Of `work` only the length is looked at.
- * Refuses 2, 3, 8. */
+ * among them; there are such if any label of a stored trace is not zero, be it its serial alone. The sheet is a wide one, with samples of
+ * four bytes, if any stored sample does not fit 16 bits; else it is narrow, with samples of two, as it always was. Of `work` only the
+ * length is looked at. Refuses 2, 3, 8. */
 uint64_t silkendoz_write_sheet(
     SILKENDOZ_TABLES_TO_READ
     uint8_t *sheet, size_t sheet_len,
     uint64_t *out, size_t out_len);
 
-/* Opens the library that a sheet of any bytes holds, and adds its traces in order, each with its label; a sheet without blocks of labels
- * gives zero ones. What the tables held before does not matter. Every refusal is decided before a table is written. A block of samples
- * behind one of labels is torn (9). Another number of blocks of samples than the count needs, or of labels than all or none, is a bad sheet
- * (10), and so are blocks of labels that together hold only zero ones: each library has one sheet. silkendoz_sheet_measures says what
- * tables a sheet needs. Refuses 8, 9, 10, 2. */
+/* Opens the library that a sheet of any bytes holds, narrow or wide, and adds its traces in order, each with its label. A sheet without
+ * blocks of labels gives zero ones. What the tables held before does not matter. Every refusal is decided before a table is written. A
+ * block of samples behind one of labels is torn (9), and so is one whose kind does not go with block 0's. Another number of blocks of
+ * samples than the count needs, or of labels than all or none, is a bad sheet (10). So are blocks of labels that together hold only zero
+ * ones. So is a wide sheet whose samples all fit 16 bits, or that has no trace: each library has one sheet. Then comes a sample outside
+ * the limits (15). silkendoz_sheet_measures says what tables a sheet needs. Refuses 8, 9, 10, 15, 2. */
 uint64_t silkendoz_read_sheet(
     SILKENDOZ_TABLES_TO_FILL
     const uint8_t *sheet, size_t sheet_len,
@@ -293,8 +325,8 @@ uint64_t silkendoz_import_recording(
     uint64_t *out, size_t out_len);
 
 /* Writes the stored trace with this number as a recording at a rate from 0 to 2^31 - 1, into the first bytes of `buffer`; bytes behind them
- * stay. out[0] is how many bytes these are, SILKENDOZ_RECORDING_BYTES(n). The rate goes into the header and nowhere else. Of `work` only
- * the length is looked at. Refuses 2, 3, 12, 8. */
+ * stay. out[0] is how many bytes these are, SILKENDOZ_RECORDING_BYTES(n). The rate goes into the header and nowhere else. A trace with a
+ * sample that does not fit 16 bits cannot be written so (12). Of `work` only the length is looked at. Refuses 2, 3, 12, 8. */
 uint64_t silkendoz_export_recording(
     SILKENDOZ_TABLES_TO_READ
     uint8_t *buffer, size_t buffer_len,
@@ -307,9 +339,8 @@ uint64_t silkendoz_export_recording(
  * it still gives 0 after any calls that follow. It gives 0 for every library that calls made, an empty one too. A range that is wider than
  * it need be is loose (13) as well as one that is too narrow. What it does not see: a sample that changed, where the figures that a node
  * records stayed as they were, or changed with it; thresholds of tests, by which adding goes; labels; places that hold nothing of the
- * library. It reads every stored sample, up to 16 times: measured at 4,096 traces of 256 samples, 0.4 to 7.4 ms by leaf size and 15 ms at
- * worst, where one plain pass over the samples takes 0.5 ms. Nothing is written but `out`. Of `work` only the length is looked at. Refuses
- * 2, 3, 13. */
+ * library. It reads every stored sample, up to 16 times. Nothing is written but `out`. Of `work` only the length is looked at. Refuses 2,
+ * 3, 13. */
 uint64_t silkendoz_check_tables(
     SILKENDOZ_TABLES_TO_READ
     uint64_t *out, size_t out_len);
@@ -324,11 +355,11 @@ struct silkendoz_answer {
  * query and no more: answers_len, which counts records, has to be `many`. answers[i] is what silkendoz_nearest answers of query i alone. No
  * leaf is read twice: the leaves read are those that at least one of the queries alone would read. The trail begins with their numbers,
  * rising, and out[0] is how many they are; its places behind them stay. The needed part of `work` is left zero. (On well-formed tables that
- * silkendoz_check_tables would refuse, each answer is the nearest of the traces in the leaves read.) Refuses 2, 3, 14, 4, 6, 7. */
+ * silkendoz_check_tables would refuse, each answer is the nearest of the traces in the leaves read.) Refuses 2, 3, 14, 4, 15, 6, 7. */
 uint64_t silkendoz_match_batch(
     SILKENDOZ_TABLES_TO_SEARCH
     uint16_t *trail, size_t trail_len,
-    const int16_t *queries, size_t queries_len,
+    const int32_t *queries, size_t queries_len,
     size_t many,
     struct silkendoz_answer *answers, size_t answers_len,
     uint64_t *out, size_t out_len);
@@ -364,7 +395,7 @@ static inline uint64_t silkendoz_open_in(
 
 static inline uint64_t silkendoz_add_in(
     const struct silkendoz_tables *t,
-    const int16_t *trace, size_t trace_len,
+    const int32_t *trace, size_t trace_len,
     uint64_t *out, size_t out_len)
 {
     return silkendoz_add(SILKENDOZ_PASSED(t) trace, trace_len, out, out_len);
@@ -372,7 +403,7 @@ static inline uint64_t silkendoz_add_in(
 
 static inline uint64_t silkendoz_add_labelled_in(
     const struct silkendoz_tables *t,
-    const int16_t *trace, size_t trace_len,
+    const int32_t *trace, size_t trace_len,
     uint16_t code, uint32_t serial,
     uint64_t *out, size_t out_len)
 {
@@ -390,7 +421,7 @@ static inline uint64_t silkendoz_label_in(
 static inline uint64_t silkendoz_nearest_in(
     const struct silkendoz_tables *t,
     uint16_t *trail, size_t trail_len,
-    const int16_t *query, size_t query_len,
+    const int32_t *query, size_t query_len,
     uint64_t *out, size_t out_len)
 {
     return silkendoz_nearest(SILKENDOZ_PASSED(t) trail, trail_len, query, query_len, out, out_len);
@@ -399,7 +430,7 @@ static inline uint64_t silkendoz_nearest_in(
 static inline uint64_t silkendoz_remote_match_in(
     const struct silkendoz_tables *t,
     uint16_t *trail, size_t trail_len,
-    const int16_t *query, size_t query_len,
+    const int32_t *query, size_t query_len,
     uint64_t *out, size_t out_len)
 {
     return silkendoz_remote_match(SILKENDOZ_PASSED(t) trail, trail_len, query, query_len, out, out_len);
@@ -420,7 +451,7 @@ static inline uint64_t silkendoz_k_nearest_in(
     const struct silkendoz_tables *t,
     uint16_t *trail, size_t trail_len,
     struct silkendoz_neighbour *list, size_t records,
-    const int16_t *query, size_t query_len,
+    const int32_t *query, size_t query_len,
     uint64_t k,
     uint64_t *out, size_t out_len)
 {
@@ -475,7 +506,7 @@ static inline uint64_t silkendoz_check_tables_in(
 static inline uint64_t silkendoz_match_batch_in(
     const struct silkendoz_tables *t,
     uint16_t *trail, size_t trail_len,
-    const int16_t *queries, size_t queries_len,
+    const int32_t *queries, size_t queries_len,
     size_t many,
     struct silkendoz_answer *answers, size_t answers_len,
     uint64_t *out, size_t out_len)
@@ -502,13 +533,14 @@ static inline const char *silkendoz_word(uint64_t number)
     case SILKENDOZ_BAD_RECORDING: return "bad recording";
     case SILKENDOZ_LOOSE_RECORD: return "loose record";
     case SILKENDOZ_BAD_BATCH: return "bad batch";
+    case SILKENDOZ_SAMPLE_RANGE: return "sample range";
     default: return "unknown";
     }
 }
 
 /* The n and capacity of a sheet of any bytes, for which tables have to be lent to read it. The whole sheet is judged first, as reading
- * it does: 0 says that it is sound, and that reading refuses it no more but for short tables (2). Refuses 8, 9, 10, and then leaves *n and
- * *capacity as they were; which block is torn, reading says. */
+ * it does: 0 says that it is sound, and that reading refuses it no more but for short tables (2). Refuses 8, 9, 10, 15, and then leaves *n
+ * and *capacity as they were; which block is torn, reading says. */
 #define SILKENDOZ_NO_PLACES(lent, with, type, name, places) type name = 0;
 #define SILKENDOZ_PASS_NONE(lent, with, type, name, places) &name, 0,
 static inline uint64_t silkendoz_sheet_measures(const uint8_t *sheet, size_t sheet_len, size_t *n, size_t *capacity)

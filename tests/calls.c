@@ -1,5 +1,5 @@
 /* The calls from C, over the struct of tables: document 01's examples, lists of the k nearest, recordings, the check, batches, labels,
- * refusals in their order, and memory that has to stay. Prints one line, and fails at the first difference. */
+ * samples of 20 bits, refusals in their order, and memory that has to stay. Prints one line, and fails at the first difference. */
 
 #include "silkendoz.h"
 
@@ -12,7 +12,7 @@ enum { N = 4, C = 8, SPARE = 3, TRAIL = 8 };
 /* One library's tables, a few places longer than they need to be. */
 struct tables {
     uint16_t control[SILKENDOZ_CONTROL + SPARE];
-    int16_t samples[N * C + SPARE];
+    int32_t samples[N * C + SPARE];
     int64_t nodes[(2 * C - 1) * 87 + SPARE];
     uint16_t links[C + SPARE];
     uint64_t work[2 * C - 1 + SPARE];
@@ -48,21 +48,21 @@ static uint64_t open_in(struct tables *t, uint64_t n, uint64_t c, uint64_t leaf_
     return silkendoz_open_in(&l, n, c, leaf_size, out, SILKENDOZ_OUT);
 }
 
-static uint64_t add_to(struct tables *t, const int16_t *trace, size_t size, uint64_t *out, size_t out_len)
+static uint64_t add_to(struct tables *t, const int32_t *trace, size_t size, uint64_t *out, size_t out_len)
 {
     struct silkendoz_tables l = lent(t);
     return silkendoz_add_in(&l, trace, size, out, out_len);
 }
 
 static uint64_t nearest_in(
-    struct tables *t, const int16_t *query, size_t size, uint16_t *trail, size_t trail_len, uint64_t *out, size_t out_len)
+    struct tables *t, const int32_t *query, size_t size, uint16_t *trail, size_t trail_len, uint64_t *out, size_t out_len)
 {
     struct silkendoz_tables l = lent(t);
     return silkendoz_nearest_in(&l, trail, trail_len, query, size, out, out_len);
 }
 
 static uint64_t add_labelled_to(
-    struct tables *t, const int16_t *trace, size_t size, uint16_t code, uint32_t serial, uint64_t *out, size_t out_len)
+    struct tables *t, const int32_t *trace, size_t size, uint16_t code, uint32_t serial, uint64_t *out, size_t out_len)
 {
     struct silkendoz_tables l = lent(t);
     return silkendoz_add_labelled_in(&l, trace, size, code, serial, out, out_len);
@@ -75,13 +75,13 @@ static uint64_t label_in(struct tables *t, uint64_t number, uint64_t *out, size_
 }
 
 static uint64_t remote_match_in(
-    struct tables *t, const int16_t *query, size_t size, uint16_t *trail, size_t trail_len, uint64_t *out, size_t out_len)
+    struct tables *t, const int32_t *query, size_t size, uint16_t *trail, size_t trail_len, uint64_t *out, size_t out_len)
 {
     struct silkendoz_tables l = lent(t);
     return silkendoz_remote_match_in(&l, trail, trail_len, query, size, out, out_len);
 }
 
-static uint64_t k_nearest_in(struct tables *t, const int16_t *query, size_t size, uint16_t *trail, size_t trail_len,
+static uint64_t k_nearest_in(struct tables *t, const int32_t *query, size_t size, uint16_t *trail, size_t trail_len,
     struct silkendoz_neighbour *list, size_t list_len, uint64_t k, uint64_t *out, size_t out_len)
 {
     struct silkendoz_tables l = lent(t);
@@ -119,7 +119,7 @@ static uint64_t check_in(struct tables *t, uint64_t *out, size_t out_len)
     return silkendoz_check_tables_in(&l, out, out_len);
 }
 
-static uint64_t batch_in(struct tables *t, const int16_t *queries, size_t size, size_t many, uint16_t *trail, size_t trail_len,
+static uint64_t batch_in(struct tables *t, const int32_t *queries, size_t size, size_t many, uint16_t *trail, size_t trail_len,
     struct silkendoz_answer *answers, size_t answers_len, uint64_t *out, size_t out_len)
 {
     struct silkendoz_tables l = lent(t);
@@ -147,7 +147,7 @@ static void opening(void)
     out[0] = 9;
     EXPECT(open_in(&t, N, C, 2, out) == SILKENDOZ_DONE && out[0] == 9);
     EXPECT(t.control[0] == N && t.control[1] == C && t.control[2] == 2 && t.control[3] == 0 && t.control[4] == 0);
-    EXPECT(t.control[5] == 0x5a5a && t.samples[N * C - 1] == 0 && t.samples[N * C] == 0x5a5a);
+    EXPECT(t.control[5] == 0x5a5a && t.samples[N * C - 1] == 0 && t.samples[N * C] == 0x5a5a5a5a);
     EXPECT(t.nodes[SILKENDOZ_NODES(C) - 1] == 0 && t.nodes[SILKENDOZ_NODES(C)] == before.nodes[0]);
     EXPECT(t.links[C - 1] == 0 && t.links[C] == 0x5a5a);
     EXPECT(t.work[SILKENDOZ_WORK(C) - 1] == 0 && t.work[SILKENDOZ_WORK(C)] == before.work[0]);
@@ -179,7 +179,7 @@ static void largest(void)
 enum { CALLS = 13, TABLES = 6 };
 
 /* What each call over the struct answers, an export before an import. */
-static void answers(const struct silkendoz_tables *t, const int16_t *trace, uint8_t *sheet, uint64_t numbers[CALLS])
+static void answers(const struct silkendoz_tables *t, const int32_t *trace, uint8_t *sheet, uint64_t numbers[CALLS])
 {
     uint16_t trail[TRAIL];
     struct silkendoz_neighbour list[2];
@@ -207,7 +207,7 @@ static void lengths(void)
 {
     static struct tables t;
     static uint8_t sheet[SILKENDOZ_SHEET(N, 1)];
-    const int16_t trace[N] = {1, -2, 3, -4};
+    const int32_t trace[N] = {1, -2, 3, -4};
     struct silkendoz_tables just = lent(&t), less;
     uint64_t numbers[CALLS];
     int table, call;
@@ -240,11 +240,11 @@ static void lengths(void)
 static void words(void)
 {
     static const char *const table[] = {"done", "measure", "short table", "spoiled", "wrong trace", "full", "empty", "short trail",
-        "sheet length", "torn block", "bad sheet", "bad k", "bad recording", "loose record", "bad batch"};
+        "sheet length", "torn block", "bad sheet", "bad k", "bad recording", "loose record", "bad batch", "sample range"};
     uint64_t number;
     for (number = 0; number < PLACES(table); number++)
         EXPECT(strcmp(silkendoz_word(number), table[number]) == 0);
-    EXPECT(strcmp(silkendoz_word(SILKENDOZ_BAD_BATCH + 1), "unknown") == 0);
+    EXPECT(strcmp(silkendoz_word(SILKENDOZ_SAMPLE_RANGE + 1), "unknown") == 0);
     EXPECT(strcmp(silkendoz_word(UINT64_MAX), "unknown") == 0);
 }
 
@@ -254,7 +254,8 @@ static void needs(void)
     EXPECT(SILKENDOZ_NODES(0) == 0 && SILKENDOZ_WORK(0) == 0 && SILKENDOZ_SAMPLES(4, 0) == 0 && SILKENDOZ_LINKS(0) == 0);
     EXPECT(SILKENDOZ_LABELS(0) == 0 && SILKENDOZ_LABELS(4096) == 4096);
     EXPECT(SILKENDOZ_SHEET(1, 0) == 512 && SILKENDOZ_SHEET(1, 84) == 3 * 512 && SILKENDOZ_SHEET(1, 85) == 4 * 512);
-    EXPECT(SILKENDOZ_SHEET(256, 4096) == 4195 * 512);
+    EXPECT(SILKENDOZ_SHEET(256, 4096) == 8373 * 512 && SILKENDOZ_NARROW_SHEET(256, 4096) == 4195 * 512);
+    EXPECT(SILKENDOZ_SHEET(126, 1) == 3 * 512 && SILKENDOZ_SHEET(127, 1) == 4 * 512 && SILKENDOZ_NARROW_SHEET(253, 1) == 3 * 512);
     EXPECT(SILKENDOZ_NODES(1) == 87 && SILKENDOZ_WORK(1) == 1);
     EXPECT(SILKENDOZ_NODES(4096) == 8191u * 87 && SILKENDOZ_WORK(4096) == 8191);
     EXPECT(SILKENDOZ_NODES(2 + 1) == 5 * 87 && SILKENDOZ_WORK(2 + 1) == 5);
@@ -265,7 +266,7 @@ static void needs(void)
 static void measures_of_sheets(void)
 {
     static struct tables t;
-    const int16_t trace[N] = {1, -2, 3, -4};
+    const int32_t trace[N] = {1, -2, 3, -4};
     uint8_t sheet[2 * 512];
     uint64_t out[SILKENDOZ_OUT];
     size_t n = 77, c = 78, at;
@@ -292,12 +293,12 @@ static void version(void)
     char text[64];
     snprintf(text, sizeof text, "%d.%d.%d", SILKENDOZ_VERSION_MAJOR, SILKENDOZ_VERSION_MINOR, SILKENDOZ_VERSION_PATCH);
     EXPECT(strcmp(text, SILKENDOZ_VERSION) == 0);
-    EXPECT(SILKENDOZ_LAYOUT == 3);
+    EXPECT(SILKENDOZ_LAYOUT == 4);
 }
 
-static void matches(struct tables *t, int16_t level, uint64_t trace, uint64_t distance, uint64_t leaves, uint64_t traces, uint16_t first)
+static void matches(struct tables *t, int32_t level, uint64_t trace, uint64_t distance, uint64_t leaves, uint64_t traces, uint16_t first)
 {
-    int16_t query[N] = {level, level, level, level};
+    int32_t query[N] = {level, level, level, level};
     uint16_t trail[TRAIL];
     uint64_t out[SILKENDOZ_OUT] = {0, 0, 0, 0, 77};
     size_t i;
@@ -317,7 +318,7 @@ static void matches(struct tables *t, int16_t level, uint64_t trace, uint64_t di
 static void adding_and_matching(void)
 {
     static struct tables t, before;
-    const int16_t a[N] = {0, 0, 0, 0}, b[N] = {4, 4, 4, 4}, c[N] = {0, 8, 0, 8};
+    const int32_t a[N] = {0, 0, 0, 0}, b[N] = {4, 4, 4, 4}, c[N] = {0, 8, 0, 8};
     uint16_t trail[TRAIL] = {0};
     uint64_t out[SILKENDOZ_OUT] = {9, 9, 9, 9, 9}, none = 5;
     int i;
@@ -360,10 +361,10 @@ static void adding_and_matching(void)
 enum { RECORDS = SILKENDOZ_MAX_K + 1 };
 
 /* Lists the k nearest to a level query: these traces and distances, in this order, with these counts; all else that was lent stays. */
-static void lists(struct tables *t, int16_t level, uint64_t k, const struct silkendoz_neighbour *expected, uint64_t many,
+static void lists(struct tables *t, int32_t level, uint64_t k, const struct silkendoz_neighbour *expected, uint64_t many,
     uint64_t leaves, uint64_t traces)
 {
-    int16_t query[N] = {level, level, level, level};
+    int32_t query[N] = {level, level, level, level};
     uint16_t trail[TRAIL];
     struct silkendoz_neighbour list[RECORDS];
     uint64_t out[SILKENDOZ_OUT] = {0, 0, 0, 77};
@@ -388,7 +389,7 @@ static void lists(struct tables *t, int16_t level, uint64_t k, const struct silk
 static void listing(void)
 {
     static struct tables t, before;
-    const int16_t a[N] = {0, 0, 0, 0}, b[N] = {4, 4, 4, 4}, c[N] = {0, 8, 0, 8};
+    const int32_t a[N] = {0, 0, 0, 0}, b[N] = {4, 4, 4, 4}, c[N] = {0, 8, 0, 8};
     const struct silkendoz_neighbour at_1[] = {{0, 4}, {1, 36}, {2, 100}}, at_2[] = {{0, 16}, {1, 16}, {2, 80}},
                                      twice[] = {{0, 16}, {1, 16}, {3, 16}, {2, 80}};
     struct silkendoz_neighbour list[RECORDS];
@@ -454,7 +455,7 @@ static void listing(void)
 static void sheets(void)
 {
     static struct tables t, u, before;
-    const int16_t trace[1] = {-1};
+    const int32_t trace[1] = {-1};
     uint8_t sheet[2 * 512 + 1];
     uint64_t out[SILKENDOZ_OUT];
 
@@ -495,7 +496,7 @@ static const uint8_t two[TWO] = {
 static void imports(void)
 {
     static struct tables t, u, before;
-    const int16_t first[N] = {1, -2, 3, -4}, second[N] = {0, 8, 0, 8};
+    const int32_t first[N] = {1, -2, 3, -4}, second[N] = {0, 8, 0, 8};
     uint8_t bad[TWO + 1], none[HEADER];
     uint64_t out[SILKENDOZ_OUT] = {9, 9, 9, 9, 9};
     size_t i;
@@ -597,8 +598,8 @@ static void exports(void)
 static void checks(void)
 {
     static struct tables t, u, before;
-    const int16_t traces[3][N] = {{0, 0, 0, 0}, {4, 4, 4, 4}, {0, 8, 0, 8}};
-    const int16_t query[N] = {1, 1, 1, 1};
+    const int32_t traces[3][N] = {{0, 0, 0, 0}, {4, 4, 4, 4}, {0, 8, 0, 8}};
+    const int32_t query[N] = {1, 1, 1, 1};
     uint16_t trail[TRAIL];
     uint8_t sheet[2 * 512];
     uint64_t out[SILKENDOZ_OUT] = {9, 9, 9, 9, 9};
@@ -640,7 +641,7 @@ static void checks(void)
 
     /* a sample that changed makes figures loose: written and read back, the traces as they now are make a library that is accepted. Short
      * tables come before what they hold */
-    t.samples[2 * N] = 1;
+    t.samples[2 * N] = SILKENDOZ_WORD(1);
     EXPECT(check_in(&t, out, SILKENDOZ_OUT) == SILKENDOZ_LOOSE_RECORD);
     memset(&u, 0x55, sizeof u);
     EXPECT(write_from(&t, sheet, sizeof sheet, out) == SILKENDOZ_DONE && read_into(&u, sheet, sizeof sheet, out) == SILKENDOZ_DONE);
@@ -660,11 +661,11 @@ static void checks(void)
 static void batches(void)
 {
     static struct tables t, before;
-    const int16_t traces[3][N] = {{0, 0, 0, 0}, {4, 4, 4, 4}, {0, 8, 0, 8}};
+    const int32_t traces[3][N] = {{0, 0, 0, 0}, {4, 4, 4, 4}, {0, 8, 0, 8}};
     /* nearest: 1 at 0 in leaf 2; 0 at 4 in leaf 1; 0 at 16, for which both leaves are read */
-    const int16_t asked[3][N] = {{4, 4, 4, 4}, {1, 1, 1, 1}, {2, 2, 2, 2}};
+    const int32_t asked[3][N] = {{4, 4, 4, 4}, {1, 1, 1, 1}, {2, 2, 2, 2}};
     const struct silkendoz_answer alone[3] = {{1, 0}, {0, 4}, {0, 16}};
-    int16_t run[17 * N] = {0};
+    int32_t run[17 * N] = {0};
     uint16_t trail[TRAIL], marks[TRAIL];
     struct silkendoz_answer answers[18], kept[18];
     uint64_t out[SILKENDOZ_OUT] = {9, 9, 9, 9, 9};
@@ -721,7 +722,7 @@ static void batches(void)
 static void labels(void)
 {
     static struct tables t, u, before;
-    const int16_t a[N] = {0, 0, 0, 0}, b[N] = {4, 4, 4, 4};
+    const int32_t a[N] = {0, 0, 0, 0}, b[N] = {4, 4, 4, 4};
     uint16_t trail[TRAIL], other_trail[TRAIL];
     uint8_t sheet[SILKENDOZ_SHEET(N, 3)];
     uint64_t out[SILKENDOZ_OUT] = {9, 9, 9, 9, 9}, told[SILKENDOZ_OUT];
@@ -780,6 +781,102 @@ static void labels(void)
     EXPECT(nearest_in(&t, a, N, trail, TRAIL, out, SILKENDOZ_OUT) == SILKENDOZ_DONE && out[4] == 9);
 }
 
+/* Every sample as a word and back, also where the word has lower bits. */
+static void words_of_samples(void)
+{
+    static const int32_t ends[] = {SILKENDOZ_WORD(SILKENDOZ_MIN_SAMPLE), SILKENDOZ_WORD(-1), SILKENDOZ_WORD(0), SILKENDOZ_WORD(1),
+        SILKENDOZ_WORD(SILKENDOZ_MAX_SAMPLE)};
+    const int32_t lower[] = {0, 1, 2047, 4095};
+    int32_t sample;
+    size_t i;
+    EXPECT(ends[0] == INT32_MIN && ends[1] == -4096 && ends[2] == 0 && ends[3] == 4096 && ends[4] == INT32_MAX - 4095);
+    EXPECT(SILKENDOZ_SAMPLE(INT32_MIN) == SILKENDOZ_MIN_SAMPLE && SILKENDOZ_SAMPLE(INT32_MAX) == SILKENDOZ_MAX_SAMPLE);
+    EXPECT(SILKENDOZ_SAMPLE(-1) == -1 && SILKENDOZ_SAMPLE(-4096) == -1 && SILKENDOZ_SAMPLE(-4097) == -2);
+    EXPECT(SILKENDOZ_SAMPLE(0) == 0 && SILKENDOZ_SAMPLE(4095) == 0 && SILKENDOZ_SAMPLE(4096) == 1);
+    EXPECT(SILKENDOZ_SAMPLE(4096 + 4096) * 2 == 4 && SILKENDOZ_WORD(1 + 1) == 8192);
+    for (sample = SILKENDOZ_MIN_SAMPLE; sample <= SILKENDOZ_MAX_SAMPLE; sample++)
+        for (i = 0; i < PLACES(lower); i++)
+            if (SILKENDOZ_SAMPLE(SILKENDOZ_WORD(sample) + lower[i]) != sample)
+                EXPECT(0);
+}
+
+/* A trace of 20 bits: stored as words, found at the greatest distance, written as a wide sheet and read back, not exported. Lower bits of a
+ * word are ignored. One sample beyond is refused as 15, in its place in the order, by every call that takes samples. */
+static void wide_samples(void)
+{
+    static struct tables t, u, before;
+    const int32_t low[N] = {-524288, -524288, -524288, -524288}, high[N] = {524287, 524287, 524287, 524287};
+    const int32_t beyond[][N] = {{524288, 0, 0, 0}, {0, 0, 0, -524289}, {0, INT32_MAX, 0, 0}, {0, 0, INT32_MIN, 0}};
+    struct silkendoz_neighbour list[1];
+    struct silkendoz_answer answers[1];
+    uint8_t sheet[SILKENDOZ_SHEET(N, 2)], recording[SILKENDOZ_RECORDING_BYTES(N)];
+    uint16_t trail[TRAIL];
+    uint64_t out[SILKENDOZ_OUT] = {9, 9, 9, 9, 9};
+    size_t i;
+
+    memset(&t, 0x5a, sizeof t);
+    EXPECT(add_to(&t, beyond[0], N, out, SILKENDOZ_OUT) == SILKENDOZ_SPOILED);
+    EXPECT(open_in(&t, N, 2, 1, out) == SILKENDOZ_DONE);
+    /* before 6 and 7, behind 4, 11 and 14 */
+    EXPECT(nearest_in(&t, beyond[0], N, trail, 0, out, SILKENDOZ_OUT) == SILKENDOZ_SAMPLE_RANGE && out[0] == 0 && out[1] == 9);
+    EXPECT(nearest_in(&t, beyond[0], N - 1, trail, 0, out, SILKENDOZ_OUT) == SILKENDOZ_WRONG_TRACE);
+    EXPECT(remote_match_in(&t, beyond[1], N, trail, 0, out, SILKENDOZ_OUT) == SILKENDOZ_SAMPLE_RANGE);
+    EXPECT(k_nearest_in(&t, beyond[2], N, trail, 0, list, 0, 1, out, SILKENDOZ_OUT) == SILKENDOZ_SAMPLE_RANGE);
+    EXPECT(k_nearest_in(&t, beyond[2], N, trail, 0, list, 0, 0, out, SILKENDOZ_OUT) == SILKENDOZ_BAD_K);
+    EXPECT(batch_in(&t, beyond[3], N, 1, trail, 0, answers, 1, out, SILKENDOZ_OUT) == SILKENDOZ_SAMPLE_RANGE);
+    EXPECT(batch_in(&t, beyond[3], N, 1, trail, 0, answers, 0, out, SILKENDOZ_OUT) == SILKENDOZ_BAD_BATCH);
+    EXPECT(batch_in(&t, beyond[3], N - 1, 1, trail, 0, answers, 1, out, SILKENDOZ_OUT) == SILKENDOZ_WRONG_TRACE);
+
+    EXPECT(add_to(&t, low, N, out, SILKENDOZ_OUT) == SILKENDOZ_DONE && add_labelled_to(&t, high, N, 1, 2, out, 0) == SILKENDOZ_DONE);
+    for (i = 0; i < N; i++)
+        EXPECT(t.samples[i] == INT32_MIN && t.samples[N + i] == INT32_MAX - 4095);
+    EXPECT(t.samples[2 * N] == 0x5a5a5a5a);
+    before = t;
+    for (i = 0; i < PLACES(beyond); i++) {
+        /* the library is full, and 15 comes before that */
+        EXPECT(add_to(&t, beyond[i], N, out, SILKENDOZ_OUT) == SILKENDOZ_SAMPLE_RANGE && out[0] == 0);
+        EXPECT(add_labelled_to(&t, beyond[i], N, 1, 2, out, SILKENDOZ_OUT) == SILKENDOZ_SAMPLE_RANGE);
+        EXPECT(nearest_in(&t, beyond[i], N, trail, TRAIL, out, SILKENDOZ_OUT) == SILKENDOZ_SAMPLE_RANGE);
+    }
+    EXPECT(add_to(&t, beyond[0], N + 1, out, SILKENDOZ_OUT) == SILKENDOZ_WRONG_TRACE);
+    EXPECT(add_to(&t, low, N, out, SILKENDOZ_OUT) == SILKENDOZ_FULL);
+    EXPECT(memcmp(&t, &before, sizeof t) == 0);
+    EXPECT(nearest_in(&t, low, N, trail, TRAIL, out, SILKENDOZ_OUT) == SILKENDOZ_DONE && out[0] == 0 && out[1] == 0);
+    EXPECT(k_nearest_in(&t, low, N, trail, TRAIL, list, 1, 1, out, SILKENDOZ_OUT) == SILKENDOZ_DONE && list[0].trace == 0);
+
+    /* a wide sheet: kinds 3, 4 and 5; samples of four bytes */
+    EXPECT(write_from(&t, sheet, sizeof sheet - 1, out) == SILKENDOZ_SHEET_LENGTH);
+    EXPECT(write_from(&t, sheet, sizeof sheet, out) == SILKENDOZ_DONE && out[0] == 3);
+    EXPECT(sheet[2] == 3 && sheet[512 + 2] == 4 && sheet[1024 + 2] == 5);
+    EXPECT(memcmp(sheet + 512 + 4, "\0\0\xf8\xff", 4) == 0 && memcmp(sheet + 512 + 4 + 4 * N, "\xff\xff\x07\0", 4) == 0);
+    memset(&u, 0x55, sizeof u);
+    EXPECT(read_into(&u, sheet, sizeof sheet, out) == SILKENDOZ_DONE);
+    EXPECT(memcmp(u.samples, t.samples, SILKENDOZ_SAMPLES(N, 2) * sizeof *t.samples) == 0 && u.labels[1] == 1 + 65536 * 2);
+
+    /* recordings have 16 bits: 12, before 8. The other trace of the library is exported */
+    EXPECT(export_from(&t, recording, 0, 0, 8000, out, SILKENDOZ_OUT) == SILKENDOZ_BAD_RECORDING && out[0] == 0);
+    EXPECT(open_in(&u, N, 2, 1, out) == SILKENDOZ_DONE);
+    {
+        const int32_t narrow[N] = {-32768, 32767, 0, -1}, wider[N] = {0, 0, 0, 32768};
+        EXPECT(add_to(&u, narrow, N, out, 0) == SILKENDOZ_DONE);
+        EXPECT(write_from(&u, sheet, sizeof sheet, out) == SILKENDOZ_DONE && out[0] == 2 && sheet[2] == 1 && sheet[512 + 2] == 2);
+        EXPECT(add_to(&u, wider, N, out, 0) == SILKENDOZ_DONE);
+        EXPECT(write_from(&u, sheet, sizeof sheet, out) == SILKENDOZ_DONE && out[0] == 2 && sheet[2] == 3 && sheet[512 + 2] == 4);
+        EXPECT(export_from(&u, recording, sizeof recording, 0, 8000, out, SILKENDOZ_OUT) == SILKENDOZ_DONE);
+        EXPECT(memcmp(recording + HEADER, "\0\x80\xff\x7f\0\0\xff\xff", 8) == 0);
+        EXPECT(export_from(&u, recording, sizeof recording, 1, 8000, out, SILKENDOZ_OUT) == SILKENDOZ_BAD_RECORDING);
+    }
+
+    /* somebody writes the lower bits of every word: the same samples, and no call says otherwise */
+    for (i = 0; i < 2 * N; i++)
+        t.samples[i] |= 0xabc;
+    before = t;
+    EXPECT(check_in(&t, out, SILKENDOZ_OUT) == SILKENDOZ_DONE);
+    EXPECT(nearest_in(&t, high, N, trail, TRAIL, out, SILKENDOZ_OUT) == SILKENDOZ_DONE && out[0] == 1 && out[1] == 0);
+    memset(before.work, 0, SILKENDOZ_WORK(2) * sizeof *before.work);
+    EXPECT(memcmp(&t, &before, sizeof t) == 0);
+}
+
 int main(void)
 {
     opening();
@@ -797,6 +894,8 @@ int main(void)
     checks();
     batches();
     labels();
+    words_of_samples();
+    wide_samples();
     printf("C: %d tests passed\n", tests);
     return 0;
 }

@@ -19,8 +19,8 @@ uint64_t out[SILKENDOZ_OUT];
 
 bool lists()
 {
-    const int16_t traces[3][n] = {{0, 0, 0, 0}, {4, 4, 4, 4}, {0, 8, 0, 8}};
-    const int16_t query[n] = {1, 1, 1, 1};
+    const int32_t traces[3][n] = {{0, 0, 0, 0}, {4, 4, 4, 4}, {0, 8, 0, 8}};
+    const int32_t query[n] = {1, 1, 1, 1};
     silkendoz_neighbour list[2];
     if (silkendoz_open_in(&library, n, capacity, 2, out, SILKENDOZ_OUT) != SILKENDOZ_DONE)
         return false;
@@ -37,12 +37,25 @@ bool lists()
 
 bool labels()
 {
-    const int16_t trace[n] = {9, 9, 9, 9};
+    const int32_t trace[n] = {9, 9, 9, 9};
     if (silkendoz_add_labelled_in(&library, trace, n, 17, 4119, out, SILKENDOZ_OUT) != SILKENDOZ_DONE)
         return false;
     if (silkendoz_label_in(&library, out[0], out, SILKENDOZ_OUT) != SILKENDOZ_DONE || out[0] != 17 || out[1] != 4119)
         return false;
     return silkendoz_remote_match_in(&library, trail, capacity, trace, n, out, SILKENDOZ_OUT) == SILKENDOZ_DONE && out[4] == 17;
+}
+
+// samples of 20 bits as arguments, and as words of the table
+bool samples()
+{
+    static const int32_t words[2] = {SILKENDOZ_WORD(SILKENDOZ_MIN_SAMPLE), SILKENDOZ_WORD(SILKENDOZ_MAX_SAMPLE)};
+    const int32_t trace[2] = {SILKENDOZ_SAMPLE(words[0]), SILKENDOZ_SAMPLE(words[1])};
+    if (silkendoz_open_in(&other, 2, 1, 1, out, SILKENDOZ_OUT) != SILKENDOZ_DONE)
+        return false;
+    if (silkendoz_add_in(&other, words, 2, out, SILKENDOZ_OUT) != SILKENDOZ_SAMPLE_RANGE)
+        return false;
+    return silkendoz_add_in(&other, trace, 2, out, SILKENDOZ_OUT) == SILKENDOZ_DONE && other.samples[0] == words[0]
+        && other.samples[1] == words[1];
 }
 
 bool measures()
@@ -63,7 +76,7 @@ bool measures()
 
 int main()
 {
-    if (!lists() || !labels() || !measures() || silkendoz_layout_3() != SILKENDOZ_LAYOUT) {
+    if (!lists() || !labels() || !samples() || !measures() || silkendoz_layout_4() != SILKENDOZ_LAYOUT) {
         std::fprintf(stderr, "C++: another answer\n");
         return 1;
     }

@@ -17,35 +17,37 @@ SILKENDOZ_LIBRARY(tables, N, C);
 
 static uint16_t trail[SILKENDOZ_TRAIL(C)];
 static struct silkendoz_neighbour list[K];
-static int16_t queries[SILKENDOZ_MAX_BATCH * N];
+static int32_t queries[SILKENDOZ_MAX_BATCH * N];
 static struct silkendoz_answer answers[SILKENDOZ_MAX_BATCH];
 static uint8_t sheet[SILKENDOZ_SHEET(N, C)];
 static uint8_t recording[SILKENDOZ_RECORDING_BYTES(N)];
 static uint64_t out[SILKENDOZ_OUT];
-static int16_t trace[N];
+static int32_t trace[N];
 static size_t sheet_size;
 static uint64_t number;
 
-/* The traces that are added: random ones, ones that are all the same, ones that differ and that no test parts. */
-enum kind { RANDOM, SAME, UNPARTED, KINDS };
+/* The traces that are added: random ones of 16 bits and of 20, ones that are all the same, ones that differ and that no test parts. */
+enum kind { RANDOM, WIDE, SAME, UNPARTED, KINDS };
 static enum kind kind;
 static uint32_t state = 1;
 
-static int16_t next(void)
+/* A number of so many bits. */
+static int32_t next(int bits)
 {
     state = state * 1664525u + 1013904223u;
-    return (int16_t)((int)(state >> 16) - 32768);
+    return (int32_t)(state >> (32 - bits)) - (1 << (bits - 1));
 }
 
 static void make(int at)
 {
     int i;
+    /* the first trace, which is exported, fits 16 bits */
     for (i = 0; i < N; i++)
-        trace[i] = kind == RANDOM ? next() : (int16_t)(100 * i);
+        trace[i] = kind == RANDOM || (kind == WIDE && at == 0) ? next(16) : kind == WIDE ? next(20) : 100 * i;
     if (kind == UNPARTED) {
         /* another order of the first samples: sums and scatters of whole and halves stay */
         int a = at % (N / 4), b = at / (N / 4) % (N / 4);
-        int16_t kept = trace[a];
+        int32_t kept = trace[a];
         trace[a] = trace[b];
         trace[b] = kept;
     }
@@ -126,7 +128,7 @@ int main(void)
     struct call none = {"nothing", nothing, 0, 0};
     struct call calls[] = {{"open", opening, 16, 0}, {"add", adding, 96, 0}, {"nearest", matching, 16, 0}, {"k_nearest", listing, 16, 0},
         {"write_sheet", writing, 16, 0}, {"read_sheet", reading, 96, 0}, {"export_recording", exporting, 16, 0},
-        {"import_recording", importing, 96, 0}, {"check_tables", checking, 64, 0}, {"match_batch", batching, 32, 0},
+        {"import_recording", importing, 96, 0}, {"check_tables", checking, 64, 0}, {"match_batch", batching, 48, 0},
         {"add_labelled", labelling, 96, 0}, {"label", telling, 16, 0}, {"remote_match", remote, 16, 0}};
     size_t before, i;
     int at;
@@ -156,8 +158,8 @@ int main(void)
         measure(&calls[6], stack, before);
         measure(&calls[7], stack, before);
         measure(&calls[8], stack, before);
-        for (at = 0; at < SILKENDOZ_MAX_BATCH; at++)
-            memcpy(queries + N * at, tables.samples + N * at, N * sizeof *queries);
+        for (at = 0; at < SILKENDOZ_MAX_BATCH * N; at++)
+            queries[at] = SILKENDOZ_SAMPLE(tables.samples[at]);
         measure(&calls[9], stack, before);
     }
     free(stack);

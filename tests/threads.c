@@ -21,7 +21,7 @@ struct own {
     uint64_t match[SILKENDOZ_OUT], remote[SILKENDOZ_OUT], listing[SILKENDOZ_OUT], batch[SILKENDOZ_OUT];
 };
 
-static int16_t queries[QUERIES][N];
+static int32_t queries[QUERIES][N];
 static struct own alone[QUERIES];
 static int failed[THREADS];
 
@@ -40,10 +40,10 @@ static struct silkendoz_tables with(uint64_t *work)
 
 /* A match, the remote's, a list that writes its trail over the match's, and a batch of the query and its mirror image, over the list's.
  * Gives back whether all were done. */
-static int search(struct own *own, const int16_t *query)
+static int search(struct own *own, const int32_t *query)
 {
     struct silkendoz_tables t = with(own->work);
-    int16_t both[MANY * N];
+    int32_t both[MANY * N];
     size_t i;
     for (i = 0; i < N; i++) {
         both[i] = query[i];
@@ -72,16 +72,16 @@ static void *searches(void *number)
     return NULL;
 }
 
-/* Numbers that look like any: the same ones each time. */
-static int16_t next(uint32_t *state)
+/* Numbers of 19 bits that look like any: the same ones each time. */
+static int32_t next(uint32_t *state)
 {
     *state = *state * 1664525u + 1013904223u;
-    return (int16_t)((int)(*state >> 18) - 8192);
+    return (int32_t)(*state >> 13) - 262144;
 }
 
 int main(void)
 {
-    static int16_t kept[SILKENDOZ_SAMPLES(N, C)];
+    static int32_t kept[SILKENDOZ_SAMPLES(N, C)];
     struct silkendoz_tables t = library;
     pthread_t threads[THREADS];
     size_t numbers[THREADS], i, j;
@@ -91,7 +91,7 @@ int main(void)
     if (silkendoz_open_in(&t, N, C, LEAF_SIZE, out, SILKENDOZ_OUT) != SILKENDOZ_DONE)
         stop("not opened");
     for (i = 0; i < C; i++) {
-        int16_t trace[N];
+        int32_t trace[N];
         for (j = 0; j < N; j++)
             trace[j] = next(&state);
         if (silkendoz_add_labelled_in(&t, trace, N, (uint16_t)(i + 1), 4119, out, SILKENDOZ_OUT) != SILKENDOZ_DONE)
@@ -100,7 +100,7 @@ int main(void)
     memcpy(kept, t.samples, sizeof kept);
     for (i = 0; i < QUERIES; i++) {
         for (j = 0; j < N; j++)
-            queries[i][j] = (int16_t)(t.samples[i * N + j] + next(&state) / 64);
+            queries[i][j] = SILKENDOZ_SAMPLE(t.samples[i * N + j]) + next(&state) / 64;
         if (!search(&alone[i], queries[i]))
             stop("not found alone");
         if (alone[i].remote[0] != alone[i].match[0] || alone[i].remote[4] != alone[i].match[0] + 1)

@@ -7,7 +7,7 @@ use std::io::{self, Seek, Write};
 use std::path::{Path, PathBuf};
 
 /// The library keeps no names. Trace 0 is the first one added, and so on.
-const FAULTS: [(&str, [i16; 8]); 3] = [
+const FAULTS: [(&str, [i32; 8]); 3] = [
     ("healthy", [0, 5200, 1600, 1600, 1600, 1600, 1600, -3400]),
     ("belt tensioner seized", [1400, 6600, 3050, 3100, 3150, 3200, 3250, -1700]),
     ("dry rail, right", [0, 5200, 1600, 1600, 1700, 2000, 2300, -2900]),

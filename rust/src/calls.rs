@@ -5,7 +5,7 @@
 
 use crate::tables::with_tables;
 pub use crate::tables::{Lent, Tables};
-use crate::{Label, Refusal};
+use crate::{Label, Refusal, StoredSample};
 
 /// What a match answers: the leaves read are those at the beginning of the trail.
 #[derive(Clone, Copy, Debug, PartialEq, Eq)]
@@ -62,15 +62,15 @@ pub struct Answer {
 
 /// The version of the tables' layout (`docs/LAYOUT.md`). Another number is another layout, or another tree: who keeps tables keeps this number beside
 /// them.
-pub const LAYOUT: u64 = 3;
+pub const LAYOUT: u64 = 4;
 
 // A function of this name is in an archive of this layout alone. Its address is kept, so that a program links with no other.
 extern "C" {
-    fn silkendoz_layout_3() -> u64;
+    fn silkendoz_layout_4() -> u64;
 }
 
 #[used]
-static LAYOUT_OF_THE_ARCHIVE: unsafe extern "C" fn() -> u64 = silkendoz_layout_3;
+static LAYOUT_OF_THE_ARCHIVE: unsafe extern "C" fn() -> u64 = silkendoz_layout_4;
 
 /// A slice's pointer, as the call takes it.
 macro_rules! pointer {
@@ -98,14 +98,14 @@ macro_rules! exported {
 }
 
 with_tables! { exported! silkendoz_open(write, write; n: u64, capacity: u64, leaf_size: u64,) }
-with_tables! { exported! silkendoz_add(write, read; trace: *const i16, _: usize,) }
-with_tables! { exported! silkendoz_add_labelled(write, read; trace: *const i16, _: usize, code: u16, serial: u32,) }
+with_tables! { exported! silkendoz_add(write, read; trace: *const i32, _: usize,) }
+with_tables! { exported! silkendoz_add_labelled(write, read; trace: *const i32, _: usize, code: u16, serial: u32,) }
 with_tables! { exported! silkendoz_label(read, read; number: u64,) }
-with_tables! { exported! silkendoz_remote_match(read, write; trail: *mut u16, _: usize, query: *const i16, _: usize,) }
-with_tables! { exported! silkendoz_nearest(read, write; trail: *mut u16, _: usize, query: *const i16, _: usize,) }
+with_tables! { exported! silkendoz_remote_match(read, write; trail: *mut u16, _: usize, query: *const i32, _: usize,) }
+with_tables! { exported! silkendoz_nearest(read, write; trail: *mut u16, _: usize, query: *const i32, _: usize,) }
 with_tables! { exported! silkendoz_k_nearest(
     read, write;
-    trail: *mut u16, _: usize, list: *mut u64, _: usize, query: *const i16, _: usize, k: u64,
+    trail: *mut u16, _: usize, list: *mut u64, _: usize, query: *const i32, _: usize, k: u64,
 ) }
 with_tables! { exported! silkendoz_write_sheet(read, read; sheet: *mut u8, _: usize,) }
 with_tables! { exported! silkendoz_read_sheet(write, write; sheet: *const u8, _: usize,) }
@@ -114,7 +114,7 @@ with_tables! { exported! silkendoz_export_recording(read, read; buffer: *mut u8,
 with_tables! { exported! silkendoz_check_tables(read, read;) }
 with_tables! { exported! silkendoz_match_batch(
     read, write;
-    trail: *mut u16, _: usize, queries: *const i16, _: usize, many: usize, answers: *mut Answer, _: usize,
+    trail: *mut u16, _: usize, queries: *const i32, _: usize, many: usize, answers: *mut Answer, _: usize,
 ) }
 
 /// Code 0 is the answer's values; any other is the number of a refusal, whose place is the first value.
@@ -161,14 +161,14 @@ pub fn open(t: Lent<'_>, n: u64, capacity: u64, leaf_size: u64) -> Result<(), Re
 }
 
 /// Adds a trace with no label; its number is the answer. Search work is only looked at for its length.
-pub fn add(t: Lent<'_>, trace: &[i16]) -> Result<u64, Refusal> {
+pub fn add(t: Lent<'_>, trace: &[i32]) -> Result<u64, Refusal> {
     let mut out = [0; 1];
     let code = with_tables! { made! silkendoz_add(t as_mut_ptr, t.work => as_ptr), [trace => as_ptr], [], [], out };
     answer(code, out).map(|[number]| number)
 }
 
 /// Adds a trace with a label; its number is the answer. Search work is only looked at for its length.
-pub fn add_labelled(t: Lent<'_>, trace: &[i16], label: Label) -> Result<u64, Refusal> {
+pub fn add_labelled(t: Lent<'_>, trace: &[i32], label: Label) -> Result<u64, Refusal> {
     let mut out = [0; 1];
     let code = with_tables! {
         made! silkendoz_add_labelled(t as_mut_ptr, t.work => as_ptr), [trace => as_ptr], [label.code, label.serial], [], out
@@ -185,7 +185,7 @@ pub fn label(t: Tables<'_>, work: &[u64], number: u64) -> Result<Label, Refusal>
 
 /// Finds the nearest trace as [`nearest`] does, and tells its fault code. Of serials it tells nothing: over tables that are alike but for
 /// them it answers, refuses and leaves the same.
-pub fn remote_match(t: Tables<'_>, work: &mut [u64], trail: &mut [u16], query: &[i16]) -> Result<RemoteFound, Refusal> {
+pub fn remote_match(t: Tables<'_>, work: &mut [u64], trail: &mut [u16], query: &[i32]) -> Result<RemoteFound, Refusal> {
     let mut out = [0; 5];
     let code = with_tables! {
         made! silkendoz_remote_match(t as_ptr, work => as_mut_ptr), [trail => as_mut_ptr, query => as_ptr], [], [], out
@@ -194,7 +194,7 @@ pub fn remote_match(t: Tables<'_>, work: &mut [u64], trail: &mut [u16], query: &
 }
 
 /// Finds the nearest trace. The trail begins with the leaves read; the needed search work is left zero.
-pub fn nearest(t: Tables<'_>, work: &mut [u64], trail: &mut [u16], query: &[i16]) -> Result<Found, Refusal> {
+pub fn nearest(t: Tables<'_>, work: &mut [u64], trail: &mut [u16], query: &[i32]) -> Result<Found, Refusal> {
     let mut out = [0; 4];
     let code = with_tables! {
         made! silkendoz_nearest(t as_ptr, work => as_mut_ptr), [trail => as_mut_ptr, query => as_ptr], [], [], out
@@ -204,7 +204,7 @@ pub fn nearest(t: Tables<'_>, work: &mut [u64], trail: &mut [u16], query: &[i16]
 
 /// Lists the k nearest traces, by distance, then number: two places of the list for each, its number and its distance. A library of fewer than k traces
 /// lists all it has; a list of fewer than 2 × k places is refused. The trail begins with the leaves read; the needed search work is left zero.
-pub fn k_nearest(t: Tables<'_>, work: &mut [u64], trail: &mut [u16], list: &mut [u64], query: &[i16], k: u64) -> Result<Listed, Refusal> {
+pub fn k_nearest(t: Tables<'_>, work: &mut [u64], trail: &mut [u16], list: &mut [u64], query: &[i32], k: u64) -> Result<Listed, Refusal> {
     let mut out = [0; 3];
     let code = with_tables! {
         made! silkendoz_k_nearest(t as_ptr, work => as_mut_ptr),
@@ -256,7 +256,7 @@ pub fn check_tables(t: Tables<'_>, work: &[u64]) -> Result<(), Refusal> {
 /// Matches up to 16 queries together, so that no leaf is read twice: one answer record for each, as if matched alone. The queries come as one run of
 /// samples; the list has to have a place for each of them and no more. The trail begins with the leaves read, by rising number; how many these are is the
 /// answer. The needed search work is left zero.
-pub fn match_batch(t: Tables<'_>, work: &mut [u64], trail: &mut [u16], queries: &[i16], many: usize, answers: &mut [Answer]) -> Result<u64, Refusal> {
+pub fn match_batch(t: Tables<'_>, work: &mut [u64], trail: &mut [u16], queries: &[i32], many: usize, answers: &mut [Answer]) -> Result<u64, Refusal> {
     let mut out = [0; 1];
     let code = with_tables! {
         made! silkendoz_match_batch(t as_ptr, work => as_mut_ptr),

@@ -1,6 +1,6 @@
 //! The nearest stored trace, exactly.
 //!
-//! A trace is a run of 16-bit samples, such as the drive current of a machine's standard sweep. A [`TraceLibrary`] keeps traces and finds the stored one
+//! A trace is a run of samples, such as the drive current of a machine's standard sweep: whole numbers of up to 20 bits ([`SAMPLES`]). A [`TraceLibrary`] keeps traces and finds the stored one
 //! that is nearest to a new one: the least sum of squared differences, the lowest number among equals, just as reading every stored trace would find it.
 //! The work is done by a library that is proved to do exactly this (the crates beside this folder); here it gets tables of the right sizes, and its
 //! refusals a type. [`TraceLibrary::k_nearest`] lists the k nearest in the same way; [`TraceLibrary::import_recording`] takes the traces of a WAV file;
@@ -29,6 +29,7 @@ pub mod calls;
 mod label;
 mod library;
 mod refusal;
+mod sample;
 pub mod scan;
 mod shape;
 mod tables;
@@ -36,6 +37,7 @@ mod tables;
 pub use label::Label;
 pub use library::{Batch, KNearest, Nearest, Neighbour, RemoteMatch, TraceLibrary};
 pub use refusal::{Lengths, Refusal};
+pub use sample::{StoredSample, SAMPLES};
 pub use shape::Leaf;
 pub use tables::Tables;
 

@@ -1,7 +1,7 @@
 //! A library that owns its tables.
 
 use crate::calls::{self, Lent, Tables};
-use crate::{Label, Refusal};
+use crate::{Label, Refusal, StoredSample};
 use std::fmt;
 use std::slice::ChunksExact;
 
@@ -27,7 +27,7 @@ const MOST_TOGETHER: usize = 16;
 /// assert_eq!(library.add(&[8, 8, 8]), Err(Refusal::Full));
 /// assert_eq!(library.add(&[8, 8]).unwrap_err().to_string(), "wrong trace: 2 samples, and n is 3");
 /// assert_eq!(library.nearest(&[7, 6, 7])?.trace, 1);
-/// assert_eq!(library.trace(1), Some(&[7, 7, 7][..]));
+/// assert_eq!(library.trace(1).unwrap(), [7, 7, 7]);
 /// # Ok::<(), Refusal>(())
 /// ```
 ///
@@ -50,7 +50,7 @@ const MOST_TOGETHER: usize = 16;
 #[derive(Clone, PartialEq, Eq)]
 pub struct TraceLibrary {
     pub(crate) control: Vec<u16>,
-    samples: Vec<i16>,
+    samples: Vec<StoredSample>,
     pub(crate) nodes: Vec<i64>,
     pub(crate) links: Vec<u16>,
     work: Vec<u64>,
@@ -166,7 +166,7 @@ impl TraceLibrary {
         let records = (2 * capacity).saturating_sub(1);
         TraceLibrary {
             control: vec![0; fields],
-            samples: vec![0; n * capacity],
+            samples: vec![StoredSample::default(); n * capacity],
             nodes: vec![0; records * RECORD_PLACES],
             links: vec![0; capacity],
             work: vec![0; records],
@@ -179,7 +179,7 @@ impl TraceLibrary {
     }
 
     /// Adds a trace of n samples, with no label. Its number is the answer.
-    pub fn add(&mut self, trace: &[i16]) -> Result<usize, Refusal> {
+    pub fn add(&mut self, trace: &[i32]) -> Result<usize, Refusal> {
         let n = self.n();
         calls::add(self.lent(), trace).map(|number| number as usize).map_err(|why| why.with_lengths(trace.len(), n))
     }
@@ -198,7 +198,7 @@ impl TraceLibrary {
     /// assert_eq!(TraceLibrary::read_sheet(&library.write_sheet()?)?, library);
     /// # Ok::<(), Refusal>(())
     /// ```
-    pub fn add_labelled(&mut self, trace: &[i16], label: Label) -> Result<usize, Refusal> {
+    pub fn add_labelled(&mut self, trace: &[i32], label: Label) -> Result<usize, Refusal> {
         let n = self.n();
         calls::add_labelled(self.lent(), trace, label).map(|number| number as usize).map_err(|why| why.with_lengths(trace.len(), n))
     }
@@ -235,7 +235,7 @@ impl TraceLibrary {
     /// assert_eq!(found.trail, library.nearest(&[8])?.trail);
     /// # Ok::<(), silkendoz::Refusal>(())
     /// ```
-    pub fn remote_match(&self, query: &[i16]) -> Result<RemoteMatch, Refusal> {
+    pub fn remote_match(&self, query: &[i32]) -> Result<RemoteMatch, Refusal> {
         let (mut work, mut trail) = self.room();
         let found = calls::remote_match(self.tables(), &mut work, &mut trail, query).map_err(|why| why.with_lengths(query.len(), self.n()))?;
         let (trace, leaves, traces) = (found.trace as usize, found.leaves as usize, found.traces as usize);
@@ -249,7 +249,7 @@ impl TraceLibrary {
     }
 
     /// Finds the stored trace that is nearest to a query of n samples: the lowest number among equals.
-    pub fn nearest(&self, query: &[i16]) -> Result<Nearest, Refusal> {
+    pub fn nearest(&self, query: &[i32]) -> Result<Nearest, Refusal> {
         let (mut work, mut trail) = self.room();
         let found = calls::nearest(self.tables(), &mut work, &mut trail, query).map_err(|why| why.with_lengths(query.len(), self.n()))?;
         trail.truncate(found.leaves as usize);
@@ -273,7 +273,7 @@ impl TraceLibrary {
     /// assert_eq!(library.k_nearest(&[2], 17), Err(Refusal::BadK));
     /// # Ok::<(), Refusal>(())
     /// ```
-    pub fn k_nearest(&self, query: &[i16], k: usize) -> Result<KNearest, Refusal> {
+    pub fn k_nearest(&self, query: &[i32], k: usize) -> Result<KNearest, Refusal> {
         let (mut work, mut trail) = self.room();
         // a larger k is refused before the list is looked at
         let mut list = vec![0; 2 * k.min(MOST_LISTED)];
@@ -303,7 +303,7 @@ impl TraceLibrary {
     /// assert_eq!(library.match_batch(&[&[9], &[1, 8]]).unwrap_err().to_string(), "wrong trace: 2 samples, and n is 1");
     /// # Ok::<(), Refusal>(())
     /// ```
-    pub fn match_batch(&self, queries: &[&[i16]]) -> Result<Batch, Refusal> {
+    pub fn match_batch(&self, queries: &[&[i32]]) -> Result<Batch, Refusal> {
         let (mut work, mut trail) = self.room();
         let n = self.n();
         // the call sees one run: queries of other lengths might make one of the right length, and a run of no samples never is
@@ -318,7 +318,8 @@ impl TraceLibrary {
         Ok(Batch { answers, leaves: leaves as usize, trail })
     }
 
-    /// The library as a sheet: blocks of 512 bytes, to be stored or sent.
+    /// The library as a sheet: blocks of 512 bytes, to be stored or sent. It is a wide one, with samples of four bytes, if any sample does
+    /// not fit 16 bits ([`TraceLibrary::is_wide`]); else a narrow one, with samples of two.
     ///
     /// ```
     /// use silkendoz::TraceLibrary;
@@ -327,13 +328,18 @@ impl TraceLibrary {
     /// library.add(&[-1])?;
     /// let sheet = library.write_sheet()?;
     /// assert_eq!(sheet.len(), 2 * 512);
-    /// assert_eq!(&sheet[4..8], b"TRCL");
+    /// assert_eq!((sheet[2], &sheet[4..8]), (1, &b"TRCL"[..]));
+    /// assert_eq!(TraceLibrary::read_sheet(&sheet)?, library);
+    ///
+    /// library.add(&[32_768])?;
+    /// let sheet = library.write_sheet()?;
+    /// assert_eq!(sheet[2], 3);
     /// assert_eq!(TraceLibrary::read_sheet(&sheet)?, library);
     /// # Ok::<(), silkendoz::Refusal>(())
     /// ```
     pub fn write_sheet(&self) -> Result<Vec<u8>, Refusal> {
-        // with the blocks of labels, which are not written when every label is zero
-        let most = 1 + (self.len() * self.n()).div_ceil(253) + self.len().div_ceil(84);
+        // of a wide sheet with blocks of labels: a narrow one is shorter, and labels are not written when every one is zero
+        let most = 1 + (self.len() * self.n()).div_ceil(126) + self.len().div_ceil(84);
         let mut sheet = vec![0; 512 * most];
         let blocks = calls::write_sheet(self.tables(), &self.work, &mut sheet)?;
         sheet.truncate(512 * blocks as usize);
@@ -377,7 +383,7 @@ impl TraceLibrary {
     /// }
     /// let mut library = TraceLibrary::open(3, 4, 1)?;
     /// assert_eq!(library.import_recording(&file)?, 2);
-    /// assert_eq!(library.trace(1), Some(&[7, 0, -3][..]));
+    /// assert_eq!(library.trace(1).unwrap(), [7, 0, -3]);
     /// assert_eq!(library.import_recording(&file[..55]), Err(Refusal::BadRecording));
     /// assert_eq!(library.import_recording(&file)?, 2);
     /// assert_eq!(library.import_recording(&file), Err(Refusal::Full));
@@ -387,7 +393,8 @@ impl TraceLibrary {
         calls::import_recording(self.lent(), bytes).map(|count| count as usize)
     }
 
-    /// A stored trace as a WAV recording, at a rate (0 to 2^31 − 1) that is written into its header and changes nothing else.
+    /// A stored trace as a WAV recording, at a rate (0 to 2^31 − 1) that is written into its header and changes nothing else. Recordings
+    /// have 16 bits: a trace with a wider sample is refused.
     ///
     /// ```
     /// use silkendoz::{Refusal, TraceLibrary};
@@ -401,6 +408,8 @@ impl TraceLibrary {
     /// assert_eq!(library.trace(1), library.trace(0));
     /// assert_eq!(library.export_recording(2, 8000), Err(Refusal::BadRecording));
     /// assert_eq!(library.export_recording(0, 1 << 31), Err(Refusal::BadRecording));
+    /// library.add(&[0, 32_768, 0])?;
+    /// assert_eq!(library.export_recording(2, 8000), Err(Refusal::BadRecording));
     /// # Ok::<(), Refusal>(())
     /// ```
     pub fn export_recording(&self, number: usize, rate: u32) -> Result<Vec<u8>, Refusal> {
@@ -437,7 +446,7 @@ impl TraceLibrary {
     /// measures need them, if the check accepts them. Then every answer is right for the traces that they hold.
     ///
     /// ```
-    /// use silkendoz::{Refusal, Tables, TraceLibrary};
+    /// use silkendoz::{Refusal, StoredSample, Tables, TraceLibrary};
     ///
     /// let mut library = TraceLibrary::open(3, 4, 1)?;
     /// library.add(&[5, -1, 2])?;
@@ -447,7 +456,7 @@ impl TraceLibrary {
     ///
     /// // a sample that changed
     /// let mut samples = kept.samples.to_vec();
-    /// samples[2] = 3;
+    /// samples[2] = StoredSample::new(3).unwrap();
     /// let changed = Tables::new(kept.control, &samples, kept.nodes, kept.links).with_labels(kept.labels);
     /// assert_eq!(TraceLibrary::from_tables(changed), Err(Refusal::LooseRecord));
     /// // a kind of node that there is not
@@ -497,24 +506,39 @@ impl TraceLibrary {
         self.len() == 0
     }
 
-    /// The trace with this number.
-    pub fn trace(&self, number: usize) -> Option<&[i16]> {
+    /// The trace with this number. What a sample is, [`StoredSample::value`] says.
+    pub fn trace(&self, number: usize) -> Option<&[StoredSample]> {
         (number < self.len()).then(|| &self.samples[number * self.n()..(number + 1) * self.n()])
     }
 
     /// The stored traces, in order.
     ///
     /// ```
-    /// # use silkendoz::TraceLibrary;
+    /// # use silkendoz::{StoredSample, TraceLibrary};
     /// let mut library = TraceLibrary::open(2, 8, 2)?;
     /// library.add(&[1, 2])?;
     /// library.add(&[3, 4])?;
     /// assert_eq!(library.traces().len(), 2);
-    /// assert!(library.traces().eq([&[1, 2], &[3, 4]]));
+    /// assert_eq!(library.traces().map(StoredSample::values).collect::<Vec<_>>(), [[1, 2], [3, 4]]);
     /// # Ok::<(), silkendoz::Refusal>(())
     /// ```
-    pub fn traces(&self) -> ChunksExact<'_, i16> {
+    pub fn traces(&self) -> ChunksExact<'_, StoredSample> {
         self.samples[..self.len() * self.n()].chunks_exact(self.n())
+    }
+
+    /// Whether any stored sample does not fit 16 bits (−32,768 to 32,767): then the library's sheet is a wide one.
+    ///
+    /// ```
+    /// # use silkendoz::TraceLibrary;
+    /// let mut library = TraceLibrary::open(1, 8, 2)?;
+    /// library.add(&[-32_768])?;
+    /// assert!(!library.is_wide());
+    /// library.add(&[-32_769])?;
+    /// assert!(library.is_wide());
+    /// # Ok::<(), silkendoz::Refusal>(())
+    /// ```
+    pub fn is_wide(&self) -> bool {
+        self.traces().any(|trace| trace.iter().any(|sample| sample.is_wide()))
     }
 
     /// The labels of the stored traces, in order: those that [`TraceLibrary::label`] tells one by one.
@@ -533,8 +557,8 @@ impl TraceLibrary {
 }
 
 impl<'a> IntoIterator for &'a TraceLibrary {
-    type Item = &'a [i16];
-    type IntoIter = ChunksExact<'a, i16>;
+    type Item = &'a [StoredSample];
+    type IntoIter = ChunksExact<'a, StoredSample>;
 
     fn into_iter(self) -> Self::IntoIter {
         self.traces()

@@ -29,21 +29,24 @@ pub enum Refusal {
     Empty,
     /// 7: trail shorter than the number of leaves, or a list shorter than k.
     ShortTrail,
-    /// 8: writing and an export: below the need; reading: 0, not a multiple of 512, above 4,195 blocks.
+    /// 8: writing and an export: below the need; reading: 0, not a multiple of 512, above 8,373 blocks.
     SheetLength,
     /// 9: check, block number or kind wrong, in this block first.
     TornBlock(u64),
-    /// 10: letters, measures, count above capacity, number of blocks, or a nonzero byte that must be 0.
+    /// 10: letters, measures, count above capacity, number of blocks, a nonzero byte that must be 0, or blocks of labels or of wide samples
+    /// that need not be.
     BadSheet,
     /// 11: k outside 1 to 16.
     BadK,
-    /// 12: a file of any other form or length, an odd size, samples not a multiple of n; an export's rate or trace number out of range, and
-    /// the number of a trace whose label is asked for.
+    /// 12: a file of any other form or length, an odd size, samples not a multiple of n; an export's rate or trace number out of range, or
+    /// a trace with a sample beyond 16 bits; and the number of a trace whose label is asked for.
     BadRecording,
     /// 13: well-formed tables hold a figure that isn't exactly the recomputed one.
     LooseRecord,
     /// 14: 0 or more than 16 queries, or an answer list of another length than the batch.
     BadBatch,
+    /// 15: an added trace, a query or a sheet has a sample outside −524,288 to 524,287 ([`crate::SAMPLES`]).
+    SampleRange,
 }
 
 /// How many samples a trace or query has that is refused for its length, and how many it has to have.
@@ -82,6 +85,7 @@ impl Refusal {
             12 => Refusal::BadRecording,
             13 => Refusal::LooseRecord,
             14 => Refusal::BadBatch,
+            15 => Refusal::SampleRange,
             _ => return None,
         })
     }
@@ -103,6 +107,7 @@ impl Refusal {
             Refusal::BadRecording => 12,
             Refusal::LooseRecord => 13,
             Refusal::BadBatch => 14,
+            Refusal::SampleRange => 15,
         }
     }
 
@@ -131,6 +136,7 @@ impl Refusal {
             Refusal::BadRecording => "bad recording",
             Refusal::LooseRecord => "loose record",
             Refusal::BadBatch => "bad batch",
+            Refusal::SampleRange => "sample range",
         }
     }
 }
@@ -148,11 +154,12 @@ impl fmt::Display for Refusal {
             Refusal::ShortTrail => "trail shorter than the number of leaves, or list shorter than k",
             Refusal::SheetLength => "a sheet or a buffer of another length than it needs",
             Refusal::TornBlock(block) => return write!(f, "torn block: check, block number or kind wrong in block {block}"),
-            Refusal::BadSheet => "letters, measures, counts or a byte that must be 0",
+            Refusal::BadSheet => "letters, measures, counts, a byte that must be 0, or blocks that need not be",
             Refusal::BadK => "k outside 1 to 16",
-            Refusal::BadRecording => "no recording of whole traces, or a rate or trace number out of range",
+            Refusal::BadRecording => "no recording of whole traces, a rate or trace number out of range, or samples beyond 16 bits",
             Refusal::LooseRecord => "a recorded figure is not that of the traces below",
             Refusal::BadBatch => "no query or more than 16, or a list of another length",
+            Refusal::SampleRange => "a sample outside -524,288 to 524,287",
         };
         write!(f, "{}: {why}", self.word())
     }
@@ -166,13 +173,13 @@ mod tests {
 
     #[test]
     fn numbers_go_both_ways() {
-        for number in 1..=14 {
+        for number in 1..=15 {
             let place = if number == 9 { 7 } else { 0 };
             let why = Refusal::from_number(number, place).unwrap();
             assert_eq!((why.number(), why.place()), (number, place));
             assert!(why.to_string().starts_with(why.word()));
         }
         assert_eq!(Refusal::from_number(0, 0), None);
-        assert_eq!(Refusal::from_number(15, 0), None);
+        assert_eq!(Refusal::from_number(16, 0), None);
     }
 }

@@ -1,8 +1,11 @@
 //! The nearest trace, and the k nearest, by reading the stored samples one trace after another: what the index is compared with, and as good
-//! as it for few traces. Nothing here is proved; tests hold it to the documents.
+//! as it for few traces. Nothing here is proved; tests hold it to the documents. The samples are stored ones, as the table of a library has
+//! them. The query's are plain, and have to be within [`crate::SAMPLES`]: of others the distance may not fit its type.
+
+use crate::StoredSample;
 
 /// The lowest number at the least distance, and that distance. Samples are traces of n, one behind the other.
-pub fn nearest(samples: &[i16], n: usize, query: &[i16]) -> Option<(usize, u64)> {
+pub fn nearest(samples: &[StoredSample], n: usize, query: &[i32]) -> Option<(usize, u64)> {
     let mut best: Option<(usize, u64)> = None;
     for (number, trace) in samples.chunks_exact(n).enumerate() {
         let d = distance(trace, query);
@@ -14,7 +17,7 @@ pub fn nearest(samples: &[i16], n: usize, query: &[i16]) -> Option<(usize, u64)>
 }
 
 /// The same, leaving a trace as soon as it is no longer below the best; it looks every 16 samples.
-pub fn nearest_abandoning(samples: &[i16], n: usize, query: &[i16]) -> Option<(usize, u64)> {
+pub fn nearest_abandoning(samples: &[StoredSample], n: usize, query: &[i32]) -> Option<(usize, u64)> {
     let mut best: Option<(usize, u64)> = None;
     for (number, trace) in samples.chunks_exact(n).enumerate() {
         let limit = best.map_or(u64::MAX, |(_, least)| least);
@@ -26,7 +29,7 @@ pub fn nearest_abandoning(samples: &[i16], n: usize, query: &[i16]) -> Option<(u
 }
 
 /// The k nearest, by distance, then number, with their distances; of fewer than k traces all. k is not 0.
-pub fn k_nearest(samples: &[i16], n: usize, query: &[i16], k: usize) -> Vec<(usize, u64)> {
+pub fn k_nearest(samples: &[StoredSample], n: usize, query: &[i32], k: usize) -> Vec<(usize, u64)> {
     let mut list = Vec::with_capacity(k);
     for (number, trace) in samples.chunks_exact(n).enumerate() {
         keep(&mut list, k, number, distance(trace, query));
@@ -35,7 +38,7 @@ pub fn k_nearest(samples: &[i16], n: usize, query: &[i16], k: usize) -> Vec<(usi
 }
 
 /// The same, leaving a trace as soon as it is no longer below the last of k.
-pub fn k_nearest_abandoning(samples: &[i16], n: usize, query: &[i16], k: usize) -> Vec<(usize, u64)> {
+pub fn k_nearest_abandoning(samples: &[StoredSample], n: usize, query: &[i32], k: usize) -> Vec<(usize, u64)> {
     let mut list: Vec<(usize, u64)> = Vec::with_capacity(k);
     for (number, trace) in samples.chunks_exact(n).enumerate() {
         let limit = list.get(k - 1).map_or(u64::MAX, |&(_, last)| last);
@@ -56,20 +59,19 @@ fn keep(list: &mut Vec<(usize, u64)>, k: usize, number: usize, d: u64) {
 }
 
 /// The sum of squared differences.
-pub fn distance(a: &[i16], b: &[i16]) -> u64 {
-    a.iter().zip(b).map(|(&x, &y)| square(x, y)).sum()
+pub fn distance(trace: &[StoredSample], query: &[i32]) -> u64 {
+    trace.iter().zip(query).map(|(&x, &y)| square(x.value(), y)).sum()
 }
 
-fn square(x: i16, y: i16) -> u64 {
-    // at most 65,535², which 32 bits hold: the form that compilers make the fastest loop of
-    let apart = i32::from(x) - i32::from(y);
-    u64::from(apart.wrapping_mul(apart) as u32)
+fn square(x: i32, y: i32) -> u64 {
+    let apart = u64::from(x.abs_diff(y));
+    apart * apart
 }
 
 /// The distance, if it is below the limit; it looks every 16 samples.
-fn distance_below(a: &[i16], b: &[i16], limit: u64) -> Option<u64> {
+fn distance_below(trace: &[StoredSample], query: &[i32], limit: u64) -> Option<u64> {
     let mut total = 0;
-    for (x, y) in a.chunks(16).zip(b.chunks(16)) {
+    for (x, y) in trace.chunks(16).zip(query.chunks(16)) {
         total += distance(x, y);
         if total >= limit {
             return None;

@@ -1,5 +1,7 @@
 //! The tables of a library (`docs/LAYOUT.md`), lent to a call.
 
+use crate::StoredSample;
+
 /// Hands the tables that a library consists of to a macro, behind what else it is given: what each holds, its name, its element. They come
 /// in two lists: search work is lent between them. A further table is a further line here, and a further function behind `new` below.
 macro_rules! with_tables {
@@ -10,7 +12,7 @@ macro_rules! with_tables {
                 /// n, capacity, leaf size, how many traces and how many nodes there are.
                 control: u16,
                 /// The traces, one behind another.
-                samples: i16,
+                samples: StoredSample,
                 /// The tree's nodes, a record each.
                 nodes: i64,
                 /// For each trace the next one of its leaf.
@@ -51,7 +53,7 @@ with_tables! { structs! }
 
 impl<'a> Tables<'a> {
     /// Each may be longer than its need. Labels are set by [`Tables::with_labels`]; without them every call refuses the tables as short.
-    pub const fn new(control: &'a [u16], samples: &'a [i16], nodes: &'a [i64], links: &'a [u16]) -> Tables<'a> {
+    pub const fn new(control: &'a [u16], samples: &'a [StoredSample], nodes: &'a [i64], links: &'a [u16]) -> Tables<'a> {
         Tables { control, samples, nodes, links, labels: &[] }
     }
 
@@ -63,7 +65,13 @@ impl<'a> Tables<'a> {
 
 impl<'a> Lent<'a> {
     /// Each may be longer than its need. Labels are set by [`Lent::with_labels`]; without them every call refuses the tables as short.
-    pub const fn new(control: &'a mut [u16], samples: &'a mut [i16], nodes: &'a mut [i64], links: &'a mut [u16], work: &'a mut [u64]) -> Lent<'a> {
+    pub const fn new(
+        control: &'a mut [u16],
+        samples: &'a mut [StoredSample],
+        nodes: &'a mut [i64],
+        links: &'a mut [u16],
+        work: &'a mut [u64],
+    ) -> Lent<'a> {
         Lent { control, samples, nodes, links, work, labels: &mut [] }
     }
 

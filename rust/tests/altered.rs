@@ -3,10 +3,10 @@
 mod common;
 
 use common::{check_add, check_add_labelled, check_batch, check_checked, check_export, check_import, check_k_nearest, check_label, check_nearest};
-use common::{check_read_back, check_remote, measures};
+use common::{check_read_back, check_remote, is_narrow, measures, narrowed};
 use testing::model::recording;
 use testing::model::tables::{Tables, RECORD_PLACES};
-use testing::model::{runs, segments_of, width, Figure, Kind, Library, Node, Segment, Test, Trace};
+use testing::model::{runs, segments_of, width, Figure, Kind, Library, Node, Segment, Test, Trace, SAMPLE_LIMIT};
 use testing::random::{label, labels, query, traces, Random, Shape, SHAPES};
 
 /// Ends that include the given ones, the last n.
@@ -38,32 +38,32 @@ fn pair(random: &mut Random, low: i128, high: i128) -> (i128, i128) {
 }
 
 /// Ranges as the traces have them, or any that the rules allow.
-fn segments(random: &mut Random, ends: &[usize], below: &[&[i16]]) -> Vec<Segment> {
+fn segments(random: &mut Random, ends: &[usize], below: &[&[i32]]) -> Vec<Segment> {
     let mut list = segments_of(ends, below);
     for (run, s) in runs(ends).into_iter().zip(&mut list) {
         let w = width(run);
         if random.once_in(3) {
-            (s.least_sum, s.greatest_sum) = pair(random, -w * 32_768, w * 32_768);
+            (s.least_sum, s.greatest_sum) = pair(random, -w * SAMPLE_LIMIT, w * SAMPLE_LIMIT);
         }
         if random.once_in(3) {
-            (s.least_scatter, s.greatest_scatter) = pair(random, 0, (w * w) << 30);
+            (s.least_scatter, s.greatest_scatter) = pair(random, 0, (w * w) << 38);
         }
         if random.once_in(3) {
-            s.least_sum = (s.least_sum - 3).max(-w * 32_768);
-            s.greatest_scatter = (s.greatest_scatter + 5).min((w * w) << 30);
+            s.least_sum = (s.least_sum - 3).max(-w * SAMPLE_LIMIT);
+            s.greatest_scatter = (s.greatest_scatter + 5).min((w * w) << 38);
         }
     }
     list
 }
 
-fn test(random: &mut Random, n: usize, below: &[&[i16]]) -> Test {
+fn test(random: &mut Random, n: usize, below: &[&[i32]]) -> Test {
     let first = 1 + random.below(n);
     let last = first + random.below(n - first + 1);
     let figure = *random.pick(&[Figure::Sum, Figure::Scatter]);
     let w = width((first, last));
     let (low, high) = match figure {
-        Figure::Sum => (-2 * w * 32_768, 2 * w * 32_768),
-        Figure::Scatter => (0, 2 * w * 32_768),
+        Figure::Sum => (-2 * w * SAMPLE_LIMIT, 2 * w * SAMPLE_LIMIT),
+        Figure::Scatter => (0, 2 * w * SAMPLE_LIMIT),
     };
     let threshold = if random.once_in(2) { 2 * figure.of(&below[random.below(below.len())][first - 1..last]) } else { pair(random, low, high).0 };
     Test { figure, first, last, threshold }
@@ -114,7 +114,7 @@ fn library(random: &mut Random, shape: Shape, n: usize, count: usize, capacity: 
     }
     let mut made: Vec<Option<Node>> = vec![None; nodes.len()];
     for (at, (numbers, ends, children)) in nodes.iter().enumerate() {
-        let below: Vec<&[i16]> = numbers.iter().map(|&t| stored[t].as_slice()).collect();
+        let below: Vec<&[i32]> = numbers.iter().map(|&t| stored[t].as_slice()).collect();
         let kind = match children {
             None => Kind::Leaf(numbers.clone()),
             Some((left, right)) => {
@@ -136,7 +136,9 @@ fn library(random: &mut Random, shape: Shape, n: usize, count: usize, capacity: 
 fn with_junk(random: &mut Random, library: &Library) -> Tables {
     let mut t = Tables::of(library);
     let (k, n) = (library.traces.len(), library.measures.n as usize);
-    t.samples[k * n..].iter_mut().for_each(|x| *x = random.word() as i16);
+    // the lower bits of a word, and the words of no trace
+    t.samples[..k * n].iter_mut().for_each(|x| *x |= random.word() as i32 & 0xfff);
+    t.samples[k * n..].iter_mut().for_each(|x| *x = random.word() as i32);
     t.links[k..].iter_mut().for_each(|x| *x = random.word() as u16);
     t.work.iter_mut().for_each(|x| *x = random.word());
     // the upper bits of a label, and the labels of no trace
@@ -163,7 +165,7 @@ fn search(random: &mut Random, t: &mut Tables, library: &Library, shape: Shape) 
     let mut list = vec![1; 2 * k];
     check_k_nearest(t, l, &mut trail, &mut list, &q, k as u64).expect("nothing is refused");
     t.work.iter_mut().for_each(|x| *x = random.word());
-    let run: Vec<i16> = (0..k).flat_map(|_| query(random, shape, n, &library.traces)).collect();
+    let run: Vec<i32> = (0..k).flat_map(|_| query(random, shape, n, &library.traces)).collect();
     check_batch(t, l, &mut trail, &run, k, k).expect("nothing is refused");
     t.work.iter_mut().for_each(|x| *x = random.word());
 }
@@ -182,8 +184,9 @@ fn follow(random: &mut Random, library: &Library, shape: Shape, queries: usize, 
     // recordings: a trace as it stands, and imports into these tables
     let number = random.below(library.traces.len());
     assert_eq!(check_label(&t, l, number as u64), Ok(library.labels[number]));
-    check_export(&t, l, &mut vec![1; 44 + 2 * n], number as u64, 8000).expect("nothing is refused");
-    let stored: Vec<Trace> = (0..more).map(|_| query(random, shape, n, &library.traces)).collect();
+    let exported = check_export(&t, l, &mut vec![1; 44 + 2 * n], number as u64, 8000);
+    assert_eq!(exported.map(|_| ()), if is_narrow(&library.traces[number]) { Ok(()) } else { Err((12, 0)) });
+    let stored: Vec<Trace> = (0..more).map(|_| narrowed(&query(random, shape, n, &library.traces))).collect();
     for many in 0..=more {
         let _ = check_import(&mut t.clone(), l, &recording::write(8000, &stored[..many].concat()));
     }

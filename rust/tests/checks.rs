@@ -3,10 +3,10 @@
 
 mod common;
 
-use common::{check_add, check_checked, check_import, check_k_nearest, check_list, check_nearest, check_read_back, check_scan, measures};
-use silkendoz::{Refusal, Tables as Kept, TraceLibrary};
+use common::{check_add, check_checked, check_import, check_k_nearest, check_list, check_nearest, check_read_back, check_scan, measures, narrowed};
+use silkendoz::{Refusal, StoredSample, Tables as Kept, TraceLibrary};
 use testing::model::recording;
-use testing::model::tables::{segment_place, Tables, RECORD_PLACES};
+use testing::model::tables::{segment_place, word_of, Tables, RECORD_PLACES};
 use testing::model::{segments_of, Kind, Library, Trace};
 use testing::random::{query, traces, Random, Shape, SHAPES};
 
@@ -92,7 +92,7 @@ fn other_fields() {
         let n = library.measures.n as i64;
         for j in 0..library.nodes.len() {
             for place in 0..7 {
-                for value in (-2..=n.max(library.nodes.len() as i64)).chain([2 * n * 32_768, -2 * n * 32_768]) {
+                for value in (-2..=n.max(library.nodes.len() as i64)).chain([2 * n * 524_288, -2 * n * 524_288]) {
                     let mut altered = t.clone();
                     altered.nodes[j * RECORD_PLACES + place] = value;
                     tried(&altered);
@@ -107,7 +107,8 @@ fn other_fields() {
             }
         }
         for place in 0..t.samples.len() {
-            for by in [-1, 1] {
+            // the next sample either way, and lower bits alone
+            for by in [-4096, 4096, 4095] {
                 let mut altered = t.clone();
                 altered.samples[place] = altered.samples[place].saturating_add(by);
                 tried(&altered);
@@ -143,7 +144,7 @@ fn any_exact_tree(random: &mut Random, shape: Shape, n: usize, count: usize) -> 
     }
     for j in (0..library.nodes.len()).rev() {
         let ends = library.nodes[j].ends();
-        let below: Vec<&[i16]> = library.below(j).iter().map(|&t| library.traces[t].as_slice()).collect();
+        let below: Vec<&[i32]> = library.below(j).iter().map(|&t| library.traces[t].as_slice()).collect();
         library.nodes[j].segments = segments_of(&ends, &below);
     }
     library
@@ -174,7 +175,7 @@ fn accepted_tables_are_searched_exactly() {
             if random.once_in(2) {
                 let _ = check_add(&mut t, l, &trace);
             } else {
-                let _ = check_import(&mut t, l, &recording::write(8000, &trace));
+                let _ = check_import(&mut t, l, &recording::write(8000, &narrowed(&trace)));
             }
         }
     }
@@ -188,7 +189,7 @@ fn what_it_does_not_see() {
     let mut t = Tables::of(&library);
     let l = t.lengths();
     // sums 9 to 10, scatters 0 to 81: a trace whose samples change places has the same figures
-    t.samples[..2].copy_from_slice(&[9, 0]);
+    t.samples[..2].copy_from_slice(&[word_of(9), 0]);
     assert!(check_checked(&t, l).is_ok());
     let other = Library::of(measures(2, 4, 4), &[vec![9, 0], vec![5, 5]]);
     assert_eq!(t.library(), Some(other));
@@ -202,7 +203,12 @@ fn tables_from_elsewhere() {
         library.add(&trace).unwrap();
     }
     let t = library.tables();
-    let longer = ([t.control, &[9; 3]].concat(), [t.samples, &[9; 3]].concat(), [t.nodes, &[9; 3]].concat(), [t.links, &[9; 3]].concat());
+    let longer = (
+        [t.control, &[9; 3]].concat(),
+        [t.samples, &[StoredSample::from_word(9); 3]].concat(),
+        [t.nodes, &[9; 3]].concat(),
+        [t.links, &[9; 3]].concat(),
+    );
     let labels = [t.labels, &[9; 3]].concat();
     let kept = |control| Kept::new(control, &longer.1, &longer.2, &longer.3).with_labels(&labels);
     let mut taken = TraceLibrary::from_tables(kept(&longer.0)).unwrap();

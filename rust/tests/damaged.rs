@@ -3,7 +3,7 @@
 mod common;
 
 use common::{check_add, check_add_labelled, check_batch, check_checked, check_export, check_import, check_k_nearest, check_label, check_nearest};
-use common::{check_remote, check_write, measures};
+use common::{check_remote, check_write, measures, narrowed};
 use testing::model::recording;
 use testing::model::tables::{Tables, RECORD_PLACES};
 use testing::model::{Label, Library, Trace};
@@ -35,11 +35,13 @@ fn cases(random: &mut Random) -> Vec<Case> {
         case(random, Shape::Identical, 4, 3, 1, 2),
         case(random, Shape::Uniform, 2, 1, 1, 1),
         case(random, Shape::Uniform, 2, 3, 1, 0),
+        case(random, Shape::WideExtremes, 3, 5, 1, 4),
+        case(random, Shape::Mixed, 6, 6, 2, 5),
     ]
 }
 
 /// The calls that test tables, each on the same damaged ones: whether they are spoiled, on which all agree.
-fn spoiled(damaged: &Tables, query: &[i16]) -> bool {
+fn spoiled(damaged: &Tables, query: &[i32]) -> bool {
     let l = damaged.lengths();
     let mut t = damaged.clone();
     let added = check_add(&mut t, l, query).map(|_| ());
@@ -49,7 +51,7 @@ fn spoiled(damaged: &Tables, query: &[i16]) -> bool {
     t.clone_from(damaged);
     let listed = check_k_nearest(&mut t, l, &mut trail, &mut [7; 7], query, 3).map(|_| ());
     t.clone_from(damaged);
-    let imported = check_import(&mut t, l, &recording::write(8000, &query.repeat(2))).map(|_| ());
+    let imported = check_import(&mut t, l, &recording::write(8000, &narrowed(query).repeat(2))).map(|_| ());
     let exported = check_export(damaged, l, &mut [7; 99], 0, 8000).map(|_| ());
     let checked = check_checked(damaged, l).map(|_| ());
     let batched = check_batch(&mut damaged.clone(), l, &mut trail, &query.repeat(2), 2, 2).map(|_| ());
@@ -67,8 +69,11 @@ fn values(was: i64, t: &Tables) -> Vec<i64> {
     let mut list: Vec<i64> = fields.flat_map(|x| [x - 1, x, x + 1]).collect();
     list.extend([-1, 0, 1, 2, 3, 16, 17, was - 1, was + 1, -was, 2 * was + 1]);
     for w in 1..=i64::from(t.control[0]) {
-        list.extend([w * 32_768, -w * 32_768, w * 32_768 + 1, -w * 32_768 - 1, (w * w) << 30, ((w * w) << 30) + 1]);
-        list.extend([2 * w * 32_768 + 1, -2 * w * 32_768, (2 * w * w) << 30, ((2 * w * w) << 30) + 1]);
+        let most = w * 524_288;
+        list.extend([most, -most, most + 1, -most - 1, (w * w) << 38, ((w * w) << 38) + 1]);
+        list.extend([2 * most, 2 * most + 1, -2 * most, -2 * most - 1, (2 * w * w) << 38]);
+        // the limits of 16 bits, of which no rule speaks
+        list.extend([w * 32_768 + 1, ((w * w) << 30) + 1]);
     }
     list.extend([65_535, 65_536, 65_537, 1 << 32, i64::MAX, i64::MIN]);
     list.sort_unstable();
@@ -117,10 +122,10 @@ fn control_links_samples_and_labels() {
             }
         }
         for place in 0..case.tables.samples.len() {
-            for value in [0, 1, -1, i16::MIN, i16::MAX] {
+            for value in [0, 1, -1, 4095, 4096, -4096, 32_768 << 12, 0x0055_5555, i32::MIN, i32::MAX] {
                 let mut damaged = case.tables.clone();
                 damaged.samples[place] = value;
-                assert!(!spoiled(&damaged, &case.query), "no rule speaks of samples");
+                assert!(!spoiled(&damaged, &case.query), "every word stands for a sample within the limits");
             }
         }
         for place in 0..case.tables.labels.len() {
@@ -161,7 +166,7 @@ fn several_fields_at_once() {
     }
 }
 
-/// Every table one place too short, and the order of the refusals: 2 for the control record, 3 for its measures, 2, the rest of 3, 4, then 5, 6, 7.
+/// Every table one place too short, and the order of the refusals: 2 for the control record, 3 for its measures, 2, the rest of 3, 4, 15, then 5, 6, 7.
 #[test]
 fn short_tables_and_the_order() {
     let random = &mut Random::seeded(24);
@@ -195,6 +200,22 @@ fn short_tables_and_the_order() {
         let wrong = vec![0; case.query.len() + 1];
         assert_eq!(check_add(&mut case.tables.clone(), l, &wrong).unwrap_err(), (4, 0));
         assert_eq!(check_nearest(&mut case.tables.clone(), l, &mut [], &wrong).unwrap_err(), (4, 0));
+        // and then a sample outside the limits, in the first place or the last, by the least and by the most
+        for (at, number) in [(0, 524_288), (case.query.len() - 1, -524_289), (0, i32::MIN), (case.query.len() - 1, i32::MAX)] {
+            let mut beyond = case.query.clone();
+            beyond[at] = number;
+            assert_eq!(check_add(&mut case.tables.clone(), l, &beyond).unwrap_err(), (15, 0));
+            assert_eq!(check_add_labelled(&mut case.tables.clone(), l, &beyond, Label::default()).unwrap_err(), (15, 0));
+            assert_eq!(check_nearest(&mut case.tables.clone(), l, &mut [], &beyond).unwrap_err(), (15, 0));
+            assert_eq!(check_remote(&mut case.tables.clone(), l, &mut [], &beyond).unwrap_err(), (15, 0));
+            // a wrong length comes first, tables come first
+            beyond.push(0);
+            assert_eq!(check_add(&mut case.tables.clone(), l, &beyond).unwrap_err(), (4, 0));
+            let mut spoiled = case.tables.clone();
+            spoiled.control[4] = 9999;
+            assert_eq!(check_add(&mut spoiled, l, &beyond[..case.query.len()]).unwrap_err(), (3, 0));
+        }
+        let beyond = vec![524_288; case.query.len()];
         let expected = if case.tables.control[3] == 0 { (6, 0) } else { (7, 0) };
         assert_eq!(check_nearest(&mut case.tables.clone(), l, &mut [], &case.query).unwrap_err(), expected);
         assert_eq!(check_remote(&mut case.tables.clone(), l, &mut [], &wrong).unwrap_err(), (4, 0));
@@ -204,19 +225,20 @@ fn short_tables_and_the_order() {
             assert_eq!(check_label(&case.tables, l, number), Err((12, 0)));
         }
         // a bad k comes before a wrong trace, and that before empty, a short trail and a short list
-        let order = |k: u64, query: &[i16], trail: usize, list: usize| {
+        let order = |k: u64, query: &[i32], trail: usize, list: usize| {
             check_k_nearest(&mut case.tables.clone(), l, &mut vec![7; trail], &mut vec![7; list], query, k).map(|_| ())
         };
         for k in [0, 17, 65_537, u64::MAX] {
             assert_eq!(order(k, &wrong, 0, 0), Err((11, 0)));
         }
         assert_eq!(order(16, &wrong, 0, 0), Err((4, 0)));
+        assert_eq!(order(16, &beyond, 0, 0), Err((15, 0)));
         assert_eq!(order(16, &case.query, 0, 32), Err(expected));
         assert_eq!(order(16, &case.query, 16, 31), Err(expected));
         assert_eq!(order(1, &case.query, 16, 1), Err(expected));
         assert_eq!(order(16, &case.query, 16, 32), if case.tables.control[3] == 0 { Err((6, 0)) } else { Ok(()) });
         // a bad batch comes before a wrong trace, and that before empty and a short trail
-        let order = |many: usize, run: &[i16], trail: usize, list: usize| {
+        let order = |many: usize, run: &[i32], trail: usize, list: usize| {
             check_batch(&mut case.tables.clone(), l, &mut vec![7; trail], run, many, list).map(|_| ())
         };
         for (many, list) in [(0, 0), (17, 17), (1, 0), (1, 2), (16, 17), (65_537, 1), (usize::MAX, 0)] {
@@ -224,6 +246,8 @@ fn short_tables_and_the_order() {
         }
         assert_eq!(order(1, &wrong, 0, 1), Err((4, 0)));
         assert_eq!(order(2, &case.query, 0, 2), Err((4, 0)));
+        assert_eq!(order(2, &beyond, 0, 2), Err((4, 0)));
+        assert_eq!(order(2, &[&case.query[..], &beyond].concat(), 0, 2), Err((15, 0)));
         assert_eq!(order(1, &case.query, 0, 1), Err(expected));
         assert_eq!(order(16, &case.query.repeat(16), 16, 16), if case.tables.control[3] == 0 { Err((6, 0)) } else { Ok(()) });
     }

@@ -1,9 +1,10 @@
 //! What `docs/GUIDE.md` and the README say in tables and in passing is what the library does. The programs of the guide are tests of their own: the one in
 //! Rust with the documentation (`src/lib.rs`), the one in C by `tools/guide_c`.
 
-use silkendoz::{calls, Refusal, TraceLibrary};
+use silkendoz::{calls, Refusal, StoredSample, TraceLibrary};
 use std::path::PathBuf;
-use testing::model::sheet::{all_label_blocks, blocks_needed, program_line};
+use testing::model::sheet::{all_label_blocks, blocks_needed, program_line, write_as, Width};
+use testing::model::{Label, Measures};
 
 fn file(name: &str) -> Vec<u8> {
     std::fs::read(PathBuf::from(env!("CARGO_MANIFEST_DIR")).join("..").join(name)).unwrap()
@@ -20,7 +21,7 @@ fn table(page: &str, heading: &str) -> Vec<Vec<String>> {
     rows.map(|l| l.trim_matches('|').split('|').map(|cell| cell.trim().to_string()).collect()).collect()
 }
 
-/// By docs/LAYOUT.md: samples, node records, links, search work, labels; then all of it, and a full sheet.
+/// By docs/LAYOUT.md: samples, node records, links, search work, labels; then all of it, and a full sheet, narrow and wide.
 #[test]
 fn memory_needs() {
     let rows = table(&text("docs/GUIDE.md"), "Memory needs");
@@ -28,11 +29,12 @@ fn memory_needs() {
     for row in rows {
         let cells: Vec<usize> = row.iter().map(|cell| cell.replace(',', "").parse().unwrap()).collect();
         let (n, c) = (cells[0], cells[1]);
-        let tables = [2 * c * n, 8 * (2 * c - 1) * 87, 2 * c, 8 * (2 * c - 1), 8 * c];
+        let tables = [4 * c * n, 8 * (2 * c - 1) * 87, 2 * c, 8 * (2 * c - 1), 8 * c];
         assert_eq!(cells[2..7], tables);
         assert_eq!(cells[7], tables.iter().sum::<usize>() + 10);
-        assert_eq!(cells[7], 2 * c * n + 1418 * c - 694);
-        assert_eq!(cells[8], 512 * (blocks_needed(c as u64, n as u64) + all_label_blocks(c as u64)));
+        assert_eq!(cells[7], 4 * c * n + 1418 * c - 694);
+        let sheet = |width| 512 * (blocks_needed(width, c as u64, n as u64) + all_label_blocks(c as u64));
+        assert_eq!(cells[8..], [sheet(Width::Narrow), sheet(Width::Wide)]);
     }
 }
 
@@ -40,7 +42,7 @@ fn memory_needs() {
 fn refusals() {
     let rows = table(&text("docs/GUIDE.md"), "Refusals");
     let named: Vec<(u64, String)> = rows.iter().map(|row| (row[0].parse().unwrap(), row[1].clone())).collect();
-    let all: Vec<(u64, String)> = (1..=14).map(|number| (number, Refusal::from_number(number, 0).unwrap().word().to_string())).collect();
+    let all: Vec<(u64, String)> = (1..=15).map(|number| (number, Refusal::from_number(number, 0).unwrap().word().to_string())).collect();
     assert_eq!(named, all);
 }
 
@@ -56,7 +58,7 @@ fn runner_up() {
     let rows = table(&text("docs/GUIDE.md"), "The runner-up");
     let library = TraceLibrary::read_sheet(&file("examples/faults.sheet")).unwrap();
     let query = library.len() - 1;
-    let samples = library.trace(query).unwrap().to_vec();
+    let samples = StoredSample::values(library.trace(query).unwrap());
     let list = library.k_nearest(&samples, 1 + rows.len()).unwrap().list;
     assert_eq!((list[0].trace, list[0].distance), (query, 0));
     let rounded = |x: f64| x.round() as u64;
@@ -112,11 +114,13 @@ fn refusals_of_the_program() {
     torn[600] ^= 1;
     // a sound block too many
     let bad = [&sheet(4, 8, 3)[..], &sheet(4, 300, 300)[1024..1536]].concat();
-    let shown = [vec![], torn, bad, sheet(65, 4, 2), sheet(4, 64, 1)].map(|bytes| program_line(&bytes));
+    let m = Measures { n: 1, capacity: 8, leaf_size: 2 };
+    let outside = write_as(Width::Wide, m, &[vec![524_288]], &[Label::default()]);
+    let shown = [vec![], torn, bad, outside, sheet(65, 4, 2), sheet(4, 64, 1)].map(|bytes| program_line(&bytes));
     assert_eq!(printed, shown);
     assert_eq!(program_line(&vec![0; 65_536 + 512]), printed[0]);
-    assert_eq!(program_line(&sheet(4, 65, 2)), printed[3]);
-    assert_eq!(program_line(&sheet(4, 64, 0)), printed[4]);
+    assert_eq!(program_line(&sheet(4, 65, 2)), printed[4]);
+    assert_eq!(program_line(&sheet(4, 64, 0)), printed[5]);
 }
 
 /// One version for the header and the crate.

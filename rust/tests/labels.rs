@@ -17,7 +17,7 @@ fn label_of(number: usize) -> Label {
 fn labelled(name: &str) -> Folder {
     let folder = bench(name);
     let (faults, _) = faults();
-    let line = |(number, (name, _)): (usize, &(String, Vec<i16>))| format!("{name},{:#x},{}\n", label_of(number).code, label_of(number).serial);
+    let line = |(number, (name, _)): (usize, &(String, Vec<i32>))| format!("{name},{:#x},{}\n", label_of(number).code, label_of(number).serial);
     let lines: Vec<String> = faults.iter().enumerate().map(line).collect();
     folder.write("labels.csv", format!("name,code,serial\n# by hand\n{}", lines.concat()));
     folder.write("faults.codes", "0x0406 right rail dry\n1033,healthy\n");
@@ -195,7 +195,7 @@ fn long(name: &str) -> (Folder, Vec<u8>) {
     let folder = Folder::new(name);
     let mut library = TraceLibrary::open(1, 200, 16).unwrap();
     for number in 0..200u16 {
-        library.add_labelled(&[number as i16], Label { code: 1 + number, serial: 4100 }).unwrap();
+        library.add_labelled(&[number.into()], Label { code: 1 + number, serial: 4100 }).unwrap();
     }
     let sheet = library.write_sheet().unwrap();
     folder.write("long.sheet", &sheet);
@@ -252,7 +252,8 @@ fn bad_sheets_with_labels() {
         (altered(2, 3, 1), "a byte that has to be 0 is not: byte 3 of block 2"),
         (zero, "all its labels are zero, and then it has no block of them"),
         (behind, "block 3 (labels of traces 84 to 167): it holds samples behind labels, or its check does not fit"),
-        (altered(2, 2, 4), "block 2 (labels of traces 0 to 83): its kind is 4, and has to be 2 or 5"),
+        (altered(2, 2, 7), "block 2 (labels of traces 0 to 83): its kind is 7, and has to be 2 or 5"),
+        (altered(2, 2, 4), "block 2 (labels of traces 0 to 83): it holds samples of four bytes, and the sheet's have two: files were mixed"),
     ] {
         folder.write("bad.sheet", bytes);
         let ran = folder.line("check bad.sheet");

@@ -5,7 +5,7 @@ mod common;
 use common::{check_add_labelled, check_batch, check_k_nearest, check_label, check_list, check_nearest, check_open, check_remote, check_scan};
 use common::{junk, longer, measures};
 use silkendoz::TraceLibrary;
-use testing::model::tables::{needs, Tables};
+use testing::model::tables::{needs, word_of, Tables};
 use testing::model::{KNearest, Library, Measures, Trace};
 use testing::random::{labels, query, traces, Random, Shape, SHAPES};
 
@@ -51,7 +51,7 @@ fn run_on(random: &mut Random, shape: Shape, stored: &[Trace], m: Measures, quer
 }
 
 /// A match, and a list whose first is its answer and which begins with every shorter one.
-fn ask(random: &mut Random, t: &mut Tables, l: testing::model::tables::Lengths, library: &Library, q: &[i16]) {
+fn ask(random: &mut Random, t: &mut Tables, l: testing::model::tables::Lengths, library: &Library, q: &[i32]) {
     let mut trail = vec![0xbeef; library.leaves().len() + 1];
     let found = check_nearest(t, l, &mut trail, q).expect("a trace is stored");
     check_scan(library, q, &found);
@@ -121,6 +121,10 @@ fn larger_libraries() {
         (Shape::Clusters, 32, 500, 3),
         (Shape::Constants, 4, 300, 2),
         (Shape::Uniform, 20, 600, 64),
+        (Shape::Wide, 16, 400, 8),
+        (Shape::WideClusters, 64, 300, 4),
+        (Shape::WideExtremes, 9, 300, 2),
+        (Shape::Mixed, 33, 300, 3),
     ] {
         let stored: Vec<Trace> = traces(random, shape, n, count);
         let model = Library::of(measures(n, count, leaf_size), &stored);
@@ -149,20 +153,22 @@ fn larger_libraries() {
 fn the_largest_library() {
     let random = &mut Random::seeded(5);
     let m = measures(256, 4096, 64);
-    let stored = traces(random, Shape::Walk, 256, 4096);
-    let mut t = junk(needs(m));
-    let l = t.lengths();
-    assert_eq!(common::open(&mut t, l, m), Ok(()));
-    for (k, trace) in stored.iter().enumerate() {
-        assert_eq!(common::add(&mut t, l, trace), Ok(k as u64));
+    for (shape, queries) in [(Shape::Walk, 10), (Shape::WideClusters, 4)] {
+        let stored = traces(random, shape, 256, 4096);
+        let mut t = junk(needs(m));
+        let l = t.lengths();
+        assert_eq!(common::open(&mut t, l, m), Ok(()));
+        for (k, trace) in stored.iter().enumerate() {
+            assert_eq!(common::add(&mut t, l, trace), Ok(k as u64));
+        }
+        let library = Library::of(m, &stored);
+        assert!(t == Tables::of(&library));
+        for _ in 0..queries {
+            let q = query(random, shape, 256, &stored);
+            ask(random, &mut t, l, &library, &q);
+        }
+        assert_eq!(common::add(&mut t, l, &stored[0]), Err((5, 0)));
     }
-    let library = Library::of(m, &stored);
-    assert!(t == Tables::of(&library));
-    for _ in 0..10 {
-        let q = query(random, Shape::Walk, 256, &stored);
-        ask(random, &mut t, l, &library, &q);
-    }
-    assert_eq!(common::add(&mut t, l, &stored[0]), Err((5, 0)));
 }
 
 /// "Samples in leaves off the trail don't bear on a search": with other samples there, the answer and the trail stay.
@@ -185,7 +191,8 @@ fn samples_off_the_trail() {
                 if let (testing::model::Kind::Leaf(numbers), false) = (&node.kind, found.trail.contains(&j)) {
                     for &number in numbers {
                         // the query itself, which would be at distance 0
-                        t.samples[number * n..(number + 1) * n].copy_from_slice(&q);
+                        let words: Vec<i32> = q.iter().map(|&x| word_of(x)).collect();
+                        t.samples[number * n..(number + 1) * n].copy_from_slice(&words);
                         changed += 1;
                     }
                 }
@@ -219,4 +226,21 @@ fn sixteen_segments() {
             assert!(n < 256 || leaf_size > 1 || full > 2, "{segments:?}");
         }
     }
+}
+
+/// The greatest distance, sums and scatters of 20 bits, at the largest n: traces and queries at either end.
+#[test]
+fn ends_of_the_range() {
+    let (low, high) = (vec![-524_288; 256], vec![524_287; 256]);
+    let turns = |first: i32, other: i32| -> Trace { (0..256).map(|at| if at % 2 == 0 { first } else { other }).collect() };
+    let stored = vec![low.clone(), high.clone(), turns(-524_288, 524_287), turns(524_287, -524_288)];
+    let random = &mut Random::seeded(8);
+    for leaf_size in [1, 4] {
+        run_on(random, Shape::WideExtremes, &stored, measures(256, 4, leaf_size), 4);
+    }
+    let mut library = TraceLibrary::open(256, 1, 1).unwrap();
+    library.add(&low).unwrap();
+    assert_eq!(library.nearest(&high).unwrap().distance, 281_474_439_840_000);
+    let every_other = library.nearest(&stored[2]).unwrap();
+    assert_eq!(every_other.distance, 140_737_219_920_000);
 }

@@ -4,15 +4,20 @@
 mod common;
 
 use common::{check_add, check_add_labelled, check_batch, check_checked, check_export, check_import, check_k_nearest, check_label, check_list};
-use common::{check_nearest, check_open, check_remote, junk, longer, measures};
+use common::{check_nearest, check_open, check_remote, junk, longer, measures, narrowed, with_no_sample};
 use testing::model::tables::{judge_opening, needs, Lengths, Tables};
 use testing::model::{recording, Library, Measures, Refused, Trace};
 use testing::random::{label, labels, query, traces, uniform, Random, Shape, SHAPES};
 
-/// What is stored, by the calls' arguments alone.
-struct Book(Option<Library>);
+/// What is stored, by the calls' arguments alone; and how often each refusal was told, 0 for none.
+struct Book(Option<Library>, [usize; 16]);
 
 impl Book {
+    /// Counts what was judged.
+    fn tell<A>(&mut self, judged: &Result<A, Refused>) {
+        self.1[judged.as_ref().map_or_else(|why| why.0 as usize, |_| 0)] += 1;
+    }
+
     fn library(&mut self) -> &mut Library {
         self.0.as_mut().expect("an opening has succeeded")
     }
@@ -23,25 +28,26 @@ impl Book {
         judge_opening(l, library.measures).map(|_| library)
     }
 
-    fn judge_adding(&self, l: Lengths, size: usize) -> Result<(), Refused> {
+    fn judge_adding(&self, l: Lengths, trace: &[i32]) -> Result<(), Refused> {
         let library = self.short(l)?;
         match () {
-            _ if size as u64 != library.measures.n => Err((4, 0)),
+            _ if trace.len() as u64 != library.measures.n => Err((4, 0)),
+            _ if trace.iter().any(|x| !(-524_288..524_288).contains(x)) => Err((15, 0)),
             _ if library.traces.len() as u64 == library.measures.capacity => Err((5, 0)),
             _ => Ok(()),
         }
     }
 
-    fn judge_match(&self, l: Lengths, size: usize, trail: usize) -> Result<(), Refused> {
-        self.short(l)?.judge_query(size, trail)
+    fn judge_match(&self, l: Lengths, query: &[i32], trail: usize) -> Result<(), Refused> {
+        self.short(l)?.judge_query(query, trail)
     }
 
-    fn judge_batch(&self, l: Lengths, run: usize, many: usize, trail: usize, list: usize) -> Result<(), Refused> {
+    fn judge_batch(&self, l: Lengths, run: &[i32], many: usize, trail: usize, list: usize) -> Result<(), Refused> {
         self.short(l)?.judge_queries(run, many, trail, list)
     }
 
-    fn judge_k_nearest(&self, l: Lengths, size: usize, k: u64, trail: usize, list: usize) -> Result<(), Refused> {
-        self.short(l)?.judge_k(size, k, trail, list)
+    fn judge_k_nearest(&self, l: Lengths, query: &[i32], k: u64, trail: usize, list: usize) -> Result<(), Refused> {
+        self.short(l)?.judge_k(query, k, trail, list)
     }
 }
 
@@ -77,7 +83,7 @@ const REMOTE_CALLS: usize = 4;
 
 /// A writing, whose sheet is as the book's; or a reading of a sheet, sound or damaged.
 fn sheet_step(random: &mut Random, shape: Shape, t: &mut Tables, book: &mut Book, l: Lengths) {
-    use testing::model::sheet::{need, read, write_labelled, Sheet};
+    use testing::model::sheet::{need, read, write_as, write_labelled, Sheet, Width};
     let library = book.library().clone();
     if random.once_in(2) {
         let need = need(&library);
@@ -86,6 +92,7 @@ fn sheet_step(random: &mut Random, shape: Shape, t: &mut Tables, book: &mut Book
             Ok(_) if sheet.len() < need => Err((8, 0)),
             other => other.map(|_| ()),
         };
+        book.tell(&judged);
         assert_eq!(common::check_write(t, l, &mut sheet).map(|_| ()), judged);
         if judged.is_ok() {
             assert_eq!(sheet[..need], write_labelled(library.measures, &library.traces, &library.labels));
@@ -94,10 +101,14 @@ fn sheet_step(random: &mut Random, shape: Shape, t: &mut Tables, book: &mut Book
     }
     let m = measures(1 + random.below(9), 1 + random.below(14), 1 + random.below(4));
     let count = random.below(m.capacity as usize + 1);
-    let mut sheet = write_labelled(m, &traces(random, shape, m.n as usize, count), &labels(random, count));
+    let (stored, told) = (traces(random, shape, m.n as usize, count), labels(random, count));
+    // now and then a wide sheet of samples that may all fit 16 bits, or one with a sample outside the limits
+    let stored = if random.once_in(12) { stored.iter().map(|trace| with_no_sample(random, trace)).collect() } else { stored };
+    let mut sheet = if random.once_in(8) { write_as(Width::Wide, m, &stored, &told) } else { write_labelled(m, &stored, &told) };
     damage(random, &mut sheet);
     let opened = |held: Sheet| judge_opening(l, held.measures).map(|_| Library::of(held.measures, &held.traces).labelled(&held.labels));
     let judged = read(&sheet).and_then(opened);
+    book.tell(&judged);
     assert_eq!(common::check_read(t, l, &sheet), judged);
     if let Ok(library) = judged {
         book.0 = Some(library);
@@ -116,17 +127,18 @@ fn damage(random: &mut Random, sheet: &mut [u8]) {
     };
     match random.below(6) {
         0 => put(8 + 2 * random.below(4), *random.pick(&[0, 1, 2, 65, 255]), true),
-        1 => put(512 * random.below(blocks) + 2, *random.pick(&[1, 2, 5]), true),
+        1 => put(512 * random.below(blocks) + 2, *random.pick(&[1, 2, 3, 4, 5]), true),
         2 => put(random.below(512 * blocks), random.word() as u8, random.once_in(2)),
         _ => {}
     }
 }
 
-/// A query, of n samples or now and then not, and a trail, long enough or now and then not.
+/// A query, of n samples within the limits or now and then not, and a trail, long enough or now and then not.
 fn some_query(random: &mut Random, shape: Shape, library: &Library) -> (Trace, Vec<u16>) {
     let n = library.measures.n as usize;
     let size = if random.once_in(10) { random.below(12) } else { n };
     let q = if size == n { query(random, shape, n, &library.traces) } else { uniform(random, size, -9, 9) };
+    let q = if random.once_in(12) { with_no_sample(random, &q) } else { q };
     (q, vec![0xabcd; if random.once_in(4) { random.below(4) } else { 14 }])
 }
 
@@ -135,7 +147,8 @@ fn k_nearest_step(random: &mut Random, shape: Shape, t: &mut Tables, book: &mut 
     let (q, mut trail) = some_query(random, shape, book.library());
     let k = if random.once_in(6) { *random.pick(&[0, 17, 100, 65_536 + 1, u64::MAX]) } else { 1 + random.below(16) as u64 };
     let mut list = vec![0xabcd; if random.once_in(6) { random.below(2 * k.min(16) as usize + 2) } else { 2 * k.min(16) as usize + random.below(3) }];
-    let judged = book.judge_k_nearest(l, q.len(), k, trail.len(), list.len());
+    let judged = book.judge_k_nearest(l, &q, k, trail.len(), list.len());
+    book.tell(&judged);
     let answer = check_k_nearest(t, l, &mut trail, &mut list, &q, k);
     assert_eq!(answer.as_ref().map(|_| ()).map_err(|&e| e), judged);
     if let Ok(found) = answer {
@@ -154,6 +167,7 @@ fn recording_step(random: &mut Random, shape: Shape, t: &mut Tables, book: &mut 
         let need = recording::size(library.measures.n);
         let mut buffer = vec![0x77; if random.once_in(4) { random.below(need) } else { need + random.below(9) }];
         let judged = book.short(l).and_then(|library| library.judge_one(number, rate, buffer.len()));
+        book.tell(&judged);
         assert_eq!(check_export(t, l, &mut buffer, number, rate).map(|_| ()), judged);
         if judged.is_ok() {
             let held = recording::read(library.measures.n, &buffer[..need]);
@@ -162,7 +176,7 @@ fn recording_step(random: &mut Random, shape: Shape, t: &mut Tables, book: &mut 
         return;
     }
     let count = random.below(5);
-    let mut samples = traces(random, shape, n, count).concat();
+    let mut samples = narrowed(&traces(random, shape, n, count).concat());
     if random.once_in(6) {
         samples.push(7);
     }
@@ -177,6 +191,7 @@ fn recording_step(random: &mut Random, shape: Shape, t: &mut Tables, book: &mut 
         _ => {}
     }
     let judged = book.short(l).and_then(|library| library.judge_file(&file));
+    book.tell(&judged);
     let answer = check_import(t, l, &file);
     assert_eq!(answer.as_ref().map(|_| ()).map_err(|&e| e), judged.as_ref().map(|_| ()).map_err(|&e| e));
     for trace in judged.unwrap_or_default() {
@@ -192,7 +207,8 @@ fn batch_step(random: &mut Random, shape: Shape, t: &mut Tables, book: &mut Book
         run.extend(query(random, shape, book.library().measures.n as usize, &book.library().traces));
     }
     let list = if random.once_in(6) { random.below(19) } else { many.min(17) };
-    let judged = book.judge_batch(l, run.len(), many, trail.len(), list);
+    let judged = book.judge_batch(l, &run, many, trail.len(), list);
+    book.tell(&judged);
     let answer = check_batch(t, l, &mut trail, &run, many, list);
     assert_eq!(answer.map(|_| ()), judged);
 }
@@ -202,7 +218,9 @@ fn add_step(random: &mut Random, shape: Shape, t: &mut Tables, book: &mut Book, 
     let n = book.library().measures.n as usize;
     let size = if random.once_in(10) { random.below(12) } else { n };
     let trace = if size == n { traces(random, shape, n, 1).remove(0) } else { uniform(random, size, -9, 9) };
-    let judged = book.judge_adding(l, size);
+    let trace = if random.once_in(12) { with_no_sample(random, &trace) } else { trace };
+    let judged = book.judge_adding(l, &trace);
+    book.tell(&judged);
     let given = random.once_in(2).then(|| label(random));
     let answer = match given {
         Some(label) => check_add_labelled(t, l, &trace, label),
@@ -219,12 +237,14 @@ fn label_step(random: &mut Random, t: &Tables, book: &mut Book, l: Lengths) {
     let count = book.library().traces.len();
     let number = if random.once_in(6) { *random.pick(&[65_536, 1 << 32, u64::MAX]) } else { random.below(count + 2) as u64 };
     let judged = book.short(l).and_then(|library| library.judge_number(number).map(|()| library.labels[number as usize]));
+    book.tell(&judged);
     assert_eq!(check_label(t, l, number), judged);
 }
 
 fn remote_step(random: &mut Random, shape: Shape, t: &mut Tables, book: &mut Book, l: Lengths) {
     let (q, mut trail) = some_query(random, shape, book.library());
-    let judged = book.judge_match(l, q.len(), trail.len());
+    let judged = book.judge_match(l, &q, trail.len());
+    book.tell(&judged);
     let answer = check_remote(t, l, &mut trail, &q);
     assert_eq!(answer.as_ref().map(|_| ()).map_err(|&e| e), judged);
     if let Ok(found) = answer {
@@ -238,6 +258,7 @@ fn step(random: &mut Random, shape: Shape, t: &mut Tables, book: &mut Book) {
         0 => {
             let m = some_measures(random);
             let judged = judge_opening(l, m);
+            book.tell(&judged);
             assert_eq!(check_open(t, l, m), judged.clone().map(|_| ()));
             if let Ok(empty) = judged {
                 book.0 = Some(empty);
@@ -254,7 +275,8 @@ fn step(random: &mut Random, shape: Shape, t: &mut Tables, book: &mut Book) {
         33.. => remote_step(random, shape, t, book, l),
         _ => {
             let (q, mut trail) = some_query(random, shape, book.library());
-            let judged = book.judge_match(l, q.len(), trail.len());
+            let judged = book.judge_match(l, &q, trail.len());
+            book.tell(&judged);
             let answer = check_nearest(t, l, &mut trail, &q);
             assert_eq!(answer.as_ref().map(|_| ()).map_err(|&e| e), judged);
             if let Ok(found) = answer {
@@ -268,15 +290,20 @@ fn step(random: &mut Random, shape: Shape, t: &mut Tables, book: &mut Book) {
 #[test]
 fn random_lists() {
     let random = &mut Random::seeded(11);
-    for round in 0..120 {
+    let mut told = [0; 16];
+    for round in 0..180 {
         let shape = *random.pick(&SHAPES);
         let mut t = junk(longer(needs(measures(9, 14, 1)), 3));
         let l = t.lengths();
         let first = measures(1 + random.below(9), 1 + random.below(14), 1 + random.below(4));
         assert_eq!(check_open(&mut t, l, first), Ok(()), "round {round}");
-        let mut book = Book(Some(Library::open(first)));
+        let mut book = Book(Some(Library::open(first)), told);
         for _ in 0..60 {
             step(random, shape, &mut t, &mut book);
         }
+        told = book.1;
     }
+    // each of them, but for 3 and 13, which never arise
+    let seldom: Vec<usize> = (0..16).filter(|number| ![3, 13].contains(number) && told[*number] < 20).collect();
+    assert!(seldom.is_empty() && told[3] + told[13] == 0, "{told:?}");
 }

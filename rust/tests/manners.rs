@@ -63,9 +63,9 @@ fn text_of_other_habits() {
     folder.write("comma.csv", "1603,0;2\n");
     folder.done("build l.sheet --samples 2 point.csv comma.csv");
     let library = folder.library("l.sheet");
-    assert!((0..2).all(|number| library.trace(number) == Some(&[1603, 2][..])));
+    assert!((0..2).all(|number| library.trace(number).unwrap() == [1603, 2]));
     for (text, why) in [
-        ("1,5;2,5\n", "`1,5` in column 1 is no whole number from -32768 to 32767. It looks like a number with a decimal comma"),
+        ("1,5;2,5\n", "`1,5` in column 1 is no whole number from -524288 to 524287. It looks like a number with a decimal comma"),
         ("1\n2\n3\n4\n", "line 1: 1 sample, and 2 are wanted, and so in all lines. A trace is one line"),
         ("\"dry\",1\n", "line 1: 1 sample, and 2 are wanted"),
     ] {
@@ -115,34 +115,55 @@ fn converted_if_that_is_wanted() {
     let floats = |list: [f32; 4]| list.iter().flat_map(|x| x.to_le_bytes()).collect::<Vec<u8>>();
     let doubles = |list: [f64; 4]| list.iter().flat_map(|x| x.to_le_bytes()).collect::<Vec<u8>>();
     let list = b"LIST\x05\0\0\0INFOx\0";
-    let same = [1000i16, -2, 32767, -32768];
-    let plain: Vec<u8> = same.iter().flat_map(|x| x.to_le_bytes()).collect();
-    let stereo: Vec<u8> = same.iter().flat_map(|x| [x.to_le_bytes(), [7, 7]].concat()).collect();
-    let wide = |low: usize| same.iter().flat_map(|x| [vec![9; low], x.to_le_bytes().to_vec()].concat()).collect::<Vec<u8>>();
+    let same = [1000, -2, 32767, -32768];
+    let coded = same.map(|x| (x as i16).to_le_bytes());
+    let plain: Vec<u8> = coded.concat();
+    let stereo: Vec<u8> = coded.iter().flat_map(|x| [*x, [7, 7]].concat()).collect();
+    // as many bytes below, of which the upper four bits are read
+    let wide = |low: usize| coded.iter().flat_map(|x| [vec![0x90; low], x.to_vec()].concat()).collect::<Vec<u8>>();
+    let wider = same.map(|x| 16 * x + 9);
     for (name, bytes, expected, said) in [
         ("tagged", wav(1, 1, 16, &plain, list), same, "converted: without `LIST`."),
         ("stereo", wav(1, 2, 16, &stereo, b""), same, "converted: the first of 2 channels."),
-        ("24", wav(1, 1, 24, &wide(1), b""), same, "converted: the upper 16 of 24 bits."),
-        ("32", wav(1, 1, 32, &wide(2), b""), same, "converted: the upper 16 of 32 bits."),
         ("extensible", wav(0xfffe, 1, 16, &plain, b""), same, "converted: under the usual header."),
-        ("extensible24", wav(0xfffe, 1, 24, &wide(1), b""), same, "converted: the upper 16 of 24 bits."),
         ("8", wav(1, 1, 8, &[128, 129, 255, 0], b""), [0, 256, 32512, -32768], EIGHT),
         (
             "float",
             wav(3, 1, 32, &floats([0.5, -0.25, 2.0, -1.0]), b"fact\x04\0\0\0\x04\0\0\0"),
-            [16384, -8192, 32767, -32768],
-            "converted: floating point times 32768, rounded; without `fact`; 1 sample beyond 16 bits set to the limit.",
+            [262_144, -131_072, 524_287, -524_288],
+            "converted: floating point times 524288, rounded; without `fact`; 1 sample beyond 20 bits set to the limit.",
         ),
-        ("double", wav(3, 1, 64, &doubles([0.5, -0.25, 0.0, 0.1]), b""), [16384, -8192, 0, 3277], "floating point"),
+        ("double", wav(3, 1, 64, &doubles([0.5, -0.25, 0.0, 0.1]), b""), [262_144, -131_072, 0, 52_429], "floating point"),
+        ("24", wav(1, 1, 24, &wide(1), b""), wider, "converted: 24 bits shifted right by 4, to 20."),
+        ("32", wav(1, 1, 32, &wide(2), b""), wider, "converted: 32 bits shifted right by 12, to 20; 4 samples had bits below these."),
+        ("extensible24", wav(0xfffe, 1, 24, &wide(1), b""), wider, "converted: 24 bits shifted right by 4, to 20."),
     ] {
         let file = format!("{name}.wav");
         folder.write(&file, bytes);
         let err = folder.refused(&format!("build {name}.sheet --samples 4 {file}"));
-        assert!(err.contains("`--convert` brings it to that form"), "{name}: {err}");
+        assert!(err.contains("`--convert` brings it to what can be taken"), "{name}: {err}");
         let out = folder.done(&format!("build {name}.sheet --samples 4 --convert {file}"));
         assert!(out.starts_with(&format!("{file}: ")) && out.contains(said), "{name}: {out}");
-        assert_eq!(folder.library(&format!("{name}.sheet")).trace(0), Some(&expected[..]), "{name}");
+        assert_eq!(folder.library(&format!("{name}.sheet")).trace(0).unwrap(), expected, "{name}");
         assert!(folder.text(&format!("{name}.names")).contains("\t11025\t"));
+    }
+    // to 16 bits, as it was before there were 20
+    for (name, expected, said) in [
+        ("24", same, "converted: 24 bits shifted right by 8, to 16; 4 samples had bits below these."),
+        ("32", same, "converted: 32 bits shifted right by 16, to 16; 4 samples had bits below these."),
+        ("float", [16384, -8192, 32767, -32768], "floating point times 32768, rounded; without `fact`; 1 sample beyond 16 bits set to the limit."),
+        ("8", [0, 256, 32512, -32768], EIGHT),
+    ] {
+        let out = folder.done(&format!("build n{name}.sheet --samples 4 --convert --bits 16 {name}.wav"));
+        assert!(out.contains(said), "{name}: {out}");
+        assert_eq!(folder.library(&format!("n{name}.sheet")).trace(0).unwrap(), expected, "{name}");
+    }
+    for (line, why) in [
+        ("build b.sheet --samples 4 --bits 16 24.wav", "--bits: says to how many bits `--convert` brings a recording. Say both."),
+        ("build b.sheet --samples 4 --convert --bits 24 24.wav", "--bits: samples get 16 bits or 20, and not 24."),
+    ] {
+        let ran = folder.line(line);
+        assert!(ran.status == 2 && ran.err.contains(why), "{}", ran.err);
     }
     // one that is plain already is taken as it is
     folder.write("plain.wav", wav(1, 1, 16, &plain, b""));
@@ -177,7 +198,7 @@ fn cut_if_that_is_wanted() {
     assert!(err.contains("it has 11 samples, which is no multiple of 4. `--cut` takes its whole traces"), "{err}");
     let out = folder.done("build l.sheet --samples 4 --cut long.wav");
     assert!(out.starts_with("long.wav: cut into 2 traces; 3 samples at its end left out.\n"), "{out}");
-    assert_eq!(folder.library("l.sheet").trace(1), Some(&[4, 5, 6, 7][..]));
+    assert_eq!(folder.library("l.sheet").trace(1).unwrap(), [4, 5, 6, 7]);
     for line in ["add l.sheet short.wav", "add l.sheet --cut short.wav"] {
         assert!(folder.refused(line).contains("it has 3 samples, and a trace has 4. It is too short"), "{line}");
     }
@@ -185,7 +206,7 @@ fn cut_if_that_is_wanted() {
     folder.write("stereo.wav", wav(1, 2, 16, &[data.clone(), data].concat(), b""));
     let out = folder.done("add l.sheet --cut --convert stereo.wav");
     assert!(out.contains("the first of 2 channels.\n") && out.contains("cut into 2 traces"), "{out}");
-    assert_eq!(folder.library("l.sheet").trace(2), Some(&[0, 2, 4, 6][..]));
+    assert_eq!(folder.library("l.sheet").trace(2).unwrap(), [0, 2, 4, 6]);
 }
 
 #[test]
@@ -255,7 +276,7 @@ fn a_trace_that_is_stored_already() {
     let out = folder.done("build twice.sheet --samples 64 known.csv today.csv faults.csv");
     assert!(out.starts_with(&format!("faults.csv: {}: is the same, sample by sample, as known.csv.\ntwice.sheet: 38 traces", faults[7].0)), "{out}");
     folder.done("add faults.sheet --again known.csv");
-    assert_eq!(folder.library("faults.sheet").trace(36), Some(&faults[7].1[..]));
+    assert_eq!(folder.library("faults.sheet").trace(36).unwrap(), faults[7].1);
 }
 
 #[test]
@@ -265,7 +286,7 @@ fn a_wrong_recording_goes() {
     let out = folder.done("build new.sheet --samples 64 --without 3,35 faults.sheet");
     assert!(out.starts_with(&format!("without trace 3, {}.\nwithout trace 35, {}.\nnew.sheet: 34 traces", faults[3].0, faults[35].0)), "{out}");
     let library = folder.library("new.sheet");
-    assert_eq!(library.trace(3), Some(&faults[4].1[..]));
+    assert_eq!(library.trace(3).unwrap(), faults[4].1);
     assert!(named(&folder.text("new.names"))[3].starts_with(&format!("3\t{}\t", faults[4].0)));
     assert!(folder.refused("build x.sheet --samples 64 --without 36 faults.sheet").contains("there is no trace 36; the files hold 36"));
     folder.write("one.csv", "1,2");
@@ -289,7 +310,7 @@ fn salvaged() {
     assert_eq!((library.len(), library.capacity(), library.leaf_size()), (31, 64, 4));
     let names = named(&folder.text("out.names"));
     for (number, old) in kept.iter().enumerate() {
-        assert_eq!(library.trace(number), Some(&faults[*old].1[..]));
+        assert_eq!(library.trace(number).unwrap(), faults[*old].1);
         assert!(names[number].starts_with(&format!("{number}\t{}\t", faults[*old].0)));
     }
     // a sound sheet gives all of it back, a cut one its beginning
@@ -301,7 +322,7 @@ fn salvaged() {
     folder.write("head.sheet", damage(&sheet, &[0]));
     assert!(folder.refused("salvage head.sheet -o h.sheet").contains("say `--samples N`"));
     folder.done("salvage head.sheet -o h.sheet --samples 64");
-    assert_eq!(folder.library("h.sheet").trace(35), Some(&faults[35].1[..]));
+    assert_eq!(folder.library("h.sheet").trace(35).unwrap(), faults[35].1);
     // nothing is overwritten, nothing made of nothing
     assert!(folder.refused("salvage torn.sheet -o all.sheet").contains("is there already"));
     assert!(folder.refused("salvage torn.sheet -o torn.sheet --force").contains("is read here too"));
@@ -318,7 +339,7 @@ fn for_programs() {
     let folder = shelf("programs");
     let told = Json::of(&folder.done("info faults.sheet --json"));
     assert_eq!([told.at("traces").number(), told.at("capacity").number(), told.at("names").number()], [36, 64, 36]);
-    assert_eq!(told.at("memory").at("all").number(), 98_250);
+    assert_eq!(told.at("memory").at("all").number(), 106_442);
     let sum = Command::new("sha256sum").arg(folder.0.join("faults.sheet")).output().unwrap().stdout;
     assert_eq!(text(told.at("hash")).as_bytes(), &sum[..64]);
     let sheet = folder.read("faults.sheet");

@@ -4,7 +4,7 @@
 mod common;
 
 use common::{check_add, check_export, check_import, junk, longer, measures};
-use silkendoz::{Refusal, TraceLibrary};
+use silkendoz::{Refusal, StoredSample, TraceLibrary};
 use std::fs;
 use std::io::Write;
 use std::path::{Path, PathBuf};
@@ -13,7 +13,7 @@ use testing::model::recording::{read, size, write};
 use testing::model::tables::{needs, Tables};
 use testing::model::{Library, Trace};
 use testing::program::repository;
-use testing::random::{traces, Random, Shape, SHAPES};
+use testing::random::{traces, Random, Shape, NARROW_SHAPES};
 
 const BAD: Result<Library, (u64, u64)> = Err((12, 0));
 const FULL: Result<Library, (u64, u64)> = Err((5, 0));
@@ -183,7 +183,7 @@ fn other_forms() {
 #[test]
 fn all_or_none() {
     let random = &mut Random::seeded(65);
-    for shape in SHAPES {
+    for shape in NARROW_SHAPES {
         for (n, capacity, leaf_size, count) in [(1, 9, 1, 0), (5, 12, 3, 4), (64, 6, 2, 5), (256, 4, 64, 4), (8, 1, 1, 0)] {
             let t = holding(random, n, capacity, leaf_size, count);
             let room = capacity - count;
@@ -254,6 +254,25 @@ fn exports() {
     }
 }
 
+/// A sample beyond 16 bits, wherever it stands, is 12, before 8; the library's other traces are exported.
+#[test]
+fn exports_of_wide_traces() {
+    for n in [1, 2, 64, 256] {
+        for (place, sample) in [(0, 32_768), (n - 1, -32_769), (n / 2, 524_287), (n / 2, -524_288)] {
+            let mut wide = vec![-32_768; n];
+            wide[place] = sample;
+            let stored = [vec![32_767; n], wide, vec![-32_768; n]];
+            let t = Tables::of(&Library::of(measures(n, 3, 1), &stored));
+            let need = size(n as u64);
+            for length in [0, need - 1, need, need + 9] {
+                let exported = |number| check_export(&t, t.lengths(), &mut vec![7; length], number, 8000);
+                let fits = if length < need { Err((8, 0)) } else { Ok(need as u64) };
+                assert_eq!([exported(0), exported(1), exported(2)], [fits, Err((12, 0)), fits]);
+            }
+        }
+    }
+}
+
 // ---- programs that nobody here wrote
 
 fn example(name: &str) -> PathBuf {
@@ -307,7 +326,7 @@ fn the_example_file() {
     assert_eq!((rate, held.len()), (2000, 4));
     let faults = TraceLibrary::read_sheet(&fs::read(example("faults.sheet")).unwrap()).unwrap();
     for (number, stored) in [7, 19, 25, 1].into_iter().enumerate() {
-        let sweep = sweeps.trace(number).unwrap().to_vec();
+        let sweep = StoredSample::values(sweeps.trace(number).unwrap());
         assert_eq!(sweep, held[number]);
         assert_eq!(faults.nearest(&sweep).unwrap().trace, stored);
     }
@@ -336,14 +355,14 @@ fn exported(folder: &Folder) -> Vec<(PathBuf, u32, Trace)> {
         for rate in [1, 8000, 44_100, 192_000] {
             let path = folder.path(&format!("{n}-{rate}.wav"));
             fs::write(&path, library.export_recording(0, rate).unwrap()).unwrap();
-            list.push((path, rate, library.trace(0).unwrap().to_vec()));
+            list.push((path, rate, StoredSample::values(library.trace(0).unwrap())));
         }
     }
     list
 }
 
 fn samples(bytes: &[u8]) -> Trace {
-    bytes.chunks(2).map(|sample| i16::from_le_bytes([sample[0], sample[1]])).collect()
+    bytes.chunks(2).map(|sample| i16::from_le_bytes([sample[0], sample[1]]).into()).collect()
 }
 
 /// Python's `wave` reads what was exported, as one channel of 16 bits at that rate.
@@ -372,7 +391,7 @@ fn sox_reads_it() {
             run(Command::new("sox").arg(&path).args(["-e", "signed-integer", "-b", "16"]).arg(&again));
             let mut library = TraceLibrary::open(trace.len(), 1, 1).unwrap();
             assert_eq!(library.import_recording(&fs::read(&again).unwrap()), Ok(1));
-            assert_eq!(library.trace(0), Some(&trace[..]));
+            assert_eq!(library.trace(0).unwrap(), trace);
         }
     }
 }
@@ -394,12 +413,12 @@ fn the_guides_program_converts() {
         read(1, &fs::read(&new).unwrap()).expect("it is of the form that is taken")
     };
     let list: &[u8] = b"LIST\x1a\0\0\0INFOISFT\x0e\0\0\0Lavf58.29.100\0";
-    let is = |(rate, traces): (u64, Vec<Trace>), expected: &[i16]| assert_eq!((rate, &traces.concat()[..]), (8000, expected));
+    let is = |(rate, traces): (u64, Vec<Trace>), expected: &[i32]| assert_eq!((rate, &traces.concat()[..]), (8000, expected));
     let coded = |samples: &[i16]| -> Vec<u8> { samples.iter().flat_map(|x| x.to_le_bytes()).collect() };
-    let some = coded(&[1, -2, i16::MAX, i16::MIN]);
-    is(convert(&of_chunks(&format(1, 1, 8000, 16), &[list], &some, &[list]), None), &[1, -2, i16::MAX, i16::MIN]);
-    is(convert(&of_chunks(&format(1, 1, 8000, 16), &[], &some, &[]), Some("3")), &[1, -2, i16::MAX]);
-    is(convert(&of_chunks(&format(1, 2, 8000, 16), &[], &some, &[]), None), &[1, i16::MAX]);
+    let some = coded(&[1, -2, 32_767, -32_768]);
+    is(convert(&of_chunks(&format(1, 1, 8000, 16), &[list], &some, &[list]), None), &[1, -2, 32_767, -32_768]);
+    is(convert(&of_chunks(&format(1, 1, 8000, 16), &[], &some, &[]), Some("3")), &[1, -2, 32_767]);
+    is(convert(&of_chunks(&format(1, 2, 8000, 16), &[], &some, &[]), None), &[1, 32_767]);
     // 8 bits are without a sign; of 24 and 32 bits the upper 16 are kept
     is(convert(&of_chunks(&format(1, 1, 8000, 8), &[], &[0, 127, 128, 255], &[]), None), &[-32_768, -256, 0, 32_512]);
     is(convert(&of_chunks(&format(1, 1, 8000, 24), &[], &[9, 1, 0, 255, 0xfe, 0xff], &[]), None), &[1, -2]);

@@ -93,13 +93,13 @@ fn worst(name: &str) -> Folder {
     let folder = Folder::new(name);
     let hostile = "<script>alert(1)</script> & \"\"x\"\" ' ]]> 漢字 ";
     let line = |i: usize| {
-        let trace: Vec<i16> = (0..256).map(|at| ((at * 7 + i * 900) % 30_000) as i16).collect();
+        let trace: Vec<i32> = (0..256).map(|at| ((at * 7 + i * 900) % 30_000) as i32).collect();
         format!("\"{hostile}{}{i}, machine {i}\",{}\n", "long ".repeat(20), joined(&trace, ","))
     };
     let lines: Vec<String> = (0..40).map(|i| line(i / 2)).collect();
     folder.write("faults.csv", lines.concat());
     folder.done("build faults.sheet --samples 256 faults.csv");
-    let clipped: Vec<i16> = (0..256).map(|at| if at % 3 == 0 { i16::MAX } else { i16::MIN }).collect();
+    let clipped: Vec<i32> = (0..256).map(|at| if at % 3 == 0 { 32_767 } else { -32_768 }).collect();
     folder.write("sweep.csv", format!("\"{hostile}{}\",{}\n", "today ".repeat(20), joined(&clipped, ",")));
     folder
 }

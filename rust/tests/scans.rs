@@ -1,6 +1,7 @@
 //! The scans that the index is compared with find what the documents say.
 
 use silkendoz::scan::{distance, k_nearest, k_nearest_abandoning, nearest, nearest_abandoning};
+use silkendoz::StoredSample;
 use testing::model;
 use testing::random::{query, traces, Random, SHAPES};
 
@@ -11,7 +12,7 @@ fn every_scan_is_the_plain_one() {
         for n in [1, 2, 15, 16, 17, 256] {
             let stored = traces(random, shape, n, 20);
             let q = query(random, shape, n, &stored);
-            let samples = stored.concat();
+            let samples: Vec<StoredSample> = stored.concat().into_iter().filter_map(StoredSample::new).collect();
             let ranked: Vec<(usize, u64)> = model::scan(&stored, &q).into_iter().map(|(t, d)| (t, d as u64)).collect();
             assert_eq!(nearest(&samples, n, &q), ranked.first().copied());
             assert_eq!(nearest_abandoning(&samples, n, &q), ranked.first().copied());
@@ -21,7 +22,9 @@ fn every_scan_is_the_plain_one() {
             }
         }
     }
-    assert_eq!(distance(&[i16::MIN; 256], &[i16::MAX; 256]), 1_099_478_073_600);
+    let least = |sample| [StoredSample::new(sample).unwrap(); 256];
+    assert_eq!(distance(&least(-32_768), &[32_767; 256]), 1_099_478_073_600);
+    assert_eq!(distance(&least(-524_288), &[524_287; 256]), 281_474_439_840_000);
     assert_eq!(nearest(&[], 4, &[0; 4]), None);
     assert_eq!(k_nearest(&[], 4, &[0; 4], 5), []);
 }

@@ -3,8 +3,8 @@
 mod common;
 
 use common::{check_add, check_label, check_nearest, check_open, check_read, check_write, junk, longer, measures, sheet_vectors};
-use silkendoz::{Label as Given, Refusal, TraceLibrary};
-use testing::model::sheet::{block, blocks_needed, check, head, label_bytes, need, seal, write, write_labelled};
+use silkendoz::{Label as Given, Refusal, StoredSample, TraceLibrary};
+use testing::model::sheet::{block, blocks_needed, check, head, label_bytes, need, seal, write, write_as, write_labelled, Width};
 use testing::model::tables::{needs, Lengths, Tables};
 use testing::model::{Label, Library, Measures, Trace};
 use testing::random::{label, labels, query, traces, Random, Shape, SHAPES};
@@ -20,18 +20,19 @@ fn sheet_of(library: &Library) -> Vec<u8> {
     write_labelled(library.measures, &library.traces, &library.labels)
 }
 
-/// Small sheets: none, one and several traces, samples that run on across blocks, and a last block that is just full; with labels, and with
+/// Small sheets of both widths: none, one and several traces, samples that run on across blocks, and a last block that is just full; with labels, and with
 /// none.
 fn small(random: &mut Random) -> Vec<(Library, Vec<u8>)> {
-    [(1, 8, 2, 1), (4, 8, 2, 0), (4, 8, 2, 3), (100, 9, 1, 6), (253, 3, 1, 2), (23, 11, 3, 11), (256, 2, 64, 2)]
-        .into_iter()
-        .flat_map(|(n, capacity, leaf_size, count)| {
-            let plain = Library::of(measures(n, capacity, leaf_size), &traces(random, Shape::Uniform, n, count));
-            let any: Vec<Label> = (0..count).map(|_| label(random)).collect();
-            [plain.clone().labelled(&any), plain]
-        })
-        .map(|library| (library.clone(), sheet_of(&library)))
-        .collect()
+    let narrow = [(1, 8, 2, 1), (4, 8, 2, 0), (4, 8, 2, 3), (100, 9, 1, 6), (253, 3, 1, 2), (23, 11, 3, 11), (256, 2, 64, 2)];
+    let wide = [(1, 8, 2, 1), (4, 8, 2, 3), (126, 3, 1, 2), (50, 9, 1, 6), (9, 2, 64, 2)];
+    let both = narrow.map(|sizes| (Shape::Uniform, sizes)).into_iter().chain(wide.map(|sizes| (Shape::Wide, sizes)));
+    both.flat_map(|(shape, (n, capacity, leaf_size, count))| {
+        let plain = Library::of(measures(n, capacity, leaf_size), &traces(random, shape, n, count));
+        let any: Vec<Label> = (0..count).map(|_| label(random)).collect();
+        [plain.clone().labelled(&any), plain]
+    })
+    .map(|library| (library.clone(), sheet_of(&library)))
+    .collect()
 }
 
 /// Tables for any of the small sheets, and longer.
@@ -155,8 +156,14 @@ fn lengths_of_sheets() {
             assert!(check_read(&mut t, room(), &longer).is_err());
         }
     }
-    assert_eq!(check_read(&mut t, room(), &vec![0; 512 * 4196]), Err((8, 0)));
-    assert_eq!(check_read(&mut t, room(), &vec![0; 512 * 4195]), Err((9, 0)));
+    assert_eq!(check_read(&mut t, room(), &vec![0; 512 * 8374]), Err((8, 0)));
+    assert_eq!(check_read(&mut t, room(), &vec![0; 512 * 8373]), Err((9, 0)));
+    // sound blocks, more than any narrow sheet has: 8's limit is that of wide ones, and so they are 10
+    let mut many = block(0, 1, &head(measures(256, 4096, 64), 4096)).to_vec();
+    many.extend((1..8374).flat_map(|number| block(number, 2, &[])));
+    for (blocks, refusal) in [(4147, 10), (4195, 10), (4196, 10), (8373, 10), (8374, 8)] {
+        assert_eq!(check_read(&mut t, room(), &many[..512 * blocks]), Err((refusal, 0)));
+    }
 }
 
 #[test]
@@ -202,16 +209,16 @@ fn writing_other_tables() {
 #[test]
 fn the_largest_sheet() {
     let random = &mut Random::seeded(48);
-    let stored = traces(random, Shape::Walk, 256, 4096);
     let labels: Vec<Label> = (0..4096).map(|_| label(random)).collect();
-    for labelled in [false, true] {
+    for (shape, labelled, blocks) in [(Shape::Walk, false, 4146), (Shape::Walk, true, 4195), (Shape::WideClusters, true, 8373)] {
+        let stored = traces(random, shape, 256, 4096);
         let mut library = TraceLibrary::open(256, 4096, 64).unwrap();
         for (trace, &Label { code, serial }) in stored.iter().zip(&labels) {
             let number = if labelled { library.add_labelled(trace, Given { code, serial }) } else { library.add(trace) };
             number.unwrap();
         }
         let sheet = library.write_sheet().unwrap();
-        let (blocks, labels) = if labelled { (4195, labels.clone()) } else { (4146, vec![Label::default(); 4096]) };
+        let labels = if labelled { labels.clone() } else { vec![Label::default(); 4096] };
         assert_eq!(sheet.len(), 512 * blocks);
         assert!(sheet == write_labelled(measures(256, 4096, 64), &stored, &labels));
         assert!(TraceLibrary::read_sheet(&sheet).unwrap() == library);
@@ -236,10 +243,10 @@ fn labels_about_a_block() {
             if let Some(at) = at {
                 told[at] = *random.pick(&[Label { code: 1, serial: 0 }, Label { code: 0, serial: 1 << 31 }]);
             }
-            let stored: Vec<Trace> = (0..count).map(|t| vec![t as i16]).collect();
+            let stored: Vec<Trace> = (0..count).map(|t| vec![t as i32]).collect();
             let library = Library::of(measures(1, count, 9), &stored).labelled(&told);
             let mut sheet = vec![0xc3; need(&library)];
-            let blocks = blocks_needed(count as u64, 1) + if at.is_some() { count.div_ceil(84) } else { 0 };
+            let blocks = blocks_needed(Width::Narrow, count as u64, 1) + if at.is_some() { count.div_ceil(84) } else { 0 };
             assert_eq!(check_write(&Tables::of(&library), l, &mut sheet), Ok(blocks as u64));
             let mut t = junk(l);
             assert_eq!(check_read(&mut t, l, &sheet).as_ref(), Ok(&library));
@@ -260,7 +267,7 @@ fn bytes_of_label_blocks() {
         let told: Vec<Label> = (0..count).map(|_| label(random)).collect();
         let stored = vec![vec![7]; count];
         let sheet = write_labelled(measures(1, count, 9), &stored, &told);
-        for first in (512 * blocks_needed(count as u64, 1)..sheet.len()).step_by(512) {
+        for first in (512 * blocks_needed(Width::Narrow, count as u64, 1)..sheet.len()).step_by(512) {
             let last = (count * 6) % (84 * 6);
             for at in [2, 3, 4, 9, 4 + last - 6.min(last), 4 + last, 5 + last, 507, 508, 509] {
                 let mut other = sheet.clone();
@@ -276,12 +283,13 @@ fn bytes_of_label_blocks() {
     assert!(accepted > 15 && bad > 30, "{accepted} accepted, {bad} bad");
 }
 
-/// A block of a kind for traces of one sample 7, the `at`-th of its kind: samples, or labels that are zero or not.
+/// A block of a kind for traces of one sample, 7 or in four bytes 40,000, the `at`-th of its kind: samples, or labels that are zero or not.
 fn piece(count: usize, number: usize, kind: u8, at: usize, zero: bool) -> [u8; 512] {
     let label = if zero { Label::default() } else { Label { code: 3, serial: 9 } };
     let part = |room: usize| count.saturating_sub(room * at).min(room);
     match kind {
         2 => block(number, 2, &[7, 0].repeat(part(253))),
+        4 => block(number, 4, &40_000i32.to_le_bytes().repeat(part(126))),
         5 => block(number, 5, &label_bytes(label).repeat(part(84))),
         _ => block(number, kind, &[]),
     }
@@ -298,8 +306,8 @@ fn kinds_and_numbers_of_blocks() {
         for order in 0..KINDS.len().pow(4) + 1 {
             // digits of a number in base 6; a kind 0 ends the list
             let kinds: Vec<u8> = (0..4).map(|place| KINDS[order / KINDS.len().pow(place) % KINDS.len()]).take_while(|&kind| kind != 0).collect();
-            for zero in [false, true] {
-                let mut sheet = block(0, 1, &head(m, count as u64)).to_vec();
+            for (first, zero) in [(1, false), (1, true), (3, false), (3, true)] {
+                let mut sheet = block(0, first, &head(m, count as u64)).to_vec();
                 for (before, &kind) in kinds.iter().enumerate() {
                     let at = kinds[..before].iter().filter(|&&other| other == kind).count();
                     sheet.extend(piece(count, before + 1, kind, at, zero));
@@ -315,6 +323,86 @@ fn kinds_and_numbers_of_blocks() {
         }
     }
     assert!(told[0] > 8 && told[1] > 1000 && told[2] > 300, "{told:?} accepted, 9 and 10");
+}
+
+// ---- wide sheets
+
+/// A wide sheet of these traces, whatever they are, with no label.
+fn wide(m: Measures, stored: &[Trace]) -> Vec<u8> {
+    write_as(Width::Wide, m, stored, &vec![Label::default(); stored.len()])
+}
+
+/// One sample decides: within 16 bits the sheet is narrow, and a wide one of it is 10; beyond, it is wide; outside the limits it is 15.
+#[test]
+fn the_sample_that_decides() {
+    let l = room();
+    for (n, count) in [(1, 1), (3, 4), (126, 2), (64, 4)] {
+        let m = measures(n, 5, 1);
+        for place in [0, n * count / 2, n * count - 1] {
+            for sample in [0, 1, -1, 32_767, -32_768, 32_768, -32_769, 65_536, 524_287, -524_288, 524_288, -524_289, i32::MAX, i32::MIN] {
+                let mut samples = vec![-7; n * count];
+                samples[place] = sample;
+                let stored: Vec<Trace> = samples.chunks(n).map(<[i32]>::to_vec).collect();
+                let fits = (-32_768..=32_767).contains(&sample);
+                let inside = (-524_288..=524_287).contains(&sample);
+                let mut t = junk(l);
+                let read = check_read(&mut t, l, &wide(m, &stored)).map(|library| library.traces);
+                let expected = if fits {
+                    Err((10, 0))
+                } else if inside {
+                    Ok(stored.clone())
+                } else {
+                    Err((15, 0))
+                };
+                assert_eq!(read, expected, "{n} {count} {place} {sample}");
+                if inside {
+                    let library = Library::of(m, &stored);
+                    let mut sheet = vec![0xc3; need(&library)];
+                    assert!(check_write(&Tables::of(&library), l_of(&library), &mut sheet).is_ok());
+                    assert_eq!(sheet[2], if fits { 1 } else { 3 });
+                    assert_eq!(check_read(&mut t, l, &sheet), Ok(library));
+                }
+            }
+        }
+    }
+}
+
+fn l_of(library: &Library) -> Lengths {
+    needs(library.measures)
+}
+
+/// 9, 10, 15 and 2 in this order, on one sheet with all of them.
+#[test]
+fn the_order_on_wide_sheets() {
+    let m = measures(2, 3, 1);
+    let mut sheet = wide(m, &[vec![0, 524_288], vec![40_000, 1]]);
+    let need = needs(m);
+    let short = Lengths { nodes: need.nodes - 1, ..need };
+    assert_eq!(check_read(&mut junk(need), need, &sheet), Err((15, 0)));
+    assert_eq!(check_read(&mut junk(need), short, &sheet), Err((15, 0)));
+    // bytes behind the last sample, and behind the room for 126 of them
+    for at in [4 + 16, 507, 508, 509] {
+        let mut bad = sheet.clone();
+        bad[512 + at] = 1;
+        assert_eq!(check_read(&mut junk(need), short, &bad), Err((9, 1)));
+        seal(&mut bad[512..]);
+        assert_eq!(check_read(&mut junk(need), short, &bad), Err((10, 0)));
+    }
+    // the kinds of a narrow sheet among these
+    sheet[512 + 2] = 2;
+    seal(&mut sheet[512..]);
+    assert_eq!(check_read(&mut junk(need), short, &sheet), Err((9, 1)));
+    sheet[2] = 1;
+    seal(&mut sheet[..512]);
+    assert_eq!(check_read(&mut junk(need), short, &sheet).map(|_| ()), Err((10, 0)), "one block of samples, with bytes behind four of them");
+}
+
+/// No trace: the one sheet is narrow.
+#[test]
+fn an_empty_wide_sheet() {
+    let m = measures(4, 8, 2);
+    assert_eq!(check_read(&mut junk(room()), room(), &wide(m, &[])), Err((10, 0)));
+    assert_eq!(check_read(&mut junk(room()), room(), &write(m, &[])), Ok(Library::open(m)));
 }
 
 /// The line that the program prints, by the wrapper.
@@ -336,9 +424,9 @@ fn answer(sheet: &[u8]) -> Result<[u64; 4], Refusal> {
     let last = all.len().checked_sub(1).ok_or(Refusal::Empty)?;
     let mut library = TraceLibrary::open(all.n(), all.capacity(), all.leaf_size())?;
     for number in 0..last {
-        library.add(all.trace(number).expect("it is stored"))?;
+        library.add(&StoredSample::values(all.trace(number).expect("it is stored")))?;
     }
-    let found = library.nearest(all.trace(last).expect("it is stored"))?;
+    let found = library.nearest(&StoredSample::values(all.trace(last).expect("it is stored")))?;
     Ok([found.trace as u64, found.distance, found.leaves as u64, found.traces as u64])
 }
 

@@ -29,12 +29,12 @@ fn shell(folder: &Folder, line: &str) -> Ran {
 }
 
 /// A sweep of its own for each number.
-fn sweep(number: i16) -> Vec<i16> {
+fn sweep(number: i32) -> Vec<i32> {
     (0..8).map(|at| 100 * number + at).collect()
 }
 
 /// A folder with a library of one sweep, and a text for each of some more, `1.csv` and so on.
-fn numbered(name: &str, many: i16) -> Folder {
+fn numbered(name: &str, many: i32) -> Folder {
     let folder = Folder::new(name);
     for number in 0..=many {
         folder.write(&format!("{number}.csv"), format!("fault {number},{}\n", joined(&sweep(number), ",")));
@@ -50,7 +50,7 @@ fn every_name_its_own(folder: &Folder) -> usize {
     let rows: Vec<&str> = out.lines().skip(2).collect();
     assert_eq!(rows.len(), library.len());
     for (number, row) in rows.iter().enumerate() {
-        let fault = library.trace(number).unwrap()[0] / 100;
+        let fault = library.trace(number).unwrap()[0].value() / 100;
         assert_eq!(library.trace(number).unwrap(), sweep(fault));
         assert!(row.contains(&format!("fault {fault}  ")), "{row}");
     }
@@ -72,7 +72,7 @@ fn forty_at_once() {
         assert!(ran.status.success(), "{}", String::from_utf8_lossy(&ran.stderr));
     }
     assert_eq!(every_name_its_own(&folder), 41);
-    let stored: Vec<i16> = folder.library("l.sheet").traces().map(|trace| trace[0] / 100).collect();
+    let stored: Vec<i32> = folder.library("l.sheet").traces().map(|trace| trace[0].value() / 100).collect();
     assert!((0..=40).all(|number| stored.contains(&number)), "{stored:?}");
     assert!(strays(&folder).is_empty());
 }
@@ -429,7 +429,7 @@ fn no_more_is_read_than_a_library_holds() {
     assert!(err.contains("`silkendoz build NEW.sheet --samples 1 --without N,M full.sheet FILE..` leaves out"), "{err}");
     folder.done("build less.sheet --samples 1 --without 5,7,5 full.sheet one.csv");
     let library = folder.library("less.sheet");
-    assert_eq!((library.len(), library.trace(4094)), (4095, Some(&[7][..])));
+    assert_eq!((library.len(), library.trace(4094).unwrap()[0].value()), (4095, 7));
     let err = folder.refused("build more.sheet --samples 1 full.csv one.csv");
     assert!(err.contains("these files hold more than 4096 traces") && err.contains("one.csv"), "{err}");
     let mut input = File::create(folder.0.join("input")).unwrap();

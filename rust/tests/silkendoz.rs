@@ -3,7 +3,7 @@
 mod bench;
 
 use bench::*;
-use silkendoz::TraceLibrary;
+use silkendoz::{StoredSample, TraceLibrary};
 use std::ffi::OsStr;
 use std::fs;
 use std::process::{Command, Stdio};
@@ -17,7 +17,7 @@ fn built_from_text_with_names() {
     let library = folder.library("faults.sheet");
     assert_eq!((library.n(), library.capacity(), library.leaf_size(), library.len()), (N, 64, 4, faults.len()));
     for (number, (_, trace)) in faults.iter().enumerate() {
-        assert_eq!(library.trace(number), Some(&trace[..]));
+        assert_eq!(library.trace(number).unwrap(), *trace);
     }
     let lines: Vec<String> = faults.iter().enumerate().map(|(number, (name, _))| format!("{number}\t{name}\tfaults.csv\t-")).collect();
     assert_eq!(named(&folder.text("faults.names")), lines);
@@ -33,7 +33,7 @@ fn built_from_text_without_names() {
     assert_eq!(out, "all: 3 traces of 4 samples, room for 64, leaf size 16.\n");
     let names = ["0\ttwo, line 2\ttwo.txt\t-", "1\ttwo, line 4\ttwo.txt\t-", "2\tone\tone.txt\t-"];
     assert_eq!(named(&folder.text("all.names")), names);
-    assert_eq!(folder.library("all").trace(2), Some(&[9, 10, 11, 12][..]));
+    assert_eq!(folder.library("all").trace(2).unwrap(), [9, 10, 11, 12]);
 }
 
 #[test]
@@ -60,7 +60,7 @@ fn added_all_or_none() {
     assert_eq!(out, "faults.sheet: 3 traces added, numbers 36 to 38; 39 of 64 are taken.\n");
     let names = ["36\tnew fault\tmore.csv\t-", "37\tworn brush\tmore.csv\t-", "38\ttoday\ttoday.csv\t-"];
     assert_eq!(named(&folder.text("faults.names"))[36..], names);
-    assert_eq!(folder.library("faults.sheet").trace(38), Some(&today[..]));
+    assert_eq!(folder.library("faults.sheet").trace(38).unwrap(), today);
 
     let before = (folder.read("faults.sheet"), folder.read("faults.names"));
     let err = folder.refused("add faults.sheet --again faults.csv");
@@ -244,7 +244,7 @@ fn described() {
     assert!(out.contains("names             36, in faults.names\n"));
     // the guide's table for n = 64, c = 64
     let last: Vec<&str> = out.lines().last().unwrap().split_whitespace().collect();
-    assert_eq!(last, ["8,192", "88,392", "128", "1,016", "512", "98,250", "128", "9,728"]);
+    assert_eq!(last, ["16,384", "88,392", "128", "1,016", "512", "106,442", "128", "9,728", "17,920"]);
     folder.write("empty.sheet", TraceLibrary::open(3, 4, 2).unwrap().write_sheet().unwrap());
     assert!(folder.done("info empty.sheet").contains("none: no trace is stored"));
 }
@@ -270,7 +270,7 @@ fn advised() {
 
 /// A square wave of one height: level 0 and swing 5,000 for all.
 fn normalised(at: usize) -> String {
-    let trace: Vec<i16> = (0..N).map(|i| if ((i * (1 + at % 31) + at) / 2).is_multiple_of(2) { 5000 } else { -5000 }).collect();
+    let trace: Vec<i32> = (0..N).map(|i| if ((i * (1 + at % 31) + at) / 2).is_multiple_of(2) { 5000 } else { -5000 }).collect();
     let level: i64 = trace.iter().map(|&x| i64::from(x)).sum();
     // as many above as below
     let mut trace = trace;
@@ -337,7 +337,7 @@ fn what_is_wrong_with_a_sheet() {
     for (bytes, why) in [
         (vec![], "refused 8, sheet length: the file is empty"),
         (sheet[..1000].to_vec(), "1000 bytes, no multiple of 512: it ends within block 1"),
-        (vec![0; 512 * 4196], "refused 8, sheet length: 2148352 bytes, and the largest sheet has 2147840"),
+        (vec![0; 512 * 8374], "refused 8, sheet length: 4287488 bytes, and the largest sheet has 4286976"),
         (longer, "refused 9, torn block.\n  block 11"),
         (altered(5, b'X'), "refused 10, bad sheet: every block is sound, but it does not begin with the letters TRCL"),
         (altered(9, 2), "but 576 samples, capacity 64 and leaf size 4 are no measures"),
@@ -417,8 +417,8 @@ fn recordings_go_both_ways() {
     folder.write("both.wav", &both);
     folder.done("build w.sheet --samples 64 dry.wav both.wav loose.wav");
     let library = folder.library("w.sheet");
-    let stored: Vec<&[i16]> = (0..4).map(|number| library.trace(number).unwrap()).collect();
-    assert_eq!(stored, [&faults[19].1[..], &faults[19].1, &faults[3].1, &faults[3].1]);
+    let stored: Vec<Vec<i32>> = library.traces().map(StoredSample::values).collect();
+    assert_eq!(stored, [19, 19, 3, 3].map(|number: usize| faults[number].1.clone()));
     let names = ["0\tdry\tdry.wav\t2000", "1\tboth, trace 1\tboth.wav\t2000", "2\tboth, trace 2\tboth.wav\t2000", "3\tloose\tloose.wav\t8000"];
     assert_eq!(named(&folder.text("w.names")), names);
     assert!(folder.done("match faults.sheet dry.wav -k 1").contains("dry rail, right, machine 4119         0       0.0"));

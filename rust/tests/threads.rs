@@ -1,6 +1,6 @@
 //! Several matches at once over one library: each has search work and a trail of its own, and the library is only read.
 
-use silkendoz::{scan, KNearest, Nearest, TraceLibrary};
+use silkendoz::{scan, KNearest, Nearest, StoredSample, TraceLibrary};
 use testing::random::{query, traces, Random, Shape};
 
 const THREADS: usize = 8;
@@ -13,7 +13,7 @@ fn searched_by_several_threads_at_once() {
     for trace in &stored {
         library.add(trace).unwrap();
     }
-    let queries: Vec<Vec<i16>> = (0..400).map(|_| query(random, Shape::Walk, 64, &stored)).collect();
+    let queries: Vec<Vec<i32>> = (0..400).map(|_| query(random, Shape::Walk, 64, &stored)).collect();
     let before = library.clone();
     let alone: Vec<(Nearest, KNearest)> = queries.iter().map(|q| (library.nearest(q).unwrap(), library.k_nearest(q, 5).unwrap())).collect();
     let (library, queries, alone) = (&library, &queries, &alone);
@@ -29,7 +29,7 @@ fn searched_by_several_threads_at_once() {
         }
     });
     assert!(*library == before);
-    let samples = stored.concat();
+    let samples: Vec<StoredSample> = stored.concat().into_iter().filter_map(StoredSample::new).collect();
     for (q, (found, _)) in queries.iter().zip(alone) {
         assert_eq!(scan::nearest(&samples, 64, q), Some((found.trace, found.distance)));
     }

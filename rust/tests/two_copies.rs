@@ -14,7 +14,7 @@ use testing::random::Random;
 const BLOCK: usize = 512;
 
 /// A library of so many traces; each has some blocks of its own.
-fn version(traces: i16) -> Vec<u8> {
+fn version(traces: i32) -> Vec<u8> {
     let mut library = TraceLibrary::open(8, 128, 4).unwrap();
     for level in 0..traces {
         library.add(&[level; 8]).unwrap();

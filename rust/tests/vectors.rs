@@ -38,14 +38,14 @@ impl Vector {
     /// The library, and its query; those from the scripts' `tree` lines have none, and nothing that rests on one.
     fn library(&self) -> (Library, Option<Trace>) {
         let [n, capacity, leaf_size, ..] = numbers(&self.lines[0])[..] else { panic!("{}", self.name) };
-        let samples = |line: &String| -> Trace { list(line).into_iter().map(|x| x as i16).collect() };
+        let samples = |line: &String| -> Trace { list(line).into_iter().map(|x| x as i32).collect() };
         let traces: Vec<Trace> = self.lines.iter().filter(|l| l.starts_with("trace ")).map(samples).collect();
         let query = self.lines.iter().find(|l| l.starts_with("query:")).map(samples);
         (Library::of(measures(n as usize, capacity as usize, leaf_size as usize), &traces), query)
     }
 
     /// Every figure of the vector, line by line, against a library.
-    fn compare(&self, library: &Library, asked: Option<&[i16]>) {
+    fn compare(&self, library: &Library, asked: Option<&[i32]>) {
         let nothing = vec![0; library.measures.n as usize];
         let query = asked.unwrap_or(&nothing);
         let bounds = library.bounds(query);

@@ -4,11 +4,14 @@
 mod bench;
 
 use bench::*;
-use silkendoz::scan::distance;
 
 /// What stands before the last comma of a name.
 fn fault(name: &str) -> &str {
     name.rsplit_once(", ").map_or(name, |(fault, _)| fault)
+}
+
+fn distance(a: &[i32], b: &[i32]) -> u64 {
+    testing::model::distance(a, b) as u64
 }
 
 fn a_sample(distance: u64) -> String {
@@ -16,8 +19,8 @@ fn a_sample(distance: u64) -> String {
 }
 
 /// Least and greatest distance of a stored trace to the nearest other one of its fault.
-fn apart(stored: &[(String, Vec<i16>)]) -> (u64, u64) {
-    let to_own = |(at, (name, trace)): (usize, &(String, Vec<i16>))| {
+fn apart(stored: &[(String, Vec<i32>)]) -> (u64, u64) {
+    let to_own = |(at, (name, trace)): (usize, &(String, Vec<i32>))| {
         let own = stored.iter().enumerate().filter(|(other, (named, _))| *other != at && fault(named) == fault(name));
         own.map(|(_, (_, other))| distance(trace, other)).min().unwrap()
     };
@@ -25,8 +28,8 @@ fn apart(stored: &[(String, Vec<i16>)]) -> (u64, u64) {
     (*all.iter().min().unwrap(), *all.iter().max().unwrap())
 }
 
-fn blend(a: &[i16], b: &[i16]) -> Vec<i16> {
-    a.iter().zip(b).map(|(&x, &y)| ((i32::from(x) + i32::from(y)) / 2) as i16).collect()
+fn blend(a: &[i32], b: &[i32]) -> Vec<i32> {
+    a.iter().zip(b).map(|(x, y)| (x + y) / 2).collect()
 }
 
 #[test]
@@ -49,7 +52,7 @@ fn fits_between_and_like_nothing_stored() {
     assert!(out.contains("Between two faults: ") && out.contains(" dry rail, right, ") && out.contains(" healthy, "), "{out}");
     assert!(out.contains(" % of the way from one to the other is off by ") && out.contains(&measure), "{out}");
 
-    let saw: Vec<i16> = (0..64).map(|i| if i % 4 < 2 { 9000 } else { -9000 }).collect();
+    let saw: Vec<i32> = (0..64).map(|i| if i % 4 < 2 { 9000 } else { -9000 }).collect();
     folder.write("nothing.csv", joined(&saw, " "));
     let out = folder.done("match faults.sheet nothing.csv");
     assert!(out.contains("Like nothing stored: the nearest, ") && out.contains(&measure), "{out}");
@@ -146,8 +149,8 @@ fn not_judged() {
 fn remarks() {
     let folder = shelf("remarks");
     let (_, mut today) = faults();
-    today[4] = i16::MAX;
-    today[63] = i16::MIN;
+    today[4] = i16::MAX.into();
+    today[63] = i16::MIN.into();
     folder.write("clipped.csv", joined(&today, " "));
     let out = folder.done("match faults.sheet clipped.csv");
     assert!(out.contains("2 samples are at the converter's limit, from sample 5 on: there the current may have been larger.\n"), "{out}");

@@ -17,7 +17,7 @@ pub fn run(a: &Arguments) -> Answer {
     held.must_take(true, &[])?;
     let before = shelf.library.len();
     let shown = plain::path(path);
-    let mut found = reading::all(&sources, &Wanted::of(a, shelf.library.n()))?;
+    let mut found = reading::all(&sources, &Wanted::by(a, &shelf.library)?)?;
     given.put(&mut found.sweeps)?;
     let known = shelf.names.rates();
     if !a.has("--again") {

@@ -2,13 +2,14 @@
 //! machine's.
 
 use super::arguments::Arguments;
+use super::avx::Held;
 use super::noise::Noise;
 use super::numbers::median;
 use super::progress::Progress;
 use super::shelf::Shelf;
 use super::table::{self, Column};
-use super::{done, numbers, plain, refused, wide, Answer};
-use silkendoz::{scan, TraceLibrary};
+use super::{done, numbers, plain, refused, Answer};
+use silkendoz::{scan, StoredSample, TraceLibrary};
 use std::hint::black_box;
 use std::path::Path;
 use std::time::Instant;
@@ -25,7 +26,7 @@ pub fn run(a: &Arguments) -> Answer {
     if count < 2 {
         return refused(format!("{}: holds {count} of the 2 traces that it takes to leave one out. Add some.", plain::path(&shelf.path)));
     }
-    let traces: Vec<Vec<i16>> = shelf.library.traces().map(<[i16]>::to_vec).collect();
+    let traces: Vec<Vec<i32>> = shelf.library.traces().map(StoredSample::values).collect();
     let trial = Trial::of(&traces);
     let mut progress = Progress::new("leaving traces out, by group and leaf size", trial.groups * LEAF_SIZES.len());
     let tried = LEAF_SIZES.into_iter().enumerate().map(|(at, leaf_size)| trial.tried(leaf_size, at, &mut progress));
@@ -45,8 +46,8 @@ pub fn run(a: &Arguments) -> Answer {
 
 /// Queries: each trace, looked up where it was left out, and a noisy copy of each, looked up among all.
 struct Trial<'a> {
-    traces: &'a [Vec<i16>],
-    noisy: Vec<Vec<i16>>,
+    traces: &'a [Vec<i32>],
+    noisy: Vec<Vec<i32>>,
     groups: usize,
 }
 
@@ -70,18 +71,18 @@ struct Scanned {
 }
 
 impl Trial<'_> {
-    fn of(traces: &[Vec<i16>]) -> Trial<'_> {
+    fn of(traces: &[Vec<i32>]) -> Trial<'_> {
         let noise = &mut Noise::seeded(2026);
         let noisy = traces.iter().map(|trace| noise.near(trace, noise_for(trace))).collect();
         let groups = if traces.len() <= MOST_ALONE { traces.len() } else { 10 };
         Trial { traces, noisy, groups }
     }
 
-    fn without(&self, group: usize) -> impl Iterator<Item = &Vec<i16>> {
+    fn without(&self, group: usize) -> impl Iterator<Item = &Vec<i32>> {
         self.traces.iter().enumerate().filter(move |(number, _)| number % self.groups != group).map(|(_, trace)| trace)
     }
 
-    fn left_out(&self, group: usize) -> impl Iterator<Item = &Vec<i16>> {
+    fn left_out(&self, group: usize) -> impl Iterator<Item = &Vec<i32>> {
         self.traces.iter().skip(group).step_by(self.groups)
     }
 
@@ -99,28 +100,45 @@ impl Trial<'_> {
     }
 
     fn scanned(&self) -> Scanned {
-        let n = self.traces[0].len();
-        let scans = [wide::nearest, scan::nearest_abandoning].map(|by| {
-            let left_out = (0..self.groups).flat_map(|group| {
-                let samples: Vec<i16> = self.without(group).flatten().copied().collect();
-                self.left_out(group).map(|query| micros(|| by(&samples, n, query))).collect::<Vec<_>>()
-            });
-            let all = self.traces.concat();
-            let noisy = self.noisy.iter().map(|query| micros(|| by(&all, n, query)));
-            [median(left_out.collect()), median(noisy.collect())]
-        });
-        Scanned { plain: scans[0], leaving: scans[1] }
+        let left_out = (0..self.groups).map(|group| Table::of(self.without(group)).scanned(self.left_out(group))).collect();
+        let noisy = vec![Table::of(self.traces.iter()).scanned(self.noisy.iter())];
+        let of =
+            |which: usize| [&left_out, &noisy].map(|parts: &Vec<[Vec<f64>; 2]>| median(parts.iter().flat_map(|part| part[which].clone()).collect()));
+        Scanned { plain: of(0), leaving: of(1) }
+    }
+}
+
+/// Traces to be scanned: as a plain scan holds them, and as a library's table does.
+struct Table {
+    n: usize,
+    held: Held,
+    stored: Vec<StoredSample>,
+}
+
+impl Table {
+    fn of<'a>(traces: impl Iterator<Item = &'a Vec<i32>>) -> Table {
+        let traces: Vec<&Vec<i32>> = traces.collect();
+        let samples: Vec<i32> = traces.iter().flat_map(|trace| trace.iter().copied()).collect();
+        let stored = samples.iter().map(|&sample| StoredSample::new(sample).expect("it was stored")).collect();
+        Table { n: traces[0].len(), held: Held::of(&samples), stored }
+    }
+
+    /// Microseconds of each query by a plain scan, and then by one that leaves a trace early.
+    fn scanned<'a>(&self, queries: impl Iterator<Item = &'a Vec<i32>>) -> [Vec<f64>; 2] {
+        let queries: Vec<&Vec<i32>> = queries.collect();
+        let plain = queries.iter().map(|query| micros(|| self.held.nearest(self.n, query))).collect();
+        [plain, queries.iter().map(|query| micros(|| scan::nearest_abandoning(&self.stored, self.n, query))).collect()]
     }
 }
 
 /// Each sample of a noisy copy moves by up to a fiftieth of the trace's height.
-fn noise_for(trace: &[i16]) -> i64 {
+fn noise_for(trace: &[i32]) -> i64 {
     let height = i64::from(*trace.iter().max().unwrap_or(&0)) - i64::from(*trace.iter().min().unwrap_or(&0));
     (height / 50).max(1)
 }
 
-fn library<'a>(traces: impl Iterator<Item = &'a Vec<i16>>, leaf_size: usize) -> TraceLibrary {
-    let traces: Vec<&Vec<i16>> = traces.collect();
+fn library<'a>(traces: impl Iterator<Item = &'a Vec<i32>>, leaf_size: usize) -> TraceLibrary {
+    let traces: Vec<&Vec<i32>> = traces.collect();
     let mut library = TraceLibrary::open(traces[0].len(), traces.len(), leaf_size).expect("as the library's own, with another leaf size");
     for trace in traces {
         library.add(trace).expect("there is room for each");
@@ -129,7 +147,7 @@ fn library<'a>(traces: impl Iterator<Item = &'a Vec<i16>>, leaf_size: usize) -> 
 }
 
 /// The part of leaves that a match reads, in per cent, and its microseconds.
-fn lookup(library: &TraceLibrary, query: &[i16]) -> (f64, f64) {
+fn lookup(library: &TraceLibrary, query: &[i32]) -> (f64, f64) {
     let mut leaves = 0;
     let micros = micros(|| leaves = library.nearest(query).map_or(0, |found| found.leaves));
     (100.0 * leaves as f64 / library.leaf_count() as f64, micros)
@@ -204,7 +222,7 @@ fn beside_scan(what: &str, found: &Lookup, scan: f64) -> String {
 }
 
 /// Whether the traces look normalised: then level and swing of the whole sweep, by which the tree parts traces, are the same for all.
-fn level_and_swing(traces: &[Vec<i16>]) -> String {
+fn level_and_swing(traces: &[Vec<i32>]) -> String {
     let levels: Vec<f64> = traces.iter().map(|trace| mean(trace)).collect();
     let swings: Vec<f64> = traces.iter().zip(&levels).map(|(trace, level)| swing(trace, *level)).collect();
     let spread = |list: &[f64]| list.iter().copied().fold(f64::NEG_INFINITY, f64::max) - list.iter().copied().fold(f64::INFINITY, f64::min);
@@ -223,11 +241,11 @@ fn level_and_swing(traces: &[Vec<i16>]) -> String {
     format!("{found}\n")
 }
 
-fn mean(trace: &[i16]) -> f64 {
+fn mean(trace: &[i32]) -> f64 {
     trace.iter().map(|&x| f64::from(x)).sum::<f64>() / trace.len() as f64
 }
 
 /// The deviation from the level.
-fn swing(trace: &[i16], level: f64) -> f64 {
+fn swing(trace: &[i32], level: f64) -> f64 {
     (trace.iter().map(|&x| (f64::from(x) - level).powi(2)).sum::<f64>() / trace.len() as f64).sqrt()
 }

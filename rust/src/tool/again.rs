@@ -1,6 +1,7 @@
 //! Traces that are there already, sample by sample: who stores one twice mostly did not mean to.
 
 use super::reading::Sweep;
+use silkendoz::StoredSample;
 use std::collections::HashMap;
 
 /// Where a trace was seen first.
@@ -16,16 +17,16 @@ enum First<'a> {
 const MOST_NAMED: usize = 10;
 
 /// A line for each sweep that is stored already or comes before in the same command; of many, for the first ones. `shown` names a number.
-pub fn lines<'a>(stored: impl Iterator<Item = &'a [i16]>, sweeps: &'a [Sweep], shown: impl Fn(usize) -> String) -> Vec<String> {
-    let mut seen: HashMap<&[i16], First<'a>> = HashMap::new();
+pub fn lines<'a>(stored: impl Iterator<Item = &'a [StoredSample]>, sweeps: &'a [Sweep], shown: impl Fn(usize) -> String) -> Vec<String> {
+    let mut seen: HashMap<Vec<i32>, First<'a>> = HashMap::new();
     for (number, trace) in stored.enumerate() {
-        seen.entry(trace).or_insert(First::Stored(number));
+        seen.entry(StoredSample::values(trace)).or_insert(First::Stored(number));
     }
     let mut again = Vec::new();
     for sweep in sweeps {
-        match seen.get(&sweep.samples[..]) {
+        match seen.get(&sweep.samples) {
             Some(first) => again.push((sweep, *first)),
-            None => drop(seen.insert(&sweep.samples, First::Here(sweep))),
+            None => drop(seen.insert(sweep.samples.clone(), First::Here(sweep))),
         }
     }
     let one = |(sweep, first): &(&Sweep, First<'_>)| match first {

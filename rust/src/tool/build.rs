@@ -26,7 +26,7 @@ pub fn run(a: &Arguments) -> Answer {
     let inputs = inputs(&sources);
     let inputs: Vec<&Path> = inputs.iter().map(PathBuf::as_path).chain(given.file()).collect();
     Held::of(out, !a.has("--no-wait"))?.must_take(over, &inputs)?;
-    let mut found = reading::all(&sources, &Wanted { spare: without.len(), ..Wanted::of(a, n) })?;
+    let mut found = reading::all(&sources, &Wanted { spare: without.len(), ..Wanted::of(a, n)? })?;
     leave_out(&mut found, &without)?;
     found.notes.extend(again::lines(std::iter::empty(), &found.sweeps, |_| String::new()));
     let capacity = said.unwrap_or_else(|| room_for(found.sweeps.len()));

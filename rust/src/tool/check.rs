@@ -124,7 +124,8 @@ fn all_torn(bytes: &[u8], torn: &[usize]) -> String {
     let mut runs: Vec<Run> = Vec::new();
     for &block in torn {
         let what = words::torn(bytes, block);
-        let shift = block.checked_sub(words::said_number(bytes, block)).filter(|shift| *shift > 0);
+        // one that was erased says nothing
+        let shift = block.checked_sub(words::said_number(bytes, block)).filter(|shift| *shift > 0 && !words::is_erased(bytes, block));
         match runs.last_mut() {
             Some(run) if run.last + 1 == block && run.shift == shift && (run.what == what || shift.is_some()) => run.last = block,
             _ => runs.push(Run { first: block, last: block, what, shift }),

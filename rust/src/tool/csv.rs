@@ -2,6 +2,7 @@
 
 use super::numbers;
 use super::plain::short;
+use silkendoz::SAMPLES;
 
 /// A line that holds a trace.
 #[derive(Debug, PartialEq, Eq)]
@@ -9,7 +10,7 @@ pub struct Line {
     /// Its number in the file, from 1.
     pub number: usize,
     pub name: Option<String>,
-    pub samples: Vec<i16>,
+    pub samples: Vec<i32>,
 }
 
 /// What is wrong, in which line.
@@ -47,7 +48,7 @@ fn one_a_line(n: usize) -> String {
     format!("1 sample, and {n} are wanted, and so in all lines. {hint}.")
 }
 
-type Trace = (Option<String>, Vec<i16>);
+type Trace = (Option<String>, Vec<i32>);
 
 fn trace(line: &str, n: usize) -> Result<Trace, String> {
     let columns = columns(line, n + 2)?;
@@ -56,7 +57,7 @@ fn trace(line: &str, n: usize) -> Result<Trace, String> {
     if columns.len() > n + 1 {
         return Err(wrong_count(count, n, named));
     }
-    let samples: Vec<i16> = columns.iter().enumerate().skip(usize::from(named)).map(|(at, column)| read(at + 1, column)).collect::<Result<_, _>>()?;
+    let samples: Vec<i32> = columns.iter().enumerate().skip(usize::from(named)).map(|(at, column)| read(at + 1, column)).collect::<Result<_, _>>()?;
     match samples.len() == n {
         true => Ok((named.then(|| columns[0].text.clone()), samples)),
         false => Err(wrong_count(samples.len(), n, named)),
@@ -71,26 +72,34 @@ fn wrong_count(count: usize, n: usize, named: bool) -> String {
     format!("{}, and {n} are wanted. {hint}", numbers::count(count, "sample"))
 }
 
-fn read(column: usize, found: &Column) -> Result<i16, String> {
+fn read(column: usize, found: &Column) -> Result<i32, String> {
     let text = &found.text;
     let hint = if text.is_empty() {
         return Err(format!("column {column} is empty. Remove the separator, or put a sample there."));
     } else if looks_like_a_number(text) && text.contains(',') {
-        "It looks like a number with a decimal comma: scale the recording to whole numbers of 16 bits first."
+        "It looks like a number with a decimal comma: scale the recording to whole numbers of 20 bits first."
     } else if looks_like_a_number(text) {
-        "Scale the recording to whole numbers of 16 bits first."
+        "Scale the recording to whole numbers of 20 bits first."
     } else if column == 2 {
         "A name of several words is put in double quotes; a line of headings begins with `#`."
     } else {
         "Only the first column may be a name; a line of headings begins with `#`."
     };
-    sample(text).ok_or_else(|| format!("`{}` in column {column} is no whole number from -32768 to 32767. {hint}", short(text, 40)))
+    sample(text)
+        .ok_or_else(|| format!("`{}` in column {column} is no whole number from {} to {}. {hint}", short(text, 40), SAMPLES.start(), SAMPLES.end()))
 }
 
-/// A whole number, with nothing but zeros behind a point or comma.
-fn sample(text: &str) -> Option<i16> {
+/// A whole number within the limits, with nothing but zeros behind a point or comma.
+fn sample(text: &str) -> Option<i32> {
     let whole = text.split_once(['.', ',']).filter(|(_, behind)| behind.bytes().all(|digit| digit == b'0')).map_or(text, |(whole, _)| whole);
-    whole.parse().ok()
+    whole.parse().ok().filter(|sample| SAMPLES.contains(sample))
+}
+
+/// A line that holds this trace, as [`lines`] reads it.
+pub fn line(name: Option<&str>, samples: &[i32]) -> String {
+    let name = name.map(|name| format!("\"{}\"", name.replace('"', "\"\"")));
+    let columns: Vec<String> = name.into_iter().chain(samples.iter().map(i32::to_string)).collect();
+    columns.join(",") + "\n"
 }
 
 /// With a decimal point or comma.
@@ -187,8 +196,17 @@ mod tests {
         assert_eq!(only("dry rail right,1,2", 2).0.unwrap(), "dry rail right");
         assert_eq!(only("\"17\" 1 2", 2).0.unwrap(), "17");
         assert_eq!(only("\"the \"\"wheel\"\"\" 1 2", 2).0.unwrap(), "the \"wheel\"");
-        assert_eq!(only("32767,-32768", 2), (None, vec![32767, -32768]));
+        assert_eq!(only("524287,-524288", 2), (None, vec![524_287, -524_288]));
         assert_eq!(only("7", 1), (None, vec![7]));
+    }
+
+    #[test]
+    fn written_and_read() {
+        for name in [None, Some("dry rail, right"), Some("the \"wheel\""), Some("17"), Some("# 3;4"), Some("a")] {
+            let samples = vec![0, -524_288, 524_287, 32_768];
+            assert_eq!(only(&line(name, &samples), 4), (name.map(str::to_string), samples), "{name:?}");
+        }
+        assert_eq!(line(Some("a"), &[1, -2]), "\"a\",1,-2\n");
     }
 
     #[test]
@@ -201,8 +219,9 @@ mod tests {
     fn what_is_wrong() {
         assert_eq!(lines("1 2\n1 x", 2, 9).unwrap_err().line, 2);
         assert!(what("dry,1,").starts_with("column 3 is empty"));
-        assert!(what("1,32768").contains("`32768` in column 2"));
-        assert!(what("32768,1").contains("`32768` in column 1"));
+        assert!(what("1,524288").contains("`524288` in column 2 is no whole number from -524288 to 524287. Scale"));
+        assert!(what("-524289,1").contains("`-524289` in column 1"));
+        assert!(what("1,2147483648").contains("`2147483648` in column 2"));
         assert!(what("1.5,1").contains("Scale"));
         assert!(what("1,5;2,5").contains("decimal comma"));
         assert!(what("dry rail 1").contains("double quotes"));

@@ -20,11 +20,11 @@ pub struct Curve {
     /// For the legend, and for its row.
     pub label: String,
     pub fault: String,
-    pub samples: Vec<i16>,
+    pub samples: Vec<i32>,
 }
 
 pub struct Drawing {
-    pub sweep: Vec<i16>,
+    pub sweep: Vec<i32>,
     pub name: String,
     pub curves: Vec<Curve>,
     /// Samples at the converter's limit, from 0.
@@ -94,7 +94,7 @@ impl Drawing {
     /// Draws all of it, from a height on.
     pub fn draw(&self, svg: &mut Svg, top: f64) {
         self.draw_legend(svg, top);
-        let values = |samples: &[i16]| samples.iter().map(|&x| f64::from(x)).collect::<Vec<f64>>();
+        let values = |samples: &[i32]| samples.iter().map(|&x| f64::from(x)).collect::<Vec<f64>>();
         let sweep = values(&self.sweep);
         let stored: Vec<Vec<f64>> = self.curves.iter().map(|curve| values(&curve.samples)).collect();
 
@@ -321,5 +321,10 @@ mod tests {
         assert_eq!(Scale::of([5.0].iter(), 5.0).marks().collect::<Vec<_>>(), [4.0, 5.0, 6.0]);
         let ends = [vec![0.0], vec![-1450.0, 700.0], vec![1.0, 65_535.0]].map(|values| Scale::about_zero(values.iter()).high);
         assert_eq!(ends, [1.0, 1500.0, 80_000.0]);
+        // samples of 20 bits, and what two of them are apart at most
+        let scale = Scale::of([-524_288.0, 524_287.0].iter(), 5.0);
+        assert_eq!(scale.marks().collect::<Vec<_>>(), [-1_000_000.0, -500_000.0, 0.0, 500_000.0, 1_000_000.0]);
+        let farthest = Scale::about_zero([1_048_575.0].iter());
+        assert_eq!((farthest.low, farthest.high), (-1_500_000.0, 1_500_000.0));
     }
 }

@@ -14,7 +14,7 @@ const EACCES: i32 = 13;
 const ENOSPC: i32 = 28;
 
 /// What a library shows: its traces with their names. Nothing if there is no sheet.
-type Seen = Option<Vec<(Vec<i16>, String)>>;
+type Seen = Option<Vec<(Vec<i32>, String)>>;
 
 /// Files by name.
 type Files = BTreeMap<OsString, Vec<u8>>;
@@ -61,7 +61,7 @@ impl Bench {
         let path = self.0.join(sheet);
         path.exists().then(|| {
             let shelf = Shelf::load(&path).unwrap();
-            (0..shelf.library.len()).map(|at| (shelf.trace(at).to_vec(), shelf.names.shown(at).to_string())).collect()
+            (0..shelf.library.len()).map(|at| (shelf.trace(at), shelf.names.shown(at).to_string())).collect()
         })
     }
 }

@@ -4,7 +4,7 @@ use super::labels::{self, Codes};
 use super::names::Lines;
 use super::reading::Wanted;
 use super::{convert, csv, plain, recordings};
-use silkendoz::TraceLibrary;
+use silkendoz::{TraceLibrary, SAMPLES};
 use std::path::Path;
 use testing::random::Random;
 
@@ -39,13 +39,14 @@ fn recordings_of_any_bytes() {
     let mut extensible = b"RIFF\x74\0\0\0WAVEfmt \x28\0\0\0\xfe\xff\x02\0\x11\x2b\0\0\x66\x02\x01\0\x06\0\x18\0\x16\0\x18\0\0\0\0\0\x01\0".to_vec();
     extensible.extend(b"\0\0\0\0\x10\0\x80\0\0\xaa\0\x38\x9b\x71fact\x04\0\0\0\x08\0\0\0data\x30\0\0\0");
     extensible.extend(&data);
-    assert!(convert::to_plain(&extensible).is_ok_and(|made| made.is_some()));
+    assert!(convert::made(&extensible, 20).is_ok_and(|made| made.is_some()));
     for file in [recordings::plain(8000, &data), extensible] {
         for _ in 0..ROUNDS {
             let bytes = altered(random, &file);
-            let wanted = Wanted { n: 1 + random.below(9), cut: random.once_in(2), convert: random.once_in(2), spare: 0 };
+            let bits = *random.pick(&[16, 20]);
+            let wanted = Wanted { n: 1 + random.below(9), cut: random.once_in(2), convert: random.once_in(2), bits, narrow: false, spare: 0 };
             match recordings::take(&bytes, &wanted) {
-                Ok(taken) => assert!(taken.traces.iter().all(|trace| trace.len() == wanted.n)),
+                Ok(taken) => assert!(taken.traces.iter().all(|trace| trace.len() == wanted.n && trace.iter().all(|x| SAMPLES.contains(x)))),
                 Err(why) => fine(&why),
             }
         }

@@ -2,9 +2,11 @@
 
 use std::array::from_fn;
 
-/// The first 64 bits of the hash of a trace's samples, low byte first, in 16 digits: as they stand in a recording behind its header.
-pub fn of_trace(samples: &[i16]) -> String {
-    let bytes: Vec<u8> = samples.iter().flat_map(|sample| sample.to_le_bytes()).collect();
+/// The first 64 bits of the hash of a trace's samples, low byte first, in 16 digits: as they stand in a recording behind its header, and so of
+/// two bytes each; of a trace that does not fit 16 bits, of four, as they stand in a wide sheet.
+pub fn of_trace(samples: &[i32]) -> String {
+    let narrow: Option<Vec<[u8; 2]>> = samples.iter().map(|&sample| i16::try_from(sample).ok().map(i16::to_le_bytes)).collect();
+    let bytes = narrow.map_or_else(|| samples.iter().flat_map(|sample| sample.to_le_bytes()).collect(), |narrow| narrow.concat());
     hex(&sha256(&bytes)[..8])
 }
 

@@ -10,7 +10,7 @@ use std::path::Path;
 pub const COMMANDS: [Command; 17] = [
     Command {
         name: "build",
-        usage: "OUT.sheet --samples N [--capacity C] [--leaf-size S] [--code C] [--serial S] [--labels L] [--cut] [--convert] \
+        usage: "OUT.sheet --samples N [--capacity C] [--leaf-size S] [--code C] [--serial S] [--labels L] [--cut] [--convert [--bits B]] \
                 [--without N,M] [--force] FILE..",
         about: "recordings into a library",
         text: "\
@@ -21,8 +21,11 @@ name, its file, its rate in samples a second, and a hash of its samples, by whic
   --capacity C    room for so many traces, 1 to 4096; unless said, for as many again as there are, 64 at least
   --leaf-size S   traces a leaf of the tree holds before it splits, 1 to 64; 16 unless said. `silkendoz advise` tries others
   --cut           a recording may end in the midst of a trace: its whole traces are taken, and what is left over is named
-  --convert       a WAV of several channels, of 8, 24 or 32 bits, of floating point or with tags is brought to the plain form: the first
-                  channel, the upper 16 bits; what was done is said
+  --convert       a WAV of several channels, of 8, 24 or 32 bits, of floating point or with tags is brought to samples that can be taken:
+                  the first channel; 8 bits times 256, 16 as they are, 24 and 32 shifted to the right to 20 bits. What was done is said,
+                  and by how many bits it was shifted
+  --bits B        with --convert: bring what has more than 16 bits to so many, 16 or 20; 20 unless said. Traces of one library have to be
+                  brought to the same: from 16 to 20 bits they differ by a factor of 16
   --without N,M   leave out these traces, counted from 0 through all FILEs: of one sheet alone, by their numbers there
   --code C        the fault code of all these traces, 0 to 65535, in decimal or as 0x0412: the remote is told it
   --serial S      the serial of the machine that they are of, 0 to 4294967295: the remote is not told it
@@ -31,22 +34,23 @@ name, its file, its rate in samples a second, and a hash of its samples, by whic
   --force         overwrite OUT.sheet and OUT.names; never a FILE that is read
   --no-wait       if another run is writing there, refuse; unless said, wait for it
 
-A FILE is a WAV recording (16-bit PCM, one channel, the usual header of 44 bytes), of one trace or of many, one behind another; or text,
-a trace a line, with commas or spaces between the samples, with or without a name in the first column (in double quotes, if it has
-separators or looks like a number; lines that begin with # are passed over); or the sheet of another library, whose names come along; or a
-folder, for all files in it that end in .wav, .csv, .tsv or .txt; or -, for standard input. A trace without a name is called by its file.
+A FILE is a WAV recording (16-bit PCM, one channel, the usual header of 44 bytes), of one trace or of many, one behind another; or text, a
+trace a line, whole numbers of 20 bits (-524288 to 524287) with commas or spaces between them, with or without a name in the first column
+(in double quotes, if it has separators or looks like a number; lines that begin with # are passed over); or the sheet of another library,
+whose names come along; or a folder, for all files in it that end in .wav, .csv, .tsv or .txt; or -, for standard input. A trace without a
+name is called by its file.
 
 Labels are part of the sheet, and those of another library come along, unless others are given here. A stored label cannot be changed:
 build a new library of the old one, with `--labels`. Words for codes stand in OUT.codes, if you write such a file: a code and its word a
 line.
 ",
-        values: &["--samples", "--capacity", "--leaf-size", "--without", "--code", "--serial", "--labels"],
+        values: &["--samples", "--capacity", "--leaf-size", "--without", "--code", "--serial", "--labels", "--bits"],
         flags: &["--force", "--cut", "--convert", "--no-wait"],
         run: build::run,
     },
     Command {
         name: "add",
-        usage: "LIBRARY [--code C] [--serial S] [--labels L] [--again] [--cut] [--convert] [--no-wait] FILE..",
+        usage: "LIBRARY [--code C] [--serial S] [--labels L] [--again] [--cut] [--convert [--bits B]] [--no-wait] FILE..",
         about: "more recordings into a library, all or none",
         text: "\
 Adds all traces in the FILEs to the library, in their order, with their names. If one of them cannot be taken, or there is no room for all,
@@ -55,16 +59,16 @@ nothing is added; nor if one of them is stored already, sample by sample, or com
   --code C, --serial S, --labels L   labels, as for `build`
   --again     add traces that are stored already or come twice, too
   --cut       whole traces of a recording that ends in the midst of one
-  --convert   recordings of other forms
+  --convert, --bits B   recordings of other forms, as for `build`; to the bits that the library's traces were brought to
   --no-wait   if another run is writing the library, refuse; unless said, wait for it
 ",
-        values: &["--code", "--serial", "--labels"],
+        values: &["--code", "--serial", "--labels", "--bits"],
         flags: &["--again", "--cut", "--convert", "--no-wait"],
         run: add::run,
     },
     Command {
         name: "match",
-        usage: "LIBRARY FILE.. [-k K] [--json | --tsv] [--cut] [--convert]",
+        usage: "LIBRARY FILE.. [-k K] [--json | --tsv] [--cut] [--convert [--bits B]]",
         about: "the nearest stored traces, with their names, and what fits",
         text: "\
 Finds the stored traces that are nearest to the sweep in FILE: exactly those that reading every stored trace would find. If there are
@@ -74,7 +78,8 @@ several sweeps, each gets a line. A FILE may be a folder; `-` is standard input.
   --json      one object for programs
   --tsv       a line a sweep, with tabs between the columns, the headings first
   --cut       leave out what is left over behind the last whole trace of a recording
-  --convert   bring recordings of other forms to the plain one
+  --convert   bring recordings of other forms to samples that can be taken, as for `build`
+  --bits B    with --convert: the bits that the library's traces were brought to, 16 or 20; 20 unless said
 
 Each line has the trace's number and name, its distance (the sum of squared sample differences), and how far a sample is off, which is the
 root of the mean square. Below them stands the verdict, with its figures:
@@ -95,13 +100,13 @@ The object has `library` (`file`, `samples`, `traces`, `leaves`, `rates`), `swee
 `all_of_one_fault`, `stored_apart_least`, `stored_apart_greatest`); `clipped_samples`, `stored_already_as`, `remarks`, `nearest_looked_at`,
 `leaves_read`, `traces_read`. What there is none of is null.
 ",
-        values: &["-k"],
+        values: &["-k", "--bits"],
         flags: &["--json", "--tsv", "--cut", "--convert"],
         run: matching::run,
     },
     Command {
         name: "remote",
-        usage: "LIBRARY FILE.. [--json] [--cut] [--convert]",
+        usage: "LIBRARY FILE.. [--json] [--cut] [--convert [--bits B]]",
         about: "what the jog remote is told of a sweep, and no more",
         text: "\
 Shows what the remote's one call tells of the sweeps in the FILEs, a line each: the nearest trace's number, its fault code, its distance,
@@ -109,15 +114,15 @@ and how much was read. Nothing of serials, and no names, which may say which mac
 .codes, which a remote may have too.
 
   --json      one object for programs: `sweeps`, a list (`name`, `file`, `number`, `distance`, `code`, `leaves_read`, `traces_read`)
-  --cut, --convert   as for `match`
+  --cut, --convert, --bits B   as for `match`
 ",
-        values: &[],
+        values: &["--bits"],
         flags: &["--json", "--cut", "--convert"],
         run: remote::run,
     },
     Command {
         name: "plot",
-        usage: "LIBRARY FILE [-k K] [--sweep S] [-o OUT.svg] [--force] [--cut] [--convert]",
+        usage: "LIBRARY FILE [-k K] [--sweep S] [-o OUT.svg] [--force] [--cut] [--convert [--bits B]]",
         about: "the sweep and the nearest faults as a picture",
         text: "\
 Draws the sweep in FILE and the nearest trace of each of the nearest faults one over the other; below, in a row a fault, the differences.
@@ -127,15 +132,15 @@ Across stand milliseconds, if a rate is known.
   --sweep S    if FILE holds several sweeps, which one, counted from 1; the first unless said
   -o OUT.svg   where the picture goes; unless said, beside FILE, with the ending .svg; `-` is standard output
   --force      overwrite it
-  --cut, --convert   as for `match`
+  --cut, --convert, --bits B   as for `match`
 ",
-        values: &["-k", "--sweep", "-o"],
+        values: &["-k", "--sweep", "-o", "--bits"],
         flags: &["--force", "--cut", "--convert"],
         run: plot::run,
     },
     Command {
         name: "report",
-        usage: "LIBRARY FILE [-k K] [--sweep S] [-o OUT.html] [--force] [--cut] [--convert]",
+        usage: "LIBRARY FILE [-k K] [--sweep S] [-o OUT.html] [--force] [--cut] [--convert [--bits B]]",
         about: "the verdict and the picture as a page to mail and print",
         text: "\
 Writes one page about the sweep in FILE: the verdict of `match`, the picture of `plot`, the 16 nearest traces by fault, and what they were
@@ -146,11 +151,11 @@ asks for nothing from elsewhere.
   --sweep S     if FILE holds several sweeps, which one, counted from 1; the first unless said
   -o OUT.html   where the page goes; unless said, beside FILE, with the ending .html; `-` is standard output
   --force       overwrite it
-  --cut, --convert   as for `match`
+  --cut, --convert, --bits B   as for `match`
 
 The date is today's, by UTC, or that of SOURCE_DATE_EPOCH if it is set.
 ",
-        values: &["-k", "--sweep", "-o"],
+        values: &["-k", "--sweep", "-o", "--bits"],
         flags: &["--force", "--cut", "--convert"],
         run: report::run,
     },
@@ -159,8 +164,8 @@ The date is today's, by UTC, or that of SOURCE_DATE_EPOCH if it is set.
         usage: "LIBRARY [--json]",
         about: "what a library holds, and the memory it needs",
         text: "\
-Shows the measures of a library, how many traces, names and labels it holds, what its tree looks like, and how much memory a controller
-needs.
+Shows the measures of a library, how many traces, names and labels it holds, how many of its traces need a wide sheet, since a sample of
+theirs does not fit 16 bits, what its tree looks like, and how much memory a controller needs.
 
   --json   one object for programs, with the SHA-256 of the sheet
 ",
@@ -252,8 +257,8 @@ the same writing take `silkendoz repair`, which loses nothing.
         text: "\
 Tries leaf sizes 4 to 64 on the library's own traces: each is left out and looked up, as a sweep that is like none stored, and so is a
 noisy copy of each, as one that is like a stored one. It shows the part of leaves that a match reads and what it takes, beside scans: a
-plain one, by AVX2 where the processor has it, and one that leaves a trace early. It says which leaf size to take, for each kind of sweep
-what a match is worth beside the faster scan, and whether the traces look normalised.
+plain one, by AVX2 where the processor has it (over samples of two bytes, where all fit them), and one that leaves a trace early. It says
+which leaf size to take, for each kind of sweep what a match is worth beside the faster scan, and whether the traces look normalised.
 ",
         values: &[],
         flags: &[],
@@ -261,17 +266,18 @@ what a match is worth beside the faster scan, and whether the traces look normal
     },
     Command {
         name: "export",
-        usage: "LIBRARY NUMBER -o OUT.wav [--rate R] [--force]",
-        about: "a stored trace as a WAV file",
+        usage: "LIBRARY NUMBER -o OUT [--csv | --rate R] [--force]",
+        about: "a stored trace as a WAV file or as text",
         text: "\
-Writes one stored trace as a WAV recording.
+Writes one stored trace as a WAV recording of 16 bits. A trace with a sample beyond these is refused: it goes into text.
 
-  -o OUT.wav   where it goes; `-` is standard output
+  -o OUT       where it goes; `-` is standard output
+  --csv        as text: a line with the trace's name, if it has one, and its samples, commas between them, as `build` and `add` read it
   --rate R     samples a second that the file says, 0 to 2147483647; unless said, those of the recording, and if nobody knows them, 8000
   --force      overwrite it
 ",
         values: &["-o", "--rate"],
-        flags: &["--force"],
+        flags: &["--force", "--csv"],
         run: export::run,
     },
     Command {

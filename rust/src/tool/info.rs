@@ -1,7 +1,7 @@
 //! `info`: what a library holds, its tree, and the memory that a controller needs for it.
 
 use super::arguments::Arguments;
-use super::blocks::{LABELS, SAMPLES};
+use super::blocks::{Width, LABELS};
 use super::shelf::Shelf;
 use super::table::{self, Column};
 use super::{done, json, numbers, plain, Answer, Failure};
@@ -19,6 +19,7 @@ pub fn run(a: &Arguments) -> Answer {
     let mut text = format!("{}\n", plain::path(&shelf.path));
     let mut line = |what: &str, value: String| text.push_str(&format!("  {what:<18}{value}\n"));
     line("samples a trace", l.n().to_string());
+    line("sheet", sheet(l));
     line("traces", format!("{} of {}", l.len(), l.capacity()));
     line("names", named(&shelf)?);
     line("rate", rates(&shelf));
@@ -30,6 +31,19 @@ pub fn run(a: &Arguments) -> Answer {
     text.push_str("Memory for a controller, in bytes:\n");
     text.push_str(&memory(l));
     done(text)
+}
+
+/// How many traces have a sample that does not fit 16 bits.
+fn wide_traces(l: &TraceLibrary) -> usize {
+    l.traces().filter(|trace| trace.iter().any(|sample| sample.is_wide())).count()
+}
+
+/// Which kind of sheet it has, and because of how many traces.
+fn sheet(l: &TraceLibrary) -> String {
+    match wide_traces(l) {
+        0 => "narrow: all samples fit 16 bits, and take two bytes".to_string(),
+        many => format!("wide: {many} of {} with samples beyond 16 bits; all take four bytes", numbers::count(l.len(), "trace")),
+    }
 }
 
 fn named(shelf: &Shelf) -> Result<String, Failure> {
@@ -92,23 +106,26 @@ fn tree(l: &TraceLibrary) -> String {
     }
 }
 
-/// As the guide's table of memory needs: each table, all of them with the control record, the trail, a full sheet with labels.
-fn needs(l: &TraceLibrary) -> [usize; 8] {
+/// As the guide's table of memory needs: each table, all of them with the control record, the trail, a full sheet with labels, narrow and
+/// wide.
+fn needs(l: &TraceLibrary) -> [usize; 9] {
     let (n, c) = (l.n(), l.capacity());
-    let [samples, nodes, links, work, labels] = [2 * c * n, 8 * (2 * c - 1) * 87, 2 * c, 8 * (2 * c - 1), 8 * c];
+    let [samples, nodes, links, work, labels] = [4 * c * n, 8 * (2 * c - 1) * 87, 2 * c, 8 * (2 * c - 1), 8 * c];
     let all = samples + nodes + links + work + labels + 10;
-    [samples, nodes, links, work, labels, all, 2 * c, 512 * (1 + (c * n).div_ceil(SAMPLES) + c.div_ceil(LABELS))]
+    let [narrow, wide] = [Width::Narrow, Width::Wide].map(|width| 512 * (1 + (c * n).div_ceil(width.samples()) + c.div_ceil(LABELS)));
+    [samples, nodes, links, work, labels, all, 2 * c, narrow, wide]
 }
 
 fn memory(l: &TraceLibrary) -> String {
-    let tables = ["samples", "node records", "links", "search work", "labels", "in all, with the control record", "trail", "sheet, when full"];
-    table::text(&tables.map(|name| Column(name, true)), &[needs(l).map(numbers::grouped).to_vec()])
+    let tables = ["samples", "node records", "links", "search work", "labels", "in all, with the control record", "trail"];
+    let tables = tables.into_iter().chain(["sheet, when full", "if wide"]).map(|name| Column(name, true)).collect::<Vec<_>>();
+    table::text(&tables, &[needs(l).map(numbers::grouped).to_vec()])
 }
 
 fn in_json(shelf: &Shelf) -> String {
     let l = &shelf.library;
     let depth = l.leaves().iter().map(|leaf| leaf.depth).max().unwrap_or_default();
-    let columns = ["samples", "node_records", "links", "search_work", "labels", "all", "trail", "full_sheet"];
+    let columns = ["samples", "node_records", "links", "search_work", "labels", "all", "trail", "full_sheet", "full_wide_sheet"];
     let memory: Vec<(&str, String)> = columns.into_iter().zip(needs(l).map(|bytes| bytes.to_string())).collect();
     let rates: Vec<String> = shelf.names.rates().iter().map(u32::to_string).collect();
     let fields = [
@@ -118,6 +135,7 @@ fn in_json(shelf: &Shelf) -> String {
         ("traces", l.len().to_string()),
         ("capacity", l.capacity().to_string()),
         ("leaf_size", l.leaf_size().to_string()),
+        ("wide_traces", wide_traces(l).to_string()),
         ("names", shelf.names.known().to_string()),
         ("lines_that_fit_no_trace", shelf.names.left().to_string()),
         ("rates", json::array(&rates)),

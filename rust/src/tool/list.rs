@@ -46,7 +46,7 @@ fn in_json(shelf: &Shelf) -> String {
             ("rate", shelf.names.rate_of(number).map_or_else(null, |rate| rate.to_string())),
             ("code", shelf.label(number).code.to_string()),
             ("serial", shelf.label(number).serial.to_string()),
-            ("hash", json::text(&hash::of_trace(shelf.trace(number)))),
+            ("hash", json::text(&hash::of_trace(&shelf.trace(number)))),
         ])
     };
     let traces: Vec<String> = (0..shelf.library.len()).map(trace).collect();

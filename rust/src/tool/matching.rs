@@ -23,7 +23,7 @@ pub fn run(a: &Arguments) -> Answer {
         return wrong("`--json` and `--tsv` do not go together.".to_string());
     }
     let shelf = Shelf::load(library)?;
-    let read = reading::all(&files, &Wanted::of(a, shelf.library.n()))?;
+    let read = reading::all(&files, &Wanted::by(a, &shelf.library)?)?;
     let faults = Faults::of(&shelf)?;
     let found = read.sweeps.iter().map(|sweep| Match::of(&shelf, &faults, sweep, k)).collect::<Result<Vec<_>, _>>()?;
     done(match found.as_slice() {

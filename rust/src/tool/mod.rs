@@ -6,6 +6,7 @@ mod add;
 mod advise;
 mod again;
 mod arguments;
+mod avx;
 mod blocks;
 mod build;
 mod check;
@@ -46,7 +47,7 @@ mod standard;
 mod svg;
 mod table;
 mod verdict;
-mod wide;
+
 mod words;
 
 use arguments::{Arguments, Options};

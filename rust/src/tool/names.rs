@@ -4,7 +4,7 @@
 use super::plain::{clean, short, LONGEST};
 use super::reading::is_sheet;
 use super::{disk, files, hash, plain, refused, Failure};
-use silkendoz::TraceLibrary;
+use silkendoz::{StoredSample, TraceLibrary};
 use std::collections::HashSet;
 use std::path::{Path, PathBuf};
 
@@ -96,10 +96,10 @@ impl Lines {
         let mut names = Names::none(count);
         let mut unproved = vec![false; count];
         for line in &self.all {
-            let trace = library.trace(line.number);
+            let trace = library.trace(line.number).map(StoredSample::values);
             let place = names.fitting.get_mut(line.number);
             let why = match (place, &line.hash) {
-                (Some(place), Some(hash)) if place.is_none() && trace.is_some_and(|trace| hash::of_trace(trace) == *hash) => {
+                (Some(place), Some(hash)) if place.is_none() && trace.is_some_and(|trace| hash::of_trace(&trace) == *hash) => {
                     *place = Some(line.name.clone());
                     continue;
                 }
@@ -125,7 +125,7 @@ impl Lines {
     }
 
     /// What names a trace of these samples; of a trace whose samples are lost, what names its number.
-    pub fn name_of(&self, number: usize, samples: Option<&[i16]>) -> Option<Name> {
+    pub fn name_of(&self, number: usize, samples: Option<&[i32]>) -> Option<Name> {
         let fits = |line: &&Line| match (&line.hash, samples) {
             (Some(hash), Some(samples)) => *hash == hash::of_trace(samples),
             _ => true,
@@ -259,7 +259,7 @@ impl Names {
     /// The file, for this library; nothing if no trace has a name.
     pub fn text(&self, library: &TraceLibrary) -> String {
         let known = self.fitting.iter().enumerate().filter_map(|(number, name)| Some((number, name.as_ref()?, library.trace(number)?)));
-        known.map(|(number, name, trace)| written(number, name, &hash::of_trace(trace))).collect()
+        known.map(|(number, name, trace)| written(number, name, &hash::of_trace(&StoredSample::values(trace)))).collect()
     }
 }
 

@@ -1,5 +1,8 @@
 //! Noise for trials, the same in each run.
 
+use super::numbers::bits_of;
+use silkendoz::SAMPLES;
+
 pub struct Noise(u64);
 
 impl Noise {
@@ -7,9 +10,13 @@ impl Noise {
         Noise(seed)
     }
 
-    /// The trace with each sample moved by up to `by`.
-    pub fn near(&mut self, trace: &[i16], by: i64) -> Vec<i16> {
-        let moved = |&x: &i16| (i64::from(x) + self.within(by)).clamp(i16::MIN.into(), i16::MAX.into()) as i16;
+    /// The trace with each sample moved by up to `by`, and not beyond the bits that the trace takes.
+    pub fn near(&mut self, trace: &[i32], by: i64) -> Vec<i32> {
+        let (least, greatest) = match bits_of(trace) {
+            16 => (i16::MIN.into(), i16::MAX.into()),
+            _ => (*SAMPLES.start(), *SAMPLES.end()),
+        };
+        let moved = |&x: &i32| (i64::from(x) + self.within(by)).clamp(least.into(), greatest.into()) as i32;
         trace.iter().map(moved).collect()
     }
 
@@ -26,11 +33,13 @@ mod tests {
 
     #[test]
     fn near_a_trace() {
-        let trace = [0, 100, i16::MAX, i16::MIN];
+        let trace = [0, 100, 32_767, -32_768];
         let (one, other) = (Noise::seeded(1).near(&trace, 20), Noise::seeded(2).near(&trace, 20));
         assert_ne!(one, other);
         assert_eq!(one, Noise::seeded(1).near(&trace, 20));
-        assert!(trace.iter().zip(&one).all(|(&a, &b)| (i32::from(a) - i32::from(b)).abs() <= 20));
+        assert!(trace.iter().zip(&one).all(|(a, b)| (a - b).abs() <= 20 && i16::try_from(*b).is_ok()));
         assert_eq!(Noise::seeded(1).near(&trace, 0), trace);
+        let wide = [524_287, -524_288, 32_767];
+        assert!(Noise::seeded(1).near(&wide, 20).iter().zip(wide).all(|(a, b)| (a - b).abs() <= 20 && SAMPLES.contains(a)));
     }
 }

@@ -20,6 +20,14 @@ pub fn how_far(nearest: u64, second: u64) -> String {
     }
 }
 
+/// The bits that samples take, by what recorders have: 16, or 20 if one of them does not fit these.
+pub fn bits_of(samples: &[i32]) -> u32 {
+    match samples.iter().all(|&sample| i16::try_from(sample).is_ok()) {
+        true => 16,
+        false => 20,
+    }
+}
+
 /// One and several.
 pub fn count(number: usize, one: &str) -> String {
     match number {
@@ -57,6 +65,7 @@ mod tests {
         assert_eq!([0, 999, 1000, 12_345_678].map(grouped), ["0", "999", "1,000", "12,345,678"]);
         assert_eq!([count(1, "leaf"), count(2, "leaf"), count(0, "trace")], ["1 leaf", "2 leaves", "0 traces"]);
         assert_eq!(per_sample(400, 4), 10.0);
+        assert_eq!([bits_of(&[]), bits_of(&[-32_768, 32_767]), bits_of(&[0, 32_768]), bits_of(&[-32_769])], [16, 16, 20, 20]);
         assert_eq!((times_as_far(0, 5), times_as_far(4, 16)), (None, Some(2.0)));
         let words = [(4, 16), (100, 100), (1000, 1001), (10_000, 11_100), (0, 5), (0, 0)].map(|(first, second)| how_far(first, second));
         assert_eq!(words, ["2.0 times as far", "just as near", "nearly as near", "1.1 times as far", "farther", "just as near"]);

@@ -24,7 +24,7 @@ pub fn run(a: &Arguments) -> Answer {
     let shelf = Shelf::load(library)?;
     let [sheet, names, codes] = shelf.files()?;
     let output = Output::of(&out, a.has("--force"), &[&sheet, &names, &codes, file])?;
-    let read = reading::one(file, &Wanted::of(a, shelf.library.n()))?;
+    let read = reading::one(file, &Wanted::by(a, &shelf.library)?)?;
     let (sweep, which) = chosen(a, file, &read.sweeps)?;
     let faults = Faults::of(&shelf)?;
     let found = Match::of(&shelf, &faults, sweep, LOOKED_AT)?;
@@ -69,7 +69,7 @@ pub fn drawing(shelf: &Shelf, found: &Match<'_>, groups: &[ByFault]) -> Drawing 
         let apart = numbers::per_sample(near.distance, shelf.library.n());
         let name = behind_fault(shelf.names.shown(near.trace));
         let label = format!("{}: trace {}, {name}, off by {apart:.1} a sample", drawing::short(&group.fault, 60), near.trace);
-        Curve { label, fault: group.fault.clone(), samples: shelf.trace(near.trace).to_vec() }
+        Curve { label, fault: group.fault.clone(), samples: shelf.trace(near.trace) }
     };
     Drawing {
         sweep: found.sweep.samples.clone(),

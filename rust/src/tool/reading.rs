@@ -4,8 +4,8 @@ use super::arguments::Arguments;
 use super::names::{named, Name};
 use super::plain::{self, clean};
 use super::shelf::Shelf;
-use super::{csv, disk, files, numbers, recordings, refused, Failure};
-use silkendoz::Label;
+use super::{csv, disk, files, numbers, recordings, refused, wrong, Failure};
+use silkendoz::{Label, TraceLibrary};
 use std::path::{Path, PathBuf};
 
 /// As many traces as a library holds at most: no more are read.
@@ -18,7 +18,7 @@ pub struct Sweep {
     pub file: String,
     /// Samples a second, if the file says it.
     pub rate: Option<u32>,
-    pub samples: Vec<i16>,
+    pub samples: Vec<i32>,
     /// What its library says of it, or what was given.
     pub label: Label,
 }
@@ -43,16 +43,31 @@ pub struct Wanted {
     pub n: usize,
     /// A recording may end in the midst of a trace: what is left over is left out.
     pub cut: bool,
-    /// A recording may be of another form: it is brought to the plain one.
+    /// A recording may be of another form: it is brought to one that can be taken.
     pub convert: bool,
+    /// One of more than 16 bits is brought to so many, 16 or 20.
+    pub bits: u32,
+    /// The traces are for a library of which all samples fit 16 bits.
+    pub narrow: bool,
     /// So many more than a library holds may be read, since they are left out again.
     pub spare: usize,
 }
 
 impl Wanted {
-    /// By the options `--cut` and `--convert`.
-    pub fn of(a: &Arguments, n: usize) -> Wanted {
-        Wanted { n, cut: a.has("--cut"), convert: a.has("--convert"), spare: 0 }
+    /// By the options `--cut`, `--convert` and `--bits`.
+    pub fn of(a: &Arguments, n: usize) -> Result<Wanted, Failure> {
+        let bits = match (a.number("--bits")?, a.has("--convert")) {
+            (Some(_), false) => return wrong("--bits: says to how many bits `--convert` brings a recording. Say both.".to_string()),
+            (None, _) => 20,
+            (Some(bits), _) if [16, 20].contains(&bits) => bits as u32,
+            (Some(bits), _) => return wrong(format!("--bits: samples get 16 bits or 20, and not {bits}.")),
+        };
+        Ok(Wanted { n, cut: a.has("--cut"), convert: a.has("--convert"), bits, narrow: false, spare: 0 })
+    }
+
+    /// For a library that holds traces.
+    pub fn by(a: &Arguments, library: &TraceLibrary) -> Result<Wanted, Failure> {
+        Ok(Wanted { narrow: !library.is_empty() && !library.is_wide(), ..Wanted::of(a, library.n())? })
     }
 }
 
@@ -166,11 +181,15 @@ fn in_folder(path: &Path) -> Option<Result<Vec<PathBuf>, String>> {
     }
 }
 
+/// What is to be known where a sweep of 20 bits meets traces that all fit 16: brought to other bits, they are 16 times as large or as small.
+const DOUBT: &str = "has 20 bits now, and every stored trace fits 16. If those were brought to 16 bits, say `--bits 16`: else they do not compare.";
+
 fn recorded(path: &Path, bytes: &[u8], wanted: &Wanted) -> Result<Found, Failure> {
     match recordings::take(bytes, wanted) {
         Ok(taken) => {
             let traces = (1..).zip(taken.traces).map(|(place, samples)| Placed::unlabelled(place, None, Some(taken.rate), samples));
-            let notes = taken.notes.iter().map(|note| format!("{}: {note}", plain::path(path)));
+            let doubt = (taken.wide && wanted.narrow).then_some(DOUBT.to_string());
+            let notes = taken.notes.iter().chain(&doubt).map(|note| format!("{}: {note}", plain::path(path)));
             Ok(Found { sweeps: named_by_file(path, "trace", traces.collect())?, notes: notes.collect(), ..Found::default() })
         }
         Err(why) => refused(format!("{}: {why}", plain::path(path))),
@@ -188,7 +207,7 @@ fn shelved(path: &Path, shelf: &Shelf, n: usize) -> Result<Vec<Sweep>, Failure> 
     let named = (0..shelf.library.len()).map(|place| {
         let name = shelf.names.of(place);
         let (name, label) = (name.map(|name| name.name.clone()), shelf.label(place));
-        Placed { place, name, rate: shelf.names.rate_of(place), samples: shelf.trace(place).to_vec(), label }
+        Placed { place, name, rate: shelf.names.rate_of(place), samples: shelf.trace(place), label }
     });
     let mut sweeps = named_by_file(path, "trace", named.collect())?;
     // where a trace was recorded is known here, if it is known at all
@@ -216,12 +235,12 @@ struct Placed {
     place: usize,
     name: Option<String>,
     rate: Option<u32>,
-    samples: Vec<i16>,
+    samples: Vec<i32>,
     label: Label,
 }
 
 impl Placed {
-    fn unlabelled(place: usize, name: Option<String>, rate: Option<u32>, samples: Vec<i16>) -> Placed {
+    fn unlabelled(place: usize, name: Option<String>, rate: Option<u32>, samples: Vec<i32>) -> Placed {
         Placed { place, name, rate, samples, label: Label::default() }
     }
 }

@@ -1,16 +1,20 @@
-//! WAV files: what they hold and how they are written is the proved calls' to say. Here is the way there and back, and words for a refusal.
+//! WAV files: what they hold and how they are written is the proved calls' to say, but for samples of 20 bits, which no call takes from a
+//! file. Here is the way there and back, and words for a refusal.
 
+use super::convert::{self, Made, Samples};
+use super::numbers;
 use super::reading::{Wanted, MOST_TRACES};
-use super::{convert, numbers};
-use silkendoz::{Refusal, TraceLibrary};
+use silkendoz::{Refusal, StoredSample, TraceLibrary};
 
 pub const HEADER: usize = 44;
 
 /// What a recording holds.
 pub struct Taken {
-    pub traces: Vec<Vec<i16>>,
+    pub traces: Vec<Vec<i32>>,
     /// Samples a second, as its header says.
     pub rate: u32,
+    /// Whether it was brought to 20 bits.
+    pub wide: bool,
     /// What was done to it.
     pub notes: Vec<String>,
 }
@@ -20,35 +24,55 @@ pub fn is_meant(bytes: &[u8]) -> bool {
     bytes.starts_with(b"RIFF")
 }
 
-/// The traces of a recording. If that is wanted, it is brought to the plain form first, and cut to whole traces.
+/// The traces of a recording. If that is wanted, it is brought to samples of 16 or of 20 bits first, and cut to whole traces.
 pub fn take(bytes: &[u8], wanted: &Wanted) -> Result<Taken, String> {
-    let mut notes = Vec::new();
-    let converted = if wanted.convert { convert::to_plain(bytes)? } else { None };
-    let plain = converted.as_ref().map_or(bytes, |made| {
-        notes.push(made.note.clone());
-        &made.bytes
-    });
-    let cut = if wanted.cut { cut(plain, wanted.n) } else { None };
-    let whole = cut.as_ref().map_or(plain, |(whole, note)| {
+    match if wanted.convert { convert::made(bytes, wanted.bits)? } else { None } {
+        None => plainly(bytes, wanted, Vec::new()),
+        Some(Made { samples: Samples::Plain(bytes), note }) => plainly(&bytes, wanted, vec![note]),
+        Some(Made { samples: Samples::Wide(rate, samples), note }) => widely(rate, &samples, wanted, vec![note]),
+    }
+}
+
+/// The traces of a recording of the plain form.
+fn plainly(bytes: &[u8], wanted: &Wanted, mut notes: Vec<String>) -> Result<Taken, String> {
+    let cut = if wanted.cut { cut(bytes, wanted.n) } else { None };
+    let whole = cut.as_ref().map_or(bytes, |(whole, note)| {
         notes.push(note.clone());
         whole
     });
     let traces = import(whole, wanted.n)?;
-    Ok(Taken { traces, rate: field(whole, 24, 4) as u32, notes })
+    Ok(Taken { traces, rate: field(whole, 24, 4) as u32, wide: false, notes })
+}
+
+/// Samples of 20 bits, which no recording of the plain form holds, as traces.
+fn widely(rate: u32, samples: &[i32], wanted: &Wanted, mut notes: Vec<String>) -> Result<Taken, String> {
+    let (n, all) = (wanted.n.max(1), samples.len());
+    let left = all % n;
+    match left {
+        0 => (),
+        left if wanted.cut && left < all => notes.push(cut_note(all - left, left, n)),
+        _ => return Err(format!("no recording that can be taken: {}", no_whole_traces(all, n))),
+    }
+    let traces: Vec<Vec<i32>> = samples.chunks_exact(n).map(<[i32]>::to_vec).collect();
+    match traces.len() > MOST_TRACES {
+        true => Err(too_many(n)),
+        false => Ok(Taken { traces, rate, wide: true, notes }),
+    }
 }
 
 /// The traces of n samples that a recording holds, by a library of their own.
-fn import(bytes: &[u8], n: usize) -> Result<Vec<Vec<i16>>, String> {
+fn import(bytes: &[u8], n: usize) -> Result<Vec<Vec<i32>>, String> {
     let room = (bytes.len() / 2 / n.max(1)).clamp(1, MOST_TRACES);
     let mut library = TraceLibrary::open(n, room, 64).map_err(|why| why.to_string())?;
     match library.import_recording(bytes) {
-        Ok(_) => Ok(library.traces().map(<[i16]>::to_vec).collect()),
-        Err(Refusal::Full) => {
-            let samples = numbers::count(n, "sample");
-            Err(format!("holds more than {MOST_TRACES} traces of {samples}, which no library does. Cut it."))
-        }
+        Ok(_) => Ok(library.traces().map(StoredSample::values).collect()),
+        Err(Refusal::Full) => Err(too_many(n)),
         Err(why) => Err(format!("refused {}, no recording that can be taken: {}", why.number(), in_words(bytes, n))),
     }
+}
+
+fn too_many(n: usize) -> String {
+    format!("holds more than {MOST_TRACES} traces of {}, which no library does. Cut it.", numbers::count(n, "sample"))
 }
 
 /// A recording of these samples under the plain header.
@@ -78,9 +102,11 @@ fn cut(bytes: &[u8], n: usize) -> Option<(Vec<u8>, String)> {
         return None;
     }
     let kept = samples - left;
-    let traces = numbers::count(kept / n, "trace");
-    let note = format!("cut into {traces}; {} at its end left out.", numbers::count(left, "sample"));
-    Some((plain(field(bytes, 24, 4) as u32, &data[..2 * kept]), note))
+    Some((plain(field(bytes, 24, 4) as u32, &data[..2 * kept]), cut_note(kept, left, n)))
+}
+
+fn cut_note(kept: usize, left: usize, n: usize) -> String {
+    format!("cut into {}; {} at its end left out.", numbers::count(kept / n, "trace"), numbers::count(left, "sample"))
 }
 
 /// One stored trace as a recording. A rate that is out of range is refused by the call, one that is far out as the greatest.
@@ -95,8 +121,8 @@ pub fn field(bytes: &[u8], at: usize, size: usize) -> u64 {
 
 /// A hint, where it can be followed.
 fn or_convert(bytes: &[u8]) -> &'static str {
-    match convert::to_plain(bytes) {
-        Ok(_) => "; `--convert` brings it to that form",
+    match convert::made(bytes, 20) {
+        Ok(_) => "; `--convert` brings it to what can be taken",
         Err(_) => "",
     }
 }
@@ -141,11 +167,17 @@ fn in_sizes(said: u64, there: u64, n: u64) -> String {
         format!("its header says {said} bytes of data, and there are {there}. {UNSET}")
     } else if said != there {
         format!("its header says {said} bytes of data, and there are {there}. It was cut off, or something stands behind: save it again.")
-    } else if said.is_multiple_of(2) && samples < n {
-        format!("it has {}, and a trace has {n}. It is too short: record it again.", numbers::count(samples as usize, "sample"))
     } else if said.is_multiple_of(2) && !samples.is_multiple_of(n) {
-        format!("it has {samples} samples, which is no multiple of {n}. `--cut` takes its whole traces, and leaves out the rest.")
+        no_whole_traces(samples as usize, n as usize)
     } else {
         "a number of its header does not fit the others (sizes, rates, block align). Save it again as 16-bit PCM, mono.".to_string()
+    }
+}
+
+/// So many samples are no whole traces.
+fn no_whole_traces(samples: usize, n: usize) -> String {
+    match samples < n {
+        true => format!("it has {}, and a trace has {n}. It is too short: record it again.", numbers::count(samples, "sample")),
+        false => format!("it has {samples} samples, which is no multiple of {n}. `--cut` takes its whole traces, and leaves out the rest."),
     }
 }

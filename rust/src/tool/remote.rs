@@ -11,7 +11,7 @@ use silkendoz::RemoteMatch;
 pub fn run(a: &Arguments) -> Answer {
     let (library, files) = a.one_and_more("LIBRARY", "a FILE with a sweep")?;
     let shelf = Shelf::load(library)?;
-    let read = reading::all(&files, &Wanted::of(a, shelf.library.n()))?;
+    let read = reading::all(&files, &Wanted::by(a, &shelf.library)?)?;
     let told = read.sweeps.iter().map(|sweep| Ok((sweep, told(&shelf, sweep)?))).collect::<Result<Vec<_>, Failure>>()?;
     done(match a.has("--json") {
         true => in_json(&told),

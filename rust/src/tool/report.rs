@@ -25,7 +25,7 @@ pub fn run(a: &Arguments) -> Answer {
     let shelf = Shelf::load(library)?;
     let [sheet, names, codes] = shelf.files()?;
     let output = Output::of(&out, a.has("--force"), &[&sheet, &names, &codes, file])?;
-    let read = reading::one(file, &Wanted::of(a, shelf.library.n()))?;
+    let read = reading::one(file, &Wanted::by(a, &shelf.library)?)?;
     let (sweep, which) = chosen(a, file, &read.sweeps)?;
     let faults = Faults::of(&shelf)?;
     let found = Match::of(&shelf, &faults, sweep, LOOKED_AT)?;

@@ -1,12 +1,12 @@
 //! `salvage`: a library of the traces whose samples stand in sound blocks of a torn sheet, with their names, and their labels if these do.
 
 use super::arguments::Arguments;
-use super::blocks::{self, BLOCK, LABELS, OF_LABELS, SAMPLES};
+use super::blocks::{self, Width, BLOCK, LABELS, OF_LABELS};
 use super::files::{Output, Place};
 use super::names::{self, Lines, Names};
 use super::shelf::{Held, Shelf};
 use super::{build, files, numbers, plain, reading, refused, saved, words, written, wrong, Answer, Failure};
-use silkendoz::{Label, TraceLibrary};
+use silkendoz::{Label, TraceLibrary, SAMPLES};
 use std::path::Path;
 
 pub fn run(a: &Arguments) -> Answer {
@@ -60,6 +60,7 @@ fn samples_said(a: &Arguments) -> Result<Option<usize>, Failure> {
 /// A sheet of which some blocks are sound.
 struct Torn {
     bytes: Vec<u8>,
+    width: Width,
     sound: Vec<bool>,
     n: usize,
     capacity: usize,
@@ -73,6 +74,7 @@ impl Torn {
     fn of(path: &Path, said: Option<usize>) -> Result<Torn, Failure> {
         let bytes = files::read(path)?;
         let shown = plain::path(path);
+        let width = Width::of(&bytes);
         let mut sound = vec![true; blocks::whole(&bytes)];
         for block in blocks::torn(&bytes) {
             sound[block] = false;
@@ -87,15 +89,15 @@ impl Torn {
                 if said.is_some_and(|said| said != n) {
                     return refused(format!("{shown}: block 0 is sound, and says {n} samples a trace. Leave out `--samples`."));
                 }
-                let first = 1 + (n * count).div_ceil(SAMPLES);
+                let first = 1 + (n * count).div_ceil(width.samples());
                 let labels = Some(first).filter(|first| *first < sound.len());
-                Ok(Torn { bytes, sound, n, capacity, leaf_size, count: count.min(capacity), labels })
+                Ok(Torn { bytes, width, sound, n, capacity, leaf_size, count: count.min(capacity), labels })
             }
             (false, Some(n)) => {
                 // labels stand behind all samples
                 let labels = (1..sound.len()).find(|&block| sound[block] && bytes[BLOCK * block + 2] == OF_LABELS);
-                let count = ((labels.unwrap_or(sound.len()) - 1) * SAMPLES / n).min(reading::MOST_TRACES);
-                Ok(Torn { bytes, sound, n, capacity: build::room_for(count), leaf_size: build::LEAF_SIZE, count, labels })
+                let count = ((labels.unwrap_or(sound.len()) - 1) * width.samples() / n).min(reading::MOST_TRACES);
+                Ok(Torn { bytes, width, sound, n, capacity: build::room_for(count), leaf_size: build::LEAF_SIZE, count, labels })
             }
             (false, None) => refused(format!(
                 "{shown}: block 0, which says how long a trace is, is torn. If you know it, say `--samples N`; traces of zeros may come at the end."
@@ -103,12 +105,12 @@ impl Torn {
         }
     }
 
-    /// The samples of a trace, if all of its blocks are sound.
-    fn trace(&self, number: usize) -> Option<Vec<i16>> {
+    /// The samples of a trace, if all of its blocks are sound. One that is none was never written by these calls: the trace is lost.
+    fn trace(&self, number: usize) -> Option<Vec<i32>> {
         let sample = |at: usize| {
-            let block = 1 + at / SAMPLES;
-            let place = BLOCK * block + 4 + 2 * (at % SAMPLES);
-            self.sound.get(block).copied().unwrap_or(false).then(|| i16::from_le_bytes([self.bytes[place], self.bytes[place + 1]]))
+            let place = self.width.place(at);
+            let sound = self.sound.get(place / BLOCK).copied().unwrap_or(false);
+            sound.then(|| self.width.sample(&self.bytes[place..])).filter(|sample| SAMPLES.contains(sample))
         };
         (number * self.n..(number + 1) * self.n).map(sample).collect()
     }

@@ -8,7 +8,7 @@ use super::plain;
 use super::progress::Progress;
 use super::reading::{is_sheet, Sweep};
 use super::{disk, hash, recordings, refused, words, Failure};
-use silkendoz::{Label, Refusal, TraceLibrary};
+use silkendoz::{Label, Refusal, StoredSample, TraceLibrary};
 use std::os::unix::fs::MetadataExt;
 use std::path::{Path, PathBuf};
 
@@ -61,9 +61,9 @@ impl Shelf {
         Ok([self.path.clone(), names::beside(real.real()), labels::codes_beside(real.real())])
     }
 
-    /// A stored trace; there is one for each number below the library's length.
-    pub fn trace(&self, number: usize) -> &[i16] {
-        self.library.trace(number).unwrap_or_default()
+    /// The samples of a stored trace; there is one for each number below the library's length.
+    pub fn trace(&self, number: usize) -> Vec<i32> {
+        StoredSample::values(self.library.trace(number).unwrap_or_default())
     }
 
     /// The label of a stored trace; there is one for each number below the library's length.

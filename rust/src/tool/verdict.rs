@@ -6,7 +6,7 @@ use super::numbers::{how_far, per_sample, times_as_far};
 use super::reading::Sweep;
 use super::shelf::Shelf;
 use super::{json, numbers, plain, refused, words, Failure};
-use silkendoz::{Neighbour, Refusal, TraceLibrary};
+use silkendoz::{Neighbour, Refusal, StoredSample, TraceLibrary, SAMPLES};
 use std::collections::BTreeMap;
 
 /// Large leaves, since each trace is looked up once alone.
@@ -50,7 +50,7 @@ pub struct Faults {
 impl Faults {
     pub fn of(shelf: &Shelf) -> Result<Faults, Failure> {
         let names: Vec<String> = (0..shelf.library.len()).map(|t| fault_in(shelf, t)).collect();
-        let mut groups: BTreeMap<&str, Vec<&[i16]>> = BTreeMap::new();
+        let mut groups: BTreeMap<&str, Vec<Vec<i32>>> = BTreeMap::new();
         for (t, name) in names.iter().enumerate() {
             groups.entry(name).or_default().push(shelf.trace(t));
         }
@@ -76,12 +76,12 @@ impl Faults {
 }
 
 /// The distance of each trace to the nearest other one: in a library of them all, the second of its two nearest.
-fn to_own(group: &[&[i16]]) -> Result<Vec<u64>, Refusal> {
-    let mut library = TraceLibrary::open(group.first().map_or(0, |trace| trace.len()), group.len(), OWN_LEAF_SIZE)?;
+fn to_own(group: &[Vec<i32>]) -> Result<Vec<u64>, Refusal> {
+    let mut library = TraceLibrary::open(group.first().map_or(0, Vec::len), group.len(), OWN_LEAF_SIZE)?;
     for trace in group {
         library.add(trace)?;
     }
-    let second = |trace: &&[i16]| library.k_nearest(trace, 2).map(|found| found.list.last().map_or(0, |near| near.distance));
+    let second = |trace: &Vec<i32>| library.k_nearest(trace, 2).map(|found| found.list.last().map_or(0, |near| near.distance));
     group.iter().map(second).collect()
 }
 
@@ -105,9 +105,14 @@ pub fn by_fault(faults: &Faults, list: &[Neighbour]) -> Vec<ByFault> {
     groups
 }
 
-/// The samples at the limit of 16 bits, counted from 0: there the current may have been larger.
-pub fn clipped(samples: &[i16]) -> Vec<usize> {
-    (0..samples.len()).filter(|&at| [i16::MIN, i16::MAX].contains(&samples[at])).collect()
+/// The samples at the converter's limit, counted from 0: there the current may have been larger. It is that of 16 bits, or that of 20, if any
+/// sample is beyond 16.
+pub fn clipped(samples: &[i32]) -> Vec<usize> {
+    let limits = match numbers::bits_of(samples) {
+        16 => [i16::MIN.into(), i16::MAX.into()],
+        _ => [*SAMPLES.start(), *SAMPLES.end()],
+    };
+    (0..samples.len()).filter(|&at| limits.contains(&samples[at])).collect()
 }
 
 #[derive(Clone, Copy, Debug, PartialEq, Eq)]
@@ -163,8 +168,8 @@ struct Between {
 
 impl Between {
     /// Nothing if the two are the same.
-    fn of(sweep: &[i16], from: &[i16], to: &[i16]) -> Option<Between> {
-        let less = |a: &[i16], b: &[i16]| a.iter().zip(b).map(|(&a, &b)| f64::from(a) - f64::from(b)).collect::<Vec<f64>>();
+    fn of(sweep: &[i32], from: &[i32], to: &[i32]) -> Option<Between> {
+        let less = |a: &[i32], b: &[i32]| a.iter().zip(b).map(|(&a, &b)| f64::from(a) - f64::from(b)).collect::<Vec<f64>>();
         let product = |a: &[f64], b: &[f64]| a.iter().zip(b).map(|(a, b)| a * b).sum::<f64>();
         let (way, gone) = (less(to, from), less(sweep, from));
         let length = product(&way, &way);
@@ -179,7 +184,7 @@ impl Between {
 
 impl Verdict {
     /// Of the nearest traces of a sweep, which are so many as were looked for, or all.
-    pub fn of(faults: &Faults, library: &TraceLibrary, sweep: &[i16], list: &[Neighbour]) -> Option<Verdict> {
+    pub fn of(faults: &Faults, library: &TraceLibrary, sweep: &[i32], list: &[Neighbour]) -> Option<Verdict> {
         let nearest = *list.first()?;
         let other = match faults.other(list) {
             Some(near) => Other::Found(*near, faults.name(near.trace).to_string()),
@@ -188,7 +193,10 @@ impl Verdict {
             None => Other::NotAmong(list.len()),
         };
         let between = match &other {
-            Other::Found(near, _) => Between::of(sweep, library.trace(nearest.trace)?, library.trace(near.trace)?),
+            Other::Found(near, _) => {
+                let [from, to] = [nearest.trace, near.trace].map(|trace| library.trace(trace).map(StoredSample::values));
+                Between::of(sweep, &from?, &to?)
+            }
             _ => None,
         };
         let word = judged(nearest.distance, &other, between, faults.apart);
@@ -362,8 +370,8 @@ mod tests {
 
     #[test]
     fn nearest_of_their_own() {
-        assert_eq!(to_own(&[&[0, 0], &[3, 4], &[3, 5], &[100, 0]]), Ok(vec![25, 1, 1, 97 * 97 + 16]));
-        assert_eq!(to_own(&[&[7], &[7], &[9]]), Ok(vec![0, 0, 4]));
+        assert_eq!(to_own(&[vec![0, 0], vec![3, 4], vec![3, 5], vec![100, 0]]), Ok(vec![25, 1, 1, 97 * 97 + 16]));
+        assert_eq!(to_own(&[vec![7], vec![7], vec![9]]), Ok(vec![0, 0, 4]));
     }
 
     #[test]
@@ -401,5 +409,7 @@ mod tests {
     #[test]
     fn limits_of_the_converter() {
         assert_eq!(clipped(&[0, 32_767, -32_768, 32_766, -32_767]), [1, 2]);
+        assert_eq!(clipped(&[0, 32_767, 524_287, 524_286, -524_288, -524_287]), [2, 4]);
+        assert_eq!(clipped(&[32_768, 32_767, -32_768]), [0; 0]);
     }
 }

@@ -1,8 +1,9 @@
 //! What a refusal means and what to do about it, in words. Which refusal it is, the proved calls have said; here bytes are looked at only
 //! to say it to people.
 
-use super::blocks::{BLOCK, LABELS, MOST, OF_LABELS, SAMPLES};
-use silkendoz::{Refusal, TraceLibrary};
+use super::blocks::{Width, BLOCK, LABELS, MOST, OF_LABELS};
+use super::numbers;
+use silkendoz::{Refusal, TraceLibrary, SAMPLES};
 
 /// A refusal of a call, and what to do.
 pub fn of_call(why: Refusal) -> String {
@@ -11,6 +12,7 @@ pub fn of_call(why: Refusal) -> String {
         Refusal::Full => "there is room for no more traces",
         Refusal::Empty => "the library holds no trace: add one first",
         Refusal::BadK => "a search lists 1 to 16 traces",
+        Refusal::SampleRange => "samples are -524288 to 524287: scale the recording first",
         _ => return format!("refused {}, {why}.", why.number()),
     };
     format!("refused {}, {}: {what}.", why.number(), why.word())
@@ -22,6 +24,7 @@ pub fn of_sheet(bytes: &[u8], why: Refusal) -> String {
         Refusal::SheetLength => length(bytes.len()),
         Refusal::TornBlock(block) => format!("block {block} first: {}.", torn(bytes, block as usize)),
         Refusal::BadSheet => bad(bytes),
+        Refusal::SampleRange => outside(bytes),
         _ => return of_call(why),
     };
     format!("refused {}, {}: {what}", why.number(), why.word())
@@ -51,18 +54,31 @@ pub fn said_number(bytes: &[u8], block: usize) -> usize {
     field(bytes, BLOCK * block)
 }
 
+/// Whether a block was erased, or never written.
+pub fn is_erased(bytes: &[u8], block: usize) -> bool {
+    all_alike(&bytes[BLOCK * block..][..BLOCK])
+}
+
+fn all_alike(block: &[u8]) -> bool {
+    block.iter().all(|byte| *byte == block[0])
+}
+
 /// What is wrong with a torn block, as far as it shows.
 pub fn torn(bytes: &[u8], block: usize) -> String {
+    let width = Width::of(bytes);
     let before = block.checked_sub(1).map(|before| bytes[BLOCK * before + 2]);
     let bytes = &bytes[BLOCK * block..][..BLOCK];
-    let (kinds, fits) = if block == 0 { ("1", bytes[2] == 1) } else { ("2 or 5", [2, OF_LABELS].contains(&bytes[2])) };
-    if let Some(&first) = bytes.first().filter(|first| bytes.iter().all(|byte| byte == *first)) {
-        format!("every byte is {first}: it was never written, or was erased")
+    let kinds = if block == 0 { [Width::Narrow, Width::Wide].map(|width| width.kinds()[0]) } else { [width.kinds()[1], OF_LABELS] };
+    if all_alike(bytes) {
+        format!("every byte is {}: it was never written, or was erased", bytes[0])
     } else if field(bytes, 0) != block {
         format!("it says that it is block {}: it stands in the wrong place, or changed", field(bytes, 0))
-    } else if !fits {
-        format!("its kind is {}, and has to be {kinds}", bytes[2])
-    } else if bytes[2] == 2 && before == Some(OF_LABELS) {
+    } else if block > 0 && Width::kinds_of_samples().contains(&bytes[2]) && !kinds.contains(&bytes[2]) {
+        let [own, sheet] = if width == Width::Wide { ["two", "four"] } else { ["four", "two"] };
+        format!("it holds samples of {own} bytes, and the sheet's have {sheet}: files were mixed, or its kind changed")
+    } else if !kinds.contains(&bytes[2]) {
+        format!("its kind is {}, and has to be {} or {}", bytes[2], kinds[0], kinds[1])
+    } else if bytes[2] != OF_LABELS && before == Some(OF_LABELS) {
         "it holds samples behind labels, or its check does not fit".to_string()
     } else {
         "its check does not fit: something in it changed".to_string()
@@ -78,13 +94,13 @@ pub struct Held {
 }
 
 pub fn held_in(bytes: &[u8], block: usize) -> Option<Held> {
-    let (n, count) = (field(bytes, 8), field(bytes, 14));
-    let first = block.checked_sub(1)? * SAMPLES;
-    let end = (block * SAMPLES).min(n * count);
+    let (n, count, a_block) = (field(bytes, 8), field(bytes, 14), Width::of(bytes).samples());
+    let first = block.checked_sub(1)? * a_block;
+    let end = (block * a_block).min(n * count);
     if first < end {
         return Some(Held { what: "samples", first: first / n, last: (end - 1) / n });
     }
-    let first = LABELS * block.checked_sub(1 + (n * count).div_ceil(SAMPLES))?;
+    let first = LABELS * block.checked_sub(1 + (n * count).div_ceil(a_block))?;
     let end = (first + LABELS).min(count);
     (first < end).then(|| Held { what: "labels", first, last: end - 1 })
 }
@@ -92,7 +108,8 @@ pub fn held_in(bytes: &[u8], block: usize) -> Option<Held> {
 /// What is wrong with a sheet whose blocks are all sound.
 fn bad(bytes: &[u8]) -> String {
     let [n, capacity, leaf_size, count] = measures(bytes);
-    let needed = 1 + (n * count).div_ceil(SAMPLES);
+    let width = Width::of(bytes);
+    let needed = 1 + (n * count).div_ceil(width.samples());
     let labels = bytes.chunks(BLOCK).filter(|block| block[2] == OF_LABELS).count();
     let blocks = bytes.len() / BLOCK - labels;
     let what = if &bytes[4..8] != b"TRCL" {
@@ -111,20 +128,38 @@ fn bad(bytes: &[u8]) -> String {
         format!("it has {blocks} blocks{beside}, and {count} traces of {n} samples take {needed}: {which}")
     } else if labels > 0 && labels != count.div_ceil(LABELS) {
         format!("the number of its blocks of labels is {labels}, and {count} traces take {}, or none", count.div_ceil(LABELS))
-    } else if let Some(at) = stray(bytes, n * count, count) {
+    } else if let Some(at) = stray(bytes, width, n * count, count) {
         format!("a byte that has to be 0 is not: byte {} of block {}", at % BLOCK, at / BLOCK)
+    } else if width == Width::Wide && numbers::bits_of(&samples(bytes, width, n * count)) == 16 {
+        "it is a wide sheet, of four bytes a sample, and all its samples fit two".to_string()
     } else {
         "all its labels are zero, and then it has no block of them".to_string()
     };
-    format!("every block is sound, but {what}. Another program wrote it, or files were cut or joined: read the other copy.")
+    format!("every block is sound, but {what}. {OTHER}")
+}
+
+const OTHER: &str = "Another program wrote it, or files were cut or joined: read the other copy.";
+
+/// All samples of a sheet whose blocks are as many as they have to be.
+fn samples(bytes: &[u8], width: Width, many: usize) -> Vec<i32> {
+    (0..many).map(|sample| width.sample(&bytes[width.place(sample)..])).collect()
+}
+
+/// Which sample of a sheet is outside the limits, first.
+fn outside(bytes: &[u8]) -> String {
+    let ([n, _, _, count], width) = (measures(bytes), Width::of(bytes));
+    let all = samples(bytes, width, n * count);
+    let first = all.iter().position(|sample| !SAMPLES.contains(sample));
+    let which = first.map_or(String::new(), |at| format!("sample {} of trace {} is {}, and ", at % n + 1, at / n, all[at]));
+    format!("every block is sound, but {which}samples are {} to {}. {OTHER}", SAMPLES.start(), SAMPLES.end())
 }
 
 /// The first byte that has to be 0 and is not.
-fn stray(bytes: &[u8], samples: usize, count: usize) -> Option<usize> {
-    let of_samples = samples.div_ceil(SAMPLES);
+fn stray(bytes: &[u8], width: Width, samples: usize, count: usize) -> Option<usize> {
+    let of_samples = samples.div_ceil(width.samples());
     let used = |block: usize| match block {
         0 => 16,
-        _ if block <= of_samples => 4 + 2 * (samples - SAMPLES * (block - 1)).min(SAMPLES),
+        _ if block <= of_samples => 4 + width.bytes() * (samples - width.samples() * (block - 1)).min(width.samples()),
         _ => 4 + 6 * (count - LABELS * (block - 1 - of_samples)).min(LABELS),
     };
     let must_be_zero = |at: usize| at % BLOCK == 3 || (at % BLOCK < 510 && at % BLOCK >= used(at / BLOCK));

@@ -5,11 +5,12 @@ use crate::model::tables::{judge_opening, judge_reading, needs, Lengths, Tables}
 use crate::model::{recording, sheet, Label, Library, Measures, Refused};
 use silkendoz::calls::Answer;
 
-/// Lays the needed parts of a library's tables over these, but for search work.
-fn lay(t: &mut Tables, library: &Library) {
-    let laid = Tables::of(library);
+/// Lays the needed parts of a library's tables over these, but for search work; so many of its traces were there before, and the words of
+/// these stay, since their lower bits are nobody's.
+fn lay(t: &mut Tables, library: &Library, stored: usize) {
+    let (laid, kept) = (Tables::of(library), stored * library.measures.n as usize);
     t.control[..laid.control.len()].copy_from_slice(&laid.control);
-    t.samples[..laid.samples.len()].copy_from_slice(&laid.samples);
+    t.samples[kept..laid.samples.len()].copy_from_slice(&laid.samples[kept..]);
     t.nodes[..laid.nodes.len()].copy_from_slice(&laid.nodes);
     t.links[..laid.links.len()].copy_from_slice(&laid.links);
     t.labels[..laid.labels.len()].copy_from_slice(&laid.labels);
@@ -26,19 +27,19 @@ fn fill_trail(trail: &mut [u16], leaves: &[usize]) {
 
 pub fn open(t: &mut Tables, l: Lengths, m: Measures) -> Result<(), Refused> {
     let empty = judge_opening(l, m)?;
-    lay(t, &empty);
+    lay(t, &empty, 0);
     clear_work(t, m);
     Ok(())
 }
 
-pub fn add(t: &mut Tables, l: Lengths, trace: &[i16]) -> Result<u64, Refused> {
+pub fn add(t: &mut Tables, l: Lengths, trace: &[i32]) -> Result<u64, Refused> {
     add_labelled(t, l, trace, Label::default())
 }
 
-pub fn add_labelled(t: &mut Tables, l: Lengths, trace: &[i16], label: Label) -> Result<u64, Refused> {
+pub fn add_labelled(t: &mut Tables, l: Lengths, trace: &[i32], label: Label) -> Result<u64, Refused> {
     let mut library = t.first(l).judge_adding(trace)?;
     let number = library.add_labelled(trace, label);
-    lay(t, &library);
+    lay(t, &library, number);
     Ok(number as u64)
 }
 
@@ -46,11 +47,11 @@ pub fn label(t: &Tables, l: Lengths, number: u64) -> Result<Label, Refused> {
     t.first(l).judge_label(number).map(|library| library.labels[number as usize])
 }
 
-pub fn nearest(t: &mut Tables, l: Lengths, trail: &mut [u16], query: &[i16]) -> Result<[u64; 4], Refused> {
+pub fn nearest(t: &mut Tables, l: Lengths, trail: &mut [u16], query: &[i32]) -> Result<[u64; 4], Refused> {
     remote_match(t, l, trail, query).map(|[trace, distance, leaves, traces, _]| [trace, distance, leaves, traces])
 }
 
-pub fn remote_match(t: &mut Tables, l: Lengths, trail: &mut [u16], query: &[i16]) -> Result<[u64; 5], Refused> {
+pub fn remote_match(t: &mut Tables, l: Lengths, trail: &mut [u16], query: &[i32]) -> Result<[u64; 5], Refused> {
     let library = t.first(l).judge_match(query, trail.len())?;
     let (found, code) = library.remote_match(query).expect("a trace is stored");
     clear_work(t, library.measures);
@@ -58,7 +59,7 @@ pub fn remote_match(t: &mut Tables, l: Lengths, trail: &mut [u16], query: &[i16]
     Ok([found.trace as u64, found.distance as u64, found.leaves as u64, found.traces as u64, code.into()])
 }
 
-pub fn k_nearest(t: &mut Tables, l: Lengths, trail: &mut [u16], list: &mut [u64], query: &[i16], k: u64) -> Result<[u64; 3], Refused> {
+pub fn k_nearest(t: &mut Tables, l: Lengths, trail: &mut [u16], list: &mut [u64], query: &[i32], k: u64) -> Result<[u64; 3], Refused> {
     let library = t.first(l).judge_k_nearest(query, k, trail.len(), list.len())?;
     let found = library.k_nearest(query, k as usize);
     clear_work(t, library.measures);
@@ -78,17 +79,18 @@ pub fn write_sheet(t: &Tables, l: Lengths, sheet: &mut [u8]) -> Result<u64, Refu
 
 pub fn read_sheet(t: &mut Tables, l: Lengths, sheet: &[u8]) -> Result<(), Refused> {
     let library = judge_reading(l, sheet)?;
-    lay(t, &library);
+    lay(t, &library, 0);
     clear_work(t, library.measures);
     Ok(())
 }
 
 pub fn import_recording(t: &mut Tables, l: Lengths, bytes: &[u8]) -> Result<u64, Refused> {
     let (mut library, traces) = t.first(l).judge_import(bytes)?;
+    let stored = library.traces.len();
     for trace in &traces {
         library.add(trace);
     }
-    lay(t, &library);
+    lay(t, &library, stored);
     Ok(traces.len() as u64)
 }
 
@@ -103,9 +105,9 @@ pub fn check_tables(t: &Tables, l: Lengths) -> Result<(), Refused> {
     t.first(l).judge_check().map(|_| ())
 }
 
-pub fn match_batch(t: &mut Tables, l: Lengths, trail: &mut [u16], queries: &[i16], many: usize, answers: &mut [Answer]) -> Result<u64, Refused> {
-    let library = t.first(l).judge_batch(queries.len(), many, trail.len(), answers.len())?;
-    let queries: Vec<&[i16]> = queries.chunks(library.measures.n as usize).collect();
+pub fn match_batch(t: &mut Tables, l: Lengths, trail: &mut [u16], queries: &[i32], many: usize, answers: &mut [Answer]) -> Result<u64, Refused> {
+    let library = t.first(l).judge_batch(queries, many, trail.len(), answers.len())?;
+    let queries: Vec<&[i32]> = queries.chunks(library.measures.n as usize).collect();
     let found = library.batch(&queries).expect("a trace is stored");
     clear_work(t, library.measures);
     fill_trail(trail, &found.trail);

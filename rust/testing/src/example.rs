@@ -63,7 +63,7 @@ fn trace((_, shape): Fault, (gain, offset): Machine, seed: usize) -> Trace {
         .map(|i| {
             let x = i as f64 / (MEASURES.n - 1) as f64;
             let current = (sound(x) + shape(x)) * gain + offset + noise(seed * 1000 + i);
-            current.round() as i16
+            current.round() as i32
         })
         .collect()
 }

@@ -3,7 +3,7 @@
 use crate::model::tables::{Lengths, Tables};
 use crate::model::{Label, Measures, Refused};
 use silkendoz::calls::{self, Answer, Found, Lent, Listed, RemoteFound};
-use silkendoz::Refusal;
+use silkendoz::{Refusal, StoredSample};
 
 /// Number and place.
 fn told<T>(answer: Result<T, Refusal>) -> Result<T, Refused> {
@@ -12,19 +12,22 @@ fn told<T>(answer: Result<T, Refusal>) -> Result<T, Refused> {
 
 /// Lent to be written.
 fn lent(t: &mut Tables, l: Lengths) -> Lent<'_> {
-    let (control, samples, nodes) = (&mut t.control[..l.control], &mut t.samples[..l.samples], &mut t.nodes[..l.nodes]);
+    let samples = StoredSample::of_words_mut(&mut t.samples[..l.samples]);
+    let (control, nodes) = (&mut t.control[..l.control], &mut t.nodes[..l.nodes]);
     Lent::new(control, samples, nodes, &mut t.links[..l.links], &mut t.work[..l.work]).with_labels(&mut t.labels[..l.labels])
 }
 
 /// Lent to be read, and search work that may be written.
 fn searched(t: &mut Tables, l: Lengths) -> (silkendoz::Tables<'_>, &mut [u64]) {
-    let tables = silkendoz::Tables::new(&t.control[..l.control], &t.samples[..l.samples], &t.nodes[..l.nodes], &t.links[..l.links]);
+    let samples = StoredSample::of_words(&t.samples[..l.samples]);
+    let tables = silkendoz::Tables::new(&t.control[..l.control], samples, &t.nodes[..l.nodes], &t.links[..l.links]);
     (tables.with_labels(&t.labels[..l.labels]), &mut t.work[..l.work])
 }
 
 /// Lent to be read.
 fn read(t: &Tables, l: Lengths) -> (silkendoz::Tables<'_>, &[u64]) {
-    let tables = silkendoz::Tables::new(&t.control[..l.control], &t.samples[..l.samples], &t.nodes[..l.nodes], &t.links[..l.links]);
+    let samples = StoredSample::of_words(&t.samples[..l.samples]);
+    let tables = silkendoz::Tables::new(&t.control[..l.control], samples, &t.nodes[..l.nodes], &t.links[..l.links]);
     (tables.with_labels(&t.labels[..l.labels]), &t.work[..l.work])
 }
 
@@ -32,11 +35,11 @@ pub fn open(t: &mut Tables, l: Lengths, m: Measures) -> Result<(), Refused> {
     told(calls::open(lent(t, l), m.n, m.capacity, m.leaf_size))
 }
 
-pub fn add(t: &mut Tables, l: Lengths, trace: &[i16]) -> Result<u64, Refused> {
+pub fn add(t: &mut Tables, l: Lengths, trace: &[i32]) -> Result<u64, Refused> {
     told(calls::add(lent(t, l), trace))
 }
 
-pub fn add_labelled(t: &mut Tables, l: Lengths, trace: &[i16], label: Label) -> Result<u64, Refused> {
+pub fn add_labelled(t: &mut Tables, l: Lengths, trace: &[i32], label: Label) -> Result<u64, Refused> {
     told(calls::add_labelled(lent(t, l), trace, silkendoz::Label { code: label.code, serial: label.serial }))
 }
 
@@ -45,17 +48,17 @@ pub fn label(t: &Tables, l: Lengths, number: u64) -> Result<Label, Refused> {
     told(calls::label(t, work, number)).map(|label| Label { code: label.code, serial: label.serial })
 }
 
-pub fn remote_match(t: &mut Tables, l: Lengths, trail: &mut [u16], query: &[i16]) -> Result<RemoteFound, Refused> {
+pub fn remote_match(t: &mut Tables, l: Lengths, trail: &mut [u16], query: &[i32]) -> Result<RemoteFound, Refused> {
     let (t, work) = searched(t, l);
     told(calls::remote_match(t, work, trail, query))
 }
 
-pub fn nearest(t: &mut Tables, l: Lengths, trail: &mut [u16], query: &[i16]) -> Result<Found, Refused> {
+pub fn nearest(t: &mut Tables, l: Lengths, trail: &mut [u16], query: &[i32]) -> Result<Found, Refused> {
     let (t, work) = searched(t, l);
     told(calls::nearest(t, work, trail, query))
 }
 
-pub fn k_nearest(t: &mut Tables, l: Lengths, trail: &mut [u16], list: &mut [u64], query: &[i16], k: u64) -> Result<Listed, Refused> {
+pub fn k_nearest(t: &mut Tables, l: Lengths, trail: &mut [u16], list: &mut [u64], query: &[i32], k: u64) -> Result<Listed, Refused> {
     let (t, work) = searched(t, l);
     told(calls::k_nearest(t, work, trail, list, query, k))
 }
@@ -83,7 +86,7 @@ pub fn check_tables(t: &Tables, l: Lengths) -> Result<(), Refused> {
     told(calls::check_tables(t, work))
 }
 
-pub fn match_batch(t: &mut Tables, l: Lengths, trail: &mut [u16], queries: &[i16], many: usize, answers: &mut [Answer]) -> Result<u64, Refused> {
+pub fn match_batch(t: &mut Tables, l: Lengths, trail: &mut [u16], queries: &[i32], many: usize, answers: &mut [Answer]) -> Result<u64, Refused> {
     let (t, work) = searched(t, l);
     told(calls::match_batch(t, work, trail, queries, many, answers))
 }

@@ -2,6 +2,12 @@
 
 use crate::model::{Label, Trace};
 
+/// Samples of 20 bits, and those that fit 16.
+pub const LEAST: i32 = -524_288;
+pub const GREATEST: i32 = 524_287;
+const NARROW_LEAST: i32 = -32_768;
+const NARROW_GREATEST: i32 = 32_767;
+
 /// SplitMix64.
 #[derive(Clone, Debug)]
 pub struct Random(u64);
@@ -40,8 +46,13 @@ impl Random {
     }
 }
 
-fn sample(x: i64) -> i16 {
-    x.clamp(-32_768, 32_767) as i16
+fn sample(x: i64) -> i32 {
+    x.clamp(LEAST.into(), GREATEST.into()) as i32
+}
+
+/// .. that fits 16 bits.
+fn narrow(x: i64) -> i32 {
+    x.clamp(NARROW_LEAST.into(), NARROW_GREATEST.into()) as i32
 }
 
 /// Samples anywhere in these limits, each by itself.
@@ -55,7 +66,7 @@ pub fn walk(random: &mut Random, n: usize, step: i64) -> Trace {
     (0..n)
         .map(|_| {
             at += random.within(-step, step);
-            sample(at)
+            narrow(at)
         })
         .collect()
 }
@@ -68,14 +79,16 @@ pub fn noisy_sine(random: &mut Random, n: usize, noise: i64) -> Trace {
     (0..n)
         .map(|i| {
             let angle = std::f64::consts::TAU * (turns * i as f64 / n as f64 + phase);
-            sample((height * angle.sin()) as i64 + random.within(-noise, noise))
+            narrow((height * angle.sin()) as i64 + random.within(-noise, noise))
         })
         .collect()
 }
 
-/// The trace with each sample moved by up to `by`.
-pub fn near(random: &mut Random, trace: &[i16], by: i64) -> Trace {
-    trace.iter().map(|&x| sample(i64::from(x) + random.within(-by, by))).collect()
+/// The trace with each sample moved by up to `by`; one that fits 16 bits still does.
+pub fn near(random: &mut Random, trace: &[i32], by: i64) -> Trace {
+    let fits = trace.iter().all(|x| (NARROW_LEAST..=NARROW_GREATEST).contains(x));
+    let within = if fits { narrow } else { sample };
+    trace.iter().map(|&x| within(i64::from(x) + random.within(-by, by))).collect()
 }
 
 /// Kinds of libraries that tests go through.
@@ -90,10 +103,30 @@ pub enum Shape {
     Constants,
     Extremes,
     Ties,
+    /// Samples of 20 bits.
+    Wide,
+    WideClusters,
+    WideExtremes,
+    /// Mostly samples that fit 16 bits, and a wide one now and then: a library of few traces may have none.
+    Mixed,
 }
 
-pub const SHAPES: [Shape; 9] =
+/// Those whose samples all fit 16 bits.
+pub const NARROW_SHAPES: [Shape; 9] =
     [Shape::Uniform, Shape::Small, Shape::Walk, Shape::Sine, Shape::Clusters, Shape::Identical, Shape::Constants, Shape::Extremes, Shape::Ties];
+
+pub const WIDE_SHAPES: [Shape; 4] = [Shape::Wide, Shape::WideClusters, Shape::WideExtremes, Shape::Mixed];
+
+/// All of them.
+pub const SHAPES: [Shape; 13] = {
+    let mut all = [Shape::Mixed; 13];
+    let mut at = 0;
+    while at < all.len() {
+        all[at] = if at < NARROW_SHAPES.len() { NARROW_SHAPES[at] } else { WIDE_SHAPES[at - NARROW_SHAPES.len()] };
+        at += 1;
+    }
+    all
+};
 
 /// `count` traces of n samples.
 pub fn traces(random: &mut Random, shape: Shape, n: usize, count: usize) -> Vec<Trace> {
@@ -112,17 +145,39 @@ fn one(random: &mut Random, shape: Shape, n: usize, centres: &[Trace]) -> Trace 
             near(random, &centre, 5)
         }
         Shape::Identical => centres[0].clone(),
-        Shape::Constants => vec![sample(random.within(-3, 3) * 10_000); n],
-        Shape::Extremes => (0..n).map(|_| *random.pick(&[i16::MIN, i16::MAX])).collect(),
+        Shape::Constants => vec![narrow(random.within(-3, 3) * 10_000); n],
+        Shape::Extremes => (0..n).map(|_| *random.pick(&[NARROW_LEAST, NARROW_GREATEST])).collect(),
         // few values, and traces that are each other turned round: many equal sums, scatters and distances
         Shape::Ties => {
-            let mut trace: Trace = (0..n).map(|i| (i % 2) as i16).collect();
+            let mut trace: Trace = (0..n).map(|i| (i % 2) as i32).collect();
             trace.rotate_left(random.below(2) % n);
             let at = random.below(n);
-            trace[at] = random.within(-1, 1) as i16;
+            trace[at] = random.within(-1, 1) as i32;
             trace
         }
+        Shape::Wide => uniform(random, n, LEAST.into(), GREATEST.into()),
+        Shape::WideClusters => {
+            let centre: Trace = random.pick(centres).iter().map(|x| 26 * x).collect();
+            near(random, &centre, 80)
+        }
+        Shape::WideExtremes => (0..n).map(|_| *random.pick(&[LEAST, GREATEST])).collect(),
+        Shape::Mixed => (0..n).map(|_| any(random)).collect(),
     }
+}
+
+/// A sample, mostly one that fits 16 bits; now and then one at an end of 16 bits or of 20, or beside it.
+fn any(random: &mut Random) -> i32 {
+    match random.below(40) {
+        0 => *random.pick(&[LEAST, LEAST + 1, GREATEST - 1, GREATEST, NARROW_LEAST - 1, NARROW_GREATEST + 1]),
+        1 => *random.pick(&[NARROW_LEAST, NARROW_GREATEST]),
+        2 => random.within(LEAST.into(), GREATEST.into()) as i32,
+        _ => random.within(-300, 300) as i32,
+    }
+}
+
+/// A number that is no sample: outside the limits, mostly just outside.
+pub fn no_sample(random: &mut Random) -> i32 {
+    *random.pick(&[LEAST - 1, GREATEST + 1, i32::MIN, i32::MAX, -600_000, 786_432, 1 << 24])
 }
 
 /// A label: none, a code or a serial alone, the greatest, or any.
@@ -160,7 +215,7 @@ pub fn query(random: &mut Random, shape: Shape, n: usize, stored: &[Trace]) -> T
         1 => near(random, &a, 3),
         _ => {
             let b = random.pick(stored);
-            a.iter().zip(b).map(|(&x, &y)| ((i32::from(x) + i32::from(y)) / 2) as i16).collect()
+            a.iter().zip(b).map(|(&x, &y)| (x + y) / 2).collect()
         }
     }
 }

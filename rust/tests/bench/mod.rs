@@ -80,14 +80,14 @@ impl Folder {
 }
 
 /// The example's faults with their names, and the sweep of today.
-pub fn faults() -> (Vec<(String, Vec<i16>)>, Vec<i16>) {
+pub fn faults() -> (Vec<(String, Vec<i32>)>, Vec<i32>) {
     let mut all = example::traces();
     let (_, today) = all.pop().unwrap();
     (all, today)
 }
 
-pub fn joined(trace: &[i16], separator: &str) -> String {
-    trace.iter().map(i16::to_string).collect::<Vec<_>>().join(separator)
+pub fn joined(trace: &[i32], separator: &str) -> String {
+    trace.iter().map(i32::to_string).collect::<Vec<_>>().join(separator)
 }
 
 /// A folder with the faults as CSV, with names, and today's sweep.

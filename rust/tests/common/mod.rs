@@ -4,9 +4,10 @@
 use silkendoz::calls::Answer;
 pub use testing::lending::{add, add_labelled, check_tables, export_recording, import_recording, k_nearest, label, match_batch, nearest, open};
 pub use testing::lending::{read_sheet, remote_match, write_sheet};
-use testing::model::tables::{judge_opening, label_place, Lengths, Tables};
-use testing::model::{Batch, KNearest, Kind, Label, Library, Match, Measures, Refused};
+use testing::model::tables::{judge_opening, label_place, word_of, Lengths, Tables};
+use testing::model::{within, Batch, KNearest, Kind, Label, Library, Match, Measures, Refused, Trace, NARROW_LIMIT};
 use testing::program::repository;
+use testing::random::{no_sample, Random};
 use testing::script::bytes;
 
 pub fn measures(n: usize, capacity: usize, leaf_size: usize) -> Measures {
@@ -33,12 +34,32 @@ pub fn sheet_vectors() -> Vec<(String, String, Vec<u8>)> {
 pub fn junk(l: Lengths) -> Tables {
     Tables {
         control: vec![0xa5a5; l.control],
-        samples: vec![-0x5a5b; l.samples],
+        samples: vec![-0x5a5a_5a5b; l.samples],
         nodes: vec![0x5a5a_5a5a_5a5a; l.nodes],
         links: vec![0x5a5a; l.links],
         work: vec![0xa5a5_a5a5; l.work],
         labels: vec![0x5a5a_a5a5_5a5a_a5a5; l.labels],
     }
+}
+
+/// A trace brought to 16 bits, as recordings have them.
+pub fn narrowed(trace: &[i32]) -> Trace {
+    trace.iter().map(|&x| x.clamp(-32_768, 32_767)).collect()
+}
+
+/// Whether a trace fits 16 bits: one that does not is not exported.
+pub fn is_narrow(trace: &[i32]) -> bool {
+    within(NARROW_LIMIT, trace)
+}
+
+/// The samples with one number that is none of them.
+pub fn with_no_sample(random: &mut Random, samples: &[i32]) -> Trace {
+    let mut list = samples.to_vec();
+    if !list.is_empty() {
+        let at = random.below(list.len());
+        list[at] = no_sample(random);
+    }
+    list
 }
 
 pub fn longer(mut l: Lengths, by: usize) -> Lengths {
@@ -80,20 +101,20 @@ pub fn check_open(t: &mut Tables, l: Lengths, m: Measures) -> Result<(), Refused
 }
 
 /// Adding with no label: whatever stood in the trace's place, it is zero then.
-pub fn check_add(t: &mut Tables, l: Lengths, trace: &[i16]) -> Result<Library, Refused> {
+pub fn check_add(t: &mut Tables, l: Lengths, trace: &[i32]) -> Result<Library, Refused> {
     let before = t.clone();
     let answer = add(t, l, trace);
     added(&before, t, l, trace, Label::default(), answer)
 }
 
-pub fn check_add_labelled(t: &mut Tables, l: Lengths, trace: &[i16], label: Label) -> Result<Library, Refused> {
+pub fn check_add_labelled(t: &mut Tables, l: Lengths, trace: &[i32], label: Label) -> Result<Library, Refused> {
     let before = t.clone();
     let answer = add_labelled(t, l, trace, label);
     added(&before, t, l, trace, label, answer)
 }
 
 /// The answer, and what the tables stand for then; a refusal leaves every place. The library that the tables hold then is given back.
-fn added(before: &Tables, t: &Tables, l: Lengths, trace: &[i16], label: Label, answer: Result<u64, Refused>) -> Result<Library, Refused> {
+fn added(before: &Tables, t: &Tables, l: Lengths, trace: &[i32], label: Label, answer: Result<u64, Refused>) -> Result<Library, Refused> {
     match before.first(l).judge_adding(trace) {
         Err(refused) => {
             assert_eq!(answer, Err(refused));
@@ -106,6 +127,9 @@ fn added(before: &Tables, t: &Tables, l: Lengths, trace: &[i16], label: Label, a
             let held = t.first(l).library().expect("adding keeps well-formed tables well formed");
             assert_eq!(held, library);
             assert_eq!(t.work, before.work, "adding leaves search work as it was");
+            let (mut samples, first) = (before.samples.clone(), number * trace.len());
+            samples[first..first + trace.len()].copy_from_slice(&trace.iter().map(|&x| word_of(x)).collect::<Vec<i32>>());
+            assert_eq!(t.samples, samples, "adding writes the new trace's words and no other");
             let mut labels = before.labels.clone();
             labels[number] = label_place(label);
             assert_eq!(t.labels, labels, "adding writes the new trace's label and no other");
@@ -123,7 +147,7 @@ pub fn check_label(t: &Tables, l: Lengths, number: u64) -> Result<Label, Refused
 }
 
 /// The remote's match is a match with the code: the answer, the trail and every place are the match's.
-pub fn check_remote(t: &mut Tables, l: Lengths, trail: &mut [u16], query: &[i16]) -> Result<(Match, u16), Refused> {
+pub fn check_remote(t: &mut Tables, l: Lengths, trail: &mut [u16], query: &[i32]) -> Result<(Match, u16), Refused> {
     let (mut matched, mut read) = (t.clone(), trail.to_vec());
     let found = check_nearest(&mut matched, l, &mut read, query);
     let answer = remote_match(t, l, trail, query);
@@ -138,7 +162,7 @@ pub fn check_remote(t: &mut Tables, l: Lengths, trail: &mut [u16], query: &[i16]
     expected
 }
 
-pub fn check_nearest(t: &mut Tables, l: Lengths, trail: &mut [u16], query: &[i16]) -> Result<Match, Refused> {
+pub fn check_nearest(t: &mut Tables, l: Lengths, trail: &mut [u16], query: &[i32]) -> Result<Match, Refused> {
     let (before, before_trail) = (t.clone(), trail.to_vec());
     let answer = nearest(t, l, trail, query);
     match before.first(l).judge_match(query, trail.len()) {
@@ -160,7 +184,7 @@ pub fn check_nearest(t: &mut Tables, l: Lengths, trail: &mut [u16], query: &[i16
     }
 }
 
-pub fn check_k_nearest(t: &mut Tables, l: Lengths, trail: &mut [u16], list: &mut [u64], query: &[i16], k: u64) -> Result<KNearest, Refused> {
+pub fn check_k_nearest(t: &mut Tables, l: Lengths, trail: &mut [u16], list: &mut [u64], query: &[i32], k: u64) -> Result<KNearest, Refused> {
     let (before, before_trail, before_list) = (t.clone(), trail.to_vec(), list.to_vec());
     let answer = k_nearest(t, l, trail, list, query, k);
     match before.first(l).judge_k_nearest(query, k, trail.len(), list.len()) {
@@ -212,14 +236,14 @@ fn unneeded_stay(before: &Tables, after: &Tables, m: Measures) {
 }
 
 /// A match in a library that calls made: the answer is the scan's, and the leaves read are those with a bound at most its distance.
-pub fn check_scan(library: &Library, query: &[i16], found: &Match) {
+pub fn check_scan(library: &Library, query: &[i32], found: &Match) {
     let Match { trace, distance, leaves, traces, ref trail } = *found;
     check_list(library, query, 1, &KNearest { list: vec![(trace, distance)], leaves, traces, trail: trail.clone() });
 }
 
 /// A list of k in a library that calls made: it is the beginning of the scan's, and the leaves read are "those with a bound at most the last listed
 /// distance, or every leaf when fewer than k traces are stored".
-pub fn check_list(library: &Library, query: &[i16], k: usize, found: &KNearest) {
+pub fn check_list(library: &Library, query: &[i32], k: usize, found: &KNearest) {
     let mut nearest = testing::model::scan(&library.traces, query);
     nearest.truncate(k);
     assert_eq!(found.list, nearest);
@@ -345,11 +369,11 @@ pub fn check_read_back(t: &Tables, l: Lengths) {
 
 /// The answer, trail and list, and every place of the tables: by the program's steps, which on tables that the check accepts are the matches, one by one.
 /// The queries are the run's, n samples each; `lent` is how many records the list has.
-pub fn check_batch(t: &mut Tables, l: Lengths, trail: &mut [u16], run: &[i16], many: usize, lent: usize) -> Result<Batch, Refused> {
+pub fn check_batch(t: &mut Tables, l: Lengths, trail: &mut [u16], run: &[i32], many: usize, lent: usize) -> Result<Batch, Refused> {
     let mut answers: Vec<Answer> = (0..lent as u64).map(|i| Answer { trace: 0xbeef + i, distance: 0xfeed - i }).collect();
     let (before, before_trail, before_answers) = (t.clone(), trail.to_vec(), answers.clone());
     let answer = match_batch(t, l, trail, run, many, &mut answers);
-    match before.first(l).judge_batch(run.len(), many, trail.len(), lent) {
+    match before.first(l).judge_batch(run, many, trail.len(), lent) {
         Err(refused) => {
             assert_eq!(answer, Err(refused));
             assert_eq!(*t, before, "a refused batch leaves everything");
@@ -357,7 +381,7 @@ pub fn check_batch(t: &mut Tables, l: Lengths, trail: &mut [u16], run: &[i16], m
             Err(refused)
         }
         Ok(library) => {
-            let queries: Vec<&[i16]> = run.chunks(library.measures.n as usize).collect();
+            let queries: Vec<&[i32]> = run.chunks(library.measures.n as usize).collect();
             let expected = library.batch_by_steps(&queries).expect("a trace is stored");
             if library.is_exact() {
                 assert_eq!(library.batch(&queries).as_ref(), Some(&expected), "the matches, one by one");

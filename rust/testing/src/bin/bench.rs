@@ -6,7 +6,7 @@
 //! Machines differ, and so do runs; within a line the columns belong together, and the ratios are what counts. Every answer is compared
 //! with the scan's.
 
-use silkendoz::{scan, TraceLibrary};
+use silkendoz::{scan, StoredSample, TraceLibrary};
 use std::fmt::Debug;
 use std::hint::black_box;
 use std::time::Instant;
@@ -78,9 +78,9 @@ struct Compared {
 /// does not show. A search answers what the scans do, and how many traces it read.
 fn compared<A: Debug + PartialEq>(
     queries: &[Trace],
-    mut search: impl FnMut(&[i16]) -> (A, usize),
-    plain: impl Fn(&[i16]) -> A,
-    leaving: impl Fn(&[i16]) -> A,
+    mut search: impl FnMut(&[i32]) -> (A, usize),
+    plain: impl Fn(&[i32]) -> A,
+    leaving: impl Fn(&[i32]) -> A,
 ) -> Compared {
     let mut rounds: Vec<[f64; 4]> = Vec::new();
     for q in queries {
@@ -117,7 +117,7 @@ fn heads(queries: &str) -> String {
 /// A full library, its samples, queries that are near a stored trace and new ones; and how long an adding took at the end.
 struct Full {
     library: TraceLibrary,
-    samples: Vec<i16>,
+    samples: Vec<StoredSample>,
     nearby: Vec<Trace>,
     fresh: Vec<Trace>,
     add: f64,
@@ -138,10 +138,11 @@ fn filled(data: Data, leaf_size: usize) -> Full {
         })
         .collect();
     let fresh = (0..QUERIES).map(|_| data.trace(random)).collect();
-    Full { library, samples: stored.concat(), nearby, fresh, add: median(add.split_off(CAPACITY - ADDED)) }
+    let samples = library.tables().samples.to_vec();
+    Full { library, samples, nearby, fresh, add: median(add.split_off(CAPACITY - ADDED)) }
 }
 
-fn matched(library: &TraceLibrary, samples: &[i16], queries: &[Trace]) -> Compared {
+fn matched(library: &TraceLibrary, samples: &[StoredSample], queries: &[Trace]) -> Compared {
     compared(
         queries,
         |q| {
@@ -153,7 +154,7 @@ fn matched(library: &TraceLibrary, samples: &[i16], queries: &[Trace]) -> Compar
     )
 }
 
-fn listed(library: &TraceLibrary, samples: &[i16], queries: &[Trace]) -> Compared {
+fn listed(library: &TraceLibrary, samples: &[StoredSample], queries: &[Trace]) -> Compared {
     compared(
         queries,
         |q| {
@@ -167,7 +168,7 @@ fn listed(library: &TraceLibrary, samples: &[i16], queries: &[Trace]) -> Compare
 
 /// A match whose query has another length is refused right behind the test of the tables.
 fn test_of_tables(library: &TraceLibrary) -> f64 {
-    let wrong = [0i16; N - 1];
+    let wrong = [0i32; N - 1];
     median((0..QUERIES).map(|_| time(|| black_box(library.nearest(black_box(&wrong)))).0).collect())
 }
 
@@ -256,7 +257,7 @@ fn chain(stored: Vec<Trace>) -> Library {
     let last = stored.len() - 1;
     let mut nodes = vec![Node { segments: segments_of(&ends(last), &[&stored[last]]), kind: Kind::Leaf(vec![last]) }];
     for i in (0..last).rev() {
-        let below: Vec<&[i16]> = stored[i..].iter().map(Vec::as_slice).collect();
+        let below: Vec<&[i32]> = stored[i..].iter().map(Vec::as_slice).collect();
         let leaf = Node { segments: segments_of(&ends(i + 1), &below[..1]), kind: Kind::Leaf(vec![i]) };
         let segments = if i < 15 { segments_of(&ends(i), &below) } else { together(&leaf.segments, &nodes[nodes.len() - 1].segments) };
         let test = Test { figure: Figure::Sum, first: 1, last: N, threshold: 0 };
@@ -272,7 +273,7 @@ fn chain(stored: Vec<Trace>) -> Library {
 fn line_of_check(name: &str, t: &Tables) {
     let (l, query) = (t.lengths(), vec![0; N]);
     let check = median((0..ROUNDS).map(|_| time(|| lending::check_tables(black_box(t), l).expect("it is exact")).0).collect());
-    let scan = median((0..ROUNDS).map(|_| time(|| black_box(scan::nearest(&t.samples, N, black_box(&query)))).0).collect());
+    let scan = median((0..ROUNDS).map(|_| time(|| black_box(scan::nearest(StoredSample::of_words(&t.samples), N, black_box(&query)))).0).collect());
     println!("{name:<24}{:>7}{check:>10.0}{scan:>8.0}{:>9.1}", t.control[4], check / scan);
 }
 
@@ -304,7 +305,7 @@ const BATCHES: usize = 51;
 fn batched(library: &TraceLibrary, batches: &[Vec<Trace>]) -> String {
     let mut rounds: Vec<[f64; 5]> = Vec::new();
     for queries in batches {
-        let queries: Vec<&[i16]> = queries.iter().map(Vec::as_slice).collect();
+        let queries: Vec<&[i32]> = queries.iter().map(Vec::as_slice).collect();
         let (match_time, alone) = time(|| queries.iter().map(|q| library.nearest(black_box(q)).expect("traces are stored")).collect::<Vec<_>>());
         let (batch_time, found) = time(|| library.match_batch(black_box(&queries)).expect("traces are stored"));
         let answers: Vec<(usize, u64)> = found.answers.iter().map(|near| (near.trace, near.distance)).collect();
@@ -324,7 +325,7 @@ fn batches(mut query: impl FnMut(usize, usize) -> Trace) -> Vec<Vec<Trace>> {
 fn line_of_batches(data: Data, leaf_size: usize) {
     let Full { library, samples, .. } = filled(data, leaf_size);
     let random = &mut Random::seeded(2027);
-    let stored: Vec<Trace> = samples.chunks(N).map(<[i16]>::to_vec).collect();
+    let stored: Vec<Trace> = samples.chunks(N).map(StoredSample::values).collect();
     let different = batches(|i, j| near(random, &stored[(257 * i + 1021 * j) % CAPACITY], 20));
     let one = batches(|i, _| near(random, &stored[(257 * i) % CAPACITY], 20));
     let fresh = batches(|_, _| data.trace(random));

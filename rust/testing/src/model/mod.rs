@@ -10,8 +10,19 @@ pub mod tables;
 
 use std::collections::BTreeSet;
 
-/// A trace is n signed 16-bit samples.
-pub type Trace = Vec<i16>;
+/// A trace is n samples. Document 02, §9: "The long bed's converter gives −524,288 to 524,287."
+pub type Trace = Vec<i32>;
+
+/// The sample limit: samples lie from its negative to below it.
+pub const SAMPLE_LIMIT: i128 = 524_288;
+
+/// What 16 bits hold, likewise.
+pub const NARROW_LIMIT: i128 = 32_768;
+
+/// Whether all samples of a trace lie within a limit.
+pub fn within(limit: i128, trace: &[i32]) -> bool {
+    trace.iter().all(|&x| (-limit..limit).contains(&x.into()))
+}
 
 /// A refusal: its number and its place.
 pub type Refused = (u64, u64);
@@ -42,12 +53,12 @@ impl Measures {
 // ---- sum, scatter, root
 
 /// "Its sum is s."
-pub fn sum(run: &[i16]) -> i128 {
+pub fn sum(run: &[i32]) -> i128 {
     run.iter().map(|&x| i128::from(x)).sum()
 }
 
 /// "Its scatter is V = w × (sum of squares) − s²."
-pub fn scatter(run: &[i16]) -> i128 {
+pub fn scatter(run: &[i32]) -> i128 {
     let squares: i128 = run.iter().map(|&x| i128::from(x) * i128::from(x)).sum();
     run.len() as i128 * squares - sum(run) * sum(run)
 }
@@ -78,7 +89,7 @@ pub fn ceiling_root(v: i128) -> i128 {
 }
 
 /// "Distance is the sum of squared differences, never its root."
-pub fn distance(a: &[i16], b: &[i16]) -> i128 {
+pub fn distance(a: &[i32], b: &[i32]) -> i128 {
     assert_eq!(a.len(), b.len());
     a.iter().zip(b).map(|(&x, &y)| (i128::from(x) - i128::from(y)).pow(2)).sum()
 }
@@ -92,7 +103,7 @@ pub enum Within {
 
 /// Document 02, §5: "gives the exact distance when that is at most the limit, else "beyond" and how many samples it took, the fewest from the first on whose
 /// squared differences total more than the limit".
-pub fn distance_within(a: &[i16], b: &[i16], limit: i128) -> Within {
+pub fn distance_within(a: &[i32], b: &[i32], limit: i128) -> Within {
     match (1..=a.len()).find(|&taken| distance(&a[..taken], &b[..taken]) > limit) {
         Some(taken) => Within::Beyond(taken),
         None => Within::Exact(distance(a, b)),
@@ -110,7 +121,7 @@ pub enum Figure {
 
 impl Figure {
     /// What a test compares, of a trace's samples on its run: "From now on a scatter test compares floor roots" (document 02, §4).
-    pub fn of(self, run: &[i16]) -> i128 {
+    pub fn of(self, run: &[i32]) -> i128 {
         match self {
             Figure::Sum => sum(run),
             Figure::Scatter => floor_root(scatter(run)),
@@ -129,7 +140,7 @@ pub struct Test {
 
 impl Test {
     /// "A trace goes left if twice its figure is at most T, else right": by scatter, "if twice its own floor root is at most T".
-    pub fn goes_left(&self, trace: &[i16]) -> bool {
+    pub fn goes_left(&self, trace: &[i32]) -> bool {
         2 * self.figure.of(&trace[self.first - 1..self.last]) <= self.threshold
     }
 }
@@ -185,7 +196,7 @@ pub fn width(run: (usize, usize)) -> i128 {
     (run.1 - run.0 + 1) as i128
 }
 
-fn part(trace: &[i16], run: (usize, usize)) -> &[i16] {
+fn part(trace: &[i32], run: (usize, usize)) -> &[i32] {
     &trace[run.0 - 1..run.1]
 }
 
@@ -197,12 +208,12 @@ fn greatest(figures: &[i128]) -> i128 {
     *figures.iter().max().expect("no leaf is empty")
 }
 
-fn figures(of: impl Fn(&[i16]) -> i128, run: (usize, usize), traces: &[&[i16]]) -> Vec<i128> {
+fn figures(of: impl Fn(&[i32]) -> i128, run: (usize, usize), traces: &[&[i32]]) -> Vec<i128> {
     traces.iter().map(|t| of(part(t, run))).collect()
 }
 
 /// The segments with these ends, of these traces.
-pub fn segments_of(ends: &[usize], traces: &[&[i16]]) -> Vec<Segment> {
+pub fn segments_of(ends: &[usize], traces: &[&[i32]]) -> Vec<Segment> {
     runs(ends)
         .into_iter()
         .map(|run| {
@@ -220,7 +231,7 @@ pub fn segments_of(ends: &[usize], traces: &[&[i16]]) -> Vec<Segment> {
 }
 
 /// "A node's spread is the total over its segments of ((greatest sum − least sum)² + greatest scatter) / w, each term rounded down, from its own traces."
-pub fn spread(ends: &[usize], traces: &[&[i16]]) -> i128 {
+pub fn spread(ends: &[usize], traces: &[&[i32]]) -> i128 {
     runs(ends)
         .into_iter()
         .map(|run| {
@@ -333,7 +344,7 @@ impl Library {
         Library { labels: labels.to_vec(), ..self }
     }
 
-    fn named(&self, numbers: &[usize]) -> Vec<&[i16]> {
+    fn named(&self, numbers: &[usize]) -> Vec<&[i32]> {
         numbers.iter().map(|&t| self.traces[t].as_slice()).collect()
     }
 
@@ -359,12 +370,12 @@ impl Library {
     }
 
     /// Adds a trace that nothing refuses, with no label; its number is the answer.
-    pub fn add(&mut self, trace: &[i16]) -> usize {
+    pub fn add(&mut self, trace: &[i32]) -> usize {
         self.add_labelled(trace, Label::default())
     }
 
     /// .. with a label.
-    pub fn add_labelled(&mut self, trace: &[i16], label: Label) -> usize {
+    pub fn add_labelled(&mut self, trace: &[i32], label: Label) -> usize {
         let number = self.traces.len();
         self.traces.push(trace.to_vec());
         self.labels.push(label);
@@ -388,7 +399,7 @@ impl Library {
     }
 
     /// "the trace goes down by the tests, widening least and greatest at every node it meets, the leaf too, moving no threshold, and joins a leaf"
-    fn join(&mut self, trace: &[i16], number: usize) -> usize {
+    fn join(&mut self, trace: &[i32], number: usize) -> usize {
         let mut at = 0;
         loop {
             let node = &mut self.nodes[at];
@@ -475,7 +486,7 @@ impl Library {
     // ---- matching
 
     /// "The node's own bound totals (g² + h²) / w, each rounded up."
-    pub fn own_bound(&self, node: usize, query: &[i16]) -> i128 {
+    pub fn own_bound(&self, node: usize, query: &[i32]) -> i128 {
         self.total(node, query, |segment, w, t, u| {
             let (g, h) = gaps(segment, t, u);
             -(-(g * g + h * h)).div_euclid(w)
@@ -484,7 +495,7 @@ impl Library {
 
     /// Document 02, §10: "A node's upper figure totals, per segment, (G² + (ceiling root of greatest scatter + ceiling root of U)²) / w rounded down, with
     /// G the larger distance from t to the least or greatest sum"
-    pub fn own_upper(&self, node: usize, query: &[i16]) -> i128 {
+    pub fn own_upper(&self, node: usize, query: &[i32]) -> i128 {
         self.total(node, query, |segment, w, t, u| {
             let g = (t - segment.least_sum).abs().max((t - segment.greatest_sum).abs());
             let h = ceiling_root(segment.greatest_scatter) + ceiling_root(u);
@@ -493,7 +504,7 @@ impl Library {
     }
 
     /// The total over a node's segments of a term of the segment, its width w, and the query's sum t and scatter U on it.
-    fn total(&self, node: usize, query: &[i16], term: impl Fn(&Segment, i128, i128, i128) -> i128) -> i128 {
+    fn total(&self, node: usize, query: &[i32], term: impl Fn(&Segment, i128, i128, i128) -> i128) -> i128 {
         let node = &self.nodes[node];
         let terms = runs(&node.ends()).into_iter().zip(&node.segments).map(|(run, segment)| {
             let run_of_query = part(query, run);
@@ -503,12 +514,12 @@ impl Library {
     }
 
     /// "A node's bound is the greatest own bound from node 0 down to it."
-    pub fn bounds(&self, query: &[i16]) -> Vec<i128> {
+    pub fn bounds(&self, query: &[i32]) -> Vec<i128> {
         self.down_the_tree((0..self.nodes.len()).map(|j| self.own_bound(j, query)).collect(), i128::max)
     }
 
     /// Document 02, §10: "the smallest on the path counts"
-    pub fn uppers(&self, query: &[i16]) -> Vec<i128> {
+    pub fn uppers(&self, query: &[i32]) -> Vec<i128> {
         self.down_the_tree((0..self.nodes.len()).map(|j| self.own_upper(j, query)).collect(), i128::min)
     }
 
@@ -532,19 +543,19 @@ impl Library {
     }
 
     /// "Leaves are read by bound, then by number, until the next bound is above the best distance found." That is the search for one.
-    pub fn nearest(&self, query: &[i16]) -> Option<Match> {
+    pub fn nearest(&self, query: &[i32]) -> Option<Match> {
         let KNearest { list, leaves, traces, trail } = self.k_nearest(query, 1);
         list.first().map(|&(trace, distance)| Match { trace, distance, leaves, traces, trail })
     }
 
     /// Document 02, §8: "a match whose answer adds the fault code and nothing else".
-    pub fn remote_match(&self, query: &[i16]) -> Option<(Match, u16)> {
+    pub fn remote_match(&self, query: &[i32]) -> Option<(Match, u16)> {
         self.nearest(query).map(|found| (found.clone(), self.labels[found.trace].code))
     }
 
     /// Document 02, §1: "lists the k nearest traces by distance, then number; a smaller library lists all it has". "Leaves are read in the match's order,
     /// with its trail and counts, until the next bound is above the k-th best distance read". "the list is the nearest of the traces read".
-    pub fn k_nearest(&self, query: &[i16], k: usize) -> KNearest {
+    pub fn k_nearest(&self, query: &[i32], k: usize) -> KNearest {
         let bounds = self.bounds(query);
         // distances and numbers, rising
         let mut read: Vec<(i128, usize)> = Vec::new();
@@ -563,7 +574,7 @@ impl Library {
 
     /// Document 02, §7: "the leaves read are exactly those that at least one query alone would read"; the answers "with trace and distance as if matched
     /// alone"; "The trail lists the leaves read by rising number". There is one where a trace is stored.
-    pub fn batch(&self, queries: &[&[i16]]) -> Option<Batch> {
+    pub fn batch(&self, queries: &[&[i32]]) -> Option<Batch> {
         let alone: Option<Vec<Match>> = queries.iter().map(|query| self.nearest(query)).collect();
         let alone = alone?;
         let trail: BTreeSet<usize> = alone.iter().flat_map(|found| found.trail.iter().copied()).collect();
@@ -572,9 +583,9 @@ impl Library {
 
     /// The program's own steps, on any well-formed tables: query after query, each in the match's order until the next bound is above its best distance. A
     /// leaf that is read is read for all queries at once, and never again.
-    pub fn batch_by_steps(&self, queries: &[&[i16]]) -> Option<Batch> {
+    pub fn batch_by_steps(&self, queries: &[&[i32]]) -> Option<Batch> {
         let mut trail: BTreeSet<usize> = BTreeSet::new();
-        let best = |trail: &BTreeSet<usize>, query: &[i16]| {
+        let best = |trail: &BTreeSet<usize>, query: &[i32]| {
             let numbers = trail.iter().flat_map(|&leaf| self.numbers(leaf));
             numbers.map(|&t| (distance(&self.traces[t], query), t)).min().map(|(distance, trace)| (trace, distance))
         };
@@ -602,7 +613,7 @@ pub fn gaps(segment: &Segment, t: i128, u: i128) -> (i128, i128) {
 }
 
 /// Every trace with its distance, by distance, then number: the first is the nearest, the lowest number among equals.
-pub fn scan(traces: &[Trace], query: &[i16]) -> Vec<(usize, i128)> {
+pub fn scan(traces: &[Trace], query: &[i32]) -> Vec<(usize, i128)> {
     let mut all: Vec<(usize, i128)> = traces.iter().map(|trace| distance(trace, query)).enumerate().collect();
     all.sort_by_key(|&(t, d)| (d, t));
     all
@@ -634,7 +645,7 @@ mod tests {
     #[test]
     fn matches_of_the_examples() {
         let library = example();
-        let found = |q: [i16; 4]| library.nearest(&q).unwrap();
+        let found = |q: [i32; 4]| library.nearest(&q).unwrap();
         assert_eq!(library.bounds(&[1, 1, 1, 1])[1..], [4, 36]);
         assert_eq!(found([1, 1, 1, 1]), Match { trace: 0, distance: 4, leaves: 1, traces: 1, trail: vec![1] });
         assert_eq!(found([2, 2, 2, 2]), Match { trace: 0, distance: 16, leaves: 2, traces: 3, trail: vec![1, 2] });
@@ -643,7 +654,9 @@ mod tests {
         assert_eq!(three.bounds(&[1, 0, 0]), [1]);
         let pair = Library::of(Measures { n: 4, capacity: 2, leaf_size: 1 }, &[vec![1, 2, 1, 2], vec![2, 1, 2, 1]]);
         assert_eq!(pair.nodes.len(), 1);
-        assert_eq!(distance(&[i16::MIN; 256], &[i16::MAX; 256]), 1_099_478_073_600);
+        assert_eq!(distance(&[-32_768; 256], &[32_767; 256]), 1_099_478_073_600);
+        // "the largest distance becomes 281,474,439,840,000"
+        assert_eq!(distance(&[-524_288; 256], &[524_287; 256]), 281_474_439_840_000);
     }
 
     #[test]
@@ -668,7 +681,7 @@ mod tests {
     #[test]
     fn batches_of_the_examples() {
         let library = example();
-        let both = |queries: &[&[i16]]| {
+        let both = |queries: &[&[i32]]| {
             assert_eq!(library.batch(queries), library.batch_by_steps(queries));
             library.batch(queries)
         };

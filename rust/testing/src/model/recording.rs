@@ -51,19 +51,19 @@ pub fn read(n: u64, file: &[u8]) -> Option<(u64, Vec<Trace>)> {
     if size != rest.0.len() as u64 || size % 2 != 0 || size / 2 % n != 0 {
         return None;
     }
-    let samples: Vec<i16> = rest.0.chunks(2).map(|sample| i16::from_le_bytes([sample[0], sample[1]])).collect();
+    let samples: Vec<i32> = rest.0.chunks(2).map(|sample| i16::from_le_bytes([sample[0], sample[1]]).into()).collect();
     // "The samples are cut into traces of n"
-    Some((rate, samples.chunks(n as usize).map(<[i16]>::to_vec).collect()))
+    Some((rate, samples.chunks(n as usize).map(<[i32]>::to_vec).collect()))
 }
 
-/// The file of some samples, at a rate.
-pub fn write(rate: u64, samples: &[i16]) -> Vec<u8> {
+/// The file of some samples that fit 16 bits, at a rate.
+pub fn write(rate: u64, samples: &[i32]) -> Vec<u8> {
     let size = 2 * samples.len() as u64;
     let four = |value: u64| u32::try_from(value).expect("four bytes say it").to_le_bytes();
     let fields: [&[u8]; 10] =
         [b"RIFF", &four(36 + size), b"WAVEfmt ", &four(16), &[1, 0, 1, 0], &four(rate), &four(2 * rate), &[2, 0, 16, 0], b"data", &four(size)];
     let mut file = fields.concat();
-    file.extend(samples.iter().flat_map(|sample| sample.to_le_bytes()));
+    file.extend(samples.iter().flat_map(|&sample| i16::try_from(sample).expect("it fits 16 bits").to_le_bytes()));
     file
 }
 
@@ -80,7 +80,7 @@ mod tests {
     fn both_ways() {
         for rate in [0, 1, 8000, (1 << 31) - 1] {
             for count in [0, 1, 2, 5] {
-                let traces: Vec<Trace> = (0..count).map(|t| vec![t, -t, i16::MAX, i16::MIN]).collect();
+                let traces: Vec<Trace> = (0..count).map(|t| vec![t, -t, i16::MAX.into(), i16::MIN.into()]).collect();
                 let file = write(rate, &traces.concat());
                 assert_eq!(file.len(), 44 + 8 * traces.len());
                 assert_eq!(read(4, &file), Some((rate, traces)));

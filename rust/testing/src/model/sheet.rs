@@ -1,10 +1,69 @@
 //! Sheets, and the line that the program prints of one.
 
-use super::{Label, Library, Measures, Refused, Trace};
+use super::{within, Label, Library, Measures, Refused, Trace, NARROW_LIMIT, SAMPLE_LIMIT};
 
-/// "With k traces there are 1 + (k × n / 253 rounded up) blocks." Those of labels come behind them.
-pub fn blocks_needed(k: u64, n: u64) -> usize {
-    (1 + (k * n).div_ceil(253)) as usize
+/// How a sheet has its samples.
+#[derive(Clone, Copy, Debug, PartialEq, Eq)]
+pub enum Width {
+    Narrow,
+    Wide,
+}
+
+impl Width {
+    /// Document 02, §9: "A library whose samples all fit 16 bits is written as before. Any other uses kind 3 for block 0 and kind 4 for
+    /// samples, 126 per block, four bytes each in two's complement."
+    pub fn of(traces: &[Trace]) -> Width {
+        match traces.iter().all(|trace| within(NARROW_LIMIT, trace)) {
+            true => Width::Narrow,
+            false => Width::Wide,
+        }
+    }
+
+    /// What a kind of block 0 says.
+    fn said(kind: u8) -> Option<Width> {
+        [Width::Narrow, Width::Wide].into_iter().find(|width| width.kinds()[0] == kind)
+    }
+
+    /// The kinds of block 0 and of a block of samples.
+    pub fn kinds(self) -> [u8; 2] {
+        match self {
+            Width::Narrow => [1, 2],
+            Width::Wide => [3, 4],
+        }
+    }
+
+    /// Bytes a sample.
+    pub fn bytes(self) -> usize {
+        match self {
+            Width::Narrow => 2,
+            Width::Wide => 4,
+        }
+    }
+
+    /// Samples a block.
+    pub fn a_block(self) -> usize {
+        match self {
+            Width::Narrow => 253,
+            Width::Wide => 126,
+        }
+    }
+
+    fn written(self, sample: i32) -> Vec<u8> {
+        sample.to_le_bytes()[..self.bytes()].to_vec()
+    }
+
+    /// The number that these bytes are "in two's complement".
+    fn sample(self, bytes: &[u8]) -> i32 {
+        match self {
+            Width::Narrow => i16::from_le_bytes([bytes[0], bytes[1]]).into(),
+            Width::Wide => i32::from_le_bytes([bytes[0], bytes[1], bytes[2], bytes[3]]),
+        }
+    }
+}
+
+/// "With k traces there are 1 + (k × n / 253 rounded up) blocks", or so many of 126. Those of labels come behind them.
+pub fn blocks_needed(width: Width, k: u64, n: u64) -> usize {
+    1 + ((k * n) as usize).div_ceil(width.a_block())
 }
 
 /// Document 02, §8: "84 labels of 6 bytes each". So many blocks have all labels of k traces.
@@ -22,7 +81,8 @@ pub fn label_blocks(labels: &[Label]) -> usize {
 
 /// How many bytes a library's sheet has.
 pub fn need(library: &Library) -> usize {
-    512 * (blocks_needed(library.traces.len() as u64, library.measures.n) + label_blocks(&library.labels))
+    let width = Width::of(&library.traces);
+    512 * (blocks_needed(width, library.traces.len() as u64, library.measures.n) + label_blocks(&library.labels))
 }
 
 /// "total of (position + 1) × byte over positions 0 to 509, modulo 65,521"
@@ -68,11 +128,17 @@ pub fn write(m: Measures, traces: &[Trace]) -> Vec<u8> {
 
 /// The sheet of a library: "labels follow the samples in blocks of kind 5, 84 labels of 6 bytes each from byte 4, code first".
 pub fn write_labelled(m: Measures, traces: &[Trace], labels: &[Label]) -> Vec<u8> {
-    let samples: Vec<u8> = traces.concat().iter().flat_map(|sample| sample.to_le_bytes()).collect();
+    write_as(Width::of(traces), m, traces, labels)
+}
+
+/// .. of a width, be it the wrong one.
+pub fn write_as(width: Width, m: Measures, traces: &[Trace], labels: &[Label]) -> Vec<u8> {
+    let [first, kind] = width.kinds();
+    let samples: Vec<u8> = traces.concat().iter().flat_map(|&sample| width.written(sample)).collect();
     let told: Vec<u8> = labels.iter().flat_map(|&label| label_bytes(label)).collect();
-    let sample_blocks = samples.chunks(2 * 253).map(|bytes| (2, bytes.to_vec()));
+    let sample_blocks = samples.chunks(width.bytes() * width.a_block()).map(|bytes| (kind, bytes.to_vec()));
     let label_blocks = told.chunks(6 * 84).take(label_blocks(labels)).map(|bytes| (5, bytes.to_vec()));
-    let all = std::iter::once((1, head(m, traces.len() as u64))).chain(sample_blocks).chain(label_blocks);
+    let all = std::iter::once((first, head(m, traces.len() as u64))).chain(sample_blocks).chain(label_blocks);
     all.enumerate().flat_map(|(number, (kind, bytes))| block(number, kind, &bytes)).collect()
 }
 
@@ -89,10 +155,10 @@ pub struct Sheet {
     pub labels: Vec<Label>,
 }
 
-/// What a sheet holds, or the refusal: 8; 9 over all blocks; 10.
+/// What a sheet holds, or the refusal: 8; 9 over all blocks; 10; 15.
 pub fn read(bytes: &[u8]) -> Result<Sheet, Refused> {
-    // "above 4,146 blocks"; "Number 8's limit rises by 49 blocks"
-    if bytes.is_empty() || !bytes.len().is_multiple_of(512) || bytes.len() / 512 > 4146 + 49 {
+    // "Number 8's limit is 8,373 blocks."
+    if bytes.is_empty() || !bytes.len().is_multiple_of(512) || bytes.len() / 512 > 8373 {
         return Err((8, 0));
     }
     let blocks: Vec<&[u8]> = bytes.chunks(512).collect();
@@ -101,30 +167,38 @@ pub fn read(bytes: &[u8]) -> Result<Sheet, Refused> {
             return Err((9, number as u64));
         }
     }
-    judge_blocks(&blocks).ok_or((10, 0))
+    let sheet = judge_blocks(&blocks).ok_or((10, 0))?;
+    // "15 sample range, for an .. sheet with a sample outside the limits, .. on sheets after 10"
+    match sheet.traces.iter().all(|trace| within(SAMPLE_LIMIT, trace)) {
+        true => Ok(sheet),
+        false => Err((15, 0)),
+    }
 }
 
-/// Block 0 is of kind 1, the others are samples (2) or labels (5); "A sample block after a label block is a wrong kind".
+/// Block 0 is of kind 1 or 3, the others are samples or labels (5). "A sample block after a label block is a wrong kind"; "A sample block
+/// whose kind doesn't go with block 0's is a wrong kind."
 fn kind_fits(blocks: &[&[u8]], number: usize) -> bool {
-    match blocks[number][2] {
-        1 => number == 0,
-        2 => number > 0 && blocks[..number].iter().all(|before| before[2] != 5),
-        5 => number > 0,
-        _ => false,
+    let kind = blocks[number][2];
+    let Some(width) = Width::said(blocks[0][2]) else { return number > 0 };
+    match number {
+        0 => true,
+        _ if kind == 5 => true,
+        _ => kind == width.kinds()[1] && blocks[..number].iter().all(|before| before[2] != 5),
     }
 }
 
 /// What blocks hold that are all sound, if they are a sheet.
 fn judge_blocks(blocks: &[&[u8]]) -> Option<Sheet> {
     let of_kind = |kind: u8| blocks.iter().filter(|block| block[2] == kind).copied().collect::<Vec<&[u8]>>();
-    let (head, samples, labels) = (blocks[0], of_kind(2), of_kind(5));
+    let width = Width::said(blocks[0][2])?;
+    let (head, samples, labels) = (blocks[0], of_kind(width.kinds()[1]), of_kind(5));
     let m = measures(head).expect("a block is longer than that");
     let count = field(head, 14);
     if &head[4..8] != b"TRCL" || !m.in_range() || count > m.capacity {
         return None;
     }
     // "how many there are of each is tested under 10": "all its label blocks or none"
-    if 1 + samples.len() != blocks_needed(count, m.n) || (!labels.is_empty() && labels.len() != all_label_blocks(count)) {
+    if 1 + samples.len() != blocks_needed(width, count, m.n) || (!labels.is_empty() && labels.len() != all_label_blocks(count)) {
         return None;
     }
     // "All else is 0."
@@ -132,16 +206,21 @@ fn judge_blocks(blocks: &[&[u8]]) -> Option<Sheet> {
     if blocks.iter().any(|block| block[3] != 0) || head[16..510].iter().any(|&byte| byte != 0) {
         return None;
     }
-    let cells = filled(&samples, 2 * 253, 2 * (count * m.n) as usize)?;
+    let cells = filled(&samples, width.bytes() * width.a_block(), width.bytes() * (count * m.n) as usize)?;
     let label_cells = filled(&labels, 6 * 84, told)?;
     // "a sheet whose label blocks together hold only zero labels is refused as 10"
     if !labels.is_empty() && label_cells.iter().all(|&byte| byte == 0) {
         return None;
     }
-    let samples: Vec<i16> = cells.chunks(2).map(|c| i16::from_le_bytes([c[0], c[1]])).collect();
+    let samples: Vec<i32> = cells.chunks(width.bytes()).map(|c| width.sample(c)).collect();
+    let traces: Vec<Trace> = samples.chunks(m.n as usize).map(<[i32]>::to_vec).collect();
+    // "A wide sheet whose samples all fit 16 bits is refused as 10."
+    if Width::of(&traces) != width {
+        return None;
+    }
     let mut list: Vec<Label> = label_cells.chunks(6).map(said).collect();
     list.resize(count as usize, Label::default());
-    Some(Sheet { measures: m, traces: samples.chunks(m.n as usize).map(<[i16]>::to_vec).collect(), labels: list })
+    Some(Sheet { measures: m, traces, labels: list })
 }
 
 /// The label that six bytes say.
@@ -195,7 +274,20 @@ mod tests {
 
     #[test]
     fn the_largest_sheet() {
-        assert_eq!((blocks_needed(4096, 256), all_label_blocks(4096)), (4146, 49));
+        assert_eq!((blocks_needed(Width::Narrow, 4096, 256), all_label_blocks(4096)), (4146, 49));
+        assert_eq!(blocks_needed(Width::Wide, 4096, 256) + all_label_blocks(4096), 8373);
+    }
+
+    #[test]
+    fn samples_of_four_bytes() {
+        let sheet = write(SMALL, &[vec![-1], vec![32_768], vec![-524_288]]);
+        assert_eq!((sheet.len(), sheet[2], sheet[512 + 2]), (1024, 3, 4));
+        assert_eq!(sheet[512 + 4..512 + 16], [255, 255, 255, 255, 0, 128, 0, 0, 0, 0, 248, 255]);
+        assert_eq!(read(&sheet).map(|held| held.traces), Ok(vec![vec![-1], vec![32_768], vec![-524_288]]));
+        assert_eq!(write(SMALL, &[vec![-1], vec![32_767]])[2], 1);
+        let wide = |traces: &[Trace]| read(&write_as(Width::Wide, SMALL, traces, &vec![Label::default(); traces.len()]));
+        assert_eq!([wide(&[]), wide(&[vec![32_767]]), wide(&[vec![524_288], vec![0]])], [Err((10, 0)), Err((10, 0)), Err((15, 0))]);
+        assert_eq!(wide(&[vec![786_432]]), Err((15, 0)));
     }
 
     #[test]

@@ -1,7 +1,7 @@
 //! The lent tables, read by `docs/LAYOUT.md`: what they stand for, whether they are well formed, and what document 01's table refuses.
 
 use super::{recording, sheet};
-use super::{runs, width, Figure, Kind, Label, Library, Measures, Node, Refused, Segment, Test, Trace};
+use super::{runs, width, within, Figure, Kind, Label, Library, Measures, Node, Refused, Segment, Test, Trace, NARROW_LIMIT, SAMPLE_LIMIT};
 
 /// Fields of the control record.
 pub const CONTROL_FIELDS: usize = 5;
@@ -28,11 +28,23 @@ pub fn label_place(label: Label) -> u64 {
     u64::from(label.code) + 65_536 * u64::from(label.serial)
 }
 
+/// The sample that a word of the table stands for: the word over 4,096, rounded down. So "A stored sample outside the limits makes the tables
+/// spoiled" (document 02, §9) can be said of no word.
+pub fn sample_of(word: i32) -> i32 {
+    word.div_euclid(4096)
+}
+
+/// A sample's word as calls write it.
+pub fn word_of(sample: i32) -> i32 {
+    sample * 4096
+}
+
 /// The six lent tables.
 #[derive(Clone, Debug, PartialEq, Eq, Default)]
 pub struct Tables {
     pub control: Vec<u16>,
-    pub samples: Vec<i16>,
+    /// Words.
+    pub samples: Vec<i32>,
     pub nodes: Vec<i64>,
     pub links: Vec<u16>,
     pub work: Vec<u64>,
@@ -129,7 +141,7 @@ impl Tables {
         if k > c || (k == 0) != (m == 0) || m > (2 * c).saturating_sub(1) {
             return None;
         }
-        let traces: Vec<Trace> = (0..k).map(|t| self.samples[t * n..(t + 1) * n].to_vec()).collect();
+        let traces: Vec<Trace> = (0..k).map(|t| self.samples[t * n..(t + 1) * n].iter().map(|&word| sample_of(word)).collect()).collect();
         let labels = self.labels[..k].iter().map(|&place| label_at(place)).collect();
         let mut nodes = Vec::new();
         for j in 0..m {
@@ -199,7 +211,7 @@ impl Tables {
 
     /// The needed parts as opening and adding leave them: places that nothing uses are zero.
     pub fn of(library: &Library) -> Tables {
-        let (m, samples) = (library.measures, library.traces.concat());
+        let (m, samples) = (library.measures, library.traces.concat().into_iter().map(word_of).collect::<Vec<i32>>());
         let mut t = Tables::blank(needs(m));
         t.control = vec![m.n as u16, m.capacity as u16, m.leaf_size as u16, library.traces.len() as u16, library.nodes.len() as u16];
         t.samples[..samples.len()].copy_from_slice(&samples);
@@ -246,35 +258,33 @@ impl Tables {
         self.library().ok_or((3, 0))
     }
 
-    /// Adding: then 4, then 5.
-    pub fn judge_adding(&self, trace: &[i16]) -> Result<Library, Refused> {
+    /// Adding: then 4, then 15, then 5.
+    pub fn judge_adding(&self, trace: &[i32]) -> Result<Library, Refused> {
         let library = self.judge_made()?;
-        if trace.len() as u64 != library.measures.n {
-            return Err((4, 0));
-        }
+        judge_samples(trace, library.measures.n)?;
         if library.traces.len() as u64 == library.measures.capacity {
             return Err((5, 0));
         }
         Ok(library)
     }
 
-    /// A match: then 4, then 6, then 7.
-    pub fn judge_match(&self, query: &[i16], trail: usize) -> Result<Library, Refused> {
+    /// A match: then 4, then 15, then 6, then 7.
+    pub fn judge_match(&self, query: &[i32], trail: usize) -> Result<Library, Refused> {
         let library = self.judge_made()?;
-        library.judge_query(query.len(), trail)?;
+        library.judge_query(query, trail)?;
         Ok(library)
     }
 
     /// The k nearest: "11 bad k, outside 1 to 16, after 3"; then as a match; "a list shorter than k is refused as 7". A list has two places a record.
-    pub fn judge_k_nearest(&self, query: &[i16], k: u64, trail: usize, list: usize) -> Result<Library, Refused> {
+    pub fn judge_k_nearest(&self, query: &[i32], k: u64, trail: usize, list: usize) -> Result<Library, Refused> {
         let library = self.judge_made()?;
-        library.judge_k(query.len(), k, trail, list)?;
+        library.judge_k(query, k, trail, list)?;
         Ok(library)
     }
 
     /// A batch: "14 bad batch, for 0 or more than 16 queries, or an answer list of another length than the batch, after 3"; "a run not n times their number
     /// long is 4"; then as a match.
-    pub fn judge_batch(&self, run: usize, many: usize, trail: usize, list: usize) -> Result<Library, Refused> {
+    pub fn judge_batch(&self, run: &[i32], many: usize, trail: usize, list: usize) -> Result<Library, Refused> {
         let library = self.judge_made()?;
         library.judge_queries(run, many, trail, list)?;
         Ok(library)
@@ -322,10 +332,10 @@ impl Tables {
 
 /// What a search, an import and an export refuse by the library alone, once its tables are sound.
 impl Library {
-    /// 4, then 6, then 7.
-    pub fn judge_query(&self, length: usize, trail: usize) -> Result<(), Refused> {
+    /// 4, then 15, then 6, then 7.
+    pub fn judge_query(&self, query: &[i32], trail: usize) -> Result<(), Refused> {
+        judge_samples(query, self.measures.n)?;
         match () {
-            _ if length as u64 != self.measures.n => Err((4, 0)),
             _ if self.traces.is_empty() => Err((6, 0)),
             _ if trail < self.leaves().len() => Err((7, 0)),
             _ => Ok(()),
@@ -333,22 +343,24 @@ impl Library {
     }
 
     /// 11; then as above; then 7 for a list of fewer than k records.
-    pub fn judge_k(&self, length: usize, k: u64, trail: usize, list: usize) -> Result<(), Refused> {
+    pub fn judge_k(&self, query: &[i32], k: u64, trail: usize, list: usize) -> Result<(), Refused> {
         if !(1..=16).contains(&k) {
             return Err((11, 0));
         }
-        self.judge_query(length, trail)?;
+        self.judge_query(query, trail)?;
         if ((list / 2) as u64) < k {
             return Err((7, 0));
         }
         Ok(())
     }
 
-    /// 14; then 4 for the run; then 6, then 7.
-    pub fn judge_queries(&self, run: usize, many: usize, trail: usize, list: usize) -> Result<(), Refused> {
+    /// 14; then 4 for the run, 15 for any of its samples; then 6, then 7.
+    pub fn judge_queries(&self, run: &[i32], many: usize, trail: usize, list: usize) -> Result<(), Refused> {
+        if !(1..=16).contains(&many) || list != many {
+            return Err((14, 0));
+        }
+        judge_samples(run, self.measures.n * many as u64)?;
         match () {
-            _ if !(1..=16).contains(&many) || list != many => Err((14, 0)),
-            _ if run as u64 != self.measures.n * many as u64 => Err((4, 0)),
             _ if self.traces.is_empty() => Err((6, 0)),
             _ if trail < self.leaves().len() => Err((7, 0)),
             _ => Ok(()),
@@ -372,13 +384,24 @@ impl Library {
         Ok(())
     }
 
-    /// "12 .. an export rate or trace number out of range, ..; an export buffer too short is 8"
+    /// "12 .. an export rate or trace number out of range, ..; an export buffer too short is 8"; "WAV export refuses wider samples as 12."
     pub fn judge_one(&self, number: u64, rate: u64, buffer: usize) -> Result<(), Refused> {
         match () {
             _ if rate >= 1 << 31 || number >= self.traces.len() as u64 => Err((12, 0)),
+            _ if !within(NARROW_LIMIT, &self.traces[number as usize]) => Err((12, 0)),
             _ if buffer < recording::size(self.measures.n) => Err((8, 0)),
             _ => Ok(()),
         }
+    }
+}
+
+/// A trace or a run of queries: "length not n" (4); then "15 sample range, for an added trace, query .. with a sample outside the limits, after
+/// 4".
+fn judge_samples(samples: &[i32], length: u64) -> Result<(), Refused> {
+    match () {
+        _ if samples.len() as u64 != length => Err((4, 0)),
+        _ if !within(SAMPLE_LIMIT, samples) => Err((15, 0)),
+        _ => Ok(()),
     }
 }
 
@@ -400,7 +423,7 @@ pub fn judge_opening(l: Lengths, m: Measures) -> Result<Library, Refused> {
     Ok(Library::open(m))
 }
 
-/// "Reading: 8; 9 over all blocks; 10; 2"
+/// "Reading: 8; 9 over all blocks; 10; 2", and 15 behind 10
 pub fn judge_reading(l: Lengths, bytes: &[u8]) -> Result<Library, Refused> {
     let sheet::Sheet { measures, traces, labels } = sheet::read(bytes)?;
     if short(l, measures) {
@@ -409,18 +432,19 @@ pub fn judge_reading(l: Lengths, bytes: &[u8]) -> Result<Library, Refused> {
     Ok(Library::of(measures, &traces).labelled(&labels))
 }
 
-/// "least ≤ greatest; sums within w × 32,768 either side of 0, scatters 0 to w² × 2^30"
+/// "least ≤ greatest; sums within w × 32,768 either side of 0, scatters 0 to w² × 2^30". Document 02, §9: "The well-formed limits become w ×
+/// 524,288 and w² × 2^38".
 fn figures_in_limits(library: &Library) -> bool {
     let inside = |(run, s): ((usize, usize), &Segment)| {
         let w = width(run);
-        let sums = -w * 32_768 <= s.least_sum && s.least_sum <= s.greatest_sum && s.greatest_sum <= w * 32_768;
-        let scatters = 0 <= s.least_scatter && s.least_scatter <= s.greatest_scatter && s.greatest_scatter <= w * w * (1 << 30);
+        let sums = -w * SAMPLE_LIMIT <= s.least_sum && s.least_sum <= s.greatest_sum && s.greatest_sum <= w * SAMPLE_LIMIT;
+        let scatters = 0 <= s.least_scatter && s.least_scatter <= s.greatest_scatter && s.greatest_scatter <= w * w * (1 << 38);
         sums && scatters
     };
     library.nodes.iter().all(|node| runs(&node.ends()).into_iter().zip(&node.segments).all(inside))
 }
 
-/// "T between twice those limits, on a run inside 1 to n"; by scatter (document 02, §4) "2 × w × 32,768"
+/// "T between twice those limits, on a run inside 1 to n"; by scatter (document 02, §9) "2 × w × 524,288"
 fn tests_in_limits(library: &Library) -> bool {
     library.nodes.iter().all(|node| match &node.kind {
         Kind::Leaf(_) => true,
@@ -430,8 +454,8 @@ fn tests_in_limits(library: &Library) -> bool {
             }
             let w = width((test.first, test.last));
             match test.figure {
-                Figure::Sum => (-2 * w * 32_768..=2 * w * 32_768).contains(&test.threshold),
-                Figure::Scatter => (0..=2 * w * 32_768).contains(&test.threshold),
+                Figure::Sum => (-2 * w * SAMPLE_LIMIT..=2 * w * SAMPLE_LIMIT).contains(&test.threshold),
+                Figure::Scatter => (0..=2 * w * SAMPLE_LIMIT).contains(&test.threshold),
             }
         }
     })

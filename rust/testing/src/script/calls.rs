@@ -8,15 +8,15 @@ use silkendoz::calls::Answer;
 type Told<A> = Result<A, Refused>;
 
 /// A call that takes a query: it is lent a trail too; a listing its list, and a batch its answers behind the number of queries.
-type Search<A> = fn(&mut Tables, Lengths, &mut [u16], &[i16]) -> Told<A>;
-type Listing = fn(&mut Tables, Lengths, &mut [u16], &mut [u64], &[i16], u64) -> Told<[u64; 3]>;
-type Batching = fn(&mut Tables, Lengths, &mut [u16], &[i16], usize, &mut [Answer]) -> Told<u64>;
+type Search<A> = fn(&mut Tables, Lengths, &mut [u16], &[i32]) -> Told<A>;
+type Listing = fn(&mut Tables, Lengths, &mut [u16], &mut [u64], &[i32], u64) -> Told<[u64; 3]>;
+type Batching = fn(&mut Tables, Lengths, &mut [u16], &[i32], usize, &mut [Answer]) -> Told<u64>;
 
 /// Each call over a memory, with the values of its answer in their order; and the program's line.
 pub struct Calls {
     pub open: fn(&mut Tables, Lengths, Measures) -> Told<()>,
-    pub add: fn(&mut Tables, Lengths, &[i16]) -> Told<u64>,
-    pub add_labelled: fn(&mut Tables, Lengths, &[i16], Label) -> Told<u64>,
+    pub add: fn(&mut Tables, Lengths, &[i32]) -> Told<u64>,
+    pub add_labelled: fn(&mut Tables, Lengths, &[i32], Label) -> Told<u64>,
     pub label: fn(&Tables, Lengths, u64) -> Told<Label>,
     pub nearest: Search<[u64; 4]>,
     pub remote_match: Search<[u64; 5]>,

@@ -103,7 +103,7 @@ mod tests {
     fn words_and_suffix() {
         let mut line = Line::parse("2 match 3 -4 | trail=7 short=nodes,labels").ok().expect("a line");
         assert_eq!((line.name, line.library), ("match", 1));
-        assert_eq!(line.rest::<i16>().ok(), Some(vec![3, -4]));
+        assert_eq!(line.rest::<i32>().ok(), Some(vec![3, -4]));
         assert_eq!(line.places("trail", 1).ok(), Some(7));
         assert_eq!(line.places("list", 1).ok(), Some(1));
         assert_eq!(line.tables("short").ok(), Some(vec![2, 5]));
@@ -115,8 +115,8 @@ mod tests {
         for text in ["match  3", "match 3 ", " match", "match 3 | trail", "match 3 | "] {
             assert!(Line::parse(text).is_err(), "{text:?}");
         }
-        for word in ["+3", "32768", "x", "3.0", "-"] {
-            assert!(number::<i16>(word).is_err(), "{word:?}");
+        for word in ["+3", "2147483648", "x", "3.0", "-"] {
+            assert!(number::<i32>(word).is_err(), "{word:?}");
         }
         assert!(Line::parse("match | short=sheet").is_ok_and(|line| line.tables("short").is_err()));
         assert!(Line::parse("match | trail=99999999").is_ok_and(|line| line.places("trail", 0).is_err()));

@@ -3,8 +3,8 @@
 
 use super::line::number;
 use super::{list, malformed, Line, Reply, Session, Unanswered};
-use crate::model::tables::{segment_place, Tables, RECORD_PLACES, RUN, THRESHOLD};
-use crate::model::{candidates, distance_within, Figure, Kind, Node, Segment, Within};
+use crate::model::tables::{segment_place, word_of, Tables, RECORD_PLACES, RUN, THRESHOLD};
+use crate::model::{candidates, distance_within, within, Figure, Kind, Node, Segment, Within, SAMPLE_LIMIT};
 
 /// Every node's record.
 pub fn tree(session: &mut Session, line: Line<'_>) -> Reply {
@@ -36,7 +36,7 @@ fn record(j: usize, node: &Node) -> String {
 
 /// Every leaf in reading order, with its bound and its upper figure.
 pub fn below(session: &mut Session, mut line: Line<'_>) -> Reply {
-    let query: Vec<i16> = line.rest()?;
+    let query: Vec<i32> = line.rest()?;
     let Some(library) = session.library(&line).tables().library() else { return Err(malformed("these tables are not well formed")) };
     if query.len() as u64 != library.measures.n {
         return Err(malformed("a query of another length than n"));
@@ -60,7 +60,7 @@ pub fn walks(session: &mut Session, mut line: Line<'_>) -> Reply {
 /// The distance of a query to a stored trace, with a limit.
 pub fn distance(session: &mut Session, mut line: Line<'_>) -> Reply {
     let (limit, trace): (u64, usize) = (line.next()?, line.next()?);
-    let query: Vec<i16> = line.rest()?;
+    let query: Vec<i32> = line.rest()?;
     let library = session.library(&line).recorded()?;
     let Some(stored) = library.traces.get(trace) else { return Err(malformed("no stored trace")) };
     if query.len() != stored.len() {
@@ -72,7 +72,7 @@ pub fn distance(session: &mut Session, mut line: Line<'_>) -> Reply {
     })
 }
 
-/// Somebody writes the tables: a sample, or fields of a node's record.
+/// Somebody writes the tables: a sample, as its word, or fields of a node's record.
 pub fn alter(session: &mut Session, mut line: Line<'_>) -> Reply {
     let tables = session.library(&line).tables();
     match line.word()? {
@@ -83,13 +83,16 @@ pub fn alter(session: &mut Session, mut line: Line<'_>) -> Reply {
 }
 
 fn alter_trace(tables: &mut Tables, mut line: Line<'_>) -> Result<(), Unanswered> {
-    let (trace, sample, value): (usize, usize, i16) = (line.next()?, line.next()?, line.next()?);
+    let (trace, sample, value): (usize, usize, i32) = (line.next()?, line.next()?, line.next()?);
     line.end()?;
     let (n, count) = (usize::from(tables.control[0]), usize::from(tables.control[3]));
     if trace >= count || !(1..=n).contains(&sample) {
         return Err(malformed("no sample of a stored trace"));
     }
-    tables.samples[trace * n + sample - 1] = value;
+    if !within(SAMPLE_LIMIT, &[value]) {
+        return Err(malformed("no word of the table stands for this sample"));
+    }
+    tables.samples[trace * n + sample - 1] = word_of(value);
     Ok(())
 }
 

@@ -1,7 +1,7 @@
 //! What calls are lent, and what they may do to it: every place that a call may not write is held to what it was before.
 
 use super::{malformed, Line, Unanswered};
-use crate::model::tables::{needs, Lengths, Tables, CONTROL_FIELDS};
+use crate::model::tables::{needs, sample_of, word_of, Lengths, Tables, CONTROL_FIELDS};
 use crate::model::{Library, Measures, Refused};
 use silkendoz::calls::Answer;
 
@@ -24,7 +24,7 @@ macro_rules! marks {
     };
 }
 
-marks!(u8, u16, i16, u64, i64);
+marks!(u8, u16, i32, u64, i64);
 
 impl Mark for Answer {
     fn mark(place: usize) -> Answer {
@@ -122,17 +122,31 @@ impl Memory {
 }
 
 impl Effect {
-    /// Takes over what the call may have written, and sets to zero what it has to.
+    /// Takes over what the call may have written, and sets to zero what it has to. The control record comes last: what was stored before is
+    /// read off it.
     fn allow(self, expected: &mut Tables, after: &Tables, need: Lengths) {
         self.allow_labels(expected, after, need);
+        self.allow_samples(expected, after, need);
         if matches!(self, Effect::Puts(_) | Effect::Changes) {
             expected.control[..need.control].copy_from_slice(&after.control[..need.control]);
-            expected.samples[..need.samples].copy_from_slice(&after.samples[..need.samples]);
             expected.nodes[..need.nodes].copy_from_slice(&after.nodes[..need.nodes]);
             expected.links[..need.links].copy_from_slice(&after.links[..need.links]);
         }
         if matches!(self, Effect::Puts(_) | Effect::Searches) {
             expected.work[..need.work].fill(0);
+        }
+    }
+
+    /// Takes over the samples of traces that the call has added, of whose words the lower bits are zero; where it puts a library, all.
+    fn allow_samples(self, expected: &mut Tables, after: &Tables, need: Lengths) {
+        let end = |t: &Tables| usize::from(t.control[0]) * usize::from(t.control[3]);
+        let added = match self {
+            Effect::Puts(_) => 0..need.samples,
+            Effect::Changes => end(expected)..end(after).min(need.samples),
+            Effect::Searches | Effect::Looks => return,
+        };
+        for place in added {
+            expected.samples[place] = word_of(sample_of(after.samples[place]));
         }
     }
 
@@ -263,6 +277,23 @@ mod tests {
     #[should_panic(expected = "left place 6 of the samples")]
     fn a_place_behind_the_need() {
         call(Effect::Changes, Ok(()), |t, l| t.samples[l.samples] = 0);
+    }
+
+    #[test]
+    fn the_samples_of_an_added_trace() {
+        assert!(call(Effect::Changes, Ok(()), |t, _| (t.control[3], t.samples[1]) = (1, -4096)));
+    }
+
+    #[test]
+    #[should_panic(expected = "left place 1 of the samples")]
+    fn a_sample_with_lower_bits() {
+        call(Effect::Changes, Ok(()), |t, _| (t.control[3], t.samples[1]) = (1, -1));
+    }
+
+    #[test]
+    #[should_panic(expected = "left place 2 of the samples")]
+    fn a_sample_of_no_trace() {
+        call(Effect::Changes, Ok(()), |t, _| (t.control[3], t.samples[2]) = (1, 4096));
     }
 
     #[test]

@@ -34,7 +34,7 @@ use memory::{Area, Effect, Memory};
 use std::fmt::Display;
 
 /// How many of document 02's requests have landed.
-pub const STAGE: usize = 8;
+pub const STAGE: usize = 9;
 
 /// Two libraries, of which nothing was opened at first: the factory's is the first, the bench's the second.
 pub struct Session {
@@ -144,14 +144,14 @@ fn open(session: &mut Session, mut line: Line<'_>) -> Reply {
 }
 
 fn add(session: &mut Session, mut line: Line<'_>) -> Reply {
-    let (trace, add): (Vec<i16>, _) = (line.rest()?, session.calls.add);
+    let (trace, add): (Vec<i32>, _) = (line.rest()?, session.calls.add);
     let number = session.library(&line).call(&line, Effect::Changes, |t, l| add(t, l, &trace))?;
     Ok(format!("added {number}"))
 }
 
 fn add_labelled(session: &mut Session, mut line: Line<'_>) -> Reply {
     let label = Label { code: line.next()?, serial: line.next()? };
-    let (trace, add): (Vec<i16>, _) = (line.rest()?, session.calls.add_labelled);
+    let (trace, add): (Vec<i32>, _) = (line.rest()?, session.calls.add_labelled);
     let number = session.library(&line).call(&line, Effect::Changes, |t, l| add(t, l, &trace, label))?;
     Ok(format!("added {number}"))
 }
@@ -164,7 +164,7 @@ fn label(session: &mut Session, mut line: Line<'_>) -> Reply {
 }
 
 fn nearest(session: &mut Session, mut line: Line<'_>) -> Reply {
-    let (query, nearest): (Vec<i16>, _) = (line.rest()?, session.calls.nearest);
+    let (query, nearest): (Vec<i32>, _) = (line.rest()?, session.calls.nearest);
     let library = session.library(&line);
     let mut trail = Area::of("trail", line.places("trail", library.leaves())?);
     let answer = library.call(&line, Effect::Searches, |t, l| nearest(t, l, trail.lent(), &query));
@@ -173,7 +173,7 @@ fn nearest(session: &mut Session, mut line: Line<'_>) -> Reply {
 }
 
 fn remote_match(session: &mut Session, mut line: Line<'_>) -> Reply {
-    let (query, remote_match): (Vec<i16>, _) = (line.rest()?, session.calls.remote_match);
+    let (query, remote_match): (Vec<i32>, _) = (line.rest()?, session.calls.remote_match);
     let library = session.library(&line);
     let mut trail = Area::of("trail", line.places("trail", library.leaves())?);
     let answer = library.call(&line, Effect::Searches, |t, l| remote_match(t, l, trail.lent(), &query));
@@ -182,7 +182,7 @@ fn remote_match(session: &mut Session, mut line: Line<'_>) -> Reply {
 }
 
 fn k_nearest(session: &mut Session, mut line: Line<'_>) -> Reply {
-    let (k, query, k_nearest): (u64, Vec<i16>, _) = (line.next()?, line.rest()?, session.calls.k_nearest);
+    let (k, query, k_nearest): (u64, Vec<i32>, _) = (line.next()?, line.rest()?, session.calls.k_nearest);
     let library = session.library(&line);
     let mut trail = Area::of("trail", line.places("trail", library.leaves())?);
     // a k above 16 is refused whatever the list
@@ -239,7 +239,7 @@ fn check(session: &mut Session, line: Line<'_>) -> Reply {
 }
 
 fn batch(session: &mut Session, mut line: Line<'_>) -> Reply {
-    let (many, places, queries): (usize, usize, Vec<i16>) = (line.next()?, line.next()?, line.rest()?);
+    let (many, places, queries): (usize, usize, Vec<i32>) = (line.next()?, line.next()?, line.rest()?);
     let batch = session.calls.match_batch;
     let library = session.library(&line);
     let mut trail = Area::of("trail", line.places("trail", library.leaves())?);

@@ -1,4 +1,4 @@
--- A node's own bound, segment by segment.
+-- A node's own bound and its own upper figure, segment by segment.
 use mathlib.Core.Path.{_≡_, refl, sym, subst, _∙_}
 use mathlib.Core.List.{List, [], _∷_, map}
 use Prim.Native.Nat.{ℕ, suc, _+_, _-_, _≤_, _<_}
@@ -11,21 +11,27 @@ use Rattle.integer.proofs.Times.{counting-length}
 use Rattle.segment.specs.Stored.{samplesOf}
 use Rattle.segment.proofs.Stored.{samples-length}
 use Rattle.dstree.specs.Measures.{Trace, sampleLimit, mostSamples}
-use Rattle.dstree.specs.Figures.{run, width}
+use Rattle.dstree.specs.Figures.{Run, run, width}
 use Rattle.dstree.specs.Node.{Segment, ends, totalOver}
 use Rattle.dstree.specs.Formed.{Rises, rises-more, Limited, AllLimited, l-more}
-use Rattle.dstree.specs.Matching.{boundOn, ownBound}
+use Rattle.dstree.specs.Matching.{ownBound}
+use Rattle.dstree.specs.Bands.{ownUpper}
 use Rattle.dstree.proofs.Cuts.{parted-rises}
 use Rattle.tables.proofs.Views.{end-at}
 use Rattle.tables.specs.Layout.{segmentsPlace, segmentAt}
 use Rattle.tables.specs.View.{smallAt, segmentIn, segmentsIn, nodeIn}
 use Rattle.prefixes.specs.Prefixes.{Prefixes}
-use Rattle.query.specs.Bounded.{Bounded, boundBy}
+use Rattle.query.specs.Bounded.{Bounded, boundBy, upperBy}
 
 -- the own bound of the node that a record stands for, whatever its kind
 pub own-bound-in : (query : Trace) (links : List ℕ) (count : ℕ) (r : List ℤ) → ownBound query (nodeIn links count r) ≡ boundBy query r
 unfolding ownBound nodeIn
 own-bound-in query links count r = refl
+
+-- .. and its own upper figure
+pub own-upper-in : (query : Trace) (links : List ℕ) (count : ℕ) (r : List ℤ) → ownUpper query (nodeIn links count r) ≡ upperBy query r
+unfolding ownUpper nodeIn
+own-upper-in query links count r = refl
 
 -- ---- the segments from number i on
 abbrev pub segmentsAfter : List ℤ → ℕ → ℕ → List Segment
@@ -78,17 +84,18 @@ module _ (r : List ℤ) (count i : ℕ) (h : i < count) where
         let limited = subst (AllLimited sampleLimit first) after-more (l .limited) in
         subst (NextSegment r n count first i) is-end (next-of rises limited)
 
-    pub bound-more : (query : Trace) (first : ℕ) → totalOver (boundOn query) first (segmentsAfter r count i)
-        ≡ boundOn query (run first last) (segmentIn r i) + totalOver (boundOn query) (last + 1) (segmentsAfter r count (i + 1))
+    -- one term more
+    pub total-more : (term : Run → Segment → ℕ) (first : ℕ) → totalOver term first (segmentsAfter r count i)
+        ≡ term (run first last) (segmentIn r i) + totalOver term (last + 1) (segmentsAfter r count (i + 1))
     unfolding totalOver
-    bound-more query first =
-        subst (λ (x : ℕ). totalOver (boundOn query) first (segmentsAfter r count i)
-        ≡ boundOn query (run first x) (segmentIn r i) + totalOver (boundOn query) (x + 1) (segmentsAfter r count (i + 1))) is-end
+    total-more term first =
+        subst (λ (x : ℕ). totalOver term first (segmentsAfter r count i)
+        ≡ term (run first x) (segmentIn r i) + totalOver term (x + 1) (segmentsAfter r count (i + 1))) is-end
         (rw (after-more, add-one (segmentIn r i .end)))
 
-pub bound-end : (r : List ℤ) (count : ℕ) (query : Trace) (first i : ℕ) → count ≤ i → totalOver (boundOn query) first (segmentsAfter r count i) ≡ 0
+pub total-end : (r : List ℤ) (count : ℕ) (term : Run → Segment → ℕ) (first i : ℕ) → count ≤ i → totalOver term first (segmentsAfter r count i) ≡ 0
 unfolding totalOver
-bound-end r count query first i h = rw (after-none r count i h)
+total-end r count term first i h = rw (after-none r count i h)
 
 pub after-start : (r : List ℤ) → segmentsAfter r (smallAt r segmentsPlace) 0 ≡ segmentsIn r
 unfolding segmentsIn

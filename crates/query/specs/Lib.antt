@@ -1,2 +1,2 @@
--- What is known of a node's record that gets a bound.
+-- What is known of a node's record that gets a bound or an upper figure.
 pub mod Bounded

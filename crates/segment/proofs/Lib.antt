@@ -9,3 +9,4 @@ pub mod Fewest
 pub mod Limits
 pub mod Bound
 pub mod Examples
+pub mod Upper

@@ -1,10 +1,11 @@
-// One segment's part in a node's bound and in a node's spread.
+// One segment's part in a node's bound, spread and upper figure.
 ghost use mathlib.Core.Path.{_≡_};
 ghost use Prim.Native.Nat.{_-_, _/_, _<_, _≤_, min, max};
 ghost use lib.IntN.{natAbs};
 ghost use Rattle.segment.specs.Limits.{sumRoom, scatterRoom, gapRoom, totalRoom, termMost, widthMost};
 ghost use Rattle.segment.specs.Roots.{floorRoot, ceilingRoot};
 ghost use Rattle.segment.specs.Terms.{sumGap, scatterGap, boundTerm, spreadTerm};
+ghost use Rattle.segment.specs.Upper.{sumReach, scatterReach, upperTerm};
 
 // a - b, or 0 where that is below 0
 fn over(a: u64, b: u64) -> u64
@@ -104,6 +105,50 @@ pub fn segment_bound(
     let g = sum_gap(t, least_sum, greatest_sum);
     let h = scatter_gap(u, least_scatter, greatest_scatter);
     bound_term(w, g, h)
+}
+
+// The larger distance from t to the least or the greatest sum: the distance to a range of one number is that to the number. The distance
+// to the nearer end does not meet this.
+pub fn sum_reach(t: i64, least: i64, greatest: i64) -> u64
+    requires { ⌜ (natAbs t ≤ totalRoom) × (natAbs least ≤ totalRoom) × (natAbs greatest ≤ totalRoom) ⌝ }
+    ensures { λ r. ⌜ r ≡ sumReach t least greatest ⌝ }
+{
+    larger(sum_gap(t, least, least), sum_gap(t, greatest, greatest))
+}
+
+// The ceiling roots of the greatest scatter and of u together. The ceiling root of their sum does not meet this.
+pub fn scatter_reach(u: u64, greatest: u64) -> u64
+    requires { ⌜ (u ≤ scatterRoom) × (greatest ≤ scatterRoom) ⌝ }
+    ensures { λ r. ⌜ r ≡ scatterReach u greatest ⌝ }
+{
+    crate::roots::ceiling_root(greatest) + crate::roots::ceiling_root(u)
+}
+
+// A segment's term of a node's upper figure, rounded down. Rounded up it does not meet this.
+pub fn upper_term(w: u64, g: u64, h: u64) -> u64
+    requires { ⌜ (0 < w) × (w ≤ widthMost) × (g ≤ gapRoom) × (h ≤ gapRoom) ⌝ }
+    ensures { λ r. ⌜ r ≡ upperTerm w g h ⌝ }
+{
+    quotient(g * g + h * h, w)
+}
+
+// A segment's term of a node's upper figure, from the query's sum t and scatter u and the node's ranges. The ranges need not be in order.
+pub fn segment_upper(
+    w: u64,
+    t: i64,
+    u: u64,
+    least_sum: i64,
+    greatest_sum: i64,
+    greatest_scatter: u64,
+) -> u64
+    requires { ⌜ (0 < w) × (w ≤ widthMost) × (natAbs t ≤ sumRoom) × (natAbs «least_sum» ≤ sumRoom) × (natAbs «greatest_sum» ≤ sumRoom)
+        × (u ≤ scatterRoom) × («greatest_scatter» ≤ scatterRoom) ⌝ }
+    ensures { λ r. ⌜ r ≡ upperTerm w (sumReach t «least_sum» «greatest_sum») (scatterReach u «greatest_scatter») ⌝ }
+    ensures size { λ r. ⌜ r ≤ termMost ⌝ }
+{
+    let g = sum_reach(t, least_sum, greatest_sum);
+    let h = scatter_reach(u, greatest_scatter);
+    upper_term(w, g, h)
 }
 
 // A segment's term of a node's spread, rounded down. Rounded up it does not meet this, nor with the least scatter in place of the greatest.

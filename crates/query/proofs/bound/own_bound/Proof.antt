@@ -12,7 +12,7 @@ use Rattle.dstree.specs.Matching.{boundOn}
 use Rattle.tables.specs.Layout.{segmentsPlace}
 use Rattle.tables.specs.View.{smallAt, segmentsIn}
 use Rattle.query.specs.Bounded.{boundBy}
-use Rattle.query.proofs.Own.{segmentsAfter, Left, NextSegment, next-at, bound-more, bound-end, after-start, few-words, few-segments, left-all}
+use Rattle.query.proofs.Own.{segmentsAfter, Left, NextSegment, next-at, total-more, total-end, after-start, few-words, few-segments, left-all}
 use Rattle.query.proofs.bound.own_bound.Statement.{statement}
 use Rattle.query.proofs.bound.own_bound.Tie as tie
 
@@ -100,8 +100,8 @@ loop-again c =
     let s = c .before .before .before .before .before in
     let l = c .before .before .before .loop in
     let x = next (c .before) in
-    let more = bound-more (s .args .«record» .now) (c .before .before .before .before .small-at .result) (l .i)
-    (c .before .before .loop-test .taken) (c .before .small-at2 .result) (c .before .small-at2 .ensures) (samplesOf (s .args .query .now)) (l .first) in
+    let more = total-more (s .args .«record» .now) (c .before .before .before .before .small-at .result) (l .i)
+    (c .before .before .loop-test .taken) (c .before .small-at2 .result) (c .before .small-at2 .ensures) (boundOn (samplesOf (s .args .query .now))) (l .first) in
     (omega arith, omega arith, omega (arith, l .inv .2, more, c .segment-term .ensures .0), omega (arith, l .inv .3, c .segment-term .ensures .1, x .rises), omega (arith, x .to-n), x .on)
 
 returns : tie.Need-returns Inv-loop μ-loop
@@ -109,7 +109,7 @@ unfolding sampleLimit boundLimit
 returns c =
     let s = c .before .before .before in
     let l = c .before .loop in
-    let rest = bound-end (s .args .«record» .now) (c .before .before .small-at .result) (samplesOf (s .args .query .now)) (l .first) (l .i) (c .loop-test .left) in
+    let rest = total-end (s .args .«record» .now) (c .before .before .small-at .result) (boundOn (samplesOf (s .args .query .now))) (l .first) (l .i) (c .loop-test .left) in
     (omega (arith, l .inv .2, rest), omega (arith, l .inv .3, l .inv .4, few-words (s .args .query .now) (s .pre .0)))
 
 pub own-bound-spec : {M : Type 1} → statement M

@@ -43,7 +43,7 @@ term-at-most query y on s h lq ly w =
     }) (samplesOn on query) (samplesOn on y) (lq ∙ sym ly)
     (record { width-is = ly; sum-above = h .sum-low; sum-below = h .sum-high; scatter-above = h .scatter-low; scatter-below = h .scatter-high }) w
 
-samples-are : (f e : ℕ) (x : Trace) → samplesOn (run (suc f) e) x ≡ take (suc e - suc f) (drop f x)
+pub samples-are : (f e : ℕ) (x : Trace) → samplesOn (run (suc f) e) x ≡ take (suc e - suc f) (drop f x)
 unfolding samplesOn
 samples-are f e x = let z : suc f - 1 ≡ f = omega arith in rw z
 

@@ -6,6 +6,7 @@ use Rattle.segment.specs.Figures.{sum, sumOfSquares, scatter, distance}
 use Rattle.segment.specs.Roots.{fallingFrom, floorRoot, ceilingRoot}
 use Rattle.segment.specs.Terms.{sumGap, scatterGap, boundTerm, spreadTerm}
 use Rattle.segment.specs.Partition.{totalBound}
+use Rattle.segment.specs.Upper.{sumReach, scatterReach, upperTerm}
 use Rattle.segment.specs.Limits.{sumLimit, scatterLimit, rootLimit, largestDistance}
 use Rattle.dstree.specs.Measures.{sampleLimit, inRange, samplesNeeded, recordsNeeded, linksNeeded, workNeeded, labelsNeeded, isTrace, isLibrary}
 use Rattle.dstree.specs.Figures.{samplesOn}
@@ -34,6 +35,8 @@ use Rattle.dstree.specs.Claims.{numbersAmong}
 use Rattle.dstree.specs.KNearest.{nears, nearestList, listPlaces, kth, readInto, stopsAtKth, listed, kNearestBySteps}
 use Rattle.dstree.specs.KNearest.{leavesRk, kNearestOf, listOfMatch, inRank, distancesAmong}
 use Rattle.dstree.specs.Batch.{isBatch, wanted, batchOf, bestAmong, readOnce, readFor, batchRead, nearOrZero, batchBySteps}
+use Rattle.dstree.specs.Bands.{upperOn, ownUpper, upperFrom, isEdges, bandsOf, isSure, isPossible, tracesAmong, bandCount, bandReport}
+use Rattle.dstree.specs.Bands.{reportPlaces, trueCount}
 use Rattle.dstree.specs.Recording.{header, fieldBytes, recordingOf, rateIn, sizeIn, begins, isRecording, recordedTraces}
 use Rattle.dstree.specs.Recording.{judgeRecording, fileTraces, isBadFile}
 use Rattle.dstree.specs.Checking.{belowFrom, sameFigures, areExact, isExactAt, isExact}
@@ -84,6 +87,11 @@ unfoldable batchesOpen : Unit {0}
 unfolding isBatch wanted batchOf bestAmong readOnce readFor batchRead nearOrZero batchBySteps
 batchesOpen = tt
 
+unfoldable bandsOpen : Unit {0}
+unfolding sumReach scatterReach upperTerm upperOn ownUpper upperFrom isEdges bandsOf isSure isPossible tracesAmong bandCount bandReport
+    reportPlaces trueCount
+bandsOpen = tt
+
 unfoldable rulesOpen : Unit {0}
 unfolding rising everyNode childrenOf childrenAbove childOnce endsFit endsKept leafFits inOneLeaf withinℤ segmentFits segmentsFit
 rulesOpen = tt
@@ -133,6 +141,6 @@ unfolding refusalLine matchLine lineOf judgedLine programLine digitsFrom decimal
 linesOpen = tt
 
 unfoldable pub everything : Unit {0}
-unfolding wordsOpen figuresOpen figuresOpen2 nodesOpen nodesOpen2 addingOpen addingOpen2 matchingOpen matchingOpen2 nearestOpen batchesOpen rulesOpen
-    rulesOpen2 sheetsOpen sheetsOpen2 sheetTestsOpen widthsOpen labelsOpen recordingsOpen checkingOpen booksOpen booksOpen2 linesOpen
+unfolding wordsOpen figuresOpen figuresOpen2 nodesOpen nodesOpen2 addingOpen addingOpen2 matchingOpen matchingOpen2 nearestOpen batchesOpen bandsOpen
+    rulesOpen rulesOpen2 sheetsOpen sheetsOpen2 sheetTestsOpen widthsOpen labelsOpen recordingsOpen checkingOpen booksOpen booksOpen2 linesOpen
 everything = tt

@@ -1,6 +1,6 @@
 -- Laws of the definitions. The tree that adding makes: Invariant, Joins, Splits and Grown; a query: Bounds, Reading, Search and Closed;
 -- all together: Laws. The k nearest: Ranks, KSteps and KClosed; all together: KLaws. Batches: BatchSteps and BatchClosed; all together:
--- BatchLaws.
+-- BatchLaws. Bands: Upper and Bands; all together: BandLaws.
 -- Sheets: SheetWritten, SheetRead, ReadBack and WrittenAgain; all together: RoundTrips.
 -- Recorder's files: Recordings. Both sides seen: Looking. The check of tables: TracesBelow, BelowOnce and Recomputed; all together:
 -- Checking.
@@ -39,6 +39,9 @@ pub mod KSteps
 pub mod KClosed
 pub mod BatchSteps
 pub mod BatchClosed
+pub mod Upper
+pub mod UpperLimits
+pub mod Bands
 pub mod SheetPieces
 pub mod SheetFormat
 pub mod SheetFields
@@ -61,6 +64,7 @@ pub mod Remote
 pub mod Laws
 pub mod KLaws
 pub mod BatchLaws
+pub mod BandLaws
 pub mod KExamples
 pub mod TracesBelow
 pub mod BelowOnce

@@ -53,10 +53,10 @@ module _ (limit n : ℕ) (x : Trace) (is-one : T (isTrace limit n x)) where
   unfolding samplesOn
   within-on on = within-take (width on) (drop (on .first - 1) x) (within-drop (on .first - 1) x trace-within)
 
-  sum-in : (on : Run) → RunIn n on → natAbs (sumOn on x) ≤ sumLimit limit (width on)
+  pub sum-in : (on : Run) → RunIn n on → natAbs (sumOn on x) ≤ sumLimit limit (width on)
   sum-in on r = rw (samples-length on x r trace-length) at (sum-limit limit (samplesOn on x) (within-on on))
 
-  scatter-in : (on : Run) → RunIn n on → scatterOn on x ≤ scatterLimit limit (width on)
+  pub scatter-in : (on : Run) → RunIn n on → scatterOn on x ≤ scatterLimit limit (width on)
   scatter-in on r = rw (samples-length on x r trace-length) at (scatter-limit limit (samplesOn on x) (within-on on))
 
   -- ---- a record that is widened

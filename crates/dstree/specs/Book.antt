@@ -14,6 +14,7 @@ use Rattle.dstree.specs.Adding.{treeOf}
 use Rattle.dstree.specs.Matching.{leaves, Near, Match, Search, searched, matchOf}
 use Rattle.dstree.specs.KNearest.{isK, listPlaces, KNearest, kNearestBySteps, kNearestOf}
 use Rattle.dstree.specs.Batch.{queriesIn, batchConditions, Batch, nearOrZero, batchBySteps, batchOf}
+use Rattle.dstree.specs.Bands.{BandCount, bandReport, reportPlaces, bandConditions}
 use Rattle.dstree.specs.Refusals.{Refusal, measure, shortTable, wrongTrace, full, shortTrail, sheetLength, badK, badRecording}
 use Rattle.dstree.specs.Refusals.{sampleRange, Condition, _refuses_, firstOf, runConditions}
 use Rattle.dstree.specs.Recording.{rateLimit, recordingSize, recordingOf, Recording, judgeRecording, isBadFile, fileTraces}
@@ -38,12 +39,14 @@ pub record Lent : Type 0 where
 
 -- what a search is asked: a match comes with its query and the contents of its trail; the search of document 02, §1, with k, its query, and
 -- the contents of its trail and its list; a batch of §7 with the number of its queries, their run of samples, and the contents of its trail
--- and of its list of answer records; the remote's match of §8 with its query and its trail
+-- and of its list of answer records; the remote's match of §8 with its query and its trail; a report of §10 with its query, its edges and
+-- the contents of its list
 pub data Sought : Type 0 where
   aMatch : Trace → List ℕ → Sought
   aListing : ℕ → Trace → List ℕ → List ℕ → Sought
   aBatch : ℕ → Trace → List ℕ → List Near → Sought
   aRemote : Trace → List ℕ → Sought
+  aBanding : Trace → List ℕ → List ℕ → Sought
 
 -- what a call asks for: "calls of opening, adding, match, sheet writing and sheet reading .. with any arguments". "Trails and sheets are
 -- not part of" the tables: a writing and a reading come with the bytes of their sheet; an import of document 02, §2, with the bytes of its
@@ -72,6 +75,9 @@ batching count run trail list = searching (aBatch count run trail list)
 abbrev pub remoteMatching : Trace → List ℕ → Ask
 remoteMatching query trail = searching (aRemote query trail)
 
+abbrev pub banding : Trace → List ℕ → List ℕ → Ask
+banding query edges list = searching (aBanding query edges list)
+
 -- a call: "arguments .., lengths of tables included"
 pub record Call : Type 0 where
   pub lent : Lent
@@ -85,7 +91,8 @@ call lent ask = record { lent = lent; ask = ask }
 -- what a call answers that is not refused: "Opening and sheet reading answer only that they succeeded, adding the new trace's number,
 -- writing the number of blocks"; a match with its trail, a writing with its sheet, a listing with list and trail; an import "how many"
 -- traces it added, an export "its bytes' number", with these bytes; a check that "it accepts"; a batch with its answer records, "one count
--- of leaves" and its trail; the bench's call "both for a trace number"; the remote's a match that "adds the fault code and nothing else"
+-- of leaves" and its trail; the bench's call "both for a trace number"; the remote's a match that "adds the fault code and nothing else"; a
+-- report "how many traces surely lie in" each band "and how many may"
 pub data Result : Type 0 where
   done : Result
   added : ℕ → Result
@@ -98,6 +105,7 @@ pub data Result : Type 0 where
   batched : Batch → Result
   labelled : Label → Result
   remoteMatched : Match → ℕ → Result
+  banded : List BandCount → Result
 
 -- "does its work or gives the one refusal that document 01 fixes"
 pub data Answer : Type 0 where
@@ -287,11 +295,24 @@ remoteSearch query trail = record {
   closed = λ m traces codes tree. remoteFound codes trail (matchOf traces tree query);
 }
 
+-- document 02, §10: "a report that reads no traces", nor a label. Places past the bands keep their contents
+abbrev pub bandFound : List ℕ → List BandCount → Found
+bandFound list report = finding (banded report) (over (reportPlaces report) list ∷ [])
+
+abbrev pub bandSearch : Trace → List ℕ → List ℕ → AnySearch
+bandSearch query edges list = record {
+  lends = list ∷ [];
+  refuses-own = λ m count tree. bandConditions (m .n) query edges list;
+  steps = λ m traces codes tree. bandFound list (bandReport tree query edges);
+  closed = λ m traces codes tree. bandFound list (bandReport tree query edges);
+}
+
 abbrev pub searchOf : Sought → AnySearch
 searchOf (aMatch query trail) = matchSearch query trail
 searchOf (aListing k query trail list) = listSearch k query trail list
 searchOf (aBatch count run trail list) = batchSearch count run trail list
 searchOf (aRemote query trail) = remoteSearch query trail
+searchOf (aBanding query edges list) = bandSearch query edges list
 
 -- what a call is lent beside the tables to be written, slice by slice
 unfoldable pub besideOf : Ask → List (List ℕ)

@@ -23,6 +23,8 @@ pub data Refusal : Type 0 where
   badBatch : Refusal
   -- document 02, §9: "15 sample range, for an added trace, query or sheet with a sample outside the limits"
   sampleRange : Refusal
+  -- document 02, §10: "16 bad edges, wrong count or not rising"
+  badEdges : Refusal
 
 -- the table's numbers
 unfoldable pub numberOf : Refusal → ℕ
@@ -41,6 +43,7 @@ numberOf badRecording = 12
 numberOf looseRecord = 13
 numberOf badBatch = 14
 numberOf sampleRange = 15
+numberOf badEdges = 16
 
 -- "a place: the first block at fault for 9, else 0"
 unfoldable pub placeOf : Refusal → ℕ
@@ -59,6 +62,7 @@ placeOf badRecording = 0
 placeOf looseRecord = 0
 placeOf badBatch = 0
 placeOf sampleRange = 0
+placeOf badEdges = 0
 
 -- a condition of the table with its refusal
 pub record Condition : Type 0 where

@@ -7,8 +7,8 @@ use mathlib.Core.List.{List, map}
 use lib.Dec.{T}
 use Rattle.integer.specs.Words.{every}
 use Rattle.dstree.specs.Labels.{Label}
-use Rattle.dstree.specs.Book.{Layout, aMatch, aListing, aBatch, aRemote, Ask, opening, adding, searching, writing, reading, importing}
-use Rattle.dstree.specs.Book.{exporting, checking, labelling, Call, Book, repliesOf}
+use Rattle.dstree.specs.Book.{Layout, aMatch, aListing, aBatch, aRemote, aBanding, Ask, opening, adding, searching, writing, reading}
+use Rattle.dstree.specs.Book.{importing, exporting, checking, labelling, Call, Book, repliesOf}
 
 -- the codes of labels
 abbrev pub codesOf : List Label → List ℕ
@@ -28,6 +28,7 @@ isRemote (searching (aMatch query trail)) = false
 isRemote (searching (aListing k query trail list)) = false
 isRemote (searching (aBatch count run trail list)) = false
 isRemote (searching (aRemote query trail)) = true
+isRemote (searching (aBanding query edges list)) = false
 isRemote (writing sheet) = false
 isRemote (reading bytes) = false
 isRemote (importing bytes) = false

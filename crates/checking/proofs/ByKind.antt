@@ -1,93 +1,23 @@
--- A node that may be walked, by its kind field: a leaf with its list, or an inner node with its two children, which are nodes above it.
-use mathlib.Core.Path.{_≡_, refl, _∙_}
+-- The traces below a node that may be walked, by its kind field: a leaf's list, or those below an inner node's two children.
+use mathlib.Core.Path.{_≡_}
 use mathlib.Core.List.{List, _++_}
-use Prim.Native.Nat.{ℕ, zero, suc, _+_, _*_, _≤_, _<_}
-use native.Mathlib.Omega.{arith}
+use Prim.Native.Nat.{ℕ, _≤_, _<_}
 use lib.IntN.{ℤ}
-use lib.ListN.{length}
-use Rattle.integer.proofs.Lists.{In, first, in-is}
-use Rattle.dstree.specs.Node.{Test, Kind, leaf, inner, Tree, nodeAt}
-use Rattle.dstree.specs.Matching.{numbersIn}
 use Rattle.dstree.specs.Checking.{tracesBelow}
-use Rattle.dstree.proofs.Change.{has-left, has-right}
 use Rattle.dstree.proofs.TracesBelow.{below-of-leaf, below-of-inner}
-use Rattle.tables.specs.Layout.{kindPlace, firstPlace, rightPlace, recordPlaces}
+use Rattle.tables.specs.Layout.{kindPlace, firstPlace, rightPlace}
 use Rattle.tables.specs.Tables.{recordOf}
-use Rattle.tables.specs.View.{smallAt, numbersFrom, kindIn}
+use Rattle.tables.specs.View.{smallAt}
 use Rattle.tables.specs.Walk.{numbersOf}
-use Rattle.tables.proofs.Views.{tree-size, tree-kind, tree-leaf, tree-inside}
-use Rattle.checking.specs.Laid.{countedTables, treeBy, Walks}
+use Rattle.tables.specs.Nodes.{treeBy, Walks}
+use Rattle.tables.proofs.ByKind.{in-tree, leaf-is, inner-is}
 
--- an inner node with these children
-pub record Branches (kind : Kind) (l r : ℕ) : Type 0 where
-  pub test : Test
-  pub is : kind ≡ inner test l r
+module _ {nodes : List ℤ} {links : List ℕ} {k m : ℕ} (w : Walks nodes links k m) (j : ℕ) (h : j < m) where
+  pub leaf-below : smallAt (recordOf nodes j) kindPlace ≡ 0
+      → tracesBelow (treeBy nodes links k m) j ≡ numbersOf links k (smallAt (recordOf nodes j) firstPlace)
+  leaf-below e = below-of-leaf (w .shape) (in-tree w j h) (leaf-is w j h e)
 
-branches : (links : List ℕ) (k : ℕ) (r : List ℤ) (v : ℕ) → 1 ≤ v → v ≤ 2 → Branches (kindIn links k r v) (smallAt r firstPlace)
-    (smallAt r rightPlace)
-unfolding kindIn
-branches links k r zero h g = absurd (omega arith)
-branches links k r (suc zero) h g = record { test = _; is = refl }
-branches links k r (suc (suc zero)) h g = record { test = _; is = refl }
-branches links k r (suc (suc (suc v))) h g = absurd (omega arith)
-
-module _ {nodes : List ℤ} {links : List ℕ} {k m : ℕ} (w : Walks nodes links k m) where
-  abbrev tree : Tree
-  tree = treeBy nodes links k m
-
-  pub size-is : length tree ≡ m
-  size-is = tree-size (countedTables nodes links k m)
-
-  module _ (j : ℕ) (h : j < m) where
-    abbrev r : List ℤ
-    r = recordOf nodes j
-
-    pub in-table : (j * recordPlaces + recordPlaces ≤ length nodes) × (j ≤ 8191)
-    in-table = (omega (arith, w .nodes-room), omega (arith, w .nodes-few))
-
-    pub in-tree : j < length (treeBy nodes links k m)
-    in-tree = tree-inside (countedTables nodes links k m) j h
-
-    -- ---- a leaf
-
-    module _ (e : smallAt (recordOf nodes j) kindPlace ≡ 0) where
-      pub leaf-is : nodeAt (treeBy nodes links k m) j .kind ≡ leaf (numbersOf links k (smallAt (recordOf nodes j) firstPlace))
-      leaf-is = tree-leaf (countedTables nodes links k m) j h e
-
-      pub first-stored : smallAt (recordOf nodes j) firstPlace < k
-      unfolding numbersFrom numbersIn
-      first-stored = w .shape .numbers (smallAt r firstPlace) j (rw leaf-is (in-is (head (smallAt r firstPlace))))
-        where
-          head : (x : ℕ) → In x (numbersOf links k x)
-          head x = first
-
-      pub leaf-below : tracesBelow (treeBy nodes links k m) j ≡ numbersOf links k (smallAt (recordOf nodes j) firstPlace)
-      leaf-below = below-of-leaf (w .shape) in-tree leaf-is
-
-    -- ---- an inner node
-
-    module _ (e : 1 ≤ smallAt (recordOf nodes j) kindPlace) where
-      pub inner-is : Branches (nodeAt (treeBy nodes links k m) j .kind) (smallAt (recordOf nodes j) firstPlace)
-          (smallAt (recordOf nodes j) rightPlace)
-      inner-is =
-          let b = branches links k r (smallAt r kindPlace) e (w .named j h) in
-          record { test = b .test; is = tree-kind (countedTables nodes links k m) j h ∙ b .is }
-
-      pub left-above : (j < smallAt (recordOf nodes j) firstPlace) × (smallAt (recordOf nodes j) firstPlace < m)
-      left-above =
-          let b = inner-is in
-          let c = w .shape .children .child j (smallAt r firstPlace) (rw (b .is)
-          (has-left (b .test) (smallAt r firstPlace) (smallAt r rightPlace))) in
-          (c .0, omega (arith, c .1, size-is))
-
-      pub right-above : (j < smallAt (recordOf nodes j) rightPlace) × (smallAt (recordOf nodes j) rightPlace < m)
-      right-above =
-          let b = inner-is in
-          let c = w .shape .children .child j (smallAt r rightPlace) (rw (b .is)
-          (has-right (b .test) (smallAt r firstPlace) (smallAt r rightPlace))) in
-          (c .0, omega (arith, c .1, size-is))
-
-      pub inner-below : tracesBelow (treeBy nodes links k m) j
-          ≡ tracesBelow (treeBy nodes links k m) (smallAt (recordOf nodes j) firstPlace) ++ tracesBelow (treeBy nodes links k m)
-          (smallAt (recordOf nodes j) rightPlace)
-      inner-below = below-of-inner (w .shape) in-tree (inner-is .is)
+  pub inner-below : 1 ≤ smallAt (recordOf nodes j) kindPlace
+      → tracesBelow (treeBy nodes links k m) j ≡ tracesBelow (treeBy nodes links k m) (smallAt (recordOf nodes j) firstPlace)
+      ++ tracesBelow (treeBy nodes links k m) (smallAt (recordOf nodes j) rightPlace)
+  inner-below e = below-of-inner (w .shape) (in-tree w j h) (inner-is w j h e .is)

@@ -1,40 +1,17 @@
 -- The traces below every node in one array: those of a node stand one behind another, of an inner node first those of its left child,
 -- then those of its right one. So all lists together take one place a trace.
-use Prim.Native.Nat.{ℕ, _+_, _*_, _≤_, _<_}
+use Prim.Native.Nat.{ℕ, _+_, _≤_, _<_}
 use mathlib.Core.Path.{_≡_}
 use mathlib.Core.Logic.{_⊎_}
-use mathlib.Core.List.{List, [], _∷_, _++_}
-use lib.IntN.{ℤ}
+use mathlib.Core.List.{List, _++_}
 use lib.ListN.{length, getD, drop}
 use lib.Dec.{T}
 use Rattle.dstree.specs.Node.{Test, inner, Tree, nodeAt}
 use Rattle.dstree.specs.Matching.{hasChild, isLeaf}
-use Rattle.dstree.specs.Formed.{Shape}
 use Rattle.dstree.specs.Checking.{tracesBelow}
-use Rattle.dstree.specs.Measures.{mostNodes, mostTraces}
-use Rattle.tables.specs.Layout.{kindPlace, recordPlaces, nodePlaces}
-use Rattle.tables.specs.Tables.{Tables, tables, recordOf}
-use Rattle.tables.specs.View.{smallAt, treeIn}
-use Rattle.tables.specs.Walk.{Rising}
+use Rattle.dstree.specs.Measures.{mostTraces}
+use Rattle.tables.specs.Layout.{nodePlaces}
 use Rattle.figures_below.specs.Compared.{numbersLaidAt}
-
--- tables of which only nodes, links and both counts are told
-abbrev pub countedTables : List ℤ → List ℕ → ℕ → ℕ → Tables
-countedTables nodes links k m = tables (0 ∷ 0 ∷ 0 ∷ k ∷ m ∷ []) [] nodes links []
-
-abbrev pub treeBy : List ℤ → List ℕ → ℕ → ℕ → Tree
-treeBy nodes links k m = treeIn (countedTables nodes links k m)
-
--- m nodes over k traces that may be walked: they are well formed, and in the tables
-pub record Walks (nodes : List ℤ) (links : List ℕ) (k m : ℕ) : Type 0 where
-  pub n : ℕ
-  pub shape : Shape n k (treeBy nodes links k m)
-  pub named : (j : ℕ) → j < m → smallAt (recordOf nodes j) kindPlace ≤ 2
-  pub few : k ≤ mostTraces
-  pub nodes-few : m ≤ mostNodes
-  pub nodes-room : m * recordPlaces ≤ length nodes
-  pub links-room : k ≤ length links
-  pub rising : Rising links k
 
 -- how many traces are below each node, from node `from` on
 pub record SizesLaid (tree : Tree) (sizes : List ℕ) (from : ℕ) : Type 0 where

@@ -12,7 +12,8 @@ ghost use lib.ListN.{length};
 ghost use Rattle.tables.specs.Walk.{Rising, numbersOf};
 ghost use Rattle.tables.specs.Layout.{nodePlaces};
 ghost use Rattle.dstree.specs.Measures.{mostTraces};
-ghost use Rattle.checking.specs.Laid.{treeBy, Walks, SizesLaid, PutFrom, LaidTo, LaidOut};
+ghost use Rattle.tables.specs.Nodes.{treeBy, Walks};
+ghost use Rattle.checking.specs.Laid.{SizesLaid, PutFrom, LaidTo, LaidOut};
 
 // Writes the numbers of the list that starts at `head`, from a place on.
 fn put_list(links: &[u16], k: usize, head: usize, order: &mut [u16; 4096], at: usize)

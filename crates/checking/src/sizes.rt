@@ -5,29 +5,14 @@ use tables::places::FIRST;
 use tables::places::KIND;
 use tables::places::RIGHT;
 use tables::records::node_small;
-use tables::walk::behind;
+use tables::walk::list_size;
 ghost use mathlib.Core.Path.{_≡_};
-ghost use Prim.Native.Nat.{_+_, _≤_, _<_};
+ghost use Prim.Native.Nat.{_+_, _<_};
 ghost use lib.ListN.{length};
 ghost use Rattle.dstree.specs.Checking.{tracesBelow};
-ghost use Rattle.dstree.specs.Measures.{mostTraces};
-ghost use Rattle.tables.specs.Walk.{Rising, numbersOf};
 ghost use Rattle.tables.specs.Layout.{nodePlaces};
-ghost use Rattle.checking.specs.Laid.{treeBy, Walks, SizesLaid};
-
-// How many numbers the list has that starts at `head`.
-fn list_size(links: &[u16], k: usize, head: usize) -> usize
-    requires { ⌜ (head < k) × (k ≤ mostTraces) × (k ≤ length (now links)) × Rising (now links) k ⌝ }
-    ensures { λ r. ⌜ r ≡ length (numbersOf (now (links .entry)) k head) ⌝ }
-{
-    let mut count: usize = 0;
-    let mut t = head;
-    while t < k {
-        count += 1;
-        t = behind(links, k, t);
-    }
-    count
-}
+ghost use Rattle.tables.specs.Nodes.{treeBy, Walks};
+ghost use Rattle.checking.specs.Laid.{SizesLaid};
 
 // Of node j, one of m: its own traces, or those of its children, which are numbered above it.
 fn node_size(

@@ -11,4 +11,5 @@ pub mod Parts
 pub mod Compared
 pub mod Samples
 pub mod Linked
+pub mod ByKind
 pub mod Labels

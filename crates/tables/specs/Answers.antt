@@ -37,6 +37,7 @@ wordOf r.BadRecording = word.badRecording
 wordOf r.LooseRecord = word.looseRecord
 wordOf r.BadBatch = word.badBatch
 wordOf r.SampleRange = word.sampleRange
+wordOf r.BadEdges = word.badEdges
 
 -- what a judge found: the first condition that holds, or none
 unfoldable pub foundBy : Verdict → Option word.Refusal

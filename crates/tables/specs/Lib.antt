@@ -7,5 +7,6 @@ pub mod Judge
 pub mod Answers
 pub mod Beginning
 pub mod Walk
+pub mod Nodes
 pub mod Runs
 pub mod Holds

@@ -25,6 +25,7 @@ pub fn number(why: Refusal) -> u64
         Refusal::LooseRecord => 13,
         Refusal::BadBatch => 14,
         Refusal::SampleRange => 15,
+        Refusal::BadEdges => 16,
     }
 }
 
@@ -48,5 +49,6 @@ pub fn place(why: Refusal) -> u64
         Refusal::LooseRecord => 0,
         Refusal::BadBatch => 0,
         Refusal::SampleRange => 0,
+        Refusal::BadEdges => 0,
     }
 }

@@ -28,6 +28,7 @@ pub enum Refusal {
     LooseRecord,
     BadBatch,
     SampleRange,
+    BadEdges,
 }
 
 // What a judge found.

@@ -7,10 +7,12 @@ use lib.ListN.{length-replicate}
 use borrow.Author.Needs.{needs}
 use Rattle.integer.specs.Words.{every, counting}
 use Rattle.tables.specs.Tables.{Tables, tables, measuresOf, traceCount, nodeCount}
-use Rattle.checking.specs.Laid.{treeBy, Walks, LaidOut}
+use Rattle.tables.specs.Nodes.{treeBy, Walks}
+use Rattle.checking.specs.Laid.{LaidOut}
 use Rattle.figures_below.specs.Compared.{ReadyToCompare}
 use Rattle.figures_below.specs.Compared.{exactIn}
-use Rattle.checking.proofs.Trusted.{walks, ready, all-same}
+use Rattle.tables.proofs.ByKind.{walks}
+use Rattle.checking.proofs.Trusted.{ready, all-same}
 use Rattle.checking.proofs.is_exact.Statement.{statement}
 use Rattle.checking.proofs.is_exact.Tie as tie
 
@@ -34,7 +36,7 @@ module _ (c : tie.After-wide3) where
   walked : Walks (t .nodes) (t .links) (c .before .before .wide2 .result) (c .wide3 .result)
   walked =
       subst (λ (k : ℕ). Walks (t .nodes) (t .links) k (c .wide3 .result)) (sym k-is)
-      (subst (λ (m : ℕ). Walks (t .nodes) (t .links) (traceCount t) m) (sym m-is) (walks t (start .pre .0) (start .pre .1)))
+      (subst (λ (m : ℕ). Walks (t .nodes) (t .links) (traceCount t) m) (sym m-is) (walks t (start .pre .0) (start .pre .1 .nodes-long) (start .pre .1 .links-long)))
 
 -- all is laid out
 module _ (c : tie.After-lay-out) where

@@ -14,8 +14,10 @@ use Rattle.tables.specs.Layout.{kindPlace, firstPlace, rightPlace, recordPlaces
 use Rattle.tables.specs.Tables.{recordOf}
 use Rattle.tables.specs.View.{smallAt}
 use Rattle.tables.specs.Walk.{numbersOf}
-use Rattle.checking.specs.Laid.{treeBy, PutFrom, LaidTo}
-use Rattle.checking.proofs.ByKind.{size-is, in-table, in-tree, first-stored, leaf-is, leaf-below, inner-is, left-above, right-above, inner-below}
+use Rattle.tables.specs.Nodes.{treeBy}
+use Rattle.checking.specs.Laid.{PutFrom, LaidTo}
+use Rattle.tables.proofs.ByKind.{size-is, in-table, in-tree, first-stored, leaf-is, inner-is, left-above, right-above}
+use Rattle.checking.proofs.ByKind.{leaf-below, inner-below}
 use Rattle.checking.proofs.Starting.{starts-inside}
 use Rattle.checking.proofs.Laying.{here, laid-leaf, laid-inner}
 use Rattle.checking.proofs.order.lay_node.Statement.{statement}

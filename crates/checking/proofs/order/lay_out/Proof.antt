@@ -4,8 +4,9 @@ use Prim.Native.Nat.{ℕ, _-_, _≤_}
 use native.Mathlib.Omega.{arith}
 use lib.ListN.{length}
 use Rattle.dstree.specs.Node.{Tree}
-use Rattle.checking.specs.Laid.{treeBy, LaidTo}
-use Rattle.checking.proofs.ByKind.{size-is}
+use Rattle.tables.specs.Nodes.{treeBy}
+use Rattle.checking.specs.Laid.{LaidTo}
+use Rattle.tables.proofs.ByKind.{size-is}
 use Rattle.checking.proofs.Laying.{laid-none, laid-out}
 use Rattle.checking.proofs.order.lay_out.Statement.{statement}
 use Rattle.checking.proofs.order.lay_out.Tie as tie

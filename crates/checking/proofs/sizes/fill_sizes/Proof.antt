@@ -6,8 +6,9 @@ use lib.ListN.{length, set}
 use Rattle.dstree.specs.Node.{Tree}
 use Rattle.dstree.specs.Checking.{tracesBelow}
 use Rattle.dstree.proofs.BelowOnce.{few-below}
-use Rattle.checking.specs.Laid.{treeBy, SizesLaid}
-use Rattle.checking.proofs.ByKind.{size-is}
+use Rattle.tables.specs.Nodes.{treeBy}
+use Rattle.checking.specs.Laid.{SizesLaid}
+use Rattle.tables.proofs.ByKind.{size-is}
 use Rattle.checking.proofs.Sizing.{sized-none, sized-more}
 use Rattle.checking.proofs.sizes.fill_sizes.Statement.{statement}
 use Rattle.checking.proofs.sizes.fill_sizes.Tie as tie

@@ -13,8 +13,9 @@ use Rattle.tables.specs.Layout.{kindPlace, firstPlace, rightPlace, recordPlaces
 use Rattle.tables.specs.Tables.{recordOf}
 use Rattle.tables.specs.View.{smallAt}
 use Rattle.tables.specs.Walk.{numbersOf}
-use Rattle.checking.specs.Laid.{treeBy}
-use Rattle.checking.proofs.ByKind.{size-is, in-table, first-stored, leaf-below, left-above, right-above, inner-below}
+use Rattle.tables.specs.Nodes.{treeBy}
+use Rattle.tables.proofs.ByKind.{size-is, in-table, first-stored, left-above, right-above}
+use Rattle.checking.proofs.ByKind.{leaf-below, inner-below}
 use Rattle.checking.proofs.sizes.node_size.Statement.{statement}
 use Rattle.checking.proofs.sizes.node_size.Tie as tie
 
@@ -52,7 +53,7 @@ returns : tie.Need-returns
 returns c =
     let t = c .before in
     let s = leafStart t in
-    c .list-size .ensures
+    c .list-size .ensures .0
     ∙ (ap (λ (x : ℕ). length (numbersOf (s .args .links .now) (s .args .k) x)) (head-is t)
     ∙ ap length (sym (leaf-below (s .pre .0) (j s) (s .pre .1) (leaf-kind t))))
 

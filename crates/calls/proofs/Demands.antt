@@ -38,7 +38,7 @@ use Rattle.calls.specs.Trusted.{bookIn, Trusts, treeAfter}
 use Rattle.calls.specs.Effects.{matches, lists, checks, effectOf}
 use Rattle.calls.specs.Follows.{Follows, Ran, a-call}
 use Rattle.calls.specs.Demands.{MatchedIn, MatchesAnywhere, ListedIn, ListsAnywhere, ChecksAnywhere, judgeIn, OfAnyQuery, EmptyIsSix, IsAccepted}
-use Rattle.calls.specs.Demands.{OfAnyBatch, AfterList, ReadBack, OfStored, AfterCheck, Demands}
+use Rattle.calls.specs.Demands.{OfAnyBatch, OfAnyBands, AfterList, ReadBack, OfStored, AfterCheck, Demands}
 use Rattle.calls.proofs.Kept.{kept-holds, kept-labels}
 use Rattle.calls.proofs.Finds.{Some, found}
 use Rattle.calls.proofs.Stored.{Stores, kept-stores, trusted-stores, any-stores, samples-inside}
@@ -58,6 +58,7 @@ use Rattle.calls.proofs.Trusting.{check-stays, part-checked, loose-is, 
 use Rattle.calls.proofs.Trees.{tree-of-book}
 use Rattle.calls.proofs.Queries.{Judges, of-any-query}
 use Rattle.calls.proofs.Batches.{of-any-batch, batches-anywhere}
+use Rattle.calls.proofs.Banding.{of-any-bands, reports-anywhere, reads-no-traces}
 use Rattle.calls.proofs.Labels.{labels-anywhere, label-gives}
 use Rattle.calls.proofs.Remote.{remote-is-match, sees-no-serials, serials-may-differ}
 
@@ -96,6 +97,11 @@ module _ {memory : Tables} {b : Book} (keeps : Keeps memory b) where
       let h = kept-holds keeps in
       subst (λ (t : Tree). OfAnyBatch (judge layout b) (b .traces) t (b .measures .n) count run memory) (h .tree-is)
       (of-any-batch (kept-trusts keeps) (judge layout b) book-judges some-trace count run size)
+
+  pub bands-of-book : (query : Trace) → length query ≡ b .measures .n → OfAnyBands (judge layout b) (b .traces) (bookTree b) query memory
+  bands-of-book query size =
+      subst (λ (t : Tree). OfAnyBands (judge layout b) (b .traces) t query memory) (kept-holds keeps .tree-is)
+      (of-any-bands (kept-trusts keeps) (judge layout b) book-judges query size)
 
   -- "an empty one is still 6"
   empty-is-six : EmptyIsSix b memory
@@ -170,6 +176,7 @@ after-list {b} {memory} calls said e k = record {
   never-loose = λ r i. never layout looseRecord loose-is-not b calls r (subst (In r) e i);
   any-query = of-book k;
   any-batch = batch-of-book k;
+  any-bands = bands-of-book k;
   empty-is-six = empty-is-six k;
   exported-sound = exported-sound (kept-stores k);
   label-gives = label-gives (kept-trusts k) (judge layout (after layout b calls)) (book-judges k);
@@ -264,6 +271,7 @@ from-check first calls memory₀ memory said₀ said (a-call f rest) e =
       never-loose = λ s i. r .1 s i looseRecord loose-is-not;
       any-query = λ query some-trace size. of-any-query t (judgeIn memory) (λ c places typed q. q) query size some-trace;
       any-batch = λ count run some-trace size. of-any-batch t (judgeIn memory) (λ c places typed q. q) some-trace count run size;
+      any-bands = of-any-bands t (judgeIn memory) (λ c places typed q. q);
       label-gives = label-gives t (judgeIn memory) (λ c places typed q. q);
       of-stored = of-stored (trusted-stores t);
     }
@@ -279,6 +287,8 @@ demands = record {
   imports-anywhere = imports-anywhere;
   checks-anywhere = checks-anywhere;
   batches-anywhere = batches-anywhere;
+  reports-anywhere = reports-anywhere;
+  reads-no-traces = reads-no-traces;
   labels-anywhere = labels-anywhere;
   remote-is-match = remote-is-match;
   sees-no-serials = sees-no-serials;

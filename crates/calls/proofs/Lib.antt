@@ -22,6 +22,7 @@ pub mod Trusting
 pub mod Trees
 pub mod Queries
 pub mod Batches
+pub mod Banding
 pub mod Labels
 pub mod Remote
 pub mod Demands

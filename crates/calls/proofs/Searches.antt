@@ -1,7 +1,7 @@
 -- What every search obeys, of whatever measures, traces and tree, and that each does. A further search adds its laws here; what follows of
 -- calls on tables and on lists of calls is proved of all at once.
 use Prim.Native.Nat.{ℕ, _*_, _<_}
-use mathlib.Core.Path.{_≡_, sym, ap, subst}
+use mathlib.Core.Path.{_≡_, refl, sym, ap, subst}
 use mathlib.Core.Bool.{false, not}
 use mathlib.Core.Option.{Option, none, some}
 use mathlib.Core.List.{List}
@@ -18,8 +18,8 @@ use Rattle.dstree.specs.KNearest.{isK, SameIn, listed, kNearestBySteps}
 use Rattle.dstree.specs.Batch.{isBatch, queriesIn, nearOrZero, batchBySteps}
 use Rattle.dstree.specs.Refusals.{firstOf, wrongTrace, sampleRange, empty, badK, badBatch, numberOf}
 use Rattle.dstree.specs.Claims.{ExactTree}
-use Rattle.dstree.specs.Book.{AnySearch, Sought, aMatch, aListing, aBatch, aRemote, queryConditions, matchSeen, matchFound, matchSearch, listFound, listSearch}
-use Rattle.dstree.specs.Book.{batchFound, batchSearch, remoteFound, remoteSearch, searchOf}
+use Rattle.dstree.specs.Book.{AnySearch, Sought, aMatch, aListing, aBatch, aRemote, aBanding, queryConditions, matchSeen, matchFound, matchSearch, listFound, listSearch}
+use Rattle.dstree.specs.Book.{batchFound, batchSearch, remoteFound, remoteSearch, bandSearch, searchOf}
 use Rattle.dstree.proofs.Conditions.{none-first}
 use Rattle.dstree.proofs.Closed.{match-exact}
 use Rattle.dstree.proofs.KLaws.{k-nearest-exact}
@@ -134,6 +134,18 @@ batch-laws count run trail list = record {
       ap (batchFound trail) (batch-off-trail stored others tree queries (subst (λ (l : List ℕ). SameIn tree l stored others) (sym trails) same));
 }
 
+-- ---- document 02, §10
+
+-- its steps are its closed form, and no trace bears on them
+band-laws : (query : Trace) (edges list : List ℕ) → Laws (bandSearch query edges list)
+unfolding every ofArguments numberOf trailFound
+band-laws query edges list = record {
+  by-arguments = λ m count tree. tt;
+  has-trail = λ m traces codes tree e. let z : _≡_ {A = ℕ} 0 1 = cc in omega arith;
+  gives = λ m traces codes tree exact e. refl;
+  unmoved = λ m stored others codes tree read found same. refl;
+}
+
 -- ---- any search
 
 pub laws : (q : Sought) → Laws (searchOf q)
@@ -141,3 +153,4 @@ laws (aMatch query trail) = match-laws query trail
 laws (aListing k query trail list) = list-laws k query trail list
 laws (aBatch count run trail list) = batch-laws count run trail list
 laws (aRemote query trail) = remote-laws query trail
+laws (aBanding query edges list) = band-laws query edges list

@@ -22,12 +22,13 @@ use Rattle.dstree.specs.Matching.{bound, before, leaves, leastDistance, Near, M
 use Rattle.dstree.specs.KNearest.{isK, ranking, listPlaces, KNearest, kNearestBySteps, kNearestOf, distancesAmong, ListClaims}
 use Rattle.dstree.specs.KNearest.{KNearestClaims, OneIsMatch}
 use Rattle.dstree.specs.Batch.{queriesIn, Batch, answerIn, batchOf, batchBySteps, StepsClaims, BatchClaims, OneClaims}
+use Rattle.dstree.specs.Bands.{BandCount, bandReport, reportPlaces, BandClaims, ReportClaims}
 use Rattle.dstree.specs.Refusals.{Refusal, spoiled, empty, looseRecord, firstOf}
 use Rattle.dstree.specs.Sheet.{blockSize}
 use Rattle.dstree.specs.SheetWidths.{blocksNeeded, sheetOf}
 use Rattle.dstree.specs.Recording.{Recording, recording, judgeRecording}
 use Rattle.dstree.specs.Book.{Lent, adding, matching, writing, reading, listing, importing, exporting, checking, batching, labelling}
-use Rattle.dstree.specs.Book.{Call, call, besideOf}
+use Rattle.dstree.specs.Book.{banding, banded, Call, call, besideOf}
 use Rattle.dstree.specs.Book.{Result, done, added, matched, written, neighbours, imported, exported, accepted, batched, labelled}
 use Rattle.dstree.specs.Book.{remoteMatched, refusing, answering, Reply, reply, over, Book, bookTree, shortConditions, judge, after}
 use Rattle.dstree.specs.Book.{repliesOf, start}
@@ -101,13 +102,14 @@ pub record MayDiffer (those : List ℕ) (these : Tables) : Type 0 where
       → T (not (isIn trace (numbersAmong (treeIn these) those)))
       → DifferOutside those these (withWord other (trace * measuresOf these .n + at) word)
 
--- the leaves that a search has read, by its answer: a match's, that of the k nearest, a batch's, or the remote's. No other call answers
--- with a trail
+-- the leaves that a search has read, by its answer: a match's, that of the k nearest, a batch's, or the remote's. A report has read none
+-- (document 02, §10). No other call is a search
 unfoldable pub trailFound : Result → Option (List ℕ)
 trailFound (matched m) = some (m .trail)
 trailFound (neighbours m) = some (m .trail)
 trailFound (batched m) = some (m .trail)
 trailFound (remoteMatched m code) = some (m .trail)
+trailFound (banded report) = some []
 trailFound done = none
 trailFound (added number) = none
 trailFound (written blocks sheet) = none
@@ -250,6 +252,29 @@ LabelsAnywhere = (lent : Lent) (number : ℕ) (memory memory′ : Tables) (said 
     → Follows (call lent (labelling number)) memory said memory′
     → (l : Label) → said .answer ≡ answering (labelled l) → LabelledIn number (firstPlaces lent memory) l × (memory′ ≡ memory)
 
+-- ---- document 02, §10, on any tables
+
+-- a report of these edges, on the tables t that the call was lent, whoever made them: it is what their records say
+pub record ReportedIn (query : Trace) (edges : List ℕ) (t : Tables) (report : List BandCount) : Type 0 where
+  pub by-records : report ≡ bandReport (treeIn t) query edges
+  -- "one record per band"; what is sure in a band is possible there
+  pub report-is : ReportClaims (treeIn t) query edges
+
+-- "A call that takes a query leaves the needed search work zero", and all else as it was
+abbrev pub ReportsAnywhere : Type 0
+ReportsAnywhere = (lent : Lent) (query : Trace) (edges list : List ℕ) (memory memory′ : Tables) (said : Reply)
+    → Follows (call lent (banding query edges list)) memory said memory′
+    → (report : List BandCount) → said .answer ≡ answering (banded report)
+    → ReportedIn query edges (firstPlaces lent memory) report × (memory′ ≡ left (cleared (firstPlaces lent memory)) memory)
+
+-- "a report that reads no traces": tables that differ from these in samples alone, any of them, give the same report
+abbrev pub ReadsNoTraces : Type 0
+ReadsNoTraces = (lent : Lent) (query : Trace) (edges list : List ℕ) (these these′ : Tables) (said : Reply)
+    → Follows (call lent (banding query edges list)) these said these′
+    → (report : List BandCount) → said .answer ≡ answering (banded report)
+    → (other other′ : Tables) (also : Reply) → DifferOutside [] these other
+    → Follows (call lent (banding query edges list)) other also other′ → also ≡ said
+
 -- ---- any query, of stored traces and their tree in some memory
 
 -- what a call is refused for is judged by a book (`judge`), which takes nothing from the tables, or, where these may be anyone's, by what
@@ -352,6 +377,29 @@ pub record OfAnyBatch (judges : Call → Option Refusal) (stored : List Trace) (
   pub others-do-not-bear : (other : Tables) → DifferOutside (batchOf stored tree (queriesIn n count run) .trail) memory other
       → BatchGives judges count run other (batchOf stored tree (queriesIn n count run))
 
+-- ---- document 02, §10: the bands of any query, of stored traces and their tree in some memory
+
+-- a report on some memory, whatever it is lent there, that the table doesn't refuse, gives these records in the caller's list. Its other
+-- places stay
+abbrev pub ReportGives : (Call → Option Refusal) → Trace → List ℕ → Tables → List BandCount → Type 0
+ReportGives judges query edges memory report = (lent : Lent) (list : List ℕ) (said : Reply) (memory′ : Tables)
+    → Follows (call lent (banding query edges list)) memory said memory′
+    → judges (call lent (banding query edges list)) ≡ none
+    → said ≡ reply (answering (banded report)) (over (reportPlaces report) list ∷ [])
+
+-- of any query of n samples, a trace being stored or not. (A call refuses edges that do not rise; the claims hold of them too)
+pub record OfAnyBands (judges : Call → Option Refusal) (stored : List Trace) (tree : Tree) (query : Trace) (memory : Tables)
+    : Type 0 where
+  -- "For each band from one edge up to but not including the next, it says how many traces surely lie in it and how many may"
+  pub report-gives : (edges : List ℕ) → ReportGives judges query edges memory (bandReport tree query edges)
+  pub report-is : (edges : List ℕ) → ReportClaims tree query edges
+  -- no trace is nearer than a bound above it or farther than an upper figure; "The true number lies between"; "An empty library reports
+  -- zeros"
+  pub bands-are : BandClaims stored tree query
+  -- "reads no traces": tables that differ from these in samples alone give the same report
+  pub others-do-not-bear : (edges : List ℕ) (other : Tables) → DifferOutside [] memory other
+      → ReportGives judges query edges other (bandReport tree query edges)
+
 -- ---- document 02, §8: any trace number, of labels in some memory
 
 -- the bench's call on some memory, whatever it is lent there, that the table doesn't refuse, answers the trace's label of these
@@ -432,6 +480,9 @@ pub record AfterList (b : Book) (calls : List Call) (said : List Reply) (memory 
       → length run ≡ after layout b calls .measures .n * count
       → OfAnyBatch (judge layout (after layout b calls)) (after layout b calls .traces) (bookTree (after layout b calls))
       (after layout b calls .measures .n) count run memory
+  -- document 02, §10: a report, of a library with traces or without
+  pub any-bands : (query : Trace) → length query ≡ after layout b calls .measures .n
+      → OfAnyBands (judge layout (after layout b calls)) (after layout b calls .traces) (bookTree (after layout b calls)) query memory
   pub empty-is-six : EmptyIsSix (after layout b calls) memory
   pub exported-sound : ExportedSound (after layout b calls) memory
   -- document 02, §8: "The bench has a call that answers both for a trace number", as "given when it is added"
@@ -497,6 +548,9 @@ pub record AfterCheck (b : Book) (tree : Tree) (calls : List Call) (said : List 
   pub any-batch : (count : ℕ) (run : Trace) → 0 < length (after layout b calls .traces)
       → length run ≡ after layout b calls .measures .n * count
       → OfAnyBatch (judgeIn memory) (after layout b calls .traces) (treeIn memory) (after layout b calls .measures .n) count run memory
+  -- document 02, §10, "for libraries it would accept"
+  pub any-bands : (query : Trace) → length query ≡ after layout b calls .measures .n
+      → OfAnyBands (judgeIn memory) (after layout b calls .traces) (treeIn memory) query memory
   -- document 02, §8: the bench is answered the book's labels
   pub label-gives : LabelGives (judgeIn memory) (after layout b calls .labels) memory
   -- written to a sheet and read back, such tables are the library of the book's traces and labels
@@ -537,6 +591,8 @@ pub record Demands : Type 0 where
   pub imports-anywhere : ImportsAnywhere
   pub checks-anywhere : ChecksAnywhere
   pub batches-anywhere : BatchesAnywhere
+  pub reports-anywhere : ReportsAnywhere
+  pub reads-no-traces : ReadsNoTraces
   pub labels-anywhere : LabelsAnywhere
   -- document 02, §8: "The jog remote has one call, a match whose answer adds the fault code and nothing else"
   pub remote-is-match : RemoteIsMatch

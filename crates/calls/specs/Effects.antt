@@ -8,6 +8,7 @@ use Rattle.dstree.specs.Measures.{Trace, Measures, workNeeded}
 use Rattle.dstree.specs.Labels.{Label, noLabel}
 use Rattle.dstree.specs.Matching.{leaves, Near}
 use Rattle.dstree.specs.Batch.{batchConditions}
+use Rattle.dstree.specs.Bands.{bandConditions}
 use Rattle.dstree.specs.Refusals.{Condition, _refuses_, looseRecord, runConditions}
 use Rattle.dstree.specs.Checking.{isExact}
 use Rattle.dstree.specs.Sheet.{Judged, refused, holds}
@@ -15,7 +16,7 @@ use Rattle.dstree.specs.SheetWidths.{blocksNeeded, sheetOf, judgeSheet}
 use Rattle.dstree.specs.Recording.{recordingSize, recordingOf, judgeRecording, fileTraces}
 use Rattle.dstree.specs.Book.{Ask, opening, adding, searching, writing, reading, importing, exporting, checking, labelling, besideOf}
 use Rattle.dstree.specs.Book.{done, added, written, imported, exported, accepted, labelled, over}
-use Rattle.dstree.specs.Book.{AnySearch, matchSearch, listSearch, batchSearch, remoteSearch, searchOf}
+use Rattle.dstree.specs.Book.{AnySearch, matchSearch, listSearch, batchSearch, remoteSearch, bandSearch, searchOf}
 use Rattle.dstree.specs.Book.{addConditions, queryConditions, writeConditions, readingConditions, listConditions, importConditions}
 use Rattle.dstree.specs.Book.{exportConditions, labelConditions}
 use Rattle.dstree.specs.Remote.{codesOf}
@@ -91,6 +92,13 @@ batches t count run trail list = searches t (batchSearch count run trail list)
 -- the remote's call (document 02, §8): "a match whose answer adds the fault code and nothing else"
 abbrev pub remotes : Tables → Trace → List ℕ → Effect
 remotes t query trail = searches t (remoteSearch query trail)
+
+-- a report of bands (document 02, §10): 4 and 15 of its query, then "16 bad edges", then 7; no 6
+abbrev pub bandConditionsIn : Tables → Trace → List ℕ → List ℕ → List Condition
+bandConditionsIn t query edges list = bandConditions (measuresOf t .n) query edges list
+
+abbrev pub bands : Tables → Trace → List ℕ → List ℕ → Effect
+bands t query edges list = searches t (bandSearch query edges list)
 
 -- ---- writing: the same; then 8, "below the need"
 

@@ -4,7 +4,7 @@ use mathlib.Core.List.{List, [], _∷_}
 use lib.ListN.{length}
 use Rattle.dstree.specs.Refusals.{numberOf, placeOf}
 use Rattle.dstree.specs.Book.{Result, done, added, matched, written, neighbours, imported, exported, accepted, batched, labelled}
-use Rattle.dstree.specs.Book.{remoteMatched, Answer, refusing, answering}
+use Rattle.dstree.specs.Book.{remoteMatched, banded, Answer, refusing, answering}
 
 -- "A refusal gives its number": 0 is no refusal
 unfoldable pub codeOf : Answer → ℕ
@@ -14,7 +14,7 @@ codeOf (refusing why) = numberOf why
 -- "Opening and sheet reading answer only that they succeeded, adding the new trace's number, writing the number of blocks"; "The answer is
 -- trace number, distance, leaves read and traces read"; of the k nearest, leaves read, traces read, and how many are listed; of an import
 -- how many traces, of an export how many bytes; of a check nothing, as of an opening; of a batch leaves read; of the bench's call for a
--- label code and serial; of the remote's the match's, and the code
+-- label code and serial; of the remote's the match's, and the code; of a report nothing, since it stands in the caller's list
 unfoldable pub resultValues : Result → List ℕ
 resultValues done = []
 resultValues (added number) = number ∷ []
@@ -27,6 +27,7 @@ resultValues accepted = []
 resultValues (batched m) = m .leaves ∷ []
 resultValues (labelled l) = l .code ∷ l .serial ∷ []
 resultValues (remoteMatched m code) = m .trace ∷ m .distance ∷ m .leaves ∷ m .traces ∷ code ∷ []
+resultValues (banded report) = []
 
 -- a refusal gives "a place"
 unfoldable pub valuesOf : Answer → List ℕ

@@ -10,7 +10,7 @@ use Rattle.calls.specs.Effects.{outcomeOn}
 use Rattle.calls.specs.Follows.{Follows}
 use Rattle.batch_answers.proofs.Whole.{whole}
 use Rattle.demands.specs.Did.{Placed, CallMade, Did, by-open, by-add, by-nearest, by-write, by-read, by-list, by-import}
-use Rattle.demands.specs.Did.{by-export, by-check, by-batch, by-add-labelled, by-label, by-remote}
+use Rattle.demands.specs.Did.{by-export, by-check, by-batch, by-add-labelled, by-label, by-remote, by-bands}
 
 pub placed-follows : {ask : Ask} {before after memory memory′ : Tables} {c : Call} {answer : Answer} {beside : List (List ℕ)}
     → Placed ask before after c memory memory′ → outcome answer after beside ≡ outcomeOn ask before
@@ -41,6 +41,7 @@ follows c memory memory′ said (by-check d) = by-claim (d .made) (d .claim)
 follows c memory memory′ said (by-add-labelled d) = by-claim (d .made) (d .claim)
 follows c memory memory′ said (by-label d) = by-claim (d .made) (d .claim)
 follows c memory memory′ said (by-remote d) = by-claim (d .made) (d .claim)
+follows c memory memory′ said (by-bands d) = by-claim (d .made) (d .claim)
 follows c memory memory′ said (by-batch d) =
     by-claim (d .searched .made)
     (whole _ _ _ _ _ _ (d .list) (d .list′) (d .searched .result) (d .done) (λ l size. d .searched .claim l (size ∙ d .so-long)) (d .stored))

@@ -1,6 +1,6 @@
 -- Every call that its types allow has a reply and a memory after it: slices that hold what the memory has, and what the definition leaves,
 -- are one.
-use Prim.Native.Nat.{ℕ, zero, suc, _*_}
+use Prim.Native.Nat.{ℕ, zero, suc, _*_, _-_}
 use mathlib.Core.Path.{_≡_, refl, sym, ap, subst, _∙_}
 use mathlib.Core.Option.{Option, none, some}
 use mathlib.Core.List.{List, [], _∷_, _++_, map, append-nil}
@@ -17,16 +17,18 @@ use Rattle.dstree.specs.Node.{Tree}
 use Rattle.dstree.specs.Matching.{Near, searched, Match}
 use Rattle.dstree.specs.KNearest.{KNearest, listPlaces, kNearestBySteps}
 use Rattle.dstree.specs.Batch.{queriesIn, Batch, batchBySteps}
+use Rattle.dstree.specs.Bands.{BandCount, bandReport, reportPlaces}
 use Rattle.dstree.specs.Refusals as word
 use Rattle.dstree.specs.Refusals.{firstOf}
 use Rattle.dstree.specs.Sheet.{blockSize}
 use Rattle.dstree.specs.SheetWidths.{blocksNeeded, sheetOf}
 use Rattle.dstree.specs.Remote.{codesOf}
 use Rattle.dstree.specs.Book.{Ask, opening, adding, searching, writing, reading, importing, exporting, checking, labelling, Call}
-use Rattle.dstree.specs.Book.{aMatch, aListing, aBatch, aRemote, matchSeen, matching, listing, batching, remoteMatching, besideOf, Answer, answering, imported}
+use Rattle.dstree.specs.Book.{aMatch, aListing, aBatch, aRemote, aBanding, matchSeen, matching, listing, batching, remoteMatching, banding, besideOf, Answer, answering, imported}
 use Rattle.dstree.specs.Book.{Reply, reply, over}
 use Rattle.dstree.specs.Recording.{recordingSize, recordingOf, judgeRecording, fileTraces}
 use Rattle.dstree.proofs.SheetPieces.{pieces-length}
+use Rattle.dstree.proofs.Bands.{report-anywhere}
 use Rattle.dstree.proofs.RoundTrips.{sheet-length}
 use Rattle.dstree.proofs.Recordings.{recording-length}
 use Rattle.tables.specs.Tables.{Tables, labelledTables, lentOf, measuresOf, traceCount}
@@ -40,7 +42,7 @@ use Rattle.tables.proofs.Parts.{trace-length}
 use Rattle.insertion_memory.specs.Memory.{addedTo, addedWith}
 use Rattle.calls.specs.Outcome.{Outcome, outcome, unlessRefused}
 use Rattle.calls.specs.Effects.{opens, adds, matches, remotes, writes, reads, lists, imports, exports, checks, tellsLabel}
-use Rattle.calls.specs.Effects.{batches, batchConditionsIn, cleared, effectOf, outcomeOn}
+use Rattle.calls.specs.Effects.{batches, batchConditionsIn, bands, cleared, effectOf, outcomeOn}
 use Rattle.calls.specs.Follows.{Typed}
 use Rattle.calls.proofs.Library.{work-stays}
 use Rattle.checking.specs.declared.Checked.{Checked}
@@ -87,8 +89,13 @@ use Rattle.labelling.specs.Answered as labelling-answer
 use Rattle.remote.specs.declared.RemoteFound.{RemoteFound}
 use Rattle.remote.specs.declared.RemoteFound.the-variants as m
 use Rattle.remote.specs.Answered as remote-answer
+use Rattle.band_counts.specs.Counted.{countsIn}
+use Rattle.band_counts.proofs.Places.{counts-in}
+use Rattle.banding.specs.declared.Banded.{Banded}
+use Rattle.banding.specs.declared.Banded.the-variants as n
+use Rattle.banding.specs.Answered as banding-answer
 use Rattle.demands.specs.Did.{WithTables, CallMade, Exchange, Made, Did, by-open, by-nearest, by-write, by-read, by-list, by-import, by-export}
-use Rattle.demands.specs.Did.{by-check, by-batch, by-add-labelled, by-label, by-remote}
+use Rattle.demands.specs.Did.{by-check, by-batch, by-add-labelled, by-label, by-remote, by-bands}
 use Rattle.demands.specs.Theorem.{Replied}
 
 -- ---- slices
@@ -119,6 +126,7 @@ caseOf word.badRecording = r.BadRecording
 caseOf word.looseRecord = r.LooseRecord
 caseOf word.badBatch = r.BadBatch
 caseOf word.sampleRange = r.SampleRange
+caseOf word.badEdges = r.BadEdges
 
 case-word : (why : word.Refusal) → wordOf (caseOf why) ≡ why
 unfolding wordOf
@@ -137,6 +145,7 @@ case-word word.badRecording = refl
 case-word word.looseRecord = refl
 case-word word.badBatch = refl
 case-word word.sampleRange = refl
+case-word word.badEdges = refl
 
 -- a result, and what is left beside the tables, with which code says an outcome
 record Said {R Beside : Type 0} (outcomeBy : R → Beside → Outcome) (o : Outcome) : Type 0 where
@@ -231,6 +240,21 @@ listing-said t k query trail list none = record {
   where
     m : KNearest
     m = kNearestBySteps k (tracesIn t) (treeIn t) query
+
+banding-said : (t : Tables) (query : Trace) (edges list : List ℕ) (o : Option word.Refusal)
+    → let e = unlessRefused o t (list ∷ []) (bands t query edges list) in
+    Said (λ (r : Banded) (l : List ℕ). outcome (banding-answer.answerBy r (length edges - 1) l)
+    (labelledTables (t .control) (t .samples) (t .nodes) (t .links) (e .after .work) (t .labels)) (l ∷ [])) e
+unfolding unlessRefused banding-answer.answerBy
+banding-said t query edges list (some why) = record { result = n.Refused (caseOf why); beside = list; is = rw (case-word why) }
+banding-said t query edges list none = record { result = n.Reported; beside = over (reportPlaces report) list; is = rw back }
+  where
+    report : List BandCount
+    report = bandReport (treeIn t) query edges
+
+    back : countsIn (length edges - 1) (over (reportPlaces report) list) ≡ report
+    back = subst (λ (m : ℕ). countsIn m (over (reportPlaces report) list) ≡ report) (report-anywhere (treeIn t) query edges .one-each)
+        (counts-in report (drop (length (reportPlaces report)) list))
 
 importing-said : (t : Tables) (bytes : List ℕ) (o : Option word.Refusal) → let e = unlessRefused o t [] (imports t bytes) in
     Said (λ (r : Imported) (l : List ℕ). outcome (importing-answer.answerBy r)
@@ -439,6 +463,10 @@ module _ (c : Call) (memory : Tables) (places : lentOf (firstPlaces (c .lent) me
       let s = matching-said t query trail (firstOf (matches t query trail .conditions)) in
       reply-by (λ said memory′ d. by-nearest d) (lifetimes 8) (slices t (slice trail, (slice query, tt)))
       (slices (outcomeOn (matching query trail) t .after) (slice (s .beside), (slice query, tt))) (s .result) (s .is) asked typed refl
+  by-ask (searching (aBanding query edges list)) asked typed =
+      let s = banding-said t query edges list (firstOf (bands t query edges list .conditions)) in
+      reply-by (λ said memory′ d. by-bands d) (lifetimes 9) (slices t (slice list, (slice query, (slice edges, tt))))
+      (slices (outcomeOn (banding query edges list) t .after) (slice (s .beside), (slice query, (slice edges, tt)))) (s .result) (s .is) asked typed refl
   by-ask (searching (aListing k query trail list)) asked typed =
       let s = listing-said t k query trail list (firstOf (lists t k query trail list .conditions)) in
       reply-by (λ said memory′ d. by-list d) (lifetimes 9) (slices t (slice trail, (slice list, (slice query, (k, tt)))))

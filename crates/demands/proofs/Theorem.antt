@@ -13,6 +13,7 @@ use Rattle.batch_answers.proofs.store.Met as store-met
 use Rattle.adding.proofs.add_labelled.Met as add-labelled-met
 use Rattle.labelling.proofs.label.Met as label-met
 use Rattle.remote.proofs.remote_match.Met as remote-met
+use Rattle.banding.proofs.count_bands.Met as band-met
 use mathlib.Core.Path.{refl}
 use Rattle.calls.proofs.Demands.{demands}
 use Rattle.demands.specs.Theorem.{Theorem}
@@ -35,6 +36,7 @@ theorem = record {
   add-labelled-meets = add-labelled-met.met;
   label-meets = label-met.met;
   remote-meets = remote-met.met;
+  band-meets = band-met.met;
   open-clause = λ M 𝓤 H A mem run κs args. refl;
   add-clause = λ M 𝓤 H A mem run κs args. refl;
   nearest-clause = λ M 𝓤 H A mem run κs args. refl;
@@ -49,6 +51,7 @@ theorem = record {
   add-labelled-clause = λ M 𝓤 H A mem run κs args. refl;
   label-clause = λ M 𝓤 H A mem run κs args. refl;
   remote-clause = λ M 𝓤 H A mem run κs args. refl;
+  band-clause = λ M 𝓤 H A mem run κs args. refl;
   follows = follows;
   replies = replies;
   demands = demands;

@@ -1,5 +1,5 @@
 -- What a call of the code did: its arguments and what it left, of which its contract speaks, and where its slices lie in a memory.
-use Prim.Native.Nat.{ℕ}
+use Prim.Native.Nat.{ℕ, _-_}
 use mathlib.Core.Path.{_≡_}
 use mathlib.Core.Bool.{Bool}
 use mathlib.Core.List.{List, [], _∷_}
@@ -13,7 +13,7 @@ use Rattle.dstree.specs.Measures.{measures}
 use Rattle.dstree.specs.Labels.{label, noLabel}
 use Rattle.dstree.specs.KNearest.{listPlaces}
 use Rattle.dstree.specs.Book.{Ask, opening, adding, matching, writing, reading, listing, importing, exporting, checking, Call, Answer}
-use Rattle.dstree.specs.Book.{batching, labelling, remoteMatching, Reply, reply}
+use Rattle.dstree.specs.Book.{batching, labelling, remoteMatching, banding, Reply, reply}
 use Rattle.tables.specs.Tables.{Tables, labelledTables, lentOf}
 use Rattle.tables.specs.Beginning.{firstPlaces, left}
 use Rattle.calls.specs.Follows.{Typed}
@@ -57,6 +57,9 @@ use Rattle.labelling.proofs.label.Reads as label-reads
 use Rattle.remote.specs.Answered as remote-answer
 use Rattle.remote.proofs.remote_match.Kinds as remote-kinds
 use Rattle.remote.proofs.remote_match.Reads as remote-reads
+use Rattle.banding.specs.Answered as banding-answer
+use Rattle.banding.proofs.count_bands.Kinds as band-kinds
+use Rattle.banding.proofs.count_bands.Reads as band-reads
 use Rattle.batch_answers.specs.AnswerRecords.{storeOutcome, storeOf, nearsOf}
 
 -- ---- slices
@@ -217,6 +220,15 @@ RemoteMatches = Made remote-kinds.ps remote-kinds.r remote-reads.Learnt (λ κs 
     exchange (remoteMatching (now (own args .1 .0)) (now (own args .0))) (tablesOf args) (remote-answer.answerBy r trail′)
     (afterSearch args exits) (trail′ ∷ []))
 
+-- a report is lent all but search work and its list to read
+abbrev pub CountsBands : Call → Tables → Reply → Tables → Type 0
+CountsBands = Made band-kinds.ps band-kinds.r band-reads.Learnt (λ κs args r exits.
+    let list′ = now (own exits .0) in
+    let edges = now (own args .1 .1 .0) in
+    exchange (banding (now (own args .1 .0)) edges (now (own args .0))) (tablesOf args)
+    (banding-answer.answerBy r (length edges - 1) list′)
+    (afterSearch args exits) (list′ ∷ []))
+
 -- what storing a batch's records leaves in the caller's list. A list of structs is stored by a function that is proved by a walk of its
 -- code, and no `Learnt` is generated: the claim is written here, and it is the clause of the contract (`Theorem`: `store-clause`)
 abbrev pub StoreLearnt : BatchFound → List AnswerRecord → Bool → List AnswerRecord → Type 0
@@ -252,3 +264,4 @@ pub data Did (c : Call) (memory : Tables) (said : Reply) (memory′ : Tables) : 
   by-add-labelled : AddsLabelled c memory said memory′ → Did c memory said memory′
   by-label : TellsLabel c memory said memory′ → Did c memory said memory′
   by-remote : RemoteMatches c memory said memory′ → Did c memory said memory′
+  by-bands : CountsBands c memory said memory′ → Did c memory said memory′

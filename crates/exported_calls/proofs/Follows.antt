@@ -9,7 +9,7 @@ use Rattle.calls.specs.Effects.{outcomeOn}
 use Rattle.demands.proofs.Follows.{placed-follows}
 use Rattle.telling.specs.COutcome.{COutcome, cOutcome, cOutcomeOf}
 use Rattle.exported_calls.specs.Did.{CReply, cReply, CExchange, CallMade, CDid, by-open, by-add, by-nearest, by-write, by-read, by-list}
-use Rattle.exported_calls.specs.Did.{by-import, by-export, by-check, by-batch, by-add-labelled, by-label, by-remote}
+use Rattle.exported_calls.specs.Did.{by-import, by-export, by-check, by-batch, by-add-labelled, by-label, by-remote, by-bands}
 use Rattle.exported_calls.specs.Theorem.{Told}
 
 by-claim : {x : CExchange} {c : Call} {memory memory′ : Tables} {out : List ℕ} {got : CReply} → CallMade x c memory out got memory′
@@ -42,3 +42,4 @@ follows c memory memory′ out got (by-batch d) = by-claim (d .made) (d .claim)
 follows c memory memory′ out got (by-add-labelled d) = by-claim (d .made) (d .claim)
 follows c memory memory′ out got (by-label d) = by-claim (d .made) (d .claim)
 follows c memory memory′ out got (by-remote d) = by-claim (d .made) (d .claim)
+follows c memory memory′ out got (by-bands d) = by-claim (d .made) (d .claim)

@@ -1,7 +1,8 @@
 -- Every call of the list is one of an exported function too, whatever its `out`: slices that hold the same, and the answer as numbers.
-use Prim.Native.Nat.{ℕ}
+use Prim.Native.Nat.{ℕ, _-_}
 use mathlib.Core.Path.{_≡_, refl, ap, _∙_}
 use mathlib.Core.List.{List}
+use lib.ListN.{length}
 use denote.Triple.Clauses.{AtExit}
 use borrow.Fn.Kinds.{PK, RK, Dens, endedOf, Out, resT}
 use contract.Lifetimes.{Lfts}
@@ -21,6 +22,7 @@ use Rattle.checking.specs.Answered as checking-answer
 use Rattle.batching.specs.Answered as batching-answer
 use Rattle.labelling.specs.Answered as labelling-answer
 use Rattle.remote.specs.Answered as remote-answer
+use Rattle.banding.specs.Answered as banding-answer
 use Rattle.batch_answers.specs.AnswerRecords.{nearsOf}
 use Rattle.batch_answers.proofs.Whole.{whole}
 use denote.Ref.{now}
@@ -29,7 +31,7 @@ use Rattle.demands.specs.Did.{WithTables, own, tablesOf, afterSearch, Did}
 use Rattle.demands.proofs.Replies.{slice, lifetimes}
 use Rattle.telling.specs.COutcome.{returnedOf, cOutcomeOf}
 use Rattle.exported_calls.specs.Did.{cReply, CExchange, cExchange, CallMade, Made, CDid, by-open, by-add, by-nearest, by-write, by-read, by-list}
-use Rattle.exported_calls.specs.Did.{by-import, by-export, by-check, by-batch, by-add-labelled, by-label, by-remote}
+use Rattle.exported_calls.specs.Did.{by-import, by-export, by-check, by-batch, by-add-labelled, by-label, by-remote, by-bands}
 
 -- the same tables, and this behind them
 abbrev withOwn : {Before Own : Type 0} → WithTables Before → Own → WithTables Own
@@ -119,6 +121,12 @@ module _ (c : Call) (memory memory′ : Tables) (said : Reply) (out : List ℕ) 
       by by-remote (lifetimes 9) (withOwn (d .args) (own (d .args) .0, (own (d .args) .1 .0, (slice out, tt))))
       (withOwn (d .exits) (own (d .exits) .0, (own (d .exits) .1 .0, (slice (told a), tt)))) (codeOf a) (as-numbers (d .claim))
       (made (d .made))
+  linked (did.by-bands d) =
+      let b = own (d .args) in
+      let e = own (d .exits) in
+      let a = banding-answer.answerBy (d .result) (length (now (b .1 .1 .0)) - 1) (now (e .0)) in
+      by by-bands (lifetimes 10) (withOwn (d .args) (b .0, (b .1 .0, (b .1 .1 .0, (slice out, tt)))))
+      (withOwn (d .exits) (e .0, (e .1 .0, (e .1 .1 .0, (slice (told a), tt))))) (codeOf a) (as-numbers (d .claim)) (made (d .made))
   linked (did.by-batch d) =
       let x = d .searched in
       let b = own (x .args) in

@@ -13,6 +13,7 @@ use Rattle.library_c.proofs.silkendoz_match_batch.Met as batch-met
 use Rattle.library_c.proofs.silkendoz_add_labelled.Met as add-labelled-met
 use Rattle.library_c.proofs.silkendoz_label.Met as label-met
 use Rattle.library_c.proofs.silkendoz_remote_match.Met as remote-met
+use Rattle.library_c.proofs.silkendoz_count_bands.Met as band-met
 use Rattle.demands.proofs.Theorem.{theorem}
 use Rattle.exported_calls.specs.Theorem.{ExportedTheorem}
 use Rattle.exported_calls.proofs.Follows.{follows}
@@ -34,6 +35,7 @@ exported-theorem = record {
   add-labelled-meets = add-labelled-met.met;
   label-meets = label-met.met;
   remote-meets = remote-met.met;
+  band-meets = band-met.met;
   open-clause = λ M 𝓤 H A mem run κs args. refl;
   add-clause = λ M 𝓤 H A mem run κs args. refl;
   nearest-clause = λ M 𝓤 H A mem run κs args. refl;
@@ -47,6 +49,7 @@ exported-theorem = record {
   add-labelled-clause = λ M 𝓤 H A mem run κs args. refl;
   label-clause = λ M 𝓤 H A mem run κs args. refl;
   remote-clause = λ M 𝓤 H A mem run κs args. refl;
+  band-clause = λ M 𝓤 H A mem run κs args. refl;
   follows = follows;
   linked = linked;
 }

@@ -12,7 +12,7 @@ use Rattle.dstree.specs.Measures.{measures}
 use Rattle.dstree.specs.Labels.{label, noLabel}
 use Rattle.dstree.specs.KNearest.{listPlaces}
 use Rattle.dstree.specs.Book.{Ask, opening, adding, matching, writing, reading, listing, importing, exporting, checking, batching, Call}
-use Rattle.dstree.specs.Book.{labelling, remoteMatching, Reply}
+use Rattle.dstree.specs.Book.{labelling, remoteMatching, banding, Reply}
 use Rattle.tables.specs.Tables.{Tables}
 use Rattle.calls.specs.Effects.{outcomeOn}
 use Rattle.batch_answers.specs.AnswerRecords.{nearsOf}
@@ -42,6 +42,8 @@ use Rattle.library_c.proofs.silkendoz_label.Kinds as label-kinds
 use Rattle.library_c.proofs.silkendoz_label.Reads as label-reads
 use Rattle.library_c.proofs.silkendoz_remote_match.Kinds as remote-kinds
 use Rattle.library_c.proofs.silkendoz_remote_match.Reads as remote-reads
+use Rattle.library_c.proofs.silkendoz_count_bands.Kinds as band-kinds
+use Rattle.library_c.proofs.silkendoz_count_bands.Reads as band-reads
 use Rattle.library_c.proofs.silkendoz_match_batch as batch
 
 -- what a caller in another language gets: the code, and the slice `out` as it was left; and what then stands in what was lent beside the
@@ -156,6 +158,13 @@ RemoteMatches = Made remote-kinds.ps remote-kinds.r remote-reads.Learnt (λ κs 
     (returned code (now (own exits .1 .1 .0))) (afterSearch args exits)
     (now (own exits .0) ∷ []))
 
+-- all tables but search work are lent to read
+abbrev pub CountsBands : Call → Tables → List ℕ → CReply → Tables → Type 0
+CountsBands = Made band-kinds.ps band-kinds.r band-reads.Learnt (λ κs args code exits.
+    cExchange (banding (now (own args .1 .0)) (now (own args .1 .1 .0)) (now (own args .0))) (tablesOf args) (now (own args .1 .1 .1 .0))
+    (returned code (now (own exits .1 .1 .1 .0))) (afterSearch args exits)
+    (now (own exits .0) ∷ []))
+
 -- a batch is lent a list of structs, so that no `Learnt` is generated: its claim is written here, and it is the clause of the contract
 -- (`Theorem`: `batch-clause`)
 abbrev pub batchSeen : (κs : Lfts 10) → Args batch.signature κs → ℕ → AtExit batch.ended κs → CExchange
@@ -193,3 +202,4 @@ pub data CDid (c : Call) (memory : Tables) (out : List ℕ) (said : CReply) (mem
   by-add-labelled : AddsLabelled c memory out said memory′ → CDid c memory out said memory′
   by-label : TellsLabel c memory out said memory′ → CDid c memory out said memory′
   by-remote : RemoteMatches c memory out said memory′ → CDid c memory out said memory′
+  by-bands : CountsBands c memory out said memory′ → CDid c memory out said memory′

@@ -45,6 +45,9 @@ use Rattle.library_c.proofs.silkendoz_label.Reads as label-reads
 use Rattle.library_c.proofs.silkendoz_remote_match as remote-call
 use Rattle.library_c.proofs.silkendoz_remote_match.Statement as remote-statement
 use Rattle.library_c.proofs.silkendoz_remote_match.Reads as remote-reads
+use Rattle.library_c.proofs.silkendoz_count_bands as band-call
+use Rattle.library_c.proofs.silkendoz_count_bands.Statement as band-statement
+use Rattle.library_c.proofs.silkendoz_count_bands.Reads as band-reads
 use Rattle.library_c.proofs.silkendoz_match_batch as batch
 use Rattle.library_c.proofs.silkendoz_match_batch.Statement as batch-statement
 use Rattle.exported_calls.specs.Did.{CReply, cReply, BatchLearnt, CDid}
@@ -70,6 +73,7 @@ pub record ExportedTheorem : Type 2 where
   pub add-labelled-meets : {M : Type 1} → add-labelled-statement.statement M
   pub label-meets : {M : Type 1} → label-statement.statement M
   pub remote-meets : {M : Type 1} → remote-statement.statement M
+  pub band-meets : {M : Type 1} → band-statement.statement M
   -- what `CDid` claims of a call is what its contract ensures, and no more is asked
   pub open-clause : Clause open-call.ended (λ M 𝓤. open-call.spec 𝓤) open-reads.Learnt
   pub add-clause : Clause add.ended (λ M 𝓤. add.spec 𝓤) add-reads.Learnt
@@ -84,6 +88,7 @@ pub record ExportedTheorem : Type 2 where
   pub add-labelled-clause : Clause add-labelled.ended (λ M 𝓤. add-labelled.spec 𝓤) add-labelled-reads.Learnt
   pub label-clause : Clause label-call.ended (λ M 𝓤. label-call.spec 𝓤) label-reads.Learnt
   pub remote-clause : Clause remote-call.ended (λ M 𝓤. remote-call.spec 𝓤) remote-reads.Learnt
+  pub band-clause : Clause band-call.ended (λ M 𝓤. band-call.spec 𝓤) band-reads.Learnt
   -- what it leaves is what the definition makes of the call and the memory before, and what it tells is the answer
   pub follows : (c : Call) (memory memory′ : Tables) (out : List ℕ) (got : CReply) → CDid c memory out got memory′
       → Told c memory out got memory′

@@ -3,9 +3,9 @@
 // `out`, in order: adding, with a label or without one, the trace's number, a match the trace's number, the distance, leaves read and
 // traces read, the remote's match these and the fault code, a listing leaves read, traces read and how many it lists, a writing the number
 // of blocks, an import the number of traces, an export the number of bytes, a batch leaves read, the bench's call for a label fault code
-// and serial, a refusal its place; an opening, a reading and a check have none. A shorter `out` takes the first of them, and places behind
-// them stay. The samples of a trace or a query are plain numbers, of which a call refuses those outside the limits; a place of the samples
-// table is a word that has its sample in the high bits.
+// and serial, a refusal its place; an opening, a reading, a check and a report of bands have none. A shorter `out` takes the first of
+// them, and places behind them stay. The samples of a trace or a query are plain numbers, of which a call refuses those outside the limits;
+// a place of the samples table is a word that has its sample in the high bits.
 
 pub mod version; // which layout of the tables this is for
 
@@ -357,6 +357,44 @@ pub extern "C" fn silkendoz_remote_match(
 {
     let answer = remote::remote_match(control, samples, nodes, links, work, labels, trail, query);
     telling::tell_remote(answer, out)
+}
+
+// The list has two places for each band: how many traces surely lie in it, and how many may.
+//
+// Two wrong programs that the contract rules out: one that tells how many bands there are, and one that clears the list's places behind
+// them.
+#[no_mangle]
+pub extern "C" fn silkendoz_count_bands(
+    control: &[u16],
+    samples: &[Word],
+    nodes: &[i64],
+    links: &[u16],
+    work: &mut [u64],
+    labels: &[u64],
+    list: &mut [u64],
+    query: &[Sample],
+    edges: &[u64],
+    out: &mut [u64],
+) -> u64
+    ensures { λ r. ⌜ cOutcome r (now (out .exit))
+        (tablesAfterSearch control samples nodes links work labels)
+        (now (list .exit) ∷ [])
+        ≡ cOutcomeOf (outcomeOn (book.banding (now (query .entry)) (now (edges .entry)) (now (list .entry)))
+        (tablesBefore control samples nodes links work labels))
+        (now (out .entry)) ⌝ }
+{
+    let answer = banding::count_bands(
+        control,
+        samples,
+        nodes,
+        links,
+        work,
+        labels,
+        list,
+        query,
+        edges,
+    );
+    telling::tell_banded(answer, out)
 }
 
 // The list is lent as records, a struct of two numbers each, and has one for each query.

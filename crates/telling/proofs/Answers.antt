@@ -49,6 +49,9 @@ use Rattle.labelling.specs.declared.Labelled.the-variants as c
 use Rattle.remote.specs.Answered as remote
 use Rattle.remote.specs.declared.RemoteFound.{RemoteFound}
 use Rattle.remote.specs.declared.RemoteFound.the-variants as m
+use Rattle.banding.specs.Answered as banding
+use Rattle.banding.specs.declared.Banded as y
+use Rattle.banding.specs.declared.Banded.the-variants as z
 use Rattle.calls.specs.Numbers.{codeOf, resultValues, valuesOf, laid}
 use Rattle.telling.specs.COutcome.{returned, returnedOf}
 
@@ -263,3 +266,13 @@ pub remote-refused : (answer : RemoteFound) (trail : List ℕ) (why : r.Refusal)
     → returnedOf (refusing (wordOf why)) out ≡ returnedOf (remote.answerBy answer trail) out
 unfolding remote.answerBy
 remote-refused answer trail why out is = ap (λ (x : RemoteFound). returnedOf (remote.answerBy x trail) out) (sym is)
+
+pub banded-reported : (answer : y.Banded) (bands : ℕ) (list out : List ℕ) → answer ≡ z.Reported
+    → returned 0 out ≡ returnedOf (banding.answerBy answer bands list) out
+unfolding banding.answerBy returnedOf codeOf valuesOf resultValues laid
+banded-reported answer bands list out is = ap (λ (x : y.Banded). returnedOf (banding.answerBy x bands list) out) (sym is)
+
+pub banded-refused : (answer : y.Banded) (bands : ℕ) (list : List ℕ) (why : r.Refusal) (out : List ℕ) → answer ≡ z.Refused why
+    → returnedOf (refusing (wordOf why)) out ≡ returnedOf (banding.answerBy answer bands list) out
+unfolding banding.answerBy
+banded-refused answer bands list why out is = ap (λ (x : y.Banded). returnedOf (banding.answerBy x bands list) out) (sym is)

@@ -1,9 +1,10 @@
 // An answer as numbers: its code is given back, its values go into a lent slice, in order. An adding tells the trace's number, a match
 // trace, distance, leaves read and traces read, the remote's match the fault code behind these, a listing leaves read, traces read and how
 // many it lists, a writing its blocks, an import its traces, an export its bytes, a batch leaves read, the bench's call code and serial.
-// An opening, a reading and a check tell nothing, a refusal its place.
+// An opening, a reading, a check and a report of bands tell nothing, a refusal its place.
 
 use adding::Added;
+use banding::Banded;
 use batching::BatchFound;
 use batching::Batched;
 use checking::Checked;
@@ -36,6 +37,7 @@ ghost use Rattle.checking.specs.Answered as checking;
 ghost use Rattle.batching.specs.Answered as batching;
 ghost use Rattle.labelling.specs.Answered as labelling;
 ghost use Rattle.remote.specs.Answered as remote;
+ghost use Rattle.banding.specs.Answered as banding;
 ghost use Rattle.telling.specs.COutcome.{returned, returnedOf};
 
 // A number at its place, if there is such a place.
@@ -208,5 +210,16 @@ pub fn tell_remote(answer: RemoteFound, out: &mut [u64]) -> u64
             0
         }
         RemoteFound::Refused(why) => tell_refusal(why, out),
+    }
+}
+
+// The report is told by the slice that the call leaves it in.
+pub fn tell_banded(answer: Banded, out: &mut [u64]) -> u64
+    ensures { λ r. ⌜ ((bands : ℕ) (list : List ℕ)
+        → returned r (now (out .exit)) ≡ returnedOf (banding.answerBy answer bands list) (now (out .entry))) ⌝ }
+{
+    match answer {
+        Banded::Reported => 0,
+        Banded::Refused(why) => tell_refusal(why, out),
     }
 }

@@ -1,0 +1,2 @@
+-- What a report of bands answers.
+pub mod Answered

@@ -44,16 +44,17 @@
  *   - no slice that a call may write overlaps another slice of the same call;
  *   - until the call is back, nobody else writes a lent slice, nor reads one that the call may write;
  *   - the stack has room. On x86-64 adding, reading a sheet and importing a recording take less than 96 KiB, checking tables less than
- *     64 KiB, a batch less than 48 KiB, every other call less than 16 KiB (measured, not proved).
+ *     64 KiB, a batch less than 48 KiB, a report of bands less than 24 KiB, every other call less than 16 KiB (measured, not proved).
  *
  * There is nothing else: any contents, any lengths and any numbers are answered.
  *
  * SEVERAL AT ONCE. A slice that a call takes as const may be lent to other calls at the same time. Over the same tables any number of
- * threads or cores may search at once (silkendoz_nearest, silkendoz_remote_match, silkendoz_k_nearest, silkendoz_match_batch), each with
- * work, trail, list, answers and out of its own: a copy of `struct silkendoz_tables` with another `work` is all it takes. At the same time
- * others may check, write a sheet, export or ask for a label (silkendoz_check_tables, silkendoz_write_sheet, silkendoz_export_recording,
- * silkendoz_label), with sheet, buffer and out of their own and any `work` that no search is writing. Opening, adding, reading a sheet and
- * importing a recording write the tables: let nobody else touch them until the call is back.
+ * threads or cores may search at once (silkendoz_nearest, silkendoz_remote_match, silkendoz_k_nearest, silkendoz_match_batch,
+ * silkendoz_count_bands), each with work, trail, list, answers and out of its own: a copy of `struct silkendoz_tables` with another `work`
+ * is all it takes. At the same time others may check, write a sheet, export or ask for a label (silkendoz_check_tables,
+ * silkendoz_write_sheet, silkendoz_export_recording, silkendoz_label), with sheet, buffer and out of their own and any `work` that no
+ * search is writing. Opening, adding, reading a sheet and importing a recording write the tables: let nobody else touch them until the call
+ * is back.
  *
  * COMMON SLIPS, none of which a call can notice:
  *
@@ -84,14 +85,15 @@
  *   silkendoz_export_recording  0   the number of bytes
  *   silkendoz_check_tables      0   none
  *   silkendoz_match_batch       0   leaves read
+ *   silkendoz_count_bands       0   none
  *   any call              refused   the place
  *
  * If `out` has fewer places, the first values are written and the others are left out. SILKENDOZ_OUT places are enough for every call.
  *
  * REFUSALS. A refused call leaves every table, the trail, the list, the answers, the sheet, the buffer and all of `out` behind its first
  * place as they were. The place is 0, but for a torn block, where it is the first block at fault. The numbers are tested in this order: 1;
- * a control record too short (2); its measures (3); other tables (2); the rest of 3; 11, 12 or 14, directly behind 3; then 4, 15, 5 to 8;
- * 13. Reading a sheet: 8; 9 over all blocks; 10; 15; 2.
+ * a control record too short (2); its measures (3); other tables (2); the rest of 3; 11, 12 or 14, directly behind 3; then 4, 15, 16, 5 to
+ * 8; 13. Reading a sheet: 8; 9 over all blocks; 10; 15; 2.
  */
 #ifndef SILKENDOZ_H
 #define SILKENDOZ_H
@@ -140,6 +142,11 @@ __attribute__((used)) static uint64_t (*const silkendoz_layout_of_the_archive)(v
 
 /* As many queries as are matched together at most. */
 #define SILKENDOZ_MAX_BATCH 16
+
+/* As few and as many edges as a report of bands takes. There is a band between each two that are neighbours. */
+#define SILKENDOZ_MIN_EDGES 2
+#define SILKENDOZ_MAX_EDGES 16
+#define SILKENDOZ_MAX_BANDS 15
 
 /* A number as a size, without a cast that C++ would warn of. */
 #ifdef __cplusplus
@@ -208,7 +215,7 @@ enum silkendoz_refusal {
     SILKENDOZ_WRONG_TRACE = 4,    /* length not n */
     SILKENDOZ_FULL = 5,           /* count equals capacity; an import: not all traces fit */
     SILKENDOZ_EMPTY = 6,          /* a search with no trace stored */
-    SILKENDOZ_SHORT_TRAIL = 7,    /* trail shorter than the number of leaves, or list shorter than k records */
+    SILKENDOZ_SHORT_TRAIL = 7,    /* trail shorter than the number of leaves, or list shorter than k records or one a band */
     SILKENDOZ_SHEET_LENGTH = 8,   /* writing, export: below the need; reading: 0, not a multiple of 512, above 8,373 blocks */
     SILKENDOZ_TORN_BLOCK = 9,     /* check, block number or kind wrong; the place is the first block at fault */
     SILKENDOZ_BAD_SHEET = 10,     /* letters, measures, count above capacity, number of blocks, a nonzero byte that must be 0, or blocks of
@@ -218,7 +225,8 @@ enum silkendoz_refusal {
                                      with a sample beyond 16 bits. It has a second use: a label of no stored trace */
     SILKENDOZ_LOOSE_RECORD = 13,  /* check: well-formed tables hold a figure that is not exactly the recomputed one */
     SILKENDOZ_BAD_BATCH = 14,     /* a batch: 0 or more than 16 queries, or an answer list of another length than the batch */
-    SILKENDOZ_SAMPLE_RANGE = 15   /* an added trace, a query or a sheet has a sample outside -524,288 to 524,287 */
+    SILKENDOZ_SAMPLE_RANGE = 15,  /* an added trace, a query or a sheet has a sample outside -524,288 to 524,287 */
+    SILKENDOZ_BAD_EDGES = 16      /* a report of bands: fewer than 2 edges or more than 16, or one that is not above the last */
 };
 
 /* Opens an empty library with these measures: the needed parts of the tables are set to zero, then the control record is written. What the
@@ -335,12 +343,12 @@ uint64_t silkendoz_export_recording(
 
 /* Whether tables that nobody vouches for may be trusted: recomputes every node's least and greatest sums and scatters from the samples of
  * the traces below it, by the leaves' lists, and compares them. If it gives 0, silkendoz_nearest, silkendoz_remote_match,
- * silkendoz_k_nearest and silkendoz_match_batch answer the nearest stored traces and read the fewest leaves, whatever made the tables; and
- * it still gives 0 after any calls that follow. It gives 0 for every library that calls made, an empty one too. A range that is wider than
- * it need be is loose (13) as well as one that is too narrow. What it does not see: a sample that changed, where the figures that a node
- * records stayed as they were, or changed with it; thresholds of tests, by which adding goes; labels; places that hold nothing of the
- * library. It reads every stored sample, up to 16 times. Nothing is written but `out`. Of `work` only the length is looked at. Refuses 2,
- * 3, 13. */
+ * silkendoz_k_nearest and silkendoz_match_batch answer the nearest stored traces and read the fewest leaves, and the true number of each
+ * band lies between the two of silkendoz_count_bands, whatever made the tables; and it still gives 0 after any calls that follow. It gives
+ * 0 for every library that calls made, an empty one too. A range that is wider than it need be is loose (13) as well as one that is too
+ * narrow. What it does not see: a sample that changed, where the figures that a node records stayed as they were, or changed with it;
+ * thresholds of tests, by which adding goes; labels; places that hold nothing of the library. It reads every stored sample, up to 16 times.
+ * Nothing is written but `out`. Of `work` only the length is looked at. Refuses 2, 3, 13. */
 uint64_t silkendoz_check_tables(
     SILKENDOZ_TABLES_TO_READ
     uint64_t *out, size_t out_len);
@@ -362,6 +370,20 @@ uint64_t silkendoz_match_batch(
     const int32_t *queries, size_t queries_len,
     size_t many,
     struct silkendoz_answer *answers, size_t answers_len,
+    uint64_t *out, size_t out_len);
+
+/* Reports how the distances of the stored traces to a query of n samples spread over bands, and takes none of them: it looks at the ranges
+ * that the tree records, not at traces. `edges` are 2 to 16 distances, each above the last; a band reaches from one edge up to but not
+ * including the next. For each band the list takes two places: how many traces surely lie in it, and how many may. list_len counts places,
+ * and 2 * (edges_len - 1) are needed; silkendoz_count_bands_in takes an array of records instead. Places behind them stay. Of tables that
+ * calls made, or that silkendoz_check_tables accepted, the true number of each band lies between the two. (On other well-formed tables they
+ * are what the recorded ranges say.) Traces below the first edge or not below the last are in no band. A library without a trace reports
+ * zeros: it is not refused (6). The needed part of `work` is left zero. Refuses 2, 3, 4, 15, 16, 7. */
+uint64_t silkendoz_count_bands(
+    SILKENDOZ_TABLES_TO_SEARCH
+    uint64_t *list, size_t list_len,
+    const int32_t *query, size_t query_len,
+    const uint64_t *edges, size_t edges_len,
     uint64_t *out, size_t out_len);
 
 /* ---- the same calls, with the tables in a struct ---- */
@@ -514,6 +536,31 @@ static inline uint64_t silkendoz_match_batch_in(
     return silkendoz_match_batch(SILKENDOZ_PASSED(t) trail, trail_len, queries, queries_len, many, answers, answers_len, out, out_len);
 }
 
+/* A record of the report: how many traces surely lie in a band, and how many may. */
+struct silkendoz_band {
+    uint64_t sure;
+    uint64_t possible;
+};
+
+/* It is two places and nothing more, so that an array of them is a list. */
+typedef char silkendoz_band_is_two_places[sizeof(struct silkendoz_band) == 2 * sizeof(uint64_t) ? 1 : -1];
+
+/* `bands` is an array of so many records, edges_len - 1 at least. The cast is sound, as above. */
+static inline uint64_t silkendoz_count_bands_in(
+    const struct silkendoz_tables *t,
+    struct silkendoz_band *bands, size_t records,
+    const int32_t *query, size_t query_len,
+    const uint64_t *edges, size_t edges_len,
+    uint64_t *out, size_t out_len)
+{
+#ifdef __cplusplus
+    uint64_t *places = reinterpret_cast<uint64_t *>(bands);
+#else
+    uint64_t *places = (uint64_t *)bands;
+#endif
+    return silkendoz_count_bands(SILKENDOZ_PASSED(t) places, 2 * records, query, query_len, edges, edges_len, out, out_len);
+}
+
 /* The word for a number that a call gives back: the documents', "done" for 0, "unknown" for a number that no call gives. */
 static inline const char *silkendoz_word(uint64_t number)
 {
@@ -534,6 +581,7 @@ static inline const char *silkendoz_word(uint64_t number)
     case SILKENDOZ_LOOSE_RECORD: return "loose record";
     case SILKENDOZ_BAD_BATCH: return "bad batch";
     case SILKENDOZ_SAMPLE_RANGE: return "sample range";
+    case SILKENDOZ_BAD_EDGES: return "bad edges";
     default: return "unknown";
     }
 }

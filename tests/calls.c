@@ -1,5 +1,5 @@
 /* The calls from C, over the struct of tables: document 01's examples, lists of the k nearest, recordings, the check, batches, labels,
- * samples of 20 bits, refusals in their order, and memory that has to stay. Prints one line, and fails at the first difference. */
+ * bands, samples of 20 bits, refusals in their order, and memory that has to stay. Prints one line, and fails at the first difference. */
 
 #include "silkendoz.h"
 
@@ -126,6 +126,13 @@ static uint64_t batch_in(struct tables *t, const int32_t *queries, size_t size, 
     return silkendoz_match_batch_in(&l, trail, trail_len, queries, size, many, answers, answers_len, out, out_len);
 }
 
+static uint64_t bands_in(struct tables *t, const int32_t *query, size_t size, const uint64_t *edges, size_t edges_len,
+    struct silkendoz_band *bands, size_t records, uint64_t *out, size_t out_len)
+{
+    struct silkendoz_tables l = lent(t);
+    return silkendoz_count_bands_in(&l, bands, records, query, size, edges, edges_len, out, out_len);
+}
+
 /* n 256, capacity 4,096, leaf size 64 open; 257, 4,097, 65 and 0 do not: measures come before lengths. */
 static void opening(void)
 {
@@ -176,7 +183,7 @@ static void largest(void)
     free(t.labels);
 }
 
-enum { CALLS = 13, TABLES = 6 };
+enum { CALLS = 14, TABLES = 6 };
 
 /* What each call over the struct answers, an export before an import. */
 static void answers(const struct silkendoz_tables *t, const int32_t *trace, uint8_t *sheet, uint64_t numbers[CALLS])
@@ -184,6 +191,8 @@ static void answers(const struct silkendoz_tables *t, const int32_t *trace, uint
     uint16_t trail[TRAIL];
     struct silkendoz_neighbour list[2];
     struct silkendoz_answer answer;
+    struct silkendoz_band band;
+    const uint64_t edges[2] = {0, 1};
     uint8_t recording[SILKENDOZ_RECORDING_BYTES(N)];
     uint64_t out[SILKENDOZ_OUT];
     numbers[0] = silkendoz_open_in(t, N, C, 2, out, SILKENDOZ_OUT);
@@ -200,6 +209,7 @@ static void answers(const struct silkendoz_tables *t, const int32_t *trace, uint
     numbers[10] = silkendoz_add_labelled_in(t, trace, N, 1, 2, out, SILKENDOZ_OUT);
     numbers[11] = silkendoz_label_in(t, 0, out, SILKENDOZ_OUT);
     numbers[12] = silkendoz_remote_match_in(t, trail, TRAIL, trace, N, out, SILKENDOZ_OUT);
+    numbers[13] = silkendoz_count_bands_in(t, &band, 1, trace, N, edges, 2, out, SILKENDOZ_OUT);
 }
 
 /* Each call over the struct passes on each length: just enough is done, one place less is a short table, whichever table it is. */
@@ -240,11 +250,12 @@ static void lengths(void)
 static void words(void)
 {
     static const char *const table[] = {"done", "measure", "short table", "spoiled", "wrong trace", "full", "empty", "short trail",
-        "sheet length", "torn block", "bad sheet", "bad k", "bad recording", "loose record", "bad batch", "sample range"};
+        "sheet length", "torn block", "bad sheet", "bad k", "bad recording", "loose record", "bad batch", "sample range",
+        "bad edges"};
     uint64_t number;
     for (number = 0; number < PLACES(table); number++)
         EXPECT(strcmp(silkendoz_word(number), table[number]) == 0);
-    EXPECT(strcmp(silkendoz_word(SILKENDOZ_SAMPLE_RANGE + 1), "unknown") == 0);
+    EXPECT(strcmp(silkendoz_word(SILKENDOZ_BAD_EDGES + 1), "unknown") == 0);
     EXPECT(strcmp(silkendoz_word(UINT64_MAX), "unknown") == 0);
 }
 
@@ -718,6 +729,74 @@ static void batches(void)
     EXPECT(memcmp(trail, marks, sizeof marks) == 0);
 }
 
+/* Bands of document 01's A, B, C from (1,1,1,1): A is at 4, and the leaf of B and C says 36 to 100. An edge belongs to the band behind it.
+ * With any samples in the tables the report is the same. What is refused leaves everything as it was. */
+static void bands(void)
+{
+    static struct tables t, before;
+    const int32_t traces[3][N] = {{0, 0, 0, 0}, {4, 4, 4, 4}, {0, 8, 0, 8}}, query[N] = {1, 1, 1, 1}, beyond[N] = {0, 0, 0, 524288};
+    const uint64_t edges[SILKENDOZ_MAX_EDGES + 1] = {0, 4, 5, 36, 100, 101, 102, 103, 104, 105, 106, 107, 108, 109, 110, UINT64_MAX - 1,
+        UINT64_MAX};
+    const uint64_t sure[5] = {0, 1, 0, 0, 0}, possible[5] = {0, 1, 0, 2, 2};
+    const uint64_t equal[3] = {0, 7, 7}, falling[3] = {0, 7, 6};
+    struct silkendoz_band list[SILKENDOZ_MAX_EDGES], kept[SILKENDOZ_MAX_EDGES];
+    uint64_t out[SILKENDOZ_OUT] = {9, 9, 9, 9, 9};
+    size_t i;
+
+    memset(&t, 0x5a, sizeof t);
+    memset(kept, 0x77, sizeof kept);
+    memcpy(list, kept, sizeof kept);
+    EXPECT(bands_in(&t, query, N, edges, 0, list, 0, out, SILKENDOZ_OUT) == SILKENDOZ_SPOILED && out[0] == 0 && out[1] == 9);
+    EXPECT(open_in(&t, N, C, 2, out) == SILKENDOZ_DONE);
+    /* an empty library reports zeros, and writes no value of an answer */
+    out[0] = 9;
+    EXPECT(bands_in(&t, query, N, edges, 3, list, 2, out, SILKENDOZ_OUT) == SILKENDOZ_DONE && out[0] == 9);
+    EXPECT(list[0].sure == 0 && list[0].possible == 0 && list[1].sure == 0 && list[1].possible == 0);
+    EXPECT(memcmp(list + 2, kept + 2, sizeof kept - 2 * sizeof *kept) == 0);
+    for (i = 0; i < 3; i++)
+        EXPECT(add_to(&t, traces[i], N, out, 0) == SILKENDOZ_DONE);
+
+    memcpy(list, kept, sizeof kept);
+    memset(t.work, 0xff, sizeof t.work);
+    before = t;
+    EXPECT(bands_in(&t, query, N, edges, 6, list, SILKENDOZ_MAX_EDGES, out, SILKENDOZ_OUT) == SILKENDOZ_DONE && out[0] == 9);
+    for (i = 0; i < 5; i++)
+        EXPECT(list[i].sure == sure[i] && list[i].possible == possible[i]);
+    EXPECT(memcmp(list + 5, kept + 5, sizeof kept - 5 * sizeof *kept) == 0);
+    memset(before.work, 0, SILKENDOZ_WORK(C) * sizeof *before.work);
+    EXPECT(memcmp(&t, &before, sizeof t) == 0);
+    memset(t.samples, 0x33, sizeof t.samples);
+    memcpy(list, kept, sizeof kept);
+    EXPECT(bands_in(&t, query, N, edges, 6, list, 5, out, SILKENDOZ_OUT) == SILKENDOZ_DONE);
+    for (i = 0; i < 5; i++)
+        EXPECT(list[i].sure == sure[i] && list[i].possible == possible[i]);
+    EXPECT(bands_in(&t, query, N, edges, SILKENDOZ_MAX_EDGES, list, SILKENDOZ_MAX_BANDS, out, SILKENDOZ_OUT) == SILKENDOZ_DONE);
+    EXPECT(list[4].possible == 2 && list[5].possible == 0 && list[14].possible == 0);
+
+    /* 4, 15, 16, 7, in this order */
+    memcpy(list, kept, sizeof kept);
+    memset(t.work, 0xff, sizeof t.work);
+    before = t;
+    EXPECT(bands_in(&t, beyond, N - 1, edges, 1, list, 0, out, SILKENDOZ_OUT) == SILKENDOZ_WRONG_TRACE && out[0] == 0);
+    EXPECT(bands_in(&t, beyond, N, edges, 1, list, 0, out, SILKENDOZ_OUT) == SILKENDOZ_SAMPLE_RANGE);
+    EXPECT(bands_in(&t, query, N, edges, 0, list, 0, out, SILKENDOZ_OUT) == SILKENDOZ_BAD_EDGES);
+    EXPECT(bands_in(&t, query, N, edges, 1, list, 0, out, SILKENDOZ_OUT) == SILKENDOZ_BAD_EDGES);
+    EXPECT(bands_in(&t, query, N, edges, 17, list, 16, out, SILKENDOZ_OUT) == SILKENDOZ_BAD_EDGES);
+    EXPECT(bands_in(&t, query, N, equal, 3, list, 0, out, SILKENDOZ_OUT) == SILKENDOZ_BAD_EDGES);
+    EXPECT(bands_in(&t, query, N, falling, 3, list, 2, out, SILKENDOZ_OUT) == SILKENDOZ_BAD_EDGES);
+    EXPECT(bands_in(&t, query, N, edges, 3, list, 1, out, SILKENDOZ_OUT) == SILKENDOZ_SHORT_TRAIL && out[0] == 0 && out[1] == 9);
+    EXPECT(bands_in(&t, query, N, edges, 16, list, 14, out, SILKENDOZ_OUT) == SILKENDOZ_SHORT_TRAIL);
+    EXPECT(memcmp(&t, &before, sizeof t) == 0 && memcmp(list, kept, sizeof kept) == 0);
+    /* an odd number of places holds one record less */
+    {
+        struct silkendoz_tables l = lent(&t);
+        uint64_t places[4] = {7, 7, 7, 7};
+        EXPECT(silkendoz_count_bands(SILKENDOZ_PASSED(&l) places, 3, query, N, edges, 3, out, SILKENDOZ_OUT) == SILKENDOZ_SHORT_TRAIL);
+        EXPECT(silkendoz_count_bands(SILKENDOZ_PASSED(&l) places, 3, query, N, edges + 1, 2, out, SILKENDOZ_OUT) == SILKENDOZ_DONE);
+        EXPECT(places[0] == 1 && places[1] == 1 && places[2] == 7 && places[3] == 7);
+    }
+}
+
 /* Labels are given, told and kept by a sheet; the remote is told the code alone, whatever the serials. A refusal leaves everything. */
 static void labels(void)
 {
@@ -893,6 +972,7 @@ int main(void)
     exports();
     checks();
     batches();
+    bands();
     labels();
     words_of_samples();
     wide_samples();

@@ -45,6 +45,18 @@ bool labels()
     return silkendoz_remote_match_in(&library, trail, capacity, trace, n, out, SILKENDOZ_OUT) == SILKENDOZ_DONE && out[4] == 17;
 }
 
+bool bands()
+{
+    const int32_t query[n] = {1, 1, 1, 1};
+    const uint64_t edges[3] = {0, 5, 1000};
+    silkendoz_band list[2];
+    if (silkendoz_count_bands_in(&library, list, 1, query, n, edges, 3, out, SILKENDOZ_OUT) != SILKENDOZ_SHORT_TRAIL)
+        return false;
+    if (silkendoz_count_bands_in(&library, list, 2, query, n, edges, 3, out, SILKENDOZ_OUT) != SILKENDOZ_DONE)
+        return false;
+    return list[0].sure == 1 && list[0].possible == 1 && list[1].sure == 3 && list[1].possible == 3;
+}
+
 // samples of 20 bits as arguments, and as words of the table
 bool samples()
 {
@@ -76,7 +88,7 @@ bool measures()
 
 int main()
 {
-    if (!lists() || !labels() || !samples() || !measures() || silkendoz_layout_4() != SILKENDOZ_LAYOUT) {
+    if (!lists() || !labels() || !bands() || !samples() || !measures() || silkendoz_layout_4() != SILKENDOZ_LAYOUT) {
         std::fprintf(stderr, "C++: another answer\n");
         return 1;
     }

@@ -19,6 +19,8 @@ static uint16_t trail[SILKENDOZ_TRAIL(C)];
 static struct silkendoz_neighbour list[K];
 static int32_t queries[SILKENDOZ_MAX_BATCH * N];
 static struct silkendoz_answer answers[SILKENDOZ_MAX_BATCH];
+static struct silkendoz_band bands[SILKENDOZ_MAX_BANDS];
+static uint64_t edges[SILKENDOZ_MAX_EDGES];
 static uint8_t sheet[SILKENDOZ_SHEET(N, C)];
 static uint8_t recording[SILKENDOZ_RECORDING_BYTES(N)];
 static uint64_t out[SILKENDOZ_OUT];
@@ -77,6 +79,10 @@ static void batching(void)
         &tables, trail, SILKENDOZ_TRAIL(C), queries, SILKENDOZ_MAX_BATCH * N, SILKENDOZ_MAX_BATCH, answers, SILKENDOZ_MAX_BATCH, out,
         SILKENDOZ_OUT);
 }
+static void banding(void)
+{
+    number = silkendoz_count_bands_in(&tables, bands, SILKENDOZ_MAX_BANDS, trace, N, edges, SILKENDOZ_MAX_EDGES, out, SILKENDOZ_OUT);
+}
 static void nothing(void) { number = SILKENDOZ_DONE; }
 
 struct call {
@@ -129,7 +135,8 @@ int main(void)
     struct call calls[] = {{"open", opening, 16, 0}, {"add", adding, 96, 0}, {"nearest", matching, 16, 0}, {"k_nearest", listing, 16, 0},
         {"write_sheet", writing, 16, 0}, {"read_sheet", reading, 96, 0}, {"export_recording", exporting, 16, 0},
         {"import_recording", importing, 96, 0}, {"check_tables", checking, 64, 0}, {"match_batch", batching, 48, 0},
-        {"add_labelled", labelling, 96, 0}, {"label", telling, 16, 0}, {"remote_match", remote, 16, 0}};
+        {"add_labelled", labelling, 96, 0}, {"label", telling, 16, 0}, {"remote_match", remote, 16, 0},
+        {"count_bands", banding, 24, 0}};
     size_t before, i;
     int at;
     void *stack;
@@ -137,6 +144,8 @@ int main(void)
         return 1;
     /* what a thread takes by itself */
     before = used_by(&none, stack);
+    for (at = 0; at < SILKENDOZ_MAX_EDGES; at++)
+        edges[at] = (uint64_t)1 << 3 * at;
     for (kind = RANDOM; kind < KINDS; kind++) {
         measure(&calls[0], stack, before);
         for (at = 0; at < TRACES; at++) {
@@ -150,6 +159,7 @@ int main(void)
         measure(&calls[10], stack, before);
         measure(&calls[11], stack, before);
         measure(&calls[12], stack, before);
+        measure(&calls[13], stack, before);
         measure(&calls[2], stack, before);
         measure(&calls[3], stack, before);
         measure(&calls[4], stack, before);

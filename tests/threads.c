@@ -1,5 +1,5 @@
-/* Several searches at once over the same tables, matches, the remote's too, lists and batches: each thread has work, trail, list, answers
- * and out of its own, and the tables are only read. Prints one line, and fails at the first difference. */
+/* Several searches at once over the same tables, matches, the remote's too, lists, batches and bands: each thread has work, trail, list,
+ * answers and out of its own, and the tables are only read. Prints one line, and fails at the first difference. */
 
 #include "silkendoz.h"
 
@@ -8,7 +8,7 @@
 #include <stdlib.h>
 #include <string.h>
 
-enum { N = 32, C = 400, LEAF_SIZE = 4, THREADS = 8, QUERIES = 300, K = 5, MANY = 2 };
+enum { N = 32, C = 400, LEAF_SIZE = 4, THREADS = 8, QUERIES = 300, K = 5, MANY = 2, BANDS = 4 };
 
 SILKENDOZ_LIBRARY(library, N, C);
 
@@ -18,6 +18,7 @@ struct own {
     uint16_t trail[SILKENDOZ_TRAIL(C)];
     struct silkendoz_neighbour list[K];
     struct silkendoz_answer answers[MANY];
+    struct silkendoz_band bands[BANDS];
     uint64_t match[SILKENDOZ_OUT], remote[SILKENDOZ_OUT], listing[SILKENDOZ_OUT], batch[SILKENDOZ_OUT];
 };
 
@@ -38,11 +39,12 @@ static struct silkendoz_tables with(uint64_t *work)
     return t;
 }
 
-/* A match, the remote's, a list that writes its trail over the match's, and a batch of the query and its mirror image, over the list's.
- * Gives back whether all were done. */
+/* A match, the remote's, a list that writes its trail over the match's, a batch of the query and its mirror image, over the list's, and a
+ * report of bands. Gives back whether all were done. */
 static int search(struct own *own, const int32_t *query)
 {
     struct silkendoz_tables t = with(own->work);
+    const uint64_t edges[BANDS + 1] = {0, (uint64_t)1 << 36, (uint64_t)1 << 39, (uint64_t)1 << 40, (uint64_t)1 << 41};
     int32_t both[MANY * N];
     size_t i;
     for (i = 0; i < N; i++) {
@@ -55,7 +57,8 @@ static int search(struct own *own, const int32_t *query)
         && silkendoz_k_nearest_in(&t, own->trail, SILKENDOZ_TRAIL(C), own->list, K, query, N, K, own->listing, SILKENDOZ_OUT)
             == SILKENDOZ_DONE
         && silkendoz_match_batch_in(&t, own->trail, SILKENDOZ_TRAIL(C), both, MANY * N, MANY, own->answers, MANY, own->batch, SILKENDOZ_OUT)
-            == SILKENDOZ_DONE;
+            == SILKENDOZ_DONE
+        && silkendoz_count_bands_in(&t, own->bands, BANDS, query, N, edges, BANDS + 1, own->batch, SILKENDOZ_OUT) == SILKENDOZ_DONE;
 }
 
 static void *searches(void *number)
@@ -118,6 +121,6 @@ int main(void)
             stop("another answer than alone");
     if (memcmp(kept, t.samples, sizeof kept) != 0)
         stop("the tables changed");
-    printf("C: %d searches by each of %d threads at once, as alone\n", 4 * QUERIES, THREADS);
+    printf("C: %d searches by each of %d threads at once, as alone\n", 5 * QUERIES, THREADS);
     return 0;
 }

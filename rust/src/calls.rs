@@ -60,6 +60,16 @@ pub struct Answer {
     pub distance: u64,
 }
 
+/// A record of a report of bands. It lies in memory as C has it (`struct silkendoz_band`).
+#[repr(C)]
+#[derive(Clone, Copy, Debug, Default, PartialEq, Eq, Hash)]
+pub struct Band {
+    /// How many traces surely lie in the band.
+    pub sure: u64,
+    /// How many may.
+    pub possible: u64,
+}
+
 /// The version of the tables' layout (`docs/LAYOUT.md`). Another number is another layout, or another tree: who keeps tables keeps this number beside
 /// them.
 pub const LAYOUT: u64 = 4;
@@ -97,6 +107,14 @@ macro_rules! exported {
     };
 }
 
+impl Band {
+    /// Bands as a list of places, two for each.
+    pub fn places(bands: &mut [Band]) -> &mut [u64] {
+        // Safety: a band is two places and nothing else, in C's order, and every two places are one.
+        unsafe { std::slice::from_raw_parts_mut(bands.as_mut_ptr().cast(), 2 * bands.len()) }
+    }
+}
+
 with_tables! { exported! silkendoz_open(write, write; n: u64, capacity: u64, leaf_size: u64,) }
 with_tables! { exported! silkendoz_add(write, read; trace: *const i32, _: usize,) }
 with_tables! { exported! silkendoz_add_labelled(write, read; trace: *const i32, _: usize, code: u16, serial: u32,) }
@@ -115,6 +133,10 @@ with_tables! { exported! silkendoz_check_tables(read, read;) }
 with_tables! { exported! silkendoz_match_batch(
     read, write;
     trail: *mut u16, _: usize, queries: *const i32, _: usize, many: usize, answers: *mut Answer, _: usize,
+) }
+with_tables! { exported! silkendoz_count_bands(
+    read, write;
+    list: *mut u64, _: usize, query: *const i32, _: usize, edges: *const u64, _: usize,
 ) }
 
 /// Code 0 is the answer's values; any other is the number of a refusal, whose place is the first value.
@@ -263,6 +285,19 @@ pub fn match_batch(t: Tables<'_>, work: &mut [u64], trail: &mut [u16], queries: 
         [trail => as_mut_ptr, queries => as_ptr], [many], [answers], out
     };
     answer(code, out).map(|[leaves]| leaves)
+}
+
+/// Reports how many traces surely lie in each band of distances to a query, and how many may, by the ranges that the tree records: no trace
+/// is read. Edges are 2 to 16, each above the last; a band is from one up to but not including the next. The list takes two places for each
+/// band, sure and possible ([`Band`] is both; [`Band::places`] makes a list of some), and those behind stay. The needed search work is left
+/// zero.
+pub fn count_bands(t: Tables<'_>, work: &mut [u64], list: &mut [u64], query: &[i32], edges: &[u64]) -> Result<(), Refusal> {
+    let mut out = [0; 1];
+    let code = with_tables! {
+        made! silkendoz_count_bands(t as_ptr, work => as_mut_ptr),
+        [list => as_mut_ptr, query => as_ptr, edges => as_ptr], [], [], out
+    };
+    answer(code, out).map(|_| ())
 }
 
 /// What the archive says of its layout: [`LAYOUT`].

@@ -5,7 +5,8 @@
 //! The work is done by a library that is proved to do exactly this (the crates beside this folder); here it gets tables of the right sizes, and its
 //! refusals a type. [`TraceLibrary::k_nearest`] lists the k nearest in the same way; [`TraceLibrary::import_recording`] takes the traces of a WAV file;
 //! [`TraceLibrary::from_tables`] takes tables from elsewhere, once they are checked. A trace may have a [`Label`]: a fault code, which
-//! [`TraceLibrary::remote_match`] tells, and a machine's serial, which it does not.
+//! [`TraceLibrary::remote_match`] tells, and a machine's serial, which it does not. [`TraceLibrary::count_bands`] says how many traces lie within
+//! which distances, without reading one.
 //!
 //! ```
 //! use silkendoz::TraceLibrary;
@@ -34,6 +35,7 @@ pub mod scan;
 mod shape;
 mod tables;
 
+pub use calls::Band;
 pub use label::Label;
 pub use library::{Batch, KNearest, Nearest, Neighbour, RemoteMatch, TraceLibrary};
 pub use refusal::{Lengths, Refusal};

@@ -1,7 +1,7 @@
 //! A library that owns its tables.
 
 use crate::calls::{self, Lent, Tables};
-use crate::{Label, Refusal, StoredSample};
+use crate::{Band, Label, Refusal, StoredSample};
 use std::fmt;
 use std::slice::ChunksExact;
 
@@ -14,6 +14,9 @@ const MOST_LISTED: usize = 16;
 
 /// As many queries as are matched together at most.
 const MOST_TOGETHER: usize = 16;
+
+/// As many edges as a report of bands takes at most.
+const MOST_EDGES: usize = 16;
 
 /// Stored traces, and the tree by which the nearest is found.
 ///
@@ -316,6 +319,35 @@ impl TraceLibrary {
         trail.truncate(leaves as usize);
         let answers = answers.iter().map(|near| Neighbour { trace: near.trace as usize, distance: near.distance }).collect();
         Ok(Batch { answers, leaves: leaves as usize, trail })
+    }
+
+    /// How many stored traces lie in each band of distances to a query, from one edge up to but not including the next: surely, and at most. Edges
+    /// are 2 to 16, each above the last. No trace is read: it is by the ranges that the tree records, so that the two may be far apart; the true
+    /// number lies between. A library without a trace reports zeros.
+    ///
+    /// ```
+    /// use silkendoz::{Band, Refusal, TraceLibrary};
+    ///
+    /// let mut library = TraceLibrary::open(4, 8, 2)?;
+    /// assert_eq!(library.count_bands(&[1, 1, 1, 1], &[0, 5])?, [Band { sure: 0, possible: 0 }]);
+    /// library.add(&[0, 0, 0, 0])?;
+    /// library.add(&[4, 4, 4, 4])?;
+    /// library.add(&[0, 8, 0, 8])?;
+    /// // one trace is at 4; the leaf of the two others says of them that they are at 36 to 100
+    /// let bands = library.count_bands(&[1, 1, 1, 1], &[0, 5, 100, 101])?;
+    /// assert_eq!(bands, [(1, 1), (0, 2), (0, 2)].map(|(sure, possible)| Band { sure, possible }));
+    /// assert_eq!(library.count_bands(&[1, 1, 1, 1], &[0, 101])?, [Band { sure: 3, possible: 3 }]);
+    /// assert_eq!(library.count_bands(&[1, 1, 1, 1], &[5, 5]), Err(Refusal::BadEdges));
+    /// assert_eq!(library.count_bands(&[1, 1, 1, 1], &[5]), Err(Refusal::BadEdges));
+    /// # Ok::<(), Refusal>(())
+    /// ```
+    pub fn count_bands(&self, query: &[i32], edges: &[u64]) -> Result<Vec<Band>, Refusal> {
+        let mut work = vec![0; self.work.len()];
+        // more edges are refused before the list is looked at
+        let mut bands = vec![Band::default(); edges.len().min(MOST_EDGES).saturating_sub(1)];
+        calls::count_bands(self.tables(), &mut work, Band::places(&mut bands), query, edges)
+            .map_err(|why| why.with_lengths(query.len(), self.n()))?;
+        Ok(bands)
     }
 
     /// The library as a sheet: blocks of 512 bytes, to be stored or sent. It is a wide one, with samples of four bytes, if any sample does

@@ -27,7 +27,7 @@ pub enum Refusal {
     Full,
     /// 6: a match with no trace stored.
     Empty,
-    /// 7: trail shorter than the number of leaves, or a list shorter than k.
+    /// 7: trail shorter than the number of leaves, or a list shorter than k or than one record a band.
     ShortTrail,
     /// 8: writing and an export: below the need; reading: 0, not a multiple of 512, above 8,373 blocks.
     SheetLength,
@@ -47,6 +47,8 @@ pub enum Refusal {
     BadBatch,
     /// 15: an added trace, a query or a sheet has a sample outside −524,288 to 524,287 ([`crate::SAMPLES`]).
     SampleRange,
+    /// 16: fewer than 2 edges of bands or more than 16, or one that is not above the last.
+    BadEdges,
 }
 
 /// How many samples a trace or query has that is refused for its length, and how many it has to have.
@@ -86,6 +88,7 @@ impl Refusal {
             13 => Refusal::LooseRecord,
             14 => Refusal::BadBatch,
             15 => Refusal::SampleRange,
+            16 => Refusal::BadEdges,
             _ => return None,
         })
     }
@@ -108,6 +111,7 @@ impl Refusal {
             Refusal::LooseRecord => 13,
             Refusal::BadBatch => 14,
             Refusal::SampleRange => 15,
+            Refusal::BadEdges => 16,
         }
     }
 
@@ -137,6 +141,7 @@ impl Refusal {
             Refusal::LooseRecord => "loose record",
             Refusal::BadBatch => "bad batch",
             Refusal::SampleRange => "sample range",
+            Refusal::BadEdges => "bad edges",
         }
     }
 }
@@ -151,7 +156,7 @@ impl fmt::Display for Refusal {
             Refusal::WrongTrace(None) => "length not n",
             Refusal::Full => "no room for what is added",
             Refusal::Empty => "a match with no trace stored",
-            Refusal::ShortTrail => "trail shorter than the number of leaves, or list shorter than k",
+            Refusal::ShortTrail => "trail shorter than the number of leaves, or list shorter than k or than the bands",
             Refusal::SheetLength => "a sheet or a buffer of another length than it needs",
             Refusal::TornBlock(block) => return write!(f, "torn block: check, block number or kind wrong in block {block}"),
             Refusal::BadSheet => "letters, measures, counts, a byte that must be 0, or blocks that need not be",
@@ -160,6 +165,7 @@ impl fmt::Display for Refusal {
             Refusal::LooseRecord => "a recorded figure is not that of the traces below",
             Refusal::BadBatch => "no query or more than 16, or a list of another length",
             Refusal::SampleRange => "a sample outside -524,288 to 524,287",
+            Refusal::BadEdges => "fewer than 2 edges or more than 16, or one that is not above the last",
         };
         write!(f, "{}: {why}", self.word())
     }
@@ -173,13 +179,13 @@ mod tests {
 
     #[test]
     fn numbers_go_both_ways() {
-        for number in 1..=15 {
+        for number in 1..=16 {
             let place = if number == 9 { 7 } else { 0 };
             let why = Refusal::from_number(number, place).unwrap();
             assert_eq!((why.number(), why.place()), (number, place));
             assert!(why.to_string().starts_with(why.word()));
         }
         assert_eq!(Refusal::from_number(0, 0), None);
-        assert_eq!(Refusal::from_number(16, 0), None);
+        assert_eq!(Refusal::from_number(17, 0), None);
     }
 }

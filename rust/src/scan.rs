@@ -1,6 +1,7 @@
-//! The nearest trace, and the k nearest, by reading the stored samples one trace after another: what the index is compared with, and as good
-//! as it for few traces. Nothing here is proved; tests hold it to the documents. The samples are stored ones, as the table of a library has
-//! them. The query's are plain, and have to be within [`crate::SAMPLES`]: of others the distance may not fit its type.
+//! The nearest trace, the k nearest, and how many lie in bands, by reading the stored samples one trace after another: what the index is
+//! compared with, and as good as it for few traces. Nothing here is proved; tests hold it to the documents. The samples are stored ones, as
+//! the table of a library has them. The query's are plain, and have to be within [`crate::SAMPLES`]: of others the distance may not fit its
+//! type.
 
 use crate::StoredSample;
 
@@ -47,6 +48,28 @@ pub fn k_nearest_abandoning(samples: &[StoredSample], n: usize, query: &[i32], k
         }
     }
     list
+}
+
+/// How many traces lie in each band from one edge up to but not including the next, edges rising: the true numbers, where a report of bands
+/// says between which they lie.
+///
+/// ```
+/// use silkendoz::{scan, StoredSample};
+///
+/// let samples = [0, 4, 9].map(|sample| StoredSample::new(sample).unwrap());
+/// assert_eq!(scan::bands(&samples, 1, &[1], &[0, 1, 9, 64]), [0, 1, 1]);
+/// assert_eq!(scan::bands(&samples, 1, &[1], &[0, 65]), [3]);
+/// ```
+pub fn bands(samples: &[StoredSample], n: usize, query: &[i32], edges: &[u64]) -> Vec<u64> {
+    let mut counts = vec![0; edges.len().saturating_sub(1)];
+    for trace in samples.chunks_exact(n) {
+        let d = distance(trace, query);
+        let reached = edges.partition_point(|&edge| edge <= d);
+        if let Some(count) = reached.checked_sub(1).and_then(|band| counts.get_mut(band)) {
+            *count += 1;
+        }
+    }
+    counts
 }
 
 /// Puts a trace behind those that are no farther, if it is one of the k nearest so far.

@@ -2,8 +2,10 @@
 
 mod common;
 
-use common::{check_add, check_add_labelled, check_batch, check_checked, check_export, check_import, check_k_nearest, check_label, check_nearest};
-use common::{check_read_back, check_remote, is_narrow, measures, narrowed};
+use common::{
+    check_add, check_add_labelled, check_bands, check_batch, check_checked, check_export, check_import, check_k_nearest, check_label, check_nearest,
+};
+use common::{check_read_back, check_remote, is_narrow, measures, narrowed, some_edges};
 use testing::model::recording;
 use testing::model::tables::{Tables, RECORD_PLACES};
 use testing::model::{runs, segments_of, width, Figure, Kind, Library, Node, Segment, Test, Trace, SAMPLE_LIMIT};
@@ -167,6 +169,9 @@ fn search(random: &mut Random, t: &mut Tables, library: &Library, shape: Shape) 
     t.work.iter_mut().for_each(|x| *x = random.word());
     let run: Vec<i32> = (0..k).flat_map(|_| query(random, shape, n, &library.traces)).collect();
     check_batch(t, l, &mut trail, &run, k, k).expect("nothing is refused");
+    t.work.iter_mut().for_each(|x| *x = random.word());
+    let edges = some_edges(random, library, &q, k.max(2));
+    check_bands(t, l, &mut vec![1; 2 * k + 3], &q, &edges).expect("nothing is refused");
     t.work.iter_mut().for_each(|x| *x = random.word());
 }
 

@@ -1,5 +1,5 @@
 //! The commands of `docs/GUIDE.md`, run one after another beside `examples/`, as it is in a fresh clone. What they print is what the page says,
-//! and the picture that they leave is the one that stands there.
+//! and the pictures that they leave are those that stand there.
 
 use std::fs;
 use std::path::{Path, PathBuf};
@@ -44,14 +44,17 @@ fn fresh(name: &str) -> PathBuf {
     folder
 }
 
-/// With GUIDE_WRITE set, the page and its picture become what the commands print.
+/// The pictures that the commands leave, and what they are called beside the page.
+const PICTURES: [(&str, &str); 2] = [("today.svg", "docs/match.svg"), ("bands.svg", "docs/bands.svg")];
+
+/// With GUIDE_WRITE set, the page and its pictures become what the commands print.
 #[test]
 fn the_commands_print_what_the_page_says() {
     let path = repository().join("docs/GUIDE.md");
     let mut page = fs::read_to_string(&path).unwrap();
     let mut folder = fresh("guide");
     let commands = commands(&page);
-    for command in ["build", "match", "remote", "plot", "report", "add", "info", "export", "rename", "list", "check", "repair", "salvage"] {
+    for command in ["build", "match", "remote", "plot", "report", "bands", "add", "info", "export", "rename", "list", "check", "repair", "salvage"] {
         let shown = commands.iter().any(|(line, _)| line.starts_with(&format!("silkendoz {command} ")));
         assert!(shown, "the page shows {command}");
     }
@@ -68,13 +71,16 @@ fn the_commands_print_what_the_page_says() {
             assert_eq!(told, below, "{line}");
         }
     }
-    let picture = fs::read_to_string(folder.join("today.svg")).unwrap();
     if write {
         fs::write(path, page).unwrap();
-        fs::write(repository().join("docs/match.svg"), &picture).unwrap();
     }
-    let shown = fs::read_to_string(repository().join("docs/match.svg")).unwrap();
-    assert!(picture == shown, "docs/match.svg is the picture of the page's commands");
+    for (left, shown) in PICTURES {
+        let picture = fs::read_to_string(folder.join(left)).unwrap();
+        if write {
+            fs::write(repository().join(shown), &picture).unwrap();
+        }
+        assert!(picture == fs::read_to_string(repository().join(shown)).unwrap(), "{shown} is the picture of the page's commands");
+    }
     assert!(fs::read_to_string(folder.join("today.html")).unwrap().contains("Fits: dry rail, right"));
     // a command whose times differ from run to run
     assert!(printed(&folder, "silkendoz advise faults.sheet").contains("do not look normalised"));

@@ -2,7 +2,9 @@
 
 mod common;
 
-use common::{check_add, check_add_labelled, check_batch, check_checked, check_export, check_import, check_k_nearest, check_label, check_nearest};
+use common::{
+    check_add, check_add_labelled, check_bands, check_batch, check_checked, check_export, check_import, check_k_nearest, check_label, check_nearest,
+};
 use common::{check_remote, check_write, measures, narrowed};
 use testing::model::recording;
 use testing::model::tables::{Tables, RECORD_PLACES};
@@ -58,8 +60,9 @@ fn spoiled(damaged: &Tables, query: &[i32]) -> bool {
     let labelled = check_add_labelled(&mut damaged.clone(), l, query, Label { code: 1, serial: 2 }).map(|_| ());
     let told = check_remote(&mut damaged.clone(), l, &mut trail, query).map(|_| ());
     let label = check_label(damaged, l, 0).map(|_| ());
-    let verdicts = [added, found, listed, imported, exported, checked, batched, labelled, told, label].map(|answer| answer == Err((3, 0)));
-    assert!(verdicts == [verdicts[0]; 10], "{verdicts:?}");
+    let counted = check_bands(&mut damaged.clone(), l, &mut [7; 7], query, &[0, 9, 1 << 20, 1 << 40]).map(|_| ());
+    let verdicts = [added, found, listed, imported, exported, checked, batched, labelled, told, label, counted].map(|answer| answer == Err((3, 0)));
+    assert!(verdicts == [verdicts[0]; 11], "{verdicts:?}");
     verdicts[0]
 }
 
@@ -192,6 +195,7 @@ fn short_tables_and_the_order() {
                 assert_eq!(check_nearest(&mut t, short, &mut [], &wrong).unwrap_err(), expected);
                 assert_eq!(check_k_nearest(&mut t, short, &mut [], &mut [], &wrong, 0).unwrap_err(), expected);
                 assert_eq!(check_batch(&mut t, short, &mut [], &wrong, 0, 1).unwrap_err(), expected);
+                assert_eq!(check_bands(&mut t, short, &mut [], &wrong, &[]).unwrap_err(), expected);
                 assert_eq!(check_import(&mut t, short, &[]).unwrap_err(), expected);
                 assert_eq!(check_export(&t, short, &mut [], 9999, 1 << 31).unwrap_err(), expected);
             }
@@ -250,6 +254,20 @@ fn short_tables_and_the_order() {
         assert_eq!(order(2, &[&case.query[..], &beyond].concat(), 0, 2), Err((15, 0)));
         assert_eq!(order(1, &case.query, 0, 1), Err(expected));
         assert_eq!(order(16, &case.query.repeat(16), 16, 16), if case.tables.control[3] == 0 { Err((6, 0)) } else { Ok(()) });
+        // bad edges come behind a wrong trace and a sample outside the limits, and before a short list; an empty library is not refused
+        let order =
+            |edges: &[u64], query: &[i32], list: usize| check_bands(&mut case.tables.clone(), l, &mut vec![7; list], query, edges).map(|_| ());
+        let many: Vec<u64> = (0..17).collect();
+        for edges in [&[][..], &[0], &many, &[0, 0], &[1, 0], &[0, 9, 9], &[0, 9, 8], &[0, u64::MAX, u64::MAX]] {
+            assert_eq!(order(edges, &wrong, 0), Err((4, 0)));
+            assert_eq!(order(edges, &beyond, 0), Err((15, 0)));
+            assert_eq!(order(edges, &case.query, 0), Err((16, 0)));
+            assert_eq!(order(edges, &case.query, 99), Err((16, 0)));
+        }
+        for (edges, list) in [(&many[..2], 1), (&many[..16], 29), (&[0, u64::MAX][..], 0)] {
+            assert_eq!(order(edges, &case.query, list), Err((7, 0)));
+            assert_eq!(order(edges, &case.query, 30), Ok(()));
+        }
     }
 }
 

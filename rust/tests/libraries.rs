@@ -2,8 +2,10 @@
 
 mod common;
 
-use common::{check_add_labelled, check_batch, check_k_nearest, check_label, check_list, check_nearest, check_open, check_remote, check_scan};
-use common::{junk, longer, measures};
+use common::{
+    check_add_labelled, check_bands, check_batch, check_k_nearest, check_label, check_list, check_nearest, check_open, check_remote, check_scan,
+};
+use common::{junk, longer, measures, some_edges};
 use silkendoz::TraceLibrary;
 use testing::model::tables::{needs, word_of, Tables};
 use testing::model::{KNearest, Library, Measures, Trace};
@@ -50,7 +52,7 @@ fn run_on(random: &mut Random, shape: Shape, stored: &[Trace], m: Measures, quer
     }
 }
 
-/// A match, and a list whose first is its answer and which begins with every shorter one.
+/// A match, and a list whose first is its answer and which begins with every shorter one; and a report of bands.
 fn ask(random: &mut Random, t: &mut Tables, l: testing::model::tables::Lengths, library: &Library, q: &[i32]) {
     let mut trail = vec![0xbeef; library.leaves().len() + 1];
     let found = check_nearest(t, l, &mut trail, q).expect("a trace is stored");
@@ -64,6 +66,9 @@ fn ask(random: &mut Random, t: &mut Tables, l: testing::model::tables::Lengths, 
     let fewer = 1 + random.below(k);
     let shorter = check_k_nearest(t, l, &mut trail, &mut list, q, fewer as u64).expect("a trace is stored");
     assert!(longer.list.starts_with(&shorter.list) && longer.trail.starts_with(&shorter.trail));
+    let edges = some_edges(random, library, q, 1 + k.max(1));
+    let edges = &edges[..edges.len().min(16)];
+    check_bands(t, l, &mut vec![0xbeef; 2 * edges.len() - random.below(3)], q, edges).expect("the list is long enough");
 }
 
 /// A batch of these queries, whose answers are the matches' and whose leaves are theirs together; and of one of them alone, which reads that match's.

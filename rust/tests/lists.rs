@@ -3,14 +3,16 @@
 
 mod common;
 
-use common::{check_add, check_add_labelled, check_batch, check_checked, check_export, check_import, check_k_nearest, check_label, check_list};
-use common::{check_nearest, check_open, check_remote, junk, longer, measures, narrowed, with_no_sample};
+use common::{
+    check_add, check_add_labelled, check_bands, check_batch, check_checked, check_export, check_import, check_k_nearest, check_label, check_list,
+};
+use common::{check_nearest, check_open, check_remote, junk, longer, measures, narrowed, some_edges, with_no_sample};
 use testing::model::tables::{judge_opening, needs, Lengths, Tables};
 use testing::model::{recording, Library, Measures, Refused, Trace};
 use testing::random::{label, labels, query, traces, uniform, Random, Shape, SHAPES};
 
 /// What is stored, by the calls' arguments alone; and how often each refusal was told, 0 for none.
-struct Book(Option<Library>, [usize; 16]);
+struct Book(Option<Library>, [usize; 17]);
 
 impl Book {
     /// Counts what was judged.
@@ -44,6 +46,10 @@ impl Book {
 
     fn judge_batch(&self, l: Lengths, run: &[i32], many: usize, trail: usize, list: usize) -> Result<(), Refused> {
         self.short(l)?.judge_queries(run, many, trail, list)
+    }
+
+    fn judge_bands(&self, l: Lengths, query: &[i32], edges: &[u64], list: usize) -> Result<(), Refused> {
+        self.short(l)?.judge_edges(query, edges, list)
     }
 
     fn judge_k_nearest(&self, l: Lengths, query: &[i32], k: u64, trail: usize, list: usize) -> Result<(), Refused> {
@@ -80,6 +86,7 @@ const CHECK_CALLS: usize = 2;
 const BATCH_CALLS: usize = 4;
 const LABEL_CALLS: usize = 3;
 const REMOTE_CALLS: usize = 4;
+const BAND_CALLS: usize = 4;
 
 /// A writing, whose sheet is as the book's; or a reading of a sheet, sound or damaged.
 fn sheet_step(random: &mut Random, shape: Shape, t: &mut Tables, book: &mut Book, l: Lengths) {
@@ -213,6 +220,26 @@ fn batch_step(random: &mut Random, shape: Shape, t: &mut Tables, book: &mut Book
     assert_eq!(answer.map(|_| ()), judged);
 }
 
+/// A report of bands, of edges that rise or not, as many as may be or not, in a list that is long enough or not.
+fn bands_step(random: &mut Random, shape: Shape, t: &mut Tables, book: &mut Book, l: Lengths) {
+    let (q, _) = some_query(random, shape, book.library());
+    let many = if random.once_in(8) { *random.pick(&[0, 1, 17, 40]) } else { 2 + random.below(15) };
+    let mut edges = some_edges(random, book.library(), &q, many);
+    if many > 1 && random.once_in(8) {
+        let at = random.below(many - 1);
+        edges[at + 1] = edges[at] - random.below(2).min(edges[at] as usize) as u64;
+    }
+    let need = 2 * many.saturating_sub(1);
+    let mut list = vec![0xabcd; if random.once_in(6) { random.below(need + 1) } else { need + random.below(3) }];
+    let judged = book.judge_bands(l, &q, &edges, list.len());
+    book.tell(&judged);
+    let answer = check_bands(t, l, &mut list, &q, &edges);
+    assert_eq!(answer.as_ref().map(|_| ()).map_err(|&e| e), judged);
+    if let Ok(bands) = answer {
+        assert_eq!(bands, book.library().bands(&q, &edges));
+    }
+}
+
 /// An adding, of a trace of n samples or now and then not; with a label, or by the call that gives none.
 fn add_step(random: &mut Random, shape: Shape, t: &mut Tables, book: &mut Book, l: Lengths) {
     let n = book.library().measures.n as usize;
@@ -254,7 +281,7 @@ fn remote_step(random: &mut Random, shape: Shape, t: &mut Tables, book: &mut Boo
 
 fn step(random: &mut Random, shape: Shape, t: &mut Tables, book: &mut Book) {
     let l = lengths(random, t);
-    match random.below(12 + K_NEAREST_CALLS + SHEET_CALLS + RECORDING_CALLS + CHECK_CALLS + BATCH_CALLS + LABEL_CALLS + REMOTE_CALLS) {
+    match random.below(12 + K_NEAREST_CALLS + SHEET_CALLS + RECORDING_CALLS + CHECK_CALLS + BATCH_CALLS + LABEL_CALLS + REMOTE_CALLS + BAND_CALLS) {
         0 => {
             let m = some_measures(random);
             let judged = judge_opening(l, m);
@@ -272,7 +299,8 @@ fn step(random: &mut Random, shape: Shape, t: &mut Tables, book: &mut Book) {
         24..=25 => assert_eq!(check_checked(t, l).map(|_| ()), book.short(l).map(|_| ())),
         26..=29 => batch_step(random, shape, t, book, l),
         30..=32 => label_step(random, t, book, l),
-        33.. => remote_step(random, shape, t, book, l),
+        33..=36 => remote_step(random, shape, t, book, l),
+        37.. => bands_step(random, shape, t, book, l),
         _ => {
             let (q, mut trail) = some_query(random, shape, book.library());
             let judged = book.judge_match(l, &q, trail.len());
@@ -290,7 +318,7 @@ fn step(random: &mut Random, shape: Shape, t: &mut Tables, book: &mut Book) {
 #[test]
 fn random_lists() {
     let random = &mut Random::seeded(11);
-    let mut told = [0; 16];
+    let mut told = [0; 17];
     for round in 0..180 {
         let shape = *random.pick(&SHAPES);
         let mut t = junk(longer(needs(measures(9, 14, 1)), 3));
@@ -304,6 +332,6 @@ fn random_lists() {
         told = book.1;
     }
     // each of them, but for 3 and 13, which never arise
-    let seldom: Vec<usize> = (0..16).filter(|number| ![3, 13].contains(number) && told[*number] < 20).collect();
+    let seldom: Vec<usize> = (0..17).filter(|number| ![3, 13].contains(number) && told[*number] < 20).collect();
     assert!(seldom.is_empty() && told[3] + told[13] == 0, "{told:?}");
 }

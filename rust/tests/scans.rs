@@ -1,6 +1,6 @@
 //! The scans that the index is compared with find what the documents say.
 
-use silkendoz::scan::{distance, k_nearest, k_nearest_abandoning, nearest, nearest_abandoning};
+use silkendoz::scan::{bands, distance, k_nearest, k_nearest_abandoning, nearest, nearest_abandoning};
 use silkendoz::StoredSample;
 use testing::model;
 use testing::random::{query, traces, Random, SHAPES};
@@ -20,6 +20,11 @@ fn every_scan_is_the_plain_one() {
                 assert_eq!(k_nearest(&samples, n, &q, k), ranked[..k.min(20)]);
                 assert_eq!(k_nearest_abandoning(&samples, n, &q, k), ranked[..k.min(20)]);
             }
+            let mut edges: Vec<u64> = ranked.iter().step_by(3).flat_map(|&(_, d)| [d, d + 1]).collect();
+            edges.sort_unstable();
+            edges.dedup();
+            let counted: Vec<u64> = model::in_bands(&stored, &q, &edges).into_iter().map(|count| count as u64).collect();
+            assert_eq!(bands(&samples, n, &q, &edges), counted);
         }
     }
     let least = |sample| [StoredSample::new(sample).unwrap(); 256];
@@ -27,4 +32,5 @@ fn every_scan_is_the_plain_one() {
     assert_eq!(distance(&least(-524_288), &[524_287; 256]), 281_474_439_840_000);
     assert_eq!(nearest(&[], 4, &[0; 4]), None);
     assert_eq!(k_nearest(&[], 4, &[0; 4], 5), []);
+    assert_eq!((bands(&[], 4, &[0; 4], &[0, 1]), bands(&[], 4, &[0; 4], &[])), (vec![0], vec![]));
 }

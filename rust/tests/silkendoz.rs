@@ -605,7 +605,9 @@ fn help_of_every_command() {
     assert_eq!(overview, folder.done("--help"));
     assert!(folder.done("--version").starts_with("silkendoz "));
     let commands: Vec<&str> = overview.lines().filter_map(|line| line.strip_prefix("  ")?.split(' ').next()).collect();
-    for command in ["build", "add", "match", "plot", "report", "info", "list", "rename", "check", "repair", "salvage", "advise", "export", "help"] {
+    for command in
+        ["build", "add", "match", "plot", "report", "bands", "info", "list", "rename", "check", "repair", "salvage", "advise", "export", "help"]
+    {
         assert!(commands.contains(&command), "{command}");
     }
     for command in commands {

@@ -1,6 +1,6 @@
 //! Several matches at once over one library: each has search work and a trail of its own, and the library is only read.
 
-use silkendoz::{scan, KNearest, Nearest, StoredSample, TraceLibrary};
+use silkendoz::{scan, Band, KNearest, Nearest, StoredSample, TraceLibrary};
 use testing::random::{query, traces, Random, Shape};
 
 const THREADS: usize = 8;
@@ -15,7 +15,9 @@ fn searched_by_several_threads_at_once() {
     }
     let queries: Vec<Vec<i32>> = (0..400).map(|_| query(random, Shape::Walk, 64, &stored)).collect();
     let before = library.clone();
-    let alone: Vec<(Nearest, KNearest)> = queries.iter().map(|q| (library.nearest(q).unwrap(), library.k_nearest(q, 5).unwrap())).collect();
+    let edges = [0, 1 << 16, 1 << 20, 1 << 24, 1 << 28, 1 << 32];
+    let ask = |q: &Vec<i32>| (library.nearest(q).unwrap(), library.k_nearest(q, 5).unwrap(), library.count_bands(q, &edges).unwrap());
+    let alone: Vec<(Nearest, KNearest, Vec<Band>)> = queries.iter().map(ask).collect();
     let (library, queries, alone) = (&library, &queries, &alone);
     std::thread::scope(|threads| {
         for first in 0..THREADS {
@@ -24,13 +26,14 @@ fn searched_by_several_threads_at_once() {
                 for at in (0..queries.len()).map(|i| (i + 50 * first) % queries.len()) {
                     assert_eq!(library.nearest(&queries[at]).as_ref(), Ok(&alone[at].0));
                     assert_eq!(library.k_nearest(&queries[at], 5).as_ref(), Ok(&alone[at].1));
+                    assert_eq!(library.count_bands(&queries[at], &edges).as_ref(), Ok(&alone[at].2));
                 }
             });
         }
     });
     assert!(*library == before);
     let samples: Vec<StoredSample> = stored.concat().into_iter().filter_map(StoredSample::new).collect();
-    for (q, (found, _)) in queries.iter().zip(alone) {
+    for (q, (found, ..)) in queries.iter().zip(alone) {
         assert_eq!(scan::nearest(&samples, 64, q), Some((found.trace, found.distance)));
     }
 }

@@ -84,6 +84,11 @@ impl Arguments {
         list.to_string_lossy().split(',').map(|word| number(option, OsStr::new(word.trim()))).collect()
     }
 
+    /// Words with commas between them.
+    pub fn list(&self, option: &str) -> Option<Vec<String>> {
+        self.value(option).map(|list| list.to_string_lossy().split(',').map(|word| word.trim().to_string()).collect())
+    }
+
     /// Everything that is no option: a first file, then at least one more.
     pub fn one_and_more(&self, first: &str, more: &str) -> Result<(&Path, Vec<&Path>), Failure> {
         match self.rest.as_slice() {

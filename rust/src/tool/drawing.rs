@@ -60,12 +60,16 @@ line.trace, line.query { stroke-width: 2.4; }
 polyline.query { stroke-width: 2.4; }
 circle.query { fill: currentColor; stroke: none; }
 .limit { fill: none; stroke: #c1121f; stroke-width: 1.6; }
+.sure { fill: #0068b5; }
+.possible { fill: none; stroke: #0068b5; stroke-width: 1.6; }
 ";
 
 const DARK: &str = "\
 svg { color: #eceef0; }
 .paper { fill: #14171a; }
 .limit { stroke: #ff7b7b; }
+.sure { fill: #59b5ff; }
+.possible { stroke: #59b5ff; }
 ";
 
 /// Light and dark, as the one who looks has set it; light on paper.

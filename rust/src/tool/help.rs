@@ -2,12 +2,12 @@
 
 use super::arguments::Arguments;
 use super::{
-    add, advise, build, check, done, export, info, list, matching, pages, plain, plot, remote, rename, repair, report, salvage, wrong, Answer,
+    add, advise, bands, build, check, done, export, info, list, matching, pages, plain, plot, remote, rename, repair, report, salvage, wrong, Answer,
     Command, Failure,
 };
 use std::path::Path;
 
-pub const COMMANDS: [Command; 17] = [
+pub const COMMANDS: [Command; 18] = [
     Command {
         name: "build",
         usage: "OUT.sheet --samples N [--capacity C] [--leaf-size S] [--code C] [--serial S] [--labels L] [--cut] [--convert [--bits B]] \
@@ -140,7 +140,7 @@ Across stand milliseconds, if a rate is known.
     },
     Command {
         name: "report",
-        usage: "LIBRARY FILE [-k K] [--sweep S] [-o OUT.html] [--force] [--cut] [--convert [--bits B]]",
+        usage: "LIBRARY FILE [-k K] [--sweep S] [--edges A,B,.. | --off A,B,..] [-o OUT.html] [--force] [--cut] [--convert [--bits B]]",
         about: "the verdict and the picture as a page to mail and print",
         text: "\
 Writes one page about the sweep in FILE: the verdict of `match`, the picture of `plot`, the 16 nearest traces by fault, and what they were
@@ -149,15 +149,45 @@ asks for nothing from elsewhere.
 
   -k K          draw so many faults, 1 to 6; 3 unless said
   --sweep S     if FILE holds several sweeps, which one, counted from 1; the first unless said
+  --edges A,B,.., --off A,B,..   show how many traces lie in each of these bands, too, as `bands` does
   -o OUT.html   where the page goes; unless said, beside FILE, with the ending .html; `-` is standard output
   --force       overwrite it
   --cut, --convert, --bits B   as for `match`
 
 The date is today's, by UTC, or that of SOURCE_DATE_EPOCH if it is set.
 ",
-        values: &["-k", "--sweep", "-o", "--bits"],
+        values: &["-k", "--sweep", "--edges", "--off", "-o", "--bits"],
         flags: &["--force", "--cut", "--convert"],
         run: report::run,
+    },
+    Command {
+        name: "bands",
+        usage: "LIBRARY FILE [--edges A,B,.. | --off A,B,..] [--sweep S] [--json | -o OUT.svg [--force]] [--cut] [--convert [--bits B]]",
+        about: "how many traces lie how far from a sweep, to choose an alarm distance",
+        text: "\
+Shows, for each band of distances from the sweep in FILE, how many stored traces surely lie in it and how many at most: a row a band, from
+one edge up to but not including the next. The true number lies between. No trace is read: the two come from the ranges that the tree
+records, so that it takes no longer with longer traces, but they may be far apart. How many traces are surely in one band stands below.
+
+  --edges A,B,..   2 to 16 distances, each above the last, as `match` shows them: sums of squared sample differences
+  --off A,B,..     the same by how far a sample is off, the root of the mean square, 0 to 2000000 with up to 6 digits behind a point. An edge
+                   is its square times the samples of a trace, rounded up to a whole distance. Distances are whole, so that nothing is lost:
+                   just those traces are below the edge that are off by less than was said
+  --sweep S        if FILE holds several sweeps, which one, counted from 1; the first unless said
+  --json           one object for programs: `name`, `file`, `traces`, `surely_in_a_band`, and `bands`, a list (`from`, `below`,
+                   `from_a_sample`, `below_a_sample`, `surely`, `at_most`, `all_below_surely`, `all_below_at_most`)
+  -o OUT.svg       a picture instead: a bar for surely, an outline for at most; `-` is standard output
+  --force          overwrite it
+  --cut, --convert, --bits B   as for `match`
+
+In text a bar has `#` for a trace that surely lies in the band, and `.` for one that may besides; if they are many, each stands for several.
+`all below` is of everything nearer than the band's end, which is what an alarm at that distance would find; it is not the sum of the bands,
+since a leaf of the tree that reaches over several is possible in each of them and sure in none. Unless edges are said, there are 15 bands
+from 0 to all there is, and those at the ends that hold nothing are left out.
+",
+        values: &["--edges", "--off", "--sweep", "-o", "--bits"],
+        flags: &["--json", "--force", "--cut", "--convert"],
+        run: bands::run,
     },
     Command {
         name: "info",
@@ -316,7 +346,7 @@ Lists the commands, or says all about one.
 ];
 
 pub fn command(name: &str) -> Option<&'static Command> {
-    static ALL: [Command; 17] = COMMANDS;
+    static ALL: [Command; 18] = COMMANDS;
     ALL.iter().find(|command| command.name == name)
 }
 

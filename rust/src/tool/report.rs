@@ -2,6 +2,7 @@
 //! and asks for nothing from elsewhere.
 
 use super::arguments::Arguments;
+use super::bands::{Edges, Report};
 use super::drawing;
 use super::files::{shown, Output};
 use super::matching::Match;
@@ -23,6 +24,7 @@ pub fn run(a: &Arguments) -> Answer {
     let many = faults_asked(a)?;
     let out = a.path("-o").unwrap_or_else(|| beside(file, "html"));
     let shelf = Shelf::load(library)?;
+    let edges = Edges::said(a, shelf.library.n())?;
     let [sheet, names, codes] = shelf.files()?;
     let output = Output::of(&out, a.has("--force"), &[&sheet, &names, &codes, file])?;
     let read = reading::one(file, &Wanted::by(a, &shelf.library)?)?;
@@ -30,7 +32,9 @@ pub fn run(a: &Arguments) -> Answer {
     let faults = Faults::of(&shelf)?;
     let found = Match::of(&shelf, &faults, sweep, LOOKED_AT)?;
     let groups = verdict::by_fault(&faults, &found.list);
-    let page = Page { shelf: &shelf, found: &found, groups: &groups, drawn: groups.len().min(many), notes: &read.notes, which: &which };
+    let bands = edges.map(|edges| Report::of(&shelf, sweep, edges)).transpose()?;
+    let drawn = groups.len().min(many);
+    let page = Page { shelf: &shelf, found: &found, groups: &groups, drawn, bands, notes: &read.notes, which: &which };
     let done = output.write(page.html().as_bytes())?;
     let said = format!("{}: {}{which}. A browser shows it, and prints it on one page.", shown(&out), sweep.name);
     let text = format!("{}{said}\n{}\n", notes(&read), found.verdict.text());
@@ -43,6 +47,8 @@ struct Page<'a> {
     groups: &'a [ByFault],
     /// So many of the faults are drawn.
     drawn: usize,
+    /// How many traces lie how far, if it was asked for.
+    bands: Option<Report<'a>>,
     notes: &'a [String],
     which: &'a str,
 }
@@ -111,6 +117,7 @@ impl Page<'_> {
             self.head(),
             svg.finish(),
             self.table(),
+            self.distances(),
             self.foot(),
             "</main>\n</body>\n</html>\n".to_string(),
         ]
@@ -165,6 +172,16 @@ impl Page<'_> {
         }
         html.push_str("</table>\n");
         html
+    }
+
+    /// A bar a band.
+    fn distances(&self) -> String {
+        let Some(bands) = &self.bands else { return String::new() };
+        let histogram = bands.histogram(self.shelf);
+        let mut svg = Svg::inside(drawing::WIDTH, histogram.height(), "How many traces lie how far");
+        histogram.draw(&mut svg, 0.0);
+        let said = escaped(&bands.said(self.shelf));
+        format!("<h2>How many traces lie how far</h2>\n{}<p class=\"small\">{said}</p>\n", svg.finish())
     }
 
     /// What it was found by.

@@ -105,6 +105,15 @@ pub fn check_tables(t: &Tables, l: Lengths) -> Result<(), Refused> {
     t.first(l).judge_check().map(|_| ())
 }
 
+pub fn count_bands(t: &mut Tables, l: Lengths, list: &mut [u64], query: &[i32], edges: &[u64]) -> Result<(), Refused> {
+    let library = t.first(l).judge_bands(query, edges, list.len())?;
+    clear_work(t, library.measures);
+    for (record, (sure, possible)) in list.chunks_mut(2).zip(library.bands(query, edges)) {
+        record.copy_from_slice(&[sure as u64, possible as u64]);
+    }
+    Ok(())
+}
+
 pub fn match_batch(t: &mut Tables, l: Lengths, trail: &mut [u16], queries: &[i32], many: usize, answers: &mut [Answer]) -> Result<u64, Refused> {
     let library = t.first(l).judge_batch(queries, many, trail.len(), answers.len())?;
     let queries: Vec<&[i32]> = queries.chunks(library.measures.n as usize).collect();

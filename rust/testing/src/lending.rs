@@ -86,6 +86,11 @@ pub fn check_tables(t: &Tables, l: Lengths) -> Result<(), Refused> {
     told(calls::check_tables(t, work))
 }
 
+pub fn count_bands(t: &mut Tables, l: Lengths, list: &mut [u64], query: &[i32], edges: &[u64]) -> Result<(), Refused> {
+    let (t, work) = searched(t, l);
+    told(calls::count_bands(t, work, list, query, edges))
+}
+
 pub fn match_batch(t: &mut Tables, l: Lengths, trail: &mut [u16], queries: &[i32], many: usize, answers: &mut [Answer]) -> Result<u64, Refused> {
     let (t, work) = searched(t, l);
     told(calls::match_batch(t, work, trail, queries, many, answers))

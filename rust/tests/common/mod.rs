@@ -3,9 +3,9 @@
 
 use silkendoz::calls::Answer;
 pub use testing::lending::{add, add_labelled, check_tables, export_recording, import_recording, k_nearest, label, match_batch, nearest, open};
-pub use testing::lending::{read_sheet, remote_match, write_sheet};
+pub use testing::lending::{count_bands, read_sheet, remote_match, write_sheet};
 use testing::model::tables::{judge_opening, label_place, word_of, Lengths, Tables};
-use testing::model::{within, Batch, KNearest, Kind, Label, Library, Match, Measures, Refused, Trace, NARROW_LIMIT};
+use testing::model::{distance, in_bands, within, Band, Batch, KNearest, Kind, Label, Library, Match, Measures, Refused, Trace, NARROW_LIMIT};
 use testing::program::repository;
 use testing::random::{no_sample, Random};
 use testing::script::bytes;
@@ -50,6 +50,31 @@ pub fn narrowed(trace: &[i32]) -> Trace {
 /// Whether a trace fits 16 bits: one that does not is not exported.
 pub fn is_narrow(trace: &[i32]) -> bool {
     within(NARROW_LIMIT, trace)
+}
+
+/// Edges of bands that a query's distances are told apart by: at and beside distances, bounds and upper figures, at the ends of what there is,
+/// and any; so many of them, rising.
+pub fn some_edges(random: &mut Random, library: &Library, query: &[i32], many: usize) -> Vec<u64> {
+    let mut near: Vec<u64> = vec![0, 1, 281_474_439_840_000, u64::MAX];
+    if query.len() as u64 == library.measures.n && !library.traces.is_empty() {
+        let stored = library.traces.iter().map(|trace| distance(trace, query));
+        let figures: Vec<i128> = stored.chain(library.bounds(query)).chain(library.uppers(query)).collect();
+        near.extend((0..4).map(|_| *random.pick(&figures) as u64));
+    }
+    let mut edges = Vec::new();
+    while edges.len() < many {
+        let edge = match random.below(4) {
+            0 => random.word() >> random.below(64),
+            1 => random.pick(&near).saturating_sub(1),
+            2 => random.pick(&near).saturating_add(1),
+            _ => *random.pick(&near),
+        };
+        if !edges.contains(&edge) {
+            edges.push(edge);
+        }
+    }
+    edges.sort_unstable();
+    edges
 }
 
 /// The samples with one number that is none of them.
@@ -363,6 +388,52 @@ pub fn check_read_back(t: &Tables, l: Lengths) {
     let mut again = vec![1; sheet.len()];
     check_write(&back, l, &mut again).expect("nothing is refused");
     assert_eq!(again, sheet);
+}
+
+// ---- bands
+
+/// The answer, the list and every place of the tables. On tables that the check accepts "the true number lies between". "reads no traces": with other
+/// samples in the same tables the report is the same.
+pub fn check_bands(t: &mut Tables, l: Lengths, list: &mut [u64], query: &[i32], edges: &[u64]) -> Result<Vec<Band>, Refused> {
+    let (before, before_list) = (t.clone(), list.to_vec());
+    let answer = count_bands(t, l, list, query, edges);
+    let judged = before.first(l).judge_bands(query, edges, list.len());
+    assert_eq!(answer, judged.as_ref().map(|_| ()).map_err(|&refused| refused));
+    match judged {
+        Err(refused) => {
+            assert_eq!(*t, before, "a refused report leaves everything");
+            assert_eq!(list, before_list);
+            Err(refused)
+        }
+        Ok(library) => {
+            let expected = library.bands(query, edges);
+            searched(&before, t, library.measures);
+            let records: Vec<usize> = expected.iter().flat_map(|&(sure, possible)| [sure, possible]).collect();
+            begins_with(list, &before_list, &records);
+            if library.is_exact() {
+                bands_hold(&library, query, edges, &expected);
+            }
+            let (mut other, mut again) = (before.clone(), before_list);
+            other.samples.iter_mut().for_each(|word| *word = word.wrapping_mul(3).wrapping_add(0x7ed_5000));
+            assert_eq!(count_bands(&mut other, l, &mut again, query, edges), Ok(()));
+            assert_eq!(list, again, "samples do not bear on a report");
+            Ok(expected)
+        }
+    }
+}
+
+/// Of a library that the check accepts: each distance lies between its leaf's bound and upper figure, and so "The true number lies between."
+fn bands_hold(library: &Library, query: &[i32], edges: &[u64], bands: &[Band]) {
+    let (bounds, uppers) = (library.bounds(query), library.uppers(query));
+    for leaf in library.leaves() {
+        for trace in library.below(leaf) {
+            let distance = distance(&library.traces[trace], query);
+            assert!(bounds[leaf] <= distance && distance <= uppers[leaf], "trace {trace} of leaf {leaf}");
+        }
+    }
+    for (&(sure, possible), number) in bands.iter().zip(in_bands(&library.traces, query, edges)) {
+        assert!(sure <= number && number <= possible, "{sure} {number} {possible}");
+    }
 }
 
 // ---- batches

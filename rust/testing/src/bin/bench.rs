@@ -1,12 +1,12 @@
 //! Tables of times, all in one run: the calls beside the scan on the same data, medians of many rounds, n = 256 and capacity 4,096. The
 //! first is of all calls, the second of lists of five; below them, what it takes to add traces that are all the same, and to import a
 //! recording beside reading the sheet of the same traces. `bench worst` is about many traces in one leaf, `bench check` about the check of
-//! tables, `bench batch` about sixteen queries at once beside sixteen matches.
+//! tables, `bench batch` about sixteen queries at once beside sixteen matches, `bench bands` about a report of bands beside a scan that counts.
 //!
 //! Machines differ, and so do runs; within a line the columns belong together, and the ratios are what counts. Every answer is compared
 //! with the scan's.
 
-use silkendoz::{scan, StoredSample, TraceLibrary};
+use silkendoz::{scan, Band, StoredSample, TraceLibrary};
 use std::fmt::Debug;
 use std::hint::black_box;
 use std::time::Instant;
@@ -348,6 +348,50 @@ fn batch() {
     }
 }
 
+/// How many of the queries are asked for bands; bands a report; and of how many nearest traces the last one is an alarm distance.
+const BANDED: usize = 51;
+const BANDS: usize = 10;
+const ALARM: usize = 40;
+
+/// Reports beside scans that count, query by query: both times and their ratio; how many per cent of the traces are surely in one band, in how
+/// many bands a trace is possible; and at most how many traces are as near as the nearest forty. A band has a tenth of the traces each.
+fn banded(library: &TraceLibrary, samples: &[StoredSample], queries: &[Trace]) -> String {
+    let mut rounds: Vec<[f64; 6]> = Vec::new();
+    for q in queries {
+        let mut distances: Vec<u64> = samples.chunks(N).map(|trace| scan::distance(trace, q)).collect();
+        distances.sort_unstable();
+        distances.dedup();
+        let mut edges: Vec<u64> = (0..BANDS).map(|tenth| if tenth == 0 { 0 } else { distances[distances.len() * tenth / BANDS] }).collect();
+        edges.push(distances[distances.len() - 1] + 1);
+        let (report_time, bands) = time(|| library.count_bands(black_box(q), black_box(&edges)).expect("edges rise"));
+        let (scan_time, counted) = time(|| scan::bands(samples, N, black_box(q), black_box(&edges)));
+        assert!(bands.iter().zip(&counted).all(|(band, &number)| band.sure <= number && number <= band.possible));
+        let share = |figure: fn(&Band) -> u64| bands.iter().map(figure).sum::<u64>() as f64 / CAPACITY as f64;
+        let near = library.count_bands(q, &[0, distances[ALARM - 1] + 1]).expect("edges rise")[0];
+        let widths = [100.0 * share(|band| band.sure), share(|band| band.possible), near.possible as f64];
+        rounds.push([report_time, scan_time, scan_time / report_time, widths[0], widths[1], widths[2]]);
+    }
+    let of = |figure: usize| median(rounds.iter().map(|r| r[figure]).collect());
+    format!("{:>9.1}{:>9.1}{:>7.1}{:>7.1}{:>7.1}{:>7.0}", of(0), of(1), of(2), of(3), of(4), of(5))
+}
+
+/// `bench bands`: how long a report takes, and how wide it is.
+fn bands() {
+    println!("n = {N}, {CAPACITY} traces, {BANDS} bands of a tenth of them each; microseconds, medians of {BANDED}; x: scan that counts / report");
+    println!("sure: per cent of the traces that are surely in one band (a scan: 100); in: bands a trace may be in (a scan: 1)");
+    println!("near: at most so many traces are as near as the nearest {ALARM}");
+    let heads = ["near", "fresh"].map(|kind| format!("{kind:>9}{:>9}{:>7}{:>7}{:>7}{:>7}", "scan", "x", "sure", "in", "near"));
+    println!("{:<14}{:>5} |{}", "data", "leaf", heads.join(" |"));
+    for data in [Data::Walks, Data::Sines, Data::Noise] {
+        for leaf_size in [64, 16, 4, 1] {
+            let Full { library, samples, nearby, fresh, .. } = filled(data, leaf_size);
+            banded(&library, &samples, &nearby[..3]);
+            let columns = [nearby, fresh].map(|queries| banded(&library, &samples, &queries[..BANDED]));
+            println!("{:<14}{leaf_size:>5} |{}", data.name(), columns.join(" |"));
+        }
+    }
+}
+
 /// Microseconds for adding all of these to an empty library.
 fn building(stored: &[Trace], leaf_size: usize) -> f64 {
     let mut library = TraceLibrary::open(N, CAPACITY, leaf_size).expect("measures are in range");
@@ -410,6 +454,7 @@ fn main() {
         Some("worst") => return worst(),
         Some("check") => return check(),
         Some("batch") => return batch(),
+        Some("bands") => return bands(),
         _ => {}
     }
     println!("n = {N}, capacity {CAPACITY}, full; times in microseconds, medians ({QUERIES} queries, the last {ADDED} traces added)");

@@ -323,6 +323,9 @@ pub struct Batch {
     pub trail: Vec<usize>,
 }
 
+/// A band of a report: how many traces are sure, and how many possible.
+pub type Band = (usize, usize);
+
 impl Library {
     /// "An empty library has no node".
     pub fn open(measures: Measures) -> Library {
@@ -523,6 +526,23 @@ impl Library {
         self.down_the_tree((0..self.nodes.len()).map(|j| self.own_upper(j, query)).collect(), i128::min)
     }
 
+    /// Document 02, §10: "For each band from one edge up to but not including the next, it says how many traces surely lie in it and how many may."
+    /// "A leaf's traces are sure when bound and upper figure both lie in the band, possible when the bound is below the band's end and the upper
+    /// figure not below its start." "An empty library reports zeros."
+    pub fn bands(&self, query: &[i32], edges: &[u64]) -> Vec<Band> {
+        let (bounds, uppers) = (self.bounds(query), self.uppers(query));
+        let traces = |counts: &dyn Fn(i128, i128) -> bool| {
+            let leaves = self.leaves().into_iter().filter(|&j| counts(bounds[j], uppers[j]));
+            leaves.map(|j| self.numbers(j).len()).sum()
+        };
+        let band = |pair: &[u64]| {
+            let (start, end) = (i128::from(pair[0]), i128::from(pair[1]));
+            let lies = |figure: i128| start <= figure && figure < end;
+            (traces(&|bound, upper| lies(bound) && lies(upper)), traces(&|bound, upper| bound < end && upper >= start))
+        };
+        edges.windows(2).map(band).collect()
+    }
+
     /// Of each node's own figures, the one that counts among those from node 0 down to it.
     fn down_the_tree(&self, mut figures: Vec<i128>, counts: fn(i128, i128) -> i128) -> Vec<i128> {
         for j in 0..self.nodes.len() {
@@ -612,6 +632,12 @@ pub fn gaps(segment: &Segment, t: i128, u: i128) -> (i128, i128) {
     (g, below.max(above).max(0))
 }
 
+/// How many traces lie in each band, by their distances.
+pub fn in_bands(traces: &[Trace], query: &[i32], edges: &[u64]) -> Vec<usize> {
+    let lies = |pair: &[u64], d: i128| i128::from(pair[0]) <= d && d < i128::from(pair[1]);
+    edges.windows(2).map(|pair| traces.iter().filter(|trace| lies(pair, distance(trace, query))).count()).collect()
+}
+
 /// Every trace with its distance, by distance, then number: the first is the nearest, the lowest number among equals.
 pub fn scan(traces: &[Trace], query: &[i32]) -> Vec<(usize, i128)> {
     let mut all: Vec<(usize, i128)> = traces.iter().map(|trace| distance(trace, query)).enumerate().collect();
@@ -688,6 +714,22 @@ mod tests {
         assert_eq!(both(&[&[4, 4, 4, 4], &[2, 2, 2, 2]]), Some(Batch { answers: vec![(1, 0), (0, 16)], trail: vec![1, 2] }));
         assert_eq!(both(&[&[1, 1, 1, 1]]), Some(Batch { answers: vec![(0, 4)], trail: vec![1] }));
         assert_eq!(Library::open(library.measures).batch(&[&[1, 1, 1, 1]]), None);
+    }
+
+    #[test]
+    fn bands_of_the_examples() {
+        let library = example();
+        let query = [1, 1, 1, 1];
+        let figures = |j: usize| (library.bounds(&query)[j], library.uppers(&query)[j]);
+        assert_eq!([figures(1), figures(2)], [(4, 4), (36, 100)]);
+        // "up to but not including the next": an upper figure on an edge lies in the next band, and so is sure in neither
+        assert_eq!(library.bands(&query, &[5, 100, 101]), [(0, 2), (0, 2)]);
+        assert_eq!(library.bands(&query, &[0, 4, 5, 36, 101]), [(0, 0), (1, 1), (0, 0), (2, 2)]);
+        assert_eq!(in_bands(&library.traces, &query, &[0, 4, 5, 36, 101]), [0, 1, 0, 2]);
+        assert_eq!(Library::open(library.measures).bands(&query, &[0, 1, 2]), [(0, 0), (0, 0)]);
+        // "the smallest on the path counts": of its own leaf 1 has 8
+        let path = Library::of(Measures { n: 2, capacity: 4, leaf_size: 2 }, &[vec![1, -1], vec![0, -2], vec![0, 0]]);
+        assert_eq!((path.own_upper(1, &[-1, 0]), path.uppers(&[-1, 0])[1]), (8, 5));
     }
 
     #[test]

@@ -290,6 +290,13 @@ impl Tables {
         Ok(library)
     }
 
+    /// A report of bands: 4, then 15; then "16 bad edges, wrong count or not rising, after 15; a report list short of one record per band is 7".
+    pub fn judge_bands(&self, query: &[i32], edges: &[u64], list: usize) -> Result<Library, Refused> {
+        let library = self.judge_made()?;
+        library.judge_edges(query, edges, list)?;
+        Ok(library)
+    }
+
     /// Writing: then 8.
     pub fn judge_writing(&self, sheet: usize) -> Result<Library, Refused> {
         let library = self.judge_made()?;
@@ -363,6 +370,17 @@ impl Library {
         match () {
             _ if self.traces.is_empty() => Err((6, 0)),
             _ if trail < self.leaves().len() => Err((7, 0)),
+            _ => Ok(()),
+        }
+    }
+
+    /// 4, then 15; then 16; then 7 for a list of fewer records than bands. No 6: "An empty library reports zeros."
+    pub fn judge_edges(&self, query: &[i32], edges: &[u64], list: usize) -> Result<(), Refused> {
+        judge_samples(query, self.measures.n)?;
+        match () {
+            _ if !(2..=16).contains(&edges.len()) => Err((16, 0)),
+            _ if edges.windows(2).any(|pair| pair[0] >= pair[1]) => Err((16, 0)),
+            _ if list / 2 < edges.len() - 1 => Err((7, 0)),
             _ => Ok(()),
         }
     }

@@ -7,9 +7,11 @@ use silkendoz::calls::Answer;
 
 type Told<A> = Result<A, Refused>;
 
-/// A call that takes a query: it is lent a trail too; a listing its list, and a batch its answers behind the number of queries.
+/// A call that takes a query: it is lent a trail too; a listing its list, and a batch its answers behind the number of queries. A report of
+/// bands has a list and no trail.
 type Search<A> = fn(&mut Tables, Lengths, &mut [u16], &[i32]) -> Told<A>;
 type Listing = fn(&mut Tables, Lengths, &mut [u16], &mut [u64], &[i32], u64) -> Told<[u64; 3]>;
+type Banding = fn(&mut Tables, Lengths, &mut [u64], &[i32], &[u64]) -> Told<()>;
 type Batching = fn(&mut Tables, Lengths, &mut [u16], &[i32], usize, &mut [Answer]) -> Told<u64>;
 
 /// Each call over a memory, with the values of its answer in their order; and the program's line.
@@ -27,6 +29,7 @@ pub struct Calls {
     pub export_recording: fn(&Tables, Lengths, &mut [u8], u64, u64) -> Told<u64>,
     pub check_tables: fn(&Tables, Lengths) -> Told<()>,
     pub match_batch: Batching,
+    pub count_bands: Banding,
     pub program: fn(&[u8]) -> Result<String, String>,
 }
 
@@ -45,6 +48,7 @@ pub static LIBRARY: Calls = Calls {
     export_recording: lending::export_recording,
     check_tables: lending::check_tables,
     match_batch: lending::match_batch,
+    count_bands: lending::count_bands,
     program: |sheet| program::printed(sheet).map_err(|why| format!("the program does not run: {why}")),
 };
 
@@ -63,5 +67,6 @@ pub static MODEL: Calls = Calls {
     export_recording: by_model::export_recording,
     check_tables: by_model::check_tables,
     match_batch: by_model::match_batch,
+    count_bands: by_model::count_bands,
     program: |sheet| Ok(format!("{}\n", sheet::program_line(sheet))),
 };

@@ -34,7 +34,7 @@ use memory::{Area, Effect, Memory};
 use std::fmt::Display;
 
 /// How many of document 02's requests have landed.
-pub const STAGE: usize = 9;
+pub const STAGE: usize = 10;
 
 /// Two libraries, of which nothing was opened at first: the factory's is the first, the bench's the second.
 pub struct Session {
@@ -64,7 +64,7 @@ struct Played {
     play: fn(&mut Session, Line<'_>) -> Reply,
 }
 
-const LINES: [Played; 19] = [
+const LINES: [Played; 20] = [
     Played { name: "open", keys: &["short"], play: open },
     Played { name: "add", keys: &["short"], play: add },
     Played { name: "match", keys: &["short", "trail"], play: nearest },
@@ -78,6 +78,7 @@ const LINES: [Played; 19] = [
     Played { name: "addl", keys: &["short"], play: add_labelled },
     Played { name: "label", keys: &["short"], play: label },
     Played { name: "remote", keys: &["short", "trail"], play: remote_match },
+    Played { name: "bands", keys: &["short", "list"], play: bands },
     Played { name: "tree", keys: &[], play: looking::tree },
     Played { name: "below", keys: &[], play: looking::below },
     Played { name: "walks", keys: &[], play: looking::walks },
@@ -192,6 +193,17 @@ fn k_nearest(session: &mut Session, mut line: Line<'_>) -> Reply {
     let read = list("trail", trail.filled(leaves));
     let listed = records.filled(2 * listed).chunks(2).map(|record| format!("{}:{}", record[0], record[1]));
     Ok(format!("near {leaves} {traces} {read} {}", list("list", listed)))
+}
+
+fn bands(session: &mut Session, mut line: Line<'_>) -> Reply {
+    let (many, bands): (usize, _) = (line.next()?, session.calls.count_bands);
+    let edges = (0..many).map(|_| line.next()).collect::<Result<Vec<u64>, Unanswered>>()?;
+    let query: Vec<i32> = line.rest()?;
+    let mut records = Area::of("list", 2 * line.places("list", many.saturating_sub(1))?);
+    let answer = session.library(&line).call(&line, Effect::Searches, |t, l| bands(t, l, records.lent(), &query, &edges));
+    records.kept_if_refused(answer)?;
+    let counts = records.filled(2 * (many as u64 - 1)).chunks(2).map(|record| format!("{}:{}", record[0], record[1]));
+    Ok(list("bands", counts))
 }
 
 fn write(session: &mut Session, line: Line<'_>) -> Reply {

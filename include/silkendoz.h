@@ -545,7 +545,8 @@ struct silkendoz_band {
 /* It is two places and nothing more, so that an array of them is a list. */
 typedef char silkendoz_band_is_two_places[sizeof(struct silkendoz_band) == 2 * sizeof(uint64_t) ? 1 : -1];
 
-/* `bands` is an array of so many records, edges_len - 1 at least. The cast is sound, as above. */
+/* `bands` is an array of so many records, edges_len - 1 at least. The cast is sound: a struct begins where its
+ * first member does, there is no gap, and each place is read and written as the uint64_t that it is. */
 static inline uint64_t silkendoz_count_bands_in(
     const struct silkendoz_tables *t,
     struct silkendoz_band *bands, size_t records,

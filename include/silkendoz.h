@@ -372,7 +372,7 @@ uint64_t silkendoz_match_batch(
     struct silkendoz_answer *answers, size_t answers_len,
     uint64_t *out, size_t out_len);
 
-/* Reports how the distances of the stored traces to a query of n samples spread over bands, and takes none of them: it looks at the ranges
+/* Reports how many stored traces lie how far from a query of n samples, band by band, and works out no distance: it looks at the ranges
  * that the tree records, not at traces. `edges` are 2 to 16 distances, each above the last; a band reaches from one edge up to but not
  * including the next. For each band the list takes two places: how many traces surely lie in it, and how many may. list_len counts places,
  * and 2 * (edges_len - 1) are needed; silkendoz_count_bands_in takes an array of records instead. Places behind them stay. Of tables that
@@ -545,8 +545,8 @@ struct silkendoz_band {
 /* It is two places and nothing more, so that an array of them is a list. */
 typedef char silkendoz_band_is_two_places[sizeof(struct silkendoz_band) == 2 * sizeof(uint64_t) ? 1 : -1];
 
-/* `bands` is an array of so many records, edges_len - 1 at least. The cast is sound: a struct begins where its
- * first member does, there is no gap, and each place is read and written as the uint64_t that it is. */
+/* `bands` is an array of so many records, edges_len - 1 at least. The cast is sound: a struct begins where its first member does, there is
+ * no gap, and each place is read and written as the uint64_t that it is. */
 static inline uint64_t silkendoz_count_bands_in(
     const struct silkendoz_tables *t,
     struct silkendoz_band *bands, size_t records,

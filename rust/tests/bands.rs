@@ -42,7 +42,7 @@ fn bands_of_a_sweep() {
         assert!(band.sure <= truly && truly <= band.possible);
         placed += band.sure;
     }
-    assert!(lines[7].starts_with(&format!("{placed} of 36 traces surely lie in one of these bands. No trace was read")), "{said}");
+    assert!(lines[7].starts_with(&format!("The band is sure for {placed} of 36 traces. No trace was read")), "{said}");
 }
 
 /// Off a sample: n times its square, rounded up, so that just those are below that are off by less.
@@ -78,7 +78,7 @@ fn a_first_look() {
     let empty = TraceLibrary::open(64, 8, 2).unwrap();
     folder.write("empty.sheet", empty.write_sheet().unwrap());
     let said = folder.done("bands empty.sheet today.csv");
-    assert!(said.contains("0 of 0 traces surely lie"), "{said}");
+    assert!(said.contains("sure for 0 of 0 traces"), "{said}");
     assert_eq!(said.lines().count(), 4, "{said}");
 }
 
@@ -112,7 +112,7 @@ fn a_picture() {
     let drawn = |class: &str| picture.matches(&format!("<rect class=\"{class}\"")).count();
     assert_eq!(drawn("sure"), 1 + bands.iter().filter(|band| band.0 > 0).count());
     assert_eq!(drawn("possible"), 1 + bands.iter().filter(|band| band.1 > 0).count());
-    assert!(picture.contains(">0.0 to 100.0</text>") && picture.contains(">surely there</text>") && picture.contains(">traces</text>"));
+    assert!(picture.contains(">0.0 to 100.0</text>") && picture.contains(">surely so many</text>") && picture.contains(">traces</text>"));
     assert!(folder.refused("bands faults.sheet today.csv --off 0,1 -o bands.svg").contains("bands.svg: is there already"));
     for own in ["faults.sheet", "faults.names", "today.csv"] {
         assert!(folder.refused(&format!("bands faults.sheet today.csv --force -o {own}")).contains(own));
@@ -129,7 +129,7 @@ fn on_the_page() {
     folder.done("report faults.sheet today.csv --off 0,100,250,1000");
     let page = folder.text("today.html");
     assert_eq!(page.matches("<svg").count(), 2);
-    assert!(page.contains("<h2>How many traces lie how far</h2>") && page.contains("class=\"possible\"") && page.contains(">100 to 250</text>"));
+    assert!(page.contains("How many traces lie how far</h2>") && page.contains("class=\"possible\"") && page.contains(">100 to 250</text>"));
     let said = folder.done("bands faults.sheet today.csv --off 0,100,250,1000");
     assert!(page.contains(said.lines().last().unwrap()));
     folder.done("report faults.sheet today.csv -o plain.html");

@@ -124,7 +124,7 @@ fn milliseconds() {
     assert!(page.contains("64 samples at 2000 a second (32.0 ms)") && page.contains("milliseconds") && page.contains(">31.5</text>"));
 }
 
-/// In a browser: every page shows on light and on dark paper, and prints on one page.
+/// In a browser: every page shows on light and on dark paper, and prints on one page; with bands, on two.
 #[test]
 fn in_a_browser() {
     let Some(browser) = ["chromium", "chromium-browser", "google-chrome"].into_iter().find(|name| runs(name)) else {
@@ -136,7 +136,8 @@ fn in_a_browser() {
     folder.done("report faults.sheet sweep.csv -k 6 -o worst.html");
     let plain = shelf("browser-plain");
     plain.done("report faults.sheet today.csv");
-    for page in [folder.0.join("worst.html"), plain.0.join("today.html")] {
+    folder.done(&format!("report faults.sheet sweep.csv -k 6 --off {} -o bands.html", joined(&(0..16).collect::<Vec<i32>>(), ",")));
+    for (page, sheets) in [(folder.0.join("worst.html"), 1), (plain.0.join("today.html"), 1), (folder.0.join("bands.html"), 2)] {
         let light = shot(browser, &page, "light.png", &[]);
         let dark = shot(browser, &page, "dark.png", &["--force-dark-mode", "--blink-settings=preferredColorScheme=0"]);
         // a picture of one colour takes next to nothing
@@ -144,7 +145,7 @@ fn in_a_browser() {
         assert!(light != dark);
         let pdf = printed(browser, &page);
         assert_eq!(count(&pdf, b"/Type /Pages"), 1);
-        assert_eq!(count(&pdf, b"/Type /Page\n") + count(&pdf, b"/Type /Page\r"), 1, "{}", page.display());
+        assert_eq!(count(&pdf, b"/Type /Page\n") + count(&pdf, b"/Type /Page\r"), sheets, "{}", page.display());
     }
 }
 

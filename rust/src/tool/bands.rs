@@ -21,9 +21,8 @@ const MOST: usize = 16;
 /// What a sample is off by, unless edges are said: a first look at any library.
 const FIRST_LOOK: &str = "0,10,20,50,100,200,500,1000,2000,5000,10000,20000,50000,100000,300000,1100000";
 
-/// Cells of the longest bar of text, and letters beside a bar of the picture.
+/// Cells of the longest bar of text.
 const LONGEST_BAR: usize = 40;
-const LONGEST_LABEL: usize = 28;
 
 pub fn run(a: &Arguments) -> Answer {
     let [library, file] = a.exactly(["LIBRARY", "a FILE with a sweep"])?.map(Path::new);
@@ -148,7 +147,7 @@ struct Row {
 pub struct Report<'a> {
     sweep: &'a Sweep,
     rows: Vec<Row>,
-    /// Of all bands together: as many traces as are surely in one of them.
+    /// Of so many traces it is sure in which band they lie. More may surely lie in some band, though it is not sure in which.
     placed: u64,
 }
 
@@ -194,12 +193,12 @@ impl<'a> Report<'a> {
     /// How much of it is sure.
     pub fn said(&self, shelf: &Shelf) -> String {
         let (traces, leaves) = (numbers::count(shelf.library.len(), "trace"), numbers::count(shelf.library.leaf_count(), "leaf"));
-        format!("{} of {traces} surely lie in one of these bands. No trace was read: this is what {leaves} of the tree say of theirs.", self.placed)
+        format!("The band is sure for {} of {traces}. No trace was read: this is what {leaves} of the tree say of theirs.", self.placed)
     }
 
     /// Bars for the picture, and for the page of `report`.
     pub fn histogram(&self, shelf: &Shelf) -> Histogram {
-        let label = |row: &Row| drawing::short(&format!("{} to {}", row.off[0], row.off[1]), LONGEST_LABEL);
+        let label = |row: &Row| format!("{} to {}", row.off[0], row.off[1]);
         let bar = |row: &Row| Bar { label: label(row), sure: row.within.sure, possible: row.within.possible };
         Histogram { bars: self.rows.iter().map(bar).collect(), traces: shelf.library.len() as u64 }
     }
@@ -209,7 +208,7 @@ impl<'a> Report<'a> {
         let histogram = self.histogram(shelf);
         let title = format!("How far the traces of {} are from {}", plain::path(&shelf.path), self.sweep.name);
         let mut svg = Svg::new(drawing::WIDTH, TOP + histogram.height(), &title, &drawing::style());
-        svg.label("title", (20.0, 30.0), &drawing::short(&title, 90));
+        svg.label("title", (20.0, 30.0), &drawing::short(&title, drawing::LONGEST_TITLE));
         histogram.draw(&mut svg, TOP);
         svg.finish()
     }
@@ -236,7 +235,7 @@ impl<'a> Report<'a> {
             ("name", json::text(&self.sweep.name)),
             ("file", json::text(&self.sweep.file)),
             ("traces", shelf.library.len().to_string()),
-            ("surely_in_a_band", self.placed.to_string()),
+            ("band_is_sure", self.placed.to_string()),
             ("bands", json::array(&bands)),
         ];
         format!("{}\n", json::object(&fields))

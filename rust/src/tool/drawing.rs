@@ -7,6 +7,11 @@ use super::svg::Svg;
 pub const MOST_DRAWN: usize = 6;
 
 pub const WIDTH: f64 = 900.0;
+
+/// So many letters fit across: of a title, and of a line of the legend.
+pub const LONGEST_TITLE: usize = 80;
+const LONGEST_ENTRY: usize = 88;
+
 const LEFT: f64 = 70.0;
 const RIGHT: f64 = 24.0;
 const LEGEND_LINE: f64 = 22.0;
@@ -62,6 +67,7 @@ circle.query { fill: currentColor; stroke: none; }
 .limit { fill: none; stroke: #c1121f; stroke-width: 1.6; }
 .sure { fill: #0068b5; }
 .possible { fill: none; stroke: #0068b5; stroke-width: 1.6; }
+.count { font-size: 12px; stroke: #ffffff; stroke-width: 4; stroke-linejoin: round; paint-order: stroke; }
 ";
 
 const DARK: &str = "\
@@ -70,6 +76,7 @@ svg { color: #eceef0; }
 .limit { stroke: #ff7b7b; }
 .sure { fill: #59b5ff; }
 .possible { stroke: #59b5ff; }
+.count { stroke: #14171a; }
 ";
 
 /// Light and dark, as the one who looks has set it; light on paper.
@@ -138,9 +145,9 @@ impl Drawing {
             svg.label("entry", (LEFT + 56.0, y), text);
             y += LEGEND_LINE;
         };
-        entry("query", &format!("the sweep: {}", short(&self.name, 90)));
+        entry("query", &short(&format!("the sweep: {}", self.name), LONGEST_ENTRY));
         for (at, curve) in self.curves.iter().enumerate() {
-            entry(&format!("trace t{at}"), &short(&curve.label, 100));
+            entry(&format!("trace t{at}"), &short(&curve.label, LONGEST_ENTRY));
         }
         if !self.clipped.is_empty() {
             let place = [("cx", LEFT + 22.0), ("cy", y - 5.0), ("r", 4.5)].map(|(name, at)| (name, format!("{at:.1}")));

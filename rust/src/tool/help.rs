@@ -149,7 +149,7 @@ asks for nothing from elsewhere.
 
   -k K          draw so many faults, 1 to 6; 3 unless said
   --sweep S     if FILE holds several sweeps, which one, counted from 1; the first unless said
-  --edges A,B,.., --off A,B,..   show how many traces lie in each of these bands, too, as `bands` does
+  --edges A,B,.., --off A,B,..   show how many traces lie in each of these bands, too, as `bands` does; they print on a second page
   -o OUT.html   where the page goes; unless said, beside FILE, with the ending .html; `-` is standard output
   --force       overwrite it
   --cut, --convert, --bits B   as for `match`
@@ -166,15 +166,15 @@ The date is today's, by UTC, or that of SOURCE_DATE_EPOCH if it is set.
         about: "how many traces lie how far from a sweep, to choose an alarm distance",
         text: "\
 Shows, for each band of distances from the sweep in FILE, how many stored traces surely lie in it and how many at most: a row a band, from
-one edge up to but not including the next. The true number lies between. No trace is read: the two come from the ranges that the tree
-records, so that it takes no longer with longer traces, but they may be far apart. How many traces are surely in one band stands below.
+one edge up to but not including the next. The true number lies between. No trace is read: both come from the ranges that the tree records,
+and may be far apart. Below stands for how many traces it is sure in which band they lie.
 
   --edges A,B,..   2 to 16 distances, each above the last, as `match` shows them: sums of squared sample differences
   --off A,B,..     the same by how far a sample is off, the root of the mean square, 0 to 2000000 with up to 6 digits behind a point. An edge
                    is its square times the samples of a trace, rounded up to a whole distance. Distances are whole, so that nothing is lost:
                    just those traces are below the edge that are off by less than was said
   --sweep S        if FILE holds several sweeps, which one, counted from 1; the first unless said
-  --json           one object for programs: `name`, `file`, `traces`, `surely_in_a_band`, and `bands`, a list (`from`, `below`,
+  --json           one object for programs: `name`, `file`, `traces`, `band_is_sure`, and `bands`, a list (`from`, `below`,
                    `from_a_sample`, `below_a_sample`, `surely`, `at_most`, `all_below_surely`, `all_below_at_most`)
   -o OUT.svg       a picture instead: a bar for surely, an outline for at most; `-` is standard output
   --force          overwrite it

@@ -4,7 +4,9 @@
 use super::drawing::WIDTH;
 use super::svg::Svg;
 
+/// Left of the bars at least, and a letter of what stands there: a digit of the widest common fonts.
 const LEFT: f64 = 190.0;
+const LETTER: f64 = 7.7;
 const RIGHT: f64 = 130.0;
 const LEGEND: f64 = 52.0;
 const ROW: f64 = 26.0;
@@ -31,13 +33,14 @@ impl Histogram {
 
     /// Draws all of it, from a height on.
     pub fn draw(&self, svg: &mut Svg, top: f64) {
-        let (sure, possible) = (LEFT, LEFT + 190.0);
+        let left = self.left();
+        let (sure, possible) = (left, left + 190.0);
         rect(svg, "sure", sure, top + 2.0, 40.0);
-        svg.label("entry", (sure + 48.0, top + 15.0), "surely there");
+        svg.label("entry", (sure + 48.0, top + 15.0), "surely so many");
         rect(svg, "possible", possible, top + 2.0, 40.0);
-        svg.label("entry", (possible + 48.0, top + 15.0), "at most there, by the tree's ranges");
+        svg.label("entry", (possible + 48.0, top + 15.0), "at most so many, by the tree's ranges");
         let (first, last) = (top + LEGEND, top + LEGEND + self.bars.len() as f64 * ROW);
-        svg.label("end", (LEFT - 12.0, first - 8.0), "off by, a sample");
+        svg.label("end", (left - 12.0, first - 8.0), "off by, a sample");
         for mark in self.marks() {
             let x = self.x(mark);
             svg.line("grid", (x, first), (x, last));
@@ -47,16 +50,16 @@ impl Histogram {
         for (at, bar) in self.bars.iter().enumerate() {
             self.draw_bar(svg, first + at as f64 * ROW, bar);
         }
-        svg.line("zero", (LEFT, first), (LEFT, last));
+        svg.line("zero", (left, first), (left, last));
     }
 
     fn draw_bar(&self, svg: &mut Svg, top: f64, bar: &Bar) {
-        let (y, text) = (top + (ROW - BAR) / 2.0, top + ROW / 2.0 + 4.0);
-        svg.label("end", (LEFT - 12.0, text), &bar.label);
+        let (left, y, text) = (self.left(), top + (ROW - BAR) / 2.0, top + ROW / 2.0 + 4.0);
+        svg.label("end", (left - 12.0, text), &bar.label);
         // the outline last, so that it is seen around a bar as long
         for (class, count) in [("sure", bar.sure), ("possible", bar.possible)] {
             if count > 0 {
-                rect(svg, class, LEFT, y, self.x(count) - LEFT);
+                rect(svg, class, left, y, self.x(count) - left);
             }
         }
         let said = match bar.possible {
@@ -64,7 +67,13 @@ impl Histogram {
             possible if possible == bar.sure => format!("{possible}"),
             possible => format!("{} to {possible}", bar.sure),
         };
-        svg.label("note", (self.x(bar.possible) + 8.0, text), &said);
+        svg.label("count", (self.x(bar.possible) + 8.0, text), &said);
+    }
+
+    /// Where bars begin: there is room for the longest label.
+    fn left(&self) -> f64 {
+        let letters = self.bars.iter().map(|bar| bar.label.chars().count()).max().unwrap_or(0);
+        LEFT.max(letters as f64 * LETTER + 20.0)
     }
 
     /// The scale ends at the longest outline.
@@ -73,7 +82,7 @@ impl Histogram {
     }
 
     fn x(&self, count: u64) -> f64 {
-        LEFT + (WIDTH - LEFT - RIGHT) * count as f64 / self.most() as f64
+        self.left() + (WIDTH - self.left() - RIGHT) * count as f64 / self.most() as f64
     }
 
     /// Round numbers of traces, 0 and up to the scale's end.
@@ -96,6 +105,15 @@ mod tests {
 
     fn marks(possible: u64) -> Vec<u64> {
         Histogram { bars: vec![Bar { label: String::new(), sure: 0, possible }], traces: 4096 }.marks()
+    }
+
+    /// The longest label that edges can have begins inside the picture, and the bars have room beside it.
+    #[test]
+    fn room_for_labels() {
+        let of = |label: &str| Histogram { bars: vec![Bar { label: label.to_string(), sure: 1, possible: 4096 }], traces: 4096 };
+        assert_eq!(of("2000 to 2500").left(), LEFT);
+        let longest = of("000123456.123456 to 000123457.123456");
+        assert!(longest.left() >= 36.0 * LETTER && longest.x(4096) - longest.left() > WIDTH / 3.0);
     }
 
     #[test]

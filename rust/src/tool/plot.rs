@@ -84,7 +84,7 @@ fn picture(shelf: &Shelf, found: &Match<'_>, drawing: &Drawing) -> String {
     const TOP: f64 = 50.0;
     let title = format!("{} and its nearest faults in {}", found.sweep.name, plain::path(&shelf.path));
     let mut svg = Svg::new(drawing::WIDTH, TOP + drawing.height(), &title, &drawing::style());
-    svg.label("title", (20.0, 30.0), &drawing::short(&title, 90));
+    svg.label("title", (20.0, 30.0), &drawing::short(&title, drawing::LONGEST_TITLE));
     drawing.draw(&mut svg, TOP);
     svg.finish()
 }

@@ -1,5 +1,5 @@
-//! `report`: one page to file, mail and print: the verdict, the sweep beside the nearest faults, and what it was found by. It has no script
-//! and asks for nothing from elsewhere.
+//! `report`: a page to file, mail and print: the verdict, the sweep beside the nearest faults, and what it was found by. It has no script
+//! and asks for nothing from elsewhere. Bars of bands, if they are asked for, print on a sheet of their own.
 
 use super::arguments::Arguments;
 use super::bands::{Edges, Report};
@@ -36,7 +36,8 @@ pub fn run(a: &Arguments) -> Answer {
     let drawn = groups.len().min(many);
     let page = Page { shelf: &shelf, found: &found, groups: &groups, drawn, bands, notes: &read.notes, which: &which };
     let done = output.write(page.html().as_bytes())?;
-    let said = format!("{}: {}{which}. A browser shows it, and prints it on one page.", shown(&out), sweep.name);
+    let pages = if page.bands.is_some() { "two pages" } else { "one page" };
+    let said = format!("{}: {}{which}. A browser shows it, and prints it on {pages}.", shown(&out), sweep.name);
     let text = format!("{}{said}\n{}\n", notes(&read), found.verdict.text());
     written(text, done)
 }
@@ -90,6 +91,7 @@ body { font-size: 11px; line-height: 1.25; }
 main { padding: 0; max-width: none; }
 h1 { font-size: 16px; }
 h2 { font-size: 12px; margin: 6px 0 2px; }
+.bars { break-before: page; }
 p { margin: 2px 0; }
 .verdict { margin: 4px 0; padding: 4px 10px; print-color-adjust: exact; }
 .verdict strong { font-size: 13px; }
@@ -181,7 +183,7 @@ impl Page<'_> {
         let mut svg = Svg::inside(drawing::WIDTH, histogram.height(), "How many traces lie how far");
         histogram.draw(&mut svg, 0.0);
         let said = escaped(&bands.said(self.shelf));
-        format!("<h2>How many traces lie how far</h2>\n{}<p class=\"small\">{said}</p>\n", svg.finish())
+        format!("<h2 class=\"bars\">How many traces lie how far</h2>\n{}<p class=\"small\">{said}</p>\n", svg.finish())
     }
 
     /// What it was found by.

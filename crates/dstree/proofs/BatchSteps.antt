@@ -232,13 +232,14 @@ comes-no a b c = test-false (isNearer b a) (λ t. by c (nearer-yes b a (test-tru
     by (inr (e, h)) (inl g) = omega arith
     by (inr (e, h)) (inr (f, g)) = omega arith
 
+pub nearest-of : (a : Near) (l : List Near) → NearestOf (a ∷ l) (foldl nearer a l)
+nearest-of a l =
+    record { among = fold-in nearer nearer-either a l; none-nearer = λ b i. comes-no (foldl nearer a l) b (comes-first a l i) }
+
 best-of : (l : List Near) → 0 < length l → NearestOf l (nearOrZero (foldl bestWith none l))
 unfolding bestWith nearOrZero
 best-of [] h = absurd (omega arith)
-best-of (a ∷ l) h = rw (fold-some a l) (record {
-  among = fold-in nearer nearer-either a l;
-  none-nearer = λ b i. comes-no (foldl nearer a l) b (comes-first a l i);
-})
+best-of (a ∷ l) h = rw (fold-some a l) (nearest-of a l)
 
 -- the same traces in other leaves
 nearest-in : (l m : List Near) (a : Near) → ((b : Near) → In b l → In b m) → ((b : Near) → In b m → In b l) → NearestOf l a → NearestOf m a

@@ -29,6 +29,7 @@ use Rattle.dstree.specs.Sheet.{tornConditions, areZero, zerosIn, badCond
 use Rattle.dstree.specs.SheetWidths.{allNarrow, formatOf, sheetOf, blocksNeeded, isWide, tracesHeld, rangeConditions, sheetConditions, judgeSheet}
 use Rattle.dstree.specs.Book.{besideOf, controlShort, tablesShort, readingConditions, putRead, openingEntry, addingEntry}
 use Rattle.dstree.specs.Book.{writingEntry, readingEntry, importingEntry, exportingEntry, checkingEntry, labellingEntry}
+use Rattle.dstree.specs.Book.{pairBeside, pairingEntry}
 use Rattle.dstree.specs.Book.{entryOf, judge, putUnless, turn, after, replyUnless, replyOf, repliesOf, start}
 use Rattle.dstree.specs.Program.{refusalLine, matchLine, lineOf, judgedLine, programLine, digitsFrom, decimal, spaced, text, printed}
 use Rattle.dstree.specs.Claims.{numbersAmong}
@@ -37,6 +38,8 @@ use Rattle.dstree.specs.KNearest.{leavesRk, kNearestOf, listOfMatch, inR
 use Rattle.dstree.specs.Batch.{isBatch, wanted, batchOf, bestAmong, readOnce, readFor, batchRead, nearOrZero, batchBySteps}
 use Rattle.dstree.specs.Bands.{upperOn, ownUpper, upperFrom, isEdges, bandsOf, isSure, isPossible, tracesAmong, bandCount, bandReport}
 use Rattle.dstree.specs.Bands.{reportPlaces, trueCount}
+use Rattle.dstree.specs.Pair.{pairRest, pairedWith, tracesRead, jointDistance, hasAt, nearestWhich, nearestIn, trailTo, pairOf}
+use Rattle.dstree.specs.Pair.{mergedWith, merged, isAboveBoth, readJoint, pairOn, winnerOf, pairFrom, pairAlong, pairBySteps, alone}
 use Rattle.dstree.specs.Recording.{header, fieldBytes, recordingOf, rateIn, sizeIn, begins, isRecording, recordedTraces}
 use Rattle.dstree.specs.Recording.{judgeRecording, fileTraces, isBadFile}
 use Rattle.dstree.specs.Checking.{belowFrom, sameFigures, areExact, isExactAt, isExact}
@@ -92,6 +95,11 @@ unfolding sumReach scatterReach upperTerm upperOn ownUpper upperFrom isEdges ban
     reportPlaces trueCount
 bandsOpen = tt
 
+unfoldable pairsOpen : Unit {0}
+unfolding pairRest pairedWith tracesRead jointDistance hasAt nearestWhich nearestIn trailTo pairOf mergedWith merged isAboveBoth readJoint pairOn winnerOf pairFrom
+    pairAlong pairBySteps alone
+pairsOpen = tt
+
 unfoldable rulesOpen : Unit {0}
 unfolding rising everyNode childrenOf childrenAbove childOnce endsFit endsKept leafFits inOneLeaf withinℤ segmentFits segmentsFit
 rulesOpen = tt
@@ -133,7 +141,8 @@ unfolding besideOf controlShort tablesShort readingConditions putRead openingEnt
 booksOpen = tt
 
 unfoldable booksOpen2 : Unit {0}
-unfolding importingEntry exportingEntry checkingEntry labellingEntry entryOf judge putUnless turn after replyUnless replyOf repliesOf start
+unfolding importingEntry exportingEntry checkingEntry labellingEntry pairBeside pairingEntry entryOf judge putUnless turn after replyUnless replyOf repliesOf
+    start
 booksOpen2 = tt
 
 unfoldable linesOpen : Unit {0}
@@ -142,5 +151,5 @@ linesOpen = tt
 
 unfoldable pub everything : Unit {0}
 unfolding wordsOpen figuresOpen figuresOpen2 nodesOpen nodesOpen2 addingOpen addingOpen2 matchingOpen matchingOpen2 nearestOpen batchesOpen bandsOpen
-    rulesOpen rulesOpen2 sheetsOpen sheetsOpen2 sheetTestsOpen widthsOpen labelsOpen recordingsOpen checkingOpen booksOpen booksOpen2 linesOpen
+    pairsOpen rulesOpen rulesOpen2 sheetsOpen sheetsOpen2 sheetTestsOpen widthsOpen labelsOpen recordingsOpen checkingOpen booksOpen booksOpen2 linesOpen
 everything = tt

@@ -1,6 +1,7 @@
 -- Laws of the definitions. The tree that adding makes: Invariant, Joins, Splits and Grown; a query: Bounds, Reading, Search and Closed;
 -- all together: Laws. The k nearest: Ranks, KSteps and KClosed; all together: KLaws. Batches: BatchSteps and BatchClosed; all together:
--- BatchLaws. Bands: Upper and Bands; all together: BandLaws.
+-- BatchLaws. Bands: Upper and Bands; all together: BandLaws. Two libraries together: PairSteps, PairRead, PairTurns, PairSides and
+-- PairClosed; all together: PairLaws.
 -- Sheets: SheetWritten, SheetRead, ReadBack and WrittenAgain; all together: RoundTrips.
 -- Recorder's files: Recordings. Both sides seen: Looking. The check of tables: TracesBelow, BelowOnce and Recomputed; all together:
 -- Checking.
@@ -42,6 +43,12 @@ pub mod BatchClosed
 pub mod Upper
 pub mod UpperLimits
 pub mod Bands
+pub mod PairSteps
+pub mod PairRead
+pub mod PairFormed
+pub mod PairTurns
+pub mod PairSides
+pub mod PairClosed
 pub mod SheetPieces
 pub mod SheetFormat
 pub mod SheetFields
@@ -65,7 +72,9 @@ pub mod Laws
 pub mod KLaws
 pub mod BatchLaws
 pub mod BandLaws
+pub mod PairLaws
 pub mod KExamples
+pub mod PairExamples
 pub mod TracesBelow
 pub mod BelowOnce
 pub mod Recomputed

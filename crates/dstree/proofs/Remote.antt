@@ -12,7 +12,7 @@ use Rattle.dstree.specs.Labels.{Label}
 use Rattle.dstree.specs.Refusals.{Refusal}
 use Rattle.dstree.specs.Adding.{treeOf}
 use Rattle.dstree.specs.Book.{Layout, Lent, Sought, searchOf, Ask, opening, adding, searching, writing, reading, importing, exporting}
-use Rattle.dstree.specs.Book.{checking, labelling, call, besideOf, Book, book, searchingEntry, entryOf, judge, putUnless, turn}
+use Rattle.dstree.specs.Book.{checking, labelling, pairing, call, besideOf, Book, book, searchingEntry, entryOf, judge, putUnless, turn}
 use Rattle.dstree.specs.Book.{answering, reply, replyUnless, replyOf, repliesOf}
 use Rattle.dstree.specs.Remote.{codesOf, AlikeButSerials, isRemote, RemoteAlike}
 
@@ -75,3 +75,4 @@ remote-alike layout these other a (c ∷ calls) t = by (c .ask) (c .lent) (and-y
     by (exporting number rate buffer) lent both later = absurd (both .0)
     by checking lent both later = absurd (both .0)
     by (labelling number) lent both later = absurd (both .0)
+    by (pairing which o query trail) lent both later = absurd (both .0)

@@ -15,6 +15,7 @@ use Rattle.dstree.specs.Matching.{leaves, Near, Match, Search, searched,
 use Rattle.dstree.specs.KNearest.{isK, listPlaces, KNearest, kNearestBySteps, kNearestOf}
 use Rattle.dstree.specs.Batch.{queriesIn, batchConditions, Batch, nearOrZero, batchBySteps, batchOf}
 use Rattle.dstree.specs.Bands.{BandCount, bandReport, reportPlaces, bandConditions}
+use Rattle.dstree.specs.Pair.{indexed, Which, byWhich, Other, pairingConditions, PairMatch, pairedWith}
 use Rattle.dstree.specs.Refusals.{Refusal, measure, shortTable, wrongTrace, full, shortTrail, sheetLength, badK, badRecording}
 use Rattle.dstree.specs.Refusals.{sampleRange, Condition, _refuses_, firstOf, runConditions}
 use Rattle.dstree.specs.Recording.{rateLimit, recordingSize, recordingOf, Recording, judgeRecording, isBadFile, fileTraces}
@@ -51,7 +52,8 @@ pub data Sought : Type 0 where
 -- what a call asks for: "calls of opening, adding, match, sheet writing and sheet reading .. with any arguments". "Trails and sheets are
 -- not part of" the tables: a writing and a reading come with the bytes of their sheet; an import of document 02, §2, with the bytes of its
 -- file, an export with a trace's number, a rate, and the contents of its buffer; the check of §6 with nothing but the tables; an adding
--- with the label of §8 too, the bench's call for a label with a trace's number
+-- with the label of §8 too, the bench's call for a label with a trace's number; a match over two libraries of §11 with which of the two
+-- this one is, the other one, its query, and the contents of this one's trail
 pub data Ask : Type 0 where
   opening : Measures → Ask
   adding : Trace → Label → Ask
@@ -62,6 +64,7 @@ pub data Ask : Type 0 where
   exporting : ℕ → ℕ → List ℕ → Ask
   checking : Ask
   labelling : ℕ → Ask
+  pairing : Which → Other → Trace → List ℕ → Ask
 
 abbrev pub matching : Trace → List ℕ → Ask
 matching query trail = searching (aMatch query trail)
@@ -92,7 +95,7 @@ call lent ask = record { lent = lent; ask = ask }
 -- writing the number of blocks"; a match with its trail, a writing with its sheet, a listing with list and trail; an import "how many"
 -- traces it added, an export "its bytes' number", with these bytes; a check that "it accepts"; a batch with its answer records, "one count
 -- of leaves" and its trail; the bench's call "both for a trace number"; the remote's a match that "adds the fault code and nothing else"; a
--- report "how many traces surely lie in" each band "and how many may"
+-- report "how many traces surely lie in" each band "and how many may"; a match over two libraries "which library", with both trails
 pub data Result : Type 0 where
   done : Result
   added : ℕ → Result
@@ -106,6 +109,7 @@ pub data Result : Type 0 where
   labelled : Label → Result
   remoteMatched : Match → ℕ → Result
   banded : List BandCount → Result
+  paired : PairMatch → Result
 
 -- "does its work or gives the one refusal that document 01 fixes"
 pub data Answer : Type 0 where
@@ -123,6 +127,15 @@ reply answer beside = record { answer = answer; beside = beside }
 -- a list, its beginning replaced: "places after them keep their contents"
 abbrev pub over : {A : Type 0} → List A → List A → List A
 over front l = front ++ drop (length front) l
+
+-- what a match over two libraries leaves beside this one's tables: its trail, the other's trail, and the other's search work, "the needed
+-- search work zero"
+unfoldable pub pairBeside : Which → Other → PairMatch → List ℕ → List (List ℕ)
+pairBeside which other found trail =
+    over (byWhich which (found .factoryTrail) (found .benchTrail)) trail
+    ∷ over (byWhich which (found .benchTrail) (found .factoryTrail)) (other .trail)
+    ∷ (replicate (other .needed) 0 ++ drop (other .needed) (other .work))
+    ∷ []
 
 -- ---- the book
 
@@ -325,6 +338,7 @@ besideOf (importing bytes) = []
 besideOf (exporting number rate buffer) = buffer ∷ []
 besideOf checking = []
 besideOf (labelling number) = []
+besideOf (pairing which other query trail) = trail ∷ other .trail ∷ other .work ∷ []
 
 -- ---- call by call
 
@@ -413,6 +427,19 @@ module _ (layout : Layout) (lent : Lent) (b : Book) where
     beside = [];
   }
 
+  -- document 02, §11: "Match a query over both". The other library is an argument, about which the book knows nothing: of tables that the
+  -- check would not accept, the answer is the program's
+  unfoldable pub pairingEntry : Which → Other → Trace → List ℕ → Entry
+  pairingEntry which other query trail =
+      let own = indexed (b .traces) (bookTree b) in
+      let found = pairedWith which own (other .library) query in
+      record {
+        conditions = pairingConditions which (shortConditions layout lent (b .measures)) (b .measures .n) own other query trail;
+        puts = b;
+        result = paired found;
+        beside = pairBeside which other found trail;
+      }
+
   unfoldable pub entryOf : Ask → Entry
   entryOf (opening m) = openingEntry m
   entryOf (adding x l) = addingEntry x l
@@ -423,6 +450,7 @@ module _ (layout : Layout) (lent : Lent) (b : Book) where
   entryOf (exporting number rate buffer) = exportingEntry number rate buffer
   entryOf checking = checkingEntry
   entryOf (labelling number) = labellingEntry number
+  entryOf (pairing which other query trail) = pairingEntry which other query trail
 
 -- ---- every call
 

@@ -25,6 +25,8 @@ pub data Refusal : Type 0 where
   sampleRange : Refusal
   -- document 02, §10: "16 bad edges, wrong count or not rising"
   badEdges : Refusal
+  -- document 02, §11: "17 unlike libraries, when their n differ"
+  unlikeLibraries : Refusal
 
 -- the table's numbers
 unfoldable pub numberOf : Refusal → ℕ
@@ -44,6 +46,7 @@ numberOf looseRecord = 13
 numberOf badBatch = 14
 numberOf sampleRange = 15
 numberOf badEdges = 16
+numberOf unlikeLibraries = 17
 
 -- "a place: the first block at fault for 9, else 0"
 unfoldable pub placeOf : Refusal → ℕ
@@ -63,6 +66,7 @@ placeOf looseRecord = 0
 placeOf badBatch = 0
 placeOf sampleRange = 0
 placeOf badEdges = 0
+placeOf unlikeLibraries = 0
 
 -- a condition of the table with its refusal
 pub record Condition : Type 0 where

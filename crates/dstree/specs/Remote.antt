@@ -8,7 +8,7 @@ use lib.Dec.{T}
 use Rattle.integer.specs.Words.{every}
 use Rattle.dstree.specs.Labels.{Label}
 use Rattle.dstree.specs.Book.{Layout, aMatch, aListing, aBatch, aRemote, aBanding, Ask, opening, adding, searching, writing, reading}
-use Rattle.dstree.specs.Book.{importing, exporting, checking, labelling, Call, Book, repliesOf}
+use Rattle.dstree.specs.Book.{importing, exporting, checking, labelling, pairing, Call, Book, repliesOf}
 
 -- the codes of labels
 abbrev pub codesOf : List Label → List ℕ
@@ -35,6 +35,7 @@ isRemote (importing bytes) = false
 isRemote (exporting number rate buffer) = false
 isRemote checking = false
 isRemote (labelling number) = false
+isRemote (pairing which other query trail) = false
 
 -- "equal answers and equal refusals", and equal trails, however often it asks
 abbrev pub RemoteAlike : Type 0

@@ -15,6 +15,7 @@ use Rattle.integer.proofs.Tests.{passed, passes, is-true}
 use Rattle.integer.proofs.Lists.{all-none, all-more, all-append, all-replicate, every-all, all-every}
 use Rattle.dstree.specs.Measures.{Trace, Measures, sampleLimit, inRange, isTrace, isLibrary, workNeeded}
 use Rattle.dstree.specs.Labels.{Label, noLabel, isLabel, areLabels}
+use Rattle.dstree.specs.Pair.{indexed, Which, Other, pairFront, pairRest}
 use Rattle.dstree.specs.Refusals.{Condition, _refuses_, firstOf, measure, full, sheetLength, badRecording}
 use Rattle.dstree.specs.Sheet.{areBytes, blockSize, Judged, refused, holds}
 use Rattle.dstree.specs.SheetWidths.{blocksNeeded, sheetOf, judgeSheet}
@@ -23,9 +24,9 @@ use Rattle.dstree.specs.Book.{Ask, opening, adding, searching, writing, reading
 use Rattle.dstree.specs.Book.{Book, book, bookTree, Entry, added, written, imported, exported, labelled, over, importConditions, exportConditions, labelConditions}
 use Rattle.dstree.specs.Book.{shortConditions, addConditions, writeConditions, readingConditions, putRead, Found, AnySearch, Sought, searchOf}
 use Rattle.dstree.specs.Book.{openingEntry, addingEntry, searchingEntry, writingEntry, readingEntry, importingEntry}
-use Rattle.dstree.specs.Book.{exportingEntry, checkingEntry, labellingEntry, entryOf}
+use Rattle.dstree.specs.Book.{exportingEntry, checkingEntry, labellingEntry, pairing, pairingEntry, entryOf}
 use Rattle.dstree.specs.Remote.{codesOf}
-use Rattle.dstree.proofs.Conditions.{none-first, none-both}
+use Rattle.dstree.proofs.Conditions.{none-first, none-both, front-same}
 use Rattle.dstree.proofs.Laws.{exact}
 use Rattle.dstree.proofs.RoundTrips.{is-library, are-labels}
 use Rattle.dstree.proofs.SheetLabels.{fits-of, labels-of, labels-are}
@@ -43,7 +44,7 @@ use Rattle.tables.specs.Holds.{Holds}
 use Rattle.insertion_memory.specs.Memory.{addedWith}
 use Rattle.calls.specs.Outcome.{Effect}
 use Rattle.calls.specs.Library.{loaded, libraryTables, Keeps}
-use Rattle.calls.specs.Effects.{opens, adds, cleared, searches, writes, loadedBy, reads, imports, exports, checks, tellsLabel, effectOf}
+use Rattle.calls.specs.Effects.{opens, adds, cleared, searches, writes, loadedBy, reads, imports, exports, checks, tellsLabel, pairs, effectOf}
 use Rattle.calls.specs.Follows.{Typed}
 use Rattle.calls.proofs.Taken.{taken}
 use Rattle.calls.proofs.Searches.{laws}
@@ -361,6 +362,25 @@ module _ (memory part : Tables) (begins : Begins part memory) (b : Book) (keeps 
       rest : List Condition
       rest = labelConditions (length (b .traces)) number
 
+  -- document 02, §11: "Match a query over both"
+  module _ (which : Which) (other : Other) (query : Trace) (trail : List ℕ) where
+    abbrev pairingRest : List Condition
+    pairingRest = pairRest which (m .n) (indexed (b .traces) (bookTree b)) other query trail
+
+    pairing-holds : firstOf (pairFront which other ++ (shortConditions layout (lentOf part) m ++ pairingRest)) ≡ none → Holds part m (b .traces)
+    pairing-holds e = holds-it pairingRest (none-both (pairFront which other) _ e .1)
+
+    pub pairing-agrees : Agrees memory (pairs part which other query trail) (pairingEntry layout (lentOf part) b which other query trail)
+    unfolding pairs pairingEntry
+    pairing-agrees = record {
+      judged = front-same (pairFront which other) _ _ (made-same keeps part begins
+          (pairRest which (measuresOf part .n) (indexed (tracesIn part) (treeIn part)) other query trail) pairingRest
+          (λ h labels. rw (ap (λ (k : Measures). k .n) (h .measures-are), h .traces-are, h .tree-is)));
+      result-is = λ e. let h = pairing-holds e in rw (h .traces-are, h .tree-is);
+      beside-is = λ e. let h = pairing-holds e in rw (h .traces-are, h .tree-is);
+      puts = λ e. searching-puts pairingRest (none-both (pairFront which other) _ e .1);
+    }
+
   -- ---- any call
 
   pub agrees : (ask : Ask) → Typed ask → Agrees memory (effectOf ask part) (entryOf layout (lentOf part) b ask)
@@ -374,3 +394,4 @@ module _ (memory part : Tables) (begins : Begins part memory) (b : Book) (keeps 
   agrees (exporting number rate buffer) typed = exporting-agrees number rate buffer
   agrees checking typed = checking-agrees
   agrees (labelling number) typed = labelling-agrees number
+  agrees (pairing which other query trail) typed = pairing-agrees which other query trail

@@ -9,7 +9,6 @@ use mathlib.Core.List.{List, [], _∷_}
 use lib.ListN.{length, take}
 use lib.Dec.{T}
 use borrow.Author.Tests.{eq-eqb}
-use Rattle.integer.specs.Lists.{In}
 use Rattle.integer.proofs.Tests.{is-true, test-true}
 use Rattle.dstree.specs.Measures.{Trace, sampleLimit, areSamples}
 use Rattle.dstree.specs.Node.{Tree}
@@ -21,7 +20,7 @@ use Rattle.dstree.specs.Checking.{isExact, Exactness}
 use Rattle.dstree.specs.WellFormed as abstract
 use Rattle.dstree.specs.Refusals.{_refuses_, firstOf, spoiled, empty, looseRecord}
 use Rattle.dstree.specs.Book.{Lent, listing, checking, call, besideOf, matched, matchSeen, refusing, neighbours, Reply, Book, bookTree, Call, done, accepted, answering, after}
-use Rattle.dstree.specs.Book.{shortConditions, listConditions, entryOf, judge, replyUnless, replyOf, repliesOf, start}
+use Rattle.dstree.specs.Book.{shortConditions, listConditions, entryOf, judge, replyUnless, replyOf, start}
 use Rattle.dstree.proofs.Conditions.{first-none}
 use Rattle.dstree.proofs.KSteps.{step-claims, listOf, one-searched}
 use Rattle.dstree.proofs.Checking.{exactness}
@@ -38,7 +37,7 @@ use Rattle.calls.specs.Trusted.{bookIn, Trusts, treeAfter}
 use Rattle.calls.specs.Effects.{matches, lists, checks, effectOf}
 use Rattle.calls.specs.Follows.{Follows, Ran, a-call}
 use Rattle.calls.specs.Demands.{MatchedIn, MatchesAnywhere, ListedIn, ListsAnywhere, ChecksAnywhere, judgeIn, OfAnyQuery, EmptyIsSix, IsAccepted}
-use Rattle.calls.specs.Demands.{OfAnyBatch, OfAnyBands, AfterList, ReadBack, OfStored, AfterCheck, Demands}
+use Rattle.calls.specs.Demands.{OfAnyBatch, OfAnyBands, Said, AfterList, ReadBack, OfStored, AfterCheck, Demands}
 use Rattle.calls.proofs.Kept.{kept-holds, kept-labels}
 use Rattle.calls.proofs.Finds.{Some, found}
 use Rattle.calls.proofs.Stored.{Stores, kept-stores, trusted-stores, any-stores, samples-inside}
@@ -54,9 +53,12 @@ use Rattle.calls.proofs.Trails.{list-by-bound, search-by-bound}
 use Rattle.calls.proofs.Differ.{may-differ}
 use Rattle.calls.proofs.Adds.{adds-anywhere}
 use Rattle.calls.proofs.Imports.{imports-anywhere, exported-sound, exported-and-imported}
-use Rattle.calls.proofs.Trusting.{check-stays, part-checked, loose-is, loose-fine, trusted, all-trusting}
+use Rattle.calls.proofs.Trusting.{check-stays, part-checked, loose-is, loose-fine, no-loose, trusted, all-trusting}
 use Rattle.calls.proofs.Trees.{tree-of-book}
 use Rattle.calls.proofs.Queries.{Judges, of-any-query}
+use Rattle.calls.proofs.Pairs.{joins-both, pairs-anywhere}
+use Rattle.calls.proofs.PairsOffTrail.{pairs-off-trail}
+use Rattle.calls.proofs.PairsTrusted.{trusted-pairs}
 use Rattle.calls.proofs.Batches.{of-any-batch, batches-anywhere}
 use Rattle.calls.proofs.Banding.{of-any-bands, reports-anywhere, reads-no-traces}
 use Rattle.calls.proofs.Labels.{labels-anywhere, label-gives}
@@ -162,26 +164,30 @@ lists-anywhere lent k query trail list memory memory′ said f m answers =
 
 -- ---- a list of calls
 
--- what holds of a memory that keeps the book after a list of calls, these having been answered as the book says
-pub after-list : {b : Book} {memory : Tables} (calls : List Call) (said : List Reply) → said ≡ repliesOf layout b calls
-    → Keeps memory (after layout b calls)
+-- what holds after a list of calls, from a memory on that keeps a book
+after-list : {b : Book} {memory₀ memory : Tables} {calls : List Call} {said : List Reply} → Keeps memory₀ b → Ran memory₀ calls said memory
     → AfterList b calls said memory
-after-list {b} {memory} calls said e k = record {
-  keeps = k;
-  holds = kept-holds k;
-  labels-are = kept-labels k;
-  replies-are = e;
-  written-and-read = read-back-in (kept-stores k);
-  never-spoiled = λ r i. never layout spoiled spoiled-is-not b calls r (subst (In r) e i);
-  never-loose = λ r i. never layout looseRecord loose-is-not b calls r (subst (In r) e i);
-  any-query = of-book k;
-  any-batch = batch-of-book k;
-  any-bands = bands-of-book k;
-  empty-is-six = empty-is-six k;
-  exported-sound = exported-sound (kept-stores k);
-  label-gives = label-gives (kept-trusts k) (judge layout (after layout b calls)) (book-judges k);
-  is-accepted = is-accepted (kept-trusts k);
-}
+after-list {b} {calls = calls} keeps rest =
+    let r = ran keeps rest in
+    let e = r .0 in
+    let k = r .1 in
+    record {
+      keeps = k;
+      holds = kept-holds k;
+      labels-are = kept-labels k;
+      replies-are = e;
+      written-and-read = read-back-in (kept-stores k);
+      never-spoiled = λ c r i. never layout spoiled spoiled-is-not b calls c r (subst (λ (l : List Reply). Said c r calls l) e i);
+      never-loose = no-loose rest (λ c r i. never layout looseRecord loose-is-not b calls c r (subst (λ (l : List Reply). Said c r calls l) e i));
+      any-query = of-book k;
+      any-batch = batch-of-book k;
+      any-bands = bands-of-book k;
+      empty-is-six = empty-is-six k;
+      exported-sound = exported-sound (kept-stores k);
+      label-gives = label-gives (kept-trusts k) (judge layout (after layout b calls)) (book-judges k);
+      trusts = kept-trusts k;
+      is-accepted = is-accepted (kept-trusts k);
+    }
 
 -- ---- what a memory stores
 
@@ -193,7 +199,7 @@ put-back {b} d k = record {
   holds = kept-holds k;
   labels-are = kept-labels k;
   is-accepted = is-accepted (kept-trusts k);
-  goes-on = λ calls others memory′ rest. let r = ran k rest in after-list calls others (r .0) (r .1);
+  goes-on = λ calls others memory′ rest. after-list k rest;
 }
 
 of-stored : {memory : Tables} {b : Book} → Stores memory b → OfStored b memory
@@ -253,7 +259,7 @@ checks-anywhere lent memory memory′ said f = record {
 
 from-first : (first : Call) (calls : List Call) (memory₀ memory : Tables) (said₀ : Reply) (said : List Reply)
     → Ran memory₀ (first ∷ calls) (said₀ ∷ said) memory → said₀ .answer ≡ answering done → AfterList (start layout first) calls said memory
-from-first first calls memory₀ memory said₀ said (a-call f rest) e = let r = ran (started f e) rest in after-list calls said (r .0) (r .1)
+from-first first calls memory₀ memory said₀ said (a-call f rest) e = after-list (started f e) rest
 
 -- from a check on that has just accepted
 from-check : (first : Call) (calls : List Call) (memory₀ memory : Tables) (said₀ : Reply) (said : List Reply)
@@ -267,8 +273,8 @@ from-check first calls memory₀ memory said₀ said (a-call f rest) e =
       trusts = t;
       tree-is = r .0 .tree-is ∙ ap (λ (tree : Tree). treeAfter layout (bookIn memory₀) tree calls) (start .tree-is);
       is-accepted = is-accepted t;
-      never-spoiled = λ s i. r .1 s i spoiled spoiled-is-not;
-      never-loose = λ s i. r .1 s i looseRecord loose-is-not;
+      never-spoiled = λ c s i. r .1 c s i spoiled spoiled-is-not;
+      never-loose = no-loose rest (λ c s i. r .1 c s i looseRecord loose-is-not);
       any-query = λ query some-trace size. of-any-query t (judgeIn memory) (λ c places typed q. q) query size some-trace;
       any-batch = λ count run some-trace size. of-any-batch t (judgeIn memory) (λ c places typed q. q) some-trace count run size;
       any-bands = of-any-bands t (judgeIn memory) (λ c places typed q. q);
@@ -294,6 +300,12 @@ demands = record {
   sees-no-serials = sees-no-serials;
   serials-may-differ = serials-may-differ;
   samples-inside = samples-inside;
+  joins-both = joins-both;
+  pairs-anywhere = pairs-anywhere;
+  pairs-off-trail = pairs-off-trail;
+  trusted-pairs = trusted-pairs;
+  after-both = λ bf bb calls others said also factory bench f b. trusted-pairs factory bench (after layout bf calls) (after layout bb others) _ _
+      (f .trusts) (f .holds .tree-is) (b .trusts) (b .holds .tree-is);
   stored-anywhere = λ memory. of-stored (any-stores memory);
   after-list = from-first;
   after-check = from-check;

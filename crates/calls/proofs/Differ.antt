@@ -16,7 +16,7 @@ use Rattle.segment.specs.Stored.{samplesOf}
 use Rattle.dstree.specs.Claims.{numbersAmong}
 use Rattle.tables.specs.Tables.{Tables, measuresOf}
 use Rattle.tables.specs.View.{traceIn, treeIn}
-use Rattle.calls.specs.Demands.{MayDiffer}
+use Rattle.calls.specs.Trails.{MayDiffer}
 
 module _ (l : List ℤ) (n i j at : ℕ) (z : ℤ) (h : at < n) (apart : j ≡ i → ⊥) where
   -- the later trace begins behind the earlier one's end

@@ -25,4 +25,7 @@ pub mod Batches
 pub mod Banding
 pub mod Labels
 pub mod Remote
+pub mod Pairs
+pub mod PairsOffTrail
+pub mod PairsTrusted
 pub mod Demands

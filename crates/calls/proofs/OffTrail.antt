@@ -15,7 +15,7 @@ use Rattle.integer.proofs.Lists.{in-is, map-agree}
 use Rattle.dstree.specs.Measures.{Measures}
 use Rattle.dstree.specs.KNearest.{SameIn}
 use Rattle.dstree.specs.Refusals.{Refusal, firstOf}
-use Rattle.dstree.specs.Book.{Lent, Ask, opening, adding, searching, writing, reading, importing, exporting, checking, labelling, besideOf}
+use Rattle.dstree.specs.Book.{Lent, Ask, opening, adding, searching, writing, reading, importing, exporting, checking, labelling, pairing, besideOf}
 use Rattle.dstree.specs.Book.{Result, answering, Reply, reply, Found, AnySearch, searchOf}
 use Rattle.dstree.specs.Claims.{numbersAmong}
 use Rattle.dstree.specs.Remote.{codesOf}
@@ -30,8 +30,9 @@ use Rattle.tables.specs.Holds.{Long}
 use Rattle.insertion_memory.proofs.FromTables.{long-of}
 use Rattle.insertion_memory.proofs.Beginnings.{Agree, begins-agree, measures-same, tree-same}
 use Rattle.calls.specs.Outcome.{Effect, unlessRefused}
-use Rattle.calls.specs.Effects.{opens, adds, searches, writes, reads, imports, exports, checks, tellsLabel, effectOf, outcomeOn}
-use Rattle.calls.specs.Demands.{DifferOutside, trailFound, SamplesOffTrail}
+use Rattle.calls.specs.Effects.{opens, adds, searches, writes, reads, imports, exports, checks, tellsLabel, pairs, effectOf, outcomeOn}
+use Rattle.calls.specs.Trails.{DifferOutside}
+use Rattle.calls.specs.Demands.{trailFound, SamplesOffTrail}
 use Rattle.tables.proofs.Judged.{Accepted, accepted}
 use Rattle.tables.proofs.Samples.{made-is}
 use Rattle.calls.proofs.Searches.{laws}
@@ -43,10 +44,18 @@ module _ (t : Tables) (samples : List ℤ) (as-many : length samples ≡ length 
   abbrev with-others : Tables
   with-others = labelledTables (t .control) samples (t .nodes) (t .links) (t .work) (t .labels)
 
-  -- no condition of a search reads a sample
-  conditions-same : (s : AnySearch) → firstOf (searches with-others s .conditions) ≡ firstOf (searches t s .conditions)
+  -- neither 2 nor 3 reads a sample, nor does the tree
+  pub made-others : madeConditions with-others ≡ madeConditions t
   unfolding wellFormed kindsNamed treeIn
-  conditions-same s = rw (made-is with-others, made-is t, as-many)
+  made-others = rw (made-is with-others, made-is t, as-many)
+
+  pub tree-others : treeIn with-others ≡ treeIn t
+  unfolding treeIn
+  tree-others = refl
+
+  -- no condition of a search reads one
+  conditions-same : (s : AnySearch) → firstOf (searches with-others s .conditions) ≡ firstOf (searches t s .conditions)
+  conditions-same s = rw (made-others, tree-others)
 
 -- ---- the traces that a search reads
 
@@ -65,14 +74,14 @@ module _ (lent : Lent) {these other : Tables} {trail : List ℕ} (ok : Accepted 
   long : Long part
   long = long-of part (ok .room)
 
-  as-many : length (part₂ .samples) ≡ length (part .samples)
+  pub as-many : length (part₂ .samples) ≡ length (part .samples)
   as-many = simp length-take (rw (differ .as-long))
 
   -- what the call is lent of the other
-  abbrev also : Tables
+  abbrev pub also : Tables
   also = with-others part (part₂ .samples) as-many
 
-  also-is : part₂ ≡ also
+  pub also-is : part₂ ≡ also
   also-is = tables-same (ap (take (lent .control)) (differ .control-same)) refl
       (ap (take (lent .nodes)) (differ .nodes-same)) (ap (take (lent .links)) (differ .links-same))
       (ap (take (lent .work)) (differ .work-same))
@@ -104,7 +113,7 @@ module _ (lent : Lent) {these other : Tables} {trail : List ℕ} (ok : Accepted 
       (differ .samples-same i there) in
       trace-at also i l ∙ (sym (also-agree .samples-agree i few) ∙ (same ∙ (agree .samples-agree i few ∙ sym (trace-at part i l))))
 
-  all-same : SameIn (treeIn part) trail (tracesIn part) (tracesIn also)
+  pub all-same : SameIn (treeIn part) trail (tracesIn part) (tracesIn also)
   all-same = map-agree (λ (i : ℕ). getD (tracesIn also) i []) (λ (i : ℕ). getD (tracesIn part) i []) (numbersAmong (treeIn part) trail)
       (λ i read. read-same i (in-is read) (ltb i (traceCount part)) refl)
 
@@ -139,7 +148,7 @@ module _ (lent : Lent) {these other : Tables} {trail : List ℕ} (differ : Diffe
 
   -- no other call answers with a trail
   any-same : (ask : Ask) → Same ask
-  unfolding effectOf opens adds writes reads imports exports checks tellsLabel trailFound treeIn labelsIn
+  unfolding effectOf opens adds writes reads imports exports checks tellsLabel pairs trailFound treeIn labelsIn
   any-same (searching q) fine found =
       let ok = accepted t (none-both (madeConditions t) _ fine .0) in
       let u = also lent ok differ in
@@ -155,6 +164,7 @@ module _ (lent : Lent) {these other : Tables} {trail : List ℕ} (differ : Diffe
   any-same (exporting number rate buffer) fine found = let z : _≡_ {A = ℕ} 0 1 = cc in absurd (omega arith)
   any-same checking fine found = let z : _≡_ {A = ℕ} 0 1 = cc in absurd (omega arith)
   any-same (labelling number) fine found = let z : _≡_ {A = ℕ} 0 1 = cc in absurd (omega arith)
+  any-same (pairing which other query place) fine found = let z : _≡_ {A = ℕ} 0 1 = cc in absurd (omega arith)
 
 -- ---- the law
 

@@ -16,7 +16,8 @@ use Rattle.dstree.specs.Refusals.{Refusal, _refuses_, firstOf, measure, full, b
 use Rattle.dstree.specs.Recording.{judgeRecording, fileTraces, isBadFile}
 use Rattle.dstree.specs.Sheet.{areBytes, Judged, refused, holds}
 use Rattle.dstree.specs.SheetWidths.{judgeSheet}
-use Rattle.dstree.specs.Book.{Ask, opening, adding, searching, writing, reading, importing, exporting, checking, labelling, Call, besideOf}
+use Rattle.dstree.specs.Pair.{pairFront}
+use Rattle.dstree.specs.Book.{Ask, opening, adding, searching, writing, reading, importing, exporting, checking, labelling, pairing, Call, besideOf}
 use Rattle.dstree.specs.Book.{Reply, reply, shortConditions, readingConditions}
 use Rattle.dstree.proofs.Conditions.{none-first, none-both}
 use Rattle.dstree.proofs.RoundTrips.{is-library, are-labels}
@@ -39,7 +40,7 @@ use Rattle.insertion_memory.proofs.Keeps.{TakesAll, keeps-all}
 use Rattle.insertion_memory.proofs.Labels.{labelled-formed, labelled-takes}
 use Rattle.calls.specs.Outcome.{Effect, unlessRefused}
 use Rattle.calls.specs.Library.{loaded, beyond}
-use Rattle.calls.specs.Effects.{opens, adds, cleared, writes, loadedBy, reads, imports, exports, checks, tellsLabel, effectOf}
+use Rattle.calls.specs.Effects.{opens, adds, cleared, writes, loadedBy, reads, imports, exports, checks, tellsLabel, pairs, effectOf}
 use Rattle.calls.specs.Follows.{Typed, Follows}
 use Rattle.calls.specs.Demands.{OneCall}
 use Rattle.tables.proofs.Judged.{accepted}
@@ -182,7 +183,7 @@ module _ (t : Tables) where
       }
 
   pub after-untouched : (ask : Ask) → Typed ask → firstOf (effectOf ask t .conditions) ≡ none → Untouched t (effectOf ask t .after)
-  unfolding effectOf opens adds writes reads imports exports checks tellsLabel Typed
+  unfolding effectOf opens adds writes reads imports exports checks tellsLabel pairs Typed
   after-untouched (opening m) typed e = opening-untouched m e
   after-untouched (adding x l) typed e = adding-untouched x l e
   after-untouched (searching q) typed e = searching-untouched (none-both (madeConditions t) _ e .0)
@@ -193,6 +194,8 @@ module _ (t : Tables) where
   after-untouched (exporting number rate buffer) typed e = read-untouched (none-both (madeConditions t) _ e .0)
   after-untouched checking typed e = read-untouched (none-both (madeConditions t) _ e .0)
   after-untouched (labelling number) typed e = read-untouched (none-both (madeConditions t) _ e .0)
+  after-untouched (pairing which other query trail) typed e =
+      searching-untouched (none-both (madeConditions t) _ (none-both (pairFront which other) _ e .1) .0)
 
 -- ---- the same of a memory whose first places are lent
 

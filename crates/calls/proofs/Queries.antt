@@ -30,7 +30,8 @@ use Rattle.tables.proofs.Beginning.{begins-within, first-begins, first-lent}
 use Rattle.calls.specs.Trusted.{Trusts}
 use Rattle.calls.specs.Effects.{effectOf}
 use Rattle.calls.specs.Follows.{Typed, outcomeIn, Follows}
-use Rattle.calls.specs.Demands.{DifferOutside, trailFound, judgeIn, ByBound, OfAnyQuery}
+use Rattle.calls.specs.Trails.{ByBound, DifferOutside}
+use Rattle.calls.specs.Demands.{trailFound, judgeIn, OfAnyQuery}
 use Rattle.calls.proofs.Trails.{list-by-bound, search-by-bound, match-trail}
 use Rattle.calls.proofs.Searches.{laws}
 use Rattle.calls.proofs.Trusted.{count-in, exact-tree, part-trusts, part-tree, fine-room}

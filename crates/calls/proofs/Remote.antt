@@ -15,7 +15,7 @@ use Rattle.dstree.specs.Measures.{Trace}
 use Rattle.dstree.specs.Labels.{label, labelPlace, labelAt}
 use Rattle.dstree.specs.Matching.{Match, searched}
 use Rattle.dstree.specs.Refusals.{Refusal, firstOf}
-use Rattle.dstree.specs.Book.{Lent, Sought, Ask, opening, adding, searching, writing, reading, importing, exporting, checking, labelling}
+use Rattle.dstree.specs.Book.{Lent, Sought, Ask, opening, adding, searching, writing, reading, importing, exporting, checking, labelling, pairing}
 use Rattle.dstree.specs.Book.{matching, remoteMatching, Call, call, besideOf, matched, remoteMatched, answering, Reply, reply}
 use Rattle.dstree.specs.Book.{AnySearch, matchSeen, searchOf}
 use Rattle.dstree.specs.Remote.{codesOf, isRemote}
@@ -265,6 +265,7 @@ one-sees (importing bytes) lent is f g a = absurd is
 one-sees (exporting number rate buffer) lent is f g a = absurd is
 one-sees checking lent is f g a = absurd is
 one-sees (labelling number) lent is f g a = absurd is
+one-sees (pairing which o query trail) lent is f g a = absurd is
 
 pub sees-no-serials : RemoteSeesNoSerials
 unfolding every

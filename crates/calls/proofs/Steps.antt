@@ -7,7 +7,7 @@ use mathlib.Core.List.{List, [], _∷_}
 use native.Mathlib.Omega.{arith}
 use Rattle.dstree.specs.Measures.{measures}
 use Rattle.dstree.specs.Refusals.{Refusal, firstOf}
-use Rattle.dstree.specs.Book.{Lent, Ask, opening, adding, searching, writing, reading, importing, exporting, checking, labelling}
+use Rattle.dstree.specs.Book.{Lent, Ask, opening, adding, searching, writing, reading, importing, exporting, checking, labelling, pairing}
 use Rattle.dstree.specs.Book.{Call, call, besideOf, done, answering, searchOf}
 use Rattle.dstree.specs.Book.{Book, book, Entry, openingEntry, readingEntry, entryOf, judge, putUnless, turn, after, replyUnless, start}
 use Rattle.dstree.specs.Book.{Reply, reply, replyOf, repliesOf}
@@ -19,7 +19,7 @@ use Rattle.tables.specs.Beginning.{firstPlaces, left, Begins}
 use Rattle.tables.proofs.Beginning.{left-same, first-begins}
 use Rattle.calls.specs.Outcome.{Effect, Outcome, unlessRefused, outcomeOf}
 use Rattle.calls.specs.Library.{Keeps}
-use Rattle.calls.specs.Effects.{adds, searches, writes, imports, exports, checks, tellsLabel, effectOf, outcomeOn}
+use Rattle.calls.specs.Effects.{adds, searches, writes, imports, exports, checks, tellsLabel, pairs, effectOf, outcomeOn}
 use Rattle.calls.specs.Demands.{trailFound}
 use Rattle.calls.specs.Follows.{Typed, Follows, Ran, no-call, a-call}
 use Rattle.calls.proofs.Searches.{laws}
@@ -87,7 +87,7 @@ module _ (memory part : Tables) (lent : Lent) where
 
   started-by : (ask : Ask) → Typed ask → outcomeOn ask part .answer ≡ answering done
       → Keeps (left (outcomeOn ask part .after) memory) (start layout (call lent ask))
-  unfolding outcomeOn effectOf besideOf entryOf start openingEntry readingEntry adds writes imports exports checks tellsLabel Typed trailFound
+  unfolding outcomeOn effectOf besideOf entryOf start openingEntry readingEntry adds writes imports exports checks tellsLabel pairs Typed trailFound
   started-by (opening m) typed d = start-by memory part noBook [] (opening-agrees memory part noBook m) d
   started-by (adding x l) typed d = absurd (not-done _ part [] (adds part x l) (λ e r. let z : _≡_ {A = ℕ} 0 1 = cc in omega arith) d)
   started-by (searching q) typed d = absurd (not-done _ part _ (searches part (searchOf q))
@@ -101,6 +101,9 @@ module _ (memory part : Tables) (lent : Lent) where
       (λ e r. let z : _≡_ {A = ℕ} 0 1 = cc in omega arith) d)
   started-by checking typed d = absurd (not-done _ part [] (checks part) (λ e r. let z : _≡_ {A = ℕ} 0 1 = cc in omega arith) d)
   started-by (labelling number) typed d = absurd (not-done _ part [] (tellsLabel part number)
+      (λ e r. let z : _≡_ {A = ℕ} 0 1 = cc in omega arith) d)
+  started-by (pairing which other query trail) typed d =
+      absurd (not-done _ part (trail ∷ other .trail ∷ other .work ∷ []) (pairs part which other query trail)
       (λ e r. let z : _≡_ {A = ℕ} 0 1 = cc in omega arith) d)
 
 pub started : {c : Call} {memory memory′ : Tables} {said : Reply} → Follows c memory said memory′ → said .answer ≡ answering done

@@ -5,7 +5,7 @@ use mathlib.Core.Bool.{Bool, true, false}
 use mathlib.Core.Option.{Option, none, some}
 use mathlib.Core.List.{List, [], _∷_, _++_, map, append-assoc, append-nil}
 use native.Mathlib.Omega.{arith}
-use lib.ListN.{take}
+use lib.ListN.{length, take}
 use Rattle.integer.specs.Words.{if_then_else_}
 use Rattle.integer.specs.Lists.{In, first, later}
 use Rattle.integer.specs.Sorting.{sortedBy, pouredBy, Ordered, ordered-none}
@@ -17,7 +17,7 @@ use Rattle.dstree.specs.KNearest.{Listing, readInto, stopsAtKth, listed}
 use Rattle.dstree.proofs.Ranks.{linear}
 use Rattle.dstree.proofs.Reading.{reading-of}
 use Rattle.dstree.proofs.KSteps.{one-searched}
-use Rattle.calls.specs.Demands.{ByBound}
+use Rattle.calls.specs.Trails.{ByBound}
 
 -- ---- the order of reading
 
@@ -86,6 +86,10 @@ module _ (tree : Tree) (query : Trace) where
   first-by-bound many = subst (Ordered before)
       (sym (with-own (take many (readingOrder tree query)) (λ a i. from-take many (readingOrder tree query) i)))
       (take-ordered before-linear many reading-ordered)
+
+  -- a trail that is the first leaves of the order of reading
+  pub beginning-by-bound : {trail : List ℕ} → trail ≡ numbers (take (length trail) (readingOrder tree query)) → ByBound tree query trail
+  beginning-by-bound {trail} e = subst (ByBound tree query) (sym e) (first-by-bound (length trail))
 
   pub list-by-bound : (k : ℕ) (stored : List Trace) → ByBound tree query (listed k stored tree query .trail)
   unfolding listed readInto

@@ -10,9 +10,9 @@ use Rattle.dstree.specs.Adding.{insertion, grown, treeOf}
 use Rattle.dstree.specs.Refusals.{Refusal}
 use Rattle.dstree.specs.Examples.{level, C}
 use Rattle.dstree.specs.Recording.{judgeRecording, fileTraces}
-use Rattle.dstree.specs.Book.{Lent, Ask, opening, adding, searching, writing, reading, importing, exporting, checking, labelling}
+use Rattle.dstree.specs.Book.{Lent, Ask, opening, adding, searching, writing, reading, importing, exporting, checking, labelling, pairing}
 use Rattle.dstree.specs.Book.{Call, call, Book, book, bookTree, openingEntry, addingEntry, writingEntry, readingEntry, importingEntry, exportingEntry}
-use Rattle.dstree.specs.Book.{checkingEntry, labellingEntry, entryOf, judge, putUnless, turn, after}
+use Rattle.dstree.specs.Book.{checkingEntry, labellingEntry, pairingEntry, entryOf, judge, putUnless, turn, after}
 use Rattle.dstree.proofs.Everything.{everything}
 use Rattle.tables.specs.Layout.{layout}
 use Rattle.calls.specs.Trusted.{treePut, treeUnless, treeAfter}
@@ -28,7 +28,7 @@ grown-on m stored tree (x ∷ more) others =
     ∙ grown-on m (stored ++ (x ∷ [])) (insertion m stored tree x) more others
 
 put-own : (lent : Lent) (b : Book) (ask : Ask) → treePut b (bookTree b) ask ≡ bookTree (entryOf layout lent b ask .puts)
-unfolding treePut entryOf grown openingEntry addingEntry writingEntry readingEntry importingEntry exportingEntry checkingEntry labellingEntry
+unfolding treePut entryOf grown openingEntry addingEntry writingEntry readingEntry importingEntry exportingEntry checkingEntry labellingEntry pairingEntry
 put-own lent b (opening m) = refl
 put-own lent b (adding x l) = grown-on (b .measures) [] [] (b .traces) (x ∷ [])
 put-own lent b (searching q) = refl
@@ -38,6 +38,7 @@ put-own lent b (importing bytes) = grown-on (b .measures) [] [] (b .traces) (fil
 put-own lent b (exporting number rate buffer) = refl
 put-own lent b checking = refl
 put-own lent b (labelling number) = refl
+put-own lent b (pairing which other query trail) = refl
 
 turn-own : (b : Book) (c : Call) (o : Option Refusal)
     → treeUnless o (bookTree b) (treePut b (bookTree b) (c .ask)) ≡ bookTree (putUnless o b (entryOf layout (c .lent) b (c .ask)))

@@ -20,18 +20,19 @@ use Rattle.dstree.specs.Measures.{Trace, Measures, sampleLimit, isTrace, isLibr
 use Rattle.dstree.specs.Labels.{Label, noLabel, isLabel}
 use Rattle.dstree.specs.Node.{Tree}
 use Rattle.dstree.specs.Adding.{insertion, grown}
+use Rattle.dstree.specs.Pair.{Indexed, indexed, Which, Other, pairFront, pairRest}
 use Rattle.dstree.specs.Refusals.{Refusal, Condition, _refuses_, firstOf, full, badRecording, looseRecord, numberOf}
 use Rattle.dstree.specs.Claims.{RangesOf}
 use Rattle.dstree.specs.Checking.{isExact}
 use Rattle.dstree.specs.WellFormed as abstract
 use Rattle.dstree.specs.Recording.{Recording, judgeRecording, fileTraces, isBadFile}
 use Rattle.dstree.specs.Sheet.{areBytes}
-use Rattle.dstree.specs.Book.{Lent, Ask, opening, adding, searching, writing, reading, importing, exporting, checking, labelling, Call, call}
-use Rattle.dstree.specs.Book.{besideOf, accepted, refusing, answering, Reply, Book, book, bookTree, Entry, shortConditions, addConditions}
+use Rattle.dstree.specs.Book.{Lent, Ask, opening, adding, searching, writing, reading, importing, exporting, checking, labelling, pairing}
+use Rattle.dstree.specs.Book.{Call, call, besideOf, accepted, refusing, answering, Reply, Book, book, bookTree, Entry, shortConditions, addConditions}
 use Rattle.dstree.specs.Book.{importConditions, openingEntry, addingEntry, writingEntry, readingEntry, importingEntry, exportingEntry}
-use Rattle.dstree.specs.Book.{checkingEntry, labellingEntry, entryOf, judge}
+use Rattle.dstree.specs.Book.{checkingEntry, labellingEntry, pairingEntry, entryOf, judge}
 use Rattle.dstree.specs.Book.{putUnless, turn, after}
-use Rattle.dstree.proofs.Conditions.{none-first, none-both, first-some, first-none}
+use Rattle.dstree.proofs.Conditions.{none-first, none-both, first-some, first-none, first-either}
 use Rattle.dstree.specs.Remote.{codesOf}
 use Rattle.dstree.proofs.Recordings.{file-traces}
 use Rattle.dstree.proofs.SheetLabels.{LabelFits, fits-of, Labels, labels-of}
@@ -53,8 +54,8 @@ use Rattle.insertion_memory.proofs.Keeps.{keeps-well-formed}
 use Rattle.insertion_memory.proofs.Labels.{labelled-formed, labelled-traces, labelled-tree, with-others}
 use Rattle.calls.specs.Outcome.{Effect, unlessRefused}
 use Rattle.calls.specs.Trusted.{bookIn, Trusts, treePut, treeUnless, treeAfter}
-use Rattle.calls.specs.Effects.{opens, adds, cleared, writes, reads, imports, exports, checks, tellsLabel, effectOf}
-use Rattle.calls.specs.Demands.{trailFound}
+use Rattle.calls.specs.Effects.{opens, adds, cleared, writes, reads, imports, exports, checks, tellsLabel, otherIn, pairs, effectOf}
+use Rattle.calls.specs.Demands.{trailFound, Said, said-first, said-later, FromOther}
 use Rattle.calls.specs.Follows.{Typed, Follows, Ran, no-call, a-call}
 use Rattle.calls.proofs.Kept.{kept-holds}
 use Rattle.calls.proofs.Taken.{taken}
@@ -65,7 +66,7 @@ use Rattle.calls.proofs.Agrees.{Agrees, opening-agrees, reading-agrees,
 use Rattle.calls.proofs.Steps.{reply-is, memory-is}
 use Rattle.calls.proofs.OfArguments.{ifAny, first-any, ofArguments, other, first-other}
 use Rattle.calls.proofs.Searches.{laws}
-use Rattle.calls.proofs.NeverSpoiled.{entry-other}
+use Rattle.calls.proofs.NeverSpoiled.{opening-other, reading-other, front-from, rest-from, none-said, said-cases}
 use Rattle.calls.proofs.OffTrail.{answered}
 
 -- a memory that the check would accept, and its tree
@@ -175,18 +176,24 @@ all-trust (x ∷ more) (l ∷ others) {t} {b} k each room e (all-more f fs) =
 
 -- ---- one call
 
--- what an effect leaves of a memory that the check would accept, beside what the book puts, and the tree that is put
-record Leads (memory : Tables) (b : Book) (e : Effect) (n : Entry) (put : Tree) : Type 0 where
+-- what an effect leaves of a memory that the check would accept, beside what the book puts, and the tree that is put. A refusal for what
+-- tables hold comes `From` elsewhere
+record Leads (memory : Tables) (b : Book) (e : Effect) (n : Entry) (put : Tree) (From : Refusal → Type 0) : Type 0 where
   -- refused or not, the book has the same after it. (A short trail is judged by the leaves of the tables' own tree, and puts nothing)
   puts-same : putUnless (firstOf (n .conditions)) b n ≡ putUnless (firstOf (e .conditions)) b n
   tree-same : treeUnless (firstOf (n .conditions)) (treeIn memory) put ≡ treeUnless (firstOf (e .conditions)) (treeIn memory) put
   trusts : firstOf (e .conditions) ≡ none → TrustsTree (left (e .after) memory) (n .puts) put
-  by-arguments : T (ifAny ofArguments (firstOf (e .conditions)))
+  by-arguments : (w : Refusal) → (T (ofArguments w) → ⊥) → firstOf (e .conditions) ≡ some w → From w
+
+-- there is no such refusal
+no-from : (From : Refusal → Type 0) (o : Option Refusal) → T (ifAny ofArguments o) → (w : Refusal) → (T (ofArguments w) → ⊥) → o ≡ some w → From w
+unfolding ifAny
+no-from From o t w is-not e = absurd (is-not (subst (λ (x : Option Refusal). T (ifAny ofArguments x)) e t))
 
 -- what agrees with a library that calls made: an opening, a reading
-of-agrees : {memory : Tables} {b : Book} {e : Effect} {n : Entry} → Agrees memory e n → T (every other (n .conditions))
-    → Leads memory b e n (bookTree (n .puts))
-of-agrees {memory} {b} {n = n} a all = record {
+of-agrees : {memory : Tables} {b : Book} {e : Effect} {n : Entry} {From : Refusal → Type 0} → Agrees memory e n
+    → T (every other (n .conditions)) → Leads memory b e n (bookTree (n .puts)) From
+of-agrees {memory} {b} {e} {n} {From} a all = record {
   puts-same = ap (λ (o : Option Refusal). putUnless o b n) (sym (a .judged));
   tree-same = ap (λ (o : Option Refusal). treeUnless o (treeIn memory) (bookTree (n .puts))) (sym (a .judged));
   trusts = λ f. let k = a .puts (sym (a .judged) ∙ f) in
@@ -194,7 +201,8 @@ of-agrees {memory} {b} {n = n} a all = record {
         trusts = kept-trusts k;
         tree-is = kept-holds k .tree-is;
       };
-  by-arguments = subst (λ (o : Option Refusal). T (ifAny ofArguments o)) (sym (a .judged)) (first-other (n .conditions) all);
+  by-arguments = no-from From (firstOf (e .conditions))
+      (subst (λ (o : Option Refusal). T (ifAny ofArguments o)) (sym (a .judged)) (first-other (n .conditions) all));
 }
 
 -- what puts nothing
@@ -247,36 +255,36 @@ module _ (memory part : Tables) (begins : Begins part memory) (b : Book) (k : Tr
       }
 
   -- an effect whose own conditions are `rest`
-  search-leads : (rest : List Condition) (e : Effect) (n : Entry) → e .conditions ≡ madeConditions part ++ rest → n .puts ≡ b
-      → e .after ≡ cleared part → T (every other (shortConditions layout (lentOf part) (b .measures) ++ rest))
-      → Leads memory b e n (treeIn memory)
-  search-leads rest e n c p l all = record {
+  search-leads : {From : Refusal → Type 0} (rest : List Condition) (e : Effect) (n : Entry) → e .conditions ≡ madeConditions part ++ rest
+      → n .puts ≡ b → e .after ≡ cleared part → T (every other (shortConditions layout (lentOf part) (b .measures) ++ rest))
+      → Leads memory b e n (treeIn memory) From
+  search-leads {From} rest e n c p l all = record {
     puts-same = put-stays _ b n p ∙ sym (put-stays _ b n p);
     tree-same = tree-stays _ (treeIn memory) ∙ sym (tree-stays _ (treeIn memory));
     trusts = λ f. rw (l, p) (left-trusts (cleared-trusts (lent-trusts rest (ap firstOf (sym c) ∙ f))));
-    by-arguments = rw c (by-own rest all);
+    by-arguments = no-from From (firstOf (e .conditions)) (rw c (by-own rest all));
   }
 
-  staying : (e : Effect) (n : Entry) → n .puts ≡ b → e .after ≡ part → T (ifAny ofArguments (firstOf (e .conditions)))
-      → Leads memory b e n (treeIn memory)
-  staying e n p l args = record {
+  staying : {From : Refusal → Type 0} (e : Effect) (n : Entry) → n .puts ≡ b → e .after ≡ part
+      → T (ifAny ofArguments (firstOf (e .conditions))) → Leads memory b e n (treeIn memory) From
+  staying {From} e n p l args = record {
     puts-same = put-stays _ b n p ∙ sym (put-stays _ b n p);
     tree-same = tree-stays _ (treeIn memory) ∙ sym (tree-stays _ (treeIn memory));
     trusts = λ f. rw (l, p, left-same part memory begins) (record { trusts = k; tree-is = refl });
-    by-arguments = args;
+    by-arguments = no-from From (firstOf (e .conditions)) args;
   }
 
   abbrev m : Measures
   m = b .measures
 
-  adding-leads : (x : Trace) (l : Label) → T (isLabel l)
-      → Leads memory b (adds part x l) (addingEntry layout (lentOf part) b x l) (insertion m (b .traces) (treeIn memory) x)
+  adding-leads : {From : Refusal → Type 0} (x : Trace) (l : Label) → T (isLabel l)
+      → Leads memory b (adds part x l) (addingEntry layout (lentOf part) b x l) (insertion m (b .traces) (treeIn memory) x) From
   unfolding adds addingEntry isLibrary every ofArguments numberOf
-  adding-leads x l is-label = record {
+  adding-leads {From} x l is-label = record {
     puts-same = ap (λ (o : Option Refusal). putUnless o b (addingEntry layout (lentOf part) b x l)) (sym judged);
     tree-same = ap (λ (o : Option Refusal). treeUnless o (treeIn memory) (insertion m (b .traces) (treeIn memory) x)) (sym judged);
     trusts = λ f. left-trusts (added f);
-    by-arguments = by-own _ tt;
+    by-arguments = no-from From (firstOf (adds part x l .conditions)) (by-own _ tt);
   }
     where
       rest : List Condition
@@ -299,15 +307,15 @@ module _ (memory part : Tables) (begins : Begins part memory) (b : Book) (k : Tr
           subst Grew (t .tree-is)
           (add-trusts (t .trusts) x l (own .is-trace) (fits-of l is-label) (own .less (library-of sampleLimit m (b .traces) (k .library) .room)))
 
-  importing-leads : (bytes : List ℕ) → T (areBytes bytes)
+  importing-leads : {From : Refusal → Type 0} (bytes : List ℕ) → T (areBytes bytes)
       → Leads memory b (imports part bytes) (importingEntry layout (lentOf part) b bytes)
-      (grown m (b .traces) (treeIn memory) (fileTraces (judgeRecording (m .n) bytes)))
+      (grown m (b .traces) (treeIn memory) (fileTraces (judgeRecording (m .n) bytes))) From
   unfolding imports importingEntry every ofArguments numberOf
-  importing-leads bytes typed = record {
+  importing-leads {From} bytes typed = record {
     puts-same = ap (λ (o : Option Refusal). putUnless o b (importingEntry layout (lentOf part) b bytes)) (sym judged);
     tree-same = ap (λ (o : Option Refusal). treeUnless o (treeIn memory) (grown m (b .traces) (treeIn memory) (fileTraces file))) (sym judged);
     trusts = λ f. left-trusts (added f);
-    by-arguments = by-own _ tt;
+    by-arguments = no-from From (firstOf (imports part bytes .conditions)) (by-own _ tt);
   }
     where
       file : Option Recording
@@ -340,55 +348,89 @@ module _ (memory part : Tables) (begins : Begins part memory) (b : Book) (k : Tr
           (all-trust (fileTraces file) (replicate (length (fileTraces file)) noLabel) (t .trusts) (file-traces (m .n) bytes typed)
           (ltb-false (m .capacity) (length (b .traces) + length (fileTraces file)) (two .0)) (zeros .each-one) (zeros .all-fit)))
 
+  -- document 02, §11: a refusal for what tables hold is one for the other library's
+  pairing-leads : (which : Which) (o : Other) (query : Trace) (trail : List ℕ)
+      → Leads memory b (pairs part which o query trail) (pairingEntry layout (lentOf part) b which o query trail) (treeIn memory)
+      (λ w. firstOf (o .conditions) ≡ some w)
+  unfolding pairs pairingEntry every ofArguments numberOf
+  pairing-leads which o query trail = record {
+    puts-same = put-stays _ b entry refl ∙ sym (put-stays _ b entry refl);
+    tree-same = tree-stays _ (treeIn memory) ∙ sym (tree-stays _ (treeIn memory));
+    trusts = λ f. left-trusts (cleared-trusts (lent-trusts rest (none-both (pairFront which o) _ f .1)));
+    by-arguments = λ w is-not e. from w is-not (first-either (pairFront which o) (madeConditions part ++ rest) w e);
+  }
+    where
+      entry : Entry
+      entry = pairingEntry layout (lentOf part) b which o query trail
+
+      own : Indexed
+      own = indexed (tracesIn part) (treeIn part)
+
+      rest : List Condition
+      rest = pairRest which (measuresOf part .n) own o query trail
+
+      short : List Condition
+      short = shortConditions layout (lentOf part) m
+
+      behind : (w : Refusal) → (T (ofArguments w) → ⊥) → (firstOf short ≡ some w) ⊎ (firstOf rest ≡ some w) → firstOf (o .conditions) ≡ some w
+      behind w is-not (inl q) = no-from (λ (v : Refusal). firstOf (o .conditions) ≡ some v) (firstOf short) (first-other short tt) w is-not q
+      behind w is-not (inr q) = rest-from w is-not which (measuresOf part .n) own o query trail q
+
+      from : (w : Refusal) → (T (ofArguments w) → ⊥)
+          → (firstOf (pairFront which o) ≡ some w) ⊎ (firstOf (madeConditions part ++ rest) ≡ some w) → firstOf (o .conditions) ≡ some w
+      from w is-not (inl q) = front-from w is-not which o q
+      from w is-not (inr q) = behind w is-not (first-either short rest w (sym (trusted-same k begins rest rest (λ t. refl)) ∙ q))
+
   leads : (ask : Ask) → Typed ask
-      → Leads memory b (effectOf ask part) (entryOf layout (lentOf part) b ask) (treePut b (treeIn memory) ask)
+      → Leads memory b (effectOf ask part) (entryOf layout (lentOf part) b ask) (treePut b (treeIn memory) ask) (λ w. FromOther w ask)
   unfolding effectOf entryOf Typed writes exports checks tellsLabel openingEntry readingEntry writingEntry exportingEntry checkingEntry labellingEntry
-      every ofArguments numberOf treePut grown
-  leads (opening x) typed = of-agrees (opening-agrees memory part b x) (entry-other layout (lentOf part) b (opening x))
+      every ofArguments numberOf treePut grown FromOther
+  leads (opening x) typed = of-agrees (opening-agrees memory part b x) (opening-other layout (lentOf part) b x)
   leads (adding x l) typed = adding-leads x l typed
   leads (searching q) typed = search-leads _ _ _ refl refl refl (laws q .by-arguments (measuresOf part) (traceCount part) (treeIn part))
   leads (writing sheet) typed = staying _ _ refl refl (by-own _ tt)
-  leads (reading bytes) typed = of-agrees (reading-agrees memory part b bytes typed) (entry-other layout (lentOf part) b (reading bytes))
+  leads (reading bytes) typed = of-agrees (reading-agrees memory part b bytes typed) (reading-other layout (lentOf part) b bytes)
   leads (importing bytes) typed = importing-leads bytes typed
   leads (exporting number rate buffer) typed = staying _ _ refl refl (by-own _ tt)
   leads checking typed = staying _ _ refl refl
       (subst (λ (o : Option Refusal). T (ifAny ofArguments o)) (sym (accepted-same k begins))
       (first-other (shortConditions layout (lentOf part) m) tt))
   leads (labelling number) typed = staying _ _ refl refl (by-own _ tt)
+  leads (pairing which o query trail) typed = pairing-leads which o query trail
 
 -- ---- the step
 
 -- what is said is no refusal for what the tables hold
-abbrev pub NotOfTables : Reply → Type 0
-NotOfTables said = (w : Refusal) → (T (ofArguments w) → ⊥) → said .answer ≡ refusing w → ⊥
+abbrev pub NotOfTables : Ask → Reply → Type 0
+NotOfTables ask said = (w : Refusal) → (T (ofArguments w) → ⊥) → said .answer ≡ refusing w → FromOther w ask
 
-module _ {memory : Tables} {b : Book} {e : Effect} {n : Entry} {put : Tree} (l : Leads memory b e n put) (part : Tables)
-    (begins : Begins part memory) (beside : List (List ℕ)) where
+module _ {memory : Tables} {b : Book} {e : Effect} {n : Entry} {put : Tree} {From : Refusal → Type 0} (l : Leads memory b e n put From)
+    (part : Tables) (begins : Begins part memory) (beside : List (List ℕ)) where
   leads-by : Trusts memory b → (o : Option Refusal) → firstOf (e .conditions) ≡ o
       → TrustsTree (left (unlessRefused o part beside e .after) memory) (putUnless o b n) (treeUnless o (treeIn memory) put)
   unfolding unlessRefused putUnless treeUnless
   leads-by k (some why) q = rw (left-same part memory begins) (record { trusts = k; tree-is = refl })
   leads-by k none q = l .trusts q
 
-  says-by : (o : Option Refusal) → T (ifAny ofArguments o) → (w : Refusal) → (T (ofArguments w) → ⊥)
-      → unlessRefused o part beside e .answer ≡ refusing w → ⊥
-  unfolding unlessRefused ifAny
-  says-by (some why) t w never q = let same : why ≡ w = cc in never (subst (λ (r : Refusal). T (ofArguments r)) same t)
-  says-by none t w never q = let z : _≡_ {A = ℕ} 0 1 = cc in absurd (omega arith)
+  says-by : (o : Option Refusal) → firstOf (e .conditions) ≡ o → (w : Refusal) → (T (ofArguments w) → ⊥)
+      → unlessRefused o part beside e .answer ≡ refusing w → From w
+  unfolding unlessRefused
+  says-by (some why) p w is-not q = let same : why ≡ w = cc in l .by-arguments w is-not (p ∙ ap some same)
+  says-by none p w is-not q = let z : _≡_ {A = ℕ} 0 1 = cc in absurd (omega arith)
 
 pub trusting : {c : Call} {memory memory′ : Tables} {said : Reply} {b : Book} → Follows c memory said memory′ → Trusts memory b
     → TrustsTree memory′ (turn layout b c) (treeUnless (judge layout b c) (treeIn memory) (treePut b (treeIn memory) (c .ask)))
-    × NotOfTables said
+    × NotOfTables (c .ask) said
 unfolding turn judge
 trusting {c} {memory} {memory′} {said} {b} f k =
     let part = firstPlaces (c .lent) memory in
     let begins = first-begins (c .lent) memory in
     let put : Tree = treePut b (treeIn memory) (c .ask) in
-    let l : Leads memory b (effectOf (c .ask) part) (entryOf layout (c .lent) b (c .ask)) put =
-    subst (λ (l : Lent). Leads memory b (effectOf (c .ask) part) (entryOf layout l b (c .ask)) put) (f .has-places)
+    let l : Leads memory b (effectOf (c .ask) part) (entryOf layout (c .lent) b (c .ask)) put (λ w. FromOther w (c .ask)) =
+    subst (λ (l : Lent). Leads memory b (effectOf (c .ask) part) (entryOf layout l b (c .ask)) put (λ w. FromOther w (c .ask))) (f .has-places)
     (leads memory part begins b k (c .ask) (f .typed)) in (
       rw (memory-is f, l .puts-same, l .tree-same) (leads-by l part begins (besideOf (c .ask)) k (firstOf (effectOf (c .ask) part .conditions)) refl),
-      λ w never q. says-by l part begins (besideOf (c .ask)) (firstOf (effectOf (c .ask) part .conditions)) (l .by-arguments) w never
+      λ w is-not q. says-by l part begins (besideOf (c .ask)) (firstOf (effectOf (c .ask) part .conditions)) refl w is-not
           (sym (ap (λ (r : Reply). r .answer) (reply-is f)) ∙ q),
     )
 
@@ -396,24 +438,23 @@ trusting {c} {memory} {memory′} {said} {b} f k =
 
 pub all-trusting : {b : Book} {memory memory′ : Tables} {calls : List Call} {said : List Reply} → Trusts memory b
     → Ran memory calls said memory′
-    → TrustsTree memory′ (after layout b calls) (treeAfter layout b (treeIn memory) calls) × ((r : Reply) → In r said → NotOfTables r)
+    → TrustsTree memory′ (after layout b calls) (treeAfter layout b (treeIn memory) calls)
+    × ((c : Call) (r : Reply) → Said c r calls said → NotOfTables (c .ask) r)
 unfolding after treeAfter
-all-trusting k no-call = (record { trusts = k; tree-is = refl }, λ r i. absurd (in-nil i))
-all-trusting {b} {memory} {memory′} k (a-call {c = c} {said = said} {rest = calls} {others = others} f rest) =
+all-trusting k no-call = (record { trusts = k; tree-is = refl }, λ c r i. absurd (none-said i))
+all-trusting {b} {memory} {memory′} k (a-call {c = c} {rest = calls} f rest) =
     let s = trusting f k in
     let t = all-trusting (s .0 .trusts) rest in
-    let b₁ : Book = turn layout b c in
-    (subst (λ (tree : Tree). TrustsTree memory′ (after layout b₁ calls) (treeAfter layout b₁ tree calls)) (s .0 .tree-is) (t .0), λ r i. by r (in-cons i) (s .1) (t .1 r))
-  where
-    by : (r : Reply) → (r ≡ said) ⊎ In r others → NotOfTables said → (In r others → NotOfTables r) → NotOfTables r
-    by r (inl e) one rest = rw e one
-    by r (inr i) one rest = rest i
+    let b₁ : Book = turn layout b c in (
+      subst (λ (tree : Tree). TrustsTree memory′ (after layout b₁ calls) (treeAfter layout b₁ tree calls)) (s .0 .tree-is) (t .0),
+      λ c r i. said-cases (λ (c : Call) (r : Reply). NotOfTables (c .ask) r) (s .1) (t .1) i,
+    )
 
 -- ---- the first call
 
 -- only a check answers `accepted`
 only-check : (ask : Ask) (t : Tables) → effectOf ask t .result ≡ accepted → ask ≡ checking
-unfolding effectOf opens adds writes reads imports exports checks tellsLabel trailFound
+unfolding effectOf opens adds writes reads imports exports checks tellsLabel pairs trailFound
 only-check (opening m) t e = let z : _≡_ {A = ℕ} 0 1 = cc in absurd (omega arith)
 only-check (adding x l) t e = let z : _≡_ {A = ℕ} 0 1 = cc in absurd (omega arith)
 only-check (searching q) t e = absurd (laws q .has-trail (measuresOf t) (tracesIn t) (codesOf (labelsIn t)) (treeIn t) (ap trailFound e))
@@ -423,6 +464,7 @@ only-check (importing bytes) t e = let z : _≡_ {A = ℕ} 0 1 = cc in absurd (o
 only-check (exporting number rate buffer) t e = let z : _≡_ {A = ℕ} 0 1 = cc in absurd (omega arith)
 only-check checking t e = refl
 only-check (labelling number) t e = let z : _≡_ {A = ℕ} 0 1 = cc in absurd (omega arith)
+only-check (pairing which o query trail) t e = let z : _≡_ {A = ℕ} 0 1 = cc in absurd (omega arith)
 
 module _ {lent : Lent} {memory memory′ : Tables} {said : Reply} (f : Follows (call lent checking) memory said memory′) where
   abbrev lentPart : Tables
@@ -469,6 +511,34 @@ below-13 r = ltb (numberOf r) 13
 made-below : (t : Tables) → T (ifAny below-13 (firstOf (madeConditions t)))
 unfolding madeConditions lentConditionsOf every below-13 numberOf
 made-below t = first-any below-13 (madeConditions t) tt
+
+-- another library is not refused with it
+no-other : (ask : Ask) → Typed ask → FromOther looseRecord ask → ⊥
+unfolding Typed FromOther otherIn ifAny below-13 numberOf
+no-other (pairing which o query trail) typed e =
+    let made : firstOf (madeConditions (typed .of)) ≡ some looseRecord = sym (ap (λ (x : Other). firstOf (x .conditions)) (typed .is)) ∙ e in
+    subst (λ (x : Option Refusal). T (ifAny below-13 x)) made (made-below (typed .of))
+no-other (opening m) typed e = e
+no-other (adding x l) typed e = e
+no-other (searching q) typed e = e
+no-other (writing sheet) typed e = e
+no-other (reading bytes) typed e = e
+no-other (importing bytes) typed e = e
+no-other (exporting number rate buffer) typed e = e
+no-other checking typed e = e
+no-other (labelling number) typed e = e
+
+-- so no call of a list is, where such a refusal could only come from another library
+pub no-loose : {memory memory′ : Tables} {calls : List Call} {said : List Reply} → Ran memory calls said memory′
+    → ((c : Call) (r : Reply) → Said c r calls said → r .answer ≡ refusing looseRecord → FromOther looseRecord (c .ask))
+    → (r : Reply) → In r said → r .answer ≡ refusing looseRecord → ⊥
+no-loose no-call from r i = absurd (in-nil i)
+no-loose (a-call {c = c} {said = said} {others = others} f rest) from r i =
+    by (in-cons i) (no-loose rest (λ d s j. from d s (said-later j)) r)
+  where
+    by : (r ≡ said) ⊎ In r others → (In r others → r .answer ≡ refusing looseRecord → ⊥) → r .answer ≡ refusing looseRecord → ⊥
+    by (inl e) onward q = no-other (c .ask) (f .typed) (from c said said-first (sym (ap (λ (x : Reply). x .answer) e) ∙ q))
+    by (inr j) onward q = onward j q
 
 -- so where it is found, nothing before it was
 last-holds : (t : Tables) (loose : Bool) → firstOf (madeConditions t ++ loose refuses looseRecord ∷ []) ≡ some looseRecord

@@ -1,24 +1,22 @@
 -- The three demands, of calls that follow their definitions: demand 1 of every call on every memory; demand 2 and document 01's "Demand 3,
 -- over a list of calls", a field for each sentence, of what a list of calls leaves; and document 02's claims of the calls that it adds.
 -- `proofs/Demands` proves them.
-use Prim.Native.Nat.{ℕ, _+_, _*_, _≤_, _<_}
+use Prim.Native.Nat.{ℕ, _*_, _≤_, _<_}
 use mathlib.Core.Path.{_≡_}
 use mathlib.Core.Bool.{true, not}
 use mathlib.Core.Option.{Option, none, some}
 use mathlib.Core.List.{List, [], _∷_, _++_, map}
-use lib.ListN.{length, getD, set, take}
-use lib.IntN.{ℤ}
+use lib.ListN.{length, getD, take}
 use lib.Dec.{T}
 use Rattle.integer.specs.Words.{every, isIn, counting}
 use Rattle.integer.specs.Lists.{In, Up}
-use Rattle.integer.specs.Sorting.{Ordered}
 use Rattle.segment.specs.Figures.{distance}
 use Rattle.segment.specs.Stored.{samplesOf}
 use Rattle.dstree.specs.Measures.{Trace, Measures, sampleLimit, areSamples}
 use Rattle.dstree.specs.Labels.{Label, noLabel, labelAt}
 use Rattle.dstree.specs.Node.{Tree}
 use Rattle.dstree.specs.Adding.{insertion}
-use Rattle.dstree.specs.Matching.{bound, before, leaves, leastDistance, Near, Match, matchBySteps, matchOf}
+use Rattle.dstree.specs.Matching.{bound, leaves, leastDistance, Near, Match, matchBySteps, matchOf}
 use Rattle.dstree.specs.KNearest.{isK, ranking, listPlaces, KNearest, kNearestBySteps, kNearestOf, distancesAmong, ListClaims}
 use Rattle.dstree.specs.KNearest.{KNearestClaims, OneIsMatch}
 use Rattle.dstree.specs.Batch.{queriesIn, Batch, answerIn, batchOf, batchBySteps, StepsClaims, BatchClaims, OneClaims}
@@ -28,14 +26,14 @@ use Rattle.dstree.specs.Sheet.{blockSize}
 use Rattle.dstree.specs.SheetWidths.{blocksNeeded, sheetOf}
 use Rattle.dstree.specs.Recording.{Recording, recording, judgeRecording}
 use Rattle.dstree.specs.Book.{Lent, adding, matching, writing, reading, listing, importing, exporting, checking, batching, labelling}
-use Rattle.dstree.specs.Book.{banding, banded, Call, call, besideOf}
+use Rattle.dstree.specs.Book.{Ask, opening, searching, pairing, banding, banded, paired, Call, call, besideOf}
 use Rattle.dstree.specs.Book.{Result, done, added, matched, written, neighbours, imported, exported, accepted, batched, labelled}
 use Rattle.dstree.specs.Book.{remoteMatched, refusing, answering, Reply, reply, over, Book, bookTree, shortConditions, judge, after}
 use Rattle.dstree.specs.Book.{repliesOf, start}
-use Rattle.dstree.specs.Claims.{Below, numbersAmong, LeavesOutOnlyAbove, RangesOf, ExactTree}
+use Rattle.dstree.specs.Claims.{Below, LeavesOutOnlyAbove, RangesOf, ExactTree}
 use Rattle.tables.specs.Layout.{layout}
-use Rattle.tables.specs.Tables.{Tables, labelledTables, lentOf, measuresOf, traceCount}
-use Rattle.tables.specs.View.{traceIn, treeIn, tracesIn, labelsIn, wellFormed, samplesInside, isSpoiled}
+use Rattle.tables.specs.Tables.{Tables, lentOf, measuresOf, traceCount}
+use Rattle.tables.specs.View.{treeIn, tracesIn, labelsIn, wellFormed, samplesInside, isSpoiled}
 use Rattle.tables.specs.Beginning.{firstPlaces, left}
 use Rattle.tables.specs.Answers.{madeConditions}
 use Rattle.tables.specs.Holds.{Holds}
@@ -45,6 +43,8 @@ use Rattle.calls.specs.Trusted.{bookIn, Trusts, treeAfter}
 use Rattle.calls.specs.Effects.{cleared, effectOf}
 use Rattle.calls.specs.Follows.{Follows, Ran}
 use Rattle.calls.specs.Remote.{RemoteIsMatch, MayDifferInSerials, RemoteSeesNoSerials}
+use Rattle.calls.specs.Trails.{ByBound, DifferOutside, MayDiffer}
+use Rattle.calls.specs.Pairs.{JoinsBoth, PairsAnywhere, PairsOffTrail, OfBoth, TrustedPairs}
 
 -- ---- demand 1
 
@@ -78,30 +78,6 @@ pub record SamplesInside (t : Tables) : Type 0 where
 
 -- ---- "Samples in leaves off the trail don't bear on a search"
 
--- tables that differ "only in samples of traces outside" some leaves: what is not a sample is the same, and so are the samples of the
--- traces in these leaves. (Samples behind the stored traces may differ as well)
-pub record DifferOutside (set : List ℕ) (these other : Tables) : Type 0 where
-  pub control-same : other .control ≡ these .control
-  pub nodes-same : other .nodes ≡ these .nodes
-  pub links-same : other .links ≡ these .links
-  pub work-same : other .work ≡ these .work
-  pub labels-same : other .labels ≡ these .labels
-  pub as-long : length (other .samples) ≡ length (these .samples)
-  pub samples-same : (trace : ℕ) → T (isIn trace (numbersAmong (treeIn these) set))
-      → traceIn (other .samples) (measuresOf these .n) trace ≡ traceIn (these .samples) (measuresOf these .n) trace
-
--- with another word at a place of the samples table
-abbrev pub withWord : Tables → ℕ → ℤ → Tables
-withWord t place word =
-    labelledTables (t .control) (set (t .samples) place word) (t .nodes) (t .links) (t .work) (t .labels)
-
--- there are such tables: every sample of every trace outside these leaves may be any, one after another
-pub record MayDiffer (those : List ℕ) (these : Tables) : Type 0 where
-  pub not-at-all : DifferOutside those these these
-  pub in-a-sample : (other : Tables) → DifferOutside those these other → (trace at : ℕ) (word : ℤ) → at < measuresOf these .n
-      → T (not (isIn trace (numbersAmong (treeIn these) those)))
-      → DifferOutside those these (withWord other (trace * measuresOf these .n + at) word)
-
 -- the leaves that a search has read, by its answer: a match's, that of the k nearest, a batch's, or the remote's. A report has read none
 -- (document 02, §10). No other call is a search
 unfoldable pub trailFound : Result → Option (List ℕ)
@@ -117,6 +93,8 @@ trailFound (imported count) = none
 trailFound (exported size bytes) = none
 trailFound accepted = none
 trailFound (labelled l) = none
+-- a match over two libraries has two trails (`PairsOffTrail`)
+trailFound (paired m) = none
 
 -- "well-formed tables that differ only there give the same answer and the same trail": of a search that is not refused, so that its tables
 -- are well formed, whoever made them
@@ -149,10 +127,6 @@ AddsAnywhere = (lent : Lent) (x : Trace) (l : Label) (memory memory′ : Tables)
     → (number : ℕ) → said .answer ≡ answering (added number) → AddedInto lent x l memory number memory′
 
 -- ---- a match, on any tables
-
--- "The trail lists the leaf numbers in reading order": "by bound, then by number"
-abbrev pub ByBound : Tree → Trace → List ℕ → Type 0
-ByBound tree query trail = Ordered before (map (λ number. record { number = number; bound = bound tree query number }) trail)
 
 -- a match that answered m, on the tables t that it was lent, whoever made them
 pub record MatchedIn (query : Trace) (t : Tables) (m : Match) : Type 0 where
@@ -457,6 +431,28 @@ abbrev pub IsAccepted : Measures → Tables → Type 0
 IsAccepted m memory = (lent : Lent) (said : Reply) (memory′ : Tables) → Follows (call lent checking) memory said memory′
     → firstOf (shortConditions layout lent m) ≡ none → (said ≡ reply (answering accepted) []) × (memory′ ≡ memory)
 
+-- a call of a list, and its reply
+pub data Said : Call → Reply → List Call → List Reply → Type 0 where
+  said-first : {c : Call} {r : Reply} {calls : List Call} {said : List Reply} → Said c r (c ∷ calls) (r ∷ said)
+  said-later : {c d : Call} {r s : Reply} {calls : List Call} {said : List Reply} → Said c r calls said → Said c r (d ∷ calls) (s ∷ said)
+
+-- a refusal that arises from the tables of another library, which a call is lent too: document 02, §11
+unfoldable pub FromOther : Refusal → Ask → Type 0
+FromOther why (pairing which other query trail) = firstOf (other .conditions) ≡ some why
+FromOther why (opening m) = ⊥
+FromOther why (adding x l) = ⊥
+FromOther why (searching q) = ⊥
+FromOther why (writing sheet) = ⊥
+FromOther why (reading bytes) = ⊥
+FromOther why (importing bytes) = ⊥
+FromOther why (exporting number rate buffer) = ⊥
+FromOther why checking = ⊥
+FromOther why (labelling number) = ⊥
+
+-- "3 never arises from these tables": where a call of a list is refused so, it is for the other library's
+abbrev pub NeverFromThese : Refusal → List Call → List Reply → Type 0
+NeverFromThese why calls said = (c : Call) (r : Reply) → Said c r calls said → r .answer ≡ refusing why → FromOther why (c .ask)
+
 -- what holds after a list of calls, from a book on
 pub record AfterList (b : Book) (calls : List Call) (said : List Reply) (memory : Tables) : Type 0 where
   -- "What is stored, a book says": every needed place is as the book's library has it ..
@@ -470,7 +466,7 @@ pub record AfterList (b : Book) (calls : List Call) (said : List Reply) (memory 
   pub replies-are : said ≡ repliesOf layout b calls
   pub written-and-read : WrittenAndRead (after layout b calls) memory
   -- "3 never arises from these tables", nor does document 02's 13
-  pub never-spoiled : (r : Reply) → In r said → r .answer ≡ refusing spoiled → ⊥
+  pub never-spoiled : NeverFromThese spoiled calls said
   pub never-loose : (r : Reply) → In r said → r .answer ≡ refusing looseRecord → ⊥
   -- "After the list, if the book has a trace, take any query of n samples"
   pub any-query : (query : Trace) → 0 < length (after layout b calls .traces) → length query ≡ after layout b calls .measures .n
@@ -488,6 +484,7 @@ pub record AfterList (b : Book) (calls : List Call) (said : List Reply) (memory 
   -- document 02, §8: "The bench has a call that answers both for a trace number", as "given when it is added"
   pub label-gives : LabelGives (judge layout (after layout b calls)) (after layout b calls .labels) memory
   -- document 02, §6: "It accepts every library made by calls"
+  pub trusts : Trusts memory (after layout b calls)
   pub is-accepted : IsAccepted (after layout b calls .measures) memory
 
 -- ---- what a memory stores, whoever made its tree: document 01's sheets and document 02's recordings of it
@@ -539,7 +536,7 @@ pub record AfterCheck (b : Book) (tree : Tree) (calls : List Call) (said : List 
   -- so that it goes on accepting: each of these calls leaves "libraries it would accept"
   pub is-accepted : IsAccepted (after layout b calls .measures) memory
   -- 3 and 13 never arise from these tables
-  pub never-spoiled : (r : Reply) → In r said → r .answer ≡ refusing spoiled → ⊥
+  pub never-spoiled : NeverFromThese spoiled calls said
   pub never-loose : (r : Reply) → In r said → r .answer ≡ refusing looseRecord → ⊥
   -- "If it accepts, a match must be the nearest stored trace and read the fewest leaves": of any query of n samples, if a trace is stored
   pub any-query : (query : Trace) → 0 < length (after layout b calls .traces) → length query ≡ after layout b calls .measures .n
@@ -601,6 +598,16 @@ pub record Demands : Type 0 where
   pub serials-may-differ : (these : Tables) → MayDifferInSerials these
   -- document 02, §9: "A stored sample outside the limits makes the tables spoiled", and there is none
   pub samples-inside : (memory : Tables) → SamplesInside memory
+  -- document 02, §11: a match over two libraries is a call of both lists; on any two memories; on two that the check would accept
+  pub joins-both : JoinsBoth
+  pub pairs-anywhere : PairsAnywhere
+  pub pairs-off-trail : PairsOffTrail
+  pub trusted-pairs : TrustedPairs
+  -- .. so after two lists of calls, one for each library: judged by both books
+  pub after-both : (bf bb : Book) (calls others : List Call) (said also : List Reply) (factory bench : Tables)
+      → AfterList bf calls said factory → AfterList bb others also bench
+      → OfBoth (after layout bf calls) (bookTree (after layout bf calls)) (after layout bb others) (bookTree (after layout bb others))
+      factory bench
   -- of any memory, whatever it holds, with the measures, traces and labels that it has. (That they make a library, a writing or an export
   -- that is not refused has tested)
   pub stored-anywhere : (memory : Tables) → OfStored (bookIn memory) memory

@@ -9,6 +9,7 @@ use Rattle.dstree.specs.Labels.{Label, noLabel}
 use Rattle.dstree.specs.Matching.{leaves, Near}
 use Rattle.dstree.specs.Batch.{batchConditions}
 use Rattle.dstree.specs.Bands.{bandConditions}
+use Rattle.dstree.specs.Pair.{indexed, Which, Other, pairingConditions, pairedWith}
 use Rattle.dstree.specs.Refusals.{Condition, _refuses_, looseRecord, runConditions}
 use Rattle.dstree.specs.Checking.{isExact}
 use Rattle.dstree.specs.Sheet.{Judged, refused, holds}
@@ -18,7 +19,7 @@ use Rattle.dstree.specs.Book.{Ask, opening, adding, searching, writing, reading
 use Rattle.dstree.specs.Book.{done, added, written, imported, exported, accepted, labelled, over}
 use Rattle.dstree.specs.Book.{AnySearch, matchSearch, listSearch, batchSearch, remoteSearch, bandSearch, searchOf}
 use Rattle.dstree.specs.Book.{addConditions, queryConditions, writeConditions, readingConditions, listConditions, importConditions}
-use Rattle.dstree.specs.Book.{exportConditions, labelConditions}
+use Rattle.dstree.specs.Book.{exportConditions, labelConditions, pairing, paired, pairBeside}
 use Rattle.dstree.specs.Remote.{codesOf}
 use Rattle.tables.specs.Layout.{layout}
 use Rattle.tables.specs.Tables.{Tables, labelledTables, lentOf, measuresOf, traceCount, filled}
@@ -175,6 +176,31 @@ tellsLabel t number = record {
   beside = [];
 }
 
+-- ---- two libraries together (document 02, §11): "The factory's tables are tested first"; "17 .., after both pass 3", then 4, 15, 6, 7
+
+-- another library, as a call finds it in the tables that it is lent of it, with its trail
+unfoldable pub otherIn : Tables → List ℕ → Other
+otherIn t trail = record {
+  conditions = madeConditions t;
+  n = measuresOf t .n;
+  library = indexed (tracesIn t) (treeIn t);
+  needed = workNeeded (measuresOf t);
+  work = t .work;
+  trail = trail;
+}
+
+-- "where other well-formed tables break [a claim], that answer is the program's": its steps, on what is recorded in both
+unfoldable pub pairs : Tables → Which → Other → Trace → List ℕ → Effect
+pairs t which other query trail =
+    let own = indexed (tracesIn t) (treeIn t) in
+    let found = pairedWith which own (other .library) query in
+    record {
+      conditions = pairingConditions which (madeConditions t) (measuresOf t .n) own other query trail;
+      result = paired found;
+      after = cleared t;
+      beside = pairBeside which other found trail;
+    }
+
 -- ---- any call
 
 unfoldable pub effectOf : Ask → Tables → Effect
@@ -187,6 +213,7 @@ effectOf (importing bytes) t = imports t bytes
 effectOf (exporting number rate buffer) t = exports t number rate buffer
 effectOf checking t = checks t
 effectOf (labelling number) t = tellsLabel t number
+effectOf (pairing which other query trail) t = pairs t which other query trail
 
 -- what a call answers and leaves that asks this of these tables
 unfoldable pub outcomeOn : Ask → Tables → Outcome

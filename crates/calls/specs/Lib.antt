@@ -7,4 +7,6 @@ pub mod Trusted
 pub mod Effects
 pub mod Follows
 pub mod Remote
+pub mod Trails
+pub mod Pairs
 pub mod Demands

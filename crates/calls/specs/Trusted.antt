@@ -10,7 +10,7 @@ use Rattle.dstree.specs.Checking.{isExact}
 use Rattle.dstree.specs.Refusals.{Refusal}
 use Rattle.dstree.specs.SheetWidths.{judgeSheet}
 use Rattle.dstree.specs.Recording.{judgeRecording, fileTraces}
-use Rattle.dstree.specs.Book.{Ask, opening, adding, searching, writing, reading, importing, exporting, checking, labelling}
+use Rattle.dstree.specs.Book.{Ask, opening, adding, searching, writing, reading, importing, exporting, checking, labelling, pairing}
 use Rattle.dstree.specs.Book.{Call, Book, book, Layout, bookTree, putRead, judge, turn}
 use Rattle.tables.specs.Tables.{Tables, lentOf, measuresOf}
 use Rattle.tables.specs.View.{treeIn, tracesIn, labelsIn, wellFormed}
@@ -48,6 +48,7 @@ treePut b tree (importing bytes) = grown (b .measures) (b .traces) tree (fileTra
 treePut b tree (exporting number rate buffer) = tree
 treePut b tree checking = tree
 treePut b tree (labelling number) = tree
+treePut b tree (pairing which other query trail) = tree
 
 -- "A refused call changes nothing"
 unfoldable pub treeUnless : Option Refusal → Tree → Tree → Tree

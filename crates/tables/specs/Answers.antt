@@ -38,6 +38,7 @@ wordOf r.LooseRecord = word.looseRecord
 wordOf r.BadBatch = word.badBatch
 wordOf r.SampleRange = word.sampleRange
 wordOf r.BadEdges = word.badEdges
+wordOf r.UnlikeLibraries = word.unlikeLibraries
 
 -- what a judge found: the first condition that holds, or none
 unfoldable pub foundBy : Verdict → Option word.Refusal

@@ -26,6 +26,7 @@ pub fn number(why: Refusal) -> u64
         Refusal::BadBatch => 14,
         Refusal::SampleRange => 15,
         Refusal::BadEdges => 16,
+        Refusal::UnlikeLibraries => 17,
     }
 }
 
@@ -50,5 +51,6 @@ pub fn place(why: Refusal) -> u64
         Refusal::BadBatch => 0,
         Refusal::SampleRange => 0,
         Refusal::BadEdges => 0,
+        Refusal::UnlikeLibraries => 0,
     }
 }

@@ -29,6 +29,7 @@ pub enum Refusal {
     BadBatch,
     SampleRange,
     BadEdges,
+    UnlikeLibraries,
 }
 
 // What a judge found.

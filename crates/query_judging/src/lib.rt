@@ -16,12 +16,25 @@ ghost use mathlib.Core.List.{List};
 ghost use Prim.Native.Nat.{ℕ, _*_, _≤_};
 ghost use lib.IntN.{ℤ};
 ghost use lib.ListN.{length};
+ghost use lib.Dec.{ltb};
 ghost use Rattle.dstree.specs.Refusals.{firstOf};
 ghost use Rattle.tables.specs.Layout.{nodeCountPlace, recordPlaces, nodePlaces};
 ghost use Rattle.tables.specs.Tables as t;
 ghost use Rattle.tables.specs.Tables.{tables};
 ghost use Rattle.tables.specs.Answers.{foundBy};
 ghost use Rattle.calls.specs.Effects.{runConditionsIn, queryConditionsIn};
+ghost use Rattle.query_judging.specs.LeafCount.{leafCount};
+
+// Whether a trail has fewer places than the tree has leaves.
+pub fn is_short(control: &[u16], nodes: &[i64], trail: &[u16]) -> bool
+    requires { ⌜ (t.field (now control) nodeCountPlace * recordPlaces ≤ length (now nodes))
+        × (t.field (now control) nodeCountPlace ≤ nodePlaces) ⌝ }
+    ensures { λ r. ⌜ r ≡ ltb (length (now (trail .entry)))
+        (leafCount (now (nodes .entry)) (t.field (now (control .entry)) nodeCountPlace) 0) ⌝ }
+{
+    let m = wide(field(control, NODE_COUNT));
+    trail.len() < crate::leaves::leaf_count(nodes, m)
+}
 
 // A run of another length than so many samples (4), a sample outside the limits (15), no trace stored (6), a trail with fewer places than
 // leaves (7). Neither stored samples nor links nor search work bear on these.
@@ -50,8 +63,7 @@ pub fn judge_run(
     if empty {
         return Verdict::Refused(Refusal::Empty);
     }
-    let m = wide(field(control, NODE_COUNT));
-    if trail.len() < crate::leaves::leaf_count(nodes, m) {
+    if is_short(control, nodes, trail) {
         return Verdict::Refused(Refusal::ShortTrail);
     }
     Verdict::Fine

@@ -53,7 +53,7 @@ unfolding kth
 kth-fewer zero m list h = absurd (omega arith)
 kth-fewer (suc k) m list h = place-none k (nearsIn m list) (omega (arith, nears-length m list))
 
-past-is : (k m : ℕ) (list : List ℕ) → 1 ≤ k → m ≤ k → (bound : ℕ)
+pub past-is : (k m : ℕ) (list : List ℕ) → 1 ≤ k → m ≤ k → (bound : ℕ)
     → isPast (eqb m k) (recordAt list (k - 1) .distance) bound ≡ isAbove bound (kth k (nearsIn m list))
 unfolding isPast isAbove
 past-is k m list one few bound = by (eqb m k) refl

@@ -3,20 +3,17 @@ use Prim.Native.Nat.{ℕ}
 use mathlib.Core.Path.{_≡_, sym, ap, _∙_}
 use mathlib.Core.Bool.{not}
 use mathlib.Core.List.{List}
-use native.Mathlib.Omega.{arith}
 use lib.IntN.{ℤ}
 use lib.ListN.{length}
-use lib.Dec.{eqb}
+use lib.Dec.{ltb, eqb}
 use denote.Ref.{now}
 use borrow.Author.Needs.{needs}
-use borrow.Author.Tests.{lt-ltb, le-ltb}
 use Rattle.dstree.specs.Measures.{areSamples}
 use Rattle.dstree.specs.Matching.{leaves}
 use Rattle.dstree.specs.Refusals.{firstOf}
 use Rattle.tables.specs.Tables.{Tables, tables, traceCount}
 use Rattle.tables.specs.View.{treeIn}
 use Rattle.tables.specs.Answers.{wordOf, foundBy}
-use Rattle.query_judging.specs.LeafCount.{leafCount}
 use Rattle.query_judging.proofs.Counted.{leaves-counted}
 use Rattle.query_judging.proofs.judge_run.Statement.{statement}
 use Rattle.query_judging.proofs.judge_run.Tie as tie
@@ -30,12 +27,6 @@ module _ (samples : List ℤ) (links work : List ℕ) where
     abbrev t : Tables
     t = tables (now (start f .args .control)) samples (now (start f .args .nodes)) links work
 
-    abbrev room : ℕ
-    room = length (now (start f .args .trail))
-
-    abbrev leafs : ℕ
-    leafs = length (leaves (treeIn t))
-
     stored-is : eqb (traceCount t) 0 ≡ eqb (f .field .result) 0
     stored-is = ap (λ (k : ℕ). eqb k 0) (sym (f .field .ensures))
 
@@ -47,27 +38,19 @@ module _ (samples : List ℤ) (links work : List ℕ) where
     outside-is : not (areSamples (now (start g .args .run))) ≡ not (a .are-samples .result)
     outside-is = ap not (sym (a .are-samples .ensures))
 
-  -- the leaves counted are the tree's
-  module _ (l : tie.After-leaf-count) where
-    abbrev e : tie.Else3
-    e = l .before .before .before
-
+  -- what the trail's test said: the leaves counted are the tree's
+  module _ (s : tie.After-is-short) where
     abbrev tested : tie.After-are-samples
-    tested = e .before .before
+    tested = s .before .before .before
 
     abbrev f : tie.After-field
     f = g tested
 
-    counted : l .leaf-count .result ≡ leafs f
-    counted =
-        l .leaf-count .ensures
-        ∙ (ap (λ (m : ℕ). leafCount (now (start f .args .nodes)) m 0) (l .before .wide .ensures ∙ l .before .before .field2 .ensures)
-        ∙ sym (leaves-counted (t f)))
+    short-is : ltb (length (now (start f .args .trail))) (length (leaves (treeIn (t f)))) ≡ s .is-short .result
+    short-is = ap (ltb (length (now (start f .args .trail)))) (leaves-counted (t f)) ∙ sym (s .is-short .ensures)
 
-leaf-count-requires : tie.Need-leaf-count-requires
-leaf-count-requires c κs =
-    let s = start (c .before .before .before .before .before .before) in
-    rw (c .wide .ensures ∙ c .before .field2 .ensures) (s .pre)
+is-short-requires : tie.Need-is-short-requires
+is-short-requires c κs = start (c .before .before .before .before) .pre
 
 returns : tie.Need-returns
 unfolding foundBy wordOf firstOf
@@ -88,40 +71,34 @@ returns-3 c samples links work =
 returns-4 : tie.Need-returns-4
 unfolding foundBy wordOf firstOf
 returns-4 c samples links work =
-    let l = c .before in
-    let a = tested samples links work l in
-    let i = f samples links work l in
-    let r : ℕ = room samples links work i in
-    let short = lt-ltb r (leafs samples links work i) (omega (arith, c .if4 .taken, counted samples links work l)) in
+    let s = c .before in
+    let a = tested samples links work s in
     rw (
       outside-is samples links work a,
-      stored-is samples links work i,
+      stored-is samples links work (a .before .before),
+      short-is samples links work s,
       a .before .if1 .left,
-      e samples links work l .before .if2 .left,
-      e samples links work l .if3 .left,
-      short,
+      s .before .before .if2 .left,
+      s .before .if3 .left,
+      c .if4 .taken,
     )
 
 returns-5 : tie.Need-returns-5
 unfolding foundBy firstOf
 returns-5 c samples links work =
-    let l = c .before in
-    let a = tested samples links work l in
-    let i = f samples links work l in
-    let r : ℕ = room samples links work i in
-    let long = le-ltb r (leafs samples links work i) (omega (arith, c .if4 .left, counted samples links work l)) in
+    let s = c .before in
+    let a = tested samples links work s in
     rw (
       outside-is samples links work a,
-      stored-is samples links work i,
+      stored-is samples links work (a .before .before),
+      short-is samples links work s,
       a .before .if1 .left,
-      e samples links work l .before .if2 .left,
-      e samples links work l .if3 .left,
-      long,
+      s .before .before .if2 .left,
+      s .before .if3 .left,
+      c .if4 .left,
     )
 
 pub judge-run-spec : {M : Type 1} → statement M
 judge-run-spec =
     tie.close
-    (tie.spec
-    (λ c κs. search needs) returns (λ c κs. search needs) returns-2 returns-3 (λ c κs. search needs) (λ c κs. search needs)
-    leaf-count-requires returns-4 returns-5)
+    (tie.spec (λ c κs. search needs) returns (λ c κs. search needs) returns-2 returns-3 is-short-requires returns-4 returns-5)

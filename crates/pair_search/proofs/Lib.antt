@@ -1,0 +1,12 @@
+-- Why the next leaf of one library is handed on, how far, and what reading it gives.
+pub mod Asking
+pub mod Nearer
+pub mod OneLeaf
+pub mod Whose
+pub mod Taken
+pub mod FirstLeaf
+pub mod SideTurns
+pub mod BothTurns
+pub mod Wins
+pub mod Lending
+pub mod Joined

@@ -2,15 +2,18 @@
 use Prim.Native.Nat.{ℕ}
 use mathlib.Core.Path.{_≡_, sym, ap, subst, _∙_}
 use mathlib.Core.List.{List}
+use denote.Ref.{now}
 use Rattle.dstree.specs.Book.{Ask, Call, Answer, Reply, reply}
 use Rattle.tables.specs.Tables.{Tables, lentOf}
 use Rattle.tables.specs.Beginning.{left}
 use Rattle.calls.specs.Outcome.{Outcome, outcome}
 use Rattle.calls.specs.Effects.{outcomeOn}
 use Rattle.calls.specs.Follows.{Follows}
+use Rattle.calls.proofs.Pairs.{as-bench}
 use Rattle.batch_answers.proofs.Whole.{whole}
 use Rattle.demands.specs.Did.{Placed, CallMade, Did, by-open, by-add, by-nearest, by-write, by-read, by-list, by-import}
-use Rattle.demands.specs.Did.{by-export, by-check, by-batch, by-add-labelled, by-label, by-remote, by-bands}
+use Rattle.demands.specs.Did.{by-export, by-check, by-batch, by-add-labelled, by-label, by-remote, by-bands, by-pair-factory}
+use Rattle.demands.specs.Did.{by-pair-bench, tablesOf, own}
 
 pub placed-follows : {ask : Ask} {before after memory memory′ : Tables} {c : Call} {answer : Answer} {beside : List (List ℕ)}
     → Placed ask before after c memory memory′ → outcome answer after beside ≡ outcomeOn ask before
@@ -42,6 +45,11 @@ follows c memory memory′ said (by-add-labelled d) = by-claim (d .made) (d .cla
 follows c memory memory′ said (by-label d) = by-claim (d .made) (d .claim)
 follows c memory memory′ said (by-remote d) = by-claim (d .made) (d .claim)
 follows c memory memory′ said (by-bands d) = by-claim (d .made) (d .claim)
+follows c memory memory′ said (by-pair-factory d) = by-claim (d .made) (d .claim)
+follows c memory memory′ said (by-pair-bench d) =
+    let bench = own (d .args) .1 in
+    by-claim (d .made) (as-bench (tablesOf (d .args)) (tablesOf bench) (now (own bench .1 .0)) (now (own (d .args) .0)) (now (own bench .0))
+    (d .claim))
 follows c memory memory′ said (by-batch d) =
     by-claim (d .searched .made)
     (whole _ _ _ _ _ _ (d .list) (d .list′) (d .searched .result) (d .done) (λ l size. d .searched .claim l (size ∙ d .so-long)) (d .stored))

@@ -1,6 +1,6 @@
 -- Every call that its types allow has a reply and a memory after it: slices that hold what the memory has, and what the definition leaves,
 -- are one.
-use Prim.Native.Nat.{ℕ, zero, suc, _*_, _-_}
+use Prim.Native.Nat.{ℕ, zero, suc, _+_, _*_, _-_}
 use mathlib.Core.Path.{_≡_, refl, sym, ap, subst, _∙_}
 use mathlib.Core.Option.{Option, none, some}
 use mathlib.Core.List.{List, [], _∷_, _++_, map, append-nil}
@@ -18,17 +18,19 @@ use Rattle.dstree.specs.Matching.{Near, searched, Match}
 use Rattle.dstree.specs.KNearest.{KNearest, listPlaces, kNearestBySteps}
 use Rattle.dstree.specs.Batch.{queriesIn, Batch, batchBySteps}
 use Rattle.dstree.specs.Bands.{BandCount, bandReport, reportPlaces}
+use Rattle.dstree.specs.Pair.{Indexed, indexed, Which, ofFactory, ofBench, Other, PairMatch, pairedWith, pairBySteps}
 use Rattle.dstree.specs.Refusals as word
 use Rattle.dstree.specs.Refusals.{firstOf}
 use Rattle.dstree.specs.Sheet.{blockSize}
 use Rattle.dstree.specs.SheetWidths.{blocksNeeded, sheetOf}
 use Rattle.dstree.specs.Remote.{codesOf}
-use Rattle.dstree.specs.Book.{Ask, opening, adding, searching, writing, reading, importing, exporting, checking, labelling, Call}
+use Rattle.dstree.specs.Book.{Ask, opening, adding, searching, writing, reading, importing, exporting, checking, labelling, pairing, paired, pairBeside, Call}
 use Rattle.dstree.specs.Book.{aMatch, aListing, aBatch, aRemote, aBanding, matchSeen, matching, listing, batching, remoteMatching, banding, besideOf, Answer, answering, imported}
 use Rattle.dstree.specs.Book.{Reply, reply, over}
 use Rattle.dstree.specs.Recording.{recordingSize, recordingOf, judgeRecording, fileTraces}
 use Rattle.dstree.proofs.SheetPieces.{pieces-length}
 use Rattle.dstree.proofs.Bands.{report-anywhere}
+use Rattle.dstree.proofs.PairRead.{pair-steps}
 use Rattle.dstree.proofs.RoundTrips.{sheet-length}
 use Rattle.dstree.proofs.Recordings.{recording-length}
 use Rattle.tables.specs.Tables.{Tables, labelledTables, lentOf, measuresOf, traceCount}
@@ -42,8 +44,9 @@ use Rattle.tables.proofs.Parts.{trace-length}
 use Rattle.insertion_memory.specs.Memory.{addedTo, addedWith}
 use Rattle.calls.specs.Outcome.{Outcome, outcome, unlessRefused}
 use Rattle.calls.specs.Effects.{opens, adds, matches, remotes, writes, reads, lists, imports, exports, checks, tellsLabel}
-use Rattle.calls.specs.Effects.{batches, batchConditionsIn, bands, cleared, effectOf, outcomeOn}
-use Rattle.calls.specs.Follows.{Typed}
+use Rattle.calls.specs.Effects.{batches, batchConditionsIn, bands, cleared, otherIn, pairs, effectOf, outcomeOn}
+use Rattle.calls.specs.Follows.{FromTables, Typed}
+use Rattle.calls.specs.Pairs.{withWork}
 use Rattle.calls.proofs.Library.{work-stays}
 use Rattle.checking.specs.declared.Checked.{Checked}
 use Rattle.checking.specs.declared.Checked.the-variants as k
@@ -94,8 +97,11 @@ use Rattle.band_counts.proofs.Places.{counts-in}
 use Rattle.banding.specs.declared.Banded.{Banded}
 use Rattle.banding.specs.declared.Banded.the-variants as n
 use Rattle.banding.specs.Answered as banding-answer
+use Rattle.pairing.specs.declared.PairFound.{PairFound}
+use Rattle.pairing.specs.declared.PairFound.the-variants as p
+use Rattle.pairing.specs.Answered as pairing-answer
 use Rattle.demands.specs.Did.{WithTables, CallMade, Exchange, Made, Did, by-open, by-nearest, by-write, by-read, by-list, by-import, by-export}
-use Rattle.demands.specs.Did.{by-check, by-batch, by-add-labelled, by-label, by-remote, by-bands}
+use Rattle.demands.specs.Did.{by-check, by-batch, by-add-labelled, by-label, by-remote, by-bands, by-pair-factory, by-pair-bench}
 use Rattle.demands.specs.Theorem.{Replied}
 
 -- ---- slices
@@ -127,6 +133,7 @@ caseOf word.looseRecord = r.LooseRecord
 caseOf word.badBatch = r.BadBatch
 caseOf word.sampleRange = r.SampleRange
 caseOf word.badEdges = r.BadEdges
+caseOf word.unlikeLibraries = r.UnlikeLibraries
 
 case-word : (why : word.Refusal) → wordOf (caseOf why) ≡ why
 unfolding wordOf
@@ -146,6 +153,7 @@ case-word word.looseRecord = refl
 case-word word.badBatch = refl
 case-word word.sampleRange = refl
 case-word word.badEdges = refl
+case-word word.unlikeLibraries = refl
 
 -- a result, and what is left beside the tables, with which code says an outcome
 record Said {R Beside : Type 0} (outcomeBy : R → Beside → Outcome) (o : Outcome) : Type 0 where
@@ -255,6 +263,51 @@ banding-said t query edges list none = record { result = n.Reported; beside = ov
     back : countsIn (length edges - 1) (over (reportPlaces report) list) ≡ report
     back = subst (λ (m : ℕ). countsIn m (over (reportPlaces report) list) ≡ report) (report-anywhere (treeIn t) query edges .one-each)
         (counts-in report (drop (length (reportPlaces report)) list))
+
+-- what a match over two libraries found, as code has it
+abbrev pairFound : Which → PairMatch → PairFound
+pairFound ofFactory m = p.Factory (m .trace) (m .distance) (length (m .factoryTrail)) (length (m .benchTrail)) (m .traces)
+pairFound ofBench m = p.Bench (m .trace) (m .distance) (length (m .factoryTrail)) (length (m .benchTrail)) (m .traces)
+
+-- each trail that code answers is as long as it counts
+found-is : (which : Which) (m : PairMatch) → m .which ≡ which → m .leaves ≡ length (m .factoryTrail) + length (m .benchTrail)
+    → (trail trail′ : List ℕ)
+    → pairing-answer.answerBy (pairFound which m) (over (m .factoryTrail) trail) (over (m .benchTrail) trail′) ≡ answering (paired m)
+unfolding pairing-answer.answerBy
+found-is ofFactory m is counted trail trail′ = rw (
+  take-at (m .factoryTrail) (drop (length (m .factoryTrail)) trail) (length (m .factoryTrail)) refl,
+  take-at (m .benchTrail) (drop (length (m .benchTrail)) trail′) (length (m .benchTrail)) refl,
+  ← is,
+  ← counted,
+)
+found-is ofBench m is counted trail trail′ = rw (
+  take-at (m .factoryTrail) (drop (length (m .factoryTrail)) trail) (length (m .factoryTrail)) refl,
+  take-at (m .benchTrail) (drop (length (m .benchTrail)) trail′) (length (m .benchTrail)) refl,
+  ← is,
+  ← counted,
+)
+
+pairing-said : (f b : Tables) (query : Trace) (trail trail′ : List ℕ) (o : Option word.Refusal)
+    → let e = unlessRefused o f (trail ∷ trail′ ∷ b .work ∷ []) (pairs f ofFactory (otherIn b trail′) query trail) in
+    Said (λ (r : PairFound) (l : List ℕ × (List ℕ × List ℕ)). outcome (pairing-answer.answerBy r (l .0) (l .1 .0))
+    (withWork f (e .after .work)) (l .0 ∷ l .1 .0 ∷ l .1 .1 ∷ [])) e
+unfolding unlessRefused pairs pairedWith pairBeside otherIn pairing-answer.answerBy
+pairing-said f b query trail trail′ (some why) =
+    record { result = p.Refused (caseOf why); beside = (trail, (trail′, b .work)); is = rw (case-word why) }
+pairing-said f b query trail trail′ none = record {
+  result = pairFound (m .which) m;
+  beside = (over (m .factoryTrail) trail, (over (m .benchTrail) trail′, cleared b .work));
+  is = rw (found-is (m .which) m refl (pair-steps library library′ query .leaves-counted) trail trail′);
+}
+  where
+    library : Indexed
+    library = indexed (tracesIn f) (treeIn f)
+
+    library′ : Indexed
+    library′ = indexed (tracesIn b) (treeIn b)
+
+    m : PairMatch
+    m = pairBySteps library library′ query
 
 importing-said : (t : Tables) (bytes : List ℕ) (o : Option word.Refusal) → let e = unlessRefused o t [] (imports t bytes) in
     Said (λ (r : Imported) (l : List ℕ). outcome (importing-answer.answerBy r)
@@ -424,8 +477,27 @@ module _ (c : Call) (memory : Tables) (places : lentOf (firstPlaces (c .lent) me
         });
       }
 
+  -- a match over this library and one that some tables hold, whichever of the two this is
+  by-pair : (which : Which) (other : Other) (query : Trace) (trail : List ℕ) → c .ask ≡ pairing which other query trail → FromTables other
+      → Replied c memory
+  unfolding outcomeOn effectOf besideOf Typed otherIn
+  by-pair ofFactory other query trail asked from =
+      let there = from .of in
+      let s = pairing-said t there query trail (from .trail) (firstOf (pairs t ofFactory (otherIn there (from .trail)) query trail .conditions)) in
+      let after = outcomeOn (pairing ofFactory (otherIn there (from .trail)) query trail) t .after in
+      reply-by (λ said memory′ d. by-pair-factory d) (lifetimes 15) (slices t (slice trail, slices there (slice (from .trail), (slice query, tt))))
+      (slices after (slice (s .beside .0), slices (withWork there (s .beside .1 .1)) (slice (s .beside .1 .0), (slice query, tt)))) (s .result) (s .is)
+      (asked ∙ ap (λ (x : Other). pairing ofFactory x query trail) (from .is)) (record { of = there; trail = from .trail; is = refl }) refl
+  by-pair ofBench other query trail asked from =
+      let there = from .of in
+      let s = pairing-said there t query (from .trail) trail (firstOf (pairs there ofFactory (otherIn t trail) query (from .trail) .conditions)) in
+      let after = outcomeOn (pairing ofFactory (otherIn t trail) query (from .trail)) there .after in
+      reply-by (λ said memory′ d. by-pair-bench d) (lifetimes 15) (slices there (slice (from .trail), slices t (slice trail, (slice query, tt))))
+      (slices after (slice (s .beside .0), slices (withWork t (s .beside .1 .1)) (slice (s .beside .1 .0), (slice query, tt)))) (s .result) (s .is)
+      (asked ∙ ap (λ (x : Other). pairing ofBench x query trail) (from .is)) (record { of = there; trail = from .trail; is = refl }) refl
+
   by-ask : (ask : Ask) → c .ask ≡ ask → Typed ask → Replied c memory
-  unfolding outcomeOn effectOf besideOf
+  unfolding outcomeOn effectOf besideOf Typed
   by-ask (opening m) asked typed =
       let s = opening-said t m (firstOf (opens t m .conditions)) in
       reply-by (λ said memory′ d. by-open d) (lifetimes 6) (slices t (m .n, (m .capacity, (m .leafSize, tt))))
@@ -455,6 +527,7 @@ module _ (c : Call) (memory : Tables) (places : lentOf (firstPlaces (c .lent) me
   by-ask (labelling number) asked typed =
       let s = labelling-said t number (firstOf (tellsLabel t number .conditions)) in
       reply-by (λ said memory′ d. by-label d) (lifetimes 6) (slices t (number, tt)) (slices t (number, tt)) (s .result) (s .is) asked typed refl
+  by-ask (pairing which other query trail) asked typed = by-pair which other query trail asked typed
   by-ask (searching (aRemote query trail)) asked typed =
       let s = remote-said t query trail (firstOf (remotes t query trail .conditions)) in
       reply-by (λ said memory′ d. by-remote d) (lifetimes 8) (slices t (slice trail, (slice query, tt)))

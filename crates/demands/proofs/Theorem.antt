@@ -14,6 +14,7 @@ use Rattle.adding.proofs.add_labelled.Met as add-labelled-met
 use Rattle.labelling.proofs.label.Met as label-met
 use Rattle.remote.proofs.remote_match.Met as remote-met
 use Rattle.banding.proofs.count_bands.Met as band-met
+use Rattle.pairing.proofs.match_both.Met as pair-met
 use mathlib.Core.Path.{refl}
 use Rattle.calls.proofs.Demands.{demands}
 use Rattle.demands.specs.Theorem.{Theorem}
@@ -37,6 +38,7 @@ theorem = record {
   label-meets = label-met.met;
   remote-meets = remote-met.met;
   band-meets = band-met.met;
+  pair-meets = pair-met.met;
   open-clause = λ M 𝓤 H A mem run κs args. refl;
   add-clause = λ M 𝓤 H A mem run κs args. refl;
   nearest-clause = λ M 𝓤 H A mem run κs args. refl;
@@ -52,6 +54,7 @@ theorem = record {
   label-clause = λ M 𝓤 H A mem run κs args. refl;
   remote-clause = λ M 𝓤 H A mem run κs args. refl;
   band-clause = λ M 𝓤 H A mem run κs args. refl;
+  pair-clause = λ M 𝓤 H A mem run κs args. refl;
   follows = follows;
   replies = replies;
   demands = demands;

@@ -12,10 +12,12 @@ use contract.Lifetimes.{Lfts}
 use Rattle.dstree.specs.Measures.{measures}
 use Rattle.dstree.specs.Labels.{label, noLabel}
 use Rattle.dstree.specs.KNearest.{listPlaces}
+use Rattle.dstree.specs.Pair.{ofFactory, ofBench}
 use Rattle.dstree.specs.Book.{Ask, opening, adding, matching, writing, reading, listing, importing, exporting, checking, Call, Answer}
-use Rattle.dstree.specs.Book.{batching, labelling, remoteMatching, banding, Reply, reply}
+use Rattle.dstree.specs.Book.{batching, labelling, remoteMatching, banding, pairing, Reply, reply}
 use Rattle.tables.specs.Tables.{Tables, labelledTables, lentOf}
 use Rattle.tables.specs.Beginning.{firstPlaces, left}
+use Rattle.calls.specs.Effects.{otherIn}
 use Rattle.calls.specs.Follows.{Typed}
 use Rattle.opening.specs.Opened as opening-answer
 use Rattle.opening.proofs.open.Kinds as open-kinds
@@ -60,6 +62,9 @@ use Rattle.remote.proofs.remote_match.Reads as remote-reads
 use Rattle.banding.specs.Answered as banding-answer
 use Rattle.banding.proofs.count_bands.Kinds as band-kinds
 use Rattle.banding.proofs.count_bands.Reads as band-reads
+use Rattle.pairing.specs.Answered as pairing-answer
+use Rattle.pairing.proofs.match_both.Kinds as pair-kinds
+use Rattle.pairing.proofs.match_both.Reads as pair-reads
 use Rattle.batch_answers.specs.AnswerRecords.{storeOutcome, storeOf, nearsOf}
 
 -- ---- slices
@@ -229,6 +234,33 @@ CountsBands = Made band-kinds.ps band-kinds.r band-reads.Learnt (λ κs args r e
     (banding-answer.answerBy r (length edges - 1) list′)
     (afterSearch args exits) (list′ ∷ []))
 
+-- a match over two libraries (document 02, §11) is lent the factory's tables and trail, then the bench's, and its query. All but search
+-- work and trails it is lent to read. "A call added later joins the list of each library whose tables it is lent": in the factory's list
+-- the bench's tables are arguments, and what is left in the bench's trail and search work stands beside
+abbrev pub PairsAsFactory : Call → Tables → Reply → Tables → Type 0
+PairsAsFactory = Made pair-kinds.ps pair-kinds.r pair-reads.Learnt (λ κs args r exits.
+    let bench = own args .1 in
+    let bench′ = own exits .1 in
+    let trail′ = now (own exits .0) in
+    let benchTrail′ = now (own bench′ .0) in
+    exchange (pairing ofFactory (otherIn (tablesOf bench) (now (own bench .0))) (now (own bench .1 .0)) (now (own args .0))) (tablesOf args)
+    (pairing-answer.answerBy r trail′ benchTrail′)
+    (afterSearch args exits)
+    (trail′ ∷ benchTrail′ ∷ work bench′ ∷ []))
+
+-- .. and in the bench's list the factory's are. The contract's claim is the same
+abbrev pub PairsAsBench : Call → Tables → Reply → Tables → Type 0
+PairsAsBench = Made pair-kinds.ps pair-kinds.r pair-reads.Learnt (λ κs args r exits.
+    let bench = own args .1 in
+    let bench′ = own exits .1 in
+    let trail′ = now (own exits .0) in
+    let benchTrail′ = now (own bench′ .0) in
+    exchange (pairing ofBench (otherIn (tablesOf args) (now (own args .0))) (now (own bench .1 .0)) (now (own bench .0)))
+    (tablesOf bench)
+    (pairing-answer.answerBy r trail′ benchTrail′)
+    (afterSearch bench bench′)
+    (benchTrail′ ∷ trail′ ∷ work exits ∷ []))
+
 -- what storing a batch's records leaves in the caller's list. A list of structs is stored by a function that is proved by a walk of its
 -- code, and no `Learnt` is generated: the claim is written here, and it is the clause of the contract (`Theorem`: `store-clause`)
 abbrev pub StoreLearnt : BatchFound → List AnswerRecord → Bool → List AnswerRecord → Type 0
@@ -265,3 +297,5 @@ pub data Did (c : Call) (memory : Tables) (said : Reply) (memory′ : Tables) : 
   by-label : TellsLabel c memory said memory′ → Did c memory said memory′
   by-remote : RemoteMatches c memory said memory′ → Did c memory said memory′
   by-bands : CountsBands c memory said memory′ → Did c memory said memory′
+  by-pair-factory : PairsAsFactory c memory said memory′ → Did c memory said memory′
+  by-pair-bench : PairsAsBench c memory said memory′ → Did c memory said memory′

@@ -60,6 +60,9 @@ use Rattle.remote.proofs.remote_match.Reads as remote-reads
 use Rattle.banding.proofs.count_bands as band-call
 use Rattle.banding.proofs.count_bands.Statement as band-statement
 use Rattle.banding.proofs.count_bands.Reads as band-reads
+use Rattle.pairing.proofs.match_both as pair-call
+use Rattle.pairing.proofs.match_both.Statement as pair-statement
+use Rattle.pairing.proofs.match_both.Reads as pair-reads
 use Rattle.calls.specs.Follows.{Typed, Follows}
 use Rattle.calls.specs.Demands.{Demands}
 use Rattle.demands.specs.Did.{StoreLearnt, Did}
@@ -100,6 +103,7 @@ pub record Theorem : Type 2 where
   pub label-meets : {M : Type 1} → label-statement.statement M
   pub remote-meets : {M : Type 1} → remote-statement.statement M
   pub band-meets : {M : Type 1} → band-statement.statement M
+  pub pair-meets : {M : Type 1} → pair-statement.statement M
   -- what `Did` claims of a call is what its contract ensures, and no more is asked
   pub open-clause : Clause open.ended (λ M 𝓤. open.spec 𝓤) open-reads.Learnt
   pub add-clause : Clause add.ended (λ M 𝓤. add.spec 𝓤) add-reads.Learnt
@@ -117,6 +121,7 @@ pub record Theorem : Type 2 where
   pub label-clause : Clause label-call.ended (λ M 𝓤. label-call.spec 𝓤) label-reads.Learnt
   pub remote-clause : Clause remote-call.ended (λ M 𝓤. remote-call.spec 𝓤) remote-reads.Learnt
   pub band-clause : Clause band-call.ended (λ M 𝓤. band-call.spec 𝓤) band-reads.Learnt
+  pub pair-clause : Clause pair-call.ended (λ M 𝓤. pair-call.spec 𝓤) pair-reads.Learnt
   -- demand 1: the reply and the memory after are those that the definition makes of the call and the memory before
   pub follows : (c : Call) (memory memory′ : Tables) (said : Reply) → Did c memory said memory′ → Follows c memory said memory′
   -- every call that its types allow has a reply and a memory after it, on every memory that has the places that it is lent

@@ -1,6 +1,6 @@
 -- Every call of the list is one of an exported function too, whatever its `out`: slices that hold the same, and the answer as numbers.
 use Prim.Native.Nat.{ℕ, _-_}
-use mathlib.Core.Path.{_≡_, refl, ap, _∙_}
+use mathlib.Core.Path.{_≡_, refl, ap, subst, _∙_}
 use mathlib.Core.List.{List}
 use lib.ListN.{length}
 use denote.Triple.Clauses.{AtExit}
@@ -23,19 +23,55 @@ use Rattle.batching.specs.Answered as batching-answer
 use Rattle.labelling.specs.Answered as labelling-answer
 use Rattle.remote.specs.Answered as remote-answer
 use Rattle.banding.specs.Answered as banding-answer
+use Rattle.pairing.specs.Answered as pairing-answer
+use Rattle.pairing.specs.Parts.{LentPart, lentPart, noWords, partBy, HandedBack}
+use Rattle.pairing.specs.declared.PairFound.{PairFound}
+use Rattle.pairing.proofs.Told.{handed-back}
 use Rattle.batch_answers.specs.AnswerRecords.{nearsOf}
 use Rattle.batch_answers.proofs.Whole.{whole}
-use denote.Ref.{now}
+use lib.IntN.{ℤ}
+use denote.Ref.{RefT, now}
 use Rattle.demands.specs.Did as did
 use Rattle.demands.specs.Did.{WithTables, own, tablesOf, afterSearch, Did}
 use Rattle.demands.proofs.Replies.{slice, lifetimes}
 use Rattle.telling.specs.COutcome.{returnedOf, cOutcomeOf}
 use Rattle.exported_calls.specs.Did.{cReply, CExchange, cExchange, CallMade, Made, CDid, by-open, by-add, by-nearest, by-write, by-read, by-list}
-use Rattle.exported_calls.specs.Did.{by-import, by-export, by-check, by-batch, by-add-labelled, by-label, by-remote, by-bands}
+use Rattle.exported_calls.specs.Did.{by-import, by-export, by-check, by-batch, by-add-labelled, by-label, by-remote, by-bands, by-pair-factory, by-pair-bench}
 
 -- the same tables, and this behind them
 abbrev withOwn : {Before Own : Type 0} → WithTables Before → Own → WithTables Own
 withOwn s own = (s .0, (s .1 .0, (s .1 .1 .0, (s .1 .1 .1 .0, (s .1 .1 .1 .1 .0, (s .1 .1 .1 .1 .1 .0, own))))))
+
+-- the slices of a match over two libraries, and a place that leads to a part of lent words
+abbrev Both : Type 0 → Type 0
+Both Own = WithTables (RefT (List ℕ) × WithTables (RefT (List ℕ) × (RefT (List ℤ) × Own)))
+
+abbrev leading : LentPart → RefT (RefT (List ℤ))
+leading part = record { ptr = (0, 0); name = 0; now = record { ptr = (part .block, part .byte); name = 0; now = part .contents } }
+
+abbrev pair-answer : Both Unit → PairFound → Answer
+pair-answer exits r = pairing-answer.answerBy r (now (own exits .0)) (now (own (own exits .1) .0))
+
+-- what goes with this answer, of these tables
+abbrev pair-part : Both Unit → PairFound → LentPart
+pair-part args r =
+    let bench = own args .1 in
+    partBy r (lentPart (args .1 .0)) (lentPart (bench .1 .0)) (length (now (own bench .1 .0)))
+
+-- the same slices, with `out` and a place for the part
+abbrev with-part : Both Unit → List ℕ → LentPart → Both (RefT (List ℕ) × (RefT (RefT (List ℤ)) × Unit))
+with-part s out part =
+    let bench = own s .1 in
+    withOwn s (own s .0, withOwn bench (own bench .0, (own bench .1 .0, (slice out, (leading part, tt)))))
+
+-- the part that goes with an answer is the one that the contract names
+part-goes : (args exits : Both Unit) (r : PairFound) (answer : Answer) → pair-answer exits r ≡ answer
+    → let bench = own args .1 in
+    HandedBack answer (lentPart (args .1 .0)) (lentPart (bench .1 .0)) (length (now (own bench .1 .0))) (pair-part args r)
+part-goes args exits r answer e =
+    let bench = own args .1 in
+    subst (λ (a : Answer). HandedBack a (lentPart (args .1 .0)) (lentPart (bench .1 .0)) (length (now (own bench .1 .0))) (pair-part args r)) e
+    (handed-back (now (own exits .0)) (now (own (own exits .1) .0)) _ _ _ r)
 
 module _ (c : Call) (memory memory′ : Tables) (said : Reply) (out : List ℕ) where
   abbrev Linked : Type 0
@@ -127,6 +163,16 @@ module _ (c : Call) (memory memory′ : Tables) (said : Reply) (out : List ℕ) 
       let a = banding-answer.answerBy (d .result) (length (now (b .1 .1 .0)) - 1) (now (e .0)) in
       by by-bands (lifetimes 10) (withOwn (d .args) (b .0, (b .1 .0, (b .1 .1 .0, (slice out, tt)))))
       (withOwn (d .exits) (e .0, (e .1 .0, (e .1 .1 .0, (slice (told a), tt))))) (codeOf a) (as-numbers (d .claim)) (made (d .made))
+  linked (did.by-pair-factory d) =
+      let a = pair-answer (d .exits) (d .result) in
+      by by-pair-factory (lifetimes 16) (with-part (d .args) out (noWords (lentPart (d .args .1 .0))))
+      (with-part (d .exits) (told a) (pair-part (d .args) (d .result))) (codeOf a)
+      (as-numbers (d .claim), part-goes (d .args) (d .exits) (d .result) _ (ap (λ (o : Outcome). o .answer) (d .claim))) (made (d .made))
+  linked (did.by-pair-bench d) =
+      let a = pair-answer (d .exits) (d .result) in
+      by by-pair-bench (lifetimes 16) (with-part (d .args) out (noWords (lentPart (d .args .1 .0))))
+      (with-part (d .exits) (told a) (pair-part (d .args) (d .result))) (codeOf a)
+      (as-numbers (d .claim), part-goes (d .args) (d .exits) (d .result) _ (ap (λ (o : Outcome). o .answer) (d .claim))) (made (d .made))
   linked (did.by-batch d) =
       let x = d .searched in
       let b = own (x .args) in

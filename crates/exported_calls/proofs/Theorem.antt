@@ -14,10 +14,14 @@ use Rattle.library_c.proofs.silkendoz_add_labelled.Met as add-labelled-met
 use Rattle.library_c.proofs.silkendoz_label.Met as label-met
 use Rattle.library_c.proofs.silkendoz_remote_match.Met as remote-met
 use Rattle.library_c.proofs.silkendoz_count_bands.Met as band-met
+use Rattle.library_c.proofs.silkendoz_match_both.Met as pair-met
+use denote.Ref.{now}
+use Rattle.demands.specs.Did.{own, tablesOf}
 use Rattle.demands.proofs.Theorem.{theorem}
 use Rattle.exported_calls.specs.Theorem.{ExportedTheorem}
 use Rattle.exported_calls.proofs.Follows.{follows}
 use Rattle.exported_calls.proofs.Linked.{linked}
+use Rattle.exported_calls.proofs.Parts.{part-handed}
 
 pub exported-theorem : ExportedTheorem
 exported-theorem = record {
@@ -36,6 +40,7 @@ exported-theorem = record {
   label-meets = label-met.met;
   remote-meets = remote-met.met;
   band-meets = band-met.met;
+  pair-meets = pair-met.met;
   open-clause = λ M 𝓤 H A mem run κs args. refl;
   add-clause = λ M 𝓤 H A mem run κs args. refl;
   nearest-clause = λ M 𝓤 H A mem run κs args. refl;
@@ -50,6 +55,10 @@ exported-theorem = record {
   label-clause = λ M 𝓤 H A mem run κs args. refl;
   remote-clause = λ M 𝓤 H A mem run κs args. refl;
   band-clause = λ M 𝓤 H A mem run κs args. refl;
+  pair-clause = λ M 𝓤 H A mem run κs args. refl;
   follows = follows;
+  part-is = λ κs args code exits claim.
+      let bench = own args .1 in
+      part-handed (tablesOf args) (tablesOf bench) (now (own bench .1 .0)) (now (own args .0)) (now (own bench .0)) _ _ _ refl refl (claim .1);
   linked = linked;
 }

@@ -11,12 +11,13 @@ use contract.Lifetimes.{Lfts}
 use Rattle.dstree.specs.Measures.{measures}
 use Rattle.dstree.specs.Labels.{label, noLabel}
 use Rattle.dstree.specs.KNearest.{listPlaces}
+use Rattle.dstree.specs.Pair.{ofFactory, ofBench}
 use Rattle.dstree.specs.Book.{Ask, opening, adding, matching, writing, reading, listing, importing, exporting, checking, batching, Call}
-use Rattle.dstree.specs.Book.{labelling, remoteMatching, banding, Reply}
+use Rattle.dstree.specs.Book.{labelling, remoteMatching, banding, pairing, Reply}
 use Rattle.tables.specs.Tables.{Tables}
-use Rattle.calls.specs.Effects.{outcomeOn}
+use Rattle.calls.specs.Effects.{otherIn, outcomeOn}
 use Rattle.batch_answers.specs.AnswerRecords.{nearsOf}
-use Rattle.demands.specs.Did.{own, tablesOf, afterSearch, afterAdding, Placed}
+use Rattle.demands.specs.Did.{work, own, tablesOf, afterSearch, afterAdding, Placed}
 use Rattle.telling.specs.COutcome.{Returned, returned, returnedOf, cOutcome, cOutcomeOf}
 use Rattle.library_c.proofs.silkendoz_open.Kinds as open-kinds
 use Rattle.library_c.proofs.silkendoz_open.Reads as open-reads
@@ -44,6 +45,8 @@ use Rattle.library_c.proofs.silkendoz_remote_match.Kinds as remote-kinds
 use Rattle.library_c.proofs.silkendoz_remote_match.Reads as remote-reads
 use Rattle.library_c.proofs.silkendoz_count_bands.Kinds as band-kinds
 use Rattle.library_c.proofs.silkendoz_count_bands.Reads as band-reads
+use Rattle.library_c.proofs.silkendoz_match_both.Kinds as pair-kinds
+use Rattle.library_c.proofs.silkendoz_match_both.Reads as pair-reads
 use Rattle.library_c.proofs.silkendoz_match_batch as batch
 
 -- what a caller in another language gets: the code, and the slice `out` as it was left; and what then stands in what was lent beside the
@@ -165,6 +168,25 @@ CountsBands = Made band-kinds.ps band-kinds.r band-reads.Learnt (λ κs args cod
     (returned code (now (own exits .1 .1 .1 .0))) (afterSearch args exits)
     (now (own exits .0) ∷ []))
 
+-- all tables of both libraries but their search work are lent to read. Behind `out` stands the place for the part that is handed back
+-- (`Theorem`: `part-is`). The call is one of the factory's list ..
+abbrev pub PairsAsFactory : Call → Tables → List ℕ → CReply → Tables → Type 0
+PairsAsFactory = Made pair-kinds.ps pair-kinds.r pair-reads.Learnt (λ κs args code exits.
+    let bench = own args .1 in
+    let bench′ = own exits .1 in
+    let ask = pairing ofFactory (otherIn (tablesOf bench) (now (own bench .0))) (now (own bench .1 .0)) (now (own args .0)) in
+    cExchange ask (tablesOf args) (now (own bench .1 .1 .0)) (returned code (now (own bench′ .1 .1 .0))) (afterSearch args exits)
+    (now (own exits .0) ∷ now (own bench′ .0) ∷ work bench′ ∷ []))
+
+-- .. and one of the bench's
+abbrev pub PairsAsBench : Call → Tables → List ℕ → CReply → Tables → Type 0
+PairsAsBench = Made pair-kinds.ps pair-kinds.r pair-reads.Learnt (λ κs args code exits.
+    let bench = own args .1 in
+    let bench′ = own exits .1 in
+    let ask = pairing ofBench (otherIn (tablesOf args) (now (own args .0))) (now (own bench .1 .0)) (now (own bench .0)) in
+    cExchange ask (tablesOf bench) (now (own bench .1 .1 .0)) (returned code (now (own bench′ .1 .1 .0))) (afterSearch bench bench′)
+    (now (own bench′ .0) ∷ now (own exits .0) ∷ work exits ∷ []))
+
 -- a batch is lent a list of structs, so that no `Learnt` is generated: its claim is written here, and it is the clause of the contract
 -- (`Theorem`: `batch-clause`)
 abbrev pub batchSeen : (κs : Lfts 10) → Args batch.signature κs → ℕ → AtExit batch.ended κs → CExchange
@@ -203,3 +225,5 @@ pub data CDid (c : Call) (memory : Tables) (out : List ℕ) (said : CReply) (mem
   by-label : TellsLabel c memory out said memory′ → CDid c memory out said memory′
   by-remote : RemoteMatches c memory out said memory′ → CDid c memory out said memory′
   by-bands : CountsBands c memory out said memory′ → CDid c memory out said memory′
+  by-pair-factory : PairsAsFactory c memory out said memory′ → CDid c memory out said memory′
+  by-pair-bench : PairsAsBench c memory out said memory′ → CDid c memory out said memory′

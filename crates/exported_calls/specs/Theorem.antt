@@ -2,12 +2,23 @@
 -- what is defined, and its caller gets the answer as numbers. So the demands, which hold of calls that follow their definitions
 -- (`demands/specs/Theorem`), hold of these.
 use mathlib.Core.Path.{_≡_}
-use mathlib.Core.List.{List}
+use mathlib.Core.List.{List, []}
+use lib.ListN.{getD}
+use denote.Ref.{now}
+use denote.Triple.Clauses.{AtExit}
+use borrow.Fn.Kinds.{Dens, endedOf}
+use contract.Lifetimes.{Lfts}
+use Rattle.segment.specs.Stored.{samplesOf}
+use Rattle.dstree.specs.Refusals.{Refusal}
+use Rattle.dstree.specs.Pair.{ofFactory, byWhich, PairMatch}
 use Prim.Native.Nat.{ℕ}
-use Rattle.dstree.specs.Book.{Call, Reply}
-use Rattle.tables.specs.Tables.{Tables}
+use Rattle.dstree.specs.Book.{Call, Reply, Answer, answering, refusing, paired, pairing}
+use Rattle.tables.specs.Tables.{Tables, measuresOf}
+use Rattle.tables.specs.View.{tracesIn}
+use Rattle.calls.specs.Effects.{otherIn, outcomeOn}
 use Rattle.calls.specs.Follows.{Follows}
-use Rattle.demands.specs.Did.{Did}
+use Rattle.pairing.specs.Parts.{LentPart, lentPart, noWords, tracePart}
+use Rattle.demands.specs.Did.{own, tablesOf, Did}
 use Rattle.demands.specs.Theorem.{Clause, Theorem}
 use Rattle.library_c.proofs.silkendoz_open as open-call
 use Rattle.library_c.proofs.silkendoz_open.Statement as open-statement
@@ -48,9 +59,24 @@ use Rattle.library_c.proofs.silkendoz_remote_match.Reads as remote-reads
 use Rattle.library_c.proofs.silkendoz_count_bands as band-call
 use Rattle.library_c.proofs.silkendoz_count_bands.Statement as band-statement
 use Rattle.library_c.proofs.silkendoz_count_bands.Reads as band-reads
+use Rattle.library_c.proofs.silkendoz_match_both as pair-call
+use Rattle.library_c.proofs.silkendoz_match_both.Kinds as pair-kinds
+use Rattle.library_c.proofs.silkendoz_match_both.Statement as pair-statement
+use Rattle.library_c.proofs.silkendoz_match_both.Reads as pair-reads
 use Rattle.library_c.proofs.silkendoz_match_batch as batch
 use Rattle.library_c.proofs.silkendoz_match_batch.Statement as batch-statement
 use Rattle.exported_calls.specs.Did.{CReply, cReply, BatchLearnt, CDid}
+
+-- a part of one of two tables of samples, handed back with an answer of a match over the libraries f and b
+pub record PartHanded (f b : Tables) (answer : Answer) (factory bench part : LentPart) : Type 0 where
+  -- "the winning trace as part of the lent table it came from": it lies there, n words from trace × n on ..
+  pub lies-there : (m : PairMatch) → answer ≡ answering (paired m)
+      → part ≡ tracePart (byWhich (m .which) factory bench) (measuresOf (byWhich (m .which) f b) .n) (m .trace)
+  -- .. which stand for the samples of the stored trace
+  pub is-trace : (m : PairMatch) → answer ≡ answering (paired m)
+      → samplesOf (part .contents) ≡ getD (tracesIn (byWhich (m .which) f b)) (m .trace) []
+  -- "a refusal hands back an empty part", of the factory's table
+  pub is-empty : (why : Refusal) → answer ≡ refusing why → part ≡ noWords factory
 
 -- an exported call that follows its definition: there is a reply that does, and the caller gets this reply as numbers
 pub record Told (c : Call) (memory : Tables) (out : List ℕ) (got : CReply) (memory′ : Tables) : Type 0 where
@@ -74,6 +100,7 @@ pub record ExportedTheorem : Type 2 where
   pub label-meets : {M : Type 1} → label-statement.statement M
   pub remote-meets : {M : Type 1} → remote-statement.statement M
   pub band-meets : {M : Type 1} → band-statement.statement M
+  pub pair-meets : {M : Type 1} → pair-statement.statement M
   -- what `CDid` claims of a call is what its contract ensures, and no more is asked
   pub open-clause : Clause open-call.ended (λ M 𝓤. open-call.spec 𝓤) open-reads.Learnt
   pub add-clause : Clause add.ended (λ M 𝓤. add.spec 𝓤) add-reads.Learnt
@@ -89,9 +116,18 @@ pub record ExportedTheorem : Type 2 where
   pub label-clause : Clause label-call.ended (λ M 𝓤. label-call.spec 𝓤) label-reads.Learnt
   pub remote-clause : Clause remote-call.ended (λ M 𝓤. remote-call.spec 𝓤) remote-reads.Learnt
   pub band-clause : Clause band-call.ended (λ M 𝓤. band-call.spec 𝓤) band-reads.Learnt
+  pub pair-clause : Clause pair-call.ended (λ M 𝓤. pair-call.spec 𝓤) pair-reads.Learnt
   -- what it leaves is what the definition makes of the call and the memory before, and what it tells is the answer
   pub follows : (c : Call) (memory memory′ : Tables) (out : List ℕ) (got : CReply) → CDid c memory out got memory′
       → Told c memory out got memory′
+  -- document 02, §11: it "hands back the winning trace as part of the lent table it came from; a refusal hands back an empty part". The
+  -- part is what is then laid behind `out`, and the answer is that of the call
+  pub part-is : (κs : Lfts 16) (args : Dens κs pair-kinds.ps) (code : ℕ) (exits : AtExit (endedOf 16 pair-kinds.ps pair-kinds.r) κs)
+      → pair-reads.Learnt κs args code exits
+      → let bench = own args .1 in
+      let ask = pairing ofFactory (otherIn (tablesOf bench) (now (own bench .0))) (now (own bench .1 .0)) (now (own args .0)) in
+      PartHanded (tablesOf args) (tablesOf bench) (outcomeOn ask (tablesOf args) .answer) (lentPart (args .1 .0)) (lentPart (bench .1 .0))
+      (lentPart (now (own (own exits .1) .1 .1 .1 .0)))
   -- each call has its exported function, whatever `out` is lent, so that nothing is claimed of no call
   pub linked : (c : Call) (memory memory′ : Tables) (said : Reply) (out : List ℕ) → Did c memory said memory′
       → CDid c memory out (cReply said out) memory′

@@ -1,11 +1,12 @@
 // The calls for C and for Rust: numbers and slices only, a slice as a pointer and then its length. Each is the call of the same name, and
 // its contract is that call's own definition. The code is 0, or the number of the refusal; the answer's values go into the lent slice
 // `out`, in order: adding, with a label or without one, the trace's number, a match the trace's number, the distance, leaves read and
-// traces read, the remote's match these and the fault code, a listing leaves read, traces read and how many it lists, a writing the number
-// of blocks, an import the number of traces, an export the number of bytes, a batch leaves read, the bench's call for a label fault code
-// and serial, a refusal its place; an opening, a reading, a check and a report of bands have none. A shorter `out` takes the first of
-// them, and places behind them stay. The samples of a trace or a query are plain numbers, of which a call refuses those outside the limits;
-// a place of the samples table is a word that has its sample in the high bits.
+// traces read, the remote's match these and the fault code, a match over two libraries which of them (0 the factory's, 1 the bench's), then
+// what a match has, over both, and how many of the leaves are the factory's, a listing leaves read, traces read and how many it lists, a
+// writing the number of blocks, an import the number of traces, an export the number of bytes, a batch leaves read, the bench's call for a
+// label fault code and serial, a refusal its place; an opening, a reading, a check and a report of bands have none. A shorter `out` takes
+// the first of them, and places behind them stay. The samples of a trace or a query are plain numbers, of which a call refuses those
+// outside the limits; a place of the samples table is a word that has its sample in the high bits.
 
 pub mod version; // which layout of the tables this is for
 
@@ -14,13 +15,16 @@ use segment::Sample;
 use segment::Word;
 ghost use mathlib.Core.Path.{_≡_};
 ghost use mathlib.Core.List.{[], _∷_};
+ghost use lib.ListN.{length};
 ghost use Rattle.dstree.specs.Measures.{measures};
 ghost use Rattle.dstree.specs.Labels.{label, noLabel};
 ghost use Rattle.dstree.specs.KNearest.{listPlaces};
+ghost use Rattle.dstree.specs.Pair.{ofFactory};
 ghost use Rattle.dstree.specs.Book as book;
 ghost use Rattle.tables.specs.Lent.{tablesAfter, tablesAfterAdding, tablesAfterSearch, tablesBefore};
-ghost use Rattle.calls.specs.Effects.{outcomeOn};
+ghost use Rattle.calls.specs.Effects.{otherIn, outcomeOn};
 ghost use Rattle.batch_answers.specs.AnswerRecords.{nearsOf};
+ghost use Rattle.pairing.specs.Parts.{lentPart, HandedBack};
 ghost use Rattle.telling.specs.COutcome.{cOutcome, cOutcomeOf};
 
 // Two wrong programs that the contract rules out: one that gives the place as its code, and one that writes the place of a refusal into a
@@ -395,6 +399,67 @@ pub extern "C" fn silkendoz_count_bands(
         edges,
     );
     telling::tell_banded(answer, out)
+}
+
+// The winning trace is laid into `won`, which has to lead to some slice when the call begins.
+//
+// Two wrong programs that the contract rules out: one that tells the bench's leaves for the factory's, and one that lays the factory's
+// table into `won` where the bench's trace is the nearest.
+#[no_mangle]
+pub extern "C" fn silkendoz_match_both<'a>(
+    control: &[u16],
+    samples: &'a [Word],
+    nodes: &[i64],
+    links: &[u16],
+    work: &mut [u64],
+    labels: &[u64],
+    trail: &mut [u16],
+    bench_control: &[u16],
+    bench_samples: &'a [Word],
+    bench_nodes: &[i64],
+    bench_links: &[u16],
+    bench_work: &mut [u64],
+    bench_labels: &[u64],
+    bench_trail: &mut [u16],
+    query: &[Sample],
+    out: &mut [u64],
+    won: &mut &'a [Word],
+) -> u64
+    ensures { λ r. ⌜ (cOutcome r (now (out .exit))
+        (tablesAfterSearch control samples nodes links work labels)
+        (now (trail .exit) ∷ now («bench_trail» .exit) ∷ now («bench_work» .exit) ∷ [])
+        ≡ cOutcomeOf (outcomeOn (book.pairing ofFactory
+        (otherIn (tablesBefore «bench_control» «bench_samples» «bench_nodes» «bench_links» «bench_work» «bench_labels»)
+        (now («bench_trail» .entry)))
+        (now (query .entry)) (now (trail .entry)))
+        (tablesBefore control samples nodes links work labels))
+        (now (out .entry)))
+        × HandedBack (outcomeOn (book.pairing ofFactory
+        (otherIn (tablesBefore «bench_control» «bench_samples» «bench_nodes» «bench_links» «bench_work» «bench_labels»)
+        (now («bench_trail» .entry)))
+        (now (query .entry)) (now (trail .entry)))
+        (tablesBefore control samples nodes links work labels) .answer)
+        (lentPart (samples .entry)) (lentPart («bench_samples» .entry)) (length (now (query .entry))) (lentPart (now (won .exit))) ⌝ }
+{
+    let found = pairing::match_both(
+        control,
+        samples,
+        nodes,
+        links,
+        work,
+        labels,
+        trail,
+        bench_control,
+        bench_samples,
+        bench_nodes,
+        bench_links,
+        bench_work,
+        bench_labels,
+        bench_trail,
+        query,
+    );
+    *won = pairing::parts::won_part(samples, bench_samples, query.len(), found);
+    telling::tell_paired(found, out)
 }
 
 // The list is lent as records, a struct of two numbers each, and has one for each query.

@@ -1,14 +1,17 @@
 -- What a caller gets, answer by answer.
-use Prim.Native.Nat.{ℕ, _*_}
+use Prim.Native.Nat.{ℕ, _+_, _*_, _≤_}
 use mathlib.Core.Path.{_≡_, refl, sym, ap, ap₂, _∙_}
+use mathlib.Core.Bool.{Bool, true, false}
 use mathlib.Core.List.{List, [], _∷_}
 use lib.ListN.{length, set, take}
+use lib.Seq.{length-take-le}
 use Rattle.dstree.specs.Refusals.{Refusal, numberOf, placeOf}
 use Rattle.dstree.specs.Matching.{Near, Match}
 use Rattle.dstree.specs.KNearest.{KNearest}
+use Rattle.dstree.specs.Pair.{byWhich}
 use Rattle.dstree.specs.Sheet.{blockSize}
 use Rattle.dstree.specs.Book as book
-use Rattle.dstree.specs.Book.{Result, done, added, matched, written, neighbours, refusing, answering}
+use Rattle.dstree.specs.Book.{Result, done, added, matched, written, neighbours, paired, refusing, answering}
 use Rattle.tables.specs.Answers.{wordOf}
 use Rattle.tables.specs.declared.Refusal as r
 use Rattle.opening.specs.Opened as opened
@@ -52,6 +55,10 @@ use Rattle.remote.specs.declared.RemoteFound.the-variants as m
 use Rattle.banding.specs.Answered as banding
 use Rattle.banding.specs.declared.Banded as y
 use Rattle.banding.specs.declared.Banded.the-variants as z
+use Rattle.pairing.specs.Answered as pairing
+use Rattle.pairing.specs.declared.PairFound.{PairFound}
+use Rattle.pairing.specs.declared.PairFound.the-variants as h
+use Rattle.pair_search.specs.BothSearched.{whichBy, pairMatchBy}
 use Rattle.calls.specs.Numbers.{codeOf, resultValues, valuesOf, laid}
 use Rattle.telling.specs.COutcome.{returned, returnedOf}
 
@@ -89,6 +96,17 @@ five-laid a b c d e (p ∷ q ∷ []) = refl
 five-laid a b c d e (p ∷ q ∷ r ∷ []) = refl
 five-laid a b c d e (p ∷ q ∷ r ∷ s ∷ []) = refl
 five-laid a b c d e (p ∷ q ∷ r ∷ s ∷ t ∷ out) = refl
+
+six-laid : (a b c d e f : ℕ) (out : List ℕ)
+    → set (set (set (set (set (set out 0 a) 1 b) 2 c) 3 d) 4 e) 5 f ≡ laid (a ∷ b ∷ c ∷ d ∷ e ∷ f ∷ []) out
+unfolding laid
+six-laid a b c d e f [] = refl
+six-laid a b c d e f (p ∷ []) = refl
+six-laid a b c d e f (p ∷ q ∷ []) = refl
+six-laid a b c d e f (p ∷ q ∷ r ∷ []) = refl
+six-laid a b c d e f (p ∷ q ∷ r ∷ s ∷ []) = refl
+six-laid a b c d e f (p ∷ q ∷ r ∷ s ∷ t ∷ []) = refl
+six-laid a b c d e f (p ∷ q ∷ r ∷ s ∷ t ∷ u ∷ out) = refl
 
 pub done-returned : (out : List ℕ) → returned 0 out ≡ returnedOf (answering done) out
 unfolding returnedOf codeOf valuesOf resultValues laid
@@ -129,6 +147,13 @@ three-stores out a b c w x y e f g = g ∙ ap (λ (l : List ℕ). set l 2 y) (f 
 
 pub four-stores : (out a b c d : List ℕ) (w x y z : ℕ) → a ≡ set out 0 w → b ≡ set a 1 x → c ≡ set b 2 y → d ≡ set c 3 z → d ≡ set (set (set (set out 0 w) 1 x) 2 y) 3 z
 four-stores out a b c d w x y z e f g h = h ∙ ap (λ (l : List ℕ). set l 3 z) (three-stores out a b c w x y e f g)
+
+pub six-stores : (out a b c d e f : List ℕ) (u v w x y z : ℕ) → a ≡ set out 0 u → b ≡ set a 1 v → c ≡ set b 2 w → d ≡ set c 3 x
+    → e ≡ set d 4 y → f ≡ set e 5 z → f ≡ laid (u ∷ v ∷ w ∷ x ∷ y ∷ z ∷ []) out
+six-stores out a b c d e f u v w x y z g h i j k l =
+    l
+    ∙ (ap (λ (m : List ℕ). set m 5 z) (k ∙ ap (λ (m : List ℕ). set m 4 y) (four-stores out a b c d u v w x g h i j))
+    ∙ six-laid u v w x y z out)
 
 -- ---- the answers of the calls, case by case
 
@@ -276,3 +301,33 @@ pub banded-refused : (answer : y.Banded) (bands : ℕ) (list : List ℕ) (why : 
     → returnedOf (refusing (wordOf why)) out ≡ returnedOf (banding.answerBy answer bands list) out
 unfolding banding.answerBy
 banded-refused answer bands list why out is = ap (λ (x : y.Banded). returnedOf (banding.answerBy x bands list) out) (sym is)
+
+-- of two libraries the factory's leaves are told by their number
+module _ (trace distance leaves benchLeaves traces : ℕ) (trail benchTrail out out′ : List ℕ) where
+  told : (in-bench : Bool) → leaves ≤ length trail
+      → out′ ≡ laid (byWhich (whichBy in-bench) 0 1 ∷ trace ∷ distance ∷ (leaves + benchLeaves) ∷ traces ∷ leaves ∷ []) out
+      → returned 0 out′ ≡ returnedOf (answering (paired (pairMatchBy in-bench trace distance leaves benchLeaves traces trail benchTrail))) out
+  unfolding returnedOf codeOf valuesOf resultValues
+  told in-bench room g =
+      ap (λ (l : List ℕ). returned 0 l)
+      (g ∙ ap (λ (k : ℕ). laid (byWhich (whichBy in-bench) 0 1 ∷ trace ∷ distance ∷ (leaves + benchLeaves) ∷ traces ∷ k ∷ []) out)
+      (sym (length-take-le leaves trail room)))
+
+  pub factory-told : (answer : PairFound) → out′ ≡ laid (0 ∷ trace ∷ distance ∷ (leaves + benchLeaves) ∷ traces ∷ leaves ∷ []) out
+      → answer ≡ h.Factory trace distance leaves benchLeaves traces → pairing.factoryLeavesBy answer ≤ length trail
+      → returned 0 out′ ≡ returnedOf (pairing.answerBy answer trail benchTrail) out
+  unfolding pairing.answerBy pairing.factoryLeavesBy
+  factory-told answer g is room =
+      told false (rw is at room) g ∙ ap (λ (x : PairFound). returnedOf (pairing.answerBy x trail benchTrail) out) (sym is)
+
+  pub bench-told : (answer : PairFound) → out′ ≡ laid (1 ∷ trace ∷ distance ∷ (leaves + benchLeaves) ∷ traces ∷ leaves ∷ []) out
+      → answer ≡ h.Bench trace distance leaves benchLeaves traces → pairing.factoryLeavesBy answer ≤ length trail
+      → returned 0 out′ ≡ returnedOf (pairing.answerBy answer trail benchTrail) out
+  unfolding pairing.answerBy pairing.factoryLeavesBy
+  bench-told answer g is room =
+      told true (rw is at room) g ∙ ap (λ (x : PairFound). returnedOf (pairing.answerBy x trail benchTrail) out) (sym is)
+
+pub paired-refused : (answer : PairFound) (trail benchTrail : List ℕ) (why : r.Refusal) (out : List ℕ) → answer ≡ h.Refused why
+    → returnedOf (refusing (wordOf why)) out ≡ returnedOf (pairing.answerBy answer trail benchTrail) out
+unfolding pairing.answerBy
+paired-refused answer trail benchTrail why out is = ap (λ (x : PairFound). returnedOf (pairing.answerBy x trail benchTrail) out) (sym is)

@@ -1,7 +1,8 @@
 // An answer as numbers: its code is given back, its values go into a lent slice, in order. An adding tells the trace's number, a match
 // trace, distance, leaves read and traces read, the remote's match the fault code behind these, a listing leaves read, traces read and how
-// many it lists, a writing its blocks, an import its traces, an export its bytes, a batch leaves read, the bench's call code and serial.
-// An opening, a reading, a check and a report of bands tell nothing, a refusal its place.
+// many it lists, a writing its blocks, an import its traces, an export its bytes, a batch leaves read, the bench's call code and serial. A
+// match over two libraries tells which of them, 0 the factory's and 1 the bench's, then what a match does, and how many of the leaves are
+// the factory's. An opening, a reading, a check and a report of bands tell nothing, a refusal its place.
 
 use adding::Added;
 use banding::Banded;
@@ -14,14 +15,15 @@ use labelling::Labelled;
 use listing::Listed;
 use matching::Found;
 use opening::Opened;
+use pairing::PairFound;
 use remote::RemoteFound;
 use sheet_reading::Read;
 use sheet_writing::Written;
 use tables::Refusal;
 ghost use mathlib.Core.Path.{_≡_};
-ghost use mathlib.Core.List.{List};
-ghost use Prim.Native.Nat.{ℕ};
-ghost use lib.ListN.{set};
+ghost use mathlib.Core.List.{List, [], _∷_};
+ghost use Prim.Native.Nat.{ℕ, _^_, _≤_, _<_};
+ghost use lib.ListN.{length, set};
 ghost use Rattle.dstree.specs.Matching.{Near};
 ghost use Rattle.dstree.specs.Book.{refusing};
 ghost use Rattle.tables.specs.Answers.{wordOf};
@@ -38,6 +40,8 @@ ghost use Rattle.batching.specs.Answered as batching;
 ghost use Rattle.labelling.specs.Answered as labelling;
 ghost use Rattle.remote.specs.Answered as remote;
 ghost use Rattle.banding.specs.Answered as banding;
+ghost use Rattle.pairing.specs.Answered as pairing;
+ghost use Rattle.calls.specs.Numbers.{laid};
 ghost use Rattle.telling.specs.COutcome.{returned, returnedOf};
 
 // A number at its place, if there is such a place.
@@ -221,5 +225,62 @@ pub fn tell_banded(answer: Banded, out: &mut [u64]) -> u64
     match answer {
         Banded::Reported => 0,
         Banded::Refused(why) => tell_refusal(why, out),
+    }
+}
+
+// Which library, trace and distance, leaves and traces over both, and the factory's leaves.
+fn put_paired(
+    out: &mut [u64],
+    library: u64,
+    trace: u64,
+    distance: u64,
+    leaves: u64,
+    traces: u64,
+    factory_leaves: u64,
+)
+    ensures { λ _. ⌜ now (out .exit)
+        ≡ laid (library ∷ trace ∷ distance ∷ leaves ∷ traces ∷ «factory_leaves» ∷ []) (now (out .entry)) ⌝ }
+{
+    put(out, 0, library);
+    put(out, 1, trace);
+    put(out, 2, distance);
+    put(out, 3, leaves);
+    put(out, 4, traces);
+    put(out, 5, factory_leaves);
+}
+
+// The trails are told by the slices that the call leaves them in. The factory's leaves are told by their number too, so that its trail has
+// to hold them.
+pub fn tell_paired(answer: PairFound, out: &mut [u64]) -> u64
+    requires { ⌜ pairing.leavesBy answer < 2 ^ 64 ⌝ }
+    ensures { λ r. ⌜ ((trail benchTrail : List ℕ) → pairing.factoryLeavesBy answer ≤ length trail
+        → returned r (now (out .exit)) ≡ returnedOf (pairing.answerBy answer trail benchTrail) (now (out .entry))) ⌝ }
+{
+    match answer {
+        PairFound::Factory(trace, distance, leaves, bench_leaves, traces) => {
+            put_paired(
+                out,
+                0,
+                trace,
+                distance,
+                leaves + bench_leaves,
+                traces,
+                leaves,
+            );
+            0
+        }
+        PairFound::Bench(trace, distance, leaves, bench_leaves, traces) => {
+            put_paired(
+                out,
+                1,
+                trace,
+                distance,
+                leaves + bench_leaves,
+                traces,
+                leaves,
+            );
+            0
+        }
+        PairFound::Refused(why) => tell_refusal(why, out),
     }
 }

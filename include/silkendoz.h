@@ -37,24 +37,30 @@
  * same trail and work. That is all that is said: nothing of the time that a call takes; and `labels` is one table, so that whoever makes
  * the remote's call lends the serials too. Other calls, a sheet among them, are not the remote's.
  *
+ * TWO LIBRARIES. silkendoz_match_both matches a query over two at once, one that every machine carries and one that the bench builds: the
+ * factory's and the bench's. A call that searches, checks, writes a sheet, exports or tells a label writes none of the tables but, in a
+ * search, `work`. So the other five may lie in memory that cannot be written: SILKENDOZ_FACTORY declares a library over constant tables.
+ *
  * WHAT A CALLER OWES, which C cannot test:
  *
  *   - each pointer is not null and is aligned for its element. If the length is 0 it is not followed;
  *   - it leads to as many elements as the length says, all of them readable, and writable where the pointer is not const;
+ *   - the part that `won` of silkendoz_match_both leads to is such a slice before the call, too, if only an empty one;
  *   - no slice that a call may write overlaps another slice of the same call;
  *   - until the call is back, nobody else writes a lent slice, nor reads one that the call may write;
  *   - the stack has room. On x86-64 adding, reading a sheet and importing a recording take less than 96 KiB, checking tables less than
- *     64 KiB, a batch less than 48 KiB, a report of bands less than 24 KiB, every other call less than 16 KiB (measured, not proved).
+ *     64 KiB, a batch less than 48 KiB, a match over two libraries and a report of bands less than 24 KiB, every other call less than
+ *     16 KiB (measured, not proved).
  *
  * There is nothing else: any contents, any lengths and any numbers are answered.
  *
  * SEVERAL AT ONCE. A slice that a call takes as const may be lent to other calls at the same time. Over the same tables any number of
  * threads or cores may search at once (silkendoz_nearest, silkendoz_remote_match, silkendoz_k_nearest, silkendoz_match_batch,
- * silkendoz_count_bands), each with work, trail, list, answers and out of its own: a copy of `struct silkendoz_tables` with another `work`
- * is all it takes. At the same time others may check, write a sheet, export or ask for a label (silkendoz_check_tables,
- * silkendoz_write_sheet, silkendoz_export_recording, silkendoz_label), with sheet, buffer and out of their own and any `work` that no
- * search is writing. Opening, adding, reading a sheet and importing a recording write the tables: let nobody else touch them until the call
- * is back.
+ * silkendoz_count_bands, silkendoz_match_both), each with work, trail, list, answers, part and out of its own: a copy of `struct
+ * silkendoz_tables` with another `work` is all it takes. At the same time others may check, write a sheet, export or ask for a label
+ * (silkendoz_check_tables, silkendoz_write_sheet, silkendoz_export_recording, silkendoz_label), with sheet, buffer and out of their own and
+ * any `work` that no search is writing. Opening, adding, reading a sheet and importing a recording write the tables: let nobody else touch
+ * them until the call is back.
  *
  * COMMON SLIPS, none of which a call can notice:
  *
@@ -86,14 +92,16 @@
  *   silkendoz_check_tables      0   none
  *   silkendoz_match_batch       0   leaves read
  *   silkendoz_count_bands       0   none
+ *   silkendoz_match_both        0   library (0 the factory's, 1 the bench's), trace number, distance, leaves read, traces read, and how
+ *                                   many of the leaves are the factory's
  *   any call              refused   the place
  *
  * If `out` has fewer places, the first values are written and the others are left out. SILKENDOZ_OUT places are enough for every call.
  *
  * REFUSALS. A refused call leaves every table, the trail, the list, the answers, the sheet, the buffer and all of `out` behind its first
  * place as they were. The place is 0, but for a torn block, where it is the first block at fault. The numbers are tested in this order: 1;
- * a control record too short (2); its measures (3); other tables (2); the rest of 3; 11, 12 or 14, directly behind 3; then 4, 15, 16, 5 to
- * 8; 13. Reading a sheet: 8; 9 over all blocks; 10; 15; 2.
+ * a control record too short (2); its measures (3); other tables (2); the rest of 3; 11, 12, 14 or 17, directly behind 3; then 4, 15, 16,
+ * 5 to 8; 13. Of two libraries 2 and 3 are tested of the factory's, then of the bench's. Reading a sheet: 8; 9 over all blocks; 10; 15; 2.
  */
 #ifndef SILKENDOZ_H
 #define SILKENDOZ_H
@@ -200,11 +208,15 @@ __attribute__((used)) static uint64_t (*const silkendoz_layout_of_the_archive)(v
 #define SILKENDOZ_TABLES_TO_SEARCH SILKENDOZ_TABLES(SILKENDOZ_READ, SILKENDOZ_WRITE) /* all but work */
 #define SILKENDOZ_TABLES_TO_READ SILKENDOZ_TABLES(SILKENDOZ_READ, SILKENDOZ_READ) /* all */
 
+/* The tables of a second library, all const but work: bench_control, bench_control_len, and so on. */
+#define SILKENDOZ_BENCH_ARGUMENT(lent, with, type, name, places) lent(type) bench_##name, size_t bench_##name##_len,
+#define SILKENDOZ_BENCH_TABLES_TO_SEARCH SILKENDOZ_EACH_TABLE(SILKENDOZ_BENCH_ARGUMENT, SILKENDOZ_READ, SILKENDOZ_WRITE, 0, 0, 0)
+
 /* Places of a trail that are enough for every search: there are at most as many leaves as traces. */
 #define SILKENDOZ_TRAIL(c) SILKENDOZ_SIZE(c)
 
 /* Places of `out` that are enough for every call. */
-#define SILKENDOZ_OUT 5
+#define SILKENDOZ_OUT 6
 
 /* The numbers that a call gives back. */
 enum silkendoz_refusal {
@@ -214,8 +226,8 @@ enum silkendoz_refusal {
     SILKENDOZ_SPOILED = 3,        /* tables not well formed */
     SILKENDOZ_WRONG_TRACE = 4,    /* length not n */
     SILKENDOZ_FULL = 5,           /* count equals capacity; an import: not all traces fit */
-    SILKENDOZ_EMPTY = 6,          /* a search with no trace stored */
-    SILKENDOZ_SHORT_TRAIL = 7,    /* trail shorter than the number of leaves, or list shorter than k records or one a band */
+    SILKENDOZ_EMPTY = 6,          /* a search with no trace stored; over two libraries: in neither of them */
+    SILKENDOZ_SHORT_TRAIL = 7,    /* trail shorter than its library's leaves, or list shorter than k records or one a band */
     SILKENDOZ_SHEET_LENGTH = 8,   /* writing, export: below the need; reading: 0, not a multiple of 512, above 8,373 blocks */
     SILKENDOZ_TORN_BLOCK = 9,     /* check, block number or kind wrong; the place is the first block at fault */
     SILKENDOZ_BAD_SHEET = 10,     /* letters, measures, count above capacity, number of blocks, a nonzero byte that must be 0, or blocks of
@@ -226,7 +238,8 @@ enum silkendoz_refusal {
     SILKENDOZ_LOOSE_RECORD = 13,  /* check: well-formed tables hold a figure that is not exactly the recomputed one */
     SILKENDOZ_BAD_BATCH = 14,     /* a batch: 0 or more than 16 queries, or an answer list of another length than the batch */
     SILKENDOZ_SAMPLE_RANGE = 15,  /* an added trace, a query or a sheet has a sample outside -524,288 to 524,287 */
-    SILKENDOZ_BAD_EDGES = 16      /* a report of bands: fewer than 2 edges or more than 16, or one that is not above the last */
+    SILKENDOZ_BAD_EDGES = 16,     /* a report of bands: fewer than 2 edges or more than 16, or one that is not above the last */
+    SILKENDOZ_UNLIKE_LIBRARIES = 17 /* a match over two libraries: their n differ */
 };
 
 /* Opens an empty library with these measures: the needed parts of the tables are set to zero, then the control record is written. What the
@@ -344,11 +357,12 @@ uint64_t silkendoz_export_recording(
 /* Whether tables that nobody vouches for may be trusted: recomputes every node's least and greatest sums and scatters from the samples of
  * the traces below it, by the leaves' lists, and compares them. If it gives 0, silkendoz_nearest, silkendoz_remote_match,
  * silkendoz_k_nearest and silkendoz_match_batch answer the nearest stored traces and read the fewest leaves, and the true number of each
- * band lies between the two of silkendoz_count_bands, whatever made the tables; and it still gives 0 after any calls that follow. It gives
- * 0 for every library that calls made, an empty one too. A range that is wider than it need be is loose (13) as well as one that is too
- * narrow. What it does not see: a sample that changed, where the figures that a node records stayed as they were, or changed with it;
- * thresholds of tests, by which adding goes; labels; places that hold nothing of the library. It reads every stored sample, up to 16 times.
- * Nothing is written but `out`. Of `work` only the length is looked at. Refuses 2, 3, 13. */
+ * band lies between the two of silkendoz_count_bands, whatever made the tables; so does silkendoz_match_both, if it gives 0 for the tables
+ * of both libraries; and it still gives 0 after any calls that follow. It gives 0 for every library that calls made, an empty one too. A
+ * range that is wider than it need be is loose (13) as well as one that is too narrow. What it does not see: a sample that changed, where
+ * the figures that a node records stayed as they were, or changed with it; thresholds of tests, by which adding goes; labels; places that
+ * hold nothing of the library. It reads every stored sample, up to 16 times. Nothing is written but `out`. Of `work` only the length is
+ * looked at. Refuses 2, 3, 13. */
 uint64_t silkendoz_check_tables(
     SILKENDOZ_TABLES_TO_READ
     uint64_t *out, size_t out_len);
@@ -386,6 +400,34 @@ uint64_t silkendoz_count_bands(
     const uint64_t *edges, size_t edges_len,
     uint64_t *out, size_t out_len);
 
+/* So many words of a table `samples`, from one of them on. SILKENDOZ_SAMPLE(won.at[i]) is the sample of word i. */
+struct silkendoz_part {
+    const int32_t *at;
+    size_t len;
+};
+
+/* Finds the trace that is nearest to a query of n samples, of all that two libraries store: the least sum of squared differences, the
+ * factory's among equals, then the lowest number. The first tables and the first trail are the factory's, the others the bench's. Both have
+ * to have the same n (17); capacity and leaf size may differ. One of the two may be empty.
+ *
+ * `won` becomes the nearest trace, its n words as they lie in the lent table: nothing is copied, and it may be looked at as long as that
+ * table stays. Of a refusal it becomes an empty part (len 0). Before the call it has to be a part of some memory, an empty one will do:
+ * silkendoz_match_both_in sees to that.
+ *
+ * In each library the leaves read are those whose bound is at most the nearest trace's distance, wherever that lies. Each trail begins with
+ * its own, by bound, then number; its places behind them stay. out[3] and out[4] are leaves and traces over both, out[5] says how many of
+ * the leaves are the factory's. The needed part of each `work` is left zero, an empty library's too. (On well-formed tables that
+ * silkendoz_check_tables would refuse, it is the nearest of the traces in the leaves read.) Refuses 2, 3 of the factory's, 2, 3 of the
+ * bench's, 17, 4, 15, 6, 7. */
+uint64_t silkendoz_match_both(
+    SILKENDOZ_TABLES_TO_SEARCH
+    uint16_t *trail, size_t trail_len,
+    SILKENDOZ_BENCH_TABLES_TO_SEARCH
+    uint16_t *bench_trail, size_t bench_trail_len,
+    const int32_t *query, size_t query_len,
+    uint64_t *out, size_t out_len,
+    struct silkendoz_part *won);
+
 /* ---- the same calls, with the tables in a struct ---- */
 
 /* A library's tables, each with its length in elements: control and control_len, samples and samples_len, and so on, in the order of the
@@ -402,6 +444,20 @@ struct silkendoz_tables {
 #define SILKENDOZ_LIBRARY(name, n, c) \
     SILKENDOZ_EACH_TABLE(SILKENDOZ_STATIC_TABLE, 0, 0, name, n, c) \
     static const struct silkendoz_tables name = {SILKENDOZ_EACH_TABLE(SILKENDOZ_SET_FIELD, 0, 0, name, n, c)}
+
+/* `SILKENDOZ_FACTORY(factory, 64, 100);` outside a function, where constant tables factory_control, factory_samples, factory_nodes,
+ * factory_links and factory_labels stand (`silkendoz tables` writes them): search work, and `factory`, a struct over all six. Nothing but
+ * work may be written. So lend it to searches, checks, writings, exports and questions for a label, and to no call that opens, adds or
+ * reads. */
+#ifdef __cplusplus
+#define SILKENDOZ_UNCONST(type, table) const_cast<type *>(table)
+#else
+#define SILKENDOZ_UNCONST(type, table) (type *)(table)
+#endif
+#define SILKENDOZ_SET_CONSTANT(lent, with, type, name, places) SILKENDOZ_UNCONST(type, with##_##name), places,
+#define SILKENDOZ_FACTORY(name, n, c) \
+    static uint64_t name##_work[SILKENDOZ_WORK(c)]; \
+    static const struct silkendoz_tables name = {SILKENDOZ_EACH_TABLE(SILKENDOZ_SET_CONSTANT, 0, 0, name, n, c)}
 
 /* The tables of a struct as arguments. */
 #define SILKENDOZ_PASS(lent, tables, type, name, places) (tables)->name, (tables)->name##_len,
@@ -562,6 +618,46 @@ static inline uint64_t silkendoz_count_bands_in(
     return silkendoz_count_bands(SILKENDOZ_PASSED(t) places, 2 * records, query, query_len, edges, edges_len, out, out_len);
 }
 
+/* What a match over two libraries answers. */
+struct silkendoz_pair_match {
+    uint64_t library; /* 0 the factory's, 1 the bench's */
+    uint64_t trace;
+    uint64_t distance;
+    uint64_t leaves; /* read, over both */
+    uint64_t traces; /* read, over both */
+    uint64_t factory_leaves; /* of the leaves, at the beginning of the factory's trail */
+    uint64_t bench_leaves; /* .. of the bench's */
+};
+
+/* `match` is written if the call gives 0, and else left as it was. `won` need not hold anything before. */
+static inline uint64_t silkendoz_match_both_in(
+    const struct silkendoz_tables *factory,
+    uint16_t *factory_trail, size_t factory_trail_len,
+    const struct silkendoz_tables *bench,
+    uint16_t *bench_trail, size_t bench_trail_len,
+    const int32_t *query, size_t query_len,
+    struct silkendoz_pair_match *match,
+    struct silkendoz_part *won)
+{
+    uint64_t out[SILKENDOZ_OUT] = {0, 0, 0, 0, 0, 0}, number;
+    /* an empty part of some memory */
+    won->at = factory->samples;
+    won->len = 0;
+    number = silkendoz_match_both(
+        SILKENDOZ_PASSED(factory) factory_trail, factory_trail_len, SILKENDOZ_PASSED(bench) bench_trail, bench_trail_len, query, query_len,
+        out, SILKENDOZ_OUT, won);
+    if (number != SILKENDOZ_DONE)
+        return number;
+    match->library = out[0];
+    match->trace = out[1];
+    match->distance = out[2];
+    match->leaves = out[3];
+    match->traces = out[4];
+    match->factory_leaves = out[5];
+    match->bench_leaves = out[3] - out[5];
+    return SILKENDOZ_DONE;
+}
+
 /* The word for a number that a call gives back: the documents', "done" for 0, "unknown" for a number that no call gives. */
 static inline const char *silkendoz_word(uint64_t number)
 {
@@ -583,6 +679,7 @@ static inline const char *silkendoz_word(uint64_t number)
     case SILKENDOZ_BAD_BATCH: return "bad batch";
     case SILKENDOZ_SAMPLE_RANGE: return "sample range";
     case SILKENDOZ_BAD_EDGES: return "bad edges";
+    case SILKENDOZ_UNLIKE_LIBRARIES: return "unlike libraries";
     default: return "unknown";
     }
 }

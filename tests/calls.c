@@ -1,5 +1,5 @@
 /* The calls from C, over the struct of tables: document 01's examples, lists of the k nearest, recordings, the check, batches, labels,
- * bands, samples of 20 bits, refusals in their order, and memory that has to stay. Prints one line, and fails at the first difference. */
+ * bands, two libraries, samples of 20 bits, refusals in their order, and memory that has to stay. Prints one line, and fails at the first difference. */
 
 #include "silkendoz.h"
 
@@ -133,6 +133,13 @@ static uint64_t bands_in(struct tables *t, const int32_t *query, size_t size, co
     return silkendoz_count_bands_in(&l, bands, records, query, size, edges, edges_len, out, out_len);
 }
 
+static uint64_t both_in(struct tables *factory, uint16_t *trail, size_t trail_len, struct tables *bench, uint16_t *bench_trail,
+    size_t bench_trail_len, const int32_t *query, size_t size, struct silkendoz_pair_match *match, struct silkendoz_part *won)
+{
+    struct silkendoz_tables f = lent(factory), b = lent(bench);
+    return silkendoz_match_both_in(&f, trail, trail_len, &b, bench_trail, bench_trail_len, query, size, match, won);
+}
+
 /* n 256, capacity 4,096, leaf size 64 open; 257, 4,097, 65 and 0 do not: measures come before lengths. */
 static void opening(void)
 {
@@ -183,12 +190,15 @@ static void largest(void)
     free(t.labels);
 }
 
-enum { CALLS = 14, TABLES = 6 };
+enum { CALLS = 16, TABLES = 6 };
 
-/* What each call over the struct answers, an export before an import. */
-static void answers(const struct silkendoz_tables *t, const int32_t *trace, uint8_t *sheet, uint64_t numbers[CALLS])
+/* What each call over the struct answers, an export before an import; over two libraries these tables are each of them once. */
+static void answers(
+    const struct silkendoz_tables *t, const struct silkendoz_tables *other, const int32_t *trace, uint8_t *sheet, uint64_t numbers[CALLS])
 {
-    uint16_t trail[TRAIL];
+    uint16_t trail[TRAIL], other_trail[TRAIL];
+    struct silkendoz_pair_match match;
+    struct silkendoz_part won;
     struct silkendoz_neighbour list[2];
     struct silkendoz_answer answer;
     struct silkendoz_band band;
@@ -210,25 +220,28 @@ static void answers(const struct silkendoz_tables *t, const int32_t *trace, uint
     numbers[11] = silkendoz_label_in(t, 0, out, SILKENDOZ_OUT);
     numbers[12] = silkendoz_remote_match_in(t, trail, TRAIL, trace, N, out, SILKENDOZ_OUT);
     numbers[13] = silkendoz_count_bands_in(t, &band, 1, trace, N, edges, 2, out, SILKENDOZ_OUT);
+    numbers[14] = silkendoz_match_both_in(t, trail, TRAIL, other, other_trail, TRAIL, trace, N, &match, &won);
+    numbers[15] = silkendoz_match_both_in(other, other_trail, TRAIL, t, trail, TRAIL, trace, N, &match, &won);
 }
 
 /* Each call over the struct passes on each length: just enough is done, one place less is a short table, whichever table it is. */
 static void lengths(void)
 {
-    static struct tables t;
+    static struct tables t, u;
     static uint8_t sheet[SILKENDOZ_SHEET(N, 1)];
     const int32_t trace[N] = {1, -2, 3, -4};
-    struct silkendoz_tables just = lent(&t), less;
+    struct silkendoz_tables just = lent(&t), other = lent(&u), less;
     uint64_t numbers[CALLS];
     int table, call;
 
+    EXPECT(open_in(&u, N, C, 2, numbers) == SILKENDOZ_DONE);
     just.control_len = SILKENDOZ_CONTROL;
     just.samples_len = SILKENDOZ_SAMPLES(N, C);
     just.nodes_len = SILKENDOZ_NODES(C);
     just.links_len = SILKENDOZ_LINKS(C);
     just.work_len = SILKENDOZ_WORK(C);
     just.labels_len = SILKENDOZ_LABELS(C);
-    answers(&just, trace, sheet, numbers);
+    answers(&just, &other, trace, sheet, numbers);
     for (call = 0; call < CALLS; call++)
         EXPECT(numbers[call] == SILKENDOZ_DONE);
 
@@ -240,7 +253,7 @@ static void lengths(void)
         less.links_len -= table == 3;
         less.work_len -= table == 4;
         less.labels_len -= table == 5;
-        answers(&less, trace, sheet, numbers);
+        answers(&less, &other, trace, sheet, numbers);
         for (call = 0; call < CALLS; call++)
             EXPECT(numbers[call] == SILKENDOZ_SHORT_TABLE);
     }
@@ -251,11 +264,11 @@ static void words(void)
 {
     static const char *const table[] = {"done", "measure", "short table", "spoiled", "wrong trace", "full", "empty", "short trail",
         "sheet length", "torn block", "bad sheet", "bad k", "bad recording", "loose record", "bad batch", "sample range",
-        "bad edges"};
+        "bad edges", "unlike libraries"};
     uint64_t number;
     for (number = 0; number < PLACES(table); number++)
         EXPECT(strcmp(silkendoz_word(number), table[number]) == 0);
-    EXPECT(strcmp(silkendoz_word(SILKENDOZ_BAD_EDGES + 1), "unknown") == 0);
+    EXPECT(strcmp(silkendoz_word(SILKENDOZ_UNLIKE_LIBRARIES + 1), "unknown") == 0);
     EXPECT(strcmp(silkendoz_word(UINT64_MAX), "unknown") == 0);
 }
 
@@ -797,6 +810,150 @@ static void bands(void)
     }
 }
 
+/* A library of traces of one level each, in the order given. */
+static void fill(struct tables *t, uint64_t c, uint64_t leaf_size, const int32_t *levels, size_t many)
+{
+    uint64_t out[SILKENDOZ_OUT];
+    size_t i;
+    memset(t, 0x5a, sizeof *t);
+    EXPECT(open_in(t, N, c, leaf_size, out) == SILKENDOZ_DONE);
+    for (i = 0; i < many; i++) {
+        const int32_t trace[N] = {levels[i], levels[i], levels[i], levels[i]};
+        EXPECT(add_to(t, trace, N, out, SILKENDOZ_OUT) == SILKENDOZ_DONE);
+    }
+}
+
+/* What a match over both answers of a query of one level, and what it leaves: trails behind their leaves, all of the tables but work, and
+ * of each work the needed part zero. */
+static struct silkendoz_pair_match both(struct tables *factory, struct tables *bench, int32_t level, uint16_t *trail, uint16_t *bench_trail)
+{
+    static struct tables kept, bench_kept;
+    const int32_t query[N] = {level, level, level, level};
+    struct silkendoz_pair_match match = {9, 9, 9, 9, 9, 9, 9};
+    struct silkendoz_part won = {NULL, 77};
+    struct tables *from;
+    size_t i;
+    memset(trail, 0xee, TRAIL * sizeof *trail);
+    memset(bench_trail, 0xee, TRAIL * sizeof *bench_trail);
+    memset(factory->work, 0xff, sizeof factory->work);
+    memset(bench->work, 0xff, sizeof bench->work);
+    kept = *factory;
+    bench_kept = *bench;
+    EXPECT(both_in(factory, trail, TRAIL, bench, bench_trail, TRAIL, query, N, &match, &won) == SILKENDOZ_DONE);
+    EXPECT(match.library < 2 && match.leaves == match.factory_leaves + match.bench_leaves);
+    /* the nearest trace, where it lies in the table that was lent */
+    from = match.library == 0 ? factory : bench;
+    EXPECT(won.at == from->samples + match.trace * N && won.len == N);
+    for (i = match.factory_leaves; i < TRAIL; i++)
+        EXPECT(trail[i] == 0xeeee);
+    for (i = match.bench_leaves; i < TRAIL; i++)
+        EXPECT(bench_trail[i] == 0xeeee);
+    memset(kept.work, 0, SILKENDOZ_WORK(factory->control[1]) * sizeof *kept.work);
+    memset(bench_kept.work, 0, SILKENDOZ_WORK(bench->control[1]) * sizeof *bench_kept.work);
+    EXPECT(memcmp(factory, &kept, sizeof kept) == 0 && memcmp(bench, &bench_kept, sizeof bench_kept) == 0);
+    return match;
+}
+
+/* Two libraries: the nearest of all, the factory's among equals; of each the leaves within the joint distance; the winning trace as it lies
+ * in its table. 2 and 3 of the factory's, then of the bench's, 17, 4, 15, 6, 7; a refusal leaves everything, and an empty part. */
+static void pairs(void)
+{
+    static struct tables f, b, kept, bench_kept;
+    const int32_t zero_and_four[2] = {0, 4}, two[1] = {2}, far[3] = {90, 80, 4}, beyond[N] = {0, 0, 0, 524288};
+    const int32_t query[N] = {0, 0, 0, 0};
+    struct silkendoz_pair_match match = {9, 9, 9, 9, 9, 9, 9};
+    struct silkendoz_part won = {NULL, 77};
+    uint16_t trail[TRAIL], bench_trail[TRAIL];
+    uint64_t out[SILKENDOZ_OUT];
+
+    /* the bench's alone is read: no leaf of the factory's is within the joint distance */
+    fill(&f, C, 1, zero_and_four, 2);
+    fill(&b, C, 1, two, 1);
+    match = both(&f, &b, 2, trail, bench_trail);
+    EXPECT(match.library == 1 && match.trace == 0 && match.distance == 0 && match.leaves == 1 && match.traces == 1);
+    EXPECT(match.factory_leaves == 0 && bench_trail[0] == 0);
+    /* equal distances: the factory's, the lower number of its two; all leaves are within it */
+    match = both(&f, &b, 3, trail, bench_trail);
+    EXPECT(match.library == 0 && match.trace == 1 && match.distance == 4 && match.factory_leaves == 1 && match.bench_leaves == 1);
+    EXPECT(trail[0] == 2 && bench_trail[0] == 0 && match.traces == 2);
+    match = both(&b, &f, 3, trail, bench_trail);
+    EXPECT(match.library == 0 && match.trace == 0 && match.distance == 4);
+    /* .. even where its number is the higher one */
+    fill(&f, 4, 2, far, 3);
+    fill(&b, C, 1, zero_and_four, 2);
+    match = both(&f, &b, 4, trail, bench_trail);
+    EXPECT(match.library == 0 && match.trace == 2 && match.distance == 0 && match.bench_leaves == 1 && bench_trail[0] == 2);
+
+    /* one of them empty, and its trail of no length */
+    fill(&b, 3, 2, NULL, 0);
+    match = both(&f, &b, 81, trail, bench_trail);
+    EXPECT(match.library == 0 && match.trace == 1 && match.distance == 4 && match.bench_leaves == 0);
+    match = both(&b, &f, 81, trail, bench_trail);
+    EXPECT(match.library == 1 && match.trace == 1 && match.factory_leaves == 0);
+    EXPECT(both_in(&f, trail, TRAIL, &b, bench_trail, 0, query, N, &match, &won) == SILKENDOZ_DONE && match.trace == 2);
+
+    /* an `out` that is shorter takes the first values */
+    {
+        struct silkendoz_tables l = lent(&f), m = lent(&b);
+        uint64_t some[4] = {9, 9, 9, 9};
+        EXPECT(silkendoz_match_both(
+                   SILKENDOZ_PASSED(&l) trail, TRAIL, SILKENDOZ_PASSED(&m) bench_trail, TRAIL, query, N, some, 3, &won) == SILKENDOZ_DONE);
+        EXPECT(some[0] == 0 && some[1] == 2 && some[2] == 64 && some[3] == 9 && won.at == f.samples + 2 * N && won.len == N);
+        EXPECT(SILKENDOZ_SAMPLE(won.at[0]) == 4);
+    }
+
+    /* refusals, each with the next ones beside it */
+    fill(&f, C, 1, NULL, 0);
+    fill(&b, C, 1, NULL, 0);
+    EXPECT(open_in(&b, N - 1, C, 1, out) == SILKENDOZ_DONE);
+    match.library = 7;
+    f.control[2] = 0;
+    b.control[2] = 0;
+    {
+        struct silkendoz_tables l = lent(&f), m = lent(&b);
+        m.links_len = 0;
+        EXPECT(silkendoz_match_both_in(&l, trail, 0, &m, bench_trail, 0, beyond, 1, &match, &won) == SILKENDOZ_SPOILED);
+        l.control_len = 4;
+        EXPECT(silkendoz_match_both_in(&l, trail, 0, &m, bench_trail, 0, beyond, 1, &match, &won) == SILKENDOZ_SHORT_TABLE);
+        f.control[2] = 1;
+        l.control_len = 5;
+        m.control_len = 4;
+        EXPECT(silkendoz_match_both_in(&l, trail, 0, &m, bench_trail, 0, beyond, 1, &match, &won) == SILKENDOZ_SHORT_TABLE);
+        m.control_len = 5;
+        EXPECT(silkendoz_match_both_in(&l, trail, 0, &m, bench_trail, 0, beyond, 1, &match, &won) == SILKENDOZ_SPOILED);
+    }
+    b.control[2] = 1;
+    kept = f;
+    bench_kept = b;
+    EXPECT(both_in(&f, trail, 0, &b, bench_trail, 0, beyond, 1, &match, &won) == SILKENDOZ_UNLIKE_LIBRARIES);
+    EXPECT(won.at == f.samples && won.len == 0 && match.library == 7);
+    b.control[0] = N;
+    bench_kept = b;
+    EXPECT(both_in(&f, trail, 0, &b, bench_trail, 0, beyond, N - 1, &match, &won) == SILKENDOZ_WRONG_TRACE && won.len == 0);
+    EXPECT(both_in(&f, trail, 0, &b, bench_trail, 0, beyond, N, &match, &won) == SILKENDOZ_SAMPLE_RANGE && won.len == 0);
+    EXPECT(both_in(&f, trail, 0, &b, bench_trail, 0, query, N, &match, &won) == SILKENDOZ_EMPTY && won.len == 0);
+    EXPECT(memcmp(&f, &kept, sizeof f) == 0 && memcmp(&b, &bench_kept, sizeof b) == 0);
+    fill(&f, C, 1, zero_and_four, 2);
+    fill(&b, C, 1, far, 3);
+    memset(trail, 0xee, sizeof trail);
+    memset(bench_trail, 0xee, sizeof bench_trail);
+    kept = f;
+    bench_kept = b;
+    /* each trail by its own library's leaves, however few are read */
+    EXPECT(both_in(&f, trail, 1, &b, bench_trail, 3, query, N, &match, &won) == SILKENDOZ_SHORT_TRAIL && won.len == 0);
+    EXPECT(both_in(&f, trail, 2, &b, bench_trail, 2, query, N, &match, &won) == SILKENDOZ_SHORT_TRAIL && won.len == 0);
+    EXPECT(memcmp(&f, &kept, sizeof f) == 0 && memcmp(&b, &bench_kept, sizeof b) == 0 && match.library == 7);
+    EXPECT(trail[0] == 0xeeee && bench_trail[0] == 0xeeee);
+    EXPECT(both_in(&f, trail, 2, &b, bench_trail, 3, query, N, &match, &won) == SILKENDOZ_DONE && match.library == 0);
+    {
+        struct silkendoz_tables l = lent(&f), m = lent(&b);
+        uint64_t place[2] = {9, 9};
+        EXPECT(silkendoz_match_both(SILKENDOZ_PASSED(&l) trail, 0, SILKENDOZ_PASSED(&m) bench_trail, 0, query, N, place, 2, &won)
+            == SILKENDOZ_SHORT_TRAIL);
+        EXPECT(place[0] == 0 && place[1] == 9 && won.at == f.samples && won.len == 0);
+    }
+}
+
 /* Labels are given, told and kept by a sheet; the remote is told the code alone, whatever the serials. A refusal leaves everything. */
 static void labels(void)
 {
@@ -804,7 +961,7 @@ static void labels(void)
     const int32_t a[N] = {0, 0, 0, 0}, b[N] = {4, 4, 4, 4};
     uint16_t trail[TRAIL], other_trail[TRAIL];
     uint8_t sheet[SILKENDOZ_SHEET(N, 3)];
-    uint64_t out[SILKENDOZ_OUT] = {9, 9, 9, 9, 9}, told[SILKENDOZ_OUT];
+    uint64_t out[SILKENDOZ_OUT] = {9, 9, 9, 9, 9}, told[SILKENDOZ_OUT] = {0};
     size_t i;
 
     memset(&t, 0x5a, sizeof t);
@@ -973,6 +1130,7 @@ int main(void)
     checks();
     batches();
     bands();
+    pairs();
     labels();
     words_of_samples();
     wide_samples();

@@ -1,5 +1,5 @@
-// The header from C++: tables declared by its macro, a search, a list of records. Compiled with old-style casts and every other warning an
-// error. Prints one line, and fails at the first difference.
+// The header from C++: tables declared by its macros, constant ones too, a search, a list of records, two libraries. Compiled with old-style
+// casts and every other warning an error. Prints one line, and fails at the first difference.
 
 #include "silkendoz.h"
 
@@ -11,6 +11,14 @@ constexpr size_t n = 4, capacity = 8;
 
 SILKENDOZ_LIBRARY(library, n, capacity);
 SILKENDOZ_LIBRARY(other, 2, 1);
+
+// an empty library for traces of n samples, in memory that nobody writes
+const uint16_t factory_control[SILKENDOZ_CONTROL] = {n, 1, 1, 0, 0};
+const int32_t factory_samples[SILKENDOZ_SAMPLES(n, 1)] = {};
+const int64_t factory_nodes[SILKENDOZ_NODES(1)] = {};
+const uint16_t factory_links[SILKENDOZ_LINKS(1)] = {};
+const uint64_t factory_labels[SILKENDOZ_LABELS(1)] = {};
+SILKENDOZ_FACTORY(factory, n, 1);
 
 uint16_t trail[SILKENDOZ_TRAIL(capacity)];
 uint8_t sheet[SILKENDOZ_SHEET(n, capacity)];
@@ -57,6 +65,22 @@ bool bands()
     return list[0].sure == 1 && list[0].possible == 1 && list[1].sure == 3 && list[1].possible == 3;
 }
 
+bool pairs()
+{
+    const int32_t query[n] = {1, 1, 1, 1};
+    uint16_t none;
+    silkendoz_pair_match match;
+    silkendoz_part won;
+    if (silkendoz_match_both_in(&factory, &none, 0, &library, trail, capacity, query, n - 1, &match, &won) != SILKENDOZ_WRONG_TRACE)
+        return false;
+    if (won.len != 0 || silkendoz_check_tables_in(&factory, out, SILKENDOZ_OUT) != SILKENDOZ_DONE)
+        return false;
+    if (silkendoz_match_both_in(&factory, &none, 0, &library, trail, capacity, query, n, &match, &won) != SILKENDOZ_DONE)
+        return false;
+    return match.library == 1 && match.trace == 0 && match.distance == 4 && match.factory_leaves == 0 && won.at == library.samples
+        && won.len == n;
+}
+
 // samples of 20 bits as arguments, and as words of the table
 bool samples()
 {
@@ -88,7 +112,7 @@ bool measures()
 
 int main()
 {
-    if (!lists() || !labels() || !bands() || !samples() || !measures() || silkendoz_layout_4() != SILKENDOZ_LAYOUT) {
+    if (!lists() || !labels() || !bands() || !pairs() || !samples() || !measures() || silkendoz_layout_4() != SILKENDOZ_LAYOUT) {
         std::fprintf(stderr, "C++: another answer\n");
         return 1;
     }

@@ -14,8 +14,11 @@
 enum { N = 256, C = 1024, K = SILKENDOZ_MAX_K, STACK = 1 << 20, PATTERN = 0xa5, TRACES = 1000 };
 
 SILKENDOZ_LIBRARY(tables, N, C);
+SILKENDOZ_LIBRARY(other, N, C);
 
-static uint16_t trail[SILKENDOZ_TRAIL(C)];
+static uint16_t trail[SILKENDOZ_TRAIL(C)], other_trail[SILKENDOZ_TRAIL(C)];
+static struct silkendoz_pair_match match;
+static struct silkendoz_part won;
 static struct silkendoz_neighbour list[K];
 static int32_t queries[SILKENDOZ_MAX_BATCH * N];
 static struct silkendoz_answer answers[SILKENDOZ_MAX_BATCH];
@@ -83,6 +86,11 @@ static void banding(void)
 {
     number = silkendoz_count_bands_in(&tables, bands, SILKENDOZ_MAX_BANDS, trace, N, edges, SILKENDOZ_MAX_EDGES, out, SILKENDOZ_OUT);
 }
+static void pairing(void)
+{
+    number = silkendoz_match_both_in(
+        &tables, trail, SILKENDOZ_TRAIL(C), &other, other_trail, SILKENDOZ_TRAIL(C), trace, N, &match, &won);
+}
 static void nothing(void) { number = SILKENDOZ_DONE; }
 
 struct call {
@@ -136,7 +144,7 @@ int main(void)
         {"write_sheet", writing, 16, 0}, {"read_sheet", reading, 96, 0}, {"export_recording", exporting, 16, 0},
         {"import_recording", importing, 96, 0}, {"check_tables", checking, 64, 0}, {"match_batch", batching, 48, 0},
         {"add_labelled", labelling, 96, 0}, {"label", telling, 16, 0}, {"remote_match", remote, 16, 0},
-        {"count_bands", banding, 24, 0}};
+        {"count_bands", banding, 24, 0}, {"match_both", pairing, 24, 0}};
     size_t before, i;
     int at;
     void *stack;
@@ -164,6 +172,10 @@ int main(void)
         measure(&calls[3], stack, before);
         measure(&calls[4], stack, before);
         sheet_size = 512 * (size_t)out[0];
+        /* the other library of a pair has the same traces */
+        if (silkendoz_read_sheet_in(&other, sheet, sheet_size, out, SILKENDOZ_OUT) != SILKENDOZ_DONE)
+            return 1;
+        measure(&calls[14], stack, before);
         measure(&calls[5], stack, before);
         measure(&calls[6], stack, before);
         measure(&calls[7], stack, before);

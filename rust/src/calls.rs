@@ -5,7 +5,7 @@
 
 use crate::tables::with_tables;
 pub use crate::tables::{Lent, Tables};
-use crate::{Label, Refusal, StoredSample};
+use crate::{Label, Library, Refusal, StoredSample};
 
 /// What a match answers: the leaves read are those at the beginning of the trail.
 #[derive(Clone, Copy, Debug, PartialEq, Eq)]
@@ -70,6 +70,33 @@ pub struct Band {
     pub possible: u64,
 }
 
+/// What a match over two libraries answers. The leaves read are those at the beginning of each trail.
+#[derive(Clone, Copy, Debug, PartialEq, Eq)]
+#[non_exhaustive]
+pub struct PairFound<'a> {
+    /// Which of the two has the nearest trace.
+    pub library: Library,
+    /// The nearest trace's number there.
+    pub trace: u64,
+    /// The sum of squared differences.
+    pub distance: u64,
+    /// How many leaves were read, over both.
+    pub leaves: u64,
+    /// How many traces those leaves hold, over both.
+    pub traces: u64,
+    /// How many of the leaves are the factory's.
+    pub factory_leaves: u64,
+    /// The nearest trace, as it lies in the table that was lent: nothing is copied.
+    pub samples: &'a [StoredSample],
+}
+
+/// A part of a table of samples, as C has it (`struct silkendoz_part`).
+#[repr(C)]
+struct Part {
+    at: *const StoredSample,
+    len: usize,
+}
+
 /// The version of the tables' layout (`docs/LAYOUT.md`). Another number is another layout, or another tree: who keeps tables keeps this number beside
 /// them.
 pub const LAYOUT: u64 = 4;
@@ -107,6 +134,31 @@ macro_rules! exported {
     };
 }
 
+/// A call over two libraries, of whose tables search work alone is written: each library's tables and its trail, the query, `out`, and what
+/// becomes the winning trace.
+macro_rules! exported_over_two {
+    (
+        $name:ident
+        [$($(#[$says:meta])* $table:ident: $element:ty,)*] [$($(#[$tells:meta])* $behind:ident: $kind:ty,)*]
+    ) => {
+        extern "C" {
+            fn $name(
+                $($table: *const $element, _: usize,)*
+                work: *mut u64, _: usize,
+                $($behind: *const $kind, _: usize,)*
+                trail: *mut u16, _: usize,
+                $(_: *const $element, _: usize,)*
+                _: *mut u64, _: usize,
+                $(_: *const $kind, _: usize,)*
+                _: *mut u16, _: usize,
+                query: *const i32, _: usize,
+                out: *mut u64, _: usize,
+                won: *mut Part,
+            ) -> u64;
+        }
+    };
+}
+
 impl Band {
     /// Bands as a list of places, two for each.
     pub fn places(bands: &mut [Band]) -> &mut [u64] {
@@ -138,6 +190,7 @@ with_tables! { exported! silkendoz_count_bands(
     read, write;
     list: *mut u64, _: usize, query: *const i32, _: usize, edges: *const u64, _: usize,
 ) }
+with_tables! { exported_over_two! silkendoz_match_both }
 
 /// Code 0 is the answer's values; any other is the number of a refusal, whose place is the first value.
 fn answer<const K: usize>(code: u64, out: [u64; K]) -> Result<[u64; K], Refusal> {
@@ -170,6 +223,32 @@ macro_rules! made {
                 $($number,)*
                 $($list.as_mut_ptr(), $list.len(),)?
                 $out.as_mut_ptr(), $out.len(),
+            )
+        }
+    };
+}
+
+/// Makes a call over two libraries: the tables, search work and trail of each.
+macro_rules! made_over_two {
+    (
+        $name:ident, [$t:ident $work:ident $trail:ident], [$u:ident $bench_work:ident $bench_trail:ident], $query:ident, $out:ident, $won:ident
+        [$($(#[$says:meta])* $table:ident: $element:ty,)*] [$($(#[$tells:meta])* $behind:ident: $kind:ty,)*]
+    ) => {
+        // Safety: pointers and lengths are those of slices that are borrowed for the call, the part is one before it too, and the contract
+        // has no requires.
+        unsafe {
+            $name(
+                $($t.$table.as_ptr(), $t.$table.len(),)*
+                $work.as_mut_ptr(), $work.len(),
+                $($t.$behind.as_ptr(), $t.$behind.len(),)*
+                $trail.as_mut_ptr(), $trail.len(),
+                $($u.$table.as_ptr(), $u.$table.len(),)*
+                $bench_work.as_mut_ptr(), $bench_work.len(),
+                $($u.$behind.as_ptr(), $u.$behind.len(),)*
+                $bench_trail.as_mut_ptr(), $bench_trail.len(),
+                $query.as_ptr(), $query.len(),
+                $out.as_mut_ptr(), $out.len(),
+                &mut $won,
             )
         }
     };
@@ -298,6 +377,32 @@ pub fn count_bands(t: Tables<'_>, work: &mut [u64], list: &mut [u64], query: &[i
         [list => as_mut_ptr, query => as_ptr, edges => as_ptr], [], [], out
     };
     answer(code, out).map(|_| ())
+}
+
+/// Finds the nearest trace of all that two libraries store: the factory's among equals, then the lowest number. In each library the leaves
+/// read are those whose bound is at most the nearest trace's distance; each trail begins with its own. One of the two may be empty. The
+/// needed search work of both is left zero; no other table is written, so that they may lie in memory that cannot be.
+pub fn match_both<'a>(
+    factory: Tables<'a>,
+    factory_work: &mut [u64],
+    factory_trail: &mut [u16],
+    bench: Tables<'a>,
+    bench_work: &mut [u64],
+    bench_trail: &mut [u16],
+    query: &[i32],
+) -> Result<PairFound<'a>, Refusal> {
+    let mut out = [0; 6];
+    let nothing: &[StoredSample] = &factory.samples[..0];
+    let mut won = Part { at: nothing.as_ptr(), len: 0 };
+    let code = with_tables! {
+        made_over_two! silkendoz_match_both,
+        [factory factory_work factory_trail], [bench bench_work bench_trail], query, out, won
+    };
+    let [library, trace, distance, leaves, traces, factory_leaves] = answer(code, out)?;
+    let library = if library == 0 { Library::Factory } else { Library::Bench };
+    // Safety: by its contract the call hands back a part of one of the two tables of samples, and both are borrowed for as long as this is.
+    let samples = unsafe { std::slice::from_raw_parts(won.at, won.len) };
+    Ok(PairFound { library, trace, distance, leaves, traces, factory_leaves, samples })
 }
 
 /// What the archive says of its layout: [`LAYOUT`].

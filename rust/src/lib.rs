@@ -6,7 +6,8 @@
 //! refusals a type. [`TraceLibrary::k_nearest`] lists the k nearest in the same way; [`TraceLibrary::import_recording`] takes the traces of a WAV file;
 //! [`TraceLibrary::from_tables`] takes tables from elsewhere, once they are checked. A trace may have a [`Label`]: a fault code, which
 //! [`TraceLibrary::remote_match`] tells, and a machine's serial, which it does not. [`TraceLibrary::count_bands`] says how many traces lie within
-//! which distances, without reading one.
+//! which distances, without reading one. [`TraceLibrary::match_both`] finds the nearest trace of two libraries, one that every machine carries
+//! and one of your own.
 //!
 //! ```
 //! use silkendoz::TraceLibrary;
@@ -37,7 +38,7 @@ mod tables;
 
 pub use calls::Band;
 pub use label::Label;
-pub use library::{Batch, KNearest, Nearest, Neighbour, RemoteMatch, TraceLibrary};
+pub use library::{Batch, KNearest, Library, Nearest, Neighbour, PairMatch, RemoteMatch, TraceLibrary};
 pub use refusal::{Lengths, Refusal};
 pub use sample::{StoredSample, SAMPLES};
 pub use shape::Leaf;

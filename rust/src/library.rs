@@ -133,6 +133,37 @@ pub struct Batch {
     pub trail: Vec<u16>,
 }
 
+/// One of two libraries that are matched together.
+#[derive(Clone, Copy, Debug, PartialEq, Eq, Hash)]
+pub enum Library {
+    /// The one that every machine carries.
+    Factory,
+    /// The one that was built at the bench.
+    Bench,
+}
+
+/// The nearest trace of two libraries, and what was read to find it.
+#[derive(Clone, Debug, PartialEq, Eq)]
+#[non_exhaustive]
+pub struct PairMatch<'a> {
+    /// Which of the two has it.
+    pub library: Library,
+    /// The trace's number there.
+    pub trace: usize,
+    /// The sum of squared differences.
+    pub distance: u64,
+    /// How many leaves were read, over both.
+    pub leaves: usize,
+    /// How many traces those leaves hold, over both.
+    pub traces: usize,
+    /// The factory's leaves that were read, in order.
+    pub factory_trail: Vec<u16>,
+    /// The bench's.
+    pub bench_trail: Vec<u16>,
+    /// The trace, as it lies in its library.
+    pub samples: &'a [StoredSample],
+}
+
 /// A trace of a list, with its distance to the query.
 #[derive(Clone, Copy, Debug, PartialEq, Eq)]
 #[non_exhaustive]
@@ -348,6 +379,52 @@ impl TraceLibrary {
         calls::count_bands(self.tables(), &mut work, Band::places(&mut bands), query, edges)
             .map_err(|why| why.with_lengths(query.len(), self.n()))?;
         Ok(bands)
+    }
+
+    /// Finds the trace that is nearest to a query of n samples, of all that two libraries store: the factory's among equals, then the lowest
+    /// number. Both have to have the same n; one of them may be empty. In each only the leaves are read whose bound is at most the nearest
+    /// trace's distance, wherever that lies. [`calls::match_both`] does the same over tables that are lent, such as constant ones.
+    ///
+    /// ```
+    /// use silkendoz::{Library, Refusal, TraceLibrary};
+    ///
+    /// let mut factory = TraceLibrary::open(1, 8, 1)?;
+    /// let mut bench = TraceLibrary::open(1, 4, 2)?;
+    /// assert_eq!(TraceLibrary::match_both(&factory, &bench, &[2]), Err(Refusal::Empty));
+    /// factory.add(&[0])?;
+    /// factory.add(&[4])?;
+    /// assert_eq!(TraceLibrary::match_both(&factory, &bench, &[3])?.trace, 1);
+    /// bench.add(&[2])?;
+    ///
+    /// let found = TraceLibrary::match_both(&factory, &bench, &[2])?;
+    /// assert_eq!((found.library, found.trace, found.distance), (Library::Bench, 0, 0));
+    /// assert_eq!(found.samples, [2]);
+    /// // no leaf of the factory's is as near as that
+    /// assert_eq!((found.factory_trail.len(), found.bench_trail.len()), (0, 1));
+    /// // the factory's at an equal distance
+    /// assert_eq!(TraceLibrary::match_both(&factory, &bench, &[3])?.library, Library::Factory);
+    ///
+    /// let other = TraceLibrary::open(2, 4, 2)?;
+    /// assert_eq!(TraceLibrary::match_both(&factory, &other, &[2]), Err(Refusal::UnlikeLibraries));
+    /// # Ok::<(), Refusal>(())
+    /// ```
+    pub fn match_both<'a>(factory: &'a TraceLibrary, bench: &'a TraceLibrary, query: &[i32]) -> Result<PairMatch<'a>, Refusal> {
+        let ((mut factory_work, mut factory_trail), (mut bench_work, mut bench_trail)) = (factory.room(), bench.room());
+        let found =
+            calls::match_both(factory.tables(), &mut factory_work, &mut factory_trail, bench.tables(), &mut bench_work, &mut bench_trail, query)
+                .map_err(|why| why.with_lengths(query.len(), factory.n()))?;
+        factory_trail.truncate(found.factory_leaves as usize);
+        bench_trail.truncate((found.leaves - found.factory_leaves) as usize);
+        Ok(PairMatch {
+            library: found.library,
+            trace: found.trace as usize,
+            distance: found.distance,
+            leaves: found.leaves as usize,
+            traces: found.traces as usize,
+            factory_trail,
+            bench_trail,
+            samples: found.samples,
+        })
     }
 
     /// The library as a sheet: blocks of 512 bytes, to be stored or sent. It is a wide one, with samples of four bytes, if any sample does

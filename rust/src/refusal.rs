@@ -25,7 +25,7 @@ pub enum Refusal {
     WrongTrace(Option<Lengths>),
     /// 5: count equals capacity; an import of more traces than there is room for.
     Full,
-    /// 6: a match with no trace stored.
+    /// 6: a match with no trace stored; over two libraries, in neither of them.
     Empty,
     /// 7: trail shorter than the number of leaves, or a list shorter than k or than one record a band.
     ShortTrail,
@@ -49,6 +49,8 @@ pub enum Refusal {
     SampleRange,
     /// 16: fewer than 2 edges of bands or more than 16, or one that is not above the last.
     BadEdges,
+    /// 17: two libraries whose n differ.
+    UnlikeLibraries,
 }
 
 /// How many samples a trace or query has that is refused for its length, and how many it has to have.
@@ -89,6 +91,7 @@ impl Refusal {
             14 => Refusal::BadBatch,
             15 => Refusal::SampleRange,
             16 => Refusal::BadEdges,
+            17 => Refusal::UnlikeLibraries,
             _ => return None,
         })
     }
@@ -112,6 +115,7 @@ impl Refusal {
             Refusal::BadBatch => 14,
             Refusal::SampleRange => 15,
             Refusal::BadEdges => 16,
+            Refusal::UnlikeLibraries => 17,
         }
     }
 
@@ -142,6 +146,7 @@ impl Refusal {
             Refusal::BadBatch => "bad batch",
             Refusal::SampleRange => "sample range",
             Refusal::BadEdges => "bad edges",
+            Refusal::UnlikeLibraries => "unlike libraries",
         }
     }
 }
@@ -166,6 +171,7 @@ impl fmt::Display for Refusal {
             Refusal::BadBatch => "no query or more than 16, or a list of another length",
             Refusal::SampleRange => "a sample outside -524,288 to 524,287",
             Refusal::BadEdges => "fewer than 2 edges or more than 16, or one that is not above the last",
+            Refusal::UnlikeLibraries => "the traces of the two have different numbers of samples",
         };
         write!(f, "{}: {why}", self.word())
     }
@@ -179,13 +185,13 @@ mod tests {
 
     #[test]
     fn numbers_go_both_ways() {
-        for number in 1..=16 {
+        for number in 1..=17 {
             let place = if number == 9 { 7 } else { 0 };
             let why = Refusal::from_number(number, place).unwrap();
             assert_eq!((why.number(), why.place()), (number, place));
             assert!(why.to_string().starts_with(why.word()));
         }
         assert_eq!(Refusal::from_number(0, 0), None);
-        assert_eq!(Refusal::from_number(17, 0), None);
+        assert_eq!(Refusal::from_number(18, 0), None);
     }
 }

@@ -3,7 +3,8 @@
 mod common;
 
 use common::{
-    check_add, check_add_labelled, check_bands, check_batch, check_checked, check_export, check_import, check_k_nearest, check_label, check_nearest,
+    check_add, check_add_labelled, check_bands, check_batch, check_both, check_checked, check_export, check_import, check_k_nearest, check_label,
+    check_nearest,
 };
 use common::{check_read_back, check_remote, is_narrow, measures, narrowed, some_edges};
 use testing::model::recording;
@@ -228,6 +229,36 @@ fn altered_wide_trees() {
     for shape in SHAPES {
         let made = library(random, shape, 256, 40, 44, 3, false);
         follow(random, &made, shape, 2, 3);
+    }
+}
+
+/// Two libraries, each altered or as calls make it: by the steps, and where the check accepts both the nearest of all.
+#[test]
+fn altered_pairs() {
+    let random = &mut Random::seeded(34);
+    for _ in 0..300 {
+        let shape = *random.pick(&SHAPES);
+        let n = 1 + random.below(20);
+        let both = [0, 1].map(|_: usize| {
+            let (count, spare, leaf_size) = (1 + random.below(18), random.below(6), 1 + random.below(4));
+            match random.below(4) {
+                0 => Library::of(measures(n, count, leaf_size), &traces(random, shape, n, count)),
+                1 => Library::open(measures(n, count, leaf_size)),
+                kind => library(random, shape, n, count, count + spare, leaf_size, kind == 2),
+            }
+        });
+        let mut memories = [with_junk(random, &both[0]), with_junk(random, &both[1])];
+        let l = [memories[0].lengths(), memories[1].lengths()];
+        let mut trails = both.each_ref().map(|library| vec![1; library.leaves().len()]);
+        for _ in 0..4 {
+            let near = &both[random.below(2)].traces;
+            let q: Trace = query(random, shape, n, near);
+            let [factory, bench] = &mut memories;
+            let [trail, bench_trail] = &mut trails;
+            let answer = check_both([factory, bench], l, [trail, bench_trail], &q);
+            assert_eq!(answer.is_err(), both.iter().all(|library| library.traces.is_empty()));
+            memories.iter_mut().for_each(|t| t.work.iter_mut().for_each(|x| *x = random.word()));
+        }
     }
 }
 

@@ -3,7 +3,8 @@
 mod common;
 
 use common::{
-    check_add, check_add_labelled, check_bands, check_batch, check_checked, check_export, check_import, check_k_nearest, check_label, check_nearest,
+    check_add, check_add_labelled, check_bands, check_batch, check_both, check_checked, check_export, check_import, check_k_nearest, check_label,
+    check_nearest,
 };
 use common::{check_remote, check_write, measures, narrowed};
 use testing::model::recording;
@@ -61,8 +62,14 @@ fn spoiled(damaged: &Tables, query: &[i32]) -> bool {
     let told = check_remote(&mut damaged.clone(), l, &mut trail, query).map(|_| ());
     let label = check_label(damaged, l, 0).map(|_| ());
     let counted = check_bands(&mut damaged.clone(), l, &mut [7; 7], query, &[0, 9, 1 << 20, 1 << 40]).map(|_| ());
-    let verdicts = [added, found, listed, imported, exported, checked, batched, labelled, told, label, counted].map(|answer| answer == Err((3, 0)));
-    assert!(verdicts == [verdicts[0]; 11], "{verdicts:?}");
+    // beside a sound library of the same n, in each of the two places
+    let mut sound = Tables::of(&Library::of(measures(query.len(), 2, 1), &[query.to_vec()]));
+    let sound_l = sound.lengths();
+    let first = check_both([&mut damaged.clone(), &mut sound], [l, sound_l], [&mut trail, &mut [7; 2]], query).map(|_| ());
+    let second = check_both([&mut sound, &mut damaged.clone()], [sound_l, l], [&mut [7; 2], &mut trail], query).map(|_| ());
+    let verdicts = [added, found, listed, imported, exported, checked, batched, labelled, told, label, counted, first, second];
+    let verdicts = verdicts.map(|answer| answer == Err((3, 0)));
+    assert!(verdicts == [verdicts[0]; 13], "{verdicts:?}");
     verdicts[0]
 }
 
@@ -267,6 +274,61 @@ fn short_tables_and_the_order() {
         for (edges, list) in [(&many[..2], 1), (&many[..16], 29), (&[0, u64::MAX][..], 0)] {
             assert_eq!(order(edges, &case.query, list), Err((7, 0)));
             assert_eq!(order(edges, &case.query, 30), Ok(()));
+        }
+    }
+}
+
+/// Two libraries: the factory's 2 and 3 come before the bench's, and both before 17; then 4, 15, 6 where both are empty, 7 by either trail.
+#[test]
+fn the_order_of_two_libraries() {
+    let random = &mut Random::seeded(25);
+    let all = cases(random);
+    for factory in &all {
+        for bench in &all {
+            let (l, bench_l) = (factory.tables.lengths(), bench.tables.lengths());
+            let n = factory.query.len();
+            let order = |spoil: [bool; 2], short: [usize; 2], query: &[i32], trails: [usize; 2]| {
+                let (mut f, mut b) = (factory.tables.clone(), bench.tables.clone());
+                let (mut fl, mut bl) = (l, bench_l);
+                for (t, spoiled) in [&mut f, &mut b].into_iter().zip(spoil) {
+                    t.control[4] = if spoiled { 9999 } else { t.control[4] };
+                }
+                for (lengths, table) in [&mut fl, &mut bl].into_iter().zip(short) {
+                    if table < 6 {
+                        *lengths.each()[table] -= 1;
+                    }
+                }
+                check_both([&mut f, &mut b], [fl, bl], [&mut vec![7; trails[0]], &mut vec![7; trails[1]]], query).map(|_| ())
+            };
+            let (wrong, beyond) = (vec![0; n + 1], vec![524_288; n]);
+            for table in 0..6 {
+                assert_eq!(order([true, true], [table, table], &wrong, [0, 0]), Err((2, 0)));
+                assert_eq!(order([true, true], [9, table], &wrong, [0, 0]), Err((3, 0)));
+                assert_eq!(order([false, true], [9, table], &wrong, [0, 0]), Err((2, 0)));
+            }
+            assert_eq!(order([false, true], [9, 9], &wrong, [0, 0]), Err((3, 0)));
+            if bench.query.len() != n {
+                assert_eq!(order([false, false], [9, 9], &wrong, [0, 0]), Err((17, 0)));
+                assert_eq!(order([false, false], [9, 9], &factory.query, [16, 16]), Err((17, 0)));
+                continue;
+            }
+            assert_eq!(order([false, false], [9, 9], &wrong, [0, 0]), Err((4, 0)));
+            assert_eq!(order([false, false], [9, 9], &beyond, [0, 0]), Err((15, 0)));
+            let stored = [factory, bench].map(|case| case.tables.control[3] > 0);
+            let refused = match stored {
+                [false, false] => Err((6, 0)),
+                _ => Err((7, 0)),
+            };
+            assert_eq!(order([false, false], [9, 9], &factory.query, [0, 0]), refused);
+            // an empty library's trail needs no place
+            let empty = if stored == [false, false] { Err((6, 0)) } else { Ok(()) };
+            assert_eq!(order([false, false], [9, 9], &factory.query, stored.map(|some| if some { 16 } else { 0 })), empty);
+            for at in 0..2 {
+                let mut trails = [16; 2];
+                trails[at] = 0;
+                let expected = if stored[at] { Err((7, 0)) } else { empty };
+                assert_eq!(order([false, false], [9, 9], &factory.query, trails), expected);
+            }
         }
     }
 }

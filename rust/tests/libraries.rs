@@ -6,9 +6,9 @@ use common::{
     check_add_labelled, check_bands, check_batch, check_k_nearest, check_label, check_list, check_nearest, check_open, check_remote, check_scan,
 };
 use common::{junk, longer, measures, some_edges};
-use silkendoz::TraceLibrary;
+use silkendoz::{scan, TraceLibrary};
 use testing::model::tables::{needs, word_of, Tables};
-use testing::model::{KNearest, Library, Measures, Trace};
+use testing::model::{pair, KNearest, Library, Measures, Trace};
 use testing::random::{labels, query, traces, Random, Shape, SHAPES};
 
 /// Opens, adds and matches; every call is held to the model, every match to the scan.
@@ -248,4 +248,46 @@ fn ends_of_the_range() {
     assert_eq!(library.nearest(&high).unwrap().distance, 281_474_439_840_000);
     let every_other = library.nearest(&stored[2]).unwrap();
     assert_eq!(every_other.distance, 140_737_219_920_000);
+}
+
+/// Two libraries of every shape, through the wrapper: the model's answer, the trace that it hands back, and the scan's.
+#[test]
+fn pairs_of_every_shape() {
+    let random = &mut Random::seeded(8);
+    for shape in SHAPES {
+        for (n, leaf_sizes, counts) in
+            [(1, [1, 2], [9, 20]), (5, [2, 1], [30, 3]), (33, [4, 64], [40, 70]), (256, [8, 8], [60, 1]), (16, [1, 1], [0, 25])]
+        {
+            let both = [0, 1].map(|at: usize| {
+                let stored = traces(random, shape, n, counts[at]);
+                let mut library = TraceLibrary::open(n, counts[at] + 1, leaf_sizes[at]).unwrap();
+                stored.iter().for_each(|trace| assert!(library.add(trace).is_ok()));
+                (library, Library::of(measures(n, counts[at] + 1, leaf_sizes[at]), &stored))
+            });
+            for _ in 0..12 {
+                let near = &both[random.below(2)].1.traces;
+                let q = query(random, shape, n, near);
+                held_to_the_model([&both[0].0, &both[1].0], [&both[0].1, &both[1].1], &q);
+                held_to_the_model([&both[1].0, &both[0].0], [&both[1].1, &both[0].1], &q);
+            }
+        }
+    }
+}
+
+/// Of each pair the factory's comes first.
+fn held_to_the_model(both: [&TraceLibrary; 2], models: [&Library; 2], q: &[i32]) {
+    let found = TraceLibrary::match_both(both[0], both[1], q).unwrap();
+    let expected = pair(models, q).unwrap();
+    let library = if found.library == silkendoz::Library::Factory { 0 } else { 1 };
+    assert_eq!((library, found.trace, i128::from(found.distance)), (expected.library, expected.trace, expected.distance));
+    assert_eq!((found.leaves, found.traces), (expected.leaves, expected.traces));
+    let trails = [&found.factory_trail, &found.bench_trail].map(|trail| trail.iter().map(|&leaf| leaf.into()).collect::<Vec<usize>>());
+    assert_eq!(trails, expected.trails);
+    // as it lies in its library: the same memory
+    assert!(std::ptr::eq(found.samples, both[library].trace(found.trace).unwrap()));
+    let scanned = both.iter().enumerate().filter_map(|(which, library)| {
+        let stored = &library.tables().samples[..library.len() * library.n()];
+        scan::nearest(stored, library.n(), q).map(|(trace, distance)| (distance, which, trace))
+    });
+    assert_eq!(scanned.min(), Some((found.distance, library, found.trace)));
 }

@@ -4,7 +4,8 @@
 mod common;
 
 use common::{
-    check_add, check_add_labelled, check_bands, check_batch, check_checked, check_export, check_import, check_k_nearest, check_label, check_list,
+    check_add, check_add_labelled, check_bands, check_batch, check_both, check_checked, check_export, check_import, check_k_nearest, check_label,
+    check_list,
 };
 use common::{check_nearest, check_open, check_remote, junk, longer, measures, narrowed, some_edges, with_no_sample};
 use testing::model::tables::{judge_opening, needs, Lengths, Tables};
@@ -12,7 +13,7 @@ use testing::model::{recording, Library, Measures, Refused, Trace};
 use testing::random::{label, labels, query, traces, uniform, Random, Shape, SHAPES};
 
 /// What is stored, by the calls' arguments alone; and how often each refusal was told, 0 for none.
-struct Book(Option<Library>, [usize; 17]);
+struct Book(Option<Library>, [usize; 18]);
 
 impl Book {
     /// Counts what was judged.
@@ -318,7 +319,7 @@ fn step(random: &mut Random, shape: Shape, t: &mut Tables, book: &mut Book) {
 #[test]
 fn random_lists() {
     let random = &mut Random::seeded(11);
-    let mut told = [0; 17];
+    let mut told = [0; 18];
     for round in 0..180 {
         let shape = *random.pick(&SHAPES);
         let mut t = junk(longer(needs(measures(9, 14, 1)), 3));
@@ -331,7 +332,75 @@ fn random_lists() {
         }
         told = book.1;
     }
-    // each of them, but for 3 and 13, which never arise
+    // each of them, but for 3 and 13, which never arise, and 17, which one library does not give
     let seldom: Vec<usize> = (0..17).filter(|number| ![3, 13].contains(number) && told[*number] < 20).collect();
-    assert!(seldom.is_empty() && told[3] + told[13] == 0, "{told:?}");
+    assert!(seldom.is_empty() && told[3] + told[13] + told[17] == 0, "{told:?}");
+}
+
+/// What a match over two libraries refuses by the books alone: 2 of the factory's tables, then of the bench's; 3 never arises.
+fn judge_both(books: &[Book; 2], l: [Lengths; 2], query: &[i32], trails: [usize; 2]) -> Result<(), Refused> {
+    let factory = books[0].short(l[0])?;
+    let bench = books[1].short(l[1])?;
+    factory.judge_both(bench, query, trails)
+}
+
+/// A match over both libraries, in which either of the two memories is the factory's. It is a call of both lists.
+fn pair_step(random: &mut Random, shape: Shape, memories: &mut [Tables; 2], books: &mut [Book; 2], told: &mut [usize; 18]) {
+    if random.once_in(2) {
+        memories.reverse();
+        books.reverse();
+    }
+    let l = [lengths(random, &memories[0]), lengths(random, &memories[1])];
+    // a query of one of them, with trails as they are for either
+    let asked = random.below(2);
+    let (q, mut trail) = some_query(random, shape, books[asked].library());
+    let (_, mut bench_trail) = some_query(random, shape, books[1 - asked].library());
+    let judged = judge_both(books, l, &q, [trail.len(), bench_trail.len()]);
+    told[judged.map_or_else(|why| why.0 as usize, |()| 0)] += 1;
+    let [factory, bench] = memories;
+    let answer = check_both([factory, bench], l, [&mut trail, &mut bench_trail], &q);
+    assert_eq!(answer.as_ref().map(|_| ()).map_err(|&e| e), judged);
+    if let Ok(found) = answer {
+        let [factory, bench] = books;
+        assert_eq!(Some(found), testing::model::pair([factory.library(), bench.library()], &q));
+    }
+}
+
+/// Two libraries with a list of calls each, which have the matches over both in common: after every call each memory holds its book's library.
+#[test]
+fn lists_of_two_libraries() {
+    let random = &mut Random::seeded(12);
+    let mut told = [0; 18];
+    for round in 0..90 {
+        let shape = *random.pick(&SHAPES);
+        let n = 1 + random.below(9);
+        let mut memories = [junk(longer(needs(measures(9, 14, 1)), 3)), junk(longer(needs(measures(9, 14, 1)), 2))];
+        let mut books = [0, 1].map(|at: usize| {
+            let (t, m) = (&mut memories[at], measures(n, 1 + random.below(14), 1 + random.below(4)));
+            let l = t.lengths();
+            assert_eq!(check_open(t, l, m), Ok(()), "round {round}");
+            Book(Some(Library::open(m)), [0; 18])
+        });
+        for _ in 0..80 {
+            match random.below(5) {
+                0..=1 => pair_step(random, shape, &mut memories, &mut books, &mut told),
+                // mostly traces that are added, so that n seldom becomes another
+                2..=3 => {
+                    let at = random.below(2);
+                    let l = lengths(random, &memories[at]);
+                    add_step(random, shape, &mut memories[at], &mut books[at], l);
+                }
+                _ if random.once_in(3) => {
+                    let at = random.below(2);
+                    step(random, shape, &mut memories[at], &mut books[at]);
+                }
+                _ => {}
+            }
+            for (t, book) in memories.iter().zip(&books) {
+                assert_eq!(t.library().as_ref(), book.0.as_ref(), "each memory holds its book's library");
+            }
+        }
+    }
+    let seldom: Vec<usize> = [0, 2, 4, 6, 7, 15, 17].into_iter().filter(|&number| told[number] < 20).collect();
+    assert!(seldom.is_empty() && told[3] == 0, "{told:?}");
 }

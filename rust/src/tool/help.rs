@@ -2,12 +2,12 @@
 
 use super::arguments::Arguments;
 use super::{
-    add, advise, bands, build, check, done, export, info, list, matching, pages, plain, plot, remote, rename, repair, report, salvage, wrong, Answer,
-    Command, Failure,
+    add, advise, bands, build, check, constants, done, export, info, list, matching, pages, plain, plot, remote, rename, repair, report, salvage,
+    wrong, Answer, Command, Failure,
 };
 use std::path::Path;
 
-pub const COMMANDS: [Command; 18] = [
+pub const COMMANDS: [Command; 19] = [
     Command {
         name: "build",
         usage: "OUT.sheet --samples N [--capacity C] [--leaf-size S] [--code C] [--serial S] [--labels L] [--cut] [--convert [--bits B]] \
@@ -68,13 +68,14 @@ nothing is added; nor if one of them is stored already, sample by sample, or com
     },
     Command {
         name: "match",
-        usage: "LIBRARY FILE.. [-k K] [--json | --tsv] [--cut] [--convert [--bits B]]",
+        usage: "LIBRARY FILE.. [-k K] [--factory F] [--json | --tsv] [--cut] [--convert [--bits B]]",
         about: "the nearest stored traces, with their names, and what fits",
         text: "\
 Finds the stored traces that are nearest to the sweep in FILE: exactly those that reading every stored trace would find. If there are
 several sweeps, each gets a line. A FILE may be a folder; `-` is standard input.
 
   -k K        list so many, 1 to 16; 5 unless said
+  --factory F the library that every machine carries: the nearest of both are found, F's first where distances are equal. F is only read
   --json      one object for programs
   --tsv       a line a sweep, with tabs between the columns, the headings first
   --cut       leave out what is left over behind the last whole trace of a recording
@@ -94,13 +95,20 @@ comma. A library with labels shows code and serial of each trace. If all K neare
 to find another; with `-k 1` no other is looked for. If no fault is stored twice, nothing is judged. Then comes what else is to be known:
 that the sweep is stored already, samples at the converter's limit, another rate than the library's; and how much of the library was read.
 
-The object has `library` (`file`, `samples`, `traces`, `leaves`, `rates`), `sweeps`, a list, and `notes`. Of each sweep: `name`, `file`,
-`rate`; `nearest`, a list of K (`number`, `name`, `distance`, `a_sample`, `code`, `serial`); `verdict` (`word`, `text`, `fault`, `a_sample`,
-`other_fault`, `other_fault_trace`, `other_fault_a_sample`, `other_fault_times_as_far`, `between_share`, `between_a_sample`,
-`all_of_one_fault`, `stored_apart_least`, `stored_apart_greatest`); `clipped_samples`, `stored_already_as`, `remarks`, `nearest_looked_at`,
-`leaves_read`, `traces_read`. What there is none of is null.
+With --factory each line says whose the trace is, factory or bench, which is LIBRARY, and its number there. Faults are those of both: what
+is stored once in each is stored twice, and a code is one fault, with F's word for it if there is one. Both have to have as many samples a
+trace; either may be empty. With `-k 1` one call searches both, and reads of each no more than the nearest of both needs; of a longer list
+each is searched for K. How much was read is told of each. Nothing is ever written to F. A sheet that is write-protected (`chmod a-w`) is
+changed by no command: keep F so.
+
+The object has `library` (`file`, `samples`, `traces`, `leaves`, `rates`), `factory` likewise, `sweeps`, a list, and `notes`. Of each sweep:
+`name`, `file`, `rate`; `nearest`, a list of K (`library`, `number`, `name`, `distance`, `a_sample`, `code`, `serial`); `verdict` (`word`,
+`text`, `fault`, `a_sample`, `other_fault`, `other_fault_library`, `other_fault_trace`, `other_fault_a_sample`, `other_fault_times_as_far`,
+`between_share`, `between_a_sample`, `all_of_one_fault`, `stored_apart_least`, `stored_apart_greatest`); `clipped_samples`,
+`stored_already_in`, `stored_already_as`, `remarks`, `nearest_looked_at`, `leaves_read` and `traces_read`, over both, `factory_leaves_read`
+and `factory_traces_read`. What there is none of is null.
 ",
-        values: &["-k", "--bits"],
+        values: &["-k", "--factory", "--bits"],
         flags: &["--json", "--tsv", "--cut", "--convert"],
         run: matching::run,
     },
@@ -122,7 +130,7 @@ and how much was read. Nothing of serials, and no names, which may say which mac
     },
     Command {
         name: "plot",
-        usage: "LIBRARY FILE [-k K] [--sweep S] [-o OUT.svg] [--force] [--cut] [--convert [--bits B]]",
+        usage: "LIBRARY FILE [-k K] [--sweep S] [--factory F] [-o OUT.svg] [--force] [--cut] [--convert [--bits B]]",
         about: "the sweep and the nearest faults as a picture",
         text: "\
 Draws the sweep in FILE and the nearest trace of each of the nearest faults one over the other; below, in a row a fault, the differences.
@@ -130,17 +138,19 @@ Across stand milliseconds, if a rate is known.
 
   -k K         draw so many faults, 1 to 6; 3 unless said
   --sweep S    if FILE holds several sweeps, which one, counted from 1; the first unless said
+  --factory F  the traces of this library too, as for `match`
   -o OUT.svg   where the picture goes; unless said, beside FILE, with the ending .svg; `-` is standard output
   --force      overwrite it
   --cut, --convert, --bits B   as for `match`
 ",
-        values: &["-k", "--sweep", "-o", "--bits"],
+        values: &["-k", "--sweep", "--factory", "-o", "--bits"],
         flags: &["--force", "--cut", "--convert"],
         run: plot::run,
     },
     Command {
         name: "report",
-        usage: "LIBRARY FILE [-k K] [--sweep S] [--edges A,B,.. | --off A,B,..] [-o OUT.html] [--force] [--cut] [--convert [--bits B]]",
+        usage: "LIBRARY FILE [-k K] [--sweep S] [--factory F | --edges A,B,.. | --off A,B,..] [-o OUT.html] [--force] [--cut] \
+                [--convert [--bits B]]",
         about: "the verdict and the picture as a page to mail and print",
         text: "\
 Writes one page about the sweep in FILE: the verdict of `match`, the picture of `plot`, the 16 nearest traces by fault, and what they were
@@ -149,6 +159,7 @@ asks for nothing from elsewhere.
 
   -k K          draw so many faults, 1 to 6; 3 unless said
   --sweep S     if FILE holds several sweeps, which one, counted from 1; the first unless said
+  --factory F   the traces of this library too, as for `match`
   --edges A,B,.., --off A,B,..   show how many traces lie in each of these bands, too, as `bands` does; they print on a second page
   -o OUT.html   where the page goes; unless said, beside FILE, with the ending .html; `-` is standard output
   --force       overwrite it
@@ -156,7 +167,7 @@ asks for nothing from elsewhere.
 
 The date is today's, by UTC, or that of SOURCE_DATE_EPOCH if it is set.
 ",
-        values: &["-k", "--sweep", "--edges", "--off", "-o", "--bits"],
+        values: &["-k", "--sweep", "--factory", "--edges", "--off", "-o", "--bits"],
         flags: &["--force", "--cut", "--convert"],
         run: report::run,
     },
@@ -311,6 +322,23 @@ Writes one stored trace as a WAV recording of 16 bits. A trace with a sample bey
         run: export::run,
     },
     Command {
+        name: "tables",
+        usage: "LIBRARY -o OUT.h [--name NAME] [--force]",
+        about: "a library as constant tables for a program in C",
+        text: "\
+Writes the tables of a library as constants in C, to lie in memory that is never written, such as a controller's flash: a library that every
+machine carries. They have room for the traces that it has and no more. Include OUT.h in one file of the program: it declares NAME, a
+`struct silkendoz_tables`, and search work for it, the one table that a search writes; NAME_n and NAME_capacity are numbers of it.
+
+  -o OUT.h      where they go; `-` is standard output
+  --name NAME   what the library is called there; factory unless said
+  --force       overwrite it
+",
+        values: &["-o", "--name"],
+        flags: &["--force"],
+        run: constants::run,
+    },
+    Command {
         name: "completions",
         usage: "",
         about: "what bash needs to complete commands and options",
@@ -346,7 +374,7 @@ Lists the commands, or says all about one.
 ];
 
 pub fn command(name: &str) -> Option<&'static Command> {
-    static ALL: [Command; 18] = COMMANDS;
+    static ALL: [Command; COMMANDS.len()] = COMMANDS;
     ALL.iter().find(|command| command.name == name)
 }
 

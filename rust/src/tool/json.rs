@@ -15,6 +15,11 @@ pub fn text(text: &str) -> String {
     quoted
 }
 
+/// A text, if there is one.
+pub fn or_null(said: Option<&str>) -> String {
+    said.map_or("null".to_string(), text)
+}
+
 /// An object of fields whose values are JSON already.
 pub fn object(fields: &[(&str, String)]) -> String {
     let fields: Vec<String> = fields.iter().map(|(name, value)| format!("{}: {value}", text(name))).collect();

@@ -221,14 +221,6 @@ impl Names {
         rates
     }
 
-    /// The library's rate: the one that all traces of a known rate have.
-    pub fn rate(&self) -> Option<u32> {
-        match self.rates().as_slice() {
-            [one] => Some(*one),
-            _ => None,
-        }
-    }
-
     /// The next trace's name.
     pub fn push(&mut self, name: Option<Name>) {
         self.fitting.push(name);

@@ -4,14 +4,15 @@
 use super::arguments::Arguments;
 use super::bands::{Edges, Report};
 use super::drawing;
-use super::files::{shown, Output};
+use super::files::shown;
 use super::matching::Match;
-use super::plot::{beside, chosen, drawing, faults_asked, LOOKED_AT};
-use super::reading::{self, Wanted};
+use super::plot::{beside, chosen, drawing, faults_asked, output_of, LOOKED_AT};
+use super::reading;
 use super::shelf::Shelf;
+use super::shelves::{Shelves, FACTORY};
 use super::svg::{escaped, Svg};
 use super::verdict::{self, behind_fault, ByFault, Faults, Word};
-use super::{notes, numbers, plain, written, Answer};
+use super::{notes, numbers, plain, written, wrong, Answer};
 use std::path::Path;
 use std::time::{SystemTime, UNIX_EPOCH};
 
@@ -23,18 +24,20 @@ pub fn run(a: &Arguments) -> Answer {
     let [library, file] = a.exactly(["LIBRARY", "a FILE with a sweep"])?.map(Path::new);
     let many = faults_asked(a)?;
     let out = a.path("-o").unwrap_or_else(|| beside(file, "html"));
-    let shelf = Shelf::load(library)?;
-    let edges = Edges::said(a, shelf.library.n())?;
-    let [sheet, names, codes] = shelf.files()?;
-    let output = Output::of(&out, a.has("--force"), &[&sheet, &names, &codes, file])?;
-    let read = reading::one(file, &Wanted::by(a, &shelf.library)?)?;
+    let shelves = Shelves::load(a, library)?;
+    let edges = Edges::said(a, shelves.n())?;
+    if edges.is_some() && shelves.factory.is_some() {
+        return wrong(format!("`{FACTORY}` and bands do not go together: bands are of one library. `silkendoz bands` shows those of either."));
+    }
+    let output = output_of(a, &out, &shelves, file)?;
+    let read = reading::one(file, &shelves.wanted(a)?)?;
     let (sweep, which) = chosen(a, file, &read.sweeps)?;
-    let faults = Faults::of(&shelf)?;
-    let found = Match::of(&shelf, &faults, sweep, LOOKED_AT)?;
+    let faults = Faults::of(&shelves)?;
+    let found = Match::of(&shelves, &faults, sweep, LOOKED_AT)?;
     let groups = verdict::by_fault(&faults, &found.list);
-    let bands = edges.map(|edges| Report::of(&shelf, sweep, edges)).transpose()?;
+    let bands = edges.map(|edges| Report::of(&shelves.own, sweep, edges)).transpose()?;
     let drawn = groups.len().min(many);
-    let page = Page { shelf: &shelf, found: &found, groups: &groups, drawn, bands, notes: &read.notes, which: &which };
+    let page = Page { shelves: &shelves, found: &found, groups: &groups, drawn, bands, notes: &read.notes, which: &which };
     let done = output.write(page.html().as_bytes())?;
     let pages = if page.bands.is_some() { "two pages" } else { "one page" };
     let said = format!("{}: {}{which}. A browser shows it, and prints it on {pages}.", shown(&out), sweep.name);
@@ -43,7 +46,7 @@ pub fn run(a: &Arguments) -> Answer {
 }
 
 struct Page<'a> {
-    shelf: &'a Shelf,
+    shelves: &'a Shelves,
     found: &'a Match<'a>,
     groups: &'a [ByFault],
     /// So many of the faults are drawn.
@@ -105,8 +108,8 @@ svg { max-height: 112mm; }
 
 impl Page<'_> {
     fn html(&self) -> String {
-        let title = format!("{} and the traces of {}", self.found.sweep.shown(), plain::path(&self.shelf.path));
-        let drawing = drawing(self.shelf, self.found, &self.groups[..self.drawn]);
+        let title = format!("{} and the traces of {}", self.found.sweep.shown(), self.shelves.paths());
+        let drawing = drawing(self.shelves, self.found, &self.groups[..self.drawn]);
         let mut svg = Svg::inside(drawing::WIDTH, drawing.height(), &format!("{} and its nearest faults", self.found.sweep.name));
         drawing.draw(&mut svg, 0.0);
         // nothing from elsewhere, whatever a name would like
@@ -154,7 +157,7 @@ impl Page<'_> {
 
     /// A row a fault; of the nearest faults, their nearest traces too.
     fn table(&self) -> String {
-        let n = self.shelf.library.n();
+        let n = self.shelves.n();
         let looked = self.found.list.len();
         let nearest = self.found.verdict.nearest.distance;
         let mut html = format!(
@@ -168,7 +171,7 @@ impl Page<'_> {
             html.push_str(&row("fault", &drawing::short(&group.fault, 60), &cells));
             let shown = if at < FAULTS_IN_FULL { TRACES_A_FAULT } else { 0 };
             for near in group.traces.iter().take(shown) {
-                let name = format!("trace {}, {}", near.trace, behind_fault(self.shelf.names.shown(near.trace)));
+                let name = format!("{}, {}", self.shelves.called(near.trace), behind_fault(self.shelves.shown(near.trace)));
                 html.push_str(&row("one", &drawing::short(&name, 60), &[String::new(), apart(near.distance, n), String::new()]));
             }
         }
@@ -179,23 +182,24 @@ impl Page<'_> {
     /// A bar a band.
     fn distances(&self) -> String {
         let Some(bands) = &self.bands else { return String::new() };
-        let histogram = bands.histogram(self.shelf);
+        let histogram = bands.histogram(&self.shelves.own);
         let mut svg = Svg::inside(drawing::WIDTH, histogram.height(), "How many traces lie how far");
         histogram.draw(&mut svg, 0.0);
-        let said = escaped(&bands.said(self.shelf));
+        let said = escaped(&bands.said(&self.shelves.own));
         format!("<h2 class=\"bars\">How many traces lie how far</h2>\n{}<p class=\"small\">{said}</p>\n", svg.finish())
     }
 
     /// What it was found by.
     fn foot(&self) -> String {
-        let library = &self.shelf.library;
-        let traces = numbers::count(library.len(), "trace");
-        let parts = [
-            format!("Library {}: {traces} of {}.", plain::path(&self.shelf.path), numbers::count(library.n(), "sample")),
-            format!("SHA-256 of its sheet: {}.", self.shelf.hash()),
-            format!("{} The answer is exact: the one that reading every stored trace would give.", self.found.read(self.shelf)),
-            format!("silkendoz {}, {}.", env!("CARGO_PKG_VERSION"), now()),
-        ];
+        let of = |what: &str, shelf: &Shelf| {
+            let traces = numbers::count(shelf.library.len(), "trace");
+            let samples = numbers::count(shelf.library.n(), "sample");
+            format!("{what} {}: {traces} of {samples}. SHA-256 of its sheet: {}.", plain::path(&shelf.path), shelf.hash())
+        };
+        let mut parts = vec![of("Library", &self.shelves.own)];
+        parts.extend(self.shelves.factory.as_ref().map(|shelf| of("Factory library", shelf)));
+        parts.push(format!("{} The answer is exact: the one that reading every stored trace would give.", self.found.read(self.shelves)));
+        parts.push(format!("silkendoz {}, {}.", env!("CARGO_PKG_VERSION"), now()));
         format!("<footer>{}</footer>\n", escaped(&parts.join(" ")))
     }
 }

@@ -1,12 +1,11 @@
 //! What the nearest traces say of a sweep: it fits a fault, it lies between two, or it is like nothing stored. How far is far, the library
 //! itself says: its traces lie so far from the nearest other trace of their own fault. No verdict is without its figures.
 
-use super::names::Names;
 use super::numbers::{how_far, per_sample, times_as_far};
-use super::reading::Sweep;
-use super::shelf::Shelf;
-use super::{json, numbers, plain, refused, words, Failure};
-use silkendoz::{Neighbour, Refusal, StoredSample, TraceLibrary, SAMPLES};
+use super::reading::{Sweep, MOST_TRACES};
+use super::shelves::{Near, Shelves};
+use super::{json, numbers, refused, words, Failure};
+use silkendoz::{Refusal, TraceLibrary, SAMPLES};
 use std::collections::BTreeMap;
 
 /// Large leaves, since each trace is looked up once alone.
@@ -31,15 +30,15 @@ pub fn behind_fault(name: &str) -> &str {
 }
 
 /// The fault of a stored trace: by its code, and where it has none, by its name. Traces with neither are no fault together.
-fn fault_in(shelf: &Shelf, trace: usize) -> String {
-    match (shelf.label(trace).code, shelf.names.of(trace)) {
-        (0, Some(name)) => fault_of(&name.name).to_string(),
-        (0, None) => format!("trace {trace} (no name)"),
-        (code, _) => shelf.codes.fault(code),
+fn fault_in(shelves: &Shelves, trace: usize) -> String {
+    match (shelves.label(trace).code, shelves.name(trace)) {
+        (0, Some(name)) => fault_of(name).to_string(),
+        (0, None) => format!("{} (no name)", shelves.called(trace)),
+        (code, _) => shelves.fault(code),
     }
 }
 
-/// The faults of a library, by the codes and names of its traces.
+/// The faults of a library, or of two together, by the codes and names of their traces.
 pub struct Faults {
     /// Of each trace.
     names: Vec<String>,
@@ -48,16 +47,16 @@ pub struct Faults {
 }
 
 impl Faults {
-    pub fn of(shelf: &Shelf) -> Result<Faults, Failure> {
-        let names: Vec<String> = (0..shelf.library.len()).map(|t| fault_in(shelf, t)).collect();
+    pub fn of(shelves: &Shelves) -> Result<Faults, Failure> {
+        let names: Vec<String> = (0..shelves.len()).map(|t| fault_in(shelves, t)).collect();
         let mut groups: BTreeMap<&str, Vec<Vec<i32>>> = BTreeMap::new();
         for (t, name) in names.iter().enumerate() {
-            groups.entry(name).or_default().push(shelf.trace(t));
+            groups.entry(name).or_default().push(shelves.trace(t));
         }
         let several = groups.values().filter(|group| group.len() > 1);
         let nearest: Vec<u64> = match several.map(|group| to_own(group)).collect::<Result<Vec<_>, _>>() {
             Ok(each) => each.concat(),
-            Err(why) => return refused(format!("{}: {}", plain::path(&shelf.path), words::of_call(why))),
+            Err(why) => return refused(format!("{}: {}", shelves.paths(), words::of_call(why))),
         };
         let apart = nearest.iter().min().zip(nearest.iter().max()).map(|(least, greatest)| (*least, *greatest));
         Ok(Faults { names, apart })
@@ -69,31 +68,44 @@ impl Faults {
     }
 
     /// The first of a list that is of another fault than its first.
-    pub fn other<'a>(&self, list: &'a [Neighbour]) -> Option<&'a Neighbour> {
+    pub fn other<'a>(&self, list: &'a [Near]) -> Option<&'a Near> {
         let first = self.name(list.first()?.trace);
         list.iter().find(|near| self.name(near.trace) != first)
     }
 }
 
-/// The distance of each trace to the nearest other one: in a library of them all, the second of its two nearest.
+/// The distance of each trace to the nearest other one, of two or more: in a library of them all, the second of its two nearest. Two
+/// libraries may have more of a fault than one holds; then there are several, and the second of all is among the two nearest of each.
 fn to_own(group: &[Vec<i32>]) -> Result<Vec<u64>, Refusal> {
-    let mut library = TraceLibrary::open(group.first().map_or(0, Vec::len), group.len(), OWN_LEAF_SIZE)?;
-    for trace in group {
+    let libraries = group.chunks(MOST_TRACES).map(library_of).collect::<Result<Vec<_>, _>>()?;
+    let second = |trace: &Vec<i32>| {
+        let mut two = Vec::new();
+        for library in &libraries {
+            two.extend(library.k_nearest(trace, 2)?.list.iter().map(|near| near.distance));
+        }
+        two.sort_unstable();
+        Ok(two.get(1).copied().unwrap_or_default())
+    };
+    group.iter().map(second).collect()
+}
+
+fn library_of(traces: &[Vec<i32>]) -> Result<TraceLibrary, Refusal> {
+    let mut library = TraceLibrary::open(traces.first().map_or(0, Vec::len), traces.len(), OWN_LEAF_SIZE)?;
+    for trace in traces {
         library.add(trace)?;
     }
-    let second = |trace: &Vec<i32>| library.k_nearest(trace, 2).map(|found| found.list.last().map_or(0, |near| near.distance));
-    group.iter().map(second).collect()
+    Ok(library)
 }
 
 /// The traces of a fault, of a list of nearest ones.
 pub struct ByFault {
     pub fault: String,
     /// The nearest first; never empty.
-    pub traces: Vec<Neighbour>,
+    pub traces: Vec<Near>,
 }
 
 /// A list of nearest traces by fault, the fault of the nearest first.
-pub fn by_fault(faults: &Faults, list: &[Neighbour]) -> Vec<ByFault> {
+pub fn by_fault(faults: &Faults, list: &[Near]) -> Vec<ByFault> {
     let mut groups: Vec<ByFault> = Vec::new();
     for near in list {
         let fault = faults.name(near.trace);
@@ -137,7 +149,7 @@ impl Word {
 /// What is known of the nearest trace of another fault.
 #[derive(Clone, Debug, PartialEq, Eq)]
 pub enum Other {
-    Found(Neighbour, String),
+    Found(Near, String),
     /// So many nearest are all of one fault, and there are more traces.
     NotAmong(usize),
     /// All stored traces are of one fault.
@@ -149,7 +161,7 @@ pub enum Other {
 pub struct Verdict {
     pub word: Word,
     pub fault: String,
-    pub nearest: Neighbour,
+    pub nearest: Near,
     pub other: Other,
     /// On the way from the nearest trace to the nearest of the other fault.
     between: Option<Between>,
@@ -184,24 +196,21 @@ impl Between {
 
 impl Verdict {
     /// Of the nearest traces of a sweep, which are so many as were looked for, or all.
-    pub fn of(faults: &Faults, library: &TraceLibrary, sweep: &[i32], list: &[Neighbour]) -> Option<Verdict> {
+    pub fn of(faults: &Faults, shelves: &Shelves, sweep: &[i32], list: &[Near]) -> Option<Verdict> {
         let nearest = *list.first()?;
         let other = match faults.other(list) {
             Some(near) => Other::Found(*near, faults.name(near.trace).to_string()),
-            None if list.len() == library.len() => Other::NoneStored,
+            None if list.len() == shelves.len() => Other::NoneStored,
             None if list.len() == 1 => Other::NotAsked,
             None => Other::NotAmong(list.len()),
         };
         let between = match &other {
-            Other::Found(near, _) => {
-                let [from, to] = [nearest.trace, near.trace].map(|trace| library.trace(trace).map(StoredSample::values));
-                Between::of(sweep, &from?, &to?)
-            }
+            Other::Found(near, _) => Between::of(sweep, &shelves.trace(nearest.trace), &shelves.trace(near.trace)),
             _ => None,
         };
         let word = judged(nearest.distance, &other, between, faults.apart);
         let fault = faults.name(nearest.trace).to_string();
-        Some(Verdict { word, fault, nearest, other, between, apart: faults.apart, n: library.n() })
+        Some(Verdict { word, fault, nearest, other, between, apart: faults.apart, n: shelves.n() })
     }
 
     fn a_sample(&self, distance: u64) -> String {
@@ -286,7 +295,7 @@ impl Verdict {
     }
 
     /// Fields for programs, all of them there whatever the verdict; what there is none of is null.
-    pub fn json(&self) -> String {
+    pub fn json(&self, shelves: &Shelves) -> String {
         let figure = |distance: Option<u64>| distance.map_or("null".to_string(), |d| format!("{:.3}", per_sample(d, self.n)));
         let (other, name) = match &self.other {
             Other::Found(near, name) => (Some(near), json::text(name)),
@@ -299,7 +308,8 @@ impl Verdict {
             ("fault", json::text(&self.fault)),
             ("a_sample", figure(Some(self.nearest.distance))),
             ("other_fault", name),
-            ("other_fault_trace", other.map_or("null".to_string(), |near| near.trace.to_string())),
+            ("other_fault_library", other.map_or("null".to_string(), |near| json::or_null(shelves.place(near.trace).which))),
+            ("other_fault_trace", other.map_or("null".to_string(), |near| shelves.place(near.trace).number.to_string())),
             ("other_fault_a_sample", figure(other.map(|near| near.distance))),
             ("other_fault_times_as_far", times.map_or("null".to_string(), |times| format!("{times:.3}"))),
             ("between_share", self.between.map_or("null".to_string(), |between| format!("{:.3}", between.share))),
@@ -342,17 +352,17 @@ fn other_rate(own: Option<u32>, nearest: Option<u32>, rates: &[u32]) -> Option<S
 }
 
 /// What else is to be known of a sweep before its verdict is believed.
-pub fn remarks(sweep: &Sweep, nearest: Neighbour, names: &Names) -> Vec<String> {
+pub fn remarks(sweep: &Sweep, nearest: Near, shelves: &Shelves) -> Vec<String> {
     let mut list = Vec::new();
     if nearest.distance == 0 {
-        list.push(format!("It is stored already: trace {} is the same, sample by sample.", nearest.trace));
+        list.push(format!("It is stored already: {} is the same, sample by sample.", shelves.called(nearest.trace)));
     }
     let at_limit = clipped(&sweep.samples);
     if let Some(first) = at_limit.first() {
         let (count, verb) = (numbers::count(at_limit.len(), "sample"), if at_limit.len() == 1 { "is" } else { "are" });
         list.push(format!("{count} {verb} at the converter's limit, from sample {} on: there the current may have been larger.", first + 1));
     }
-    list.extend(other_rate(sweep.rate, names.rate_of(nearest.trace), &names.rates()));
+    list.extend(other_rate(sweep.rate, shelves.rate_of(nearest.trace), &shelves.rates()));
     list
 }
 
@@ -377,13 +387,7 @@ mod tests {
     #[test]
     fn judged_by_the_library() {
         let apart = Some((10, 40));
-        let near = |distance| {
-            let mut library = TraceLibrary::open(1, 2, 1).unwrap();
-            library.add(&[0]).unwrap();
-            let mut found = library.k_nearest(&[0], 1).unwrap().list[0];
-            found.distance = distance;
-            Other::Found(found, String::new())
-        };
+        let near = |distance| Other::Found(Near { trace: 0, distance }, String::new());
         let far = Some(Between { share: 0.5, distance: 40.5 });
         let on_the_way = Some(Between { share: 0.5, distance: 40.0 });
         assert_eq!(judged(40, &near(41), far, apart), Word::Fits);

@@ -1,8 +1,9 @@
 //! The calls of [`crate::lending`], made by the model: the same arguments, the answers' values in their order, and the places that the
 //! documents say.
 
-use crate::model::tables::{judge_opening, judge_reading, needs, Lengths, Tables};
-use crate::model::{recording, sheet, Label, Library, Measures, Refused};
+use crate::lending::PairTold;
+use crate::model::tables::{judge_opening, judge_pair, judge_reading, needs, Lengths, Tables};
+use crate::model::{pair, recording, sheet, Label, Library, Measures, Refused};
 use silkendoz::calls::Answer;
 
 /// Lays the needed parts of a library's tables over these, but for search work; so many of its traces were there before, and the words of
@@ -112,6 +113,19 @@ pub fn count_bands(t: &mut Tables, l: Lengths, list: &mut [u64], query: &[i32], 
         record.copy_from_slice(&[sure as u64, possible as u64]);
     }
     Ok(())
+}
+
+pub fn match_both(both: [&mut Tables; 2], l: [Lengths; 2], trails: [&mut [u16]; 2], query: &[i32]) -> Result<PairTold, Refused> {
+    let lent = [both[0].first(l[0]), both[1].first(l[1])];
+    let libraries = judge_pair([&lent[0], &lent[1]], query, [trails[0].len(), trails[1].len()])?;
+    let found = pair([&libraries[0], &libraries[1]], query).expect("a trace is stored");
+    for (which, (t, trail)) in both.into_iter().zip(trails).enumerate() {
+        clear_work(t, libraries[which].measures);
+        fill_trail(trail, &found.trails[which]);
+    }
+    let (trace, n) = (found.trace, query.len());
+    let figures = [found.library, trace, found.distance as usize, found.leaves, found.traces, found.trails[0].len()];
+    Ok((figures.map(|figure| figure as u64), trace * n..(trace + 1) * n))
 }
 
 pub fn match_batch(t: &mut Tables, l: Lengths, trail: &mut [u16], queries: &[i32], many: usize, answers: &mut [Answer]) -> Result<u64, Refused> {

@@ -3,7 +3,7 @@
 use crate::model::tables::{Lengths, Tables};
 use crate::model::{Label, Measures, Refused};
 use silkendoz::calls::{self, Answer, Found, Lent, Listed, RemoteFound};
-use silkendoz::{Refusal, StoredSample};
+use silkendoz::{Library, Refusal, StoredSample};
 
 /// Number and place.
 fn told<T>(answer: Result<T, Refusal>) -> Result<T, Refused> {
@@ -89,6 +89,24 @@ pub fn check_tables(t: &Tables, l: Lengths) -> Result<(), Refused> {
 pub fn count_bands(t: &mut Tables, l: Lengths, list: &mut [u64], query: &[i32], edges: &[u64]) -> Result<(), Refused> {
     let (t, work) = searched(t, l);
     told(calls::count_bands(t, work, list, query, edges))
+}
+
+/// What a match over two libraries answers: library, trace, distance, leaves, traces, and how many of the leaves are the factory's; and the part
+/// that it hands back, by its places in the table of that library. The factory's come first.
+pub type PairTold = ([u64; 6], std::ops::Range<usize>);
+
+pub fn match_both(both: [&mut Tables; 2], l: [Lengths; 2], trails: [&mut [u16]; 2], query: &[i32]) -> Result<PairTold, Refused> {
+    let ([factory, bench], [trail, bench_trail]) = (both, trails);
+    let ((factory, work), (bench, bench_work)) = (searched(factory, l[0]), searched(bench, l[1]));
+    let found = told(calls::match_both(factory, work, trail, bench, bench_work, bench_trail, query))?;
+    let (library, from) = match found.library {
+        Library::Factory => (0, factory.samples),
+        Library::Bench => (1, bench.samples),
+    };
+    // where it begins, in words from the table's first
+    let start = (found.samples.as_ptr() as usize).wrapping_sub(from.as_ptr() as usize) / size_of::<StoredSample>();
+    let figures = [library, found.trace, found.distance, found.leaves, found.traces, found.factory_leaves];
+    Ok((figures, start..start.saturating_add(found.samples.len())))
 }
 
 pub fn match_batch(t: &mut Tables, l: Lengths, trail: &mut [u16], queries: &[i32], many: usize, answers: &mut [Answer]) -> Result<u64, Refused> {

@@ -3,9 +3,10 @@
 
 use silkendoz::calls::Answer;
 pub use testing::lending::{add, add_labelled, check_tables, export_recording, import_recording, k_nearest, label, match_batch, nearest, open};
-pub use testing::lending::{count_bands, read_sheet, remote_match, write_sheet};
-use testing::model::tables::{judge_opening, label_place, word_of, Lengths, Tables};
-use testing::model::{distance, in_bands, within, Band, Batch, KNearest, Kind, Label, Library, Match, Measures, Refused, Trace, NARROW_LIMIT};
+pub use testing::lending::{count_bands, match_both, read_sheet, remote_match, write_sheet};
+use testing::model::tables::{judge_opening, judge_pair, label_place, word_of, Lengths, Tables};
+use testing::model::{distance, in_bands, pair, pair_by_steps, within, NARROW_LIMIT};
+use testing::model::{Band, Batch, KNearest, Kind, Label, Library, Match, Measures, Pair, Refused, Trace};
 use testing::program::repository;
 use testing::random::{no_sample, Random};
 use testing::script::bytes;
@@ -433,6 +434,48 @@ fn bands_hold(library: &Library, query: &[i32], edges: &[u64], bands: &[Band]) {
     }
     for (&(sure, possible), number) in bands.iter().zip(in_bands(&library.traces, query, edges)) {
         assert!(sure <= number && number <= possible, "{sure} {number} {possible}");
+    }
+}
+
+// ---- two libraries
+
+/// The answer, both trails, the part that is handed back, and every place of both libraries' tables: by the program's steps, which on tables that the
+/// check accepts give the nearest of all, and the leaves within its distance. Of each pair the factory's comes first.
+pub fn check_both(t: [&mut Tables; 2], l: [Lengths; 2], trails: [&mut [u16]; 2], query: &[i32]) -> Result<Pair, Refused> {
+    let [factory, bench] = t;
+    let [trail, bench_trail] = trails;
+    let before = [factory.clone(), bench.clone()];
+    let before_trails = [trail.to_vec(), bench_trail.to_vec()];
+    let answer = match_both([&mut *factory, &mut *bench], l, [&mut *trail, &mut *bench_trail], query);
+    let lent = [before[0].first(l[0]), before[1].first(l[1])];
+    match judge_pair([&lent[0], &lent[1]], query, [trail.len(), bench_trail.len()]) {
+        Err(refused) => {
+            assert_eq!(answer, Err(refused));
+            assert_eq!([&*factory, &*bench], [&before[0], &before[1]], "a refused match leaves everything");
+            assert_eq!([&*trail, &*bench_trail], [&before_trails[0][..], &before_trails[1][..]]);
+            Err(refused)
+        }
+        Ok(libraries) => {
+            let both = [&libraries[0], &libraries[1]];
+            let expected = pair_by_steps(both, query).expect("a trace is stored");
+            if libraries.iter().all(Library::is_exact) {
+                assert_eq!(pair(both, query).as_ref(), Some(&expected), "the nearest of all, and the leaves within its distance");
+            }
+            let (figures, part) = answer.expect("nothing is refused");
+            let counts = [expected.leaves, expected.traces, expected.trails[0].len()].map(|count| count as i128);
+            assert_eq!(
+                figures[..3].iter().map(|&x| i128::from(x)).collect::<Vec<_>>(),
+                [expected.library as i128, expected.trace as i128, expected.distance]
+            );
+            assert_eq!(figures[3..].iter().map(|&x| i128::from(x)).collect::<Vec<_>>(), counts);
+            let n = query.len();
+            assert_eq!(part, expected.trace * n..(expected.trace + 1) * n, "the winning trace, as it lies in the lent table");
+            searched(&before[0], factory, libraries[0].measures);
+            searched(&before[1], bench, libraries[1].measures);
+            begins_with(trail, &before_trails[0], &expected.trails[0]);
+            begins_with(bench_trail, &before_trails[1], &expected.trails[1]);
+            Ok(expected)
+        }
     }
 }
 

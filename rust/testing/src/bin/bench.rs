@@ -1,7 +1,8 @@
 //! Tables of times, all in one run: the calls beside the scan on the same data, medians of many rounds, n = 256 and capacity 4,096. The
 //! first is of all calls, the second of lists of five; below them, what it takes to add traces that are all the same, and to import a
 //! recording beside reading the sheet of the same traces. `bench worst` is about many traces in one leaf, `bench check` about the check of
-//! tables, `bench batch` about sixteen queries at once beside sixteen matches, `bench bands` about a report of bands beside a scan that counts.
+//! tables, `bench batch` about sixteen queries at once beside sixteen matches, `bench bands` about a report of bands beside a scan that counts,
+//! `bench pair` about a match over two libraries beside a match in each, and beside one in a library that holds the traces of both.
 //!
 //! Machines differ, and so do runs; within a line the columns belong together, and the ratios are what counts. Every answer is compared
 //! with the scan's.
@@ -392,6 +393,57 @@ fn bands() {
     }
 }
 
+/// Two libraries with half of the traces each, and one with all of them.
+struct Parted {
+    factory: TraceLibrary,
+    bench: TraceLibrary,
+    whole: TraceLibrary,
+}
+
+/// A match over both, a match in each, and one in the whole, query by query: the three times, the two others over the first, and the leaves that
+/// each read.
+fn paired(libraries: &Parted, queries: &[Trace]) -> String {
+    let Parted { factory, bench, whole } = libraries;
+    let mut rounds: Vec<[f64; 8]> = Vec::new();
+    for q in queries {
+        let (pair_time, both) = time(|| TraceLibrary::match_both(factory, bench, black_box(q)).expect("traces are stored"));
+        let (two_time, two) = time(|| [factory, bench].map(|library| library.nearest(black_box(q)).expect("traces are stored")));
+        let (one_time, one) = time(|| whole.nearest(black_box(q)).expect("traces are stored"));
+        assert!(both.distance == one.distance && both.distance == two[0].distance.min(two[1].distance));
+        let leaves = [both.leaves, two[0].leaves + two[1].leaves, one.leaves].map(|leaves| leaves as f64);
+        rounds.push([pair_time, two_time, one_time, two_time / pair_time, one_time / pair_time, leaves[0], leaves[1], leaves[2]]);
+    }
+    let of = |figure: usize| median(rounds.iter().map(|r| r[figure]).collect());
+    let times: String = (0..3).map(|figure| format!("{:>8.1}", of(figure))).collect();
+    let leaves: String = (5..8).map(|figure| format!("{:>6.0}", of(figure))).collect();
+    format!("{times}{:>6.2}{:>6.2}{leaves}", of(3), of(4))
+}
+
+/// `bench pair`: a match over two libraries, of half of the traces each.
+fn pair() {
+    println!("n = {N}, {CAPACITY} traces, half of them in each library; microseconds, medians of {QUERIES} queries");
+    println!("two: a match in each library; one: a match in a library with all traces; x: two / pair and one / pair; then the leaves that each read");
+    let heads = ["near", "fresh"].map(|kind| format!("{kind:>8}{:>8}{:>8}{:>6}{:>6}{:>6}{:>6}{:>6}", "two", "one", "x", "x", "pair", "two", "one"));
+    println!("{:<14}{:>5} |{}", "data", "leaf", heads.join(" |"));
+    for data in [Data::Walks, Data::Sines, Data::Noise] {
+        for leaf_size in [64, 16, 4] {
+            let Full { library: whole, nearby, fresh, .. } = filled(data, leaf_size);
+            let half = |first: usize| {
+                let mut library = TraceLibrary::open(N, CAPACITY / 2, leaf_size).expect("measures are in range");
+                // every other one
+                for trace in whole.traces().skip(first).step_by(2) {
+                    library.add(&StoredSample::values(trace)).expect("there is room");
+                }
+                library
+            };
+            let libraries = Parted { factory: half(0), bench: half(1), whole };
+            paired(&libraries, &nearby[..3]);
+            let columns = [nearby, fresh].map(|queries| paired(&libraries, &queries));
+            println!("{:<14}{leaf_size:>5} |{}", data.name(), columns.join(" |"));
+        }
+    }
+}
+
 /// Microseconds for adding all of these to an empty library.
 fn building(stored: &[Trace], leaf_size: usize) -> f64 {
     let mut library = TraceLibrary::open(N, CAPACITY, leaf_size).expect("measures are in range");
@@ -455,6 +507,7 @@ fn main() {
         Some("check") => return check(),
         Some("batch") => return batch(),
         Some("bands") => return bands(),
+        Some("pair") => return pair(),
         _ => {}
     }
     println!("n = {N}, capacity {CAPACITY}, full; times in microseconds, medians ({QUERIES} queries, the last {ADDED} traces added)");

@@ -323,6 +323,19 @@ pub struct Batch {
     pub trail: Vec<usize>,
 }
 
+/// What a match over two libraries answers, with both trails. Of the two the factory's comes first.
+#[derive(Clone, Debug, PartialEq, Eq)]
+pub struct Pair {
+    /// 0 for the factory's, 1 for the bench's.
+    pub library: usize,
+    pub trace: usize,
+    pub distance: i128,
+    /// Over both.
+    pub leaves: usize,
+    pub traces: usize,
+    pub trails: [Vec<usize>; 2],
+}
+
 /// A band of a report: how many traces are sure, and how many possible.
 pub type Band = (usize, usize);
 
@@ -623,6 +636,47 @@ impl Library {
     }
 }
 
+/// Document 02, §11: "nearest of all, the factory's on equal distance, then the lower number"; "In each library the leaves read are those with a
+/// bound at most the joint distance. Each has its own trail, by bound, then number; counts are over both." There is one where a trace is stored.
+pub fn pair(both: [&Library; 2], query: &[i32]) -> Option<Pair> {
+    let stored = |which: usize| both[which].traces.iter().enumerate().map(move |(t, trace)| (distance(trace, query), which, t));
+    let nearest = stored(0).chain(stored(1)).min()?;
+    let trails = both.map(|library| {
+        let bounds = library.bounds(query);
+        let mut read = library.reading_order(&bounds);
+        read.retain(|&leaf| bounds[leaf] <= nearest.0);
+        read
+    });
+    Some(paired(both, nearest, trails))
+}
+
+/// The program's own steps, on any well-formed tables: of the two next leaves the one with the lower bound is read, of equal ones the factory's, until
+/// no bound is within the best distance found in either.
+pub fn pair_by_steps(both: [&Library; 2], query: &[i32]) -> Option<Pair> {
+    let bounds = both.map(|library| library.bounds(query));
+    let orders = [0, 1].map(|which: usize| both[which].reading_order(&bounds[which]));
+    let mut trails = [Vec::new(), Vec::new()];
+    let mut best: Option<(i128, usize, usize)> = None;
+    loop {
+        let ahead = |which: usize| orders[which].get(trails[which].len()).map(|&leaf| (bounds[which][leaf], which, leaf));
+        match ahead(0).into_iter().chain(ahead(1)).min() {
+            Some((bound, which, leaf)) if best.is_none_or(|(distance, ..)| bound <= distance) => {
+                let numbers = both[which].numbers(leaf).iter();
+                let read = numbers.map(|&t| (distance(&both[which].traces[t], query), which, t));
+                best = read.chain(best).min();
+                trails[which].push(leaf);
+            }
+            _ => break,
+        }
+    }
+    best.map(|nearest| paired(both, nearest, trails))
+}
+
+fn paired(both: [&Library; 2], (distance, library, trace): (i128, usize, usize), trails: [Vec<usize>; 2]) -> Pair {
+    let held = |which: usize| trails[which].iter().map(|&leaf| both[which].numbers(leaf).len()).sum::<usize>();
+    Pair { library, trace, distance, leaves: trails[0].len() + trails[1].len(), traces: held(0) + held(1), trails }
+}
+
 /// "g is the distance from t to [least sum, greatest sum]; h is the largest of 0, floor root of least scatter − ceiling root of U, and floor root of U −
 /// ceiling root of greatest scatter."
 pub fn gaps(segment: &Segment, t: i128, u: i128) -> (i128, i128) {
@@ -714,6 +768,25 @@ mod tests {
         assert_eq!(both(&[&[4, 4, 4, 4], &[2, 2, 2, 2]]), Some(Batch { answers: vec![(1, 0), (0, 16)], trail: vec![1, 2] }));
         assert_eq!(both(&[&[1, 1, 1, 1]]), Some(Batch { answers: vec![(0, 4)], trail: vec![1] }));
         assert_eq!(Library::open(library.measures).batch(&[&[1, 1, 1, 1]]), None);
+    }
+
+    #[test]
+    fn pairs_of_the_examples() {
+        let of = |capacity: u64, leaf_size: u64, samples: &[i32]| {
+            Library::of(Measures { n: 1, capacity, leaf_size }, &samples.iter().map(|&x| vec![x]).collect::<Vec<_>>())
+        };
+        let (first, second, empty) = (of(8, 1, &[0, 4]), of(4, 2, &[2]), of(1, 1, &[]));
+        let both = |factory: &Library, bench: &Library, query: i32| {
+            assert_eq!(pair([factory, bench], &[query]), pair_by_steps([factory, bench], &[query]));
+            pair([factory, bench], &[query])
+        };
+        let found = |library, trace, distance, leaves, traces, trails| Some(Pair { library, trace, distance, leaves, traces, trails });
+        // no leaf of the factory's is within the joint distance
+        assert_eq!(both(&first, &second, 2), found(1, 0, 0, 1, 1, [vec![], vec![0]]));
+        assert_eq!(both(&first, &second, 3), found(0, 1, 1, 2, 2, [vec![2], vec![0]]));
+        assert_eq!(both(&second, &first, 3), found(0, 0, 1, 2, 2, [vec![0], vec![2]]));
+        assert_eq!(both(&empty, &first, 2), found(1, 0, 4, 2, 2, [vec![], vec![1, 2]]));
+        assert_eq!(both(&empty, &empty, 2), None);
     }
 
     #[test]

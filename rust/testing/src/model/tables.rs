@@ -337,8 +337,30 @@ impl Tables {
     }
 }
 
+/// A match over two libraries: "The factory's tables are tested first", then the bench's; then as below. The places of the factory's trail come
+/// first.
+pub fn judge_pair(both: [&Tables; 2], query: &[i32], trails: [usize; 2]) -> Result<[Library; 2], Refused> {
+    let factory = both[0].judge_made()?;
+    let bench = both[1].judge_made()?;
+    factory.judge_both(&bench, query, trails)?;
+    Ok([factory, bench])
+}
+
 /// What a search, an import and an export refuse by the library alone, once its tables are sound.
 impl Library {
+    /// "17 unlike libraries, when their n differ, after both pass 3"; then 4, 15; "both empty is 6"; 7 for either trail.
+    pub fn judge_both(&self, bench: &Library, query: &[i32], trails: [usize; 2]) -> Result<(), Refused> {
+        if self.measures.n != bench.measures.n {
+            return Err((17, 0));
+        }
+        judge_samples(query, self.measures.n)?;
+        match () {
+            _ if self.traces.is_empty() && bench.traces.is_empty() => Err((6, 0)),
+            _ if trails[0] < self.leaves().len() || trails[1] < bench.leaves().len() => Err((7, 0)),
+            _ => Ok(()),
+        }
+    }
+
     /// 4, then 15, then 6, then 7.
     pub fn judge_query(&self, query: &[i32], trail: usize) -> Result<(), Refused> {
         judge_samples(query, self.measures.n)?;

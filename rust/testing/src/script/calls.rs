@@ -1,5 +1,6 @@
 //! The calls that a script plays: those of the library, or the model's.
 
+use crate::lending::PairTold;
 use crate::model::tables::{Lengths, Tables};
 use crate::model::{sheet, Label, Measures, Refused};
 use crate::{by_model, lending, program};
@@ -12,6 +13,8 @@ type Told<A> = Result<A, Refused>;
 type Search<A> = fn(&mut Tables, Lengths, &mut [u16], &[i32]) -> Told<A>;
 type Listing = fn(&mut Tables, Lengths, &mut [u16], &mut [u64], &[i32], u64) -> Told<[u64; 3]>;
 type Banding = fn(&mut Tables, Lengths, &mut [u64], &[i32], &[u64]) -> Told<()>;
+/// A match over two libraries: tables, their lengths and a trail of each, the factory's first.
+type Pairing = fn([&mut Tables; 2], [Lengths; 2], [&mut [u16]; 2], &[i32]) -> Told<PairTold>;
 type Batching = fn(&mut Tables, Lengths, &mut [u16], &[i32], usize, &mut [Answer]) -> Told<u64>;
 
 /// Each call over a memory, with the values of its answer in their order; and the program's line.
@@ -30,6 +33,7 @@ pub struct Calls {
     pub check_tables: fn(&Tables, Lengths) -> Told<()>,
     pub match_batch: Batching,
     pub count_bands: Banding,
+    pub match_both: Pairing,
     pub program: fn(&[u8]) -> Result<String, String>,
 }
 
@@ -49,6 +53,7 @@ pub static LIBRARY: Calls = Calls {
     check_tables: lending::check_tables,
     match_batch: lending::match_batch,
     count_bands: lending::count_bands,
+    match_both: lending::match_both,
     program: |sheet| program::printed(sheet).map_err(|why| format!("the program does not run: {why}")),
 };
 
@@ -68,5 +73,6 @@ pub static MODEL: Calls = Calls {
     check_tables: by_model::check_tables,
     match_batch: by_model::match_batch,
     count_bands: by_model::count_bands,
+    match_both: by_model::match_both,
     program: |sheet| Ok(format!("{}\n", sheet::program_line(sheet))),
 };

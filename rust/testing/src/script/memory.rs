@@ -55,6 +55,13 @@ pub struct Memory {
     tables: Tables,
 }
 
+/// How long the tables have to be, how long they are lent, and what they held before.
+struct Lending {
+    need: Lengths,
+    lent: Lengths,
+    before: Tables,
+}
+
 impl Memory {
     /// Nothing was opened: the control record holds zeros, by which the other tables need no place.
     pub fn unopened() -> Memory {
@@ -82,27 +89,54 @@ impl Memory {
     /// Makes a call: it is lent the tables as long as needed, but for those that the line names under `short`, which are one place shorter. Needed search
     /// work has marks before. Panics if the call leaves a place otherwise than its effect says, or any place changed when it is refused.
     pub fn call<A>(&mut self, line: &Line, effect: Effect, call: impl FnOnce(&mut Tables, Lengths) -> Result<A, Refused>) -> Result<A, Unanswered> {
+        let lending = self.lend(line, "short", effect)?;
+        let answer = call(&mut self.tables, lending.lent);
+        self.hold(line, effect, lending, answer.is_ok());
+        answer.map_err(Unanswered::Refused)
+    }
+
+    /// The same of a call that takes a query over two libraries; under `short2` the line names the tables of the second.
+    pub fn call_both<A>(
+        both: &mut [Memory; 2],
+        line: &Line,
+        call: impl FnOnce([&mut Tables; 2], [Lengths; 2]) -> Result<A, Refused>,
+    ) -> Result<A, Unanswered> {
+        let [first, second] = both;
+        let lendings = [first.lend(line, "short", Effect::Searches)?, second.lend(line, "short2", Effect::Searches)?];
+        let lent = [lendings[0].lent, lendings[1].lent];
+        let answer = call([&mut first.tables, &mut second.tables], lent);
+        for (memory, lending) in [first, second].into_iter().zip(lendings) {
+            memory.hold(line, Effect::Searches, lending, answer.is_ok());
+        }
+        answer.map_err(Unanswered::Refused)
+    }
+
+    /// What a call is lent, by its effect and the tables that the line names under a key; with marks in needed search work.
+    fn lend(&mut self, line: &Line, key: &str, effect: Effect) -> Result<Lending, Unanswered> {
         let need = match effect {
             Effect::Puts(measures) if measures.in_range() => needs(measures),
             _ => self.need(),
         };
         let mut lent = need;
-        for table in line.tables("short")? {
+        for table in line.tables(key)? {
             let length = &mut *lent.each()[table];
             *length = length.saturating_sub(1);
         }
         self.reach(need);
         self.tables.work[..need.work].iter_mut().enumerate().for_each(|(place, work)| *work = u64::mark(place));
-        let mut expected = self.tables.clone();
-        let answer = call(&mut self.tables, lent);
-        if answer.is_ok() {
+        Ok(Lending { need, lent, before: self.tables.clone() })
+    }
+
+    /// Panics if a call that was answered has left a place otherwise than its effect says, or one that was refused any place changed.
+    fn hold(&self, line: &Line, effect: Effect, lending: Lending, answered: bool) {
+        let Lending { need, before: mut expected, .. } = lending;
+        if answered {
             effect.allow(&mut expected, &self.tables, need);
         }
         if let Some((place, table)) = difference(&expected, &self.tables) {
-            let how = if answer.is_ok() { "answered" } else { "refused" };
+            let how = if answered { "answered" } else { "refused" };
             panic!("{} was {how}, and left place {place} of the {table} otherwise than it may", line.name);
         }
-        answer.map_err(Unanswered::Refused)
     }
 
     /// The library as the tables record it.

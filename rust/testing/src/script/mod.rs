@@ -34,7 +34,7 @@ use memory::{Area, Effect, Memory};
 use std::fmt::Display;
 
 /// How many of document 02's requests have landed.
-pub const STAGE: usize = 10;
+pub const STAGE: usize = 11;
 
 /// Two libraries, of which nothing was opened at first: the factory's is the first, the bench's the second.
 pub struct Session {
@@ -64,7 +64,7 @@ struct Played {
     play: fn(&mut Session, Line<'_>) -> Reply,
 }
 
-const LINES: [Played; 20] = [
+const LINES: [Played; 21] = [
     Played { name: "open", keys: &["short"], play: open },
     Played { name: "add", keys: &["short"], play: add },
     Played { name: "match", keys: &["short", "trail"], play: nearest },
@@ -79,6 +79,7 @@ const LINES: [Played; 20] = [
     Played { name: "label", keys: &["short"], play: label },
     Played { name: "remote", keys: &["short", "trail"], play: remote_match },
     Played { name: "bands", keys: &["short", "list"], play: bands },
+    Played { name: "pair", keys: &["short", "short2", "trail", "trail2"], play: pair },
     Played { name: "tree", keys: &[], play: looking::tree },
     Played { name: "below", keys: &[], play: looking::below },
     Played { name: "walks", keys: &[], play: looking::walks },
@@ -204,6 +205,22 @@ fn bands(session: &mut Session, mut line: Line<'_>) -> Reply {
     records.kept_if_refused(answer)?;
     let counts = records.filled(2 * (many as u64 - 1)).chunks(2).map(|record| format!("{}:{}", record[0], record[1]));
     Ok(list("bands", counts))
+}
+
+fn pair(session: &mut Session, mut line: Line<'_>) -> Reply {
+    if line.library != 0 {
+        return Err(malformed("a pair speaks to both libraries"));
+    }
+    let (query, match_both): (Vec<i32>, _) = (line.rest()?, session.calls.match_both);
+    let leaves = session.libraries.each_ref().map(Memory::leaves);
+    let mut first = Area::of("trail", line.places("trail", leaves[0])?);
+    let mut second = Area::of("second trail", line.places("trail2", leaves[1])?);
+    let answer = Memory::call_both(&mut session.libraries, &line, |t, l| match_both(t, l, [first.lent(), second.lent()], &query));
+    let ([library, trace, distance, leaves, traces, factory_leaves], part) = second.kept_if_refused(first.kept_if_refused(answer))?;
+    let n = query.len();
+    assert_eq!(part, trace as usize * n..(trace as usize + 1) * n, "pair hands back another part than the winner's samples");
+    let trails = [list("trail1", first.filled(factory_leaves)), list("trail2", second.filled(leaves - factory_leaves))];
+    Ok(format!("pair {} {trace} {distance} {leaves} {traces} {}", library + 1, trails.join(" ")))
 }
 
 fn write(session: &mut Session, line: Line<'_>) -> Reply {

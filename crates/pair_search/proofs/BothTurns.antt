@@ -24,7 +24,8 @@ use Rattle.pair_search.specs.BothSearched.{indexedIn}
 use Rattle.pair_search.specs.Visiting.{Started, MayVisit, BothVisited}
 use Rattle.pair_search.specs.declared.sides.Side.{Side}
 use Rattle.pair_search.proofs.Whose.{factorys-turn, benchs-turn, no-turn}
-use Rattle.pair_search.proofs.SideTurns.{shapeOf, SideState, no-order, side-start, limit-is, search-is, side-end, leavesBehind, first-is, withAhead, side-read, none-ahead}
+use Rattle.pair_search.proofs.SideTurns.{shapeOf, SideState, no-order, side-start, limit-is, search-is, side-end}
+use Rattle.pair_search.proofs.SideTurns.{leavesBehind, first-is, withAhead, side-read, none-ahead}
 
 or-swap : (x y : Bool) → (x || y) ≡ (y || x)
 or-swap true true = refl
@@ -84,6 +85,7 @@ module _ (tf tb : Tables) (query : Trace) where
 
       -- ---- the end
 
+      -- where no leaf ahead is within the limit, none to come is
       above-f : (r : Reach x y f b) → (f .ahead ≡ true → past (r .within) (f .bound) ≡ true) → AllAbove (state .s) (state .factory-rest)
       above-f r h = by (f .ahead) refl
         where
@@ -104,7 +106,7 @@ module _ (tf tb : Tables) (query : Trace) where
               subst (AllAbove (state .s)) (sym first)
               (first-above (state .s) (subst InOrder first (state .pair .order-b)) (sym (within-above r (b .bound)) ∙ h e))
 
-      -- (what search work held does not matter)
+      -- what was found is the answer, whatever search work held before
       pub both-end : (work bench-work : List ℕ) {x′ y′ : Slices} → NoTurn tf tb query x x′ y y′ f b
           → BothVisited tf tb query (slices work (x₀ .trail) (x₀ .list)) x′ (slices bench-work (y₀ .trail) (y₀ .list)) y′ f b
       both-end work bench-work h = rw (h .factory-stays, h .bench-stays) (

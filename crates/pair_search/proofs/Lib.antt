@@ -1,4 +1,4 @@
--- Why the next leaf of one library is handed on, how far, and what reading it gives.
+-- Why the next leaf of one library is handed on, how far, and what reading it gives; the turns of both; and what the search leaves.
 pub mod Asking
 pub mod Nearer
 pub mod OneLeaf

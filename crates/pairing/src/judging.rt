@@ -58,10 +58,10 @@ fn judge_own(
 {
     let n = wide(field(control, N));
     let unlike = n != wide(field(bench_control, N));
+    let wrong = query.len() != n;
     if unlike {
         return Verdict::Refused(Refusal::UnlikeLibraries);
     }
-    let wrong = query.len() != n;
     if wrong {
         return Verdict::Refused(Refusal::WrongTrace);
     }

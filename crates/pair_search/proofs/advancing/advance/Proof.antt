@@ -1,6 +1,7 @@
 -- `pair_search::advancing::advance` meets its contract, by those of the functions that it calls.
 use mathlib.Core.Path.{_∙_, ap}
 use mathlib.Core.Bool.{Bool, _||_}
+use native.Mathlib.Omega.{arith}
 use lib.ListN.{length}
 use denote.Ref.{now}
 use Rattle.segment.specs.Stored.{samplesOf}
@@ -24,7 +25,9 @@ module _ (s : tie.Start) where
   walks = walkable given query (length (now (s .args .trail))) (s .pre .0 .ready)
 
 limit-in-requires : tie.Need-limit-in-requires
-limit-in-requires c κs = let room = c .before .before .before .before .before .read-ahead .ensures .room in (room .few, room .long)
+limit-in-requires c κs =
+    let e = c .before .before .before .before .before .read-ahead .ensures in
+    (omega (arith, e .room .few, e .no-fewer), e .room .long)
 
 ask-requires : tie.Need-ask-requires
 ask-requires c κs =

@@ -38,6 +38,9 @@ module _ (t : tie.After-turn) where
     within-is = nearer .nearer-of .ensures;
   }
 
+  decided : t .turn .result ≡ turnOf (start .args .factory) (start .args .bench) (reach .within)
+  decided = t .turn .ensures
+
 limit-in-requires : tie.Need-limit-in-requires
 limit-in-requires c κs =
     let s = c .before .before .before .before .before .before .before .before .before .before .before in
@@ -54,7 +57,7 @@ module _ (w : tie.Then2) where
   factoryTurn = w .before .before
 
   is-one : turnOf (start factoryTurn .args .factory) (start factoryTurn .args .bench) (reach factoryTurn .within) ≡ 1
-  is-one = sym (factoryTurn .turn .ensures) ∙ w .if2 .taken
+  is-one = sym (decided factoryTurn) ∙ w .if2 .taken
 
 -- the bench's
 module _ (w : tie.Else2) where
@@ -64,7 +67,7 @@ module _ (w : tie.Else2) where
   is-two : turnOf (start benchTurn .args .factory) (start benchTurn .args .bench) (reach benchTurn .within) ≡ 2
   is-two =
       bench-left (start benchTurn .args .factory) (start benchTurn .args .bench) (reach benchTurn .within)
-      (λ q. w .before .if1 .left (benchTurn .turn .ensures ∙ q)) (λ q. w .if2 .left (benchTurn .turn .ensures ∙ q))
+      (λ q. w .before .if1 .left (decided benchTurn ∙ q)) (λ q. w .if2 .left (decided benchTurn ∙ q))
 
 advance-requires : tie.Need-advance-requires
 advance-requires c κs =
@@ -89,7 +92,7 @@ theirs c = c .before .before .before .before .before .before
 
 returns : tie.Need-returns
 unfolding Stepping
-returns c = record { reach = reach (c .before); turn-is = sym (c .before .turn .ensures) ∙ c .if1 .taken; factory-stays = refl; bench-stays = refl }
+returns c = record { reach = reach (c .before); turn-is = sym (decided (c .before)) ∙ c .if1 .taken; factory-stays = refl; bench-stays = refl }
 
 returns-2 : tie.Need-returns-2
 unfolding Stepping

@@ -2,6 +2,7 @@
 use Prim.Native.Nat.{ℕ}
 use mathlib.Core.Path.{_≡_, sym, ap, ap₂, _∙_}
 use mathlib.Core.Bool.{not}
+use native.Mathlib.Omega.{arith}
 use lib.ListN.{length}
 use lib.Dec.{eqb}
 use denote.Ref.{now}
@@ -42,10 +43,14 @@ abbrev tested : tie.After-none-stored → tie.After-are-samples
 tested e = e .before .before
 
 is-short-requires : tie.Need-is-short-requires
-is-short-requires c κs = let p = start (g (tested (c .before))) .pre in (p .0, p .1)
+is-short-requires c κs =
+    let p = start (g (tested (c .before))) .pre in
+    (omega (arith, p .0, p .1, p .2, p .3), omega (arith, p .0, p .1, p .2, p .3))
 
 is-short-requires-2 : tie.Need-is-short-requires-2
-is-short-requires-2 c κs = let p = start (g (tested (c .before .before .before))) .pre in (p .2, p .3)
+is-short-requires-2 c κs =
+    let p = start (g (tested (c .before .before .before))) .pre in
+    (omega (arith, p .0, p .1, p .2, p .3), omega (arith, p .0, p .1, p .2, p .3))
 
 returns : tie.Need-returns
 unfolding foundBy wordOf firstOf

@@ -400,15 +400,21 @@ struct Parted {
     whole: TraceLibrary,
 }
 
+/// A call is made once before it is timed, so that none finds in the caches what another one left there.
+fn hot<A>(call: impl Fn() -> A) -> (f64, A) {
+    black_box(call());
+    time(call)
+}
+
 /// A match over both, a match in each, and one in the whole, query by query: the three times, the two others over the first, and the leaves that
 /// each read.
 fn paired(libraries: &Parted, queries: &[Trace]) -> String {
     let Parted { factory, bench, whole } = libraries;
     let mut rounds: Vec<[f64; 8]> = Vec::new();
     for q in queries {
-        let (pair_time, both) = time(|| TraceLibrary::match_both(factory, bench, black_box(q)).expect("traces are stored"));
-        let (two_time, two) = time(|| [factory, bench].map(|library| library.nearest(black_box(q)).expect("traces are stored")));
-        let (one_time, one) = time(|| whole.nearest(black_box(q)).expect("traces are stored"));
+        let (pair_time, both) = hot(|| TraceLibrary::match_both(factory, bench, black_box(q)).expect("traces are stored"));
+        let (two_time, two) = hot(|| [factory, bench].map(|library| library.nearest(black_box(q)).expect("traces are stored")));
+        let (one_time, one) = hot(|| whole.nearest(black_box(q)).expect("traces are stored"));
         assert!(both.distance == one.distance && both.distance == two[0].distance.min(two[1].distance));
         let leaves = [both.leaves, two[0].leaves + two[1].leaves, one.leaves].map(|leaves| leaves as f64);
         rounds.push([pair_time, two_time, one_time, two_time / pair_time, one_time / pair_time, leaves[0], leaves[1], leaves[2]]);

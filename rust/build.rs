@@ -1,5 +1,5 @@
 //! Finds the static library: `libsilkendoz.a` in the folder that `SILKENDOZ_LIB` names, as `tools/install` puts it there, or
-//! `liblibrary_c.a` where `rt staticlib library_c` writes it.
+//! `liblibrary_c.a` where `tools/archive` writes it.
 
 use std::path::{Path, PathBuf};
 
@@ -28,7 +28,7 @@ fn missing(folder: &Path, said: bool) -> ! {
     if said {
         eprintln!("SILKENDOZ_LIB names that folder: libsilkendoz.a or liblibrary_c.a has to stand there.");
     } else {
-        eprintln!("Run `rt staticlib library_c` in the repository first, or set SILKENDOZ_LIB to a folder that has libsilkendoz.a.");
+        eprintln!("Run `tools/archive` in the repository first, or set SILKENDOZ_LIB to a folder that has libsilkendoz.a.");
     }
     std::process::exit(1)
 }

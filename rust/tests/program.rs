@@ -13,7 +13,7 @@ fn printed(input: &[u8]) -> String {
     program::printed(input).expect(BUILT)
 }
 
-const BUILT: &str = "rt check or rt ci builds target/bin/match_sheet";
+const BUILT: &str = "tools/archive builds target/bin/match_sheet";
 
 #[test]
 fn the_vectors() {

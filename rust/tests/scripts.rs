@@ -166,7 +166,7 @@ fn sheets() {
         (&format!("2 read {}", sheet.replace("fc0a", "fc0b")), "refused 9 1"),
         ("2 match 0", "matched 0 1 1 1 trail 0"),
     ]);
-    assert!(program::path().exists(), "rt check or rt ci builds target/bin/match_sheet");
+    assert!(program::path().exists(), "tools/archive builds target/bin/match_sheet");
     says(&[(&format!("program {sheet}"), "refused 6 0"), ("program -", "refused 8 0")]);
 }
 

@@ -9,7 +9,7 @@ pub fn repository() -> PathBuf {
     PathBuf::from(env!("CARGO_MANIFEST_DIR")).join("../..")
 }
 
-/// Where `rt check` and `rt ci` build the program.
+/// Where `tools/archive` puts the program.
 pub fn path() -> PathBuf {
     repository().join("target/bin/match_sheet")
 }

@@ -1,4 +1,5 @@
 -- Counts in the caller's list, and counting by node number: a node more adds its traces if it is a leaf that passes.
+use Rattle.std.specs.Prelude.{if◌then◌else◌}
 use Prim.Native.Nat.{ℕ, suc, ◌+◌, ◌*◌, ◌≤◌}
 use mathlib.Core.Path.{◌≡◌, refl, ◌∙◌, ap}
 use mathlib.Core.Bool.{Bool, true, false, ◌&&◌}
@@ -6,7 +7,7 @@ use mathlib.Core.List.{List, [], ◌∷◌, ◌++◌}
 use native.Mathlib.Omega.{arith}
 use lib.ListN.{length, get_or, drop, set, length-set}
 use lib.Seq.{get_or-set_same, get_or-set_other, drop-set-lt}
-use Rattle.integer.specs.Words.{if◌then◌else◌, those, total, counting}
+use Rattle.integer.specs.Words.{those, total, counting}
 use Rattle.integer.proofs.Rows.{counting_more}
 use Rattle.dstree.specs.Node.{Tree, node_at}
 use Rattle.dstree.specs.Matching.{is_leaf_kind, numbers_in}

@@ -1,5 +1,6 @@
 -- Of a bound or an upper figure only how many edges it has reached bears on the report. Edges rise, so that a figure has reached edge number
 -- k exactly if it has reached more than k edges.
+use Rattle.std.specs.Prelude.{if◌then◌else◌}
 use Prim.Native.Nat.{ℕ, zero, suc, ◌+◌, ◌≤◌, ◌<◌, min, max}
 use mathlib.Core.Path.{◌≡◌, refl, sym, ◌∙◌}
 use mathlib.Core.Bool.{Bool, true, false, ◌&&◌}
@@ -11,7 +12,7 @@ use lib.Seq.{drop-cons}
 use lib.Dec.{T, leb, ltb, eqb, leb→le, le→leb, eqb→eq, leb-suc-suc, leb-suc-zero}
 use mir.Facts.{and_yes, yes_and}
 use borrow.Author.Tests.{ltb-true, ltb-false, lt-ltb, le-ltb, leb-true, leb-false, le-leb, lt-leb}
-use Rattle.integer.specs.Words.{if◌then◌else◌, those}
+use Rattle.integer.specs.Words.{those}
 use Rattle.integer.proofs.Tests.{is_true, test_true, same_test, eq→eqb}
 use Rattle.dstree.specs.Measures.{Trace, within}
 use Rattle.dstree.specs.Node.{Tree}

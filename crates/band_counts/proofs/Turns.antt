@@ -1,5 +1,6 @@
 -- The turns of the loop over the nodes: what a node has reached from what is reached above it, and what taking a leaf or an inner node
 -- leaves.
+use Rattle.std.specs.Prelude.{if◌then◌else◌}
 use Prim.Native.Nat.{ℕ, suc, ◌+◌, ◌*◌, ◌-◌, ◌≤◌, ◌<◌, min, max}
 use mathlib.Core.Path.{◌≡◌, sym, ◌∙◌, ap, ap₂, subst}
 use mathlib.Core.Logic.{◌⊎◌, inl, inr}
@@ -11,7 +12,6 @@ use native.Mathlib.Decide.{dec_lt}
 use lib.ListN.{length, get_or, set, drop, replicate, length-set, length-drop, length-append, length-replicate, get_or-replicate, get_or-append}
 use lib.Seq.{get_or-set_same, get_or-set_other, drop_at}
 use lib.Dec.{T, leb, eqb}
-use Rattle.integer.specs.Words.{if◌then◌else◌}
 use Rattle.integer.proofs.Lists.{In, same_or_not, in_nil, in_cons}
 use Rattle.dstree.specs.Measures.{Trace, most_traces}
 use Rattle.dstree.specs.Node.{Test, leaf, inner, Tree, node_at}

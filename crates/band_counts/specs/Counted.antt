@@ -1,6 +1,6 @@
 -- The counts of a report in the caller's list, node after node.
-use Rattle.std.specs.Prelude.{ℕ, suc, ◌+◌, ◌*◌, ◌-◌, ◌≤◌, ◌<◌, ◌≡◌, Bool, ◌&&◌, List, map, ℤ, length, get_or, set, T, leb, eqb}
-use Rattle.integer.specs.Words.{if◌then◌else◌, those, counting}
+use Rattle.std.specs.Prelude.{ℕ, suc, ◌+◌, ◌*◌, ◌-◌, ◌≤◌, ◌<◌, ◌≡◌, Bool, ◌&&◌, List, map, ℤ, length, get_or, set, T, leb, eqb, if◌then◌else◌}
+use Rattle.integer.specs.Words.{those, counting}
 use Rattle.dstree.specs.Measures.{Trace, most_traces}
 use Rattle.dstree.specs.Node.{Tree, node_at}
 use Rattle.dstree.specs.Matching.{has_child, is_leaf_kind}

@@ -1,6 +1,5 @@
 // How many edges a figure has reached. Edges rise, so that this is all that a report has to know of a bound or an upper figure.
-ghost use Rattle.std.specs.Prelude.{◌≡◌, ◌≤◌, length};
-ghost use Rattle.integer.specs.Words.{if◌then◌else◌};
+ghost use Rattle.std.specs.Prelude.{◌≡◌, ◌≤◌, length, if◌then◌else◌};
 ghost use Rattle.dstree.specs.Bands.{most_edges};
 ghost use Rattle.band_counts.specs.Reached.{edges_reached};
 

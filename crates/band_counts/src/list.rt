@@ -1,6 +1,5 @@
 // The counts of the bands in the caller's list: two places a band, how many traces surely lie in it and how many may.
-ghost use Rattle.std.specs.Prelude.{◌≡◌, ℕ, ◌+◌, ◌*◌, ◌≤◌, ◌<◌, length, drop, leb, eqb, ◌&&◌};
-ghost use Rattle.integer.specs.Words.{if◌then◌else◌};
+ghost use Rattle.std.specs.Prelude.{◌≡◌, ℕ, ◌+◌, ◌*◌, ◌≤◌, ◌<◌, length, drop, leb, eqb, ◌&&◌, if◌then◌else◌};
 ghost use Rattle.dstree.specs.Bands.{most_edges};
 ghost use Rattle.dstree.specs.Measures.{most_nodes, most_traces};
 ghost use Rattle.band_counts.specs.Counted.{count_at, with_count, count_with, CountFits};

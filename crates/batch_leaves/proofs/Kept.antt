@@ -1,4 +1,5 @@
 -- What is kept of the leaves read, when one more is read for all queries, or passed over.
+use Rattle.std.specs.Prelude.{if◌then◌else◌}
 use Prim.Native.Nat.{ℕ, zero, suc, ◌<◌}
 use mathlib.Core.Path.{◌≡◌, refl, sym, ◌∙◌, ap, subst}
 use mathlib.Core.Logic.{◌⊎◌, inl, inr}
@@ -9,7 +10,7 @@ use native.Mathlib.Omega.{arith}
 use lib.IntN.{ℤ}
 use lib.ListN.{length, set}
 use lib.Seq.{get_or-set_same, get_or-set_other}
-use Rattle.integer.specs.Words.{if◌then◌else◌, is_in}
+use Rattle.integer.specs.Words.{is_in}
 use Rattle.integer.proofs.Tests.{test_true}
 use Rattle.integer.proofs.Lists.{same_or_not, In, first, in_is, in_append_left, in_append_right, in_snoc}
 use Rattle.dstree.specs.Matching.{Near, best_with, distances_in}

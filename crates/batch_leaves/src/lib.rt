@@ -1,5 +1,7 @@
 // A leaf read for all queries at once, marked and counted. Each query keeps its nearest trace so far in a record of two places, trace
 // number and distance.
+#![tactic(auto)]
+
 ghost use Rattle.std.specs.Prelude.{◌≡◌, map, ◌+◌, ◌*◌, ◌≤◌, ◌<◌, min, length, get_or, set};
 ghost use Rattle.segment.specs.Stored.{samples_of};
 ghost use Rattle.dstree.specs.Batch.{most_queries, read_once};

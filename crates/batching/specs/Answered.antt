@@ -1,7 +1,6 @@
 -- What a batch answers, in document 02's terms: with the records that then stand in the caller's list, and the beginning of the trail. Code
 -- that does not write that list gives back what is to be stored.
-use Rattle.std.specs.Prelude.{ℕ, ◌+◌, ◌*◌, List, length, get_or, take, eqb}
-use Rattle.integer.specs.Words.{if◌then◌else◌}
+use Rattle.std.specs.Prelude.{ℕ, ◌+◌, ◌*◌, List, length, get_or, take, eqb, if◌then◌else◌}
 use Rattle.dstree.specs.Matching.{Near}
 use Rattle.dstree.specs.Book as book
 use Rattle.dstree.specs.Book.{answering, refusing, batched}

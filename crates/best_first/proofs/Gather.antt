@@ -1,13 +1,14 @@
 -- The leaves below node 0 are all leaves, and the nodes below it all nodes. Each node but 0 is a child once, so the leaves below all nodes,
 -- node by node, are those below node 0 with those below all children; they are also all leaves with those below all children. What is below
 -- the children cancels.
+use Rattle.std.specs.Prelude.{if◌then◌else◌}
 use Prim.Native.Nat.{ℕ, zero, suc, ◌+◌, ◌-◌, ◌≤◌, ◌<◌}
 use mathlib.Core.Path.{◌≡◌, refl, sym, ◌∙◌, ap}
 use mathlib.Core.Logic.{⊎_elim}
 use mathlib.Core.List.{List, [], ◌∷◌, ◌++◌, map, flatten}
 use native.Mathlib.Omega.{arith}
 use lib.ListN.{length}
-use Rattle.integer.specs.Words.{if◌then◌else◌, those, counting, times_in}
+use Rattle.integer.specs.Words.{those, counting, times_in}
 use Rattle.integer.proofs.Lists.{in_counting, from_counting, counting_up}
 use Rattle.integer.proofs.Times.{times_none, up_once, counting_length}
 use Rattle.heap.specs.Keys.{insert_key, pour, sorted_of}

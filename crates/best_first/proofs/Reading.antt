@@ -1,5 +1,6 @@
 -- Keys in order and leaves in order are the same: a key holds a leaf's bound and number, and the order of keys is "by bound, then by
 -- number".
+use Rattle.std.specs.Prelude.{if◌then◌else◌}
 use Prim.Native.Nat.{ℕ, ◌≤◌, ◌<◌}
 use mathlib.Core.Path.{◌≡◌, refl, sym, ◌∙◌, ap}
 use mathlib.Core.Logic.{⊎_elim}
@@ -8,7 +9,6 @@ use mathlib.Core.List.{List, [], ◌∷◌, map}
 use native.Mathlib.Omega.{arith}
 use lib.ListN.{length}
 use borrow.Author.Tests.{lt-ltb, le-ltb, eq-eqb, ne_eqb}
-use Rattle.integer.specs.Words.{if◌then◌else◌}
 use Rattle.integer.proofs.Lists.{All, all_none, all_more, all_in, all_map}
 use Rattle.integer.specs.Sorting.{sorted_with, poured_by, sorted_by}
 use Rattle.heap.specs.Keys.{insert_key, sorted_of}

@@ -1,5 +1,6 @@
 -- A match of well-formed tables with a trace finds one, altered tables included: there is a leaf, no leaf is empty, and the first in the
 -- order of reading is read whatever its bound. What it finds is a stored trace: a leaf has no other number.
+use Rattle.std.specs.Prelude.{if◌then◌else◌}
 use Prim.Native.Nat.{ℕ, ◌≤◌, ◌<◌}
 use mathlib.Core.Path.{◌≡◌}
 use mathlib.Core.Bool.{Bool, true, false, not}
@@ -10,7 +11,6 @@ use native.Mathlib.Nat.{pos_of_ne-zero}
 use lib.ListN.{length, length-map}
 use lib.Dec.{T, eqb, ltb}
 use borrow.Author.Tests.{not-false, eqb-true, eqb-false, ltb-false}
-use Rattle.integer.specs.Words.{if◌then◌else◌}
 use Rattle.integer.specs.Lists.{In, first, later}
 use Rattle.integer.proofs.Tests.{is_true}
 use Rattle.integer.proofs.Lists.{some_in, in_is, InMap, of, from_map}

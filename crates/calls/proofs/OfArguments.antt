@@ -1,9 +1,10 @@
 -- Refusals for what a call is given, and not for what the tables hold.
+use Rattle.std.specs.Prelude.{if◌then◌else◌}
 use mathlib.Core.Bool.{Bool, true, false, not, ◌&&◌}
 use mathlib.Core.Option.{Option, none, some}
 use mathlib.Core.List.{List, [], ◌∷◌}
 use lib.Dec.{T, eqb}
-use Rattle.integer.specs.Words.{if◌then◌else◌, every}
+use Rattle.integer.specs.Words.{every}
 use Rattle.integer.proofs.Tests.{passed}
 use Rattle.dstree.specs.Refusals.{Refusal, spoiled, loose_record, number_of, Condition, first_of}
 

@@ -118,7 +118,7 @@ pub ran : {b : Book} {memory memory' : Tables} {calls : List Call} {said : List 
     → (said ≡ replies_of layout b calls) × Keeps memory' (after layout b calls)
 unfolding replies_of after
 ran keeps no_call = (refl, keeps)
-ran keeps (a_call f rest) =
+ran {b} keeps (a_call {c} f rest) =
     let s = stepped f keeps in
-    let r = ran s.1 rest in
+    let r = ran {b = turn layout b c} s.1 rest in
     (rw (s.0, r.0), r.1)

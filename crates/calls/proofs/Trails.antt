@@ -1,4 +1,5 @@
 -- A trail is in the order of reading, by bound and then by number, whatever the tree: the leaves read are the first of that order.
+use Rattle.std.specs.Prelude.{if◌then◌else◌}
 use Prim.Native.Nat.{ℕ, suc}
 use mathlib.Core.Path.{◌≡◌, refl, sym, ap, ap₂, subst, ◌∙◌}
 use mathlib.Core.Bool.{Bool, true, false}
@@ -6,7 +7,6 @@ use mathlib.Core.Option.{Option, none, some}
 use mathlib.Core.List.{List, [], ◌∷◌, ◌++◌, map, append_assoc, append-nil}
 use native.Mathlib.Omega.{arith}
 use lib.ListN.{length, take}
-use Rattle.integer.specs.Words.{if◌then◌else◌}
 use Rattle.integer.specs.Lists.{In, first, later}
 use Rattle.integer.specs.Sorting.{sorted_by, poured_by, Ordered, ordered_none}
 use Rattle.integer.proofs.Sorting.{LinearOrder, inserted_ordered, take_ordered, from_take}

@@ -2,6 +2,7 @@
 -- book then has: adding keeps figures exact, an opening and a reading make a library by calls, the others write nothing but search work. So
 -- does a list of calls, from a check on that has just accepted; and none of them is refused with 3 or 13. The tree goes along: adding is
 -- insertion into the one that was there.
+use Rattle.std.specs.Prelude.{if◌then◌else◌}
 use Prim.Native.Nat.{ℕ, ◌+◌, ◌≤◌, ◌<◌}
 use mathlib.Core.Path.{◌≡◌, refl, sym, ap, subst, ◌∙◌}
 use mathlib.Core.Bool.{Bool, true, false, not}
@@ -12,7 +13,7 @@ use native.Mathlib.Omega.{arith}
 use lib.ListN.{length, replicate, length-append}
 use lib.Dec.{T, ltb}
 use borrow.Author.Tests.{ltb-false}
-use Rattle.integer.specs.Words.{if◌then◌else◌, every}
+use Rattle.integer.specs.Words.{every}
 use Rattle.integer.specs.Lists.{In, first, later}
 use Rattle.integer.proofs.Tests.{passes, test_true}
 use Rattle.integer.proofs.Lists.{All, all_none, all_more, in_nil, in_cons, from_every, every_of}
@@ -444,7 +445,7 @@ unfolding after tree_after
 all_trusting k no_call = (record { trusts = k; tree_is = refl }, λ c r i. absurd (none_said i))
 all_trusting {b} {memory} {memory'} k (a_call {c = c} {rest = calls} f rest) =
     let s = trusting f k in
-    let t = all_trusting s.0.trusts rest in
+    let t = all_trusting {b = turn layout b c} s.0.trusts rest in
     let b₁ : Book = turn layout b c in (
       subst (λ (tree : Tree). TrustsTree memory' (after layout b₁ calls) (tree_after layout b₁ tree calls)) s.0.tree_is t.0,
       λ c r i. said_cases (λ (c : Call) (r : Reply). NotOfTables c.ask r) s.1 t.1 i,

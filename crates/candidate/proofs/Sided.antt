@@ -1,4 +1,5 @@
 -- A side of a list, number by number, and an array that it is written to.
+use Rattle.std.specs.Prelude.{if◌then◌else◌}
 use mathlib.Core.Path.{◌≡◌, refl, sym, ap, subst, ◌∙◌}
 use mathlib.Core.Bool.{Bool, true, false, beq}
 use mathlib.Core.List.{List, [], ◌∷◌, ◌++◌, append_assoc}
@@ -7,7 +8,7 @@ use native.Mathlib.Omega.{arith}
 use lib.IntN.{ℤ}
 use lib.ListN.{length, get_or, set, take}
 use lib.Seq.{take-suc-set, take-set-le}
-use Rattle.integer.specs.Words.{if◌then◌else◌, those}
+use Rattle.integer.specs.Words.{those}
 use Rattle.integer.proofs.Lists.{In, map_agree, those_agree, from_those}
 use Rattle.dstree.specs.Measures.{Trace}
 use Rattle.dstree.specs.Node.{Test, sends_left}

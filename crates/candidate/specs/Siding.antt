@@ -1,6 +1,6 @@
 -- The sides of a test, over a list of traces.
-use Rattle.std.specs.Prelude.{ℕ, Bool, not, List, ℤ}
-use Rattle.integer.specs.Words.{if◌then◌else◌, those}
+use Rattle.std.specs.Prelude.{ℕ, Bool, not, List, ℤ, if◌then◌else◌}
+use Rattle.integer.specs.Words.{those}
 use Rattle.dstree.specs.Node.{Test, sends_left}
 use Rattle.tables.specs.View.{trace_in}
 use Rattle.tables.specs.Runs.{test_by}

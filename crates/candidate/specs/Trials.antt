@@ -1,6 +1,6 @@
 -- One candidate of a leaf, as code holds it: what it stands for, and what is known of the leaf.
-use Rattle.std.specs.Prelude.{ℕ, ◌≤◌, ◌<◌, ◌≡◌, Bool, List, map, ℤ, nat_abs, length, take, eqb}
-use Rattle.integer.specs.Words.{if◌then◌else◌, least_ℤ, greatest_ℤ}
+use Rattle.std.specs.Prelude.{ℕ, ◌≤◌, ◌<◌, ◌≡◌, Bool, List, map, ℤ, nat_abs, length, take, eqb, if◌then◌else◌}
+use Rattle.integer.specs.Words.{least_ℤ, greatest_ℤ}
 use Rattle.integer.specs.Lists.{In}
 use Rattle.segment.specs.Limits.{scatter_most, spread_most}
 use Rattle.dstree.specs.Measures.{Trace, most_samples}

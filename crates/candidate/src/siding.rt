@@ -1,7 +1,6 @@
 // The sides that a test parts the traces of a list into, as lists.
 
-ghost use Rattle.std.specs.Prelude.{◌≡◌, suc, ◌+◌, ◌*◌, ◌≤◌, ◌<◌, length, get_or, take};
-ghost use Rattle.integer.specs.Words.{if◌then◌else◌};
+ghost use Rattle.std.specs.Prelude.{◌≡◌, suc, ◌+◌, ◌*◌, ◌≤◌, ◌<◌, length, get_or, take, if◌then◌else◌};
 ghost use Rattle.dstree.specs.Measures.{most_traces};
 ghost use Rattle.dstree.specs.Node.{sends_left};
 ghost use Rattle.tables.specs.View.{trace_in};
@@ -15,7 +14,7 @@ use tables::numbers::wide;
 use tables::runs::is_left;
 
 // A candidate: a run, its figure, and where the children's segments are cut, 0 for nowhere. Its column in the table of figures is a guess.
-#[derive(Drop)]
+#[derive(Clone, Copy)]
 pub struct Trial {
     pub first: usize,
     pub last: usize,

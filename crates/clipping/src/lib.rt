@@ -1,4 +1,5 @@
 // Which stored traces could be the match of a sweep of which only a low and a high figure is known per sample.
+#![tactic(auto)]
 
 pub mod judging; // what a clipped sweep refuses
 pub mod passes; // the two passes over stored traces
@@ -9,7 +10,7 @@ ghost use Rattle.dstree.specs.Clipped.{possible_matches};
 ghost use Rattle.dstree.specs.Book.{clipping, over};
 ghost use Rattle.tables.specs.Tables.{measures_of, filled};
 ghost use Rattle.tables.specs.View.{traces_in};
-ghost use Rattle.tables.specs.Lent.{tables_after_search, tables_before};
+ghost use Rattle.tables.specs.Lent.{tables_after_search, tables_before_search};
 ghost use Rattle.calls.specs.Outcome.{outcome};
 ghost use Rattle.calls.specs.Effects.{outcome_on};
 ghost use Rattle.clipping.specs.Compared.{samples_only, Listable};
@@ -74,7 +75,7 @@ pub fn match_clipped(
         (tables_after_search control samples nodes links work labels)
         (list.new ∷ [])
         ≡ outcome_on (clipping lows.now highs.now list.old)
-        (tables_before control samples nodes links work labels) }
+        (tables_before_search control samples nodes links work labels) }
 {
     let verdict = judging::judge(
         control, samples, nodes, links, work, labels, lows, highs, list,

@@ -12,7 +12,7 @@ use Rattle.calls.proofs.Pairs.{as_bench}
 use Rattle.batch_answers.proofs.Whole.{whole}
 use Rattle.demands.specs.Did.{Placed, CallMade, Did, by_open, by_add, by_nearest, by_write, by_read, by_list, by_import}
 use Rattle.demands.specs.Did.{by_export, by_check, by_batch, by_add_labelled, by_label, by_remote, by_bands, by_pair_factory}
-use Rattle.demands.specs.Did.{by_pair_bench, by_limited, by_clipped, tables_of, own}
+use Rattle.demands.specs.Did.{by_pair_bench, by_limited, by_clipped, searched_tables, tables_of, own}
 
 pub placed_follows : {ask : Ask} {before after memory memory' : Tables} {c : Call} {answer : Answer} {beside : List (List ℕ)}
     → Placed ask before after c memory memory' → outcome answer after beside ≡ outcome_on ask before
@@ -46,8 +46,9 @@ follows c memory memory' said (by_remote d) = by_claim d.made d.claim
 follows c memory memory' said (by_bands d) = by_claim d.made d.claim
 follows c memory memory' said (by_pair_factory d) = by_claim d.made d.claim
 follows c memory memory' said (by_pair_bench d) =
-    let bench = (own d.args).1 in
-    by_claim d.made (as_bench (tables_of d.args) (tables_of bench) (own bench).1.0.now (own d.args).0.now (own bench).0.now
+    let args = searched_tables d.args in
+    let bench = searched_tables (own args).1 in
+    by_claim d.made (as_bench (tables_of args) (tables_of bench) (own bench).1.0.now (own args).0.now (own bench).0.now
     d.claim)
 follows c memory memory' said (by_limited d) = by_claim d.made d.claim
 follows c memory memory' said (by_clipped d) = by_claim d.made d.claim

@@ -7,7 +7,7 @@ use mathlib.Core.List.{List, [], ◌∷◌, ◌++◌, map, append-nil}
 use native.Mathlib.Omega.{arith}
 use lib.ListN.{length, get_or, take, drop, replicate, length-map}
 use lib.Seq.{take_at}
-use denote.Ref.{Bor}
+use denote.Ref.{Bor, MutBor}
 use denote.Triple.Clauses.{AtExit}
 use borrow.Fn.Kinds.{ParamKind, ResultKind, Dens, ended_of, Out, res_t}
 use contract.Lifetimes.{Lfts}
@@ -110,7 +110,7 @@ use Rattle.limiting.specs.Answered as limiting_answer
 use Rattle.clipping.specs.declared.Clipped.{Clipped}
 use Rattle.clipping.specs.declared.Clipped.TheVariants as v
 use Rattle.clipping.specs.Answered as clipping_answer
-use Rattle.demands.specs.Did.{WithTables, CallMade, Exchange, Made, Did, by_open, by_nearest, by_write, by_read, by_list, by_import, by_export}
+use Rattle.demands.specs.Did.{WithTables, ToWrite, ToAdd, ToSearch, CallMade, Exchange, Made, Did, by_open, by_nearest, by_write, by_read, by_list, by_import, by_export}
 use Rattle.demands.specs.Did.{by_check, by_batch, by_add_labelled, by_label, by_remote, by_bands, by_pair_factory, by_pair_bench, by_limited, by_clipped}
 use Rattle.demands.specs.Theorem.{Replied}
 
@@ -122,6 +122,19 @@ slice l = record { ref_ptr = (0, 0); now = l }
 
 abbrev slices : {Own : Type 0} → Tables → Own → WithTables Own
 slices t own = (slice t.control, (slice t.samples, (slice t.nodes, (slice t.links, (slice t.work, (slice t.labels, own))))))
+
+-- .. and one to write, under some ghost name
+abbrev pub place : {A : Type 0} → List A → MutBor (List A)
+place l = record { ref_ptr = (0, 0); ghost_name = 0; now = l }
+
+abbrev slices_to_write : {Own : Type 0} → Tables → Own → ToWrite Own
+slices_to_write t own = (place t.control, (place t.samples, (place t.nodes, (place t.links, (place t.work, (place t.labels, own))))))
+
+abbrev slices_to_add : {Own : Type 0} → Tables → Own → ToAdd Own
+slices_to_add t own = (place t.control, (place t.samples, (place t.nodes, (place t.links, (slice t.work, (place t.labels, own))))))
+
+abbrev slices_to_search : {Own : Type 0} → Tables → Own → ToSearch Own
+slices_to_search t own = (slice t.control, (slice t.samples, (slice t.nodes, (slice t.links, (place t.work, (slice t.labels, own))))))
 
 -- ---- results
 
@@ -539,42 +552,42 @@ module _ (c : Call) (memory : Tables) (places : lent_of (first_places c.lent mem
       let there = from.of in
       let s = pairing_said t there query trail from.trail (first_of (pairs t of_factory (other_in there from.trail) query trail).conditions) in
       let after = (outcome_on (pairing of_factory (other_in there from.trail) query trail) t).after in
-      reply_by (λ said memory' d. by_pair_factory d) (lifetimes 15) (slices t (slice trail, slices there (slice from.trail, (slice query, tt))))
-      (slices after (slice s.beside.0, slices (with_work there s.beside.1.1) (slice s.beside.1.0, (slice query, tt)))) s.result s.is
+      reply_by (λ said memory' d. by_pair_factory d) (lifetimes 15) (slices_to_search t (place trail, slices_to_search there (place from.trail, (slice query, tt))))
+      (slices_to_search after (place s.beside.0, slices_to_search (with_work there s.beside.1.1) (place s.beside.1.0, (slice query, tt)))) s.result s.is
       (asked ∙ ap (λ (x : Other). pairing of_factory x query trail) from.is) (record { of = there; trail = from.trail; is = refl }) refl
   by_pair of_bench other query trail asked from =
       let there = from.of in
       let s = pairing_said there t query from.trail trail (first_of (pairs there of_factory (other_in t trail) query from.trail).conditions) in
       let after = (outcome_on (pairing of_factory (other_in t trail) query from.trail) there).after in
-      reply_by (λ said memory' d. by_pair_bench d) (lifetimes 15) (slices there (slice from.trail, slices t (slice trail, (slice query, tt))))
-      (slices after (slice s.beside.0, slices (with_work t s.beside.1.1) (slice s.beside.1.0, (slice query, tt)))) s.result s.is
+      reply_by (λ said memory' d. by_pair_bench d) (lifetimes 15) (slices_to_search there (place from.trail, slices_to_search t (place trail, (slice query, tt))))
+      (slices_to_search after (place s.beside.0, slices_to_search (with_work t s.beside.1.1) (place s.beside.1.0, (slice query, tt)))) s.result s.is
       (asked ∙ ap (λ (x : Other). pairing of_bench x query trail) from.is) (record { of = there; trail = from.trail; is = refl }) refl
 
   by_ask : (ask : Ask) → c.ask ≡ ask → Typed ask → Replied c memory
   unfolding outcome_on effect_of beside_of Typed
   by_ask (opening m) asked typed =
       let s = opening_said t m (first_of (opens t m).conditions) in
-      reply_by (λ said memory' d. by_open d) (lifetimes 6) (slices t ((m).n, ((m).capacity, ((m).leaf_size, tt))))
-      (slices (outcome_on (opening m) t).after ((m).n, ((m).capacity, ((m).leaf_size, tt)))) s.result s.is asked typed refl
+      reply_by (λ said memory' d. by_open d) (lifetimes 6) (slices_to_write t ((m).n, ((m).capacity, ((m).leaf_size, tt))))
+      (slices_to_write (outcome_on (opening m) t).after ((m).n, ((m).capacity, ((m).leaf_size, tt)))) s.result s.is asked typed refl
   by_ask (adding x l) asked typed =
       let s = adding_said t x l (first_of (adds t x l).conditions) in
-      reply_by (λ said memory' d. by_add_labelled d) (lifetimes 7) (slices t (slice x, (l.code, (l.serial, tt))))
-      (slices (outcome_on (adding x l) t).after (slice x, (l.code, (l.serial, tt)))) s.result s.is asked typed refl
+      reply_by (λ said memory' d. by_add_labelled d) (lifetimes 7) (slices_to_add t (slice x, (l.code, (l.serial, tt))))
+      (slices_to_add (outcome_on (adding x l) t).after (slice x, (l.code, (l.serial, tt)))) s.result s.is asked typed refl
   by_ask (writing sheet) asked typed =
       let s = writing_said t sheet (first_of (writes t sheet).conditions) in
-      reply_by (λ said memory' d. by_write d) (lifetimes 7) (slices t (slice sheet, tt)) (slices t (slice s.beside, tt)) s.result s.is asked typed refl
+      reply_by (λ said memory' d. by_write d) (lifetimes 7) (slices t (place sheet, tt)) (slices t (place s.beside, tt)) s.result s.is asked typed refl
   by_ask (reading bytes) asked typed =
       let s = reading_said t bytes (first_of (reads t bytes).conditions) in
-      reply_by (λ said memory' d. by_read d) (lifetimes 7) (slices t (slice bytes, tt)) (slices (outcome_on (reading bytes) t).after (slice bytes, tt))
+      reply_by (λ said memory' d. by_read d) (lifetimes 7) (slices_to_write t (slice bytes, tt)) (slices_to_write (outcome_on (reading bytes) t).after (slice bytes, tt))
       s.result s.is asked typed refl
   by_ask (importing bytes) asked typed =
       let s = importing_said t bytes (first_of (imports t bytes).conditions) in
-      reply_by (λ said memory' d. by_import d) (lifetimes 7) (slices t (slice bytes, tt)) (slices (outcome_on (importing bytes) t).after (slice bytes, tt))
+      reply_by (λ said memory' d. by_import d) (lifetimes 7) (slices_to_add t (slice bytes, tt)) (slices_to_add (outcome_on (importing bytes) t).after (slice bytes, tt))
       s.result s.is asked typed refl
   by_ask (exporting number rate buffer) asked typed =
       let s = exporting_said t number rate buffer (first_of (exports t number rate buffer).conditions) refl in
-      reply_by (λ said memory' d. by_export d) (lifetimes 7) (slices t (slice buffer, (number, (rate, tt))))
-      (slices t (slice s.beside, (number, (rate, tt)))) s.result s.is asked typed refl
+      reply_by (λ said memory' d. by_export d) (lifetimes 7) (slices t (place buffer, (number, (rate, tt))))
+      (slices t (place s.beside, (number, (rate, tt)))) s.result s.is asked typed refl
   by_ask checking asked typed =
       let s = checking_said t (first_of (checks t).conditions) in
       reply_by (λ said memory' d. by_check d) (lifetimes 6) (slices t tt) (slices t tt) s.result s.is asked typed refl
@@ -584,28 +597,28 @@ module _ (c : Call) (memory : Tables) (places : lent_of (first_places c.lent mem
   by_ask (pairing which other query trail) asked typed = by_pair which other query trail asked typed
   by_ask (searching (a_remote query trail)) asked typed =
       let s = remote_said t query trail (first_of (remotes t query trail).conditions) in
-      reply_by (λ said memory' d. by_remote d) (lifetimes 8) (slices t (slice trail, (slice query, tt)))
-      (slices (outcome_on (remote_matching query trail) t).after (slice s.beside, (slice query, tt))) s.result s.is asked typed refl
+      reply_by (λ said memory' d. by_remote d) (lifetimes 8) (slices_to_search t (place trail, (slice query, tt)))
+      (slices_to_search (outcome_on (remote_matching query trail) t).after (place s.beside, (slice query, tt))) s.result s.is asked typed refl
   by_ask (searching (a_match query trail)) asked typed =
       let s = matching_said t query trail (first_of (matches t query trail).conditions) in
-      reply_by (λ said memory' d. by_nearest d) (lifetimes 8) (slices t (slice trail, (slice query, tt)))
-      (slices (outcome_on (matching query trail) t).after (slice s.beside, (slice query, tt))) s.result s.is asked typed refl
+      reply_by (λ said memory' d. by_nearest d) (lifetimes 8) (slices_to_search t (place trail, (slice query, tt)))
+      (slices_to_search (outcome_on (matching query trail) t).after (place s.beside, (slice query, tt))) s.result s.is asked typed refl
   by_ask (searching (a_limited most query trail)) asked typed =
       let s = limiting_said t most query trail (first_of (limits t most query trail).conditions) in
-      reply_by (λ said memory' d. by_limited d) (lifetimes 8) (slices t (slice trail, (slice query, (most, tt))))
-      (slices (outcome_on (limiting most query trail) t).after (slice s.beside, (slice query, (most, tt)))) s.result s.is asked typed refl
+      reply_by (λ said memory' d. by_limited d) (lifetimes 8) (slices_to_search t (place trail, (slice query, (most, tt))))
+      (slices_to_search (outcome_on (limiting most query trail) t).after (place s.beside, (slice query, (most, tt)))) s.result s.is asked typed refl
   by_ask (searching (a_clipped lows highs list)) asked typed =
       let s = clipping_said t lows highs list (first_of (clips t lows highs list).conditions) in
-      reply_by (λ said memory' d. by_clipped d) (lifetimes 9) (slices t (slice list, (slice lows, (slice highs, tt))))
-      (slices (outcome_on (clipping lows highs list) t).after (slice s.beside, (slice lows, (slice highs, tt)))) s.result s.is asked typed refl
+      reply_by (λ said memory' d. by_clipped d) (lifetimes 9) (slices_to_search t (place list, (slice lows, (slice highs, tt))))
+      (slices_to_search (outcome_on (clipping lows highs list) t).after (place s.beside, (slice lows, (slice highs, tt)))) s.result s.is asked typed refl
   by_ask (searching (a_banding query edges list)) asked typed =
       let s = banding_said t query edges list (first_of (bands t query edges list).conditions) in
-      reply_by (λ said memory' d. by_bands d) (lifetimes 9) (slices t (slice list, (slice query, (slice edges, tt))))
-      (slices (outcome_on (banding query edges list) t).after (slice s.beside, (slice query, (slice edges, tt)))) s.result s.is asked typed refl
+      reply_by (λ said memory' d. by_bands d) (lifetimes 9) (slices_to_search t (place list, (slice query, (slice edges, tt))))
+      (slices_to_search (outcome_on (banding query edges list) t).after (place s.beside, (slice query, (slice edges, tt)))) s.result s.is asked typed refl
   by_ask (searching (a_listing k query trail list)) asked typed =
       let s = listing_said t k query trail list (first_of (lists t k query trail list).conditions) in
-      reply_by (λ said memory' d. by_list d) (lifetimes 9) (slices t (slice trail, (slice list, (slice query, (k, tt)))))
-      (slices (outcome_on (listing k query trail list) t).after (slice s.beside.0, (slice s.beside.1, (slice query, (k, tt)))))
+      reply_by (λ said memory' d. by_list d) (lifetimes 9) (slices_to_search t (place trail, (place list, (slice query, (k, tt)))))
+      (slices_to_search (outcome_on (listing k query trail list) t).after (place s.beside.0, (place s.beside.1, (slice query, (k, tt)))))
       s.result s.is asked typed refl
   by_ask (searching (a_batch many run trail list)) asked typed =
       let s = batching_said t many run trail list (first_of (batches t many run trail list).conditions) refl in
@@ -620,8 +633,8 @@ module _ (c : Call) (memory : Tables) (places : lent_of (first_places c.lent mem
           list' = stored.list;
           searched = record {
             κs = lifetimes 8;
-            args = slices t (slice trail, (slice run, (many, (length list, tt))));
-            exits = slices after (slice s.trail', (slice run, (many, (length list, tt))));
+            args = slices_to_search t (place trail, (slice run, (many, (length list, tt))));
+            exits = slices_to_search after (place s.trail', (slice run, (many, (length list, tt))));
             result = s.found;
             claim = s.is;
             made = in_place (asked ∙ ap (batching many run trail) (sym (nears_back list)))

@@ -1,6 +1,7 @@
 -- What a call of the code did: its arguments and what it left, of which its contract speaks, and where its slices lie in a memory.
 use Rattle.std.specs.Prelude.{ℕ, ◌-◌, ◌≡◌, Bool, List, [], ◌∷◌, ℤ, length}
-use Rattle.std.specs.Borrow.{Bor}
+use Rattle.std.specs.Borrow.{Bor, MutBor}
+use denote.Ref.{as_bor}
 use denote.Triple.Clauses.{AtExit}
 use borrow.Fn.Kinds.{ParamKind, ResultKind, Dens, ended_of, Out, res_t}
 use contract.Lifetimes.{Lfts}
@@ -71,9 +72,32 @@ use Rattle.batch_answers.specs.AnswerRecords.{store_outcome, store_of, nears_of}
 -- ---- slices
 
 -- every call is lent the six tables first, to write or to read, and then what is its own, in the order of its parameters. The same stands
--- at its end; what it left there has a ' below
+-- at its end; what it left there has a ' below. Here all six are lent to read
 abbrev pub WithTables : Type 0 → Type 0
 WithTables Own = Bor (List ℕ) × (Bor (List ℤ) × (Bor (List ℤ) × (Bor (List ℕ) × (Bor (List ℕ) × (Bor (List ℕ) × Own)))))
+
+-- .. all six to write: opening and reading
+abbrev pub ToWrite : Type 0 → Type 0
+ToWrite Own = MutBor (List ℕ) × (MutBor (List ℤ) × (MutBor (List ℤ) × (MutBor (List ℕ) × (MutBor (List ℕ) × (MutBor (List ℕ) × Own)))))
+
+-- .. all but search work to write: adding and importing
+abbrev pub ToAdd : Type 0 → Type 0
+ToAdd Own = MutBor (List ℕ) × (MutBor (List ℤ) × (MutBor (List ℤ) × (MutBor (List ℕ) × (Bor (List ℕ) × (MutBor (List ℕ) × Own)))))
+
+-- .. search work alone to write: a search
+abbrev pub ToSearch : Type 0 → Type 0
+ToSearch Own = Bor (List ℕ) × (Bor (List ℤ) × (Bor (List ℤ) × (Bor (List ℕ) × (MutBor (List ℕ) × (Bor (List ℕ) × Own)))))
+
+-- the same slices as they are seen: where each lies, and what it holds
+module _ {Own : Type 0} where
+  abbrev pub written_tables : ToWrite Own → WithTables Own
+  written_tables s = (as_bor s.0, (as_bor s.1.0, (as_bor s.1.1.0, (as_bor s.1.1.1.0, (as_bor s.1.1.1.1.0, (as_bor s.1.1.1.1.1.0, s.1.1.1.1.1.1))))))
+
+  abbrev pub added_tables : ToAdd Own → WithTables Own
+  added_tables s = (as_bor s.0, (as_bor s.1.0, (as_bor s.1.1.0, (as_bor s.1.1.1.0, (s.1.1.1.1.0, (as_bor s.1.1.1.1.1.0, s.1.1.1.1.1.1))))))
+
+  abbrev pub searched_tables : ToSearch Own → WithTables Own
+  searched_tables s = (s.0, (s.1.0, (s.1.1.0, (s.1.1.1.0, (as_bor s.1.1.1.1.0, (s.1.1.1.1.1.0, s.1.1.1.1.1.1))))))
 
 module _ {Own : Type 0} (s : WithTables Own) where
   abbrev pub control : List ℕ
@@ -152,25 +176,33 @@ pub record Made {n : ℕ} (ps : List (ParamKind n)) (r : ResultKind n) (Learnt :
   pub made : let x = seen κs args result exits in CallMade x.ask x.before x.answer x.after x.beside c memory said memory'
 
 abbrev pub Opens : Call → Tables → Reply → Tables → Type 0
-Opens = Made open_kinds.ps open_kinds.r open_reads.Learnt (λ κs args r exits.
+Opens = Made open_kinds.ps open_kinds.r open_reads.Learnt (λ κs lent r left_in.
+    let args = written_tables lent in
+    let exits = written_tables left_in in
     exchange (opening (measures (own args).0 (own args).1.0 (own args).1.1.0)) (tables_of args) (opening_answer.answer_by r)
     (tables_of exits) [])
 
 -- adding is lent search work to read, and leaves it. A label is "zero from callers that give neither"
 abbrev pub Adds : Call → Tables → Reply → Tables → Type 0
-Adds = Made add_kinds.ps add_kinds.r add_reads.Learnt (λ κs args r exits.
+Adds = Made add_kinds.ps add_kinds.r add_reads.Learnt (λ κs lent r left_in.
+    let args = added_tables lent in
+    let exits = added_tables left_in in
     exchange (adding (own args).0.now no_label) (tables_of args) (adding_answer.answer_by r)
     (after_adding args exits) [])
 
 -- adding with a code and a serial, which are numbers of its own
 abbrev pub AddsLabelled : Call → Tables → Reply → Tables → Type 0
-AddsLabelled = Made add_labelled_kinds.ps add_labelled_kinds.r add_labelled_reads.Learnt (λ κs args r exits.
+AddsLabelled = Made add_labelled_kinds.ps add_labelled_kinds.r add_labelled_reads.Learnt (λ κs lent r left_in.
+    let args = added_tables lent in
+    let exits = added_tables left_in in
     exchange (adding (own args).0.now (label (own args).1.0 (own args).1.1.0)) (tables_of args) (adding_answer.answer_by r)
     (after_adding args exits) [])
 
 -- a match is lent all but search work and trail to read
 abbrev pub Matches : Call → Tables → Reply → Tables → Type 0
-Matches = Made nearest_kinds.ps nearest_kinds.r nearest_reads.Learnt (λ κs args r exits.
+Matches = Made nearest_kinds.ps nearest_kinds.r nearest_reads.Learnt (λ κs lent r left_in.
+    let args = searched_tables lent in
+    let exits = searched_tables left_in in
     let trail' = (own exits).0.now in
     exchange (matching (own args).1.0.now (own args).0.now) (tables_of args) (matching_answer.answer_by r trail')
     (after_search args exits) (trail' ∷ []))
@@ -183,12 +215,16 @@ Writes = Made write_kinds.ps write_kinds.r write_reads.Learnt (λ κs args r exi
 
 -- a reading is lent its sheet to read
 abbrev pub Reads : Call → Tables → Reply → Tables → Type 0
-Reads = Made read_kinds.ps read_kinds.r read_reads.Learnt (λ κs args r exits.
+Reads = Made read_kinds.ps read_kinds.r read_reads.Learnt (λ κs lent r left_in.
+    let args = written_tables lent in
+    let exits = written_tables left_in in
     exchange (reading (own args).0.now) (tables_of args) (reading_answer.answer_by r) (tables_of exits) [])
 
 -- a listing is lent all but search work, trail and list to read
 abbrev pub Lists : Call → Tables → Reply → Tables → Type 0
-Lists = Made list_kinds.ps list_kinds.r list_reads.Learnt (λ κs args r exits.
+Lists = Made list_kinds.ps list_kinds.r list_reads.Learnt (λ κs lent r left_in.
+    let args = searched_tables lent in
+    let exits = searched_tables left_in in
     let trail' = (own exits).0.now in
     let list' = (own exits).1.0.now in
     exchange (listing (own args).1.1.1.0 (own args).1.1.0.now (own args).0.now (own args).1.0.now) (tables_of args)
@@ -198,7 +234,9 @@ Lists = Made list_kinds.ps list_kinds.r list_reads.Learnt (λ κs args r exits.
 
 -- an import is lent search work and its file to read, and leaves them
 abbrev pub Imports : Call → Tables → Reply → Tables → Type 0
-Imports = Made import_kinds.ps import_kinds.r import_reads.Learnt (λ κs args r exits.
+Imports = Made import_kinds.ps import_kinds.r import_reads.Learnt (λ κs lent r left_in.
+    let args = added_tables lent in
+    let exits = added_tables left_in in
     exchange (importing (own args).0.now) (tables_of args) (importing_answer.answer_by r)
     (after_adding args exits) [])
 
@@ -221,14 +259,18 @@ TellsLabel = Made label_kinds.ps label_kinds.r label_reads.Learnt (λ κs args r
 
 -- the remote's call is lent what a match is
 abbrev pub RemoteMatches : Call → Tables → Reply → Tables → Type 0
-RemoteMatches = Made remote_kinds.ps remote_kinds.r remote_reads.Learnt (λ κs args r exits.
+RemoteMatches = Made remote_kinds.ps remote_kinds.r remote_reads.Learnt (λ κs lent r left_in.
+    let args = searched_tables lent in
+    let exits = searched_tables left_in in
     let trail' = (own exits).0.now in
     exchange (remote_matching (own args).1.0.now (own args).0.now) (tables_of args) (remote_answer.answer_by r trail')
     (after_search args exits) (trail' ∷ []))
 
 -- a report is lent all but search work and its list to read
 abbrev pub CountsBands : Call → Tables → Reply → Tables → Type 0
-CountsBands = Made band_kinds.ps band_kinds.r band_reads.Learnt (λ κs args r exits.
+CountsBands = Made band_kinds.ps band_kinds.r band_reads.Learnt (λ κs lent r left_in.
+    let args = searched_tables lent in
+    let exits = searched_tables left_in in
     let list' = (own exits).0.now in
     let edges = (own args).1.1.0.now in
     exchange (banding (own args).1.0.now edges (own args).0.now) (tables_of args)
@@ -239,9 +281,11 @@ CountsBands = Made band_kinds.ps band_kinds.r band_reads.Learnt (λ κs args r e
 -- work and trails it is lent to read. "A call added later joins the list of each library whose tables it is lent": in the factory's list
 -- the bench's tables are arguments, and what is left in the bench's trail and search work stands beside
 abbrev pub PairsAsFactory : Call → Tables → Reply → Tables → Type 0
-PairsAsFactory = Made pair_kinds.ps pair_kinds.r pair_reads.Learnt (λ κs args r exits.
-    let bench = (own args).1 in
-    let bench' = (own exits).1 in
+PairsAsFactory = Made pair_kinds.ps pair_kinds.r pair_reads.Learnt (λ κs lent r left_in.
+    let args = searched_tables lent in
+    let exits = searched_tables left_in in
+    let bench = searched_tables (own args).1 in
+    let bench' = searched_tables (own exits).1 in
     let trail' = (own exits).0.now in
     let bench_trail' = (own bench').0.now in
     exchange (pairing of_factory (other_in (tables_of bench) (own bench).0.now) (own bench).1.0.now (own args).0.now) (tables_of args)
@@ -251,9 +295,11 @@ PairsAsFactory = Made pair_kinds.ps pair_kinds.r pair_reads.Learnt (λ κs args 
 
 -- .. and in the bench's list the factory's are. The contract's claim is the same
 abbrev pub PairsAsBench : Call → Tables → Reply → Tables → Type 0
-PairsAsBench = Made pair_kinds.ps pair_kinds.r pair_reads.Learnt (λ κs args r exits.
-    let bench = (own args).1 in
-    let bench' = (own exits).1 in
+PairsAsBench = Made pair_kinds.ps pair_kinds.r pair_reads.Learnt (λ κs lent r left_in.
+    let args = searched_tables lent in
+    let exits = searched_tables left_in in
+    let bench = searched_tables (own args).1 in
+    let bench' = searched_tables (own exits).1 in
     let trail' = (own exits).0.now in
     let bench_trail' = (own bench').0.now in
     exchange (pairing of_bench (other_in (tables_of args) (own args).0.now) (own bench).1.0.now (own bench).0.now)
@@ -264,14 +310,18 @@ PairsAsBench = Made pair_kinds.ps pair_kinds.r pair_reads.Learnt (λ κs args r 
 
 -- a match with a limit is lent what a match is
 abbrev pub MatchesWithin : Call → Tables → Reply → Tables → Type 0
-MatchesWithin = Made limit_kinds.ps limit_kinds.r limit_reads.Learnt (λ κs args r exits.
+MatchesWithin = Made limit_kinds.ps limit_kinds.r limit_reads.Learnt (λ κs lent r left_in.
+    let args = searched_tables lent in
+    let exits = searched_tables left_in in
     let trail' = (own exits).0.now in
     exchange (limiting (own args).1.1.0 (own args).1.0.now (own args).0.now) (tables_of args) (limiting_answer.answer_by r trail')
     (after_search args exits) (trail' ∷ []))
 
 -- a clipped sweep is lent all but search work and its list to read
 abbrev pub MatchesClipped : Call → Tables → Reply → Tables → Type 0
-MatchesClipped = Made clip_kinds.ps clip_kinds.r clip_reads.Learnt (λ κs args r exits.
+MatchesClipped = Made clip_kinds.ps clip_kinds.r clip_reads.Learnt (λ κs lent r left_in.
+    let args = searched_tables lent in
+    let exits = searched_tables left_in in
     let list' = (own exits).0.now in
     exchange (clipping (own args).1.0.now (own args).1.1.0.now (own args).0.now) (tables_of args)
     (clipping_answer.answer_by r list') (after_search args exits) (list' ∷ []))
@@ -286,13 +336,15 @@ StoreLearnt found list done list' = store_outcome done list' ≡ store_of found 
 pub record Batches (c : Call) (memory : Tables) (said : Reply) (memory' : Tables) : Type 0 where
   pub list : List AnswerRecord
   pub list' : List AnswerRecord
-  pub searched : Made batch_kinds.ps batch_kinds.r batch_reads.Learnt (λ κs args r exits.
+  pub searched : Made batch_kinds.ps batch_kinds.r batch_reads.Learnt (λ κs lent r left_in.
+      let args = searched_tables lent in
+      let exits = searched_tables left_in in
       let trail' = (own exits).0.now in
       exchange (batching (own args).1.1.0 (own args).1.0.now (own args).0.now (nears_of list)) (tables_of args)
       (batching_answer.answer_by r.outcome (nears_of list') trail')
       (after_search args exits)
       (trail' ∷ list_places (nears_of list') ∷ [])) c memory said memory'
-  pub so_long : length list ≡ (own searched.args).1.1.1.0
+  pub so_long : length list ≡ (own (searched_tables searched.args)).1.1.1.0
   pub done : Bool
   pub stored : StoreLearnt searched.result list done list'
 

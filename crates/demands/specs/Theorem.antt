@@ -111,25 +111,25 @@ pub record Theorem : Type 2 where
   pub limit_meets : {M : Type 1} → limit_statement.statement M
   pub clip_meets : {M : Type 1} → clip_statement.statement M
   -- what `Did` claims of a call is what its contract ensures, and no more is asked
-  pub open_clause : Clause open.ended (λ M 𝓤. open.spec 𝓤) open_reads.Learnt
-  pub add_clause : Clause add.ended (λ M 𝓤. add.spec 𝓤) add_reads.Learnt
-  pub nearest_clause : Clause nearest.ended (λ M 𝓤. nearest.spec 𝓤) nearest_reads.Learnt
-  pub write_clause : Clause write.ended (λ M 𝓤. write.spec 𝓤) write_reads.Learnt
-  pub read_clause : Clause read.ended (λ M 𝓤. read.spec 𝓤) read_reads.Learnt
-  pub list_clause : Clause list.ended (λ M 𝓤. list.spec 𝓤) list_reads.Learnt
-  pub import_clause : Clause import_call.ended (λ M 𝓤. import_call.spec 𝓤) import_reads.Learnt
-  pub export_clause : Clause export_call.ended (λ M 𝓤. export_call.spec 𝓤) export_reads.Learnt
-  pub check_clause : Clause check.ended (λ M 𝓤. check.spec 𝓤) check_reads.Learnt
-  pub batch_clause : Clause batch.ended (λ M 𝓤. batch.spec 𝓤) batch_reads.Learnt
-  pub store_clause : Clause store.ended (λ M 𝓤. store.spec 𝓤)
+  pub open_clause : Clause open.ended (λ M 𝓤 𝓛. open.spec 𝓛) open_reads.Learnt
+  pub add_clause : Clause add.ended (λ M 𝓤 𝓛. add.spec 𝓛) add_reads.Learnt
+  pub nearest_clause : Clause nearest.ended (λ M 𝓤 𝓛. nearest.spec 𝓛) nearest_reads.Learnt
+  pub write_clause : Clause write.ended (λ M 𝓤 𝓛. write.spec 𝓛) write_reads.Learnt
+  pub read_clause : Clause read.ended (λ M 𝓤 𝓛. read.spec 𝓛) read_reads.Learnt
+  pub list_clause : Clause list.ended (λ M 𝓤 𝓛. list.spec 𝓛) list_reads.Learnt
+  pub import_clause : Clause import_call.ended (λ M 𝓤 𝓛. import_call.spec 𝓛) import_reads.Learnt
+  pub export_clause : Clause export_call.ended (λ M 𝓤 𝓛. export_call.spec 𝓛) export_reads.Learnt
+  pub check_clause : Clause check.ended (λ M 𝓤 𝓛. check.spec 𝓛) check_reads.Learnt
+  pub batch_clause : Clause batch.ended (λ M 𝓤 𝓛. batch.spec 𝓛) batch_reads.Learnt
+  pub store_clause : Clause store.ended (λ M 𝓤 𝓛. store.spec 𝓛)
       (λ κs args r exits. StoreLearnt args.0 args.1.0.now r exits.1.0.now)
-  pub add_labelled_clause : Clause add_labelled.ended (λ M 𝓤. add_labelled.spec 𝓤) add_labelled_reads.Learnt
-  pub label_clause : Clause label_call.ended (λ M 𝓤. label_call.spec 𝓤) label_reads.Learnt
-  pub remote_clause : Clause remote_call.ended (λ M 𝓤. remote_call.spec 𝓤) remote_reads.Learnt
-  pub band_clause : Clause band_call.ended (λ M 𝓤. band_call.spec 𝓤) band_reads.Learnt
-  pub pair_clause : Clause pair_call.ended (λ M 𝓤. pair_call.spec 𝓤) pair_reads.Learnt
-  pub limit_clause : Clause limit_call.ended (λ M 𝓤. limit_call.spec 𝓤) limit_reads.Learnt
-  pub clip_clause : Clause clip_call.ended (λ M 𝓤. clip_call.spec 𝓤) clip_reads.Learnt
+  pub add_labelled_clause : Clause add_labelled.ended (λ M 𝓤 𝓛. add_labelled.spec 𝓛) add_labelled_reads.Learnt
+  pub label_clause : Clause label_call.ended (λ M 𝓤 𝓛. label_call.spec 𝓛) label_reads.Learnt
+  pub remote_clause : Clause remote_call.ended (λ M 𝓤 𝓛. remote_call.spec 𝓛) remote_reads.Learnt
+  pub band_clause : Clause band_call.ended (λ M 𝓤 𝓛. band_call.spec 𝓛) band_reads.Learnt
+  pub pair_clause : Clause pair_call.ended (λ M 𝓤 𝓛. pair_call.spec 𝓛) pair_reads.Learnt
+  pub limit_clause : Clause limit_call.ended (λ M 𝓤 𝓛. limit_call.spec 𝓛) limit_reads.Learnt
+  pub clip_clause : Clause clip_call.ended (λ M 𝓤 𝓛. clip_call.spec 𝓛) clip_reads.Learnt
   -- demand 1: the reply and the memory after are those that the definition makes of the call and the memory before
   pub follows : (c : Call) (memory memory' : Tables) (said : Reply) → Did c memory said memory' → Follows c memory said memory'
   -- every call that its types allow has a reply and a memory after it, on every memory that has the places that it is lent

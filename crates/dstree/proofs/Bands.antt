@@ -1,6 +1,7 @@
 -- Document 02, §10: the true number in a band lies between the sure and the possible one. Each stored trace is in one leaf, and its distance
 -- is between the leaf's bound and its upper figure; so the traces of the leaves that are sure lie in the band, and the leaves that are
 -- possible have all that do. Lists of numbers without repetition are counted (`no_fewer`).
+use Rattle.std.specs.Prelude.{if◌then◌else◌}
 use Prim.Native.Nat.{ℕ, suc, ◌*◌, ◌-◌, ◌≤◌, ◌<◌}
 use mathlib.Core.Path.{◌≡◌, refl, sym, ◌∙◌, ap, subst}
 use mathlib.Core.Bool.{Bool, true, false}
@@ -9,7 +10,7 @@ use native.Mathlib.Omega.{arith}
 use lib.ListN.{length, get_or, length-map, length-append}
 use lib.Dec.{T, leb, ltb, leb→le, le→leb, ltb→lt, lt→ltb}
 use mir.Facts.{and_yes, yes_and}
-use Rattle.integer.specs.Words.{if◌then◌else◌, those, total, counting, is_in}
+use Rattle.integer.specs.Words.{those, total, counting, is_in}
 use Rattle.integer.proofs.Tests.{is_true}
 use Rattle.integer.proofs.Lists.{In, in_is, is_in_lem, InFlat, flat, from_flat, in_flat, from_those, in_those, in_counting}
 use Rattle.integer.proofs.Lists.{from_counting, Up, up_those, counting_up, Apart, apart_none, apart_more, apart_append, up_same, no_fewer}

@@ -2,6 +2,7 @@
 -- query: no distance is below d, its distance alone, so that a bound at most d never stops it; and when the next bound is above d, every
 -- leaf with a bound at most d was read, by this query or by one before it, and a nearest trace with it, so that it stops there. So it
 -- reads the leaves of its match, each unless it was read before, and no other.
+use Rattle.std.specs.Prelude.{if◌then◌else◌}
 use Prim.Native.Nat.{ℕ, ◌≤◌, ◌<◌}
 use mathlib.Core.Path.{◌≡◌, refl, sym, ◌∙◌, ap, subst}
 use mathlib.Core.Logic.{◌⊎◌, inl, inr}
@@ -13,7 +14,7 @@ use native.Mathlib.Nat.{le_antisymm}
 use lib.ListN.{length, get_or}
 use lib.Dec.{T, leb}
 use borrow.Author.Tests.{leb-true, leb-false}
-use Rattle.integer.specs.Words.{if◌then◌else◌, those, is_in}
+use Rattle.integer.specs.Words.{those, is_in}
 use Rattle.integer.proofs.Lists.{In, first, later, in_nil, in_cons, is_in_lem, in_is, InFlat, flat, from_flat, in_flat, map_agree, those_agree}
 use Rattle.integer.proofs.Lists.{All, all_in, all_at, up_same, those_apart, map_apart, no_fewer}
 use Rattle.segment.specs.Figures.{distance}

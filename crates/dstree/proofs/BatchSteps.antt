@@ -1,5 +1,6 @@
 -- The steps of a batch, on any tree: no leaf is read twice, the trail lists those read, and what is read for one query is kept for all.
 -- On well-formed tables with a trace each query has an answer, the nearest of the traces in the leaves read.
+use Rattle.std.specs.Prelude.{if◌then◌else◌}
 use Prim.Native.Nat.{ℕ, ◌≤◌, ◌<◌}
 use mathlib.Core.Path.{◌≡◌, refl, sym, ◌∙◌, ap, subst}
 use mathlib.Core.Logic.{◌⊎◌, inl, inr}
@@ -10,7 +11,7 @@ use native.Mathlib.Omega.{arith}
 use native.Mathlib.Nat.{le_antisymm}
 use lib.ListN.{length, length-map}
 use lib.Dec.{T}
-use Rattle.integer.specs.Words.{if◌then◌else◌, counting, those, is_in, times_in}
+use Rattle.integer.specs.Words.{counting, those, is_in, times_in}
 use Rattle.integer.proofs.Tests.{is_true, test_true, test_false, same_test}
 use Rattle.integer.proofs.Lists.{same_or_not, In, first, later, in_nil, in_cons, some_in, in_get_or, is_in_lem, in_is, in_append_left}
 use Rattle.integer.proofs.Lists.{in_append_right, in_snoc, map_agree, InFlat, flat, from_flat, in_flat, from_those, in_those}
@@ -93,9 +94,10 @@ pub all_keeps : (read l : List ℕ) {k : ℕ} → In k read → In k (foldl read
 all_keeps read [] i = i
 all_keeps read (a ∷ l) i = all_keeps (read_once read a) l (once_keeps read a i)
 
-pub all_has : (read : List ℕ) {l : List ℕ} {k : ℕ} → In k l → In k (foldl read_once read l)
-all_has read {l = k ∷ l} first = all_keeps (read_once read k) l (once_has read k)
+pub all_has : {k : ℕ} (read : List ℕ) {l : List ℕ} → In k l → In k (foldl read_once read l)
+all_has {k = k} read {l = _ ∷ l} first = all_keeps (read_once read k) l (once_has read k)
 all_has read {l = a ∷ l} (later i) = all_has (read_once read a) i
+all_has read {l = []} i = elim i [ ]
 
 pub all_from : (read l : List ℕ) {k : ℕ} → In k (foldl read_once read l) → In k read ⊎ In k l
 all_from read [] i = inl i
@@ -272,6 +274,7 @@ module _ (n : ℕ) (stored : List Trace) (tree : Tree) (shape : Shape n (length 
   some_read {queries = q ∷ rest} i =
       let f = first_read q in
       record { number = f.number; is_read = queries_keep stored tree (read_for stored tree [] q) rest f.is_read }
+  some_read {queries = []} i = elim i [ ]
 
   nears_full : (query : Trace) (read : List ℕ) → Leaves tree read → Some read → 0 < length (distances_among stored tree query read)
   unfolding distances_among distances_in

@@ -1,5 +1,6 @@
 -- The greatest gain wins, the earliest among equals: the winner so far is kept at an equal gain, so only a greater one behind it takes its
 -- place.
+use Rattle.std.specs.Prelude.{if◌then◌else◌}
 use mathlib.Core.Path.{◌≡◌, refl, sym, ◌∙◌, ap, subst}
 use mathlib.Core.Logic.{◌⊎◌, inl, inr}
 use mathlib.Core.Bool.{Bool, true, false, not}
@@ -9,7 +10,7 @@ use native.Mathlib.Omega.{arith}
 use lib.IntN.{ℤ}
 use lib.Signed.{lt_z, le_z, lt_z_yes, lt_z_no, le_z_yes}
 use lib.Dec.{T}
-use Rattle.integer.specs.Words.{if◌then◌else◌, every}
+use Rattle.integer.specs.Words.{every}
 use Rattle.integer.proofs.Order.{◌<ℤ◌, ◌≤ℤ◌, ≤ℤ→, <ℤ→, →<ℤ}
 use Rattle.integer.proofs.Lists.{In, later, in_cons, in_nil, in_append, every_of, from_every}
 use Rattle.dstree.specs.Adding.{Split, best_by}

@@ -2,6 +2,7 @@
 -- The first goes segment by segment (`segment`'s law), then up the path, below each node of which the trace is too.
 -- The second says that the definition's fuel is enough: a parent is numbered below its child, so any fuel above a node's number gives its
 -- bound.
+use Rattle.std.specs.Prelude.{if◌then◌else◌}
 use Prim.Native.Nat.{ℕ, zero, suc, ◌+◌, ◌-◌, ◌≤◌, ◌<◌, max}
 use mathlib.Core.Path.{◌≡◌, refl, sym, ◌∙◌, ap, subst}
 use mathlib.Core.Bool.{Bool, true, false}
@@ -11,7 +12,6 @@ use native.Mathlib.Omega.{arith}
 use lib.ListN.{length, get_or, take, drop, length-take, length-drop}
 use lib.Seq.{drop-drop}
 use lib.Dec.{T}
-use Rattle.integer.specs.Words.{if◌then◌else◌}
 use Rattle.integer.proofs.Tests.{is_true}
 use Rattle.segment.specs.Figures.{distance}
 use Rattle.segment.proofs.Sums.{distance_cut}

@@ -1,5 +1,6 @@
 -- What the steps of adding do to a tree, node by node: children, the way down, widening, joining. Each step is told by cases on the node's
 -- number.
+use Rattle.std.specs.Prelude.{if◌then◌else◌}
 use Prim.Native.Nat.{ℕ, zero, suc, ◌+◌, ◌-◌, ◌≤◌, ◌<◌}
 use mathlib.Core.Path.{◌≡◌, refl, sym, ◌∙◌, ap, subst}
 use mathlib.Core.Logic.{◌⊎◌, inl, inr}
@@ -9,7 +10,7 @@ use mathlib.Core.List.{List, [], ◌∷◌, ◌++◌}
 use native.Mathlib.Omega.{arith}
 use lib.ListN.{length, length-set, get_or-eq_default}
 use lib.Dec.{T}
-use Rattle.integer.specs.Words.{if◌then◌else◌, last_of}
+use Rattle.integer.specs.Words.{last_of}
 use Rattle.integer.proofs.Lists.{In, first, later, in_nil, in_cons, last_in, set_cases}
 use Rattle.dstree.specs.Measures.{Trace}
 use Rattle.dstree.specs.Node.{Test, Kind, leaf, inner, Node, node, Tree, node_at, change_at, sends_left}
@@ -109,6 +110,7 @@ way_closed (suc fuel) tree x at {c} i = by (next_node (node_at tree at).kind x) 
         from : (c ≡ child) ⊎ ParentIn tree x c (way_from fuel tree x child) → (c ≡ at) ⊎ ParentIn tree x c (at ∷ way_from fuel tree x child)
         from (inl p) = inr (record { parent = at; met = first; next = rw p e })
         from (inr q) = inr (record { parent = q.parent; met = later q.met; next = q.next })
+way_closed zero tree x at i = elim i [ ]
 
 pub way_last : (fuel : ℕ) (tree : Tree) (x : Trace) (at : ℕ) → In (last_of (way_from (suc fuel) tree x at)) (way_from (suc fuel) tree x at)
 unfolding way_from
@@ -179,9 +181,9 @@ widen_keeps x y (at ∷ rest) tree k w =
     (set_cases empty_leaf (λ (n : Node). Covered y 1 n.segments) tree at (widen x (node_at tree at)) k
     (λ e h. widen_kept x y (node_at tree at) (subst (λ (j : ℕ). Covered y 1 (node_at tree j).segments) e w)) (λ f h. w) (λ h. covered_none))
 
-pub widen_gets : (x : Trace) {met : List ℕ} (tree : Tree) {k : ℕ} → In k met → Covered x 1 (node_at (widen_all x met tree) k).segments
+pub widen_gets : (x : Trace) {k : ℕ} {met : List ℕ} (tree : Tree) → In k met → Covered x 1 (node_at (widen_all x met tree) k).segments
 unfolding widen_all
-widen_gets x tree {k} (first {rest}) =
+widen_gets x {k = k} tree (first {rest}) =
     widen_keeps x x rest (change_at tree k (widen x)) k
     (set_cases empty_leaf (λ (n : Node). Covered x 1 n.segments) tree k (widen x (node_at tree k)) k (λ e h. widen_new x (node_at tree k)) (λ f h. absurd (f refl)) (λ h. covered_none))
 widen_gets x tree (later {b = at} i) = widen_gets x (change_at tree at (widen x)) i

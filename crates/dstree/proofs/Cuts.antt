@@ -1,5 +1,6 @@
 -- A node's right ends part the samples 1 to n, 16 segments at most, and so do a candidate's, which include the node's own.
 -- The idea: a cut lies inside a segment and is not its last sample, so that both halves have a sample.
+use Rattle.std.specs.Prelude.{if◌then◌else◌}
 use Prim.Native.Nat.{ℕ, suc, ◌-◌, ◌≤◌, ◌<◌}
 use mathlib.Core.Path.{◌≡◌, refl, sym, ◌∙◌, ap}
 use mathlib.Core.Bool.{Bool, true, false, ◌&&◌}
@@ -7,7 +8,6 @@ use mathlib.Core.List.{List, [], ◌∷◌, ◌++◌}
 use native.Mathlib.Omega.{arith}
 use lib.ListN.{length, get_or-eq_default}
 use lib.Dec.{ltb, leb}
-use Rattle.integer.specs.Words.{if◌then◌else◌}
 use borrow.Author.Tests.{ltb-true, ltb-false, leb-true}
 use Rattle.integer.proofs.Lists.{In, first, later, in_nil, All, all_none, all_more, all_append, set_cases}
 use Rattle.dstree.specs.Measures.{Trace}
@@ -45,6 +45,7 @@ data Inside (m : ℕ) : ℕ → List ℕ → Type 0 where
 inside_low : {n m from : ℕ} {l : List ℕ} → Parted n from l → Inside m from l → from ≤ m
 inside_low p (in_this h k) = h
 inside_low (p_more h p) (in_later i) = omega (arith, inside_low p i)
+inside_low (p_last _) (in_later i) = elim i [ ]
 
 later_from : {n from e : ℕ} {rest : List ℕ} (m : ℕ) → m < e → Parted n from (e ∷ rest) → Parted n (suc m) (e ∷ rest)
 later_from m h (p_last k) = p_last h
@@ -62,6 +63,7 @@ cut_parted {n} {m} {from} (p_more h p) (in_later {e} {rest} i) = by (ltb m e) re
     by : (b : Bool) → ltb m e ≡ b → Parted n (suc e) (cut_at m rest) → Parted n from (if b then m ∷ e ∷ rest else e ∷ cut_at m rest)
     by true q ih = absurd (omega (arith, ltb-true m e q, inside_low p i))
     by false q ih = p_more h ih
+cut_parted (p_last _) (in_later i) = elim i [ ]
 
 cut_length : (m : ℕ) (l : List ℕ) → length (cut_at m l) ≡ suc (length l)
 unfolding cut_at

@@ -1,6 +1,7 @@
 -- Every tree that adding makes has the invariant, and no leaf over size has a candidate that parts it.
 -- The second is an invariant of the pass over new leaves: it holds of all nodes before the pass's position. Each step moves the position on
 -- by one, and there are fewer nodes than twice the traces, so that the pass does not end too soon.
+use Rattle.std.specs.Prelude.{if◌then◌else◌}
 use Prim.Native.Nat.{ℕ, zero, suc, ◌+◌, ◌*◌, ◌≤◌, ◌<◌}
 use mathlib.Core.Path.{◌≡◌, refl, sym, ◌∙◌, ap, subst}
 use mathlib.Core.Bool.{Bool, true, false, not}
@@ -12,7 +13,7 @@ use native.Mathlib.Nat.{lt_of_not-le}
 use lib.ListN.{length, get_or, set, length-set, length-append, get_or-append, get_or-eq_default}
 use lib.Seq.{get_or-set_other, get_or-set_same}
 use lib.Dec.{T, ltb}
-use Rattle.integer.specs.Words.{if◌then◌else◌, last_of, those, every}
+use Rattle.integer.specs.Words.{last_of, those, every}
 use borrow.Author.Tests.{ltb-true, ltb-false}
 use Rattle.integer.proofs.Lists.{same_or_not, In, first, in_is, in_append_left, in_append_right, map_agree, those_agree, every_of, from_every}
 use Rattle.dstree.specs.Measures.{Trace, Measures, in_range, is_trace}

@@ -1,5 +1,6 @@
 -- A trace that goes down, widens the records that it meets and joins a leaf keeps the shape and the invariant, over one trace more.
 -- The idea: afterwards a trace is below a node if it was before, or if it is the new one and the node is on its way.
+use Rattle.std.specs.Prelude.{if◌then◌else◌}
 use Prim.Native.Nat.{ℕ, zero, suc, ◌≤◌, ◌<◌}
 use mathlib.Core.Path.{◌≡◌, refl, sym, ◌∙◌, ap, subst}
 use mathlib.Core.Logic.{◌⊎◌, inl, inr}
@@ -12,7 +13,7 @@ use native.Mathlib.Nat.{lt_of_not-le}
 use lib.ListN.{length, get_or, length-append, get_or-append}
 use lib.Seq.{get_or-append_seam}
 use lib.Dec.{T}
-use Rattle.integer.specs.Words.{if◌then◌else◌, is_in, last_of}
+use Rattle.integer.specs.Words.{is_in, last_of}
 use Rattle.integer.proofs.Lists.{In, first, in_cons, in_is, is_in_lem, in_snoc, in_append_left, in_append_right, Up, up_append}
 use Rattle.dstree.specs.Measures.{Trace}
 use Rattle.dstree.specs.Node.{Test, Kind, leaf, inner, Node, Tree, node_at, sends_left, ends}
@@ -218,6 +219,7 @@ module _ {n : ℕ} (stored : List Trace) {root : Node} {rest : Tree} (x : Trace)
       by none e b (inl p) ih = rw p b
       by none e b (inr j) ih = elim j [ ]
       by (some c) e b j ih = on fuel c (next_child x c (node_at tree at).kind e) b j ih
+  way_below zero start b i = elim i [ ]
 
   -- ---- the stored traces: one more
 

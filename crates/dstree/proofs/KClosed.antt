@@ -4,6 +4,7 @@
 -- nearer than `last` (`place_low`): no leaf with a bound at most `last` is left out. Once those leaves are read, the first k of `all` are
 -- read, for a bound
 -- is never above a distance; so they are the first k of what has been read (`first_same`), and any greater bound stops the search.
+use Rattle.std.specs.Prelude.{if◌then◌else◌}
 use Prim.Native.Nat.{ℕ, zero, suc, ◌≤◌, ◌<◌}
 use mathlib.Core.Path.{◌≡◌, refl, sym, ◌∙◌, ap, subst}
 use mathlib.Core.Logic.{◌⊎◌, inl, inr}
@@ -17,7 +18,7 @@ use lib.ListN.{length, get_or, take, length-map, length-append}
 use lib.Seq.{take-take}
 use lib.Dec.{T, T_not, leb}
 use borrow.Author.Tests.{ltb-true, ltb-false, lt-ltb, le-ltb, le-leb, lt-leb}
-use Rattle.integer.specs.Words.{if◌then◌else◌, those, total, is_in}
+use Rattle.integer.specs.Words.{those, total, is_in}
 use Rattle.integer.specs.Sorting.{at_place}
 use Rattle.integer.proofs.Tests.{is_true, is_false, test_false}
 use Rattle.integer.proofs.Lists.{In, first, later, in_nil, in_cons, in_is, is_in_lem, in_append, in_map, InMap, of, from_map}

@@ -1,5 +1,6 @@
 -- Adding keeps a tree well formed, whoever made it, and where its records and tests are those of the traces below, it keeps them so.
 -- The idea: the first leaf has all of it, joining keeps it over one trace more, and so does each split.
+use Rattle.std.specs.Prelude.{if◌then◌else◌}
 use Prim.Native.Nat.{ℕ, zero, suc, ◌*◌, ◌≤◌, ◌<◌}
 use mathlib.Core.Path.{◌≡◌, refl, sym, ◌∙◌, subst}
 use mathlib.Core.Logic.{◌⊎◌, inl, inr}
@@ -10,9 +11,9 @@ use native.Mathlib.Omega.{arith}
 use lib.ListN.{length, get_or, length-append}
 use lib.Dec.{T, eqb, leb, leb→le}
 use borrow.Author.Tests.{eqb-true}
-use Rattle.integer.specs.Words.{if◌then◌else◌, is_in, last_of, every}
+use Rattle.integer.specs.Words.{is_in, last_of, every}
 use Rattle.integer.proofs.Tests.{passed}
-use Rattle.integer.proofs.Lists.{In, first, in_is, in_snoc, in_get_or, from_every, Up, u_none, u_more}
+use Rattle.integer.proofs.Lists.{In, first, later, in_is, in_snoc, in_get_or, from_every, Up, u_none, u_more}
 use Rattle.dstree.specs.Measures.{Trace, Measures, within, in_range, is_trace}
 use Rattle.dstree.specs.Node.{Test, leaf, inner, Node, Tree, node_at, ends}
 use Rattle.dstree.specs.Adding.{way, widen_all, join, new_leaf, Split, split_into, split, insertion}
@@ -130,6 +131,7 @@ module _ (n : ℕ) (x : Trace) (wide : 1 ≤ n) where
         where
           zero_low : (t : ℕ) → In t (0 ∷ []) → t < 1
           zero_low t first = omega arith
+          zero_low t (later i) = elim i [ ]
       figures (suc k) h = absurd (omega arith)
 
 -- ---- no node

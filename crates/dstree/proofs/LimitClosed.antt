@@ -1,5 +1,6 @@
 -- A match with a limit on leaves, of well-formed tables with exact ranges: the full trail is R, so that an answer that is settled is the
 -- match, and the bound of a leaf that is left is at most the true distance.
+use Rattle.std.specs.Prelude.{if◌then◌else◌}
 use Prim.Native.Nat.{ℕ, zero, suc, ◌≤◌, ◌<◌, min}
 use mathlib.Core.Path.{◌≡◌, refl, sym, ◌∙◌, ap, subst}
 use mathlib.Core.Logic.{◌⊎◌, inl, inr}
@@ -11,7 +12,7 @@ use lib.ListN.{length, get_or, take, drop, length-map}
 use lib.Seq.{take-take}
 use lib.Dec.{T, T_not, leb, leb→le}
 use borrow.Author.Tests.{leb-false}
-use Rattle.integer.specs.Words.{if◌then◌else◌, those, is_in}
+use Rattle.integer.specs.Words.{those, is_in}
 use Rattle.integer.specs.Sorting.{at_place}
 use Rattle.integer.proofs.Lists.{In, first, later, in_cons, is_in_lem, in_is, in_map, from_those, all_at}
 use Rattle.integer.proofs.Lists.{InFlat, flat, from_flat}

@@ -1,6 +1,7 @@
 -- A match with a limit on leaves, on any tree: the steps read the first ones of the leaves that the match reads, and the next bound tells
 -- whether one of these is left. `reads` are the leaves that a search reads; of the first k leaves in order it reads the first k of them
 -- (`reads_limited`), and the leaf behind is still to be read exactly if it is one of them (`next_is`).
+use Rattle.std.specs.Prelude.{if◌then◌else◌}
 use Prim.Native.Nat.{ℕ, zero, suc, ◌≤◌, ◌<◌}
 use mathlib.Core.Path.{◌≡◌, refl, sym, ◌∙◌, ap}
 use mathlib.Core.Bool.{Bool, true, false}
@@ -9,7 +10,7 @@ use mathlib.Core.List.{List, [], ◌∷◌, map, foldl, flatten}
 use native.Mathlib.Omega.{arith}
 use lib.ListN.{length, take, drop, length-map, length-take, length-append, drop_of_length-le}
 use lib.Seq.{take_all, take-take}
-use Rattle.integer.specs.Words.{if◌then◌else◌, total}
+use Rattle.integer.specs.Words.{total}
 use Rattle.integer.specs.Sorting.{at_place}
 use Rattle.integer.proofs.Lists.{In, first, some_in, in_get_or, InMap, of, from_map, in_flat, InFlat, flat, from_flat, map_take}
 use Rattle.integer.proofs.Sorting.{from_take}

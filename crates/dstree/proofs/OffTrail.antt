@@ -1,12 +1,12 @@
 -- Samples in leaves off the trail do not bear on a search: each step reads one leaf, which is then on the trail, and stops by what it has
 -- read.
+use Rattle.std.specs.Prelude.{if◌then◌else◌}
 use Prim.Native.Nat.{ℕ}
 use mathlib.Core.Path.{◌≡◌, refl, ap}
 use mathlib.Core.Bool.{Bool, true, false}
 use mathlib.Core.Option.{none}
 use mathlib.Core.List.{List, [], ◌∷◌, ◌++◌}
 use lib.ListN.{get_or}
-use Rattle.integer.specs.Words.{if◌then◌else◌}
 use Rattle.integer.proofs.Lists.{In, first, in_append_left, in_append_right, in_flat, map_agree, agree_in}
 use Rattle.segment.specs.Figures.{distance}
 use Rattle.dstree.specs.Measures.{Trace}

@@ -1,5 +1,6 @@
 -- A search over two libraries on any well-formed tables, one of which has a trace. The first leaf in order is read and has a trace, so that
 -- there is an answer. It is a stored trace, the nearest of those read, the factory's on equal distance.
+use Rattle.std.specs.Prelude.{if◌then◌else◌}
 use Prim.Native.Nat.{ℕ, ◌+◌, ◌≤◌, ◌<◌}
 use mathlib.Core.Path.{◌≡◌, refl, ap, subst}
 use mathlib.Core.Logic.{◌⊎◌, inl, inr}
@@ -12,7 +13,6 @@ use native.Mathlib.Nat.{lt_of_not-le}
 use lib.ListN.{length, get_or, length-map}
 use lib.Dec.{ltb}
 use borrow.Author.Tests.{ltb-true, ltb-false}
-use Rattle.integer.specs.Words.{if◌then◌else◌}
 use Rattle.integer.proofs.Lists.{In, first, in_nil, in_is, some_in, in_get_or, InMap, of, from_map, InFlat, flat, from_flat, in_flat}
 use Rattle.segment.specs.Figures.{distance}
 use Rattle.dstree.specs.Measures.{Trace}

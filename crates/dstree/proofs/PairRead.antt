@@ -1,5 +1,6 @@
 -- The steps of a search over two libraries, on any two trees. The answer is the nearest of what was read, each trail is in its library's
 -- order, and samples off the trails do not bear on the answer.
+use Rattle.std.specs.Prelude.{if◌then◌else◌}
 use Prim.Native.Nat.{ℕ, suc, ◌+◌, ◌≤◌}
 use mathlib.Core.Path.{◌≡◌, refl, sym, ◌∙◌, ap}
 use mathlib.Core.Bool.{Bool, true, false}
@@ -8,7 +9,6 @@ use mathlib.Core.List.{List, [], ◌∷◌, ◌++◌, map, foldl, flatten, appen
 use native.Mathlib.Omega.{arith}
 use lib.ListN.{length, take, length-append, length-map}
 use lib.Seq.{length-take-le}
-use Rattle.integer.specs.Words.{if◌then◌else◌}
 use Rattle.integer.proofs.Lists.{In, first, in_append_left, in_append_right}
 use Rattle.dstree.specs.Measures.{Trace}
 use Rattle.dstree.specs.Matching.{LeafBound, reading_order, best_with, Search, distances_in, read_leaf}

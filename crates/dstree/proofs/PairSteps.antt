@@ -2,6 +2,7 @@
 -- bound at most d, the leaves read are those with such a bound, in each library in its own order. Which of two equal next bounds comes
 -- first does not matter. For a bound at most d is never above the best; and when the lower next bound is above d, all others are, in both
 -- libraries. Then d has been found.
+use Rattle.std.specs.Prelude.{if◌then◌else◌}
 use Prim.Native.Nat.{ℕ, suc, ◌≤◌, ◌<◌}
 use mathlib.Core.Path.{◌≡◌, refl}
 use mathlib.Core.Logic.{◌⊎◌, inl, inr}
@@ -11,7 +12,7 @@ use mathlib.Core.List.{List, [], ◌∷◌, map, foldl}
 use native.Mathlib.Omega.{arith}
 use lib.Dec.{leb}
 use borrow.Author.Tests.{leb-true, leb-false, ltb-true, lt-ltb, le-ltb}
-use Rattle.integer.specs.Words.{if◌then◌else◌, those}
+use Rattle.integer.specs.Words.{those}
 use Rattle.integer.proofs.Tests.{is_true}
 use Rattle.integer.proofs.Lists.{All, all_none, all_more, all_mono, Some}
 use Rattle.dstree.specs.Measures.{Trace}

@@ -1,4 +1,5 @@
 -- The order of reading: each leaf of the tree once, with its bound, by bound and then by number.
+use Rattle.std.specs.Prelude.{if◌then◌else◌}
 use Prim.Native.Nat.{ℕ, ◌≤◌, ◌<◌}
 use mathlib.Core.Path.{◌≡◌, refl, sym, ◌∙◌, ap, subst}
 use mathlib.Core.Logic.{◌⊎◌, inl, inr}
@@ -7,7 +8,7 @@ use mathlib.Core.List.{List, [], ◌∷◌, map}
 use native.Mathlib.Omega.{arith}
 use lib.ListN.{length, length-map}
 use lib.Dec.{T, ltb, eqb}
-use Rattle.integer.specs.Words.{if◌then◌else◌, counting, is_in}
+use Rattle.integer.specs.Words.{counting, is_in}
 use Rattle.integer.specs.Sorting.{sorted_with, poured_by, sorted_by}
 use borrow.Author.Tests.{ltb-true, ltb-false, eqb-true}
 use Rattle.integer.proofs.Tests.{is_true}

@@ -1,4 +1,5 @@
 -- Document 02, §2, without memory: what export writes is judged sound, and a sound file is what export writes.
+use Rattle.std.specs.Prelude.{if◌then◌else◌}
 use Prim.Native.Nat.{ℕ, ◌+◌, ◌*◌, ◌/◌, ◌%◌, ◌^◌, ◌≤◌, ◌<◌}
 use mathlib.Core.Path.{◌≡◌, refl, sym, ◌∙◌, ap, subst}
 use mathlib.Core.Bool.{Bool, true, false}
@@ -11,7 +12,7 @@ use lib.Seq.{take_at, drop_at, drop-drop, length-take-le}
 use lib.IntN.{ℤ}
 use lib.Dec.{T, ltb, eqb, eqb→eq, lt→ltb, ltb→lt}
 use mir.Facts.{and_yes, yes_and}
-use Rattle.integer.specs.Words.{if◌then◌else◌, every}
+use Rattle.integer.specs.Words.{every}
 use Rattle.integer.proofs.Tests.{passed, passes, eq→eqb, is_true, test_true}
 use Rattle.integer.proofs.Lists.{All, all_none, all_more, all_take, all_drop, all_flatten, all_mono, every_all}
 use Rattle.dstree.specs.Measures.{Trace, sample_limit, most_samples, is_trace}

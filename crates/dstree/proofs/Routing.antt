@@ -1,5 +1,6 @@
 -- The tests lead each stored trace to the leaf that holds it: the trace is below node 0, and where it is below an inner node it is below
 -- the child that the test sends it to, for the other child has only traces that the test sends there.
+use Rattle.std.specs.Prelude.{if◌then◌else◌}
 use Prim.Native.Nat.{ℕ, ◌<◌}
 use mathlib.Core.Path.{◌≡◌, refl, sym, subst}
 use mathlib.Core.Logic.{◌⊎◌, inl, inr}
@@ -9,7 +10,7 @@ use mathlib.Core.List.{List, []}
 use native.Mathlib.Omega.{arith}
 use lib.ListN.{length, get_or}
 use lib.Dec.{T}
-use Rattle.integer.specs.Words.{if◌then◌else◌, is_in, last_of}
+use Rattle.integer.specs.Words.{is_in, last_of}
 use Rattle.dstree.specs.Measures.{Trace}
 use Rattle.dstree.specs.Node.{Kind, leaf, inner, Tree, node_at, sends_left}
 use Rattle.dstree.specs.Adding.{next_node, way}

@@ -1,6 +1,7 @@
 -- A leaf that is split keeps the shape and the invariant: its traces go to the left or the right child by the test, and all else is as
 -- before. What a split must have for that is `GoodSplit`, and the best split of a node has it, as every candidate of the node that parts
 -- the leaf has.
+use Rattle.std.specs.Prelude.{if◌then◌else◌}
 use Prim.Native.Nat.{ℕ, zero, suc, ◌+◌, ◌≤◌, ◌<◌}
 use mathlib.Core.Path.{◌≡◌, refl, sym, ◌∙◌, ap, subst}
 use mathlib.Core.Logic.{◌⊎◌, inl, inr}
@@ -14,7 +15,7 @@ use lib.ListN.{length, get_or, set, length-set, length-append}
 use lib.IntN.{ℤ, pos, ◌+ℤ◌}
 use lib.Signed.{lt_z}
 use lib.Dec.{T, T_not, ltb}
-use Rattle.integer.specs.Words.{if◌then◌else◌, lesser, greater, is_in, is_empty, those, every}
+use Rattle.integer.specs.Words.{lesser, greater, is_in, is_empty, those, every}
 use mir.Facts.{and_yes}
 use borrow.Author.Tests.{ltb-true}
 use Rattle.integer.proofs.Tests.{test_true, test_false}

@@ -1,9 +1,9 @@
 -- Document 01, "Adding".
-use Rattle.std.specs.Prelude.{ℕ, zero, suc, ◌+◌, ◌*◌, ◌-◌, ◌/◌, min, max, Bool, not, ◌&&◌, length, get_or, take, ℤ, pos, ◌+ℤ◌, ◌-ℤ◌, leb, ltb}
+use Rattle.std.specs.Prelude.{ℕ, zero, suc, ◌+◌, ◌*◌, ◌-◌, ◌/◌, min, max, Bool, not, ◌&&◌, length, get_or, take, ℤ, pos, ◌+ℤ◌, ◌-ℤ◌, leb, ltb, if◌then◌else◌}
 use Rattle.std.proofs.Math.Option.{Option, none, some}
 use mathlib.Core.List.{List, [], ◌∷◌, ◌++◌, map, foldl}
 use Rattle.std.specs.Int.Signed.{lt_z}
-use Rattle.integer.specs.Words.{if◌then◌else◌, lesser, greater, least_ℤ, greatest_ℤ, least, greatest, counting, those, chosen, is_empty}
+use Rattle.integer.specs.Words.{lesser, greater, least_ℤ, greatest_ℤ, least, greatest, counting, those, chosen, is_empty}
 use Rattle.integer.specs.Words.{last_of}
 use Rattle.segment.specs.Terms.{spread_term}
 use Rattle.dstree.specs.Measures.{Trace, Measures}

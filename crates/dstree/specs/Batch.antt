@@ -1,8 +1,8 @@
 -- Document 02, §7: "A service round brings up to 16 queries. Match them together so that no leaf is read twice".
-use Rattle.std.specs.Prelude.{ℕ, ◌*◌, ◌≤◌, ◌<◌, ◌≡◌, Bool, false, not, ◌&&◌, length, T, eqb}
+use Rattle.std.specs.Prelude.{ℕ, ◌*◌, ◌≤◌, ◌<◌, ◌≡◌, Bool, false, not, ◌&&◌, length, T, eqb, if◌then◌else◌}
 use Rattle.std.proofs.Math.Option.{Option, none, some}
 use mathlib.Core.List.{List, [], ◌∷◌, ◌++◌, map, foldl, flatten}
-use Rattle.integer.specs.Words.{if◌then◌else◌, those, is_in, times_in}
+use Rattle.integer.specs.Words.{those, is_in, times_in}
 use Rattle.integer.specs.Lists.{In, Up}
 use Rattle.dstree.specs.Measures.{Trace, Measures, within}
 use Rattle.dstree.specs.Node.{Tree}

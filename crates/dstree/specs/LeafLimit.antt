@@ -1,7 +1,7 @@
 -- Document 02, §12: "A limit on leaves for the controller. While the bed moves it can afford few reads".
-use Rattle.std.specs.Prelude.{ℕ, ◌≤◌, ◌<◌, min, ◌≡◌, not, List, [], ◌∷◌, map, length, take, drop, T, eqb}
+use Rattle.std.specs.Prelude.{ℕ, ◌≤◌, ◌<◌, min, ◌≡◌, not, List, [], ◌∷◌, map, length, take, drop, T, eqb, if◌then◌else◌}
 use Rattle.std.proofs.Math.Option.{Option, none, some}
-use Rattle.integer.specs.Words.{if◌then◌else◌, is_in, total}
+use Rattle.integer.specs.Words.{is_in, total}
 use Rattle.integer.specs.Sorting.{at_place}
 use Rattle.dstree.specs.Measures.{Trace, Measures}
 use Rattle.dstree.specs.Node.{Tree, node_at}

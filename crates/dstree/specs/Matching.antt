@@ -1,8 +1,8 @@
 -- Document 01, "Matching".
-use Rattle.std.specs.Prelude.{ℕ, zero, suc, ◌+◌, max, Bool, true, false, ◌&&◌, ◌||◌, length, get_or, leb, ltb, eqb}
+use Rattle.std.specs.Prelude.{ℕ, zero, suc, ◌+◌, max, Bool, true, false, ◌&&◌, ◌||◌, length, get_or, leb, ltb, eqb, if◌then◌else◌}
 use Rattle.std.proofs.Math.Option.{Option, none, some}
 use mathlib.Core.List.{List, [], ◌∷◌, ◌++◌, map, foldl}
-use Rattle.integer.specs.Words.{if◌then◌else◌, least, those, total, counting}
+use Rattle.integer.specs.Words.{least, those, total, counting}
 use Rattle.integer.specs.Sorting.{sorted_by}
 use Rattle.segment.specs.Figures.{distance}
 use Rattle.segment.specs.Terms.{sum_gap, scatter_gap, bound_term}

@@ -1,7 +1,7 @@
 -- Document 02, §11: "Factory library and bench library together. .. Match a query over both".
-use Rattle.std.specs.Prelude.{ℕ, ◌+◌, ◌≤◌, ◌<◌, ◌≡◌, Bool, not, ◌||◌, List, [], ◌∷◌, ◌++◌, map, length, get_or, take, T, ltb, leb, eqb}
+use Rattle.std.specs.Prelude.{ℕ, ◌+◌, ◌≤◌, ◌<◌, ◌≡◌, Bool, not, ◌||◌, List, [], ◌∷◌, ◌++◌, map, length, get_or, take, T, ltb, leb, eqb, if◌then◌else◌}
 use Rattle.std.proofs.Math.Option.{Option, none, some}
-use Rattle.integer.specs.Words.{if◌then◌else◌, total, is_in}
+use Rattle.integer.specs.Words.{total, is_in}
 use Rattle.integer.specs.Lists.{In}
 use Rattle.segment.specs.Figures.{distance}
 use Rattle.dstree.specs.Measures.{Trace, Measures, are_samples}

@@ -1,9 +1,9 @@
 -- Document 02, §2: recordings, WAV files with "its header in WAV's usual 44 bytes". A file is a list of bytes, as a sheet is; its header is
 -- one table of fields, by which it is written and judged.
-use Rattle.std.specs.Prelude.{ℕ, ◌+◌, ◌*◌, ◌/◌, ◌%◌, ◌^◌, ◌<◌, ◌≤◌, ◌≡◌, Bool, true, false, ◌&&◌, length, take, drop, ℤ, T, ltb, eqb}
+use Rattle.std.specs.Prelude.{ℕ, ◌+◌, ◌*◌, ◌/◌, ◌%◌, ◌^◌, ◌<◌, ◌≤◌, ◌≡◌, Bool, true, false, ◌&&◌, length, take, drop, ℤ, T, ltb, eqb, if◌then◌else◌}
 use Rattle.std.proofs.Math.Option.{Option, none, some}
 use mathlib.Core.List.{List, [], ◌∷◌, ◌++◌, map, flatten}
-use Rattle.integer.specs.Words.{if◌then◌else◌, every}
+use Rattle.integer.specs.Words.{every}
 use Rattle.dstree.specs.Measures.{Trace, most_samples, is_trace}
 use Rattle.dstree.specs.Sheet.{are_bytes, bytes_of, number_in, part, pieces, narrow, narrow_limit, coded_all, decoded}
 

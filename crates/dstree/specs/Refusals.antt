@@ -1,7 +1,6 @@
 -- Document 01, the table of refusals, and what document 02 adds to it.
-use Rattle.std.specs.Prelude.{ℕ, Bool, not, List, [], ◌∷◌, length, eqb, ltb}
+use Rattle.std.specs.Prelude.{ℕ, Bool, not, List, [], ◌∷◌, length, eqb, ltb, if◌then◌else◌}
 use Rattle.std.proofs.Math.Option.{Option, none, some}
-use Rattle.integer.specs.Words.{if◌then◌else◌}
 use Rattle.dstree.specs.Measures.{Trace, are_samples}
 
 -- the table's words. A torn block has a place: "the first block at fault"

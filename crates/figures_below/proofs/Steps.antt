@@ -1,5 +1,6 @@
 -- One step of a loop, over variables: the next number of a list, a figure with a sign compared by its bits, a field that holds a small
 -- number.
+use Rattle.std.specs.Prelude.{if◌then◌else◌}
 use mathlib.Core.Path.{◌≡◌, refl, sym, ap, subst, ◌∙◌}
 use mathlib.Core.Bool.{Bool, true, false}
 use mathlib.Core.List.{List, ◌∷◌}
@@ -13,7 +14,6 @@ use mir.Syntax.{w64}
 use mir.Val.{SFits, to_z, of_z}
 use mir.Facts.{to_z-of_z}
 use borrow.Author.Tests.{ltb-false}
-use Rattle.integer.specs.Words.{if◌then◌else◌}
 use Rattle.integer.proofs.Tests.{test_true, test_false}
 use Rattle.integer.specs.Words.{same_ℤ}
 use Rattle.integer.proofs.Ring.{same_ℤ_eq}

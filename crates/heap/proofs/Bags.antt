@@ -1,4 +1,5 @@
 -- Two lists with each key equally often have the same keys in order: key by key, one is taken out of both.
+use Rattle.std.specs.Prelude.{if◌then◌else◌}
 use mathlib.Core.Path.{◌≡◌, refl, sym, ap, subst, ◌∙◌}
 use mathlib.Core.Logic.{⊎_elim}
 use mathlib.Core.List.{List, [], ◌∷◌}
@@ -6,7 +7,7 @@ use Prim.Native.Nat.{ℕ, suc, ◌<◌}
 use native.Mathlib.Omega.{arith}
 use lib.Dec.{eqb}
 use borrow.Author.Tests.{eq-eqb, ne_eqb}
-use Rattle.integer.specs.Words.{if◌then◌else◌, times_in}
+use Rattle.integer.specs.Words.{times_in}
 use Rattle.integer.proofs.Times.{times_nil, times_same, times_other}
 use Rattle.heap.specs.Keys.{insert_key, pour, sorted_of}
 use Rattle.heap.proofs.Sorting.{equal_or_not, insert_comm, pour_cons}

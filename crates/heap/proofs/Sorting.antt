@@ -1,5 +1,6 @@
 -- Laws of keys in order. `pour` forgets the order in which keys come (`insert_comm`), and a key that was put in can be taken out of both
 -- sides of an equation (`insert_cancel`), for every list, in order or not: so lists of keys are reckoned with as if they were bags.
+use Rattle.std.specs.Prelude.{if◌then◌else◌}
 use mathlib.Core.Path.{◌≡◌, refl, sym, ap, ◌∙◌}
 use mathlib.Core.Bool.{Bool, true, false}
 use mathlib.Core.Logic.{◌⊎◌, inl, inr, ⊎_elim}
@@ -10,7 +11,6 @@ use native.Mathlib.Omega.{arith}
 use lib.Dec.{leb, eqb}
 use lib.ListN.{length, get_or, set}
 use borrow.Author.Tests.{le-leb, lt-leb, leb-true, leb-false, eqb-true, eqb-false}
-use Rattle.integer.specs.Words.{if◌then◌else◌}
 use Rattle.integer.specs.Sorting.{sorted_with, poured_by}
 use Rattle.heap.specs.Keys.{insert_key, pour, sorted_of}
 

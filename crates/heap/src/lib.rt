@@ -1,7 +1,8 @@
 // A binary heap of keys, the least first, in the first n places of a lent slice. A hole is moved, and keys are not swapped: each step
 // stores one key.
-ghost use Rattle.std.specs.Prelude.{◌≡◌, ◌<◌, ◌≤◌, ltb, length, get_or};
-ghost use Rattle.integer.specs.Words.{if◌then◌else◌};
+#![tactic(auto)]
+
+ghost use Rattle.std.specs.Prelude.{◌≡◌, ◌<◌, ◌≤◌, ltb, length, get_or, if◌then◌else◌};
 ghost use Rattle.heap.specs.Heap.{IsHeap, Least, Lesser, Pushed, Sunk, Popped};
 
 // Puts a key into a heap of n keys, which then has n + 1.

@@ -1,4 +1,5 @@
 -- An import that is not refused: the file's traces, and tables that take all of them.
+use Rattle.std.specs.Prelude.{if◌then◌else◌}
 use Prim.Native.Nat.{ℕ, ◌+◌, ◌≤◌}
 use mathlib.Core.Path.{◌≡◌, refl, ap, ◌∙◌, subst}
 use mathlib.Core.Bool.{Bool, true, false}
@@ -7,7 +8,6 @@ use mathlib.Core.List.{List, []}
 use native.Mathlib.Omega.{arith}
 use lib.ListN.{length}
 use lib.Dec.{T}
-use Rattle.integer.specs.Words.{if◌then◌else◌}
 use Rattle.dstree.specs.Measures.{Trace, labels_needed}
 use Rattle.dstree.specs.Refusals.{first_of, bad_recording}
 use Rattle.dstree.specs.Sheet.{are_bytes}

@@ -1,5 +1,6 @@
 -- The way down by the node table: one step of it, that it is the way of the tree which the tables stand for, and what code that goes down
 -- knows at each node (`GoingDown`). A child is numbered above its parent, so that a node is met once: records met later are as they were.
+use Rattle.std.specs.Prelude.{if◌then◌else◌}
 use mathlib.Core.Path.{◌≡◌, refl, sym, ap, subst, ◌∙◌}
 use mathlib.Core.Option.{Option, none, some}
 use mathlib.Core.List.{List, [], ◌∷◌, map}
@@ -8,7 +9,7 @@ use native.Mathlib.Omega.{arith}
 use lib.IntN.{ℤ}
 use lib.ListN.{length}
 use lib.Dec.{eqb}
-use Rattle.integer.specs.Words.{if◌then◌else◌, counting, last_of}
+use Rattle.integer.specs.Words.{counting, last_of}
 use Rattle.dstree.specs.Measures.{Trace}
 use Rattle.dstree.specs.Node.{Node, Tree, sends_left, node_at}
 use Rattle.dstree.specs.Adding.{next_node, way_from, way}

@@ -1,4 +1,5 @@
 // Adding a trace to tables that are known to be well formed.
+#![tactic(auto)]
 
 pub mod lists; // a leaf's list of traces, by the links
 pub mod widening; // a record widened by a trace

@@ -1,7 +1,7 @@
 // The way down by the tests, and the widening of the nodes that are met.
 
-ghost use Rattle.std.specs.Prelude.{◌≡◌, ◌≤◌, length};
-ghost use Rattle.integer.specs.Words.{if◌then◌else◌, last_of};
+ghost use Rattle.std.specs.Prelude.{◌≡◌, ◌≤◌, length, if◌then◌else◌};
+ghost use Rattle.integer.specs.Words.{last_of};
 ghost use Rattle.segment.specs.Stored.{samples_of};
 ghost use Rattle.dstree.specs.Node.{sends_left};
 ghost use Rattle.tables.specs.Layout.{kind_place, record_places};

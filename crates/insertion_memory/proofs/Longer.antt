@@ -1,6 +1,7 @@
 -- Each step of adding on nodes and links, with more places behind both: it does to the first places what it does to these alone, and leaves
 -- the others. The idea: every record and every link that a step touches lies inside, since what the first places stand for is a tree over
 -- at most c traces; and with more places behind them they stand for the same tree, so that the same leaf splits in the same way.
+use Rattle.std.specs.Prelude.{if◌then◌else◌}
 use Prim.Native.Nat.{ℕ, zero, suc, ◌+◌, ◌*◌, ◌-◌, ◌≤◌, ◌<◌}
 use mathlib.Core.Path.{◌≡◌, refl, sym, ◌∙◌, ap, ap₂, subst}
 use mathlib.Core.Bool.{Bool, true, false}
@@ -12,7 +13,7 @@ use lib.ListN.{length, get_or, take, drop, set, length-map, length-set, get_or-a
 use lib.Seq.{take-append-le, drop-append-le, set-append_left, paste}
 use lib.Dec.{ltb}
 use borrow.Author.Tests.{ltb-true}
-use Rattle.integer.specs.Words.{if◌then◌else◌, last_of}
+use Rattle.integer.specs.Words.{last_of}
 use Rattle.integer.proofs.Lists.{In, first, later, in_is, is_in_lem}
 use Rattle.dstree.specs.Measures.{Trace}
 use Rattle.dstree.specs.Node.{Segment, Kind, leaf, inner, Tree, node_at, ends}
@@ -92,10 +93,10 @@ module _ {n c : ℕ} {nodes : List ℤ} {links : List ℕ} (space : Space n c no
       (λ j g. record_more h.nodes ns j (node_inside s j g))
       (λ t g. get_or-append h.links ls 0 t (omega (arith, g, space.links_room, s.links_size)))
 
-  pub widen_more : {k : ℕ} {h : TreeTables} {tree : Tree} (x : Trace) (met : List ℕ) → ((j : ℕ) → In j met → j < length tree) → Represents n c nodes links k h tree
+  pub widen_more : {k : ℕ} (x : Trace) (met : List ℕ) {h : TreeTables} {tree : Tree} → ((j : ℕ) → In j met → j < length tree) → Represents n c nodes links k h tree
       → widened_on x (h.nodes ++ ns) met ≡ widened_on x h.nodes met ++ ns
   widen_more x [] inside s = refl
-  widen_more {k} {h} {tree} x (at ∷ met) inside s =
+  widen_more {k} x (at ∷ met) {h} {tree} inside s =
       ap (λ (l : List ℤ). widened_on x l met)
       (on_more (widen_record x) h.nodes ns at (node_inside s at (few_nodes s at (inside at first))))
       ∙ widen_more x met (λ j i. let g : j < length tree = inside j (later i) in omega (arith, length-set tree at (widen x (node_at tree at)))) (widen_one space x at (inside at first) s)
@@ -210,11 +211,11 @@ module _ {n c : ℕ} {nodes : List ℤ} {links : List ℕ} (space : Space n c no
 
       -- ---- the pass
 
-      split_on_more : {k : ℕ} {h : TreeTables} {tree : Tree} (fuel : ℕ) → length traces ≡ k → Represents n c nodes links k h tree → (at : ℕ)
+      split_on_more : {k : ℕ} (fuel : ℕ) {h : TreeTables} {tree : Tree} → length traces ≡ k → Represents n c nodes links k h tree → (at : ℕ)
           → split_on fuel leaf_size traces (longer ns ls h) at ≡ longer ns ls (split_on fuel leaf_size traces h at)
       unfolding split_on
       split_on_more zero size s at = refl
-      split_on_more {k} {h} {tree} (suc fuel) size s at = by (ltb at h.count) refl
+      split_on_more {k} (suc fuel) {h} {tree} size s at = by (ltb at h.count) refl
           (λ (inside : at < length tree). split_on_more fuel size (split_at space traces leaf_size size s at inside) (suc at))
         where
           by : (b : Bool) → ltb at h.count ≡ b

@@ -153,3 +153,4 @@ module _ {n c : ℕ} {nodes : List ℤ} {links : List ℕ} {k : ℕ} {h : TreeTa
           → (get_or h.links t 0 ≡ 0) ⊎ ((t < get_or h.links t 0) × (get_or h.links t 0 < k))
       by (leaf (x ∷ l)) (m_leaf e q w) u low i = link_rises w u low i
       by (inner test left right) (m_inner e q p s) u low i = absurd (in_nil i)
+      by (leaf []) m u low i = elim m [ ]

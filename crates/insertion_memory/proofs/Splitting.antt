@@ -1,6 +1,7 @@
 -- Splitting on nodes and links stands for splitting on the tree: one leaf, then the pass over the new ones.
 -- The idea: the two sides' lists are laid anew over numbers of the split leaf only, so that every other leaf's list stays; and there is
 -- room, since a tree over k traces has less than 2k nodes after the split as before it.
+use Rattle.std.specs.Prelude.{if◌then◌else◌}
 use Prim.Native.Nat.{ℕ, zero, suc, ◌*◌, ◌-◌, ◌≤◌, ◌<◌}
 use mathlib.Core.Path.{◌≡◌, refl, sym, ◌∙◌, ap, subst}
 use mathlib.Core.Bool.{Bool, true, false}
@@ -11,7 +12,6 @@ use lib.ListN.{length, get_or}
 use lib.IntN.{ℤ}
 use lib.Dec.{ltb}
 use borrow.Author.Tests.{ltb-true, lt-ltb, le-ltb}
-use Rattle.integer.specs.Words.{if◌then◌else◌}
 use Rattle.integer.proofs.Lists.{In, first, in_is, is_in_lem, Up}
 use Rattle.dstree.specs.Measures.{Trace}
 use Rattle.dstree.specs.Node.{Segment, Kind, leaf, inner, Node, node, Tree, node_at, ends}
@@ -239,11 +239,11 @@ module _ {n c : ℕ} {nodes : List ℤ} {links : List ℕ} (space : Space n c no
 
     -- ---- the pass
 
-    pub split_on_lem : {k : ℕ} {h : TreeTables} {tree : Tree} (fuel : ℕ) → length traces ≡ k → Represents n c nodes links k h tree → (at : ℕ)
+    pub split_on_lem : {k : ℕ} (fuel : ℕ) {h : TreeTables} {tree : Tree} → length traces ≡ k → Represents n c nodes links k h tree → (at : ℕ)
         → Represents n c nodes links k (split_on fuel leaf_size traces h at) (split_new fuel leaf_size traces tree at)
     unfolding split_on split_new
     split_on_lem zero size s at = s
-    split_on_lem {k} {h} {tree} (suc fuel) size s at =
+    split_on_lem {k} (suc fuel) {h} {tree} size s at =
         subst (λ (t : Bool). Represents n c nodes links k
         (if t then split_on fuel leaf_size traces (split_node leaf_size traces h at) (suc at) else h)
         (if ltb at (length tree) then split_new fuel leaf_size traces (split leaf_size traces tree at) (suc at) else tree)) (sym (ap (λ (m : ℕ). ltb at m) s.count))

@@ -44,9 +44,9 @@ module _ {n c : ℕ} {nodes : List ℤ} {links : List ℕ} (space : Space n c no
         links_behind = s.links_behind;
       }
 
-  pub widen_represents : {k : ℕ} {h : TreeTables} {tree : Tree} (met : List ℕ) → ((j : ℕ) → In j met → j < length tree) → Represents n c nodes links k h tree
+  pub widen_represents : {k : ℕ} (met : List ℕ) {h : TreeTables} {tree : Tree} → ((j : ℕ) → In j met → j < length tree) → Represents n c nodes links k h tree
       → Represents n c nodes links k (tree_tables (widened_on x h.nodes met) h.links h.count) (widen_all x met tree)
   unfolding widen_all
   widen_represents [] inside s = s
-  widen_represents {k} {h} {tree} (at ∷ met) inside s =
+  widen_represents {k} (at ∷ met) {h} {tree} inside s =
       widen_represents met (λ j i. let g : j < length tree = inside j (later i) in omega (arith, length-set tree at (widen x (node_at tree at)))) (widen_one at (inside at first) s)

@@ -1,9 +1,9 @@
 -- Document 01, "Adding", on the tables: every place of them after an accepted adding, whatever well-formed tables hold.
-use Rattle.std.specs.Prelude.{ℕ, zero, suc, ◌*◌, ℤ, length, get_or, set, ltb}
+use Rattle.std.specs.Prelude.{ℕ, zero, suc, ◌*◌, ℤ, length, get_or, set, ltb, if◌then◌else◌}
 use Rattle.std.proofs.Math.Option.{Option, none, some}
 use mathlib.Core.List.{List, [], ◌∷◌, ◌++◌, foldl}
 use Rattle.std.proofs.Math.Seq.{paste}
-use Rattle.integer.specs.Words.{if◌then◌else◌, last_of}
+use Rattle.integer.specs.Words.{last_of}
 use Rattle.segment.specs.Stored.{words_of}
 use Rattle.dstree.specs.Measures.{Trace, Measures}
 use Rattle.dstree.specs.Labels.{Label}

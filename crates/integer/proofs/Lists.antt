@@ -1,5 +1,6 @@
 -- Lists of anything: what is in the lists that the definitions' words make (those, counting, chosen, flatten ..), and how many there are.
 -- Membership is `In`, a place in a list.
+use Rattle.std.specs.Prelude.{if◌then◌else◌}
 use Prim.Native.Nat.{ℕ, zero, suc, ◌+◌, ◌-◌, ◌≤◌, ◌<◌, min, max}
 use mathlib.Core.Path.{◌≡◌, refl, sym, ◌∙◌, ap, subst}
 use mathlib.Core.Logic.{◌⊎◌, inl, inr}
@@ -15,7 +16,7 @@ use lib.Signed.{lt_z, ≤ℤ_refl, lt_z_yes, lt_z_no}
 use lib.Dec.{T, ltb, eqb, eqb_refl}
 use mir.Facts.{and_yes, yes_and}
 use borrow.Author.Tests.{ltb-true, ltb-false, eqb-true, eqb-false}
-use Rattle.integer.specs.Words.{if◌then◌else◌, lesser, greater, those, every, counting, chosen, is_empty, is_in, least, greatest, least_ℤ, greatest_ℤ, last_of}
+use Rattle.integer.specs.Words.{lesser, greater, those, every, counting, chosen, is_empty, is_in, least, greatest, least_ℤ, greatest_ℤ, last_of}
 pub use Rattle.integer.specs.Lists.{In, first, later, All, all_none, all_more, Up, u_none, u_more}
 use Rattle.integer.proofs.Tests.{is_true, is_false}
 use Rattle.integer.proofs.Order.{◌≤ℤ◌, ≤ℤ_trans, <ℤ_≤ℤ}
@@ -318,6 +319,7 @@ all_in (a ∷ l) h = all_more (h a first) (all_in l (λ b i. h b (later i)))
 pub all_at : {A : Type 0} {P : A → Type 0} {a : A} {l : List A} → All P l → In a l → P a
 all_at (all_more p ps) first = p
 all_at (all_more p ps) (later i) = all_at ps i
+all_at all_none i = elim i [ ]
 
 pub some_of : {A : Type 0} {P : A → Type 0} {a : A} {l : List A} → In a l → P a → Some P l
 some_of first p = some_here p
@@ -400,9 +402,9 @@ module _ {A : Type 0} (R : A → A → Type 0) (trans : (a b c : A) → R a b �
   fold_first a [] = same a
   fold_first a (b ∷ l) = trans (foldl choice (choice a b) l) (choice a b) a (fold_first (choice a b) l) (left a b)
 
-  pub fold_all : (a : A) {b : A} {l : List A} → In b l → R (foldl choice a l) b
-  fold_all a {b} (first {rest}) = trans (foldl choice (choice a b) rest) (choice a b) b (fold_first (choice a b) rest) (right a b)
-  fold_all a (later {b = c} i) = fold_all (choice a c) i
+  pub fold_all : {b : A} (a : A) {l : List A} → In b l → R (foldl choice a l) b
+  fold_all {b} a (first {rest}) = trans (foldl choice (choice a b) rest) (choice a b) b (fold_first (choice a b) rest) (right a b)
+  fold_all {b} a (later {b = c} i) = fold_all {b = b} (choice a c) i
 
   pub chosen_all : (other : A) {b : A} {l : List A} → In b l → R (chosen choice other l) b
   unfolding chosen
@@ -525,6 +527,7 @@ up_weaken {j} {k} h (u_more {a} g u) = u_more {k = j} {a = a} (omega arith) u
 pub up_in : {k a : ℕ} {l : List ℕ} → Up k l → In a l → k ≤ a
 up_in (u_more h u) first = h
 up_in (u_more h u) (later i) = omega (arith, up_in u i)
+up_in u_none i = elim i [ ]
 
 -- numbers that rise from b on, below k, are at most k − b
 pub up_length : {b : ℕ} {l : List ℕ} (k : ℕ) → b ≤ k → Up b l → ((t : ℕ) → In t l → t < k) → b + length l ≤ k

@@ -2,15 +2,15 @@
 -- Two laws carry the rest. `first_same`: of two lists in order, one of which has all elements of the other and whose first k the other
 -- has, the first k
 -- are the same. `place_low`: what stands at a place of fewer elements does not stand before what is at that place of all.
+use Rattle.std.specs.Prelude.{if◌then◌else◌}
 use Prim.Native.Nat.{ℕ, zero, suc, ◌≤◌, ◌<◌, min}
-use mathlib.Core.Path.{◌≡◌, refl, ◌∙◌, ap}
+use mathlib.Core.Path.{◌≡◌, refl, ◌∙◌, ap, subst, sym}
 use mathlib.Core.Logic.{◌⊎◌, inl, inr}
 use mathlib.Core.Bool.{Bool, true, false}
 use mathlib.Core.Option.{none, some}
 use mathlib.Core.List.{List, [], ◌∷◌, ◌++◌, foldl}
 use native.Mathlib.Omega.{arith}
 use lib.ListN.{length, get_or, take, drop, length-take}
-use Rattle.integer.specs.Words.{if◌then◌else◌}
 use Rattle.integer.specs.Sorting.{sorted_with, poured_by, sorted_by, at_place, Ordered, ordered_none, ordered_more}
 use Rattle.integer.proofs.Tests.{never_both}
 use Rattle.integer.proofs.Lists.{In, first, later, in_nil, in_cons, in_front, in_get_or, All, all_none, all_more, all_at, all_in}
@@ -189,7 +189,8 @@ module _ {A : Type 0} {before : A → A → Bool} (linear : LinearOrder before) 
     front_two x l true true true true r w p q ih = never_both (linear.transitive a b a p q) (linear.irreflexive a)
     front_two x l true true true false r w p q ih = rw (p, q, w)
     front_two x l true true false true r w p q ih = rw (p, q, r)
-    front_two x l true true false false r w p q ih = rw (linear.total a b p q)
+    front_two x l true true false false r w p q ih =
+        subst (λ (c : A). sorted_with before c (b ∷ x ∷ l) ≡ sorted_with before b (c ∷ x ∷ l)) (sym (linear.total a b p q)) refl
     front_two x l true false s true r w p q ih = never_both (linear.transitive b a x q r) w
     front_two x l true false s false r w p q ih = rw (r, q, w)
     front_two x l false true true t r w p q ih = never_both (linear.transitive a b x p w) r
@@ -393,7 +394,7 @@ module _ {A : Type 0} {before : A → A → Bool} (linear : LinearOrder before) 
   -- the first k, with more put in one by one
   pub kept_ordered : (k : ℕ) {l : List A} (more : List A) → Ordered before l → Ordered before (foldl (keep k) l more)
   kept_ordered k [] o = o
-  kept_ordered k (a ∷ more) o = kept_ordered k more (take_ordered k (inserted_ordered a o))
+  kept_ordered k {l} (a ∷ more) o = kept_ordered k {l = take k (sorted_with before a l)} more (take_ordered k (inserted_ordered a o))
 
   -- what is not before the element at a place is before none up to there
   pub up_to : (a : A) (i : ℕ) {l : List A} (d : A) → Ordered before l → i < length l → before a (get_or l i d) ≡ false

@@ -1,4 +1,5 @@
 -- How often a number is in a list: over parts joined, and over the parts that the elements of a list give.
+use Rattle.std.specs.Prelude.{if◌then◌else◌}
 use Prim.Native.Nat.{ℕ, zero, suc, ◌+◌, ◌≤◌, ◌<◌}
 use mathlib.Core.Path.{◌≡◌, refl, sym, ◌∙◌, ap, subst}
 use mathlib.Core.Bool.{Bool, true, false}
@@ -6,8 +7,8 @@ use mathlib.Core.List.{List, [], ◌∷◌, ◌++◌, map, flatten}
 use native.Mathlib.Omega.{arith}
 use lib.ListN.{length, get_or}
 use lib.Dec.{T, eqb, eqb→eq, eqb_refl}
-use Rattle.integer.specs.Words.{if◌then◌else◌, those, counting, times_in}
-use Rattle.integer.proofs.Lists.{same_or_not, In, first, later, Up, u_more, up_in, up_those, counting_up, in_those, from_those, in_counting, from_counting}
+use Rattle.integer.specs.Words.{those, counting, times_in}
+use Rattle.integer.proofs.Lists.{same_or_not, In, first, later, Up, u_none, u_more, up_in, up_those, counting_up, in_those, from_those, in_counting, from_counting}
 use Rattle.integer.proofs.Tests.{eq→eqb}
 
 -- ---- one more element
@@ -71,6 +72,7 @@ times_none k l f = by (times_in k l) refl
 pub up_once : {from k : ℕ} {l : List ℕ} → Up from l → In k l → times_in k l ≡ 1
 up_once {from} {k} (u_more {l} h u) first = omega (arith, times_same k l, times_none k l (λ i. omega (arith, up_in u i)))
 up_once {from} {k} (u_more {a} {l} h u) (later i) = omega (arith, times_other k a l (λ e. omega (arith, up_in u i)), up_once u i)
+up_once u_none i = elim i [ ]
 
 -- a test that one number more passes: as many more pass it as the list has of that number
 module _ (f g : ℕ → Bool) (k : ℕ) (fails : f k ≡ false) (passes : g k ≡ true) (others : (a : ℕ) → (a ≡ k → ⊥) → g a ≡ f a) where
@@ -219,6 +221,7 @@ tally_full : (xs l : List ℕ) → ((x : ℕ) → In x xs → 0 < times_in x l) 
 unfolding tally
 tally_full (x ∷ xs) l h e first = omega (arith, h x first, tally_least xs l (λ y i. h y (later i)), e)
 tally_full (x ∷ xs) l h e (later i) = tally_full xs l (λ y j. h y (later j)) (omega (arith, h x first, tally_least xs l (λ y j. h y (later j)), e)) i
+tally_full [] l h e i = elim i [ ]
 
 pub all_once : (m a : ℕ) (l : List ℕ) → length l ≡ m → ((x : ℕ) → a ≤ x → x < a + m → 0 < times_in x l) → ((x : ℕ) → In x l → (a ≤ x) × (x < a + m)) → (x : ℕ) → a ≤ x → x < a + m → times_in x l ≡ 1
 all_once m a l e least inside x g h =

@@ -1,4 +1,5 @@
 -- Numbers that pass a test, written to the beginning of a list as they come: what is written and those still to come are all of them.
+use Rattle.std.specs.Prelude.{if◌then◌else◌}
 use Prim.Native.Nat.{ℕ, suc, ◌+◌, ◌-◌, ◌≤◌, ◌<◌}
 use mathlib.Core.Path.{◌≡◌, refl, sym, ◌∙◌, ap, subst}
 use mathlib.Core.Bool.{Bool, true, false}
@@ -7,7 +8,7 @@ use native.Mathlib.Omega.{arith}
 use native.Mathlib.Numerals.{add-one}
 use lib.ListN.{length, take, drop, set, length-set}
 use lib.Seq.{drop-set-lt, take-suc-set}
-use Rattle.integer.specs.Words.{if◌then◌else◌, counting, those}
+use Rattle.integer.specs.Words.{counting, those}
 use Rattle.integer.specs.Written.{Noted, Written}
 use Rattle.integer.proofs.Lists.{drop_more}
 

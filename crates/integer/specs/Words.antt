@@ -1,13 +1,7 @@
 -- Small words that the definitions above take for granted: a choice, squares, rounding up, the least and the greatest, lists.
-use Rattle.std.specs.Prelude.{ℕ, zero, suc, ◌+◌, ◌*◌, ◌-◌, ◌/◌, min, max, Bool, true, false, ◌&&◌, ℤ, pos, negsuc, nat_abs, eqb}
+use Rattle.std.specs.Prelude.{ℕ, zero, suc, ◌+◌, ◌*◌, ◌-◌, ◌/◌, min, max, Bool, true, false, ◌&&◌, ℤ, pos, negsuc, nat_abs, eqb, if◌then◌else◌}
 use mathlib.Core.List.{List, [], ◌∷◌, foldl}
 use Rattle.std.specs.Int.Signed.{lt_z}
-
-infix 10 if◌then◌else◌
--- the one or the other, by a test. Both are computed at once: a recursive call goes into a `let` first, which waits
-abbrev pub if◌then◌else◌ : {A : Type 0} → Bool → A → A → A
-if◌then◌else◌ true a b = a
-if◌then◌else◌ false a b = b
 
 -- ---- numbers
 

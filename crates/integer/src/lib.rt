@@ -1,1 +1,2 @@
 // Whole numbers and lists for the proofs above: words in specs/, laws in proofs/. No code.
+#![tactic(auto)]

@@ -1,4 +1,5 @@
 -- The right ends in an array's first places, and a new one among them.
+use Rattle.std.specs.Prelude.{if◌then◌else◌}
 use mathlib.Core.Path.{◌≡◌, refl, sym, ap, ap₂, ◌∙◌}
 use mathlib.Core.Bool.{Bool, true, false}
 use mathlib.Core.List.{List, [], ◌∷◌, ◌++◌, map, append_assoc}
@@ -10,7 +11,7 @@ use lib.Seq.{drop-cons, take-suc, take-suc-set, take-take, get_or-take, get_or-d
 use lib.Dec.{ltb}
 use borrow.Author.Tests.{lt-ltb, le-ltb}
 use Rattle.integer.proofs.Lists.{drop_take}
-use Rattle.integer.specs.Words.{if◌then◌else◌, counting}
+use Rattle.integer.specs.Words.{counting}
 use Rattle.integer.proofs.Times.{counting_length}
 use Rattle.integer.proofs.Rows.{get_or_table}
 use Rattle.dstree.specs.Adding.{cut_at}

@@ -1,4 +1,5 @@
 -- Figures that are taken one trace after another are the least and the greatest of all of them.
+use Rattle.std.specs.Prelude.{if◌then◌else◌}
 use mathlib.Core.Path.{◌≡◌, refl, ap, ◌∙◌}
 use mathlib.Core.Bool.{Bool, true, false}
 use mathlib.Core.List.{List, [], ◌∷◌, map, foldl, map-map}
@@ -10,7 +11,7 @@ use lib.Signed.{lt_z}
 use lib.Dec.{eqb}
 use mir.Syntax.{w64}
 use mir.Facts.{to_z-of_z}
-use Rattle.integer.specs.Words.{if◌then◌else◌, lesser, greater, those, chosen, least_ℤ, greatest_ℤ, least, greatest}
+use Rattle.integer.specs.Words.{lesser, greater, those, chosen, least_ℤ, greatest_ℤ, least, greatest}
 use Rattle.integer.proofs.Width.{small, read}
 use Rattle.segment.specs.Limits.{sum_most, scatter_most}
 use Rattle.dstree.specs.Measures.{Trace, most_samples}

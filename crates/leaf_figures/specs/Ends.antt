@@ -1,6 +1,5 @@
 -- A node's right ends, as code keeps them: by value, in an array of 16 places.
-use Rattle.std.specs.Prelude.{ℕ, suc, ◌≤◌, ◌≡◌, List, [], ◌∷◌, length, take, ltb}
-use Rattle.integer.specs.Words.{if◌then◌else◌}
+use Rattle.std.specs.Prelude.{ℕ, suc, ◌≤◌, ◌≡◌, List, [], ◌∷◌, length, take, ltb, if◌then◌else◌}
 use Rattle.dstree.specs.Node.{most_segments}
 use Rattle.leaf_figures.specs.declared.ends.Ends.{Ends}
 

@@ -1,7 +1,7 @@
 -- The figures of a side's traces on a run, as they are taken one trace after another. Each trace of a leaf has a mark, and a side is the
 -- traces with one mark.
-use Rattle.std.specs.Prelude.{ℕ, ◌≤◌, min, max, true, false, List, ℤ, pos, nat_abs, get_or, eqb}
-use Rattle.integer.specs.Words.{if◌then◌else◌, lesser, greater, those}
+use Rattle.std.specs.Prelude.{ℕ, ◌≤◌, min, max, true, false, List, ℤ, pos, nat_abs, get_or, eqb, if◌then◌else◌}
+use Rattle.integer.specs.Words.{lesser, greater, those}
 use Rattle.segment.specs.Limits.{sum_most, scatter_most}
 use Rattle.dstree.specs.Measures.{Trace, most_samples}
 use Rattle.dstree.specs.Node.{Segment}

@@ -11,7 +11,7 @@ use tables::places::{HEAD, SEGMENT, SEGMENTS};
 use tables::records::small_at;
 
 // The first `count` places hold the ends; the others are not looked at.
-#[derive(Drop)]
+#[derive(Clone, Copy)]
 pub struct Ends {
     pub at: [usize; 16],
     pub count: usize,

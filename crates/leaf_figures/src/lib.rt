@@ -1,4 +1,6 @@
 // The figures of a leaf's traces on a run of samples, and the leaf's spread.
+#![tactic(auto)]
+
 pub mod along;
 pub mod ends;
 pub mod filling;

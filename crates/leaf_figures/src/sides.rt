@@ -1,8 +1,7 @@
 // The least and greatest figures of a leaf's traces on a run of samples, or of one side of them. Each trace has a mark, and a side is the
 // traces with one mark.
 
-ghost use Rattle.std.specs.Prelude.{◌≡◌, length};
-ghost use Rattle.integer.specs.Words.{if◌then◌else◌};
+ghost use Rattle.std.specs.Prelude.{◌≡◌, length, if◌then◌else◌};
 ghost use Rattle.dstree.specs.Figures.{run, sum_on, scatter_on};
 ghost use Rattle.dstree.specs.Adding.{segment_of};
 ghost use Rattle.dstree.specs.Measures.{most_traces};

@@ -8,6 +8,7 @@
 // clipped sweep how many traces are listed, a refusal its place; an opening, a reading, a check and a report of bands have none. A shorter
 // `out` takes the first of them, and places behind them stay. The samples of a trace or a query are plain numbers, of which a call refuses
 // those outside the limits; a place of the samples table is a word that has its sample in the high bits.
+#![tactic(auto)]
 
 pub mod version; // which layout of the tables this is for
 
@@ -17,7 +18,7 @@ ghost use Rattle.dstree.specs.Labels.{label, no_label};
 ghost use Rattle.dstree.specs.KNearest.{list_places};
 ghost use Rattle.dstree.specs.Pair.{of_factory};
 ghost use Rattle.dstree.specs.Book as book;
-ghost use Rattle.tables.specs.Lent.{tables_after, tables_after_adding, tables_after_search, tables_before};
+ghost use Rattle.tables.specs.Lent.{tables_after, tables_after_adding, tables_after_search, tables_before, tables_before_adding, tables_before_all, tables_before_search};
 ghost use Rattle.calls.specs.Effects.{other_in, outcome_on};
 ghost use Rattle.batch_answers.specs.AnswerRecords.{nears_of};
 ghost use Rattle.pairing.specs.Parts.{lent_part, HandedBack};
@@ -28,8 +29,7 @@ use segment::{Sample, Word};
 
 // Two wrong programs that the contract rules out: one that gives the place as its code, and one that writes the place of a refusal into a
 // place of `out` behind the first.
-#[unsafe(no_mangle)]
-pub extern "C" fn silkendoz_open(
+pub fn silkendoz_open(
     control: &mut [u16],
     samples: &mut [Word],
     nodes: &mut [i64],
@@ -45,7 +45,7 @@ pub extern "C" fn silkendoz_open(
         (tables_after control samples nodes links work labels)
         []
         ≡ c_outcome_of (outcome_on (book.opening (measures n capacity leaf_size))
-        (tables_before control samples nodes links work labels))
+        (tables_before_all control samples nodes links work labels))
         out.old }
 {
     let answer = opening::open(
@@ -55,8 +55,7 @@ pub extern "C" fn silkendoz_open(
 }
 
 // Two wrong programs that the contract rules out: one that tells the trace's number as its code, and one that clears `out` when it refuses.
-#[unsafe(no_mangle)]
-pub extern "C" fn silkendoz_add(
+pub fn silkendoz_add(
     control: &mut [u16],
     samples: &mut [Word],
     nodes: &mut [i64],
@@ -70,7 +69,7 @@ pub extern "C" fn silkendoz_add(
         (tables_after_adding control samples nodes links work labels)
         []
         ≡ c_outcome_of (outcome_on (book.adding trace.now no_label)
-        (tables_before control samples nodes links work labels))
+        (tables_before_adding control samples nodes links work labels))
         out.old }
 {
     let answer = adding::add(control, samples, nodes, links, work, labels, trace);
@@ -79,8 +78,7 @@ pub extern "C" fn silkendoz_add(
 
 // Two wrong programs that the contract rules out: one that takes the code's low byte alone, and one that tells the code for the trace's
 // number.
-#[unsafe(no_mangle)]
-pub extern "C" fn silkendoz_add_labelled(
+pub fn silkendoz_add_labelled(
     control: &mut [u16],
     samples: &mut [Word],
     nodes: &mut [i64],
@@ -96,7 +94,7 @@ pub extern "C" fn silkendoz_add_labelled(
         (tables_after_adding control samples nodes links work labels)
         []
         ≡ c_outcome_of (outcome_on (book.adding trace.now (label code serial))
-        (tables_before control samples nodes links work labels))
+        (tables_before_adding control samples nodes links work labels))
         out.old }
 {
     let answer = adding::add_labelled(
@@ -106,8 +104,7 @@ pub extern "C" fn silkendoz_add_labelled(
 }
 
 // Two wrong programs that the contract rules out: one that tells leaves and traces in the other order, and one that refuses a short `out`.
-#[unsafe(no_mangle)]
-pub extern "C" fn silkendoz_nearest(
+pub fn silkendoz_nearest(
     control: &[u16],
     samples: &[Word],
     nodes: &[i64],
@@ -122,7 +119,7 @@ pub extern "C" fn silkendoz_nearest(
         (tables_after_search control samples nodes links work labels)
         (trail.new ∷ [])
         ≡ c_outcome_of (outcome_on (book.matching query.now trail.old)
-        (tables_before control samples nodes links work labels))
+        (tables_before_search control samples nodes links work labels))
         out.old }
 {
     let answer = matching::nearest(control, samples, nodes, links, work, labels, trail, query);
@@ -133,8 +130,7 @@ pub extern "C" fn silkendoz_nearest(
 //
 // Two wrong programs that the contract rules out: one that tells k where fewer traces are stored, and one that tells how many places of the
 // list it filled.
-#[unsafe(no_mangle)]
-pub extern "C" fn silkendoz_k_nearest(
+pub fn silkendoz_k_nearest(
     control: &[u16],
     samples: &[Word],
     nodes: &[i64],
@@ -151,7 +147,7 @@ pub extern "C" fn silkendoz_k_nearest(
         (tables_after_search control samples nodes links work labels)
         (trail.new ∷ list.new ∷ [])
         ≡ c_outcome_of (outcome_on (book.listing k query.now trail.old list.old)
-        (tables_before control samples nodes links work labels))
+        (tables_before_search control samples nodes links work labels))
         out.old }
 {
     let answer = listing::k_nearest(
@@ -162,8 +158,7 @@ pub extern "C" fn silkendoz_k_nearest(
 
 // Two wrong programs that the contract rules out: one that tells the number of bytes, and one that tells the blocks of a sheet that it
 // refused.
-#[unsafe(no_mangle)]
-pub extern "C" fn silkendoz_write_sheet(
+pub fn silkendoz_write_sheet(
     control: &[u16],
     samples: &[Word],
     nodes: &[i64],
@@ -186,8 +181,7 @@ pub extern "C" fn silkendoz_write_sheet(
 
 // Two wrong programs that the contract rules out: one that tells place 0 for every torn sheet, and one that tells the number of traces
 // read.
-#[unsafe(no_mangle)]
-pub extern "C" fn silkendoz_read_sheet(
+pub fn silkendoz_read_sheet(
     control: &mut [u16],
     samples: &mut [Word],
     nodes: &mut [i64],
@@ -201,7 +195,7 @@ pub extern "C" fn silkendoz_read_sheet(
         (tables_after control samples nodes links work labels)
         []
         ≡ c_outcome_of (outcome_on (book.reading sheet.now)
-        (tables_before control samples nodes links work labels))
+        (tables_before_all control samples nodes links work labels))
         out.old }
 {
     let answer = sheet_reading::read_sheet(control, samples, nodes, links, work, labels, sheet);
@@ -210,8 +204,7 @@ pub extern "C" fn silkendoz_read_sheet(
 
 // Two wrong programs that the contract rules out: one that tells the number of the last trace added, and one that tells how many traces fit
 // of a file that it refuses.
-#[unsafe(no_mangle)]
-pub extern "C" fn silkendoz_import_recording(
+pub fn silkendoz_import_recording(
     control: &mut [u16],
     samples: &mut [Word],
     nodes: &mut [i64],
@@ -225,7 +218,7 @@ pub extern "C" fn silkendoz_import_recording(
         (tables_after_adding control samples nodes links work labels)
         []
         ≡ c_outcome_of (outcome_on (book.importing bytes.now)
-        (tables_before control samples nodes links work labels))
+        (tables_before_adding control samples nodes links work labels))
         out.old }
 {
     let answer = importing::import_recording(control, samples, nodes, links, work, labels, bytes);
@@ -233,8 +226,7 @@ pub extern "C" fn silkendoz_import_recording(
 }
 
 // Two wrong programs that the contract rules out: one that gives the number as the rate too, and one that tells the length of the buffer.
-#[unsafe(no_mangle)]
-pub extern "C" fn silkendoz_export_recording(
+pub fn silkendoz_export_recording(
     control: &[u16],
     samples: &[Word],
     nodes: &[i64],
@@ -260,8 +252,7 @@ pub extern "C" fn silkendoz_export_recording(
 }
 
 // Two wrong programs that the contract rules out: one that gives 3 for a loose record, and one that zeroes `out` when it accepts.
-#[unsafe(no_mangle)]
-pub extern "C" fn silkendoz_check_tables(
+pub fn silkendoz_check_tables(
     control: &[u16],
     samples: &[Word],
     nodes: &[i64],
@@ -282,8 +273,7 @@ pub extern "C" fn silkendoz_check_tables(
 }
 
 // Two wrong programs that the contract rules out: one that tells the serial first, and one that tells a code of 0 for a refusal.
-#[unsafe(no_mangle)]
-pub extern "C" fn silkendoz_label(
+pub fn silkendoz_label(
     control: &[u16],
     samples: &[Word],
     nodes: &[i64],
@@ -306,8 +296,7 @@ pub extern "C" fn silkendoz_label(
 
 // Two wrong programs that the contract rules out: one that tells the serial behind the code, and one that leaves `out` as it was where the
 // code is 0.
-#[unsafe(no_mangle)]
-pub extern "C" fn silkendoz_remote_match(
+pub fn silkendoz_remote_match(
     control: &[u16],
     samples: &[Word],
     nodes: &[i64],
@@ -322,7 +311,7 @@ pub extern "C" fn silkendoz_remote_match(
         (tables_after_search control samples nodes links work labels)
         (trail.new ∷ [])
         ≡ c_outcome_of (outcome_on (book.remote_matching query.now trail.old)
-        (tables_before control samples nodes links work labels))
+        (tables_before_search control samples nodes links work labels))
         out.old }
 {
     let answer = remote::remote_match(control, samples, nodes, links, work, labels, trail, query);
@@ -333,8 +322,7 @@ pub extern "C" fn silkendoz_remote_match(
 //
 // Two wrong programs that the contract rules out: one that tells how many bands there are, and one that clears the list's places behind
 // them.
-#[unsafe(no_mangle)]
-pub extern "C" fn silkendoz_count_bands(
+pub fn silkendoz_count_bands(
     control: &[u16],
     samples: &[Word],
     nodes: &[i64],
@@ -350,7 +338,7 @@ pub extern "C" fn silkendoz_count_bands(
         (tables_after_search control samples nodes links work labels)
         (list.new ∷ [])
         ≡ c_outcome_of (outcome_on (book.banding query.now edges.now list.old)
-        (tables_before control samples nodes links work labels))
+        (tables_before_search control samples nodes links work labels))
         out.old }
 {
     let answer = banding::count_bands(
@@ -363,8 +351,7 @@ pub extern "C" fn silkendoz_count_bands(
 //
 // Two wrong programs that the contract rules out: one that tells the bench's leaves for the factory's, and one that lays the factory's
 // table into `won` where the bench's trace is the nearest.
-#[unsafe(no_mangle)]
-pub extern "C" fn silkendoz_match_both<'a>(
+pub fn silkendoz_match_both<'a>(
     control: &[u16],
     samples: &'a [Word],
     nodes: &[i64],
@@ -387,16 +374,16 @@ pub extern "C" fn silkendoz_match_both<'a>(
         (tables_after_search control samples nodes links work labels)
         (trail.new ∷ bench_trail.new ∷ bench_work.new ∷ [])
         ≡ c_outcome_of (outcome_on (book.pairing of_factory
-        (other_in (tables_before bench_control bench_samples bench_nodes bench_links bench_work bench_labels)
+        (other_in (tables_before_search bench_control bench_samples bench_nodes bench_links bench_work bench_labels)
         bench_trail.old)
         query.now trail.old)
-        (tables_before control samples nodes links work labels))
+        (tables_before_search control samples nodes links work labels))
         out.old)
         × HandedBack (outcome_on (book.pairing of_factory
-        (other_in (tables_before bench_control bench_samples bench_nodes bench_links bench_work bench_labels)
+        (other_in (tables_before_search bench_control bench_samples bench_nodes bench_links bench_work bench_labels)
         bench_trail.old)
         query.now trail.old)
-        (tables_before control samples nodes links work labels)).answer
+        (tables_before_search control samples nodes links work labels)).answer
         (lent_part samples.entry) (lent_part bench_samples.entry) (length query.now) (lent_part won.new) }
 {
     let found = pairing::match_both(
@@ -422,8 +409,7 @@ pub extern "C" fn silkendoz_match_both<'a>(
 
 // Two wrong programs that the contract rules out: one that tells 1 of an answer that is not settled, and one that leaves the bound's place
 // of a settled one as it was.
-#[unsafe(no_mangle)]
-pub extern "C" fn silkendoz_match_within(
+pub fn silkendoz_match_within(
     control: &[u16],
     samples: &[Word],
     nodes: &[i64],
@@ -439,7 +425,7 @@ pub extern "C" fn silkendoz_match_within(
         (tables_after_search control samples nodes links work labels)
         (trail.new ∷ [])
         ≡ c_outcome_of (outcome_on (book.limiting most query.now trail.old)
-        (tables_before control samples nodes links work labels))
+        (tables_before_search control samples nodes links work labels))
         out.old }
 {
     let answer = limiting::match_within(
@@ -449,8 +435,7 @@ pub extern "C" fn silkendoz_match_within(
 }
 
 // Two wrong programs that the contract rules out: one that tells how many traces are stored, and one that takes the highs for the lows.
-#[unsafe(no_mangle)]
-pub extern "C" fn silkendoz_match_clipped(
+pub fn silkendoz_match_clipped(
     control: &[u16],
     samples: &[Word],
     nodes: &[i64],
@@ -466,7 +451,7 @@ pub extern "C" fn silkendoz_match_clipped(
         (tables_after_search control samples nodes links work labels)
         (list.new ∷ [])
         ≡ c_outcome_of (outcome_on (book.clipping lows.now highs.now list.old)
-        (tables_before control samples nodes links work labels))
+        (tables_before_search control samples nodes links work labels))
         out.old }
 {
     let answer = clipping::match_clipped(
@@ -479,8 +464,7 @@ pub extern "C" fn silkendoz_match_clipped(
 //
 // Two wrong programs that the contract rules out: one that tells how many queries there were, and one that tells how many leaves the
 // queries would read one by one.
-#[unsafe(no_mangle)]
-pub extern "C" fn silkendoz_match_batch(
+pub fn silkendoz_match_batch(
     control: &[u16],
     samples: &[Word],
     nodes: &[i64],
@@ -497,7 +481,7 @@ pub extern "C" fn silkendoz_match_batch(
         (tables_after_search control samples nodes links work labels)
         (trail.new ∷ list_places (nears_of answers.new) ∷ [])
         ≡ c_outcome_of (outcome_on (book.batching many queries.now trail.old (nears_of answers.old))
-        (tables_before control samples nodes links work labels))
+        (tables_before_search control samples nodes links work labels))
         out.old }
 {
     let places = answers.len();

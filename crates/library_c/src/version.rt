@@ -5,8 +5,7 @@ ghost use Rattle.std.specs.Prelude.{◌≡◌};
 ghost use Rattle.library_c.specs.Layout.{layout_version};
 
 // A wrong program that the contract rules out: one that gives an earlier layout's number.
-#[unsafe(no_mangle)]
-pub extern "C" fn silkendoz_layout_4() -> u64
+pub fn silkendoz_layout_4() -> u64
     ensures { result ≡ layout_version }
 {
     4

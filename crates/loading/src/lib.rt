@@ -1,4 +1,5 @@
 // The traces that bytes hold, a sheet's or a recording's, added in order to tables that refuse nothing of them.
+#![tactic(auto)]
 
 ghost use Rattle.std.specs.Prelude.{◌≡◌, ℕ, length, get_or, take};
 ghost use mathlib.Core.List.{List, [], foldl};
@@ -11,7 +12,7 @@ use adding::putting::put;
 use segment::Word;
 
 // What the bytes are.
-#[derive(Drop)]
+#[derive(Clone, Copy)]
 pub enum Source {
     Sheet,
     Recording,

@@ -1,5 +1,6 @@
 -- A leaf's list by the links: behind its first number stand the links of its numbers, and nothing else. So a number is in the list as often
 -- as it is the first, and as often as it is the link of a number of the list.
+use Rattle.std.specs.Prelude.{if◌then◌else◌}
 use Prim.Native.Nat.{ℕ, zero, suc, ◌+◌, ◌≤◌, ◌<◌}
 use mathlib.Core.Path.{◌≡◌, refl, sym, ◌∙◌, ap, subst}
 use mathlib.Core.Bool.{true, not}
@@ -10,7 +11,7 @@ use lib.ListN.{get_or}
 use lib.Dec.{T, ltb, eqb, ltb→lt, lt→ltb}
 use mir.Facts.{and_yes, yes_and}
 use borrow.Author.Tests.{eq-eqb, ne_eqb}
-use Rattle.integer.specs.Words.{if◌then◌else◌, is_empty}
+use Rattle.integer.specs.Words.{is_empty}
 use Rattle.integer.proofs.Lists.{same_or_not, In, first, later, in_cons, in_nil}
 use Rattle.dstree.specs.Node.{leaf}
 use Rattle.dstree.specs.WellFormed.{rising, leaf_fits}

@@ -1,4 +1,5 @@
 -- Marks and the rule on leaves that they decide: what names traces is marked once each, exactly if every trace number is in one leaf.
+use Rattle.std.specs.Prelude.{if◌then◌else◌}
 use Prim.Native.Nat.{ℕ, ◌+◌, ◌≤◌, ◌<◌}
 use mathlib.Core.Path.{◌≡◌, refl, sym, ◌∙◌, subst}
 use mathlib.Core.Bool.{Bool, true, false}
@@ -10,7 +11,7 @@ use lib.IntN.{ℤ}
 use lib.ListN.{length, length-append, get_or, replicate, length-replicate}
 use lib.Dec.{T, eqb}
 use borrow.Author.Tests.{eq-eqb, ne_eqb, eqb-true}
-use Rattle.integer.specs.Words.{if◌then◌else◌, counting, times_in}
+use Rattle.integer.specs.Words.{counting, times_in}
 use Rattle.integer.proofs.Lists.{same_or_not, In, first, in_flat, InFlat, flat, from_flat, in_counting, from_counting}
 use Rattle.integer.proofs.Times.{times_append, in_times, times_in_lem, once_length, all_once}
 use Rattle.integer.proofs.Tests.{clash}

@@ -1,5 +1,6 @@
 -- Every trace number in one leaf, by what names it: a number is in the leaves' lists as often as it is a leaf's first or the link of a
 -- number of a list. So where every link rises, each number is in one list exactly if each is named once.
+use Rattle.std.specs.Prelude.{if◌then◌else◌}
 use Prim.Native.Nat.{ℕ, zero, suc, ◌+◌, ◌*◌, ◌-◌, ◌≤◌, ◌<◌}
 use mathlib.Core.Path.{◌≡◌, refl, sym, ◌∙◌, ap, subst}
 use mathlib.Core.Bool.{Bool, true, false, ◌&&◌}
@@ -12,7 +13,7 @@ use lib.Dec.{T, ltb, eqb, ltb→lt, lt→ltb, eqb→eq, eqb-suc-zero}
 use mir.Facts.{and_yes, yes_and}
 use borrow.Author.Tests.{eq-eqb, ne_eqb, eqb-true}
 use Rattle.integer.proofs.Lists.{flat_append}
-use Rattle.integer.specs.Words.{if◌then◌else◌, every, counting, times_in}
+use Rattle.integer.specs.Words.{every, counting, times_in}
 use Rattle.integer.proofs.Lists.{same_or_not, In, first, later, in_cons, in_nil, in_append, in_flat, InFlat, flat, from_flat, every_of, from_every, in_counting, from_counting}
 use Rattle.integer.proofs.Tests.{is_true, eq→eqb}
 use Rattle.integer.proofs.Times.{times_nil, times_same, times_other, times_append, times_in_lem, once_length, counting_length, parts_same}

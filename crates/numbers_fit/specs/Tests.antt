@@ -1,7 +1,7 @@
 -- The rules of "Well-formed tables" on the numbers in records and links: children and trace numbers, over the nodes in use.
-use Rattle.std.specs.Prelude.{ℕ, ◌-◌, Bool, ◌&&◌, ℤ, get_or, ltb, eqb}
+use Rattle.std.specs.Prelude.{ℕ, ◌-◌, Bool, ◌&&◌, ℤ, get_or, ltb, eqb, if◌then◌else◌}
 use mathlib.Core.List.{List, [], ◌∷◌, map, flatten}
-use Rattle.integer.specs.Words.{if◌then◌else◌, every, counting, times_in}
+use Rattle.integer.specs.Words.{every, counting, times_in}
 use Rattle.dstree.specs.Node.{Kind}
 use Rattle.dstree.specs.Matching.{numbers_in}
 use Rattle.dstree.specs.WellFormed.{children_of, leaf_fits}

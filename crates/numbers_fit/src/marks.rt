@@ -1,7 +1,6 @@
 // Numbers met, in a table of their own: a place for each number, 1 once it was met. There are twice as many numbers of nodes as of traces.
 
-ghost use Rattle.std.specs.Prelude.{◌≡◌, [], ◌∷◌, ◌+◌, ◌≤◌, ◌<◌, length, eqb};
-ghost use Rattle.integer.specs.Words.{if◌then◌else◌};
+ghost use Rattle.std.specs.Prelude.{◌≡◌, [], ◌∷◌, ◌+◌, ◌≤◌, ◌<◌, length, eqb, if◌then◌else◌};
 ghost use Rattle.dstree.specs.Measures.{most_traces};
 ghost use Rattle.tables.specs.Layout.{node_places};
 ghost use Rattle.numbers_fit.specs.Marks.{MarkedOrTwice};

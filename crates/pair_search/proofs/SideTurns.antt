@@ -1,4 +1,5 @@
 -- The turns of one of two libraries: what is kept of it, and what a leaf that is read leaves of that.
+use Rattle.std.specs.Prelude.{if◌then◌else◌}
 use Prim.Native.Nat.{ℕ, ◌+◌, ◌*◌, ◌≤◌, ◌<◌}
 use mathlib.Core.Path.{◌≡◌, refl, sym, ◌∙◌, ap, subst}
 use mathlib.Core.Bool.{Bool, true, false, ◌||◌}
@@ -7,7 +8,6 @@ use mathlib.Core.List.{List, [], ◌∷◌}
 use native.Mathlib.Omega.{arith}
 use lib.ListN.{length, drop}
 use lib.Dec.{T}
-use Rattle.integer.specs.Words.{if◌then◌else◌}
 use Rattle.integer.specs.Sorting.{ordered_none}
 use Rattle.integer.proofs.Lists.{drop_more, All, all_mono}
 use Rattle.dstree.specs.Measures.{Trace}

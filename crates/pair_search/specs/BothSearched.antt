@@ -1,7 +1,6 @@
 -- Document 02, §11: what a search over two libraries asks of each, and what it leaves: what is answered is what the definitions' steps
 -- give, in one equation.
-use Rattle.std.specs.Prelude.{ℕ, ◌+◌, ◌≤◌, ◌≡◌, Bool, List, length, take, drop, T}
-use Rattle.integer.specs.Words.{if◌then◌else◌}
+use Rattle.std.specs.Prelude.{ℕ, ◌+◌, ◌≤◌, ◌≡◌, Bool, List, length, take, drop, T, if◌then◌else◌}
 use Rattle.dstree.specs.Measures.{Trace, work_needed}
 use Rattle.dstree.specs.Matching.{leaves}
 use Rattle.dstree.specs.Pair.{Indexed, indexed, Which, of_factory, of_bench, PairMatch, pair_by_steps}

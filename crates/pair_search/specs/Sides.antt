@@ -1,7 +1,6 @@
 -- The leaves of one of two libraries still to come, the next of which may have been taken from the heap already, and what asking for it
 -- leaves.
-use Rattle.std.specs.Prelude.{ℕ, ◌<◌, ◌≡◌, Bool, true, false, not, ◌&&◌, ◌||◌, List, ◌∷◌, length, T, leb}
-use Rattle.integer.specs.Words.{if◌then◌else◌}
+use Rattle.std.specs.Prelude.{ℕ, ◌<◌, ◌≡◌, Bool, true, false, not, ◌&&◌, ◌||◌, List, ◌∷◌, length, T, leb, if◌then◌else◌}
 use Rattle.integer.specs.Lists.{All}
 use Rattle.dstree.specs.Measures.{Trace}
 use Rattle.dstree.specs.Node.{Tree, node_at}

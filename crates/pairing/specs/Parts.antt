@@ -1,7 +1,6 @@
 -- Document 02, §11: the call "hands back the winning trace as part of the lent table it came from". A part is told by where it lies as well
 -- as by what it holds, so that equal words elsewhere are another part.
-use Rattle.std.specs.Prelude.{ℕ, suc, ◌+◌, ◌*◌, ◌≡◌, List, [], ℤ, length, leb}
-use Rattle.integer.specs.Words.{if◌then◌else◌}
+use Rattle.std.specs.Prelude.{ℕ, suc, ◌+◌, ◌*◌, ◌≡◌, List, [], ℤ, length, leb, if◌then◌else◌}
 use Rattle.dstree.specs.Refusals as word
 use Rattle.dstree.specs.Pair.{by_which, PairMatch}
 use Rattle.dstree.specs.Book.{Answer, answering, refusing, paired}

@@ -1,4 +1,6 @@
 // A trace's sums over its first samples, from which its figures on any run follow without a look at the samples.
+#![tactic(auto)]
+
 ghost use Rattle.std.specs.Prelude.{◌≡◌, ◌+◌, ◌≤◌, nat_abs, ◌+ℤ◌, length};
 ghost use Rattle.integer.specs.Words.{square};
 ghost use Rattle.segment.specs.Limits.{sum_limit, scatter_limit, total_room};

@@ -1,4 +1,5 @@
 -- Leaves counted record by record, and that these are the leaves of the tree that tables stand for.
+use Rattle.std.specs.Prelude.{if◌then◌else◌}
 use Prim.Native.Nat.{ℕ, zero, suc, ◌+◌, ◌*◌, ◌-◌, ◌≤◌, ◌<◌}
 use mathlib.Core.Path.{◌≡◌, refl, ◌∙◌, ap}
 use mathlib.Core.Bool.{Bool, true, false}
@@ -9,7 +10,7 @@ use native.Mathlib.Nat.{mul-le-mul_right}
 use lib.Dec.{T}
 use lib.IntN.{ℤ}
 use lib.ListN.{length}
-use Rattle.integer.specs.Words.{if◌then◌else◌, those, counting}
+use Rattle.integer.specs.Words.{those, counting}
 use Rattle.integer.proofs.Lists.{those_agree, from_counting}
 use Rattle.dstree.specs.Measures.{sample_limit}
 use Rattle.dstree.proofs.Nodes.{nodes_at_most}

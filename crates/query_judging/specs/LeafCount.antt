@@ -1,6 +1,6 @@
 -- The leaves of a table of records, as code counts them: by the kind field alone.
-use Rattle.std.specs.Prelude.{ℕ, Bool, List, [], ℤ, length}
-use Rattle.integer.specs.Words.{if◌then◌else◌, those, counting}
+use Rattle.std.specs.Prelude.{ℕ, Bool, List, [], ℤ, length, if◌then◌else◌}
+use Rattle.integer.specs.Words.{those, counting}
 use Rattle.dstree.specs.Matching.{is_leaf_kind}
 use Rattle.tables.specs.Layout.{kind_place}
 use Rattle.tables.specs.Tables.{record_of}

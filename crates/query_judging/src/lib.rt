@@ -1,4 +1,5 @@
 // What every search refuses of its query, or of the run of its queries, and of its trail, behind what it refuses of its tables.
+#![tactic(auto)]
 
 pub mod leaves; // how many leaves there are
 

@@ -1,6 +1,6 @@
 -- The nearest traces so far, in the caller's list: records of two places, trace number and distance, from the first place on.
-use Rattle.std.specs.Prelude.{ℕ, ◌+◌, ◌*◌, ◌-◌, ◌^◌, ◌≤◌, ◌≡◌, List, map, length, get_or, drop, ltb}
-use Rattle.integer.specs.Words.{if◌then◌else◌, counting}
+use Rattle.std.specs.Prelude.{ℕ, ◌+◌, ◌*◌, ◌-◌, ◌^◌, ◌≤◌, ◌≡◌, List, map, length, get_or, drop, ltb, if◌then◌else◌}
+use Rattle.integer.specs.Words.{counting}
 use Rattle.integer.specs.Sorting.{Ordered}
 use Rattle.dstree.specs.Matching.{Near, is_nearer}
 use Rattle.reading.specs.Nearest.{near}

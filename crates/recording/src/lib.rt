@@ -1,4 +1,5 @@
 // Recordings: WAV files as bytes, what a file of any bytes holds, and how one trace is written as a file.
+#![tactic(auto)]
 
 pub mod letters; // the letters of a header
 pub mod header; // the header's sections, compared and written

@@ -1,4 +1,5 @@
 -- Segments one by one: what is left of a record's segments from segment i on, and what a rule says of it.
+use Rattle.std.specs.Prelude.{if◌then◌else◌}
 use Prim.Native.Nat.{ℕ, zero, suc, ◌+◌, ◌-◌, ◌≤◌, ◌<◌}
 use mathlib.Core.Path.{◌≡◌, refl, sym, ◌∙◌, ap, subst}
 use mathlib.Core.Bool.{Bool, true, false, not, ◌&&◌}
@@ -12,7 +13,7 @@ use lib.Signed.{le_z}
 use lib.Dec.{T, leb, ltb, eqb, leb→le, ltb→lt}
 use mir.Facts.{and_yes as and_both}
 use borrow.Author.Tests.{lt-ltb, le-ltb, lt-leb, le-leb, ne_eqb, ltb-true, leb-true, leb-false}
-use Rattle.integer.specs.Words.{if◌then◌else◌, counting, is_empty, last_of}
+use Rattle.integer.specs.Words.{counting, is_empty, last_of}
 use Rattle.integer.proofs.Lists.{In, in_nil, in_cons, in_map, in_counting, Up, u_none, u_more}
 use Rattle.integer.proofs.Tests.{is_true, passed, and_true, and_false, clash}
 use Rattle.integer.proofs.Times.{counting_length}

@@ -1,6 +1,6 @@
 -- The rules of "Well-formed tables" on one record, on the records of a node and its child, and on all records in use.
-use Rattle.std.specs.Prelude.{ℕ, suc, ◌*◌, ◌-◌, ◌≤◌, ◌<◌, ◌≡◌, Bool, true, ◌&&◌, List, [], ◌∷◌, map, ℤ, length, leb, ltb, eqb}
-use Rattle.integer.specs.Words.{if◌then◌else◌, every, counting, is_in}
+use Rattle.std.specs.Prelude.{ℕ, suc, ◌*◌, ◌-◌, ◌≤◌, ◌<◌, ◌≡◌, Bool, true, ◌&&◌, List, [], ◌∷◌, map, ℤ, length, leb, ltb, eqb, if◌then◌else◌}
+use Rattle.integer.specs.Words.{every, counting, is_in}
 use Rattle.integer.specs.Lists.{Up}
 use Rattle.dstree.specs.Measures.{sample_limit, most_samples, most_nodes}
 use Rattle.dstree.specs.Figures.{run, width}

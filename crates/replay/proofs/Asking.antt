@@ -1,5 +1,6 @@
 -- The call that a row asks for, and what is known of it: it is lent no more than there is, and its arguments are what the slices' types
 -- say.
+use Rattle.std.specs.Prelude.{if◌then◌else◌}
 use Prim.Native.Nat.{ℕ, ◌≤◌}
 use mathlib.Core.Path.{◌≡◌, refl, sym, ap, subst, ◌∙◌}
 use mathlib.Core.Bool.{Bool, true, false}
@@ -7,7 +8,6 @@ use mathlib.Core.Option.{Option, none, some, none-ne-some, some-injective}
 use mathlib.Core.List.{List, [], ◌∷◌}
 use lib.ListN.{length}
 use lib.Dec.{T, leb, ltb, leb→le}
-use Rattle.integer.specs.Words.{if◌then◌else◌}
 use Rattle.integer.proofs.Tests.{passed, is_true}
 use Rattle.integer.proofs.Lists.{every_take, every_drop}
 use Rattle.dstree.specs.Sheet.{are_bytes}

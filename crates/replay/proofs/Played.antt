@@ -1,5 +1,6 @@
 -- The loop of `play`: after some rows the lent slices are in the state that these leave, the calls they made ran one after another, and
 -- their replies are laid down.
+use Rattle.std.specs.Prelude.{if◌then◌else◌}
 use Prim.Native.Nat.{ℕ, suc, ◌+◌, ◌≤◌}
 use mathlib.Core.Path.{◌≡◌, refl, sym, ap, subst, ◌∙◌}
 use mathlib.Core.Bool.{Bool, true, false}
@@ -9,7 +10,6 @@ use native.Mathlib.Omega.{arith}
 use lib.IntN.{ℤ}
 use lib.ListN.{length, drop, take-append-drop, length-append, drop_of_length-le}
 use lib.Dec.{T}
-use Rattle.integer.specs.Words.{if◌then◌else◌}
 use Rattle.dstree.specs.Sheet.{are_bytes}
 use Rattle.dstree.specs.Book.{Lent, Call, call, Answer, Reply}
 use Rattle.tables.specs.Tables.{Tables, lent_of}

@@ -1,5 +1,6 @@
 -- Every list of document 01's calls that code can be asked to make has a script: the calls' rows, samples, trails and sheets, each one
 -- behind another.
+use Rattle.std.specs.Prelude.{if◌then◌else◌}
 use Prim.Native.Nat.{ℕ, ◌<◌, ◌^◌}
 use native.Mathlib.Nat.{lt_of_le_of_lt}
 use native.Mathlib.Omega.{arith}
@@ -12,7 +13,6 @@ use lib.ListN.{length, take, drop, length-append}
 use lib.Seq.{take-append_seam, drop-append_seam}
 use lib.Dec.{T, leb, le→leb, lit<}
 use borrow.Author.Tests.{le-leb}
-use Rattle.integer.specs.Words.{if◌then◌else◌}
 use Rattle.integer.proofs.Tests.{passes, test_true}
 use Rattle.integer.specs.Lists.{All, all_none, all_more}
 use Rattle.integer.proofs.Lists.{all_append, every_all, all_every}

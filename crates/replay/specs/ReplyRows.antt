@@ -1,7 +1,6 @@
 -- Replies as rows of numbers, laid down one after another.
-use Rattle.std.specs.Prelude.{ℕ, suc, ◌*◌, ◌/◌, List, [], ◌∷◌, length, ltb}
+use Rattle.std.specs.Prelude.{ℕ, suc, ◌*◌, ◌/◌, List, [], ◌∷◌, length, ltb, if◌then◌else◌}
 use Rattle.std.proofs.Math.Seq.{paste}
-use Rattle.integer.specs.Words.{if◌then◌else◌}
 use Rattle.dstree.specs.Book.{Answer}
 use Rattle.calls.specs.Numbers.{code_of, values_of, laid}
 

@@ -1,9 +1,8 @@
 -- A script: calls one behind another, each a row of numbers, with the samples, trails and sheets that they are lent. What a script asks for
 -- never depends on what was answered.
-use Rattle.std.specs.Prelude.{ℕ, zero, suc, ◌+◌, ◌≤◌, ◌≡◌, Bool, true, false, ◌&&◌, ℤ, length, get_or, take, drop, leb}
+use Rattle.std.specs.Prelude.{ℕ, zero, suc, ◌+◌, ◌≤◌, ◌≡◌, Bool, true, false, ◌&&◌, ℤ, length, get_or, take, drop, leb, if◌then◌else◌}
 use Rattle.std.proofs.Math.Option.{Option, none, some}
 use mathlib.Core.List.{List, [], ◌∷◌, ◌++◌, map, foldl}
-use Rattle.integer.specs.Words.{if◌then◌else◌}
 use Rattle.dstree.specs.Measures.{Measures, Trace, measures}
 use Rattle.dstree.specs.Labels.{no_label}
 use Rattle.dstree.specs.Book.{Lent, Ask, opening, adding, matching, writing, reading, Call, call, Answer, Reply, reply}

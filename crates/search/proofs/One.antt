@@ -19,7 +19,7 @@ use Rattle.tables.specs.View.{tree_in, traces_in}
 use Rattle.reading.specs.Nearest.{near}
 use Rattle.reading.specs.Listed.{record_at, nears_in}
 use Rattle.reading.proofs.Records.{nears_length, nears_at}
-use Rattle.search.specs.Searched.{Visited, LimitSearched, ListSearched, match_by, Searched, MatchedWithin}
+use Rattle.search.specs.Searched.{VisitedBy, LimitSearched, ListSearched, match_by, Searched, MatchedWithin}
 
 -- the first record of a list that was zero is the match's trace and distance; where nothing is found, it is as it was
 first_is : (best : Option Near) (many : ℕ) (list : List ℕ) → nears_in many list ≡ list_of best
@@ -35,7 +35,7 @@ first_is (some b) many list e rest =
 
 -- what a search for one trace has found, as a match
 module _ (steps : Search) (trail trail' list' : List ℕ) (many out traces : ℕ) (size : length trail' ≡ length trail)
-    (v : Visited 1 (as_listing steps) trail trail' (0 ∷ 0 ∷ []) list' many out traces) where
+    (v : VisitedBy 1 (as_listing steps) trail trail' (0 ∷ 0 ∷ []) list' many out traces) where
   read : length (take out trail') ≡ out
   read = length-take-le out trail' (omega (arith, v.within, size))
 
@@ -55,7 +55,7 @@ module _ (t : Tables) (query : Trace) (work work' trail trail' list' : List ℕ)
         → Searched t query work work' trail trail' (get_or list' 0 0) (get_or list' 1 0) out traces
     one_found s =
         let match = searched (traces_in t) (tree_in t) query in
-        let v = subst (λ (l : Listing). Visited 1 l trail trail' (0 ∷ 0 ∷ []) list' many out traces)
+        let v = subst (λ (l : Listing). VisitedBy 1 l trail trail' (0 ∷ 0 ∷ []) list' many out traces)
         (one_searched (traces_in t) (tree_in t) query) s.visited in
         record {
           found = seen_as match trail trail' list' many out traces size v;
@@ -72,7 +72,7 @@ module _ (t : Tables) (query : Trace) (work work' trail trail' list' : List ℕ)
     one_within most unread bound s =
         let best = limited_search most (traces_in t) (tree_in t) query in
         let order = reading_order (tree_in t) query in
-        let v = subst (λ (l : Listing). Visited 1 l trail trail' (0 ∷ 0 ∷ []) list' many out traces)
+        let v = subst (λ (l : Listing). VisitedBy 1 l trail trail' (0 ∷ 0 ∷ []) list' many out traces)
         (limited_listing (traces_in t) (tree_in t) query most) s.limit_visited.visited in
         let kept : kth 1 (nears_in many list') ≡ best.best =
         ap (kth 1) (ap (λ (l : Listing). l.list) v.found) ∙ kth_one best.best in

@@ -31,7 +31,7 @@ use Rattle.reading.proofs.Meaning.{LeafInTables, answer_is}
 use Rattle.best_first.proofs.Alike.{order_alike}
 use Rattle.leaf_order.specs.Waits.{Waits, remaining, Begun}
 use Rattle.leaf_order.specs.Handed.{is_past, Past, HandedLeaf}
-use Rattle.search.specs.Searched.{Ready, listing_by, listed_first, next_by, Visited, LimitVisited}
+use Rattle.search.specs.Searched.{Ready, listing_by, listed_first, next_by, VisitedBy, LimitVisited}
 use Rattle.search.proofs.Facts.{shape_alike}
 
 -- reading a leaf
@@ -168,7 +168,7 @@ module _ (k most : ℕ) (t : Tables) (query : Trace) (trail₀ list₀ : List �
 
     -- what is found, where reading ends here
     ends : read_on (stops_at_kth k) (read_in k t query) so_far (take (most - out) (remaining tree query waiting work)) ≡ so_far
-        → Visited k (listed_first k most t query) trail₀ trail list₀ list many out traces
+        → VisitedBy k (listed_first k most t query) trail₀ trail list₀ list many out traces
     ends e = record {
       found = sym e ∙ s.goes_on;
       within = omega (arith, out_most, ready.trail_long);

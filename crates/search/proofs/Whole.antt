@@ -11,7 +11,7 @@ use Rattle.dstree.specs.KNearest.{Listing, list_on, listed}
 use Rattle.dstree.proofs.Reading.{reading_length}
 use Rattle.tables.specs.Tables.{Tables}
 use Rattle.tables.specs.View.{tree_in, traces_in}
-use Rattle.search.specs.Searched.{Ready, Visited, none_listed, listed_first, LimitSearched, ListSearched}
+use Rattle.search.specs.Searched.{Ready, VisitedBy, Visited, none_listed, listed_first, LimitVisited, LimitSearched, ListSearched}
 use Rattle.search.proofs.Facts.{leaves_few}
 
 module _ (k : ℕ) (t : Tables) (query : Trace) (size : ℕ) (ready : Ready t query size) where
@@ -21,10 +21,13 @@ module _ (k : ℕ) (t : Tables) (query : Trace) (size : ℕ) (ready : Ready t qu
       ap (list_on k (traces_in t) (tree_in t) query none_listed)
       (take_all 8192 (reading_order (tree_in t) query) (omega (arith, reading_length (tree_in t) query, leaves_few t query size ready)))
 
+  pub whole_visited : {trail trail' list list' : List ℕ} {many out traces : ℕ} {unread : Bool} {bound : ℕ}
+      → LimitVisited k 8192 t query trail trail' list list' many out traces unread bound
+      → Visited k t query trail trail' list list' many out traces
+  whole_visited {trail = trail} {trail' = trail'} {list = list} {list' = list'} {many = many} {out = out} {traces = traces} v =
+      subst (λ (l : Listing). VisitedBy k l trail trail' list list' many out traces) all_first v.visited
+
   pub whole : {work work' trail trail' list list' : List ℕ} {many out traces : ℕ} {unread : Bool} {bound : ℕ}
       → LimitSearched k 8192 t query work work' trail trail' list list' many out traces unread bound
       → ListSearched k t query work work' trail trail' list list' many out traces
-  whole {trail = trail} {trail' = trail'} {list = list} {list' = list'} {many = many} {out = out} {traces = traces} s = record {
-    visited = subst (λ (l : Listing). Visited k l trail trail' list list' many out traces) all_first s.limit_visited.visited;
-    work_zero = s.work_zero;
-  }
+  whole s = record { visited = whole_visited s.limit_visited; work_zero = s.work_zero }

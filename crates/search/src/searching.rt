@@ -5,7 +5,7 @@ ghost use Rattle.dstree.specs.Measures.{work_needed};
 ghost use Rattle.tables.specs.Tables.{measures_of};
 ghost use Rattle.search.specs.Searched.{without_work, Ready, LimitSearched, ListSearched, Searched, MatchedWithin};
 
-use crate::visiting::Seen;
+use crate::visiting::{ALL_LEAVES, Seen};
 use segment::Word;
 use tables::control::field;
 use tables::places::{CAPACITY, NODE_COUNT};
@@ -36,7 +36,7 @@ fn search_first(
     let mut squares: [u64; 257] = [0; 257];
     prefixes::prefix_sums(query, &mut sums, &mut squares);
     let count = tables::numbers::wide(field(control, NODE_COUNT));
-    let seen = crate::visiting::visit(
+    let seen = crate::visiting::visit_first(
         control,
         samples,
         nodes,
@@ -55,9 +55,6 @@ fn search_first(
     tables::loops::zero_work(work, needed);
     seen
 }
-
-// No tree has more leaves.
-const ALL_LEAVES: u64 = 8192;
 
 // Lists the k nearest of all stored traces, as above.
 pub fn search_list(

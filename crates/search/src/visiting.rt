@@ -4,7 +4,7 @@ ghost use Rattle.segment.specs.Stored.{samples_of};
 ghost use Rattle.tables.specs.Tables.{node_count};
 ghost use Rattle.tables.specs.View.{small_most};
 ghost use Rattle.prefixes.specs.Prefixes.{Prefixes};
-ghost use Rattle.search.specs.Searched.{without_work, stopped_as, Ready, LimitVisited};
+ghost use Rattle.search.specs.Searched.{without_work, stopped_as, Ready, LimitVisited, Visited};
 
 use leaf_order::leaves::Next;
 use segment::Word;
@@ -49,7 +49,7 @@ pub fn narrow(j: usize) -> u16
 //
 // Two wrong programs that the contract rules out: one that stops at a bound equal to the k-th distance, and one that reads leaves by
 // number alone.
-pub fn visit(
+pub fn visit_first(
     control: &[u16],
     samples: &[Word],
     nodes: &[i64],
@@ -105,4 +105,34 @@ pub fn visit(
         trail[out] = narrow(j);
         out += 1;
     }
+}
+
+// No tree has more leaves.
+pub const ALL_LEAVES: u64 = 8192;
+
+// The same with no limit on leaves: until k traces are listed and the next bound is above the k-th distance.
+pub fn visit(
+    control: &[u16],
+    samples: &[Word],
+    nodes: &[i64],
+    links: &[u16],
+    query: &[Word],
+    sums: &[i64; 257],
+    squares: &[u64; 257],
+    work: &mut [u64],
+    trail: &mut [u16],
+    list: &mut [u64],
+    k: usize,
+) -> Seen
+    requires ready { Ready (without_work control.now samples.now nodes.now links.now) (samples_of query.now) (length trail.old)
+        × Prefixes (samples_of query.now) sums.now squares.now
+        × (length work.old ≡ node_count (without_work control.now samples.now nodes.now links.now)) }
+    requires list { (1 ≤ k) × (2 * k ≤ length list.old) }
+    ensures { Visited k (without_work control.now samples.now nodes.now links.now)
+        (samples_of query.now) trail.old trail.new list.old list.new result.listed
+        result.out result.traces }
+{
+    visit_first(
+        control, samples, nodes, links, query, sums, squares, work, trail, list, k, ALL_LEAVES,
+    )
 }

@@ -1,5 +1,6 @@
 -- The least and greatest distance of a trace from the sweeps inside ranges: sample by sample the distance to a range, and to its farther
 -- end. Both are reached by the sweep that takes the nearest sample, or the farther end, of each range.
+use Rattle.std.specs.Prelude.{if◌then◌else◌}
 use Prim.Native.Nat.{ℕ, ◌+◌, ◌*◌, ◌-◌, ◌≤◌, ◌<◌, max}
 use mathlib.Core.Path.{◌≡◌, refl}
 use mathlib.Core.Bool.{Bool, true, false}
@@ -11,7 +12,7 @@ use lib.IntN.{ℤ, ◌-ℤ◌, nat_abs}
 use lib.Signed.{mag, lt_z, lt_z_yes}
 use lib.Dec.{leb}
 use borrow.Author.Tests.{leb-true, leb-false}
-use Rattle.integer.specs.Words.{if◌then◌else◌, square}
+use Rattle.integer.specs.Words.{square}
 use Rattle.integer.proofs.Tests.{test_false, neither}
 use Rattle.integer.proofs.Order.{◌≤ℤ◌, →≤ℤ, <ℤ→, nat_abs_diff}
 use Rattle.segment.specs.Figures.{distance}

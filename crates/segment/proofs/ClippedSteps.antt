@@ -1,4 +1,5 @@
 -- One sample more of a trace and its ranges, as a loop reads them: what the loop adds is what the least, or the greatest, grows by.
+use Rattle.std.specs.Prelude.{if◌then◌else◌}
 use Prim.Native.Nat.{ℕ, zero, suc, ◌+◌, ◌*◌, ◌-◌, ◌≤◌, ◌<◌}
 use mathlib.Core.Path.{◌≡◌, refl}
 use mathlib.Core.Bool.{Bool, true, false}
@@ -10,7 +11,6 @@ use lib.IntN.{ℤ, pos, nat_abs, ◌-ℤ◌}
 use lib.Signed.{mag, lt_z}
 use lib.Seq.{take_all}
 use mir.Syntax.{w32}
-use Rattle.integer.specs.Words.{if◌then◌else◌}
 use Rattle.integer.proofs.Width.{read}
 use Rattle.segment.specs.Terms.{sum_gap}
 use Rattle.segment.specs.Clipped.{summed, summed_to}

@@ -23,7 +23,7 @@ pub fn square(z: i64) -> u64
 // A segment's sum. A sum of the samples' sizes, or one that leaves the first sample out, does not meet this.
 // The total has 32 bits, which hold that of 256 samples of 20: the compiler then adds four at a time, and at 64 bits two.
 pub fn sum(samples: &[Word]) -> i64
-    requires* { do ⌜ (← ⟦samples.len()⟧) ≤ width_most ⌝ }
+    requires { length samples.now ≤ width_most }
     ensures value { result ≡ figure.sum (samples_of samples.now) }
     ensures size { nat_abs result ≤ sum_most (length samples.now) }
 {
@@ -56,7 +56,7 @@ fn stretch_squares(samples: &[Word], from: usize, end: usize) -> u64
 // the test never holds. But with a way out of its loop the compiler takes each sixteen at once, and without one it does not; nor does it
 // where it sees that the test is idle, as one against 2^64 - 1.
 pub fn sum_of_squares(samples: &[Word]) -> u64
-    requires* { do ⌜ (← ⟦samples.len()⟧) ≤ width_most ⌝ }
+    requires { length samples.now ≤ width_most }
     ensures value { result ≡ figure.sum_of_squares (samples_of samples.now) }
     ensures size { result ≤ squares_most (length samples.now) }
 {
@@ -92,7 +92,7 @@ pub struct Figures {
 // A segment's sum and scatter. The squared deviation times w, and the variance, do not meet this: the scatter has the factor w twice. There
 // is a loop for each total: of one loop with totals of two widths the compiler makes no vector code.
 pub fn figures_of(samples: &[Word]) -> Figures
-    requires* { do ⌜ (← ⟦samples.len()⟧) ≤ width_most ⌝ }
+    requires { length samples.now ≤ width_most }
     ensures sum { (result.sum ≡ figure.sum (samples_of samples.now))
         × (nat_abs result.sum ≤ sum_most (length samples.now)) }
     ensures scatter { result.scatter ≡ figure.scatter (samples_of samples.now) }

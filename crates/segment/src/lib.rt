@@ -1,4 +1,6 @@
 // A segment's figures, the distance of two, the distance with a limit, and how far sweeps inside ranges can be.
+#![tactic(auto)]
+
 pub mod figures;
 pub mod ranges;
 pub mod samples;

@@ -39,7 +39,7 @@ fn passing(x: &[Word], y: &[Word], limit: u64, from: usize, start: u64) -> usize
 // see that, and make no vector code.)
 // The end of those sixteen in place of the sample does not meet this, nor does a limit that the distance has to stay below.
 pub fn distance_within(x: &[Word], y: &[Word], limit: u64) -> Distance
-    requires* { do ⌜ ((← ⟦x.len()⟧) ≡ (← ⟦y.len()⟧)) × ((← ⟦x.len()⟧) ≤ width_most) ⌝ }
+    requires { (length x.now ≡ length y.now) × (length x.now ≤ width_most) }
     ensures value { result ≡ distance_within limit (samples_of x.now) (samples_of y.now) }
     ensures size { distance_most (length x.now) ≤ limit
         → figure.distance (samples_of x.now) (samples_of y.now) ≤ distance_most (length x.now) }

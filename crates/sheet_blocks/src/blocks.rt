@@ -14,7 +14,7 @@ use sheet::formats::{block_samples, head_kind, sample_bytes, sample_kind};
 use tables::{Refusal, Verdict};
 
 // The number of the block that is read next, and how many of its samples are read already.
-#[derive(Drop)]
+#[derive(Clone, Copy)]
 pub struct Cursor {
     pub number: usize,
     pub used: usize,

@@ -1,4 +1,5 @@
 // What a sheet of any bytes says: the refusals 8, 9, 10 and 15, and what an accepted sheet holds.
+#![tactic(auto)]
 
 pub mod contents; // letters, measures, count, number of blocks
 pub mod labels; // the labels that a sheet holds

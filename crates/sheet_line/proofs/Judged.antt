@@ -1,4 +1,5 @@
 -- What the conditions say of the program's line: a refusal's, or that of the last trace's match among the earlier ones.
+use Rattle.std.specs.Prelude.{if◌then◌else◌}
 use Prim.Native.Nat.{ℕ, ◌+◌, ◌*◌, ◌-◌, ◌≤◌}
 use mathlib.Core.Path.{◌≡◌, refl, sym, ◌∙◌, ap}
 use mathlib.Core.Bool.{Bool, true, false, ◌||◌}
@@ -9,7 +10,6 @@ use native.Mathlib.Nat.{mul-le-mul}
 use lib.ListN.{length, get_or, take}
 use lib.Dec.{ltb, leb}
 use borrow.Author.Tests.{ltb-false, leb-false}
-use Rattle.integer.specs.Words.{if◌then◌else◌}
 use Rattle.integer.proofs.Tests.{neither}
 use Rattle.dstree.specs.Measures.{Trace, Measures, samples_needed, records_needed, links_needed, work_needed, labels_needed}
 use Rattle.dstree.specs.Labels.{Label}

@@ -1,4 +1,5 @@
 -- What is written lies in the lent memory: its places are counted by the contract alone.
+use Rattle.std.specs.Prelude.{if◌then◌else◌}
 use Prim.Native.Nat.{ℕ, ◌≤◌}
 use mathlib.Core.Path.{◌≡◌, ap}
 use mathlib.Core.Bool.{Bool, true, false}
@@ -6,7 +7,6 @@ use mathlib.Core.List.{List}
 use native.Mathlib.Omega.{arith}
 use lib.ListN.{length, drop, length-append}
 use lib.Dec.{ltb}
-use Rattle.integer.specs.Words.{if◌then◌else◌}
 use Rattle.dstree.specs.Program.{printed}
 use Rattle.tables.specs.Beginning.{over}
 use Rattle.sheet_line.specs.Lines.{Put, put, line_room, line_in}

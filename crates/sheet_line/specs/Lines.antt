@@ -1,6 +1,5 @@
 -- The line of an answer, and where it is written.
-use Rattle.std.specs.Prelude.{ℕ, List, length, ltb}
-use Rattle.integer.specs.Words.{if◌then◌else◌}
+use Rattle.std.specs.Prelude.{ℕ, List, length, ltb, if◌then◌else◌}
 use Rattle.dstree.specs.Program.{Line, found, refusal_line, printed}
 use Rattle.tables.specs.Answers.{word_of}
 use Rattle.tables.specs.Beginning.{over}

@@ -1,11 +1,12 @@
 // Reading a sheet into lent tables.
+#![tactic(auto)]
 
 pub mod judging; // what reading refuses
 pub mod labels; // the labels of its traces
 
 ghost use Rattle.std.specs.Prelude.{◌≡◌, []};
 ghost use Rattle.dstree.specs.Book.{reading};
-ghost use Rattle.tables.specs.Lent.{tables_after, tables_before};
+ghost use Rattle.tables.specs.Lent.{tables_after, tables_before_all};
 ghost use Rattle.calls.specs.Outcome.{outcome};
 ghost use Rattle.calls.specs.Effects.{outcome_on};
 ghost use Rattle.sheet_reading.specs.Answered.{answer_by};
@@ -41,7 +42,7 @@ pub fn read_sheet(
         (tables_after control samples nodes links work labels)
         []
         ≡ outcome_on (reading sheet.now)
-        (tables_before control samples nodes links work labels) }
+        (tables_before_all control samples nodes links work labels) }
 {
     let verdict = judging::judge_reading(
         control.len(),

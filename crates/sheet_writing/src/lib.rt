@@ -1,4 +1,5 @@
 // Writing a library to a sheet.
+#![tactic(auto)]
 
 pub mod judging; // what writing refuses
 pub mod filling; // the blocks of a sheet

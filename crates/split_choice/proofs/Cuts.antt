@@ -1,4 +1,5 @@
 -- Ends that rise, with one more among them, rise still.
+use Rattle.std.specs.Prelude.{if◌then◌else◌}
 use mathlib.Core.Path.{◌≡◌, refl, subst}
 use mathlib.Core.Bool.{Bool, true, false}
 use mathlib.Core.List.{List, ◌∷◌}
@@ -6,7 +7,6 @@ use Prim.Native.Nat.{ℕ, suc, ◌≤◌}
 use native.Mathlib.Omega.{arith}
 use lib.Dec.{ltb}
 use borrow.Author.Tests.{ltb-true, ltb-false}
-use Rattle.integer.specs.Words.{if◌then◌else◌}
 use Rattle.integer.proofs.Lists.{In, first, later}
 use Rattle.dstree.specs.Adding.{cut_at}
 use Rattle.dstree.specs.Formed.{Rises, rises_none, rises_more}
@@ -14,6 +14,7 @@ use Rattle.dstree.specs.Formed.{Rises, rises_none, rises_more}
 pub rise_in : {n from x : ℕ} {l : List ℕ} → Rises n from l → In x l → from ≤ x
 rise_in (rises_more h k r) first = h
 rise_in (rises_more h k r) (later i) = omega (arith, rise_in r i)
+rise_in rises_none i = elim i [ ]
 
 pub rise_cut : {n from : ℕ} (m : ℕ) {l : List ℕ} → Rises n from l → from ≤ m → m ≤ n → (In m l → ⊥) → Rises n from (cut_at m l)
 unfolding cut_at

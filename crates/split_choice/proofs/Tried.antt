@@ -1,4 +1,5 @@
 -- Candidates tried one after another leave the best split, and a choice stands for the best of those tried.
+use Rattle.std.specs.Prelude.{if◌then◌else◌}
 use mathlib.Core.Path.{◌≡◌, refl, sym, ap, ◌∙◌}
 use mathlib.Core.Bool.{Bool, true, false}
 use mathlib.Core.Option.{Option, none, some}
@@ -7,7 +8,7 @@ use Prim.Native.Nat.{ℕ, suc, ◌+◌, ◌*◌, ◌≤◌}
 use native.Mathlib.Numerals.{add-one}
 use lib.IntN.{ℤ, nat_abs}
 use lib.Signed.{lt_z}
-use Rattle.integer.specs.Words.{if◌then◌else◌, those, least_ℤ, greatest_ℤ}
+use Rattle.integer.specs.Words.{those, least_ℤ, greatest_ℤ}
 use Rattle.integer.proofs.Lists.{}
 use Rattle.segment.specs.Limits.{scatter_most}
 use Rattle.dstree.specs.Measures.{Trace, most_samples}

@@ -1,4 +1,5 @@
 -- No candidate parts a leaf whose traces are all the same: its least figure is its greatest.
+use Rattle.std.specs.Prelude.{if◌then◌else◌}
 use mathlib.Core.Path.{◌≡◌, refl, sym, ap, ap₂, ◌∙◌}
 use mathlib.Core.Bool.{Bool, false}
 use mathlib.Core.Logic.{◌⊎◌, inl, inr}
@@ -10,7 +11,7 @@ use lib.IntN.{ℤ, pos, negsuc}
 use lib.ListN.{get_or}
 use lib.Signed.{lt_z}
 use borrow.Author.Tests.{le-ltb}
-use Rattle.integer.specs.Words.{if◌then◌else◌, chosen, least_ℤ, greatest_ℤ}
+use Rattle.integer.specs.Words.{chosen, least_ℤ, greatest_ℤ}
 use Rattle.integer.proofs.Lists.{In, first, later, in_nil, in_cons, least_ℤ_in, greatest_ℤ_in}
 use Rattle.dstree.specs.Measures.{Trace}
 use Rattle.dstree.specs.Node.{figure_of}

@@ -1,9 +1,8 @@
 -- The best candidate so far, as code keeps it, and what one candidate more makes of it.
-use Rattle.std.specs.Prelude.{ℕ, ◌*◌, ◌≤◌, ◌≡◌, true, false, ℤ, pos, nat_abs}
+use Rattle.std.specs.Prelude.{ℕ, ◌*◌, ◌≤◌, ◌≡◌, true, false, ℤ, pos, nat_abs, if◌then◌else◌}
 use Rattle.std.proofs.Math.Option.{Option, none, some}
 use mathlib.Core.List.{List, foldl}
 use Rattle.std.specs.Int.Signed.{lt_z}
-use Rattle.integer.specs.Words.{if◌then◌else◌}
 use Rattle.segment.specs.Limits.{scatter_most}
 use Rattle.dstree.specs.Measures.{Trace, most_samples}
 use Rattle.dstree.specs.Adding.{Candidate, Split, split_by_test, split_by, parts, gain}

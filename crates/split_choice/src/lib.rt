@@ -1,2 +1,4 @@
 // Which split a leaf takes: the candidate with the greatest gain, the earliest among equals.
+#![tactic(auto)]
+
 pub mod choice;

@@ -1,4 +1,5 @@
 -- A node that is tried: an inner node and a short leaf stay, and a longer leaf splits by its best candidate, if there is one.
+use Rattle.std.specs.Prelude.{if◌then◌else◌}
 use mathlib.Core.Path.{◌≡◌, refl, ap, ◌∙◌}
 use mathlib.Core.Bool.{true, false}
 use mathlib.Core.Option.{Option}
@@ -9,7 +10,6 @@ use lib.IntN.{ℤ}
 use lib.ListN.{length}
 use lib.Dec.{ltb}
 use borrow.Author.Tests.{le-ltb}
-use Rattle.integer.specs.Words.{if◌then◌else◌}
 use Rattle.dstree.specs.Measures.{Trace}
 use Rattle.dstree.specs.Node.{ends}
 use Rattle.dstree.specs.Adding.{Split, best}

@@ -1,4 +1,5 @@
 // Splitting leaves that hold more than the leaf size.
+#![tactic(auto)]
 
 pub mod lists; // a leaf's list of traces: how long it is, and its sides laid as lists of their own
 pub mod leaves; // the records of new leaves

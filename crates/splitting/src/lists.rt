@@ -1,8 +1,7 @@
 // A leaf's list of traces: how long it is, and the two sides of it laid as lists of their own. Each trace has a mark, and a side is the
 // traces with one mark.
 
-ghost use Rattle.std.specs.Prelude.{◌≡◌, ℕ, suc, ◌≤◌, ◌<◌, length, get_or, take, ltb};
-ghost use Rattle.integer.specs.Words.{if◌then◌else◌};
+ghost use Rattle.std.specs.Prelude.{◌≡◌, ℕ, suc, ◌≤◌, ◌<◌, length, get_or, take, ltb, if◌then◌else◌};
 ghost use Rattle.dstree.specs.Measures.{most_traces};
 ghost use Rattle.tables.specs.Walk.{Rising, numbers_of};
 ghost use Rattle.leaf_figures.specs.Sides.{marked};

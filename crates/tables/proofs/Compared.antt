@@ -1,10 +1,10 @@
 -- What code compares with a threshold, from a trace's two figures on a run, is what the test compares.
+use Rattle.std.specs.Prelude.{if◌then◌else◌}
 use mathlib.Core.Path.{◌≡◌, ap}
 use mathlib.Core.Bool.{Bool, true, false}
 use Prim.Native.Nat.{ℕ}
 use lib.IntN.{ℤ, pos, ◌*ℤ◌}
 use lib.Signed.{le_z}
-use Rattle.integer.specs.Words.{if◌then◌else◌}
 use Rattle.segment.specs.Roots.{floor_root}
 use Rattle.dstree.specs.Measures.{Trace}
 use Rattle.dstree.specs.Figures.{run, sum_on, scatter_on}

@@ -1,6 +1,7 @@
 -- Lists by links: what following the links from a number gives.
 -- The idea: "the links follow this list to its end" says it without fuel. Following with fuel enough gives the list, and a list that was
 -- found by following, rises and stays below k with more than k fuel is followed to its end. So the links of well-formed tables rise.
+use Rattle.std.specs.Prelude.{if◌then◌else◌}
 use Prim.Native.Nat.{ℕ, zero, suc, ◌+◌, ◌≤◌, ◌<◌}
 use mathlib.Core.Path.{◌≡◌, refl, ◌∙◌, sym, subst}
 use mathlib.Core.Logic.{◌⊎◌, inl, inr}
@@ -11,7 +12,6 @@ use lib.IntN.{ℤ}
 use lib.ListN.{length, get_or}
 use lib.Dec.{T, eqb}
 use borrow.Author.Tests.{eq-eqb, ne_eqb, eqb-true, eqb-false}
-use Rattle.integer.specs.Words.{if◌then◌else◌}
 use Rattle.integer.proofs.Lists.{In, first, later, in_nil, is_in_lem, in_is, Up, u_more, up_in, up_length}
 use Rattle.dstree.specs.Node.{leaf, Kind, node_at}
 use Rattle.dstree.specs.Matching.{numbers_in}

@@ -1,5 +1,6 @@
 -- A walk along the links meets a leaf's numbers one after another. The links rise, so that k + 1 steps are enough, and one more changes
 -- nothing.
+use Rattle.std.specs.Prelude.{if◌then◌else◌}
 use mathlib.Core.Path.{◌≡◌, ap, ◌∙◌}
 use mathlib.Core.Logic.{◌⊎◌, inl, inr}
 use mathlib.Core.List.{List, [], ◌∷◌, foldl}
@@ -10,7 +11,7 @@ use lib.ListN.{length, get_or, length-map}
 use lib.IntN.{ℤ}
 use lib.Dec.{ltb, eqb}
 use borrow.Author.Tests.{lt-ltb, le-ltb, eq-eqb, ne_eqb}
-use Rattle.integer.specs.Words.{if◌then◌else◌, counting}
+use Rattle.integer.specs.Words.{counting}
 use Rattle.integer.proofs.Lists.{In, in_nil, in_cons}
 use Rattle.integer.proofs.Times.{counting_length}
 use Rattle.integer.proofs.Rows.{get_or_table}

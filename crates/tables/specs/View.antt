@@ -1,7 +1,7 @@
 -- What tables stand for: the traces and the tree of document 01, read from any contents whatever; and "Well-formed tables".
-use Rattle.std.specs.Prelude.{ℕ, zero, suc, ◌+◌, ◌*◌, ◌^◌, Bool, not, ◌&&◌, List, [], ◌∷◌, map, ℤ, pos, negsuc, length, get_or, take, drop, leb, ltb, eqb}
+use Rattle.std.specs.Prelude.{ℕ, zero, suc, ◌+◌, ◌*◌, ◌^◌, Bool, not, ◌&&◌, List, [], ◌∷◌, map, ℤ, pos, negsuc, length, get_or, take, drop, leb, ltb, eqb, if◌then◌else◌}
 use Rattle.std.proofs.Math.Seq.{paste}
-use Rattle.integer.specs.Words.{if◌then◌else◌, counting, every}
+use Rattle.integer.specs.Words.{counting, every}
 use Rattle.segment.specs.Stored.{samples_of}
 use Rattle.dstree.specs.Measures.{Trace, sample_limit, are_samples}
 use Rattle.dstree.specs.Labels.{Label, label_place, label_at}

@@ -1,6 +1,6 @@
 -- The traces that tables store and a leaf's list of them, as code walks it.
-use Rattle.std.specs.Prelude.{ℕ, suc, ◌*◌, ◌≤◌, ◌<◌, ◌≡◌, ◌⊎◌, List, [], ◌∷◌, map, ℤ, length, get_or, eqb}
-use Rattle.integer.specs.Words.{if◌then◌else◌, counting}
+use Rattle.std.specs.Prelude.{ℕ, suc, ◌*◌, ◌≤◌, ◌<◌, ◌≡◌, ◌⊎◌, List, [], ◌∷◌, map, ℤ, length, get_or, eqb, if◌then◌else◌}
+use Rattle.integer.specs.Words.{counting}
 use Rattle.dstree.specs.Measures.{Trace, most_samples, most_traces}
 use Rattle.tables.specs.View.{trace_in, numbers_from}
 

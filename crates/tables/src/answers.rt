@@ -7,6 +7,7 @@ ghost use Rattle.tables.specs.Answers.{word_of};
 use crate::Refusal;
 
 // The table's number. A program that numbers the words from 0, or gives one number to two of them, does not meet this.
+#[tactic(auto, unfolding(dstree::specs::Refusals::number_of, crate::specs::Answers::word_of))]
 pub fn number(why: Refusal) -> u64
     ensures { result ≡ number_of (word_of why) }
 {
@@ -34,6 +35,7 @@ pub fn number(why: Refusal) -> u64
 }
 
 // The first block at fault for a torn block, else 0.
+#[tactic(auto, unfolding(dstree::specs::Refusals::place_of, crate::specs::Answers::word_of))]
 pub fn place(why: Refusal) -> u64
     ensures { result ≡ place_of (word_of why) }
 {

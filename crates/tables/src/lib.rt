@@ -1,4 +1,5 @@
 // The lent tables: refusals, the judges that calls share, access to fields and records, and the loops that zero and copy.
+#![tactic(auto)]
 
 pub mod places; // where fields lie
 pub mod numbers; // numbers made wider, the lesser and greater of two

@@ -1,9 +1,8 @@
 // A stored trace as a part of the samples, and a trace's figures on a run of its samples, which are numbered from 1. Nothing else computes
 // where a trace lies, or where a run does.
 
-ghost use Rattle.std.specs.Prelude.{◌≡◌, ◌+◌, ◌*◌, ◌≤◌, pos, nat_abs, ◌*ℤ◌, length};
+ghost use Rattle.std.specs.Prelude.{◌≡◌, ◌+◌, ◌*◌, ◌≤◌, pos, nat_abs, ◌*ℤ◌, length, if◌then◌else◌};
 ghost use Rattle.std.specs.Int.Signed.{le_z};
-ghost use Rattle.integer.specs.Words.{if◌then◌else◌};
 ghost use Rattle.segment.specs.Roots.{floor_root};
 ghost use Rattle.segment.specs.Stored.{samples_of};
 ghost use Rattle.segment.specs.Limits.{sum_most, scatter_most, sum_room};

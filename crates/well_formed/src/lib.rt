@@ -1,5 +1,6 @@
 // Well-formed tables: the test that every call on made tables makes before it trusts them. It takes tables of any contents, reads each used
 // record and link a fixed number of times, and writes none of them: its marks are its own.
+#![tactic(auto)]
 
 pub mod first_look; // all of it in one pass, for tables as calls leave them
 pub mod judging; // what lent tables are refused for

@@ -1,1 +1,2 @@
 // Worked examples: what the definitions of `dstree` give at small values, by computation. No code.
+#![tactic(auto)]

@@ -1,0 +1,102 @@
+-- `insertion::widening::widen_record` meets its contract: after i turns the first i segments are widened, and the rest of the record is as
+-- it was (`Widened`), so that the next segment is still readable. The measure is how many are left.
+use mathlib.Core.Path.{◌≡◌, refl, sym, ap, ◌∙◌}
+use mathlib.Core.List.{List}
+use Prim.Native.Nat.{ℕ, suc, ◌+◌, ◌≤◌, ◌<◌}
+use native.Mathlib.Omega.{arith}
+use native.Mathlib.Numerals.{add-one}
+use lib.IntN.{ℤ}
+use lib.ListN.{length}
+use Rattle.segment.specs.Stored.{samples_of}
+use Rattle.segment.proofs.Stored.{samples_length}
+use Rattle.dstree.specs.Measures.{Trace}
+use Rattle.dstree.specs.Figures.{run}
+use Rattle.dstree.specs.Adding.{widen_segment}
+use Rattle.tables.specs.Layout.{segments_place, segment_at, record_places}
+use Rattle.tables.specs.View.{small_at, segment_in}
+use Rattle.insertion.specs.Widening.{start_in, end_in, with_segment, SegmentReadable}
+use Rattle.insertion.proofs.Widened.{partly, partly_none, partly_length, partly_more, partly_all, end_later, segment_later, readable_later}
+use Rattle.insertion.proofs.widening.widen_record.Goals as goal
+
+-- a turn: the next segment is widened
+next_partly : (x : Trace) (old l : List ℤ) (i first : ℕ) → segment_at (suc i) ≤ length old → first ≡ start_in old i → l ≡ partly x old i
+    → with_segment l i (widen_segment x (run first (end_in l i)) (segment_in l i)) ≡ partly x old (suc i)
+next_partly x old l i first room f e = rw (e, f, segment_later x old i room, end_later x old i room) (partly_more x old i room)
+
+-- what a turn of the loop knows of the record at first, and of the record as it is
+module _ (c : goal.In-loop-i) where
+  abbrev old : List ℤ
+  old = c.args.«record».now
+
+  abbrev words : List ℤ
+  words = c.args.trace.now
+
+  abbrev x : Trace
+  x = samples_of words
+
+  inside : c.loop-i.i < small_at old segments_place
+  inside = omega (arith, c.small_at-count.ensures)
+
+  room : segment_at (suc c.loop-i.i) ≤ length old
+  room = omega (arith, inside, c.requires.1.few, c.requires.1.size)
+
+  long : length c.loop-i.«record» ≡ record_places
+  long = ap length c.loop-i.invariant.2 ∙ (partly_length x old c.loop-i.i (omega (arith, room)) ∙ c.requires.1.size)
+
+  readable : SegmentReadable old c.loop-i.i (start_in old c.loop-i.i) (length words)
+  readable = c.requires.1.segment c.loop-i.i inside
+
+  end_is : end_in c.loop-i.«record» c.loop-i.i ≡ end_in old c.loop-i.i
+  end_is = ap (λ (r : List ℤ). end_in r c.loop-i.i) c.loop-i.invariant.2 ∙ end_later x old c.loop-i.i room
+
+pub small_at-count-requires : goal.small_at-count-requires
+small_at-count-requires c = (c.requires.1.size, omega arith)
+
+pub loop-i-init : goal.loop-i-init
+loop-i-init c = (omega arith, refl, sym (partly_none (samples_of c.args.trace.now) c.args.«record».now))
+
+pub small_at-end-requires : goal.small_at-end-requires
+small_at-end-requires c = (long c, omega arith)
+
+pub widen_segment-requires : goal.widen_segment-requires
+widen_segment-requires c =
+    let l = c.loop-i in
+    let few = c.requires.1.few in record {
+      prefixes = c.requires.0;
+      readable = (
+        long c.before.before,
+        omega (arith, inside c.before.before),
+        rw (l.invariant.2, l.invariant.1) (readable_later (x c.before.before) (old c.before.before) l.i (room c.before.before) (start_in (old c.before.before) l.i) (length (words c.before.before)) (readable c.before.before)),
+      );
+    }
+
+pub overflow_add-first : goal.overflow_add-first
+overflow_add-first c =
+    let e : c.small_at-end.result ≡ end_in c.loop-i.«record» c.loop-i.i = c.small_at-end.ensures in
+    omega (arith, e ∙ end_is c.before.before.before.before, (readable c.before.before.before.before).on.to_n, c.requires.0.few, samples_length (words c.before.before.before.before))
+
+pub loop-i-preserved : goal.loop-i-preserved
+loop-i-preserved c =
+    let l = c.loop-i in
+    let e : c.small_at-end.result ≡ end_in l.«record» l.i = c.small_at-end.ensures in
+    let first : c.small_at-end.result + 1 ≡ start_in (old c.before.before.before.before) (l.i + 1) =
+    add-one c.small_at-end.result ∙ (ap suc (e ∙ end_is c.before.before.before.before) ∙ ap (start_in (old c.before.before.before.before)) (sym (add-one l.i))) in
+    let after : c.widen_segment.new.record ≡ with_segment l.«record» l.i (widen_segment (x c.before.before.before.before) (run l.first (end_in l.«record» l.i)) (segment_in l.«record» l.i)) =
+    c.widen_segment.ensures in
+    let more : c.widen_segment.new.record ≡ partly (x c.before.before.before.before) (old c.before.before.before.before) (l.i + 1) =
+    after
+    ∙ (next_partly _ _ _ l.i _ (room c.before.before.before.before) l.invariant.1 l.invariant.2 ∙ ap (partly (x c.before.before.before.before) (old c.before.before.before.before)) (sym (add-one l.i))) in
+    (omega arith, first, more)
+
+pub shape_of-record : goal.shape_of-record
+shape_of-record c =
+    let l = c.loop-i in
+    let e : c.small_at-count.result ≡ small_at c.args.«record».now segments_place = c.small_at-count.ensures in
+    ap length l.invariant.2 ∙ partly_length (samples_of c.args.trace.now) c.args.«record».now l.i (omega (arith, c.requires.1.few, c.requires.1.size))
+
+pub returns : goal.returns
+returns c =
+    let l = c.loop-i in
+    let e : c.small_at-count.result ≡ small_at c.args.«record».now segments_place = c.small_at-count.ensures in
+    let all : l.i ≡ small_at c.args.«record».now segments_place = omega arith in
+    l.invariant.2 ∙ (ap (partly (samples_of c.args.trace.now) c.args.«record».now) all ∙ partly_all (samples_of c.args.trace.now) c.args.«record».now)

@@ -1,0 +1,64 @@
+-- `numbers_fit::children::mark_children` meets its contract, by the kind field: a leaf has no child, and an inner node's two are marked one
+-- after the other.
+use mathlib.Core.Path.{◌≡◌, sym, ◌∙◌}
+use mathlib.Core.List.{List, [], ◌∷◌}
+use Prim.Native.Nat.{ℕ, ◌≤◌, ◌<◌}
+use native.Mathlib.Omega.{arith}
+use lib.IntN.{ℤ}
+use Rattle.tables.specs.Layout.{kind_place, first_place, right_place}
+use Rattle.tables.specs.Tables.{record_of}
+use Rattle.tables.specs.View.{small_at}
+use Rattle.records_fit.proofs.Children.{kind_named, left_above, right_above}
+use Rattle.numbers_fit.specs.Tests.{children_at}
+use Rattle.numbers_fit.proofs.Growth.{took_none, took_first, took_both, took_as}
+use Rattle.numbers_fit.proofs.ByKind.{no_child, two_children}
+use Rattle.records_fit.specs.Fits.{HeadFits}
+use Rattle.numbers_fit.proofs.children.mark_children.Goals as goal
+
+-- what is known of the record
+module _ (nodes : List ℤ) (j : ℕ) (w : HeadFits j nodes) where
+  abbrev r : List ℤ
+  r = record_of nodes j
+
+  named : small_at r kind_place ≤ 2
+  named = kind_named w.n w.m j r w.fit
+
+  module _ (f : small_at r kind_place ≡ 0 → ⊥) where
+    left_low : small_at r first_place < 8192
+    left_low = omega (arith, (left_above w.n w.m j r w.fit f).1, w.low)
+
+    right_low : small_at r right_place < 8192
+    right_low = omega (arith, (right_above w.n w.m j r w.fit f).1, w.low)
+
+    -- the two children, as they were read
+    read_two : {left right : ℕ} → left ≡ small_at r first_place → right ≡ small_at r right_place → children_at nodes j ≡ left ∷ (right ∷ [])
+    read_two g h = two_children nodes j f named ∙ rw (g, h)
+
+pub returns-then-kind-eq0 : goal.returns-then-kind-eq0
+returns-then-kind-eq0 c =
+    took_as (no_child c.args.nodes.now c.args.j (sym c.node_small-kind.ensures ∙ c.if-kind-eq0.true)) (took_none c.args.marks.now)
+
+pub mark-requires : goal.mark-requires
+mark-requires c =
+    let nodes = c.args.nodes.now in
+    let inner = λ (e : small_at (record_of nodes c.args.j) kind_place ≡ 0). c.if-kind-eq0.false (c.node_small-kind.ensures ∙ e) in
+    (omega (arith, c.node_small-left.ensures, left_low nodes c.args.j c.requires.0 inner), c.requires.1)
+
+pub returns-then-not-mark : goal.returns-then-not-mark
+returns-then-not-mark c =
+    let nodes = c.args.nodes.now in
+    let inner = λ (e : small_at (record_of nodes c.args.j) kind_place ≡ 0). c.if-kind-eq0.false (c.node_small-kind.ensures ∙ e) in
+    took_as (read_two nodes c.args.j c.requires.0 inner c.node_small-left.ensures c.node_small-right.ensures) (took_first c.node_small-right.result c.mark.ensures c.if-not-mark.true)
+
+pub mark-requires-2 : goal.mark-requires-2
+mark-requires-2 c =
+    let nodes = c.args.nodes.now in
+    let inner = λ (e : small_at (record_of nodes c.args.j) kind_place ≡ 0). c.if-kind-eq0.false (c.node_small-kind.ensures ∙ e) in
+    (omega (arith, c.node_small-right.ensures, right_low nodes c.args.j c.requires.0 inner), (c.mark.ensures.new c.if-not-mark.false).size ∙ c.requires.1)
+
+pub returns : goal.returns
+returns c =
+    let nodes = c.args.nodes.now in
+    let inner = λ (e : small_at (record_of nodes c.args.j) kind_place ≡ 0). c.if-kind-eq0.false (c.node_small-kind.ensures ∙ e) in
+    took_as (read_two nodes c.args.j c.requires.0 inner c.node_small-left.ensures c.node_small-right.ensures)
+    (took_both c.node_small-right.result c.mark.ensures c.if-not-mark.false c.mark-2.ensures)

@@ -1,0 +1,15 @@
+-- `search::visiting::visit` meets its contract: as many leaves may be read as a tree can have (`Whole`).
+use lib.ListN.{length}
+use Rattle.segment.specs.Stored.{samples_of}
+use Rattle.search.specs.Searched.{without_work}
+use Rattle.search.proofs.Whole.{whole_visited}
+use Rattle.search.proofs.visiting.visit.Goals as goal
+
+pub visit_first-requires : goal.visit_first-requires
+visit_first-requires c = record { ready = c.requires.ready; list = c.requires.list }
+
+pub returns : goal.returns
+returns c =
+    let a = c.args in
+    whole_visited a.k (without_work a.control.now a.samples.now a.nodes.now a.links.now) (samples_of a.query.now)
+    (length a.trail.now) c.requires.ready.0 c.visit_first.ensures

@@ -1,0 +1,33 @@
+-- `segment::ranges::stretch_least` meets its contract: the total is what the samples passed add, at most 2^40 each.
+use mathlib.Core.Path.{◌≡◌, ap}
+use Prim.Native.Nat.{◌+◌, ◌-◌, ◌*◌, ◌^◌, ◌≤◌}
+use native.Mathlib.Omega.{arith}
+use Rattle.segment.specs.Clipped.{summed_to}
+use Rattle.segment.specs.Stored.{samples_of}
+use Rattle.segment.specs.Terms.{sum_gap}
+use Rattle.segment.proofs.Steps.{read_plain}
+use Rattle.segment.proofs.ClippedSteps.{summed_grows}
+use Rattle.segment.proofs.ranges.stretch_least.Goals as goal
+
+pub gap_square-total-requires : goal.gap_square-total-requires
+gap_square-total-requires c =
+    let l = c.loop-i in
+    rw (
+      read_plain c.args.lows.now l.i c.gap_square-arg-in-loop-i-1.given,
+      read_plain c.args.highs.now l.i c.gap_square-arg-in-loop-i-2-1.given,
+    ) (c.requires.5 l.i (omega arith), c.requires.6 l.i (omega arith))
+
+pub loop-i-preserved : goal.loop-i-preserved
+loop-i-preserved c =
+    let l = c.loop-i in
+    omega (
+      arith,
+      c.gap_square-total.ensures.value,
+      c.gap_square-total.ensures.size,
+      summed_grows sum_gap c.args.lows.now c.args.highs.now c.args.trace.now l.i (omega arith) (omega arith) (omega arith)
+          c.gap_square-arg-1.given c.gap_square-arg-in-loop-i-1.given c.gap_square-arg-in-loop-i-2-1.given,
+    )
+
+pub returns : goal.returns
+returns c =
+    let e : c.loop-i.i ≡ c.args.end = omega arith in record { result_value = omega (arith, ap (summed_to sum_gap c.args.lows.now c.args.highs.now (samples_of c.args.trace.now)) e); size = omega (arith, ap (summed_to sum_gap c.args.lows.now c.args.highs.now (samples_of c.args.trace.now)) e) }

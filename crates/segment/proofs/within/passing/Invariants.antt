@@ -1,0 +1,19 @@
+-- `segment::within::passing` meets its contract: the total is the distance of the samples passed, which is at most the limit until it
+-- returns.
+use mathlib.Core.Path.{◌≡◌, ap₂}
+use Prim.Native.Nat.{◌+◌, ◌-◌, ◌*◌, ◌^◌, ◌≤◌}
+use native.Mathlib.Omega.{arith}
+use lib.ListN.{length, length-map}
+use Rattle.segment.specs.Figures.{distance}
+use Rattle.segment.proofs.Steps.{words_distance_to, distance_grows}
+use Rattle.segment.proofs.Stored.{all_samples}
+use Rattle.segment.specs.Stored.{sample_of, samples_of}
+use Rattle.segment.proofs.Fewest.{fewest_at}
+use Rattle.segment.proofs.within.passing.Given as goal
+
+abbrev pub invariant-loop-i : goal.invariant-loop-i
+invariant-loop-i l =
+    (l.i ≤ length l.x) × (l.total ≡ words_distance_to l.x l.y l.i) × (l.total ≤ l.limit) × (l.total ≤ 2 ^ 40 * l.i)
+
+abbrev pub decreases-loop-i : goal.decreases-loop-i
+decreases-loop-i l = length l.x - l.i

@@ -1,0 +1,26 @@
+-- `sheet::blocks::write_head` meets its contract: number and kind, the letters, the measures, the check.
+use mathlib.Core.Path.{ap, ◌∙◌}
+use mathlib.Core.List.{List}
+use Prim.Native.Nat.{ℕ}
+use native.Mathlib.Omega.{arith}
+use lib.ListN.{take}
+use lib.Seq.{sets}
+use Rattle.dstree.specs.Measures.{measures}
+use Rattle.dstree.specs.Sheet.{checked_size, letters, measure_bytes, head_of, sealed, block}
+use Rattle.dstree.proofs.SheetWritten.{head_length}
+use Rattle.sheet.proofs.Laid.{block_is, head_put}
+use Rattle.sheet.proofs.blocks.write_head.Goals as goal
+
+pub returns : goal.returns
+unfolding letters
+returns c =
+    let a = c.args in
+    let m = measures a.n a.capacity a.leaf_size in
+    let lettered = c.put_bytes.ensures ∙ ap (λ (x : List ℕ). sets x 4 letters) c.begin.ensures in
+    let put =
+    c.put_measures.ensures
+    ∙ ap (λ (x : List ℕ). sets x 8 (measure_bytes m a.count)) lettered ∙ head_put m a.count _ in
+    c.seal.ensures
+    ∙ ap (λ (x : List ℕ). sealed (take checked_size x)) put
+    ∙ block_is c.head_kind.result 0 (head_of m a.count) (omega (arith, head_length m a.count))
+    ∙ ap (λ (k : ℕ). block k 0 (head_of m a.count)) c.head_kind.ensures

@@ -1,4 +1,5 @@
 // Adding a trace to lent tables.
+#![tactic(auto)]
 
 pub mod judging; // what adding refuses
 pub mod inserting; // a stored trace joins the tree
@@ -7,7 +8,7 @@ pub mod putting; // a trace put into tables that refuse nothing
 ghost use Rattle.std.specs.Prelude.{◌≡◌, []};
 ghost use Rattle.dstree.specs.Labels.{label, no_label, label_at};
 ghost use Rattle.dstree.specs.Book.{adding};
-ghost use Rattle.tables.specs.Lent.{tables_after_adding, tables_before};
+ghost use Rattle.tables.specs.Lent.{tables_after_adding, tables_before_adding};
 ghost use Rattle.calls.specs.Outcome.{outcome};
 ghost use Rattle.calls.specs.Effects.{outcome_on};
 ghost use Rattle.adding.specs.Answered.{answer_by};
@@ -45,7 +46,7 @@ pub fn add_with(
         (tables_after_adding control samples nodes links work labels)
         []
         ≡ outcome_on (adding trace.now (label_at place))
-        (tables_before control samples nodes links work labels) }
+        (tables_before_adding control samples nodes links work labels) }
 {
     let verdict = judging::judge(control, samples, nodes, links, work, labels, trace);
     match verdict {
@@ -76,7 +77,7 @@ pub fn add(
         (tables_after_adding control samples nodes links work labels)
         []
         ≡ outcome_on (adding trace.now no_label)
-        (tables_before control samples nodes links work labels) }
+        (tables_before_adding control samples nodes links work labels) }
 {
     add_with(control, samples, nodes, links, work, labels, trace, 0)
 }
@@ -100,7 +101,7 @@ pub fn add_labelled(
         (tables_after_adding control samples nodes links work labels)
         []
         ≡ outcome_on (adding trace.now (label code serial))
-        (tables_before control samples nodes links work labels) }
+        (tables_before_adding control samples nodes links work labels) }
 {
     let place = place_of(code, serial);
     add_with(control, samples, nodes, links, work, labels, trace, place)

@@ -1,4 +1,5 @@
 // How many stored traces lie within each band of distances, from the records of lent tables.
+#![tactic(auto)]
 
 pub mod judging; // what a report refuses
 
@@ -9,7 +10,7 @@ ghost use Rattle.dstree.specs.Bands.{band_report, report_places};
 ghost use Rattle.dstree.specs.Book.{banding, over};
 ghost use Rattle.tables.specs.Tables.{measures_of, filled};
 ghost use Rattle.tables.specs.View.{tree_in};
-ghost use Rattle.tables.specs.Lent.{tables_after_search, tables_before};
+ghost use Rattle.tables.specs.Lent.{tables_after_search, tables_before_search};
 ghost use Rattle.calls.specs.Outcome.{outcome};
 ghost use Rattle.calls.specs.Effects.{outcome_on};
 ghost use Rattle.band_counts.specs.Reported.{records_only, Reportable};
@@ -70,7 +71,7 @@ pub fn count_bands(
         (tables_after_search control samples nodes links work labels)
         (list.new ∷ [])
         ≡ outcome_on (banding query.now edges.now list.old)
-        (tables_before control samples nodes links work labels) }
+        (tables_before_search control samples nodes links work labels) }
 {
     let verdict = judging::judge(
         control, samples, nodes, links, work, labels, query, edges, list,

@@ -6,6 +6,16 @@ use Rattle.dstree.specs.Batch.{Batch, queries_in, batch_by_steps}
 use Rattle.tables.specs.Tables.{Tables, measures_of, filled}
 use Rattle.tables.specs.View.{tree_in, traces_in}
 use Rattle.reading.specs.Listed.{nears_in}
+use Rattle.integer.specs.Written.{Written}
+pub use Rattle.integer.specs.Written.{Noted}
+
+-- ---- the trail
+
+-- these numbers, written to the trail's beginning; its other places stay
+abbrev pub TrailBegins : (numbers trail trail' : List ℕ) → Type 0
+TrailBegins = Written
+
+-- ---- what is left
 
 -- what a batch has found, as code keeps it
 abbrev pub batch : List Near → ℕ → List ℕ → Batch

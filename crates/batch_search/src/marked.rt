@@ -1,6 +1,6 @@
 // The trail of a batch: the numbers of marked nodes, rising.
 ghost use Rattle.std.specs.Prelude.{◌≡◌, true, ◌≤◌, ◌<◌, length};
-ghost use Rattle.integer.specs.Written.{Noted, Written};
+ghost use Rattle.batch_search.specs.Batched.{Noted, TrailBegins};
 ghost use Rattle.dstree.specs.Measures.{most_nodes};
 ghost use Rattle.tables.specs.Layout.{node_places};
 ghost use Rattle.batch_leaves.specs.LeavesRead.{is_marked, marked_of};
@@ -21,7 +21,7 @@ fn note(marks: &[u8], j: usize, trail: &mut [u16], out: usize) -> usize
 // The numbers of marked nodes at the trail's beginning; the trail's other places stay.
 pub fn write_trail(marks: &[u8], count: usize, trail: &mut [u16])
     requires { (count ≤ node_places) × (count ≤ length marks.now) × (length (marked_of marks.now count) ≤ length trail.old) }
-    ensures { Written (marked_of marks.now count) trail.old trail.new }
+    ensures { TrailBegins (marked_of marks.now count) trail.old trail.new }
 {
     let mut out: usize = 0;
     let mut j: usize = 0;

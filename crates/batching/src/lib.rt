@@ -1,5 +1,6 @@
 // A batch of queries on lent tables: a nearest trace for each of them, and no leaf read twice. The records are given back in an array by
 // value; the caller's list is known by its length alone.
+#![tactic(auto)]
 
 pub mod judging; // what a batch refuses
 
@@ -11,7 +12,7 @@ ghost use Rattle.dstree.specs.KNearest.{list_places};
 ghost use Rattle.dstree.specs.Book.{batching};
 ghost use Rattle.tables.specs.Tables.{measures_of};
 ghost use Rattle.tables.specs.View.{tree_in};
-ghost use Rattle.tables.specs.Lent.{tables_after_search, tables_before};
+ghost use Rattle.tables.specs.Lent.{tables_after_search, tables_before_search};
 ghost use Rattle.calls.specs.Outcome as calls;
 ghost use Rattle.calls.specs.Effects.{outcome_on};
 ghost use Rattle.search.specs.Searched.{without_work};
@@ -101,7 +102,7 @@ pub fn match_all(
         (tables_after_search control samples nodes links work labels)
         (trail.new ∷ list_places (list_after result list) ∷ [])
         ≡ outcome_on (batching many queries.now trail.old list)
-        (tables_before control samples nodes links work labels) }
+        (tables_before_search control samples nodes links work labels) }
 {
     let verdict = judging::judge(
         control, samples, nodes, links, work, labels, queries, many, places, trail,

@@ -1,5 +1,6 @@
 // The check before tables are trusted: whether every node's recorded least and greatest sums and scatters are those of the traces below
 // it.
+#![tactic(auto)]
 
 pub mod sizes; // how many traces are below each node
 pub mod order; // the traces below every node, in one array

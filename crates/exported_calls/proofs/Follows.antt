@@ -10,7 +10,7 @@ use Rattle.calls.specs.Outcome.{Outcome, outcome}
 use Rattle.calls.specs.Effects.{other_in, outcome_on}
 use Rattle.calls.specs.Pairs.{with_work}
 use Rattle.calls.proofs.Pairs.{as_bench}
-use Rattle.demands.specs.Did.{own, tables_of}
+use Rattle.demands.specs.Did.{searched_tables, own, tables_of}
 use Rattle.demands.proofs.Follows.{placed_follows}
 use Rattle.telling.specs.COutcome.{COutcome, c_outcome, c_outcome_of}
 use Rattle.exported_calls.specs.Did.{CReply, c_reply, CExchange, CallMade, CDid, by_open, by_add, by_nearest, by_write, by_read, by_list}
@@ -64,8 +64,9 @@ follows c memory memory' out got (by_remote d) = by_claim d.made d.claim
 follows c memory memory' out got (by_bands d) = by_claim d.made d.claim
 follows c memory memory' out got (by_pair_factory d) = by_claim d.made d.claim.0
 follows c memory memory' out got (by_pair_bench d) =
-    let bench = (own d.args).1 in
-    by_claim d.made (told_as_bench (tables_of d.args) (tables_of bench) (own bench).1.0.now (own d.args).0.now (own bench).0.now
+    let args = searched_tables d.args in
+    let bench = searched_tables (own args).1 in
+    by_claim d.made (told_as_bench (tables_of args) (tables_of bench) (own bench).1.0.now (own args).0.now (own bench).0.now
     (own bench).1.1.0.now d.claim.0)
 follows c memory memory' out got (by_limited d) = by_claim d.made d.claim
 follows c memory memory' out got (by_clipped d) = by_claim d.made d.claim

@@ -32,24 +32,28 @@ use Rattle.pairing.proofs.Told.{handed_back}
 use Rattle.batch_answers.specs.AnswerRecords.{nears_of}
 use Rattle.batch_answers.proofs.Whole.{whole}
 use lib.IntN.{ℤ}
-use denote.Ref.{Bor}
+use denote.Ref.{Bor, MutBor}
 use Rattle.demands.specs.Did as did
-use Rattle.demands.specs.Did.{WithTables, own, tables_of, after_search, Did}
-use Rattle.demands.proofs.Replies.{slice, lifetimes}
+use Rattle.demands.specs.Did.{ToSearch, searched_tables, tables_of, after_search, Did}
+use Rattle.demands.proofs.Replies.{place, lifetimes}
 use Rattle.telling.specs.COutcome.{returned_of, c_outcome_of}
 use Rattle.exported_calls.specs.Did.{c_reply, CExchange, c_exchange, CallMade, Made, CDid, by_open, by_add, by_nearest, by_write, by_read, by_list}
 use Rattle.exported_calls.specs.Did.{by_import, by_export, by_check, by_batch, by_add_labelled, by_label, by_remote, by_bands, by_pair_factory, by_pair_bench, by_limited, by_clipped}
 
 -- the same tables, and this behind them
-abbrev with_own : {Before Own : Type 0} → WithTables Before → Own → WithTables Own
+abbrev with_own : {A B C D E F Before Own : Type 0} → A × (B × (C × (D × (E × (F × Before))))) → Own → A × (B × (C × (D × (E × (F × Own)))))
 with_own s own = (s.0, (s.1.0, (s.1.1.0, (s.1.1.1.0, (s.1.1.1.1.0, (s.1.1.1.1.1.0, own))))))
+
+-- what is behind the tables
+abbrev own : {A B C D E F Own : Type 0} → A × (B × (C × (D × (E × (F × Own))))) → Own
+own s = s.1.1.1.1.1.1
 
 -- the slices of a match over two libraries, and a place that leads to a part of lent words
 abbrev Both : Type 0 → Type 0
-Both Own = WithTables (Bor (List ℕ) × WithTables (Bor (List ℕ) × (Bor (List ℤ) × Own)))
+Both Own = ToSearch (MutBor (List ℕ) × ToSearch (MutBor (List ℕ) × (Bor (List ℤ) × Own)))
 
-abbrev leading : LentPart → Bor (Bor (List ℤ))
-leading part = record { ref_ptr = (0, 0); now = record { ref_ptr = (part.block, part.byte); now = part.contents } }
+abbrev leading : LentPart → MutBor (Bor (List ℤ))
+leading part = record { ref_ptr = (0, 0); ghost_name = 0; now = record { ref_ptr = (part.block, part.byte); now = part.contents } }
 
 abbrev pair_answer : Both Unit → PairFound → Answer
 pair_answer exits r = pairing_answer.answer_by r (own exits).0.now (own (own exits).1).0.now
@@ -61,10 +65,10 @@ pair_part args r =
     part_by r (lent_part args.1.0) (lent_part bench.1.0) (length (own bench).1.0.now)
 
 -- the same slices, with `out` and a place for the part
-abbrev with_part : Both Unit → List ℕ → LentPart → Both (Bor (List ℕ) × (Bor (Bor (List ℤ)) × Unit))
+abbrev with_part : Both Unit → List ℕ → LentPart → Both (MutBor (List ℕ) × (MutBor (Bor (List ℤ)) × Unit))
 with_part s out part =
     let bench = (own s).1 in
-    with_own s ((own s).0, with_own bench ((own bench).0, ((own bench).1.0, (slice out, (leading part, tt)))))
+    with_own s ((own s).0, with_own bench ((own bench).0, ((own bench).1.0, (place out, (leading part, tt)))))
 
 -- the part that goes with an answer is the one that the contract names
 part_goes : (args exits : Both Unit) (r : PairFound) (answer : Answer) → pair_answer exits r ≡ answer
@@ -104,67 +108,67 @@ module _ (c : Call) (memory memory' : Tables) (said : Reply) (out : List ℕ) wh
   linked (did.by_open d) =
       let a = opening_answer.answer_by d.result in
       let m = own d.args in
-      by by_open (lifetimes 7) (with_own d.args (m.0, (m.1.0, (m.1.1.0, (slice out, tt)))))
-      (with_own d.exits (m.0, (m.1.0, (m.1.1.0, (slice (told a), tt))))) (code_of a) (as_numbers d.claim) (made d.made)
+      by by_open (lifetimes 7) (with_own d.args (m.0, (m.1.0, (m.1.1.0, (place out, tt)))))
+      (with_own d.exits (m.0, (m.1.0, (m.1.1.0, (place (told a), tt))))) (code_of a) (as_numbers d.claim) (made d.made)
   linked (did.by_add d) =
       let a = adding_answer.answer_by d.result in
-      by by_add (lifetimes 8) (with_own d.args ((own d.args).0, (slice out, tt)))
-      (with_own d.exits ((own d.exits).0, (slice (told a), tt))) (code_of a) (as_numbers d.claim) (made d.made)
+      by by_add (lifetimes 8) (with_own d.args ((own d.args).0, (place out, tt)))
+      (with_own d.exits ((own d.exits).0, (place (told a), tt))) (code_of a) (as_numbers d.claim) (made d.made)
   linked (did.by_nearest d) =
       let a = matching_answer.answer_by d.result (own d.exits).0.now in
-      by by_nearest (lifetimes 9) (with_own d.args ((own d.args).0, ((own d.args).1.0, (slice out, tt))))
-      (with_own d.exits ((own d.exits).0, ((own d.exits).1.0, (slice (told a), tt)))) (code_of a) (as_numbers d.claim)
+      by by_nearest (lifetimes 9) (with_own d.args ((own d.args).0, ((own d.args).1.0, (place out, tt))))
+      (with_own d.exits ((own d.exits).0, ((own d.exits).1.0, (place (told a), tt)))) (code_of a) (as_numbers d.claim)
       (made d.made)
   linked (did.by_write d) =
       let a = writing_answer.answer_by d.result (own d.exits).0.now in
-      by by_write (lifetimes 8) (with_own d.args ((own d.args).0, (slice out, tt)))
-      (with_own d.exits ((own d.exits).0, (slice (told a), tt))) (code_of a) (as_numbers d.claim) (made d.made)
+      by by_write (lifetimes 8) (with_own d.args ((own d.args).0, (place out, tt)))
+      (with_own d.exits ((own d.exits).0, (place (told a), tt))) (code_of a) (as_numbers d.claim) (made d.made)
   linked (did.by_read d) =
       let a = reading_answer.answer_by d.result in
-      by by_read (lifetimes 8) (with_own d.args ((own d.args).0, (slice out, tt)))
-      (with_own d.exits ((own d.exits).0, (slice (told a), tt))) (code_of a) (as_numbers d.claim) (made d.made)
+      by by_read (lifetimes 8) (with_own d.args ((own d.args).0, (place out, tt)))
+      (with_own d.exits ((own d.exits).0, (place (told a), tt))) (code_of a) (as_numbers d.claim) (made d.made)
   linked (did.by_list d) =
       let a = listing_answer.answer_by d.result (own d.exits).0.now (own d.exits).1.0.now in
       let b = own d.args in
       let e = own d.exits in
-      by by_list (lifetimes 10) (with_own d.args (b.0, (b.1.0, (b.1.1.0, (b.1.1.1.0, (slice out, tt))))))
-      (with_own d.exits (e.0, (e.1.0, (e.1.1.0, (e.1.1.1.0, (slice (told a), tt)))))) (code_of a) (as_numbers d.claim)
+      by by_list (lifetimes 10) (with_own d.args (b.0, (b.1.0, (b.1.1.0, (b.1.1.1.0, (place out, tt))))))
+      (with_own d.exits (e.0, (e.1.0, (e.1.1.0, (e.1.1.1.0, (place (told a), tt)))))) (code_of a) (as_numbers d.claim)
       (made d.made)
   linked (did.by_import d) =
       let a = importing_answer.answer_by d.result in
-      by by_import (lifetimes 8) (with_own d.args ((own d.args).0, (slice out, tt)))
-      (with_own d.exits ((own d.exits).0, (slice (told a), tt))) (code_of a) (as_numbers d.claim) (made d.made)
+      by by_import (lifetimes 8) (with_own d.args ((own d.args).0, (place out, tt)))
+      (with_own d.exits ((own d.exits).0, (place (told a), tt))) (code_of a) (as_numbers d.claim) (made d.made)
   linked (did.by_export d) =
       let a = exporting_answer.answer_by d.result (own d.exits).0.now in
       let b = own d.args in
-      by by_export (lifetimes 8) (with_own d.args (b.0, (b.1.0, (b.1.1.0, (slice out, tt)))))
-      (with_own d.exits ((own d.exits).0, (b.1.0, (b.1.1.0, (slice (told a), tt))))) (code_of a) (as_numbers d.claim)
+      by by_export (lifetimes 8) (with_own d.args (b.0, (b.1.0, (b.1.1.0, (place out, tt)))))
+      (with_own d.exits ((own d.exits).0, (b.1.0, (b.1.1.0, (place (told a), tt))))) (code_of a) (as_numbers d.claim)
       (made d.made)
   linked (did.by_check d) =
       let a = checking_answer.answer_by d.result in
-      by by_check (lifetimes 7) (with_own d.args (slice out, tt)) (with_own d.exits (slice (told a), tt)) (code_of a)
+      by by_check (lifetimes 7) (with_own d.args (place out, tt)) (with_own d.exits (place (told a), tt)) (code_of a)
       (as_numbers d.claim) (made d.made)
   linked (did.by_add_labelled d) =
       let a = adding_answer.answer_by d.result in
       let b = own d.args in
       let e = own d.exits in
-      by by_add_labelled (lifetimes 8) (with_own d.args (b.0, (b.1.0, (b.1.1.0, (slice out, tt)))))
-      (with_own d.exits (e.0, (b.1.0, (b.1.1.0, (slice (told a), tt))))) (code_of a) (as_numbers d.claim) (made d.made)
+      by by_add_labelled (lifetimes 8) (with_own d.args (b.0, (b.1.0, (b.1.1.0, (place out, tt)))))
+      (with_own d.exits (e.0, (b.1.0, (b.1.1.0, (place (told a), tt))))) (code_of a) (as_numbers d.claim) (made d.made)
   linked (did.by_label d) =
       let a = labelling_answer.answer_by d.result in
-      by by_label (lifetimes 7) (with_own d.args ((own d.args).0, (slice out, tt)))
-      (with_own d.exits ((own d.args).0, (slice (told a), tt))) (code_of a) (as_numbers d.claim) (made d.made)
+      by by_label (lifetimes 7) (with_own d.args ((own d.args).0, (place out, tt)))
+      (with_own d.exits ((own d.args).0, (place (told a), tt))) (code_of a) (as_numbers d.claim) (made d.made)
   linked (did.by_remote d) =
       let a = remote_answer.answer_by d.result (own d.exits).0.now in
-      by by_remote (lifetimes 9) (with_own d.args ((own d.args).0, ((own d.args).1.0, (slice out, tt))))
-      (with_own d.exits ((own d.exits).0, ((own d.exits).1.0, (slice (told a), tt)))) (code_of a) (as_numbers d.claim)
+      by by_remote (lifetimes 9) (with_own d.args ((own d.args).0, ((own d.args).1.0, (place out, tt))))
+      (with_own d.exits ((own d.exits).0, ((own d.exits).1.0, (place (told a), tt)))) (code_of a) (as_numbers d.claim)
       (made d.made)
   linked (did.by_bands d) =
       let b = own d.args in
       let e = own d.exits in
       let a = banding_answer.answer_by d.result (length b.1.1.0.now - 1) e.0.now in
-      by by_bands (lifetimes 10) (with_own d.args (b.0, (b.1.0, (b.1.1.0, (slice out, tt)))))
-      (with_own d.exits (e.0, (e.1.0, (e.1.1.0, (slice (told a), tt))))) (code_of a) (as_numbers d.claim) (made d.made)
+      by by_bands (lifetimes 10) (with_own d.args (b.0, (b.1.0, (b.1.1.0, (place out, tt)))))
+      (with_own d.exits (e.0, (e.1.0, (e.1.1.0, (place (told a), tt))))) (code_of a) (as_numbers d.claim) (made d.made)
   linked (did.by_pair_factory d) =
       let a = pair_answer d.exits d.result in
       by by_pair_factory (lifetimes 16) (with_part d.args out (no_words (lent_part d.args.1.0)))
@@ -179,14 +183,14 @@ module _ (c : Call) (memory memory' : Tables) (said : Reply) (out : List ℕ) wh
       let b = own d.args in
       let e = own d.exits in
       let a = limiting_answer.answer_by d.result e.0.now in
-      by by_limited (lifetimes 9) (with_own d.args (b.0, (b.1.0, (b.1.1.0, (slice out, tt)))))
-      (with_own d.exits (e.0, (e.1.0, (b.1.1.0, (slice (told a), tt))))) (code_of a) (as_numbers d.claim) (made d.made)
+      by by_limited (lifetimes 9) (with_own d.args (b.0, (b.1.0, (b.1.1.0, (place out, tt)))))
+      (with_own d.exits (e.0, (e.1.0, (b.1.1.0, (place (told a), tt))))) (code_of a) (as_numbers d.claim) (made d.made)
   linked (did.by_clipped d) =
       let b = own d.args in
       let e = own d.exits in
       let a = clipping_answer.answer_by d.result e.0.now in
-      by by_clipped (lifetimes 10) (with_own d.args (b.0, (b.1.0, (b.1.1.0, (slice out, tt)))))
-      (with_own d.exits (e.0, (e.1.0, (e.1.1.0, (slice (told a), tt))))) (code_of a) (as_numbers d.claim) (made d.made)
+      by by_clipped (lifetimes 10) (with_own d.args (b.0, (b.1.0, (b.1.1.0, (place out, tt)))))
+      (with_own d.exits (e.0, (e.1.0, (e.1.1.0, (place (told a), tt))))) (code_of a) (as_numbers d.claim) (made d.made)
   linked (did.by_batch d) =
       let x = d.searched in
       let b = own x.args in
@@ -194,10 +198,10 @@ module _ (c : Call) (memory memory' : Tables) (said : Reply) (out : List ℕ) wh
       let a = batching_answer.answer_by x.result.outcome (nears_of d.list') e.0.now in
       by_batch (record {
         κs = lifetimes 10;
-        args = with_own x.args (b.0, (b.1.0, (b.1.1.0, (slice d.list, (slice out, tt)))));
-        exits = with_own x.exits (e.0, (e.1.0, (e.1.1.0, (slice d.list', (slice (told a), tt)))));
+        args = with_own x.args (b.0, (b.1.0, (b.1.1.0, (place d.list, (place out, tt)))));
+        exits = with_own x.exits (e.0, (e.1.0, (e.1.1.0, (place d.list', (place (told a), tt)))));
         result = code_of a;
-        claim = as_numbers (whole (tables_of x.args) (after_search x.args x.exits) b.1.1.0 b.1.0.now b.0.now
+        claim = as_numbers (whole (tables_of (searched_tables x.args)) (after_search (searched_tables x.args) (searched_tables x.exits)) b.1.1.0 b.1.0.now b.0.now
             e.0.now d.list d.list' x.result d.done (λ l size. x.claim l (size ∙ d.so_long)) d.stored);
         made = made x.made;
       })

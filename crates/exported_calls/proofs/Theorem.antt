@@ -17,7 +17,7 @@ use Rattle.library_c.proofs.silkendoz_count_bands.Met as band_met
 use Rattle.library_c.proofs.silkendoz_match_both.Met as pair_met
 use Rattle.library_c.proofs.silkendoz_match_within.Met as limit_met
 use Rattle.library_c.proofs.silkendoz_match_clipped.Met as clip_met
-use Rattle.demands.specs.Did.{own, tables_of}
+use Rattle.demands.specs.Did.{searched_tables, own, tables_of}
 use Rattle.demands.proofs.Theorem.{theorem}
 use Rattle.exported_calls.specs.Theorem.{ExportedTheorem}
 use Rattle.exported_calls.proofs.Follows.{follows}
@@ -62,8 +62,9 @@ exported_theorem = record {
   limit_clause = λ M 𝓤 𝓛 mem run κs args. refl;
   clip_clause = λ M 𝓤 𝓛 mem run κs args. refl;
   follows = follows;
-  part_is = λ κs args code exits claim.
-      let bench = (own args).1 in
+  part_is = λ κs lent code left_in claim.
+      let args = searched_tables lent in
+      let bench = searched_tables (own args).1 in
       part_handed (tables_of args) (tables_of bench) (own bench).1.0.now (own args).0.now (own bench).0.now _ _ _ refl refl claim.1;
   linked = linked;
 }

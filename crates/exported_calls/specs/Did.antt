@@ -14,7 +14,7 @@ use Rattle.dstree.specs.Book.{labelling, remote_matching, banding, limiting, cli
 use Rattle.tables.specs.Tables.{Tables}
 use Rattle.calls.specs.Effects.{other_in, outcome_on}
 use Rattle.batch_answers.specs.AnswerRecords.{nears_of}
-use Rattle.demands.specs.Did.{work, own, tables_of, after_search, after_adding, Placed}
+use Rattle.demands.specs.Did.{written_tables, added_tables, searched_tables, work, own, tables_of, after_search, after_adding, Placed}
 use Rattle.telling.specs.COutcome.{Returned, returned, returned_of, c_outcome, c_outcome_of}
 use Rattle.library_c.proofs.silkendoz_open.Kinds as open_kinds
 use Rattle.library_c.proofs.silkendoz_open.Reads as open_reads
@@ -93,24 +93,32 @@ pub record Made {n : ℕ} (ps : List (ParamKind n)) (r : ResultKind n) (Learnt :
 -- ---- call by call: the parameters of the call of the same name, and `out` last
 
 abbrev pub Opens : Call → Tables → List ℕ → CReply → Tables → Type 0
-Opens = Made open_kinds.ps open_kinds.r open_reads.Learnt (λ κs args code exits.
+Opens = Made open_kinds.ps open_kinds.r open_reads.Learnt (λ κs lent code left_in.
+    let args = written_tables lent in
+    let exits = written_tables left_in in
     let ask = opening (measures (own args).0 (own args).1.0 (own args).1.1.0) in
     c_exchange ask (tables_of args) (own args).1.1.1.0.now (returned code (own exits).1.1.1.0.now) (tables_of exits) [])
 
 -- search work is lent to read
 abbrev pub Adds : Call → Tables → List ℕ → CReply → Tables → Type 0
-Adds = Made add_kinds.ps add_kinds.r add_reads.Learnt (λ κs args code exits.
+Adds = Made add_kinds.ps add_kinds.r add_reads.Learnt (λ κs lent code left_in.
+    let args = added_tables lent in
+    let exits = added_tables left_in in
     c_exchange (adding (own args).0.now no_label) (tables_of args) (own args).1.0.now (returned code (own exits).1.0.now)
     (after_adding args exits) [])
 
 abbrev pub AddsLabelled : Call → Tables → List ℕ → CReply → Tables → Type 0
-AddsLabelled = Made add_labelled_kinds.ps add_labelled_kinds.r add_labelled_reads.Learnt (λ κs args code exits.
+AddsLabelled = Made add_labelled_kinds.ps add_labelled_kinds.r add_labelled_reads.Learnt (λ κs lent code left_in.
+    let args = added_tables lent in
+    let exits = added_tables left_in in
     let ask = adding (own args).0.now (label (own args).1.0 (own args).1.1.0) in
     c_exchange ask (tables_of args) (own args).1.1.1.0.now (returned code (own exits).1.1.1.0.now) (after_adding args exits) [])
 
 -- all tables but search work are lent to read
 abbrev pub Matches : Call → Tables → List ℕ → CReply → Tables → Type 0
-Matches = Made nearest_kinds.ps nearest_kinds.r nearest_reads.Learnt (λ κs args code exits.
+Matches = Made nearest_kinds.ps nearest_kinds.r nearest_reads.Learnt (λ κs lent code left_in.
+    let args = searched_tables lent in
+    let exits = searched_tables left_in in
     c_exchange (matching (own args).1.0.now (own args).0.now) (tables_of args) (own args).1.1.0.now
     (returned code (own exits).1.1.0.now) (after_search args exits)
     ((own exits).0.now ∷ []))
@@ -122,20 +130,26 @@ Writes = Made write_kinds.ps write_kinds.r write_reads.Learnt (λ κs args code 
     ((own exits).0.now ∷ []))
 
 abbrev pub Reads : Call → Tables → List ℕ → CReply → Tables → Type 0
-Reads = Made read_kinds.ps read_kinds.r read_reads.Learnt (λ κs args code exits.
+Reads = Made read_kinds.ps read_kinds.r read_reads.Learnt (λ κs lent code left_in.
+    let args = written_tables lent in
+    let exits = written_tables left_in in
     c_exchange (reading (own args).0.now) (tables_of args) (own args).1.0.now (returned code (own exits).1.0.now) (tables_of exits)
     [])
 
 -- all tables but search work are lent to read
 abbrev pub Lists : Call → Tables → List ℕ → CReply → Tables → Type 0
-Lists = Made list_kinds.ps list_kinds.r list_reads.Learnt (λ κs args code exits.
+Lists = Made list_kinds.ps list_kinds.r list_reads.Learnt (λ κs lent code left_in.
+    let args = searched_tables lent in
+    let exits = searched_tables left_in in
     c_exchange (listing (own args).1.1.1.0 (own args).1.1.0.now (own args).0.now (own args).1.0.now) (tables_of args)
     (own args).1.1.1.1.0.now (returned code (own exits).1.1.1.1.0.now)
     (after_search args exits) ((own exits).0.now ∷ (own exits).1.0.now ∷ []))
 
 -- search work is lent to read
 abbrev pub Imports : Call → Tables → List ℕ → CReply → Tables → Type 0
-Imports = Made import_kinds.ps import_kinds.r import_reads.Learnt (λ κs args code exits.
+Imports = Made import_kinds.ps import_kinds.r import_reads.Learnt (λ κs lent code left_in.
+    let args = added_tables lent in
+    let exits = added_tables left_in in
     c_exchange (importing (own args).0.now) (tables_of args) (own args).1.0.now (returned code (own exits).1.0.now)
     (after_adding args exits) [])
 
@@ -157,14 +171,18 @@ TellsLabel = Made label_kinds.ps label_kinds.r label_reads.Learnt (λ κs args c
 
 -- all tables but search work are lent to read
 abbrev pub RemoteMatches : Call → Tables → List ℕ → CReply → Tables → Type 0
-RemoteMatches = Made remote_kinds.ps remote_kinds.r remote_reads.Learnt (λ κs args code exits.
+RemoteMatches = Made remote_kinds.ps remote_kinds.r remote_reads.Learnt (λ κs lent code left_in.
+    let args = searched_tables lent in
+    let exits = searched_tables left_in in
     c_exchange (remote_matching (own args).1.0.now (own args).0.now) (tables_of args) (own args).1.1.0.now
     (returned code (own exits).1.1.0.now) (after_search args exits)
     ((own exits).0.now ∷ []))
 
 -- all tables but search work are lent to read
 abbrev pub CountsBands : Call → Tables → List ℕ → CReply → Tables → Type 0
-CountsBands = Made band_kinds.ps band_kinds.r band_reads.Learnt (λ κs args code exits.
+CountsBands = Made band_kinds.ps band_kinds.r band_reads.Learnt (λ κs lent code left_in.
+    let args = searched_tables lent in
+    let exits = searched_tables left_in in
     c_exchange (banding (own args).1.0.now (own args).1.1.0.now (own args).0.now) (tables_of args) (own args).1.1.1.0.now
     (returned code (own exits).1.1.1.0.now) (after_search args exits)
     ((own exits).0.now ∷ []))
@@ -172,32 +190,40 @@ CountsBands = Made band_kinds.ps band_kinds.r band_reads.Learnt (λ κs args cod
 -- all tables of both libraries but their search work are lent to read. Behind `out` stands the place for the part that is handed back
 -- (`Theorem`: `part_is`). The call is one of the factory's list ..
 abbrev pub PairsAsFactory : Call → Tables → List ℕ → CReply → Tables → Type 0
-PairsAsFactory = Made pair_kinds.ps pair_kinds.r pair_reads.Learnt (λ κs args code exits.
-    let bench = (own args).1 in
-    let bench' = (own exits).1 in
+PairsAsFactory = Made pair_kinds.ps pair_kinds.r pair_reads.Learnt (λ κs lent code left_in.
+    let args = searched_tables lent in
+    let exits = searched_tables left_in in
+    let bench = searched_tables (own args).1 in
+    let bench' = searched_tables (own exits).1 in
     let ask = pairing of_factory (other_in (tables_of bench) (own bench).0.now) (own bench).1.0.now (own args).0.now in
     c_exchange ask (tables_of args) (own bench).1.1.0.now (returned code (own bench').1.1.0.now) (after_search args exits)
     ((own exits).0.now ∷ (own bench').0.now ∷ work bench' ∷ []))
 
 -- .. and one of the bench's
 abbrev pub PairsAsBench : Call → Tables → List ℕ → CReply → Tables → Type 0
-PairsAsBench = Made pair_kinds.ps pair_kinds.r pair_reads.Learnt (λ κs args code exits.
-    let bench = (own args).1 in
-    let bench' = (own exits).1 in
+PairsAsBench = Made pair_kinds.ps pair_kinds.r pair_reads.Learnt (λ κs lent code left_in.
+    let args = searched_tables lent in
+    let exits = searched_tables left_in in
+    let bench = searched_tables (own args).1 in
+    let bench' = searched_tables (own exits).1 in
     let ask = pairing of_bench (other_in (tables_of args) (own args).0.now) (own bench).1.0.now (own bench).0.now in
     c_exchange ask (tables_of bench) (own bench).1.1.0.now (returned code (own bench').1.1.0.now) (after_search bench bench')
     ((own bench').0.now ∷ (own exits).0.now ∷ work exits ∷ []))
 
 -- all tables but search work are lent to read
 abbrev pub MatchesWithin : Call → Tables → List ℕ → CReply → Tables → Type 0
-MatchesWithin = Made limit_kinds.ps limit_kinds.r limit_reads.Learnt (λ κs args code exits.
+MatchesWithin = Made limit_kinds.ps limit_kinds.r limit_reads.Learnt (λ κs lent code left_in.
+    let args = searched_tables lent in
+    let exits = searched_tables left_in in
     c_exchange (limiting (own args).1.1.0 (own args).1.0.now (own args).0.now) (tables_of args) (own args).1.1.1.0.now
     (returned code (own exits).1.1.1.0.now) (after_search args exits)
     ((own exits).0.now ∷ []))
 
 -- all tables but search work are lent to read
 abbrev pub MatchesClipped : Call → Tables → List ℕ → CReply → Tables → Type 0
-MatchesClipped = Made clip_kinds.ps clip_kinds.r clip_reads.Learnt (λ κs args code exits.
+MatchesClipped = Made clip_kinds.ps clip_kinds.r clip_reads.Learnt (λ κs lent code left_in.
+    let args = searched_tables lent in
+    let exits = searched_tables left_in in
     c_exchange (clipping (own args).1.0.now (own args).1.1.0.now (own args).0.now) (tables_of args) (own args).1.1.1.0.now
     (returned code (own exits).1.1.1.0.now) (after_search args exits)
     ((own exits).0.now ∷ []))
@@ -205,7 +231,9 @@ MatchesClipped = Made clip_kinds.ps clip_kinds.r clip_reads.Learnt (λ κs args 
 -- a batch is lent a list of structs, so that no `Learnt` is generated: its claim is written here, and it is the clause of the contract
 -- (`Theorem`: `batch_clause`)
 abbrev pub batch_seen : (κs : Lfts 10) → Args batch.signature κs → ℕ → AtExit batch.ended κs → CExchange
-batch_seen κs args code exits =
+batch_seen κs lent code left_in =
+    let args = searched_tables lent in
+    let exits = searched_tables left_in in
     let ask = batching (own args).1.1.0 (own args).1.0.now (own args).0.now (nears_of (own args).1.1.1.0.now) in
     c_exchange ask (tables_of args) (own args).1.1.1.1.0.now (returned code (own exits).1.1.1.1.0.now)
     (after_search args exits)

@@ -14,7 +14,7 @@ use Rattle.tables.specs.View.{traces_in}
 use Rattle.calls.specs.Effects.{other_in, outcome_on}
 use Rattle.calls.specs.Follows.{Follows}
 use Rattle.pairing.specs.Parts.{LentPart, lent_part, no_words, trace_part}
-use Rattle.demands.specs.Did.{own, tables_of, Did}
+use Rattle.demands.specs.Did.{searched_tables, own, tables_of, Did}
 use Rattle.demands.specs.Theorem.{Clause, Theorem}
 use Rattle.library_c.specs.contracts.silkendoz_open as open_call
 use Rattle.library_c.proofs.silkendoz_open.Statement as open_statement
@@ -106,34 +106,36 @@ pub record ExportedTheorem : Type 2 where
   pub limit_meets : {M : Type 1} → limit_statement.statement M
   pub clip_meets : {M : Type 1} → clip_statement.statement M
   -- what `CDid` claims of a call is what its contract ensures, and no more is asked
-  pub open_clause : Clause open_call.ended (λ M 𝓤. open_call.spec 𝓤) open_reads.Learnt
-  pub add_clause : Clause add.ended (λ M 𝓤. add.spec 𝓤) add_reads.Learnt
-  pub nearest_clause : Clause nearest.ended (λ M 𝓤. nearest.spec 𝓤) nearest_reads.Learnt
-  pub write_clause : Clause write.ended (λ M 𝓤. write.spec 𝓤) write_reads.Learnt
-  pub read_clause : Clause read.ended (λ M 𝓤. read.spec 𝓤) read_reads.Learnt
-  pub list_clause : Clause list.ended (λ M 𝓤. list.spec 𝓤) list_reads.Learnt
-  pub import_clause : Clause import_call.ended (λ M 𝓤. import_call.spec 𝓤) import_reads.Learnt
-  pub export_clause : Clause export_call.ended (λ M 𝓤. export_call.spec 𝓤) export_reads.Learnt
-  pub check_clause : Clause check.ended (λ M 𝓤. check.spec 𝓤) check_reads.Learnt
-  pub batch_clause : Clause batch.ended (λ M 𝓤. batch.spec 𝓤) BatchLearnt
-  pub add_labelled_clause : Clause add_labelled.ended (λ M 𝓤. add_labelled.spec 𝓤) add_labelled_reads.Learnt
-  pub label_clause : Clause label_call.ended (λ M 𝓤. label_call.spec 𝓤) label_reads.Learnt
-  pub remote_clause : Clause remote_call.ended (λ M 𝓤. remote_call.spec 𝓤) remote_reads.Learnt
-  pub band_clause : Clause band_call.ended (λ M 𝓤. band_call.spec 𝓤) band_reads.Learnt
-  pub pair_clause : Clause pair_call.ended (λ M 𝓤. pair_call.spec 𝓤) pair_reads.Learnt
-  pub limit_clause : Clause limit_call.ended (λ M 𝓤. limit_call.spec 𝓤) limit_reads.Learnt
-  pub clip_clause : Clause clip_call.ended (λ M 𝓤. clip_call.spec 𝓤) clip_reads.Learnt
+  pub open_clause : Clause open_call.ended (λ M 𝓤 𝓛. open_call.spec 𝓛) open_reads.Learnt
+  pub add_clause : Clause add.ended (λ M 𝓤 𝓛. add.spec 𝓛) add_reads.Learnt
+  pub nearest_clause : Clause nearest.ended (λ M 𝓤 𝓛. nearest.spec 𝓛) nearest_reads.Learnt
+  pub write_clause : Clause write.ended (λ M 𝓤 𝓛. write.spec 𝓛) write_reads.Learnt
+  pub read_clause : Clause read.ended (λ M 𝓤 𝓛. read.spec 𝓛) read_reads.Learnt
+  pub list_clause : Clause list.ended (λ M 𝓤 𝓛. list.spec 𝓛) list_reads.Learnt
+  pub import_clause : Clause import_call.ended (λ M 𝓤 𝓛. import_call.spec 𝓛) import_reads.Learnt
+  pub export_clause : Clause export_call.ended (λ M 𝓤 𝓛. export_call.spec 𝓛) export_reads.Learnt
+  pub check_clause : Clause check.ended (λ M 𝓤 𝓛. check.spec 𝓛) check_reads.Learnt
+  pub batch_clause : Clause batch.ended (λ M 𝓤 𝓛. batch.spec 𝓛) BatchLearnt
+  pub add_labelled_clause : Clause add_labelled.ended (λ M 𝓤 𝓛. add_labelled.spec 𝓛) add_labelled_reads.Learnt
+  pub label_clause : Clause label_call.ended (λ M 𝓤 𝓛. label_call.spec 𝓛) label_reads.Learnt
+  pub remote_clause : Clause remote_call.ended (λ M 𝓤 𝓛. remote_call.spec 𝓛) remote_reads.Learnt
+  pub band_clause : Clause band_call.ended (λ M 𝓤 𝓛. band_call.spec 𝓛) band_reads.Learnt
+  pub pair_clause : Clause pair_call.ended (λ M 𝓤 𝓛. pair_call.spec 𝓛) pair_reads.Learnt
+  pub limit_clause : Clause limit_call.ended (λ M 𝓤 𝓛. limit_call.spec 𝓛) limit_reads.Learnt
+  pub clip_clause : Clause clip_call.ended (λ M 𝓤 𝓛. clip_call.spec 𝓛) clip_reads.Learnt
   -- what it leaves is what the definition makes of the call and the memory before, and what it tells is the answer
   pub follows : (c : Call) (memory memory' : Tables) (out : List ℕ) (got : CReply) → CDid c memory out got memory'
       → Told c memory out got memory'
   -- document 02, §11: it "hands back the winning trace as part of the lent table it came from; a refusal hands back an empty part". The
   -- part is what is then laid behind `out`, and the answer is that of the call
-  pub part_is : (κs : Lfts 16) (args : Dens κs pair_kinds.ps) (code : ℕ) (exits : AtExit (ended_of 16 pair_kinds.ps pair_kinds.r) κs)
-      → pair_reads.Learnt κs args code exits
-      → let bench = (own args).1 in
+  pub part_is : (κs : Lfts 16) (lent : Dens κs pair_kinds.ps) (code : ℕ) (left_in : AtExit (ended_of 16 pair_kinds.ps pair_kinds.r) κs)
+      → pair_reads.Learnt κs lent code left_in
+      → let args = searched_tables lent in
+      let exits = searched_tables left_in in
+      let bench = searched_tables (own args).1 in
       let ask = pairing of_factory (other_in (tables_of bench) (own bench).0.now) (own bench).1.0.now (own args).0.now in
       PartHanded (tables_of args) (tables_of bench) (outcome_on ask (tables_of args)).answer (lent_part args.1.0) (lent_part bench.1.0)
-      (lent_part (own (own exits).1).1.1.1.0.now)
+      (lent_part (own (searched_tables (own exits).1)).1.1.1.0.now)
   -- each call has its exported function, whatever `out` is lent, so that nothing is claimed of no call
   pub linked : (c : Call) (memory memory' : Tables) (said : Reply) (out : List ℕ) → Did c memory said memory'
       → CDid c memory out (c_reply said out) memory'

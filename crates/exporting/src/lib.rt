@@ -1,4 +1,5 @@
 // Exporting a stored trace as a recording.
+#![tactic(auto)]
 
 pub mod judging; // what exporting refuses
 

@@ -1,10 +1,11 @@
 // Importing a recording into lent tables.
+#![tactic(auto)]
 
 pub mod judging; // what importing refuses
 
 ghost use Rattle.std.specs.Prelude.{◌≡◌, []};
 ghost use Rattle.dstree.specs.Book.{importing};
-ghost use Rattle.tables.specs.Lent.{tables_after_adding, tables_before};
+ghost use Rattle.tables.specs.Lent.{tables_after_adding, tables_before_adding};
 ghost use Rattle.calls.specs.Outcome.{outcome};
 ghost use Rattle.calls.specs.Effects.{outcome_on};
 ghost use Rattle.importing.specs.Answered.{answer_by};
@@ -43,7 +44,7 @@ pub fn import_recording(
         (tables_after_adding control samples nodes links work labels)
         []
         ≡ outcome_on (importing bytes.now)
-        (tables_before control samples nodes links work labels) }
+        (tables_before_adding control samples nodes links work labels) }
 {
     let judged = judging::judge(control, samples, nodes, links, work, labels, bytes);
     match judged {

@@ -1,4 +1,5 @@
 // The bench's call: the fault code and the machine serial of a stored trace.
+#![tactic(auto)]
 
 pub mod judging; // what the call refuses
 

@@ -1,4 +1,5 @@
 // The nearest stored trace of lent tables, with a limit on the leaves that are read.
+#![tactic(auto)]
 
 pub mod judging; // what a match with a limit refuses
 
@@ -7,7 +8,7 @@ ghost use Rattle.segment.specs.Limits.{sample_most, SamplesWithin};
 ghost use Rattle.dstree.specs.Measures.{work_needed};
 ghost use Rattle.dstree.specs.Book.{limiting};
 ghost use Rattle.tables.specs.Tables.{measures_of};
-ghost use Rattle.tables.specs.Lent.{tables_after_search, tables_before};
+ghost use Rattle.tables.specs.Lent.{tables_after_search, tables_before_search};
 ghost use Rattle.calls.specs.Outcome.{outcome};
 ghost use Rattle.calls.specs.Effects.{outcome_on};
 ghost use Rattle.search.specs.Searched.{without_work, Ready, MatchedWithin};
@@ -80,7 +81,7 @@ pub fn match_within(
         (tables_after_search control samples nodes links work labels)
         (trail.new ∷ [])
         ≡ outcome_on (limiting most query.now trail.old)
-        (tables_before control samples nodes links work labels) }
+        (tables_before_search control samples nodes links work labels) }
 {
     let verdict = judging::judge(
         control, samples, nodes, links, work, labels, query, trail, most,

@@ -1,4 +1,5 @@
 // The k nearest stored traces of lent tables.
+#![tactic(auto)]
 
 pub mod judging; // what a listing refuses
 
@@ -7,7 +8,7 @@ ghost use Rattle.segment.specs.Limits.{sample_most, SamplesWithin};
 ghost use Rattle.dstree.specs.Measures.{work_needed};
 ghost use Rattle.dstree.specs.Book.{listing};
 ghost use Rattle.tables.specs.Tables.{measures_of};
-ghost use Rattle.tables.specs.Lent.{tables_after_search, tables_before};
+ghost use Rattle.tables.specs.Lent.{tables_after_search, tables_before_search};
 ghost use Rattle.calls.specs.Outcome.{outcome};
 ghost use Rattle.calls.specs.Effects.{outcome_on};
 ghost use Rattle.search.specs.Searched.{without_work, Ready, ListSearched};
@@ -83,7 +84,7 @@ pub fn k_nearest(
         (tables_after_search control samples nodes links work labels)
         (trail.new ∷ list.new ∷ [])
         ≡ outcome_on (listing k query.now trail.old list.old)
-        (tables_before control samples nodes links work labels) }
+        (tables_before_search control samples nodes links work labels) }
 {
     let verdict = judging::judge(
         control, samples, nodes, links, work, labels, query, trail, list, k,

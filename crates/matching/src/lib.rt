@@ -1,4 +1,5 @@
 // The nearest stored trace of lent tables.
+#![tactic(auto)]
 
 pub mod judging; // what a match refuses
 
@@ -7,7 +8,7 @@ ghost use Rattle.segment.specs.Limits.{sample_most, SamplesWithin};
 ghost use Rattle.dstree.specs.Measures.{work_needed};
 ghost use Rattle.dstree.specs.Book.{matching};
 ghost use Rattle.tables.specs.Tables.{measures_of};
-ghost use Rattle.tables.specs.Lent.{tables_after_search, tables_before};
+ghost use Rattle.tables.specs.Lent.{tables_after_search, tables_before_search};
 ghost use Rattle.calls.specs.Outcome.{outcome};
 ghost use Rattle.calls.specs.Effects.{outcome_on};
 ghost use Rattle.search.specs.Searched.{without_work, Ready, Searched};
@@ -66,7 +67,7 @@ pub fn nearest(
         (tables_after_search control samples nodes links work labels)
         (trail.new ∷ [])
         ≡ outcome_on (matching query.now trail.old)
-        (tables_before control samples nodes links work labels) }
+        (tables_before_search control samples nodes links work labels) }
 {
     let verdict = judging::judge(control, samples, nodes, links, work, labels, query, trail);
     match verdict {

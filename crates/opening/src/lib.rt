@@ -1,11 +1,12 @@
 // Opening a library in lent tables.
+#![tactic(auto)]
 
 ghost use Rattle.std.specs.Prelude.{◌≡◌, [], ◌∷◌, ◌≤◌, length, drop};
 ghost use Rattle.dstree.specs.Measures.{measures};
 ghost use Rattle.dstree.specs.Book.{opening};
 ghost use Rattle.tables.specs.Layout.{control_fields};
 ghost use Rattle.tables.specs.Tables.{labelled_tables, lent_of};
-ghost use Rattle.tables.specs.Lent.{tables_after, tables_before};
+ghost use Rattle.tables.specs.Lent.{tables_after, tables_before_all};
 ghost use Rattle.tables.specs.Answers.{opened};
 ghost use Rattle.tables.specs.Judge.{LongEnough};
 ghost use Rattle.calls.specs.Outcome.{outcome};
@@ -53,7 +54,7 @@ pub fn put_empty(
         (measures n capacity leaf_size) }
     ensures { tables_after control samples nodes links work labels
         ≡ opened
-        (tables_before control samples nodes links work labels)
+        (tables_before_all control samples nodes links work labels)
         (measures n capacity leaf_size) }
 {
     let records = records_needed(capacity);
@@ -85,7 +86,7 @@ pub fn open(
         (tables_after control samples nodes links work labels)
         []
         ≡ outcome_on (opening (measures n capacity leaf_size))
-        (tables_before control samples nodes links work labels) }
+        (tables_before_all control samples nodes links work labels) }
 {
     let verdict = judge_opening(
         control.len(),

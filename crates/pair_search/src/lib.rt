@@ -1,4 +1,5 @@
 // Two libraries searched together, for one query: the leaves of each in their own order, the lower next bound first.
+#![tactic(auto)]
 
 pub mod sides; // one of the two: its next leaf, and what was found in it
 pub mod limits; // how far the search goes

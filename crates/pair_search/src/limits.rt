@@ -6,7 +6,7 @@ ghost use Rattle.reading.specs.Listed.{nears_in};
 ghost use Rattle.pair_search.specs.Limits.{past};
 
 // A distance, if there is one; else nothing is past it.
-#[derive(Drop)]
+#[derive(Clone, Copy)]
 pub struct Limit {
     pub limited: bool,
     pub distance: u64,

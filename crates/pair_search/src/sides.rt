@@ -11,7 +11,7 @@ use segment::Word;
 
 // Whether a leaf was taken from the heap that is not read yet, its bound and its number; how many keys wait behind it; and what was found:
 // the nearest trace, if there is one, is in a list of one, `listed` long; `out` leaves and `traces` traces were read.
-#[derive(Drop)]
+#[derive(Clone, Copy)]
 pub struct Side {
     pub ahead: bool,
     pub bound: u64,

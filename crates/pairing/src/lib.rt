@@ -1,4 +1,5 @@
 // The nearest stored trace of two libraries, the factory's and the bench's.
+#![tactic(auto)]
 
 pub mod judging; // what a match over two libraries refuses
 pub mod parts; // the winning trace, as part of the table that it lies in
@@ -9,7 +10,7 @@ ghost use Rattle.dstree.specs.Measures.{work_needed};
 ghost use Rattle.dstree.specs.Pair.{of_factory};
 ghost use Rattle.dstree.specs.Book as book;
 ghost use Rattle.tables.specs.Tables.{measures_of};
-ghost use Rattle.tables.specs.Lent.{tables_after_search, tables_before};
+ghost use Rattle.tables.specs.Lent.{tables_after_search, tables_before_search};
 ghost use Rattle.calls.specs.Outcome.{outcome};
 ghost use Rattle.calls.specs.Effects.{other_in, outcome_on};
 ghost use Rattle.search.specs.Searched.{without_work};
@@ -119,10 +120,10 @@ pub fn match_both(
         (tables_after_search control samples nodes links work labels)
         (trail.new ∷ bench_trail.new ∷ bench_work.new ∷ [])
         ≡ outcome_on (book.pairing of_factory
-        (other_in (tables_before bench_control bench_samples bench_nodes bench_links bench_work bench_labels)
+        (other_in (tables_before_search bench_control bench_samples bench_nodes bench_links bench_work bench_labels)
         bench_trail.old)
         query.now trail.old)
-        (tables_before control samples nodes links work labels) }
+        (tables_before_search control samples nodes links work labels) }
 {
     let verdict = judging::judge(
         control,

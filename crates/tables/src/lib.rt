@@ -13,7 +13,7 @@ pub mod given; // samples that a caller gives
 pub mod label_table; // codes and serials, in their places
 
 // A word of the table of refusals, document 01's and then document 02's. A torn block has its number for a place.
-#[derive(Drop)]
+#[derive(Clone, Copy)]
 pub enum Refusal {
     Measure,
     ShortTable,

@@ -9,7 +9,7 @@ use lib.ListN.{length, drop}
 use mir.Syntax.{w64}
 use mir.Facts.{to_z-of_z}
 use borrow.Author.Rules.{rules}
-use Rattle.integer.proofs.Width.{of_mag, read}
+use Rattle.integer.proofs.Width.{read, small}
 use Rattle.segment.specs.Figures.{sum, scatter}
 use Rattle.segment.specs.Limits.{scatter_most, scatter_room}
 use Rattle.segment.specs.Stored.{samples_of}
@@ -42,7 +42,7 @@ returns c =
     let headed : c.write_leaf_head.new.record ≡ leaf_head 1 0 ++ drop head_places (filled record_places (pos 0) r) =
     c.write_leaf_head.ensures ∙ ap (λ (l : List ℤ). leaf_head 1 0 ++ drop head_places l) zeros in
     let z : read w64 f.sum ≡ sum x =
-    to_z-of_z (of_mag {w = w64} f.sum c.struct_told-1.given.0.1) ∙ c.figures_of-f.ensures.sum.0 in
+    to_z-of_z (small {w = w64} {z = f.sum} (omega (arith, c.figures_of-f.ensures.sum.1, c.requires.1))) ∙ c.figures_of-f.ensures.sum.0 in
     let v : f.scatter ≡ scatter x = c.figures_of-f.ensures.scatter in
     let e : c.write_segment.new.record ≡ with_segment c.write_leaf_head.new.record 0
     (segment_of_parts (length words) (read w64 f.sum) (read w64 f.sum) f.scatter f.scatter) = c.write_segment.ensures in

@@ -10,7 +10,7 @@ use lib.Signed.{le_z}
 use mir.Syntax.{w64}
 use mir.Facts.{to_z-of_z}
 use borrow.Author.Rules.{sfits_of}
-use Rattle.integer.proofs.Width.{of_mag, read}
+use Rattle.integer.proofs.Width.{read, small}
 use Rattle.segment.specs.Roots.{floor_root}
 use Rattle.segment.specs.Stored.{samples_of}
 use Rattle.segment.proofs.Stored.{samples_length}
@@ -22,16 +22,15 @@ use Rattle.prefixes.proofs.Cut.{sum_most_lem}
 use Rattle.insertion.proofs.way.goes_left.Goals as goal
 
 -- the run's figures: at most 256 samples have a small sum, and it is handed on as it is
-module _ (c : goal.After-struct_told-1) where
-  narrow : let k = c in width (run k.small_at-first.result k.small_at-last.result) ≤ 256
-  narrow =
-      omega (arith, c.requires.1.on.from_1, c.requires.1.on.to_n, c.requires.0.few, samples_length c.args.trace.now, c.small_at-first.ensures, c.small_at-last.ensures)
-
 pub is_left-requires : goal.is_left-requires
 is_left-requires c =
+    let on = c.requires.1.on in
+    let narrow : width (run c.small_at-first.result c.small_at-last.result) ≤ 256 =
+    omega (arith, on.from_1, on.to_n, c.requires.0.few, samples_length c.args.trace.now, c.small_at-first.ensures, c.small_at-last.ensures) in
+    let most = sum_most_lem narrow c.figures_on-own.ensures.size.0 in
     let sum = c.figures_on-own.result.sum in
-    let sum_read : read w64 sum ≡ sum = to_z-of_z (of_mag {w = w64} sum c.struct_told-1.given.0.1) in
-    rw sum_read (omega (arith, sum_most_lem (narrow c) c.figures_on-own.ensures.size.0))
+    let sum_read : read w64 sum ≡ sum = to_z-of_z (small {w = w64} {z = sum} (omega (arith, most))) in
+    rw sum_read (omega (arith, most))
 
 pub returns : goal.returns
 unfolding test_in
@@ -43,7 +42,10 @@ returns c =
     let kind : c.small_at-by_scatter.result ≡ small_at r kind_place = c.small_at-by_scatter.ensures in
     let first : c.small_at-first.result ≡ small_at r run_first_place = c.small_at-first.ensures in
     let last : c.small_at-last.result ≡ small_at r run_last_place = c.small_at-last.ensures in
-    let sum_read : read w64 g.result.sum ≡ g.result.sum = to_z-of_z (of_mag {w = w64} g.result.sum c.struct_told-1.given.0.1) in
+    let on = c.requires.1.on in
+    let narrow : width (run c.small_at-first.result c.small_at-last.result) ≤ 256 =
+    omega (arith, on.from_1, on.to_n, c.requires.0.few, samples_length c.args.trace.now, c.small_at-first.ensures, c.small_at-last.ensures) in
+    let sum_read : read w64 g.result.sum ≡ g.result.sum = to_z-of_z (small {w = w64} {z = g.result.sum} (omega (arith, sum_most_lem narrow g.ensures.size.0))) in
     let threshold : read w64 value.result ≡ value_at r threshold_place = to_z-of_z (sfits_of {w = w64} {z = value.result} value.type_inv) ∙ value.ensures in
     c.is_left.ensures
     ∙ ap₂ (λ (z t : ℤ). le_z (pos 2 *ℤ (if eqb c.small_at-by_scatter.result 2 then pos (floor_root g.result.scatter) else z)) t) sum_read threshold

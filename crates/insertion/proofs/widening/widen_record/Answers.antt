@@ -14,7 +14,7 @@ use Rattle.dstree.specs.Figures.{run}
 use Rattle.dstree.specs.Adding.{widen_segment}
 use Rattle.tables.specs.Layout.{segments_place, segment_at, record_places}
 use Rattle.tables.specs.View.{small_at, segment_in}
-use Rattle.insertion.specs.Widening.{start_in, end_in, with_segment, SegmentReadable}
+use Rattle.insertion.specs.Widening.{start_in, end_in, with_segment, Readable}
 use Rattle.insertion.proofs.Widened.{partly, partly_none, partly_length, partly_more, partly_all, end_later, segment_later, readable_later}
 use Rattle.insertion.proofs.widening.widen_record.Goals as goal
 
@@ -24,30 +24,15 @@ next_partly : (x : Trace) (old l : List ℤ) (i first : ℕ) → segment_at (suc
 next_partly x old l i first room f e = rw (e, f, segment_later x old i room, end_later x old i room) (partly_more x old i room)
 
 -- what a turn of the loop knows of the record at first, and of the record as it is
-module _ (c : goal.In-loop-i) where
-  abbrev old : List ℤ
-  old = c.args.«record».now
+module _ (x : Trace) (old l : List ℤ) (i n : ℕ) (p : Readable old n) (inside : i < small_at old segments_place) (e : l ≡ partly x old i) where
+  room : segment_at (suc i) ≤ length old
+  room = omega (arith, inside, p.few, p.size)
 
-  abbrev words : List ℤ
-  words = c.args.trace.now
+  long : length l ≡ record_places
+  long = ap length e ∙ (partly_length x old i (omega (arith, room)) ∙ p.size)
 
-  abbrev x : Trace
-  x = samples_of words
-
-  inside : c.loop-i.i < small_at old segments_place
-  inside = omega (arith, c.small_at-count.ensures)
-
-  room : segment_at (suc c.loop-i.i) ≤ length old
-  room = omega (arith, inside, c.requires.1.few, c.requires.1.size)
-
-  long : length c.loop-i.«record» ≡ record_places
-  long = ap length c.loop-i.invariant.2 ∙ (partly_length x old c.loop-i.i (omega (arith, room)) ∙ c.requires.1.size)
-
-  readable : SegmentReadable old c.loop-i.i (start_in old c.loop-i.i) (length words)
-  readable = c.requires.1.segment c.loop-i.i inside
-
-  end_is : end_in c.loop-i.«record» c.loop-i.i ≡ end_in old c.loop-i.i
-  end_is = ap (λ (r : List ℤ). end_in r c.loop-i.i) c.loop-i.invariant.2 ∙ end_later x old c.loop-i.i room
+  end_is : end_in l i ≡ end_in old i
+  end_is = ap (λ (r : List ℤ). end_in r i) e ∙ end_later x old i room
 
 pub small_at-count-requires : goal.small_at-count-requires
 small_at-count-requires c = (c.requires.1.size, omega arith)
@@ -56,36 +41,55 @@ pub loop-i-init : goal.loop-i-init
 loop-i-init c = (omega arith, refl, sym (partly_none (samples_of c.args.trace.now) c.args.«record».now))
 
 pub small_at-end-requires : goal.small_at-end-requires
-small_at-end-requires c = (long c, omega arith)
+small_at-end-requires c =
+    let a = c.args in
+    let l = c.loop-i in
+    let x = samples_of a.trace.now in
+    let old = a.«record».now in
+    let inside : l.i < small_at old segments_place = omega (arith, c.small_at-count.ensures) in
+    (long x old l.«record» l.i (length a.trace.now) c.requires.1 inside l.invariant.2, omega arith)
 
 pub widen_segment-requires : goal.widen_segment-requires
 widen_segment-requires c =
+    let a = c.args in
     let l = c.loop-i in
-    let few = c.requires.1.few in record {
+    let x = samples_of a.trace.now in
+    let old = a.«record».now in
+    let inside : l.i < small_at old segments_place = omega (arith, c.small_at-count.ensures) in
+    let few = c.requires.1.few in
+    record {
       prefixes = c.requires.0;
       readable = (
-        long c.before.before,
-        omega (arith, inside c.before.before),
-        rw (l.invariant.2, l.invariant.1) (readable_later (x c.before.before) (old c.before.before) l.i (room c.before.before) (start_in (old c.before.before) l.i) (length (words c.before.before)) (readable c.before.before)),
+        long x old l.«record» l.i (length a.trace.now) c.requires.1 inside l.invariant.2,
+        omega (arith, inside),
+        rw (l.invariant.2, l.invariant.1) (readable_later x old l.i (room x old l.«record» l.i (length a.trace.now) c.requires.1 inside l.invariant.2) (start_in old l.i) (length a.trace.now) (c.requires.1.segment l.i inside)),
       );
     }
 
 pub overflow_add-first : goal.overflow_add-first
 overflow_add-first c =
-    let e : c.small_at-end.result ≡ end_in c.loop-i.«record» c.loop-i.i = c.small_at-end.ensures in
-    omega (arith, e ∙ end_is c.before.before.before.before, (readable c.before.before.before.before).on.to_n, c.requires.0.few, samples_length (words c.before.before.before.before))
+    let a = c.args in
+    let l = c.loop-i in
+    let x = samples_of a.trace.now in
+    let old = a.«record».now in
+    let inside : l.i < small_at old segments_place = omega (arith, c.small_at-count.ensures) in
+    let e : c.small_at-end.result ≡ end_in l.«record» l.i = c.small_at-end.ensures in
+    omega (arith, e ∙ end_is x old l.«record» l.i (length a.trace.now) c.requires.1 inside l.invariant.2, (c.requires.1.segment l.i inside).on.to_n, c.requires.0.few, samples_length a.trace.now)
 
 pub loop-i-preserved : goal.loop-i-preserved
 loop-i-preserved c =
+    let a = c.args in
     let l = c.loop-i in
+    let x = samples_of a.trace.now in
+    let old = a.«record».now in
+    let inside : l.i < small_at old segments_place = omega (arith, c.small_at-count.ensures) in
     let e : c.small_at-end.result ≡ end_in l.«record» l.i = c.small_at-end.ensures in
-    let first : c.small_at-end.result + 1 ≡ start_in (old c.before.before.before.before) (l.i + 1) =
-    add-one c.small_at-end.result ∙ (ap suc (e ∙ end_is c.before.before.before.before) ∙ ap (start_in (old c.before.before.before.before)) (sym (add-one l.i))) in
-    let after : c.widen_segment.new.record ≡ with_segment l.«record» l.i (widen_segment (x c.before.before.before.before) (run l.first (end_in l.«record» l.i)) (segment_in l.«record» l.i)) =
+    let first : c.small_at-end.result + 1 ≡ start_in old (l.i + 1) =
+    add-one c.small_at-end.result ∙ (ap suc (e ∙ end_is x old l.«record» l.i (length a.trace.now) c.requires.1 inside l.invariant.2) ∙ ap (start_in old) (sym (add-one l.i))) in
+    let after : c.widen_segment.new.record ≡ with_segment l.«record» l.i (widen_segment x (run l.first (end_in l.«record» l.i)) (segment_in l.«record» l.i)) =
     c.widen_segment.ensures in
-    let more : c.widen_segment.new.record ≡ partly (x c.before.before.before.before) (old c.before.before.before.before) (l.i + 1) =
-    after
-    ∙ (next_partly _ _ _ l.i _ (room c.before.before.before.before) l.invariant.1 l.invariant.2 ∙ ap (partly (x c.before.before.before.before) (old c.before.before.before.before)) (sym (add-one l.i))) in
+    let more : c.widen_segment.new.record ≡ partly x old (l.i + 1) =
+    after ∙ (next_partly x old l.«record» l.i l.first (room x old l.«record» l.i (length a.trace.now) c.requires.1 inside l.invariant.2) l.invariant.1 l.invariant.2 ∙ ap (partly x old) (sym (add-one l.i))) in
     (omega arith, first, more)
 
 pub shape_of-record : goal.shape_of-record

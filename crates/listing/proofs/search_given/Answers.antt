@@ -1,0 +1,46 @@
+-- `listing::search_given` meets its contract: the words stand for the query.
+use mathlib.Core.Path.{sym, subst}
+use Prim.Native.Nat.{◌≤◌}
+use native.Mathlib.Omega.{arith}
+use lib.ListN.{length}
+use lib.Seq.{length-take-le}
+use Rattle.dstree.specs.Measures.{Trace}
+use Rattle.search.specs.Searched.{without_work, Ready, ListSearched}
+use Rattle.search.proofs.Facts.{length_fits}
+use Rattle.listing.proofs.search_given.Goals as goal
+
+pub words_of-requires : goal.words_of-requires
+words_of-requires c =
+    let a = c.args in
+    let given = without_work a.control.now a.samples.now a.nodes.now a.links.now in
+    (length_fits given a.query.now (length a.trail.now) c.requires.ready.0, c.requires.ready.2)
+
+pub slice_bounds-words-end : goal.slice_bounds-words-end
+slice_bounds-words-end c =
+    let a = c.args in
+    let given = without_work a.control.now a.samples.now a.nodes.now a.links.now in
+    omega (arith, length_fits given a.query.now (length a.trail.now) c.requires.ready.0, c.words_of.ensures.long)
+
+pub slice_bounds-search_list-end : goal.slice_bounds-search_list-end
+slice_bounds-search_list-end c =
+    let a = c.args in
+    let given = without_work a.control.now a.samples.now a.nodes.now a.links.now in
+    let room : length a.query.now ≤ length c.words_of.new.words = omega (arith, length_fits given a.query.now (length a.trail.now) c.requires.ready.0, c.words_of.ensures.long) in
+    sym (length-take-le (length a.query.now) c.words_of.new.words room)
+
+pub search_list-requires : goal.search_list-requires
+search_list-requires c =
+    let a = c.args in
+    let given = without_work a.control.now a.samples.now a.nodes.now a.links.now in
+    let ready = subst (λ (x : Trace). Ready given x (length a.trail.now)) (sym c.words_of.ensures.words_after) c.requires.ready.0 in
+    record { ready = (ready, c.requires.ready.1); list = c.requires.list }
+
+pub returns : goal.returns
+returns c =
+    let a = c.args in
+    let given = without_work a.control.now a.samples.now a.nodes.now a.links.now in
+    let r = c.search_list.result in
+    let left = c.search_list.new in
+    subst
+    (λ (x : Trace). ListSearched a.k given x a.work.now left.work a.trail.now left.trail a.list.now
+    left.list r.listed r.out r.traces) c.words_of.ensures.words_after c.search_list.ensures

@@ -1,0 +1,15 @@
+-- `pairing::parts::won_part` meets its contract, arm by arm.
+use Rattle.pairing.specs.Parts.{part_by}
+use Rattle.pairing.proofs.parts.won_part.Goals as goal
+
+pub returns-in-Factory : goal.returns-in-Factory
+unfolding part_by
+returns-in-Factory c = rw c.in-Factory.is c.stored_part.ensures
+
+pub returns-in-Bench : goal.returns-in-Bench
+unfolding part_by
+returns-in-Bench c = rw c.in-Bench.is c.stored_part-in-Bench.ensures
+
+pub returns-in-Refused : goal.returns-in-Refused
+unfolding part_by
+returns-in-Refused c = rw c.in-Refused.is

@@ -33,14 +33,14 @@ pub struct AnswerRecord {
 }
 
 // How many leaves were read, or a refusal.
-#[derive(Drop)]
+#[derive(Clone, Copy)]
 pub enum Batched {
     Done(u64),
     Refused(Refusal),
 }
 
 // What a batch found: a record for each query, two places each, trace number and distance. A refused one has the count 0.
-#[derive(Drop)]
+#[derive(Clone, Copy)]
 pub struct BatchFound {
     pub outcome: Batched,
     pub count: usize,

@@ -1,8 +1,9 @@
 // The jog remote's one call: a match whose answer adds the fault code of the trace that it finds.
+#![tactic(auto)]
 
 ghost use Rattle.std.specs.Prelude.{◌≡◌, [], ◌∷◌};
 ghost use Rattle.dstree.specs.Book.{remote_matching};
-ghost use Rattle.tables.specs.Lent.{tables_after_search, tables_before};
+ghost use Rattle.tables.specs.Lent.{tables_after_search, tables_before_search};
 ghost use Rattle.calls.specs.Outcome.{outcome};
 ghost use Rattle.calls.specs.Effects.{outcome_on};
 ghost use Rattle.remote.specs.Answered.{answer_by};
@@ -38,7 +39,7 @@ pub fn remote_match(
         (tables_after_search control samples nodes links work labels)
         (trail.new ∷ [])
         ≡ outcome_on (remote_matching query.now trail.old)
-        (tables_before control samples nodes links work labels) }
+        (tables_before_search control samples nodes links work labels) }
 {
     let found = nearest(control, samples, nodes, links, work, labels, trail, query);
     match found {

@@ -46,7 +46,7 @@ module _ (j : goal.After-clear-arg-1) where
       start.args.work.now start.args.labels.now
 
   are_bytes_lem : T (are_bytes bytes)
-  are_bytes_lem = known_bytes bytes (λ i. (known.shared_slice_known-2-1.given i).fits)
+  are_bytes_lem = known_bytes bytes (λ i. (known.type_inv.bytes i).fits)
 
 -- nothing was refused, and the file has so many traces
 module _ (counted_at : goal.After-clear-arg-1) where
@@ -90,7 +90,7 @@ module _ (j : goal.After-load-arg-in-Traces-3-1) where
       start_2.args.work.now start_2.args.labels.now
 
   are_bytes_lem_2 : T (are_bytes bytes_2)
-  are_bytes_lem_2 = known_bytes bytes_2 (λ i. (known_2.shared_slice_known-2-1.given i).fits)
+  are_bytes_lem_2 = known_bytes bytes_2 (λ i. (known_2.type_inv.bytes i).fits)
 
 -- nothing was refused, and the file has so many traces
 module _ (counted_at : goal.After-load-arg-in-Traces-3-1) where

@@ -183,7 +183,7 @@ module _ (j : goal.After-load-arg-in-Fine-3-1) where
       start_4.args.work.now start_4.args.labels.now
 
   known_4 : T (are_bytes bytes_4)
-  known_4 = known_bytes bytes_4 (λ i. (j.shared_slice_known-1.given i).fits)
+  known_4 = known_bytes bytes_4 (λ i. (j.type_inv.sheet i).fits)
 
   found_4 : first_of (reading_conditions layout (lent_of lent_4) (judge_sheet bytes_4)) ≡ found_by j.judge_reading-verdict.result
   found_4 = sym j.judge_reading-verdict.ensures

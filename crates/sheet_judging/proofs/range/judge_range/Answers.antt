@@ -62,7 +62,7 @@ pub returns-then-not-four : goal.returns-then-not-four
 unfolding found_by
 returns-then-not-four c =
     let b = c.args.sheet.now in
-    let known = known_bytes b (λ i. (c.shared_slice_known-1.given i).fits) in
+    let known = known_bytes b (λ i. (c.type_inv.sheet i).fits) in
     sym (ap (λ (w : Bool). first_of (range_conditions w (traces_held (format_by w) (blocks_in b)))) c.if-not-four.true
     ∙ narrow_fits b known (subst (λ (w : Bool). first_of (conditions_as (format_by w) b) ≡ none) c.if-not-four.true c.requires))
 

@@ -22,7 +22,7 @@ use segment::{Sample, Word};
 use tables::{Refusal, Verdict};
 
 // Whose trace is the nearest: its number, its distance, the factory's leaves read, the bench's, and traces read over both. Or a refusal.
-#[derive(Drop)]
+#[derive(Clone, Copy)]
 pub enum PairFound {
     Factory(u64, u64, u64, u64, u64),
     Bench(u64, u64, u64, u64, u64),

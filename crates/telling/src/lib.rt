@@ -4,6 +4,7 @@
 // match over two libraries tells which of them, 0 the factory's and 1 the bench's, then what a match does, and how many of the leaves are
 // the factory's. A match with a limit tells what a match does, whether it is settled, 1 or 0, and the bound; for a clipped sweep it is how
 // many traces are listed. An opening, a reading, a check and a report of bands tell nothing, a refusal its place.
+#![tactic(auto)]
 
 ghost use Rattle.std.specs.Prelude.{◌≡◌, List, [], ◌∷◌, ℕ, ◌^◌, ◌≤◌, ◌<◌, length, set};
 ghost use Rattle.dstree.specs.Matching.{Near};

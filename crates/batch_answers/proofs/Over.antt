@@ -4,7 +4,7 @@ use Prim.Native.Nat.{ℕ, zero, suc, ◌+◌, ◌≤◌, ◌<◌}
 use native.Mathlib.Numerals.{add-one}
 use native.Mathlib.Omega.{arith}
 use mathlib.Core.List.{List, [], ◌∷◌, ◌++◌, map, append-nil}
-use lib.ListN.{length, set, drop, length-append, length-drop, drop_of_length-le}
+use lib.ListN.{length, set, drop, length-append, drop_of_length-le}
 use lib.Seq.{drop-cons, set_at, append_snoc}
 use Rattle.integer.specs.Words.{counting}
 use Rattle.integer.proofs.Rows.{counting_more, map_append}
@@ -28,10 +28,6 @@ module _ {A : Type 0} (f : ℕ → A) where
     pub over_none : with_first_values f 0 list ≡ list
     unfolding with_first_values first_values
     over_none = refl
-
-    pub length_over : (k : ℕ) → k ≤ length list → length (with_first_values f k list) ≡ length list
-    unfolding with_first_values
-    length_over k h = simp (length-append, length_listed, length-drop) (omega arith)
 
     -- one place more
     pub over_more : (k : ℕ) → k < length list → set (with_first_values f k list) k (f k) ≡ with_first_values f (k + 1) list

@@ -1,5 +1,4 @@
-// One answer record for each query of a batch, stored in the caller's list, a lent slice of structs. The borrow checker covers no function
-// that is lent one: it is proved by a walk of its MIR, and so it does little.
+// One answer record for each query of a batch, stored in the caller's list, a lent slice of structs.
 #![tactic(auto)]
 
 ghost use Rattle.std.specs.Prelude.{◌≡◌};

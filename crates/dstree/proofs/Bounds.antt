@@ -137,7 +137,8 @@ module _ (tree : Tree) (child_above : (p c : ℕ) → T (has_child c (node_at tr
           let l : p < number = (child_above p number (parent_has tree number p e)).0 in
           rw (ih p (omega arith) (omega arith))
 
-  bound_step : (fuel parent child : ℕ) → parent_from 0 tree child ≡ some parent → bound_from (suc fuel) tree query child ≡ max (own_bound query (node_at tree child)) (bound_from fuel tree query parent)
+  bound_step : (fuel parent child : ℕ) → parent_from 0 tree child ≡ some parent → bound_from (suc fuel) tree query child ≡ max (own_bound query (node_at tree child))
+      (bound_from fuel tree query parent)
   unfolding bound_from
   bound_step fuel parent child e = rw e
 
@@ -154,22 +155,23 @@ module _ (tree : Tree) (child_above : (p c : ℕ) → T (has_child c (node_at tr
 
 -- ---- at most the distance
 
-module _ (n : ℕ) (stored : List Trace) (tree : Tree) (c : Containing n stored tree) (query : Trace) (all_n : (t : ℕ) → t < length stored → length (get_or stored t []) ≡ n) (lq : length query ≡ n) where
-  pub own_at_most : (t k : ℕ) → Below tree t k → own_bound query (node_at tree k) ≤ distance query (get_or stored t [])
-  own_at_most t k b = own_within n query (get_or stored t []) lq (all_n t (below_stored c.shape b)) (node_at tree k) (c.ranges t k b)
-      (parted_rises (c.shape.fits k (below_inside c.shape b)).parted)
+module _ (n : ℕ) (stored : List Trace) (tree : Tree) (c : Containing n stored tree) (query : Trace) (all_n : (t : ℕ) → t < length stored → length (get_or stored t []) ≡ n) (lq : length query ≡ n)
+  where
+    pub own_at_most : (t k : ℕ) → Below tree t k → own_bound query (node_at tree k) ≤ distance query (get_or stored t [])
+    own_at_most t k b = own_within n query (get_or stored t []) lq (all_n t (below_stored c.shape b)) (node_at tree k) (c.ranges t k b)
+        (parted_rises (c.shape.fits k (below_inside c.shape b)).parted)
 
-  from_at_most : (fuel t k : ℕ) → Below tree t k → bound_from fuel tree query k ≤ distance query (get_or stored t [])
-  unfolding bound_from
-  from_at_most zero t k b = omega arith
-  from_at_most (suc fuel) t k b = omega (arith, own_at_most t k b, by (parent_from 0 tree k) refl (λ (p : ℕ) (a : Below tree t p). from_at_most fuel t p a))
-    where
-      by : (o : Option ℕ) → parent_from 0 tree k ≡ o
-          → ((p : ℕ) → Below tree t p → bound_from fuel tree query p ≤ distance query (get_or stored t []))
-          → elim o [ none ↦ 0 | some parent ↦ bound_from fuel tree query parent ] ≤ distance query (get_or stored t [])
-      by none e ih = omega arith
-      by (some p) e ih = ih p (of_child (parent_has tree k p e) b)
+    from_at_most : (fuel t k : ℕ) → Below tree t k → bound_from fuel tree query k ≤ distance query (get_or stored t [])
+    unfolding bound_from
+    from_at_most zero t k b = omega arith
+    from_at_most (suc fuel) t k b = omega (arith, own_at_most t k b, by (parent_from 0 tree k) refl (λ (p : ℕ) (a : Below tree t p). from_at_most fuel t p a))
+      where
+        by : (o : Option ℕ) → parent_from 0 tree k ≡ o
+            → ((p : ℕ) → Below tree t p → bound_from fuel tree query p ≤ distance query (get_or stored t []))
+            → elim o [ none ↦ 0 | some parent ↦ bound_from fuel tree query parent ] ≤ distance query (get_or stored t [])
+        by none e ih = omega arith
+        by (some p) e ih = ih p (of_child (parent_has tree k p e) b)
 
-  -- "No node's bound exceeds the query's distance to a trace below it"
-  pub bound_at_most : (number trace : ℕ) → Below tree trace number → bound tree query number ≤ distance query (get_or stored trace [])
-  bound_at_most number trace b = from_at_most (length tree) trace number b
+    -- "No node's bound exceeds the query's distance to a trace below it"
+    pub bound_at_most : (number trace : ℕ) → Below tree trace number → bound tree query number ≤ distance query (get_or stored trace [])
+    bound_at_most number trace b = from_at_most (length tree) trace number b

@@ -130,7 +130,13 @@ exact stored P (reached_more r w) cover =
       least_sum_lem = record { trace = r.least_sum_lem.trace; is_one = r.least_sum_lem.below; has = r.least_sum_lem.is; none_beyond = λ t p. (covered_head (cover t p)).sum_low };
       greatest_sum_lem = record { trace = r.greatest_sum_lem.trace; is_one = r.greatest_sum_lem.below; has = r.greatest_sum_lem.is; none_beyond = λ t p. (covered_head (cover t p)).sum_high };
       least_scatter_lem = record { trace = r.least_scatter_lem.trace; is_one = r.least_scatter_lem.below; has = r.least_scatter_lem.is; none_beyond = λ t p. (covered_head (cover t p)).scatter_low };
-      greatest_scatter_lem = record { trace = r.greatest_scatter_lem.trace; is_one = r.greatest_scatter_lem.below; has = r.greatest_scatter_lem.is; none_beyond = λ t p. (covered_head (cover t p)).scatter_high };
+      greatest_scatter_lem = record {
+        trace = r.greatest_scatter_lem.trace;
+        is_one = r.greatest_scatter_lem.below;
+        has = r.greatest_scatter_lem.is;
+        none_beyond = λ t p.
+            (covered_head (cover t p)).scatter_high;
+      };
     })
     (exact stored P w (λ t p. covered_tail (cover t p)))
 

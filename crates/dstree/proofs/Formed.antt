@@ -41,7 +41,8 @@ every_node_lem : (passes : ℕ → Node → Bool) (number : ℕ) (tree : Tree) �
 unfolding every_node
 every_node_lem passes number [] h = tt
 every_node_lem passes number (a ∷ rest) h =
-    yes_and (passes number a) (every_node passes (suc number) rest) (h 0 number (omega arith) (omega arith)) (every_node_lem passes (suc number) rest (λ k j e g. h (suc k) j (omega arith) (omega arith)))
+    yes_and (passes number a) (every_node passes (suc number) rest) (h 0 number (omega arith) (omega arith)) (every_node_lem passes (suc number) rest
+    (λ k j e g. h (suc k) j (omega arith) (omega arith)))
 
 -- what stands past the last node: a leaf with nothing in it. What that does not have, only a node of the tree has
 abbrev pub empty_leaf : Node

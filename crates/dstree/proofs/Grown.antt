@@ -157,7 +157,8 @@ new_whole n (suc fuel) leaf_size stored tree at shape enough whole k =
     here h (no f) = past_whole leaf_size stored tree k (omega (arith, lt_of_not-le f))
 
     by : (b : Bool) → ltb at (length tree) ≡ b
-        → (((j : ℕ) → j < suc at → LeafWhole leaf_size stored (split leaf_size stored tree at) j) → LeafWhole leaf_size stored (split_new fuel leaf_size stored (split leaf_size stored tree at) (suc at)) k)
+        → (((j : ℕ) → j < suc at → LeafWhole leaf_size stored (split leaf_size stored tree at) j) → LeafWhole leaf_size stored
+        (split_new fuel leaf_size stored (split leaf_size stored tree at) (suc at)) k)
         → LeafWhole leaf_size stored (if b then split_new fuel leaf_size stored (split leaf_size stored tree at) (suc at) else tree) k
     by true p onward = onward (λ j g. before (ltb-true at (length tree) p) j g (same_or_not j at))
     by false p onward = here (ltb-false at (length tree) p) (dec_le (suc k) at)

@@ -77,7 +77,8 @@ module _ (limit : ℕ) (m : Measures) (traces : List Trace) (library : T (is_lib
   -- ---- a query
 
   -- "A node's bound is the greatest own bound from node 0 down to it": a child's is its own or its parent's, node 0's its own
-  pub bound_of_child : (query : Trace) (parent child : ℕ) → T (has_child child (node_at tree parent).kind) → bound tree query child ≡ max (own_bound query (node_at tree child)) (bound tree query parent)
+  pub bound_of_child : (query : Trace) (parent child : ℕ) → T (has_child child (node_at tree parent).kind) → bound tree query child ≡ max (own_bound query (node_at tree child))
+      (bound tree query parent)
   bound_of_child query = child_bound tree formed.shape.children.child formed.shape.children.one_parent query
 
   pub bound_of_root : (query : Trace) → 0 < length traces → bound tree query 0 ≡ own_bound query (node_at tree 0)

@@ -48,7 +48,8 @@ unfolding inner_count flatten children_of is_leaf_kind one
 children_are [] = refl
 children_are (a ∷ rest) = length-append (node_children a) (flatten (map node_children rest)) ∙ by a.kind (children_are rest)
   where
-    by : (k : Kind) → length (flatten (map node_children rest)) ≡ 2 * inner_count rest → length (children_of k) + length (flatten (map node_children rest)) ≡ 2 * (one (not (is_leaf_kind k)) + inner_count rest)
+    by : (k : Kind) → length (flatten (map node_children rest)) ≡ 2 * inner_count rest → length (children_of k) + length (flatten (map node_children rest)) ≡ 2 *
+        (one (not (is_leaf_kind k)) + inner_count rest)
     by (leaf numbers) e = omega arith
     by (inner test l r) e = omega arith
 

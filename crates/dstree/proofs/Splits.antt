@@ -488,6 +488,7 @@ module _ (n leaf_size : ℕ) (stored : List Trace) (P : Tree → Type 0) (fits :
   pass_keeps zero tree at p = p
   pass_keeps (suc fuel) tree at p = by (ltb at (length tree)) (pass_keeps fuel (split leaf_size stored tree at) (suc at) (split_keeps tree at p))
     where
-      by : (b : Bool) → P (split_new fuel leaf_size stored (split leaf_size stored tree at) (suc at)) → P (if b then split_new fuel leaf_size stored (split leaf_size stored tree at) (suc at) else tree)
+      by : (b : Bool) → P (split_new fuel leaf_size stored (split leaf_size stored tree at) (suc at)) → P (if b then split_new fuel leaf_size stored (split leaf_size stored tree at) (suc at) else
+          tree)
       by true i = i
       by false i = p

@@ -72,7 +72,8 @@ module _ (r : List ℤ) (i first n : ℕ) (narrow : n ≤ 256) (size : length r 
       ∙ (ap (value_at r) high_place ∙ sym (scatter_back high ok.greatest_scatter_lem)))
       ∙ greater_pos (scatter_in high) v in
       stored r place (place + 1) (place + 1 + 1) (place + 3) (place + 3 + 1)
-      (lesser (value_at r (place + 1)) (sum_on on x)) (greater (value_at r (place + 1 + 1)) (sum_on on x)) (lesser (value_at sums (place + 3)) (pos v)) (greater (value_at sums (place + 3 + 1)) (pos v))
+      (lesser (value_at r (place + 1)) (sum_on on x)) (greater (value_at r (place + 1 + 1)) (sum_on on x)) (lesser (value_at sums (place + 3)) (pos v))
+      (greater (value_at sums (place + 3 + 1)) (pos v))
       (omega arith) refl (omega arith) refl (omega arith)
       ∙ ap (λ (l : List ℤ). take place r ++ (l ++ drop (place + 5) r)) (fields end_back greatest least_scatter_lem greatest_scatter_lem)
 

@@ -235,7 +235,8 @@ module _ {n c : ℕ} {nodes : List ℤ} {links : List ℕ} (space : Space n c no
     split_at {k} {h} {tree} size s at inside =
         let r : List ℤ = record_of h.nodes at in
         let read : kind_in h.links (length traces) r (small_at r kind_place) ≡ (node_at tree at).kind = ap (λ (j : ℕ). kind_in h.links j r (small_at r kind_place)) size ∙ kind_read s at inside in
-        subst (λ (kind : Kind). Represents n c nodes links k (split_leaf leaf_size traces h at kind) (split leaf_size traces tree at)) (sym read) (split_leaf_lem s at inside (node_at tree at).kind refl)
+        subst (λ (kind : Kind). Represents n c nodes links k (split_leaf leaf_size traces h at kind) (split leaf_size traces tree at)) (sym read)
+        (split_leaf_lem s at inside (node_at tree at).kind refl)
 
     -- ---- the pass
 

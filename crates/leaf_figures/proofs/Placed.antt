@@ -80,7 +80,8 @@ moved_more from new place at i p h room m =
     let f : place + (i - place) ≡ i = omega arith in
     let rest = drop place from in
     let more : take (suc (i - place)) rest ≡ take (i - place) rest ++ (get_or from i 0 ∷ []) =
-    take-suc rest (i - place) 0 (omega (arith, length-drop place from)) ∙ ap (λ (x : ℕ). take (i - place) rest ++ (x ∷ [])) (get_or-drop place from (i - place) 0 ∙ ap (λ (j : ℕ). get_or from j 0) f) in
+    take-suc rest (i - place) 0 (omega (arith, length-drop place from)) ∙ ap (λ (x : ℕ). take (i - place) rest ++ (x ∷ []))
+    (get_or-drop place from (i - place) 0 ∙ ap (λ (j : ℕ). get_or from j 0) f) in
     rw (add-one (i + 1), take-suc-set at (i + 1) (get_or from i 0) room, m, e, more) (append_assoc (take place from) (new ∷ take (i - place) rest) (get_or from i 0 ∷ []))
 
 pub moved_all : (from : List ℕ) (new count : ℕ) (at : List ℕ) → place_in new (take count from) ≤ count → EndsMoved from new (place_in new (take count from)) at count

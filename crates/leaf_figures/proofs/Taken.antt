@@ -37,7 +37,14 @@ module _ (sum_at : ℕ → ℤ) (scatter_at : ℕ → ℕ) where
   more_taken a b c d (t ∷ l) = more_taken (lesser a (sum_at t)) (greater b (sum_at t)) (min c (scatter_at t)) (max d (scatter_at t)) l
 
   abbrev segment : ℕ → List ℕ → Segment
-  segment end l = record { end = end; least_sum = least_ℤ (map sum_at l); greatest_sum = greatest_ℤ (map sum_at l); least_scatter = least (map scatter_at l); greatest_scatter = greatest (map scatter_at l) }
+  segment end l = record {
+    end = end;
+    least_sum = least_ℤ (map sum_at l);
+    greatest_sum = greatest_ℤ (map sum_at l);
+    least_scatter = least (map scatter_at l);
+    greatest_scatter = greatest
+        (map scatter_at l);
+  }
 
   all_taken : (end : ℕ) (l : List ℕ) → segment_by end (foldl taking no_figures l) ≡ segment end l
   unfolding with_figures chosen

@@ -1,13 +1,12 @@
 -- What an opening that nothing refuses knows, and what it leaves, table by table.
-use mathlib.Core.Path.{◌≡◌, refl}
+use mathlib.Core.Path.{◌≡◌}
 use mathlib.Core.Bool.{not}
-use mathlib.Core.List.{List, [], ◌∷◌}
+use mathlib.Core.List.{List, ◌∷◌}
 use mathlib.Core.Option.{none}
-use Prim.Native.Nat.{ℕ, ◌*◌, ◌≤◌}
-use native.Mathlib.Nat.{not-suc-le-zero, le_of_suc-le-suc}
+use Prim.Native.Nat.{ℕ, ◌*◌}
 use borrow.Author.Tests.{not-false}
 use lib.IntN.{ℤ, pos}
-use lib.ListN.{length, drop, set}
+use lib.ListN.{drop}
 use Rattle.dstree.specs.Measures.{Measures, in_range, samples_needed, records_needed, links_needed, work_needed, labels_needed}
 use Rattle.dstree.specs.Refusals.{first_of}
 use Rattle.dstree.specs.Book.{Lent, control_short, tables_short}
@@ -39,12 +38,3 @@ pub opened_tables : (t : Tables) (m : Measures) (control : List ℕ) (samples no
     → labelled_tables control samples nodes links work labels ≡ opened t m
 unfolding opened
 opened_tables t m control samples nodes links work labels c s n l w b = rw (c, s, n, l, w, b)
-
--- five stores from the front are five new places before the rest
-pub five_stores : (l : List ℕ) (a b c d e : ℕ) → 5 ≤ length l → set (set (set (set (set l 0 a) 1 b) 2 c) 3 d) 4 e ≡ a ∷ b ∷ c ∷ d ∷ e ∷ drop 5 l
-five_stores [] a b c d e h = absurd (not-suc-le-zero h)
-five_stores (v ∷ []) a b c d e h = absurd (not-suc-le-zero (le_of_suc-le-suc h))
-five_stores (v ∷ w ∷ []) a b c d e h = absurd (not-suc-le-zero (le_of_suc-le-suc (le_of_suc-le-suc h)))
-five_stores (v ∷ w ∷ x ∷ []) a b c d e h = absurd (not-suc-le-zero (le_of_suc-le-suc (le_of_suc-le-suc (le_of_suc-le-suc h))))
-five_stores (v ∷ w ∷ x ∷ y ∷ []) a b c d e h = absurd (not-suc-le-zero (le_of_suc-le-suc (le_of_suc-le-suc (le_of_suc-le-suc (le_of_suc-le-suc h)))))
-five_stores (v ∷ w ∷ x ∷ y ∷ z ∷ l) a b c d e h = refl

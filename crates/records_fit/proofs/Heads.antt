@@ -37,7 +37,8 @@ module _ (n m j : ℕ) (r : List ℤ) where
   unfolding kind_in children_of test_fits every
   leaf_fits = refl
 
-  inner_fits : (kind : ℕ) → (kind ≡ 0 → ⊥) → kind ≤ 2 → head_for kind ≡ child_fits m j (small_at r first_place) && child_fits m j (small_at r right_place) && test_fits sample_limit n (inner_named r kind)
+  inner_fits : (kind : ℕ) → (kind ≡ 0 → ⊥) → kind ≤ 2 → head_for kind ≡ child_fits m j (small_at r first_place) && child_fits m j (small_at r right_place) && test_fits sample_limit n
+      (inner_named r kind)
   unfolding children_of every
   inner_fits kind f h = rw (kind_inner [] 0 r kind f h, le-leb kind 2 h, and_true (child_fits m j (small_at r right_place)))
 

@@ -143,16 +143,6 @@ pub record RowsTaken (block : List ℕ) (k : ℕ) (sums later : List ℕ) : Type
   pub weigh : weighted (columns * k) sums + columns * total later
       ≡ weighted (columns * k) (drop (columns * k) (take checked_size block))
 
--- they are as small as they may be
-pub rows_columns : {block sums later : List ℕ} {k : ℕ} → RowsTaken block k sums later → ColumnSums sums later
-rows_columns r =
-    record {
-      sums_long = r.sums_long;
-      later_long = r.later_long;
-      sums_small = λ i. omega (arith, r.sums_small i);
-      later_small = λ i. omega (arith, r.later_small i);
-    }
-
 -- before any row
 pub no_columns : ColumnSums (replicate columns 0) (replicate columns 0)
 no_columns =

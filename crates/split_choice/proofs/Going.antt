@@ -45,7 +45,8 @@ module _ (n : ℕ) (stored : List Trace) (all numbers : List ℕ) where
     pub inside : Inside n first end
     pub cuts : (m : ℕ) → first ≤ m → m < end → Rises n 1 (cut_at m all)
     pub on : (found next : Choice) → Going found first (end ∷ rest) → chosen_by stored all numbers next
-        ≡ tried stored all numbers (chosen_by stored all numbers found) (by_either (run first end) all ++ halves all (run first end)) → ChoiceSound n stored all numbers next → Going next (end + 1) rest
+        ≡ tried stored all numbers (chosen_by stored all numbers found) (by_either (run first end) all ++ halves all (run first end)) → ChoiceSound n stored all numbers next → Going next (end + 1)
+        rest
 
   turn_by : {first end : ℕ} {rest : List ℕ} → 1 ≤ first → Rises n first (end ∷ rest) → ((m : ℕ) → first ≤ m → m ≤ n → (In m (end ∷ rest) → ⊥) → Rises n 1 (cut_at m all)) → SegmentTurn first end rest
   turn_by {first} {end} {rest} h (rises_more a b r) cuts = record {

@@ -114,7 +114,8 @@ module _ {nodes : List ℤ} {links : List ℕ} {samples : List ℤ} {n k count :
       unfolding split_to
       parted cut e =
           let good = best_is_good n traces (ends (segments_in r)) (numbers_of links k (small_at r first_place)) fits e in
-          let long : ltb 0 (length (numbers_of links k (small_at r first_place))) ≡ true = lt-ltb 0 (length (numbers_of links k (small_at r first_place))) (numbers_some links k (small_at r first_place)) in
+          let long : ltb 0 (length (numbers_of links k (small_at r first_place))) ≡ true = lt-ltb 0 (length (numbers_of links k (small_at r first_place)))
+          (numbers_some links k (small_at r first_place)) in
           let made : split_node 0 traces (tree_tables nodes links count) at ≡ split_to traces (tree_tables nodes links count) at (some cut) =
           long_splits 0 traces nodes links count at k (stored_size samples n k) is long (some cut) e in
           let two : (split_node 0 traces (tree_tables nodes links count) at).count ≡ suc (suc count) = ap (λ (h : TreeTables). h.count) made in

@@ -41,7 +41,8 @@ unfolding numbers_from
 follows links k zero b x u low f g = absurd (omega arith)
 follows links k (suc fuel) b x u low f g = by (eqb (get_or links x 0) 0) refl u low (λ (b : ℕ). follows links k fuel b (get_or links x 0))
   where
-    step : (fuel : ℕ) → k < suc fuel + x → (get_or links x 0 ≡ 0 → ⊥) → Up b (x ∷ numbers_from links fuel (get_or links x 0)) → ((t : ℕ) → In t (x ∷ numbers_from links fuel (get_or links x 0)) → t < k)
+    step : (fuel : ℕ) → k < suc fuel + x → (get_or links x 0 ≡ 0 → ⊥) → Up b (x ∷ numbers_from links fuel (get_or links x 0)) →
+        ((t : ℕ) → In t (x ∷ numbers_from links fuel (get_or links x 0)) → t < k)
         → ((b : ℕ) → Up b (numbers_from links fuel (get_or links x 0)) → ((t : ℕ) → In t (numbers_from links fuel (get_or links x 0)) → t < k)
         → k < fuel + get_or links x 0 → 0 < fuel → Linked links (numbers_from links fuel (get_or links x 0)))
         → Linked links (x ∷ numbers_from links fuel (get_or links x 0))
@@ -74,7 +75,8 @@ linked_same h (l_on {x} e p w) = l_on (h x first ∙ e) p (linked_same (λ s i. 
 
 -- ---- each of its links is the end or a later number of it
 
-pub link_rises : {links : List ℕ} {b k s : ℕ} {l : List ℕ} → Linked links l → Up b l → ((t : ℕ) → In t l → t < k) → In s l → (get_or links s 0 ≡ 0) ⊎ ((s < get_or links s 0) × (get_or links s 0 < k))
+pub link_rises : {links : List ℕ} {b k s : ℕ} {l : List ℕ} → Linked links l → Up b l → ((t : ℕ) → In t l → t < k) → In s l → (get_or links s 0 ≡ 0) ⊎
+    ((s < get_or links s 0) × (get_or links s 0 < k))
 link_rises (l_end e) u low first = inl e
 link_rises (l_end e) u low (later i) = absurd (in_nil i)
 link_rises (l_on {y} e p w) (u_more g u) low first = inr (omega (arith, up_in u first, e), omega (arith, e, low y (later first)))

@@ -27,7 +27,8 @@ module _ (control : Both Words Words) (samples nodes : Both Signed Signed) (link
       labels.entry.now
 
 -- opening and reading write all six
-module _ (control : Both WordsToWrite WordsToWrite) (samples nodes : Both SignedToWrite SignedToWrite) (links work labels : Both WordsToWrite WordsToWrite) where
+module _ (control : Both WordsToWrite WordsToWrite) (samples nodes : Both SignedToWrite SignedToWrite)
+    (links work labels : Both WordsToWrite WordsToWrite) where
   abbrev pub tables_before_all : Tables
   tables_before_all =
       labelled_tables control.entry.now samples.entry.now nodes.entry.now links.entry.now work.entry.now
@@ -39,7 +40,8 @@ module _ (control : Both WordsToWrite WordsToWrite) (samples nodes : Both Signed
       labels.exit.now
 
 -- adding and importing leave search work
-module _ (control : Both WordsToWrite WordsToWrite) (samples nodes : Both SignedToWrite SignedToWrite) (links : Both WordsToWrite WordsToWrite) (work : Both Words Words)
+module _ (control : Both WordsToWrite WordsToWrite) (samples nodes : Both SignedToWrite SignedToWrite)
+    (links : Both WordsToWrite WordsToWrite) (work : Both Words Words)
     (labels : Both WordsToWrite WordsToWrite) where
   abbrev pub tables_before_adding : Tables
   tables_before_adding =
@@ -52,7 +54,8 @@ module _ (control : Both WordsToWrite WordsToWrite) (samples nodes : Both Signed
       labels.exit.now
 
 -- "A call that takes a query leaves the needed search work zero", and writes no other table
-module _ (control : Both Words Words) (samples nodes : Both Signed Signed) (links : Both Words Words) (work : Both WordsToWrite WordsToWrite) (labels : Both Words Words) where
+module _ (control : Both Words Words) (samples nodes : Both Signed Signed) (links : Both Words Words)
+    (work : Both WordsToWrite WordsToWrite) (labels : Both Words Words) where
   abbrev pub tables_before_search : Tables
   tables_before_search =
       labelled_tables control.entry.now samples.entry.now nodes.entry.now links.entry.now work.entry.now

@@ -155,7 +155,8 @@ pub record AddingExamples : Type 0 where
   pub by_either_lem : by_either (run 1 5) (5 ∷ []) ≡ record { on = run 1 5; figure = by_sum; child_ends = 5 ∷ [] } ∷ record { on = run 1 5; figure = by_scatter; child_ends = 5 ∷ [] } ∷ []
   pub of_five_samples : candidates (5 ∷ []) ≡ by_either (run 1 5) (5 ∷ []) ++ by_either (run 1 2) (2 ∷ 5 ∷ []) ++ by_either (run 3 5) (2 ∷ 5 ∷ [])
   -- "for each segment, left to right"; a segment of one sample is not cut
-  pub of_one_and_three : candidates (1 ∷ 4 ∷ []) ≡ by_either (run 1 1) (1 ∷ 4 ∷ []) ++ by_either (run 2 4) (1 ∷ 4 ∷ []) ++ by_either (run 2 2) (1 ∷ 2 ∷ 4 ∷ []) ++ by_either (run 3 4) (1 ∷ 2 ∷ 4 ∷ [])
+  pub of_one_and_three : candidates (1 ∷ 4 ∷ []) ≡ by_either (run 1 1) (1 ∷ 4 ∷ []) ++ by_either (run 2 4) (1 ∷ 4 ∷ []) ++ by_either (run 2 2) (1 ∷ 2 ∷ 4 ∷ []) ++ by_either (run 3 4)
+      (1 ∷ 2 ∷ 4 ∷ [])
   pub half_ends : map left_half_end (run 1 4 ∷ run 1 5 ∷ run 7 8 ∷ run 7 9 ∷ []) ≡ 2 ∷ 2 ∷ 7 ∷ 7 ∷ []
   pub cut_ends : map (λ (k : ℕ). cut_at k (4 ∷ 8 ∷ [])) (2 ∷ 6 ∷ []) ≡ (2 ∷ 4 ∷ 8 ∷ []) ∷ (4 ∷ 6 ∷ 8 ∷ []) ∷ []
   -- "if the node has fewer than 16 segments": six candidates of each of 15 segments, two of each of 16
@@ -389,7 +390,8 @@ pub record WellFormedExamples : Type 0 where
   pub as_made : fits tree ≡ true
   pub other_tests : map (λ t. fits (tested_by t)) (test 2 3 by_sum (− 2097152) ∷ test 4 4 by_sum (+ 1048576) ∷ test 2 3 by_scatter (+ 0) ∷ test 2 3 by_scatter (+ 2097152) ∷ []) ≡ replicate 4 true
   pub other_children : fits (with_children 2 1) ≡ true
-  pub other_ranges : map (λ s. fits (segments_at 1 s)) ((seg 2 (+ 9) (+ 9) 0 1 ∷ seg 4 (− 1048576) (+ 1048576) 7 7 ∷ []) ∷ (seg 4 (− 2097152) (− 2097152) 0 4398046511104 ∷ []) ∷ []) ≡ true ∷ true ∷ []
+  pub other_ranges : map (λ s. fits (segments_at 1 s)) ((seg 2 (+ 9) (+ 9) 0 1 ∷ seg 4 (− 1048576) (+ 1048576) 7 7 ∷ []) ∷ (seg 4 (− 2097152) (− 2097152) 0 4398046511104 ∷ []) ∷ []) ≡ true ∷ true ∷
+      []
   pub other_leaves : map fits (with_leaves (1 ∷ []) (0 ∷ 2 ∷ []) ∷ with_leaves (0 ∷ 1 ∷ []) (2 ∷ []) ∷ []) ≡ true ∷ true ∷ []
   pub over_size : well_formed_tree sample_limit (measures 4 8 1) 3 tree ≡ true
   pub nothing_stored : well_formed_tree sample_limit (measures 4 8 2) 0 [] ≡ true
@@ -402,7 +404,8 @@ pub record WellFormedExamples : Type 0 where
   pub no_trace : well_formed_tree sample_limit (measures 4 8 2) 0 tree ≡ false
   -- "inner children numbered above their parent": nodes 1 and 2 below each other, so that each is a child once; node 1 below itself; a
   -- child that is no node
-  pub below_each_other : fits (plain (leaf (0 ∷ [])) ∷ plain (inner (test 1 4 by_sum (+ 0)) 2 3) ∷ plain (inner (test 1 4 by_sum (+ 0)) 1 4) ∷ plain (leaf (1 ∷ [])) ∷ plain (leaf (2 ∷ [])) ∷ []) ≡ false
+  pub below_each_other : fits (plain (leaf (0 ∷ [])) ∷ plain (inner (test 1 4 by_sum (+ 0)) 2 3) ∷ plain (inner (test 1 4 by_sum (+ 0)) 1 4) ∷ plain (leaf (1 ∷ [])) ∷ plain (leaf (2 ∷ [])) ∷ []) ≡
+      false
   pub below_itself : fits (plain (leaf (0 ∷ [])) ∷ plain (inner (test 1 4 by_sum (+ 0)) 1 2) ∷ plain (leaf (1 ∷ 2 ∷ [])) ∷ []) ≡ false
   pub no_such_node : fits (plain (inner (test 1 4 by_sum (+ 0)) 1 2) ∷ plain (leaf (0 ∷ 1 ∷ 2 ∷ [])) ∷ []) ≡ false
   -- "every node but 0 a child once": one twice and one never; one that has no parent
@@ -426,7 +429,8 @@ pub record WellFormedExamples : Type 0 where
   -- "The well-formed limits become w × 524,288 and w² × 2^38"
   pub past_limits : map (λ s. fits (segments_at 1 (s ∷ []))) (seg 4 (− 2097153) (+ 0) 0 0 ∷ seg 4 (+ 0) (+ 2097153) 0 0 ∷ seg 4 (+ 0) (+ 0) 0 4398046511105 ∷ []) ≡ replicate 3 false
   -- "T between twice those limits"
-  pub thresholds_refused : map (λ t. fits (tested_by t)) (test 4 4 by_sum (+ 1048577) ∷ test 4 4 by_sum (− 1048577) ∷ test 4 4 by_scatter (− 1) ∷ test 4 4 by_scatter (+ 1048577) ∷ []) ≡ replicate 4 false
+  pub thresholds_refused : map (λ t. fits (tested_by t)) (test 4 4 by_sum (+ 1048577) ∷ test 4 4 by_sum (− 1048577) ∷ test 4 4 by_scatter (− 1) ∷ test 4 4 by_scatter (+ 1048577) ∷ []) ≡ replicate 4
+      false
   -- "on a run inside 1 to n": from 0, to 5, none
   pub runs_refused : map (λ t. fits (tested_by t)) (test 0 4 by_sum (+ 0) ∷ test 1 5 by_sum (+ 0) ∷ test 3 2 by_sum (+ 0) ∷ []) ≡ replicate 3 false
 
@@ -530,7 +534,8 @@ pub record SheetExamples : Type 0 where
   pub bytes : sheet
       ≡ 0 ∷ 0 ∷ 1 ∷ 0 ∷ 84 ∷ 82 ∷ 67 ∷ 76 ∷ 2 ∷ 0 ∷ 8 ∷ 0 ∷ 2 ∷ 0 ∷ 8 ∷ 0 ∷ (replicate 494 0
       ++ 196 ∷ 8
-      ∷ 1 ∷ 0 ∷ 2 ∷ 0 ∷ 19 ∷ 0 ∷ 22 ∷ 0 ∷ 35 ∷ 0 ∷ 217 ∷ 255 ∷ 39 ∷ 0 ∷ 221 ∷ 255 ∷ 228 ∷ 255 ∷ 12 ∷ 0 ∷ 2 ∷ 0 ∷ 19 ∷ 0 ∷ 6 ∷ 0 ∷ 245 ∷ 255 ∷ 32 ∷ 0 ∷ 253 ∷ 255 ∷ 7 ∷ 0 ∷ 230 ∷ 255 ∷ (replicate 474 0
+      ∷ 1 ∷ 0 ∷ 2 ∷ 0 ∷ 19 ∷ 0 ∷ 22 ∷ 0 ∷ 35 ∷ 0 ∷ 217 ∷ 255 ∷ 39 ∷ 0 ∷ 221 ∷ 255 ∷ 228 ∷ 255 ∷ 12 ∷ 0 ∷ 2 ∷ 0 ∷ 19 ∷ 0 ∷ 6 ∷ 0 ∷ 245 ∷ 255 ∷ 32 ∷ 0 ∷ 253 ∷ 255 ∷ 7 ∷ 0 ∷ 230 ∷ 255 ∷
+      (replicate 474 0
       ++ 237 ∷ 22 ∷ []))
   -- a library without traces is one block, and is read back
   pub empty_sheet : judge_sheet (plain_sheet (measures 2 8 2) []) ≡ holds_plain (measures 2 8 2) []

@@ -1,5 +1,4 @@
 -- `heap::least` meets its contract: the key at place 0 is the least.
-use borrow.Author.Rules.{rules}
 use Rattle.heap.proofs.Popping.{least_first}
 use Rattle.heap.proofs.least.Goals as goal
 

@@ -1,7 +1,5 @@
 -- `heap::pop` meets its contract: `sink` on what is left without the last key.
 use mathlib.Core.Path.{◌∙◌}
-use native.Mathlib.Omega.{arith}
-use borrow.Author.Rules.{rules}
 use lib.ListN.{length-set}
 use Rattle.heap.proofs.Popping.{sink_ready, pop_more, pop_one}
 use Rattle.heap.proofs.pop.Goals as goal

@@ -3,7 +3,7 @@ use mathlib.Core.Path.{◌≡◌}
 use Prim.Native.Nat.{◌-◌, ◌/◌, ◌≤◌, ◌<◌}
 use native.Mathlib.Omega.{arith}
 use lib.ListN.{length-set}
-use Rattle.heap.proofs.Rising.{Rise, rise_start, rise_step, rise_end}
+use Rattle.heap.proofs.Rising.{rise_start, rise_step, rise_end}
 use Rattle.heap.proofs.push.Goals as goal
 
 pub loop-at-init : goal.loop-at-init

@@ -1,9 +1,5 @@
 -- `heap::push` meets its contract: `Rise` is the invariant, and the hole's place the measure.
-use mathlib.Core.Path.{◌≡◌}
-use Prim.Native.Nat.{◌-◌, ◌/◌, ◌≤◌, ◌<◌}
-use native.Mathlib.Omega.{arith}
-use lib.ListN.{length-set}
-use Rattle.heap.proofs.Rising.{Rise, rise_start, rise_step, rise_end}
+use Rattle.heap.proofs.Rising.{Rise}
 use Rattle.heap.proofs.push.Given as goal
 
 abbrev pub invariant-loop-at : goal.invariant-loop-at

@@ -1,11 +1,11 @@
 -- `heap::sink` meets its contract: `Sink` is the invariant, with the place of the first key below the hole.
 use mathlib.Core.Path.{◌≡◌}
-use Prim.Native.Nat.{◌+◌, ◌*◌, ◌-◌}
+use Prim.Native.Nat.{◌+◌, ◌*◌}
 use native.Mathlib.Omega.{arith}
 use lib.ListN.{length-set}
 use Rattle.heap.specs.Heap.{Lesser}
 use Rattle.heap.proofs.Shape.{lesser_all}
-use Rattle.heap.proofs.Sinking.{Sink, sink_start, sink_step, sink_end}
+use Rattle.heap.proofs.Sinking.{sink_start, sink_step, sink_end}
 use Rattle.heap.proofs.sink.Goals as goal
 
 pub loop-left-init : goal.loop-left-init

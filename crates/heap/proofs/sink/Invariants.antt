@@ -1,11 +1,7 @@
 -- `heap::sink` meets its contract: `Sink` is the invariant, with the place of the first key below the hole.
 use mathlib.Core.Path.{◌≡◌}
 use Prim.Native.Nat.{◌+◌, ◌*◌, ◌-◌}
-use native.Mathlib.Omega.{arith}
-use lib.ListN.{length-set}
-use Rattle.heap.specs.Heap.{Lesser}
-use Rattle.heap.proofs.Shape.{lesser_all}
-use Rattle.heap.proofs.Sinking.{Sink, sink_start, sink_step, sink_end}
+use Rattle.heap.proofs.Sinking.{Sink}
 use Rattle.heap.proofs.sink.Given as goal
 
 abbrev pub invariant-loop-left : goal.invariant-loop-left

@@ -40,4 +40,8 @@ shape_of-marks c = c.loop-i.invariant.0.marks_size
 
 pub returns : goal.returns
 returns c =
-    let a = c.args in record { bests_and_marks = sweeping_end (without_work a.control.now a.samples.now a.nodes.now a.links.now) a.queries.now a.many c.loop-i.invariant.0 (omega (arith, c.loop-i-test.false)); counted = c.loop-i.invariant.0.room.counted }
+    let a = c.args in record {
+      bests_and_marks = sweeping_end (without_work a.control.now a.samples.now a.nodes.now a.links.now) a.queries.now a.many c.loop-i.invariant.0
+          (omega (arith, c.loop-i-test.false));
+      counted = c.loop-i.invariant.0.room.counted;
+    }

@@ -45,12 +45,26 @@ child_ends-child-requires c =
     (p, λ f. omega (arith, c.requires.1.room f, length-take-le c.args.e.count c.args.e.at (omega (arith, p.places, p.few))))
 
 pub side_spread-left-requires : goal.side_spread-left-requires
-side_spread-left-requires c =
-    (c.requires.0.listed, c.requires.1.inside, c.requires.0.rows, c.requires.2, c.child_ends-child.ensures.room, subst (Rises c.args.n 1) (sym c.child_ends-child.ensures.result_value) c.requires.1.rise)
+side_spread-left-requires c = (
+  c.requires.0.listed,
+  c.requires.1.inside,
+  c.requires.0.rows,
+  c.requires.2,
+  c.child_ends-child.ensures.room,
+  subst (Rises c.args.n 1) (sym c.child_ends-child.ensures.result_value)
+      c.requires.1.rise,
+)
 
 pub side_spread-right-requires : goal.side_spread-right-requires
-side_spread-right-requires c =
-    (c.requires.0.listed, c.requires.1.inside, c.requires.0.rows, c.side_spread-left.ensures.room, c.child_ends-child.ensures.room, subst (Rises c.args.n 1) (sym c.child_ends-child.ensures.result_value) c.requires.1.rise)
+side_spread-right-requires c = (
+  c.requires.0.listed,
+  c.requires.1.inside,
+  c.requires.0.rows,
+  c.side_spread-left.ensures.room,
+  c.child_ends-child.ensures.room,
+  subst (Rises c.args.n 1)
+      (sym c.child_ends-child.ensures.result_value) c.requires.1.rise,
+)
 
 pub gain-requires : goal.gain-requires
 gain-requires c =
@@ -60,7 +74,13 @@ pub returns : goal.returns
 unfolding gain
 returns c =
     let a = c.args in
-    let left = child_is a.samples.now a.n a.k (take a.count a.list.now) c.requires.0.below a.c a.threshold c.ranges.threshold true (child_ends a.c.cut (ends_of a.e)) (ends_of c.child_ends-child.result) c.child_ends-child.ensures.result_value
+    let left = child_is a.samples.now a.n a.k (take a.count a.list.now) c.requires.0.below a.c a.threshold c.ranges.threshold true (child_ends a.c.cut (ends_of a.e))
+    (ends_of c.child_ends-child.result) c.child_ends-child.ensures.result_value
     c.side_spread-left.result c.side_spread-left.ensures.value in
-    let right = child_is a.samples.now a.n a.k (take a.count a.list.now) c.requires.0.below a.c a.threshold c.ranges.threshold false (child_ends a.c.cut (ends_of a.e)) (ends_of c.child_ends-child.result) c.child_ends-child.ensures.result_value
-    c.side_spread-right.result c.side_spread-right.ensures.value in record { value = to_z-of_z (of_mag {w = w64} c.gain.result c.gain.type_inv) ∙ (c.gain.ensures ∙ ap₂ (λ (w t : ℕ). pos (2 * w) -ℤ pos t) c.requires.0.spread_is (ap₂ ◌+◌ left right)); room = c.side_spread-right.ensures.room }
+    let right = child_is a.samples.now a.n a.k (take a.count a.list.now) c.requires.0.below a.c a.threshold c.ranges.threshold false (child_ends a.c.cut (ends_of a.e))
+    (ends_of c.child_ends-child.result) c.child_ends-child.ensures.result_value
+    c.side_spread-right.result c.side_spread-right.ensures.value in record {
+      value = to_z-of_z (of_mag {w = w64} c.gain.result c.gain.type_inv) ∙
+          (c.gain.ensures ∙ ap₂ (λ (w t : ℕ). pos (2 * w) -ℤ pos t) c.requires.0.spread_is (ap₂ ◌+◌ left right));
+      room = c.side_spread-right.ensures.room;
+    }

@@ -42,4 +42,5 @@ returns c =
     ∙ (ap (λ (z : ℤ). sends_left (trial_test a.c z) (trace_in a.samples.now a.n c.wide-t.result))
     (to_z-of_z c.ranges.threshold)
     ∙ (ap (λ (u : ℕ). sends_left (trial_test a.c a.threshold) (trace_in a.samples.now a.n u)) c.wide-t.ensures
-    ∙ ap (sends_left (trial_test a.c a.threshold)) (sym (stored_at a.samples.now a.n a.k x (c.requires.1 x (in_listed c.args.list.now c.args.count c.args.i c.requires.4 (omega (arith, c.requires.0.places, c.requires.0.few))))))))
+    ∙ ap (sends_left (trial_test a.c a.threshold)) (sym (stored_at a.samples.now a.n a.k x (c.requires.1 x (in_listed c.args.list.now c.args.count c.args.i c.requires.4
+    (omega (arith, c.requires.0.places, c.requires.0.few))))))))

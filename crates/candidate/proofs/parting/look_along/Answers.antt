@@ -28,7 +28,8 @@ answer stored c threshold fits numbers both taken e = subst (λ (z : ℤ). look 
 
 pub returns-then-count-eq0 : goal.returns-then-count-eq0
 returns-then-count-eq0 c =
-    let none = seen_none (stored_in c.args.samples.now c.args.n c.args.k) c.args.list.now c.args.count (omega (arith, c.requires.0.places, c.requires.0.few)) (trial_test c.args.c c.args.threshold) true
+    let none = seen_none (stored_in c.args.samples.now c.args.n c.args.k) c.args.list.now c.args.count (omega (arith, c.requires.0.places, c.requires.0.few)) (trial_test c.args.c c.args.threshold)
+    true
     (λ t i. absurd (in_nil (subst (λ (m : ℕ). In t (take m c.args.list.now)) c.if-count-eq0.true i))) in
     (subst (λ (m : ℕ). look false m ≡ look_of (stored_in c.args.samples.now c.args.n c.args.k) (trial_test c.args.c c.args.threshold) (take c.args.count c.args.list.now)) c.if-count-eq0.true none)
 
@@ -42,7 +43,8 @@ loop-i-init c =
     let h = c.if-count-eq0.false in (
       omega arith,
       omega (arith, h),
-      all_taken_more c.args.list.now (λ (t : ℕ). goes_by (stored_in c.args.samples.now c.args.n c.args.k) (trial_test c.args.c (read w64 c.args.threshold)) t ≡ c.goes_listed-side.result) 0 (omega (arith, c.requires.0.places, c.requires.0.few, h))
+      all_taken_more c.args.list.now (λ (t : ℕ). goes_by (stored_in c.args.samples.now c.args.n c.args.k) (trial_test c.args.c (read w64 c.args.threshold)) t ≡ c.goes_listed-side.result) 0
+          (omega (arith, c.requires.0.places, c.requires.0.few, h))
           (λ t i. absurd (in_nil i)) (sym c.goes_listed-side.ensures),
     )
 
@@ -56,7 +58,8 @@ pub returns-then-goes-side : goal.returns-then-goes-side
 returns-then-goes-side c =
     let l = c.loop-i in
     answer (stored_in c.args.samples.now c.args.n c.args.k) c.args.c c.args.threshold c.ranges.threshold (take c.args.count c.args.list.now) true (l.i + 1)
-    (seen_found (stored_in c.args.samples.now c.args.n c.args.k) c.args.list.now c.args.count (omega (arith, c.requires.0.places, c.requires.0.few)) (trial_test c.args.c (read w64 c.args.threshold)) _ l.i l.invariant.0 c.loop-i-test.true l.invariant.2
+    (seen_found (stored_in c.args.samples.now c.args.n c.args.k) c.args.list.now c.args.count (omega (arith, c.requires.0.places, c.requires.0.few))
+    (trial_test c.args.c (read w64 c.args.threshold)) _ l.i l.invariant.0 c.loop-i-test.true l.invariant.2
     (sym c.goes_listed-goes.ensures ∙ differ _ _ c.if-goes-side.true))
 
 pub loop-i-preserved : goal.loop-i-preserved
@@ -65,7 +68,8 @@ loop-i-preserved c =
     let side = c.goes_listed-side.result in (
       omega arith,
       omega (arith, c.loop-i-test.true),
-      all_taken_more c.args.list.now (λ (t : ℕ). goes_by (stored_in c.args.samples.now c.args.n c.args.k) (trial_test c.args.c (read w64 c.args.threshold)) t ≡ side) l.i (omega (arith, c.requires.0.places, c.requires.0.few, c.loop-i-test.true))
+      all_taken_more c.args.list.now (λ (t : ℕ). goes_by (stored_in c.args.samples.now c.args.n c.args.k) (trial_test c.args.c (read w64 c.args.threshold)) t ≡ side) l.i
+          (omega (arith, c.requires.0.places, c.requires.0.few, c.loop-i-test.true))
           l.invariant.2 (sym c.goes_listed-goes.ensures ∙ alike _ _ c.if-goes-side.false),
     )
 
@@ -74,5 +78,6 @@ returns c =
     let l = c.loop-i in
     let all : l.i ≡ c.args.count = omega (arith, l.invariant.1, c.loop-i-test.false) in
     answer (stored_in c.args.samples.now c.args.n c.args.k) c.args.c c.args.threshold c.ranges.threshold (take c.args.count c.args.list.now) false c.args.count
-    (seen_none (stored_in c.args.samples.now c.args.n c.args.k) c.args.list.now c.args.count (omega (arith, c.requires.0.places, c.requires.0.few)) (trial_test c.args.c (read w64 c.args.threshold)) _
+    (seen_none (stored_in c.args.samples.now c.args.n c.args.k) c.args.list.now c.args.count (omega (arith, c.requires.0.places, c.requires.0.few)) (trial_test c.args.c (read w64 c.args.threshold))
+    _
     (λ t i. l.invariant.2 t (subst (λ (m : ℕ). In t (take m c.args.list.now)) (sym all) i)))

@@ -43,4 +43,5 @@ returns c =
     let test = ap₂ lt_z (sym r.low_is ∙ sym (low_back a.low a.high r.low_size r.high_size))
     (sym r.high_is ∙ sym (high_back a.low a.high r.low_size r.high_size)) in
     seen_whole (stored_in c.args.samples.now c.args.n c.args.k) a.list.now a.count (omega (arith, c.requires.0.places, c.requires.0.few))
-    (trial_test a.c (a.low +ℤ a.high)) (seen_below (stored_in c.args.samples.now c.args.n c.args.k) (take c.args.count c.args.list.now) a.c (a.low +ℤ a.high) (threshold_is (traces_of (stored_in c.args.samples.now c.args.n c.args.k) (take c.args.count c.args.list.now)) a.c a.low a.high r) ∙ (test ∙ c.if-low-high.false))
+    (trial_test a.c (a.low +ℤ a.high)) (seen_below (stored_in c.args.samples.now c.args.n c.args.k) (take c.args.count c.args.list.now) a.c (a.low +ℤ a.high)
+    (threshold_is (traces_of (stored_in c.args.samples.now c.args.n c.args.k) (take c.args.count c.args.list.now)) a.c a.low a.high r) ∙ (test ∙ c.if-low-high.false))

@@ -26,13 +26,28 @@ pub overflow_cast-order : goal.overflow_cast-order
 overflow_cast-order c = omega (arith, c.requires.1)
 
 pub offset_bounds-order-place : goal.offset_bounds-order-place
-offset_bounds-order-place c = omega (arith, (putting c.args.order.now c.loop-t.order c.args.at c.args.links.now c.args.k c.args.head c.loop-t.place c.loop-t.t c.requires.3 c.loop-t-test.true c.loop-t.invariant.2).to, c.requires.5)
+offset_bounds-order-place c = omega (
+  arith,
+  (putting c.args.order.now c.loop-t.order c.args.at c.args.links.now c.args.k c.args.head c.loop-t.place c.loop-t.t c.requires.3 c.loop-t-test.true
+      c.loop-t.invariant.2).to,
+  c.requires.5,
+)
 
 pub bounds-order-place : goal.bounds-order-place
-bounds-order-place c = omega (arith, (putting c.args.order.now c.loop-t.order c.args.at c.args.links.now c.args.k c.args.head c.loop-t.place c.loop-t.t c.requires.3 c.loop-t-test.true c.loop-t.invariant.2).to, c.requires.5)
+bounds-order-place c = omega (
+  arith,
+  (putting c.args.order.now c.loop-t.order c.args.at c.args.links.now c.args.k c.args.head c.loop-t.place c.loop-t.t c.requires.3 c.loop-t-test.true
+      c.loop-t.invariant.2).to,
+  c.requires.5,
+)
 
 pub overflow_add-place : goal.overflow_add-place
-overflow_add-place c = omega (arith, (putting c.args.order.now c.loop-t.order c.args.at c.args.links.now c.args.k c.args.head c.loop-t.place c.loop-t.t c.requires.3 c.loop-t-test.true c.loop-t.invariant.2).to, c.requires.5)
+overflow_add-place c = omega (
+  arith,
+  (putting c.args.order.now c.loop-t.order c.args.at c.args.links.now c.args.k c.args.head c.loop-t.place c.loop-t.t c.requires.3 c.loop-t-test.true
+      c.loop-t.invariant.2).to,
+  c.requires.5,
+)
 
 pub behind-t-requires : goal.behind-t-requires
 behind-t-requires c = omega (arith, c.requires.2)

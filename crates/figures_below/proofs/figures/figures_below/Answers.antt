@@ -11,7 +11,8 @@ use Rattle.figures_below.specs.Compared.{numbers_laid_at}
 use Rattle.figures_below.proofs.figures.figures_below.Goals as goal
 
 -- the part that is lent, between both ends
-part_is : (sizes starts order : List ℕ) (j : ℕ) {from size : ℕ} → from ≡ get_or starts j 0 → size ≡ get_or sizes j 0 → take (from + size - from) (drop from order) ≡ numbers_laid_at sizes starts order j
+part_is : (sizes starts order : List ℕ) (j : ℕ) {from size : ℕ} → from ≡ get_or starts j 0 → size ≡ get_or sizes j 0 → take (from + size - from) (drop from order) ≡ numbers_laid_at sizes starts
+    order j
 part_is sizes starts order j {from} {size} from_is size_is =
     let e : from + size - from ≡ size = omega arith in
     ap₂ (λ (a b : ℕ). take a (drop b order)) (e ∙ size_is) from_is

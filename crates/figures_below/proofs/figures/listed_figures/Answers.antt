@@ -32,7 +32,12 @@ trace_at-trace-requires c = rw c.wide.ensures (c.requires.3 (get_or c.args.list.
 
 pub figures_on-own-requires : goal.figures_on-own-requires
 figures_on-own-requires c =
-    run_of_words c.trace_at-trace.result.now c.trace_at-trace.ensures (record { narrow = c.requires.0; room = rw c.wide.ensures (c.requires.3 (get_or c.args.list.now c.loop-next.next 0) (in_get_or c.args.list.now c.loop-next.next 0 c.loop-next-test.true)); inside = c.requires.1 })
+    run_of_words c.trace_at-trace.result.now c.trace_at-trace.ensures (record {
+      narrow = c.requires.0;
+      room = rw c.wide.ensures
+          (c.requires.3 (get_or c.args.list.now c.loop-next.next 0) (in_get_or c.args.list.now c.loop-next.next 0 c.loop-next-test.true));
+      inside = c.requires.1;
+    })
 
 pub overflow_add-next : goal.overflow_add-next
 overflow_add-next c = omega (arith, c.loop-next-test.true, c.requires.2)

@@ -99,8 +99,10 @@ recorded-requires c =
 pub returns-then-not-same : goal.returns-then-not-same
 returns-then-not-same c =
     let a = c.args in
-    let rest = are_exact (traces_under a.samples.now a.n a.sizes.now a.starts.now a.order.now a.j) (c.small_at-last.result + 1) (left_from (record_of a.nodes.now a.j) c.small_at-count.result (c.loop-i.i + 1)) in
-    sym (test_is a.samples.now a.nodes.now a.n a.sizes.now a.starts.now a.order.now a.j c.small_at-count.result c.loop-i.first c.loop-i.i c.small_at-last.result c.recorded.result c.node_figures-figures.result c.record_at-record.ensures
+    let rest = are_exact (traces_under a.samples.now a.n a.sizes.now a.starts.now a.order.now a.j) (c.small_at-last.result + 1)
+    (left_from (record_of a.nodes.now a.j) c.small_at-count.result (c.loop-i.i + 1)) in
+    sym (test_is a.samples.now a.nodes.now a.n a.sizes.now a.starts.now a.order.now a.j c.small_at-count.result c.loop-i.first c.loop-i.i c.small_at-last.result c.recorded.result
+    c.node_figures-figures.result c.record_at-record.ensures
     c.loop-i-test.true (end_is c.loop-i.i c.record_at-record.ensures c.small_at-last.ensures) c.loop-i.invariant.2 c.recorded.ensures c.node_figures-figures.ensures c.same_figures-same.ensures
     ∙ ap (λ (b : Bool). b && rest) c.if-not-same.true)
 
@@ -119,12 +121,14 @@ loop-i-smaller c = omega (arith, c.loop-i-test.true)
 pub loop-i-preserved : goal.loop-i-preserved
 loop-i-preserved c =
     let a = c.args in
-    let rest = are_exact (traces_under a.samples.now a.n a.sizes.now a.starts.now a.order.now a.j) (c.small_at-last.result + 1) (left_from (record_of a.nodes.now a.j) c.small_at-count.result (c.loop-i.i + 1)) in
+    let rest = are_exact (traces_under a.samples.now a.n a.sizes.now a.starts.now a.order.now a.j) (c.small_at-last.result + 1)
+    (left_from (record_of a.nodes.now a.j) c.small_at-count.result (c.loop-i.i + 1)) in
     let n = next_end (record_of c.args.nodes.now c.args.j) c.args.n c.small_at-count.result c.loop-i.first c.loop-i.i c.small_at-last.result
     c.loop-i-test.true (end_is c.loop-i.i c.record_at-record.ensures c.small_at-last.ensures) c.loop-i.invariant.3 in (
       omega (arith, c.loop-i-test.true),
       omega arith,
-      sym (test_is a.samples.now a.nodes.now a.n a.sizes.now a.starts.now a.order.now a.j c.small_at-count.result c.loop-i.first c.loop-i.i c.small_at-last.result c.recorded.result c.node_figures-figures.result c.record_at-record.ensures
+      sym (test_is a.samples.now a.nodes.now a.n a.sizes.now a.starts.now a.order.now a.j c.small_at-count.result c.loop-i.first c.loop-i.i c.small_at-last.result c.recorded.result
+          c.node_figures-figures.result c.record_at-record.ensures
           c.loop-i-test.true (end_is c.loop-i.i c.record_at-record.ensures c.small_at-last.ensures) c.loop-i.invariant.2 c.recorded.ensures c.node_figures-figures.ensures c.same_figures-same.ensures
           ∙ ap (λ (b : Bool). b && rest) c.if-not-same.false),
       n.on,

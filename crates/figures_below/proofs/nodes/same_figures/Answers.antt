@@ -24,9 +24,19 @@ returns-then-a-b-2 c =
 pub returns-then-a-b-3 : goal.returns-then-a-b-3
 unfolding same_figures
 returns-then-a-b-3 c =
-    λ e d. rw (same_yes (of_mag {w = w64} c.args.a.least_sum c.struct_told-1.given.1.0.1) (of_mag {w = w64} c.args.b.least_sum c.struct_told-2-1.given.1.0.1) c.if-a-b.false, same_yes (of_mag {w = w64} c.args.a.greatest_sum c.struct_told-3-1.given.1.1.0.1) (of_mag {w = w64} c.args.b.greatest_sum c.struct_told-4-1.given.1.1.0.1) c.if-a-b-2.false, ne_eqb _ _ c.if-a-b-3.true)
+    λ e d. rw (
+      same_yes (of_mag {w = w64} c.args.a.least_sum c.struct_told-1.given.1.0.1) (of_mag {w = w64} c.args.b.least_sum c.struct_told-2-1.given.1.0.1) c.if-a-b.false,
+      same_yes
+          (of_mag {w = w64} c.args.a.greatest_sum c.struct_told-3-1.given.1.1.0.1) (of_mag {w = w64} c.args.b.greatest_sum c.struct_told-4-1.given.1.1.0.1) c.if-a-b-2.false,
+      ne_eqb _ _ c.if-a-b-3.true,
+    )
 
 pub returns : goal.returns
 unfolding same_figures
 returns c =
-    λ e d. rw (same_yes (of_mag {w = w64} c.args.a.least_sum c.struct_told-1.given.1.0.1) (of_mag {w = w64} c.args.b.least_sum c.struct_told-2-1.given.1.0.1) c.if-a-b.false, same_yes (of_mag {w = w64} c.args.a.greatest_sum c.struct_told-3-1.given.1.1.0.1) (of_mag {w = w64} c.args.b.greatest_sum c.struct_told-4-1.given.1.1.0.1) c.if-a-b-2.false, eq-eqb _ _ c.if-a-b-3.false)
+    λ e d. rw (
+      same_yes (of_mag {w = w64} c.args.a.least_sum c.struct_told-1.given.1.0.1) (of_mag {w = w64} c.args.b.least_sum c.struct_told-2-1.given.1.0.1) c.if-a-b.false,
+      same_yes
+          (of_mag {w = w64} c.args.a.greatest_sum c.struct_told-3-1.given.1.1.0.1) (of_mag {w = w64} c.args.b.greatest_sum c.struct_told-4-1.given.1.1.0.1) c.if-a-b-2.false,
+      eq-eqb _ _ c.if-a-b-3.false,
+    )

@@ -58,6 +58,7 @@ returns c =
       plain {n = g.first} (omega arith),
       plain {n = g.last} (omega arith),
       to_z-of_z {w = w64} c.ranges.threshold,
-      head_kept (part c.args.nodes.now c.args.j c.record_start-a.result c.record_end-e.result c.record_start-a.ensures c.record_end-e.ensures) (omega (arith, long c.args.nodes.now c.args.j c.record_start-a.result c.record_end-e.result c.record_start-a.ensures c.record_end-e.ensures c.requires.0)),
+      head_kept (part c.args.nodes.now c.args.j c.record_start-a.result c.record_end-e.result c.record_start-a.ensures c.record_end-e.ensures)
+          (omega (arith, long c.args.nodes.now c.args.j c.record_start-a.result c.record_end-e.result c.record_start-a.ensures c.record_end-e.ensures c.requires.0)),
       is c.args.nodes.now c.args.j c.record_start-a.result c.record_end-e.result c.record_start-a.ensures c.record_end-e.ensures,
     )

@@ -62,7 +62,8 @@ widen_segment-requires c =
       readable = (
         long x old l.«record» l.i (length a.trace.now) c.requires.1 inside l.invariant.2,
         omega (arith, inside),
-        rw (l.invariant.2, l.invariant.1) (readable_later x old l.i (room x old l.«record» l.i (length a.trace.now) c.requires.1 inside l.invariant.2) (start_in old l.i) (length a.trace.now) (c.requires.1.segment l.i inside)),
+        rw (l.invariant.2, l.invariant.1) (readable_later x old l.i (room x old l.«record» l.i (length a.trace.now) c.requires.1 inside l.invariant.2) (start_in old l.i) (length a.trace.now)
+            (c.requires.1.segment l.i inside)),
       );
     }
 
@@ -89,7 +90,8 @@ loop-i-preserved c =
     let after : c.widen_segment.new.record ≡ with_segment l.«record» l.i (widen_segment x (run l.first (end_in l.«record» l.i)) (segment_in l.«record» l.i)) =
     c.widen_segment.ensures in
     let more : c.widen_segment.new.record ≡ partly x old (l.i + 1) =
-    after ∙ (next_partly x old l.«record» l.i l.first (room x old l.«record» l.i (length a.trace.now) c.requires.1 inside l.invariant.2) l.invariant.1 l.invariant.2 ∙ ap (partly x old) (sym (add-one l.i))) in
+    after ∙ (next_partly x old l.«record» l.i l.first (room x old l.«record» l.i (length a.trace.now) c.requires.1 inside l.invariant.2) l.invariant.1 l.invariant.2 ∙ ap (partly x old)
+    (sym (add-one l.i))) in
     (omega arith, first, more)
 
 pub shape_of-record : goal.shape_of-record

@@ -45,4 +45,5 @@ returns c =
     let sums : c.widen_range.new.record ≡ range_with r (p + 1) (sum_on (run a.first (end_in r a.i)) x) =
     c.widen_range.ensures ∙ ap (range_with r (p + 1)) sum in
     c.widen_range-2.ensures
-    ∙ (rw (sums, scatter) (widened_stored r a.i a.first _ (omega (arith, c.requires.prefixes.few, samples_length c.args.trace.now)) c.requires.readable.0 c.requires.readable.1 c.requires.readable.2 x))
+    ∙ (rw (sums, scatter) (widened_stored r a.i a.first _ (omega (arith, c.requires.prefixes.few, samples_length c.args.trace.now)) c.requires.readable.0 c.requires.readable.1 c.requires.readable.2
+    x))

@@ -78,4 +78,5 @@ returns c =
     let l = c.loop-i in
     let step = taking_at a.samples.now a.n (run a.first a.last) in
     let none = no_end a.list.now a.count (omega (arith, c.requires.0.places, c.requires.0.few)) l.i c.loop-i-test.false in
-    let e : l.f ≡ foldl step no_figures (take a.count a.list.now) = sym (ap (foldl step l.f) none) ∙ l.invariant.1 in record { result_value = ap (segment_by a.last) e ∙ along_taken a.samples.now a.n (run a.first a.last) (take a.count a.list.now); small = l.invariant.2 }
+    let e : l.f ≡ foldl step no_figures (take a.count a.list.now) = sym (ap (foldl step l.f) none) ∙ l.invariant.1 in record
+    { result_value = ap (segment_by a.last) e ∙ along_taken a.samples.now a.n (run a.first a.last) (take a.count a.list.now); small = l.invariant.2 }

@@ -41,4 +41,8 @@ returns c =
     let l = c.loop-i in
     let count = c.small_at-count.result in
     let e : take count l.at ≡ map (λ (j : ℕ). small_at r (segment_at j)) (counting count 0) =
-    filled_is (λ (j : ℕ). small_at r (segment_at j)) l.at count (omega (arith, l.invariant.2)) (λ j h. l.invariant.3 j (omega arith)) in record { result_value = e ∙ (rw c.small_at-count.ensures (sym (map-map (λ (s : Segment). s.end) (segment_in r) (counting (small_at r segments_place) 0)))); room = record { places = l.invariant.2; few = l.invariant.1 } }
+    filled_is (λ (j : ℕ). small_at r (segment_at j)) l.at count (omega (arith, l.invariant.2)) (λ j h. l.invariant.3 j (omega arith)) in record {
+      result_value = e ∙ (rw c.small_at-count.ensures (sym (map-map (λ (s : Segment). s.end) (segment_in r) (counting (small_at r segments_place) 0))));
+      room = record
+          { places = l.invariant.2; few = l.invariant.1 };
+    }

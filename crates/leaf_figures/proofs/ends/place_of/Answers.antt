@@ -15,7 +15,8 @@ bounds-at-i c = omega (arith, c.requires.few)
 pub returns-then-middle-at : goal.returns-then-middle-at
 returns-then-middle-at c =
     let l = c.loop-i in
-    let here = place_here c.args.e.at c.args.e.count (omega (arith, c.requires.places, c.requires.few)) c.args.middle l.i c.loop-i-test.true c.if-middle-at.true in record { value = omega (arith, l.invariant.1, here); inside = omega arith }
+    let here = place_here c.args.e.at c.args.e.count (omega (arith, c.requires.places, c.requires.few)) c.args.middle l.i c.loop-i-test.true c.if-middle-at.true in record
+    { value = omega (arith, l.invariant.1, here); inside = omega arith }
 
 pub overflow_add-i : goal.overflow_add-i
 overflow_add-i c = omega (arith, c.requires.few)
@@ -29,4 +30,5 @@ loop-i-preserved c =
 pub returns : goal.returns
 returns c =
     let l = c.loop-i in
-    let rest = place_end c.args.e.at c.args.e.count (omega (arith, c.requires.places, c.requires.few)) c.args.middle l.i c.loop-i-test.false in record { value = omega (arith, l.invariant.1, rest); inside = l.invariant.0 }
+    let rest = place_end c.args.e.at c.args.e.count (omega (arith, c.requires.places, c.requires.few)) c.args.middle l.i c.loop-i-test.false in record
+    { value = omega (arith, l.invariant.1, rest); inside = l.invariant.0 }

@@ -66,4 +66,8 @@ returns c =
     let p = place_in c.args.middle (take c.args.e.count from) in
     let all : l.i ≡ c.args.e.count = omega arith in
     let m : EndsMoved from c.args.middle p l.at c.args.e.count =
-    subst (λ (i : ℕ). EndsMoved from c.args.middle p l.at i) all (subst (λ (q : ℕ). EndsMoved from c.args.middle q l.at l.i) place.ensures.value l.invariant.3) in record { result_value = moved_all from c.args.middle c.args.e.count l.at (omega (arith, place.ensures.value, place.ensures.inside)) m; room = record { places = l.invariant.2; few = omega (arith, c.requires.1) } }
+    subst (λ (i : ℕ). EndsMoved from c.args.middle p l.at i) all (subst (λ (q : ℕ). EndsMoved from c.args.middle q l.at l.i) place.ensures.value l.invariant.3) in record {
+      result_value = moved_all from c.args.middle c.args.e.count l.at (omega (arith, place.ensures.value, place.ensures.inside)) m;
+      room = record
+          { places = l.invariant.2; few = omega (arith, c.requires.1) };
+    }

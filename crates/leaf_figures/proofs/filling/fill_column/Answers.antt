@@ -47,7 +47,8 @@ trace_at-trace-requires c = (run_at c.args.samples.now c.args.n c.args.list.now 
 
 pub figures_on-own-requires : goal.figures_on-own-requires
 figures_on-own-requires c =
-    run_of_words c.trace_at-trace.result.now c.trace_at-trace.ensures (run_at c.args.samples.now c.args.n c.args.list.now c.args.count c.loop-p.p c.args.first c.args.last c.requires.0 c.requires.1 c.loop-p-test.true c.wide-t.ensures)
+    run_of_words c.trace_at-trace.result.now c.trace_at-trace.ensures (run_at c.args.samples.now c.args.n c.args.list.now c.args.count c.loop-p.p c.args.first c.args.last c.requires.0 c.requires.1
+    c.loop-p-test.true c.wide-t.ensures)
 
 pub overflow_mul-at : goal.overflow_mul-at
 overflow_mul-at c = let h = inside c.args.f c.args.count c.loop-p.p c.requires.2 c.requires.3 c.loop-p-test.true in omega (arith, h)

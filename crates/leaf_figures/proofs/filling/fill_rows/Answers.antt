@@ -24,13 +24,22 @@ fill_segment-requires c =
     (p.0, record { from_1 = l.invariant.1; rises = r.rises; to_n = r.to_n }, omega (arith, c.if-count-gt65.false), omega (arith, p.1.few, c.loop-i-test.true), l.invariant.3)
 
 pub overflow_add-first : goal.overflow_add-first
-overflow_add-first c = omega (arith, (next_at c.args.e.at c.args.e.count (omega (arith, c.requires.1.places, c.requires.1.few)) c.loop-i.i c.loop-i-test.true c.loop-i.invariant.2).to_n, c.requires.0.narrow)
+overflow_add-first c = omega (
+  arith,
+  (next_at c.args.e.at c.args.e.count (omega (arith, c.requires.1.places, c.requires.1.few)) c.loop-i.i c.loop-i-test.true c.loop-i.invariant.2).to_n,
+  c.requires.0.narrow,
+)
 
 pub overflow_add-i : goal.overflow_add-i
 overflow_add-i c = omega (arith, c.requires.1.few)
 
 pub loop-i-preserved : goal.loop-i-preserved
-loop-i-preserved c = (omega arith, omega arith, (next_at c.args.e.at c.args.e.count (omega (arith, c.requires.1.places, c.requires.1.few)) c.loop-i.i c.loop-i-test.true c.loop-i.invariant.2).on, c.fill_segment.ensures)
+loop-i-preserved c = (
+  omega arith,
+  omega arith,
+  (next_at c.args.e.at c.args.e.count (omega (arith, c.requires.1.places, c.requires.1.few)) c.loop-i.i c.loop-i-test.true c.loop-i.invariant.2).on,
+  c.fill_segment.ensures,
+)
 
 pub returns : goal.returns
 returns c = c.loop-i.invariant.3

@@ -55,4 +55,9 @@ loop-t-preserved c =
 pub returns : goal.returns
 returns c =
     let l = c.loop-t in
-    let none = met_end c.args.links.now c.args.k l.t c.loop-t-test.false in record { list_after = sym (append-nil (take l.count l.list)) ∙ (ap (λ (m : List ℕ). take l.count l.list ++ m) (sym none) ∙ l.invariant.3); few = omega (arith, l.invariant.0, l.invariant.1, c.requires.1); size = l.invariant.2 }
+    let none = met_end c.args.links.now c.args.k l.t c.loop-t-test.false in record {
+      list_after = sym (append-nil (take l.count l.list)) ∙
+          (ap (λ (m : List ℕ). take l.count l.list ++ m) (sym none) ∙ l.invariant.3);
+      few = omega (arith, l.invariant.0, l.invariant.1, c.requires.1);
+      size = l.invariant.2;
+    }

@@ -44,8 +44,10 @@ trace_at-other-requires c = room c.loop-i.i c.requires c.loop-i-test.true c.wide
 pub same_trace-same-requires : goal.same_trace-same-requires
 same_trace-same-requires c =
     let a = c.args in
-    let first : length c.trace_at-first.result.now ≡ a.n = words_length a.samples.now c.trace_at-first.result.now a.n c.wide-head.result c.trace_at-first.ensures (room 0 c.requires (omega (arith, c.if-count-lt2.false)) c.wide-head.ensures) in
-    let other : length c.trace_at-other.result.now ≡ a.n = words_length a.samples.now c.trace_at-other.result.now a.n c.wide-t.result c.trace_at-other.ensures (room c.loop-i.i c.requires c.loop-i-test.true c.wide-t.ensures) in
+    let first : length c.trace_at-first.result.now ≡ a.n = words_length a.samples.now c.trace_at-first.result.now a.n c.wide-head.result c.trace_at-first.ensures
+    (room 0 c.requires (omega (arith, c.if-count-lt2.false)) c.wide-head.ensures) in
+    let other : length c.trace_at-other.result.now ≡ a.n = words_length a.samples.now c.trace_at-other.result.now a.n c.wide-t.result c.trace_at-other.ensures
+    (room c.loop-i.i c.requires c.loop-i-test.true c.wide-t.ensures) in
     (first ∙ sym other, omega (arith, first, c.requires.narrow))
 
 pub returns-then-not-same : goal.returns-then-not-same

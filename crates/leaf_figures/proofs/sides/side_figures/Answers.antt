@@ -66,4 +66,5 @@ returns c =
     let stored = stored_in a.samples.now a.n a.k in
     let on = run a.first a.last in
     let step = side_taking stored on a.marks.now a.mark in
-    let e : l.f ≡ foldl step no_figures (numbers_of a.links.now a.k a.head) = sym (fold_end step a.links.now a.k l.f l.t c.loop-t-test.false) ∙ l.invariant.1 in record { result_value = ap (segment_by a.last) e ∙ side_taken stored on a.marks.now a.mark (numbers_of a.links.now a.k a.head); small = l.invariant.2 }
+    let e : l.f ≡ foldl step no_figures (numbers_of a.links.now a.k a.head) = sym (fold_end step a.links.now a.k l.f l.t c.loop-t-test.false) ∙ l.invariant.1 in record
+    { result_value = ap (segment_by a.last) e ∙ side_taken stored on a.marks.now a.mark (numbers_of a.links.now a.k a.head); small = l.invariant.2 }

@@ -34,7 +34,11 @@ pub overflow_add-total : goal.overflow_add-total
 overflow_add-total c = omega (arith, c.segment_spread-total.ensures.size, c.loop-i.invariant.3, c.requires.2.few)
 
 pub overflow_add-first : goal.overflow_add-first
-overflow_add-first c = omega (arith, (next_at c.args.e.at c.args.e.count (omega (arith, c.requires.2.places, c.requires.2.few)) c.loop-i.i c.loop-i-test.true c.loop-i.invariant.4).to_n, c.requires.0.narrow)
+overflow_add-first c = omega (
+  arith,
+  (next_at c.args.e.at c.args.e.count (omega (arith, c.requires.2.places, c.requires.2.few)) c.loop-i.i c.loop-i-test.true c.loop-i.invariant.4).to_n,
+  c.requires.0.narrow,
+)
 
 pub overflow_add-i : goal.overflow_add-i
 overflow_add-i c = omega (arith, c.requires.2.few)
@@ -44,8 +48,13 @@ loop-i-preserved c =
     let a = c.args in
     let l = c.loop-i in
     let more = spread_more a.e.at a.e.count (omega (arith, c.requires.2.places, c.requires.2.few)) l.i c.loop-i-test.true l.first
-    (traces_at a.samples.now a.n (take a.count a.list.now)) in
-    (omega arith, omega arith, omega (arith, l.invariant.2, more, c.segment_spread-total.ensures.value), omega (arith, l.invariant.3, c.segment_spread-total.ensures.size), (next_at c.args.e.at c.args.e.count (omega (arith, c.requires.2.places, c.requires.2.few)) c.loop-i.i c.loop-i-test.true c.loop-i.invariant.4).on)
+    (traces_at a.samples.now a.n (take a.count a.list.now)) in (
+      omega arith,
+      omega arith,
+      omega (arith, l.invariant.2, more, c.segment_spread-total.ensures.value),
+      omega (arith, l.invariant.3, c.segment_spread-total.ensures.size),
+      (next_at c.args.e.at c.args.e.count (omega (arith, c.requires.2.places, c.requires.2.few)) c.loop-i.i c.loop-i-test.true c.loop-i.invariant.4).on,
+    )
 
 pub returns : goal.returns
 returns c =

@@ -8,7 +8,8 @@ use Rattle.pair_search.proofs.visiting.visit_both.Given as goal
 abbrev pub invariant-loop-next : goal.invariant-loop-next
 invariant-loop-next l =
     BothState (without_work l.control l.samples l.nodes l.links) (without_work l.bench_control l.bench_samples l.bench_nodes l.bench_links) (samples_of l.query)
-    (slices l.initial.work l.initial.trail l.initial.list) (slices l.work l.trail l.list) (slices l.initial.bench_work l.initial.bench_trail l.initial.bench_list) (slices l.bench_work l.bench_trail l.bench_list)
+    (slices l.initial.work l.initial.trail l.initial.list) (slices l.work l.trail l.list) (slices l.initial.bench_work l.initial.bench_trail l.initial.bench_list)
+    (slices l.bench_work l.bench_trail l.bench_list)
     l.factory l.bench
 
 abbrev pub decreases-loop-next : goal.decreases-loop-next

@@ -91,11 +91,19 @@ loop-i-preserved c =
     let l = c.loop-i in
     let x = next c.before in
     let more = total_more c.args.«record».now c.small_at-count.result l.i
-    c.loop-i-test.true c.small_at-last.result c.small_at-last.ensures (bound_on (samples_of c.args.query.now)) l.first in
-    (omega arith, omega arith, omega (arith, l.invariant.2, more, c.segment_term-total.ensures.value), omega (arith, l.invariant.3, c.segment_term-total.ensures.size, x.rises), omega (arith, x.to_n), x.on)
+    c.loop-i-test.true c.small_at-last.result c.small_at-last.ensures (bound_on (samples_of c.args.query.now)) l.first in (
+      omega arith,
+      omega arith,
+      omega (arith, l.invariant.2, more, c.segment_term-total.ensures.value),
+      omega (arith, l.invariant.3, c.segment_term-total.ensures.size, x.rises),
+      omega
+          (arith, x.to_n),
+      x.on,
+    )
 
 pub returns : goal.returns
 unfolding sample_limit bound_limit
 returns c =
     let l = c.loop-i in
-    let rest = total_end c.args.«record».now c.small_at-count.result (bound_on (samples_of c.args.query.now)) l.first l.i c.loop-i-test.false in record { value = omega (arith, l.invariant.2, rest); size = omega (arith, l.invariant.3, l.invariant.4, few_words c.args.query.now c.requires.0) }
+    let rest = total_end c.args.«record».now c.small_at-count.result (bound_on (samples_of c.args.query.now)) l.first l.i c.loop-i-test.false in record
+    { value = omega (arith, l.invariant.2, rest); size = omega (arith, l.invariant.3, l.invariant.4, few_words c.args.query.now c.requires.0) }

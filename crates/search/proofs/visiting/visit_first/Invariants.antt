@@ -12,7 +12,8 @@ use Rattle.search.proofs.visiting.visit_first.Given as goal
 abbrev pub invariant-loop-bound : goal.invariant-loop-bound
 invariant-loop-bound l =
     let t = without_work l.control l.samples l.nodes l.links in
-    SearchState l.k l.most t (samples_of l.query) (shape_in l.nodes (node_count t)) l.initial.trail l.initial.list l.work l.trail l.list l.waiting l.out l.traces l.listed × (length l.work ≡ node_count t)
+    SearchState l.k l.most t (samples_of l.query) (shape_in l.nodes (node_count t)) l.initial.trail l.initial.list l.work l.trail l.list l.waiting l.out l.traces l.listed ×
+    (length l.work ≡ node_count t)
 
 abbrev pub decreases-loop-bound : goal.decreases-loop-bound
 decreases-loop-bound l =

@@ -5,7 +5,6 @@ use native.Mathlib.Omega.{arith}
 use lib.IntN.{nat_abs, ◌-ℤ◌}
 use mir.Syntax.{w32}
 use mir.Facts.{to_z-of_z}
-use borrow.Author.Rules.{rules}
 use Rattle.integer.proofs.Width.{of_mag}
 use Rattle.segment.specs.Stored.{sample_of}
 use Rattle.segment.proofs.Steps.{small_square}

@@ -1,6 +1,5 @@
 -- `segment::figures::stretch_distance` meets its contract: the total is what the samples passed add, at most 2^40 each.
 use mathlib.Core.Path.{◌≡◌, ap}
-use Prim.Native.Nat.{◌+◌, ◌-◌, ◌*◌, ◌^◌, ◌≤◌}
 use native.Mathlib.Omega.{arith}
 use Rattle.segment.proofs.Steps.{words_distance_to, distance_grows}
 use Rattle.segment.proofs.figures.stretch_distance.Goals as goal
@@ -17,4 +16,8 @@ loop-i-preserved c =
 
 pub returns : goal.returns
 returns c =
-    let e : c.loop-i.i ≡ c.args.end = omega arith in record { result_value = omega (arith, ap (words_distance_to c.args.x.now c.args.y.now) e); size = omega (arith, ap (words_distance_to c.args.x.now c.args.y.now) e) }
+    let e : c.loop-i.i ≡ c.args.end = omega arith in record {
+      result_value = omega (arith, ap (words_distance_to c.args.x.now c.args.y.now) e);
+      size = omega
+          (arith, ap (words_distance_to c.args.x.now c.args.y.now) e);
+    }

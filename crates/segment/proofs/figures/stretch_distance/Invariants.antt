@@ -1,8 +1,7 @@
 -- `segment::figures::stretch_distance` meets its contract: the total is what the samples passed add, at most 2^40 each.
-use mathlib.Core.Path.{◌≡◌, ap}
+use mathlib.Core.Path.{◌≡◌}
 use Prim.Native.Nat.{◌+◌, ◌-◌, ◌*◌, ◌^◌, ◌≤◌}
-use native.Mathlib.Omega.{arith}
-use Rattle.segment.proofs.Steps.{words_distance_to, distance_grows}
+use Rattle.segment.proofs.Steps.{words_distance_to}
 use Rattle.segment.proofs.figures.stretch_distance.Given as goal
 
 abbrev pub invariant-loop-i : goal.invariant-loop-i

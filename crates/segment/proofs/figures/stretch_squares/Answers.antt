@@ -1,6 +1,5 @@
 -- `segment::figures::stretch_squares` meets its contract: the total is what the samples passed add, at most 2^38 each.
 use mathlib.Core.Path.{◌≡◌, ap}
-use Prim.Native.Nat.{◌+◌, ◌-◌, ◌*◌, ◌^◌, ◌≤◌}
 use native.Mathlib.Omega.{arith}
 use Rattle.segment.proofs.Steps.{squares_to, squares_grow}
 use Rattle.segment.proofs.figures.stretch_squares.Goals as goal

@@ -1,8 +1,7 @@
 -- `segment::figures::stretch_squares` meets its contract: the total is what the samples passed add, at most 2^38 each.
-use mathlib.Core.Path.{◌≡◌, ap}
+use mathlib.Core.Path.{◌≡◌}
 use Prim.Native.Nat.{◌+◌, ◌-◌, ◌*◌, ◌^◌, ◌≤◌}
-use native.Mathlib.Omega.{arith}
-use Rattle.segment.proofs.Steps.{squares_to, squares_grow}
+use Rattle.segment.proofs.Steps.{squares_to}
 use Rattle.segment.proofs.figures.stretch_squares.Given as goal
 
 abbrev pub invariant-loop-i : goal.invariant-loop-i

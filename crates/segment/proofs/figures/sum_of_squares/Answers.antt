@@ -1,10 +1,8 @@
 -- `segment::figures::sum_of_squares` meets its contract: the total is that of the samples passed, and never above 2^46.
-use mathlib.Core.Path.{◌≡◌, refl, ap}
-use Prim.Native.Nat.{◌-◌, ◌*◌, ◌^◌, ◌≤◌}
+use mathlib.Core.Path.{refl, ap}
 use native.Mathlib.Omega.{arith}
 use lib.ListN.{length}
 use Rattle.segment.specs.Figures.{sum_of_squares}
-use Rattle.segment.proofs.Steps.{squares_to}
 use Rattle.segment.proofs.Stored.{all_samples}
 use Rattle.segment.proofs.figures.sum_of_squares.Goals as goal
 
@@ -18,4 +16,8 @@ returns-then-next-gt70368744177664 c = absurd (omega arith)
 
 pub returns : goal.returns
 returns c =
-    let n = length c.args.samples.now in record { value = omega (arith, ap sum_of_squares (all_samples n c.args.samples.now (omega arith))); size = omega (arith, ap sum_of_squares (all_samples n c.args.samples.now (omega arith))) }
+    let n = length c.args.samples.now in record {
+      value = omega (arith, ap sum_of_squares (all_samples n c.args.samples.now (omega arith)));
+      size = omega
+          (arith, ap sum_of_squares (all_samples n c.args.samples.now (omega arith)));
+    }

@@ -1,11 +1,8 @@
 -- `segment::figures::sum_of_squares` meets its contract: the total is that of the samples passed, and never above 2^46.
-use mathlib.Core.Path.{◌≡◌, refl, ap}
+use mathlib.Core.Path.{◌≡◌}
 use Prim.Native.Nat.{◌-◌, ◌*◌, ◌^◌, ◌≤◌}
-use native.Mathlib.Omega.{arith}
 use lib.ListN.{length}
-use Rattle.segment.specs.Figures.{sum_of_squares}
 use Rattle.segment.proofs.Steps.{squares_to}
-use Rattle.segment.proofs.Stored.{all_samples}
 use Rattle.segment.proofs.figures.sum_of_squares.Given as goal
 
 abbrev pub invariant-loop-k : goal.invariant-loop-k

@@ -1,10 +1,8 @@
 -- `segment::ranges::greatest_within` meets its contract: the total is the greatest of the samples passed, and all samples give no less.
-use mathlib.Core.Path.{◌≡◌, sym}
-use Prim.Native.Nat.{◌+◌, ◌-◌, ◌*◌, ◌^◌, ◌≤◌}
+use mathlib.Core.Path.{sym}
+use Prim.Native.Nat.{◌+◌}
 use native.Mathlib.Omega.{arith}
-use lib.ListN.{length}
 use Rattle.segment.specs.Upper.{sum_reach}
-use Rattle.segment.specs.Clipped.{summed_to}
 use Rattle.segment.specs.Stored.{samples_of}
 use Rattle.segment.proofs.ClippedSteps.{summed_none, summed_whole, first_no_more}
 use Rattle.segment.proofs.ranges.greatest_within.Goals as goal

@@ -1,14 +1,10 @@
 -- `segment::ranges::is_least_within` meets its contract: the total is the least of the samples passed, and all samples give no less.
-use mathlib.Core.Path.{◌≡◌, sym, ap}
-use Prim.Native.Nat.{ℕ, ◌+◌, ◌-◌, ◌*◌, ◌^◌, ◌≤◌}
-use native.Mathlib.Omega.{arith}
-use lib.Dec.{leb}
+use mathlib.Core.Path.{◌≡◌}
+use Prim.Native.Nat.{◌-◌, ◌*◌, ◌^◌, ◌≤◌}
 use lib.ListN.{length}
-use borrow.Author.Tests.{lt-leb}
 use Rattle.segment.specs.Terms.{sum_gap}
-use Rattle.segment.specs.Clipped.{least_from, summed_to}
+use Rattle.segment.specs.Clipped.{summed_to}
 use Rattle.segment.specs.Stored.{samples_of}
-use Rattle.segment.proofs.ClippedSteps.{summed_none, summed_whole, first_no_more}
 use Rattle.segment.proofs.ranges.is_least_within.Given as goal
 
 abbrev pub invariant-loop-k : goal.invariant-loop-k

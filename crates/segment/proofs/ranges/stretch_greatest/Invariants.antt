@@ -1,12 +1,9 @@
 -- `segment::ranges::stretch_greatest` meets its contract: the total is what the samples passed add, at most 2^40 each.
-use mathlib.Core.Path.{◌≡◌, ap}
+use mathlib.Core.Path.{◌≡◌}
 use Prim.Native.Nat.{◌+◌, ◌-◌, ◌*◌, ◌^◌, ◌≤◌}
-use native.Mathlib.Omega.{arith}
 use Rattle.segment.specs.Clipped.{summed_to}
 use Rattle.segment.specs.Stored.{samples_of}
 use Rattle.segment.specs.Upper.{sum_reach}
-use Rattle.segment.proofs.Steps.{read_plain}
-use Rattle.segment.proofs.ClippedSteps.{summed_grows}
 use Rattle.segment.proofs.ranges.stretch_greatest.Given as goal
 
 abbrev pub invariant-loop-i : goal.invariant-loop-i

@@ -1,6 +1,5 @@
 -- `segment::ranges::stretch_least` meets its contract: the total is what the samples passed add, at most 2^40 each.
 use mathlib.Core.Path.{◌≡◌, ap}
-use Prim.Native.Nat.{◌+◌, ◌-◌, ◌*◌, ◌^◌, ◌≤◌}
 use native.Mathlib.Omega.{arith}
 use Rattle.segment.specs.Clipped.{summed_to}
 use Rattle.segment.specs.Stored.{samples_of}
@@ -30,4 +29,8 @@ loop-i-preserved c =
 
 pub returns : goal.returns
 returns c =
-    let e : c.loop-i.i ≡ c.args.end = omega arith in record { result_value = omega (arith, ap (summed_to sum_gap c.args.lows.now c.args.highs.now (samples_of c.args.trace.now)) e); size = omega (arith, ap (summed_to sum_gap c.args.lows.now c.args.highs.now (samples_of c.args.trace.now)) e) }
+    let e : c.loop-i.i ≡ c.args.end = omega arith in record {
+      result_value = omega (arith, ap (summed_to sum_gap c.args.lows.now c.args.highs.now (samples_of c.args.trace.now)) e);
+      size = omega
+          (arith, ap (summed_to sum_gap c.args.lows.now c.args.highs.now (samples_of c.args.trace.now)) e);
+    }

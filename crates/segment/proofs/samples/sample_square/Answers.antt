@@ -7,7 +7,6 @@ use lib.IntN.{nat_abs}
 use lib.Signed.{nat_abs-le}
 use mir.Syntax.{w32}
 use mir.Facts.{to_z-of_z}
-use borrow.Author.Rules.{rules}
 use Rattle.integer.proofs.Width.{of_mag, read}
 use Rattle.segment.specs.Limits.{sample_most}
 use Rattle.segment.specs.Stored.{sample_of}

@@ -2,14 +2,13 @@
 -- Where sixteen more pass it, so do all together, and `passing` finds the sample.
 use mathlib.Core.Path.{◌≡◌, refl, ap₂}
 use mathlib.Core.List.{List}
-use Prim.Native.Nat.{ℕ, ◌+◌, ◌-◌, ◌*◌, ◌^◌, ◌≤◌}
+use Prim.Native.Nat.{ℕ, ◌+◌, ◌≤◌}
 use native.Mathlib.Omega.{arith}
 use lib.IntN.{ℤ}
 use lib.ListN.{length}
 use Rattle.segment.specs.Figures.{distance}
 use Rattle.segment.specs.Within.{distance_within, IsFewest, DistanceSays}
 use Rattle.segment.specs.declared.within.Distance.TheVariants as w
-use Rattle.segment.proofs.Steps.{words_distance_to}
 use Rattle.segment.proofs.Stored.{all_samples}
 use Rattle.segment.specs.Stored.{samples_of}
 use Rattle.segment.proofs.Fewest.{first_less, is_distance_within}
@@ -54,7 +53,11 @@ pub passing-requires-then-limit-whole : goal.passing-requires-then-limit-whole
 passing-requires-then-limit-whole c = omega (arith, whole c)
 
 pub returns-then-limit-whole : goal.returns-then-limit-whole
-returns-then-limit-whole c = record { value = beyond (samples_of c.args.x.now) (samples_of c.args.y.now) c.args.limit c.passing-then-limit-whole.result c.passing-then-limit-whole.ensures; size = λ h. absurd (omega arith) }
+returns-then-limit-whole c = record {
+  value = beyond (samples_of c.args.x.now) (samples_of c.args.y.now) c.args.limit c.passing-then-limit-whole.result c.passing-then-limit-whole.ensures;
+  size =
+      λ h. absurd (omega arith);
+}
 
 pub returns : goal.returns
 returns c = record {

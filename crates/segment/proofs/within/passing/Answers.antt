@@ -1,9 +1,9 @@
 -- `segment::within::passing` meets its contract: the total is the distance of the samples passed, which is at most the limit until it
 -- returns.
 use mathlib.Core.Path.{◌≡◌, ap₂}
-use Prim.Native.Nat.{◌+◌, ◌-◌, ◌*◌, ◌^◌, ◌≤◌}
+use Prim.Native.Nat.{◌+◌}
 use native.Mathlib.Omega.{arith}
-use lib.ListN.{length, length-map}
+use lib.ListN.{length-map}
 use Rattle.segment.specs.Figures.{distance}
 use Rattle.segment.proofs.Steps.{words_distance_to, distance_grows}
 use Rattle.segment.proofs.Stored.{all_samples}

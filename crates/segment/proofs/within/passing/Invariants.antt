@@ -1,14 +1,9 @@
 -- `segment::within::passing` meets its contract: the total is the distance of the samples passed, which is at most the limit until it
 -- returns.
-use mathlib.Core.Path.{◌≡◌, ap₂}
-use Prim.Native.Nat.{◌+◌, ◌-◌, ◌*◌, ◌^◌, ◌≤◌}
-use native.Mathlib.Omega.{arith}
-use lib.ListN.{length, length-map}
-use Rattle.segment.specs.Figures.{distance}
-use Rattle.segment.proofs.Steps.{words_distance_to, distance_grows}
-use Rattle.segment.proofs.Stored.{all_samples}
-use Rattle.segment.specs.Stored.{sample_of, samples_of}
-use Rattle.segment.proofs.Fewest.{fewest_at}
+use mathlib.Core.Path.{◌≡◌}
+use Prim.Native.Nat.{◌-◌, ◌*◌, ◌^◌, ◌≤◌}
+use lib.ListN.{length}
+use Rattle.segment.proofs.Steps.{words_distance_to}
 use Rattle.segment.proofs.within.passing.Given as goal
 
 abbrev pub invariant-loop-i : goal.invariant-loop-i

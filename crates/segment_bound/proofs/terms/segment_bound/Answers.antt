@@ -35,4 +35,8 @@ returns c =
     let g : ℕ = c.sum_gap-g.result in
     let h : ℕ = c.scatter_gap-h.result in
     let hg = sum_gap_most c.before in
-    let hh = scatter_gap_most c.before in record { value = c.bound_term.ensures ∙ ap₂ (bound_term c.args.w) (sum_gap_is c.before) c.scatter_gap-h.ensures; size = omega (arith, c.bound_term.ensures, c.requires.1, mul-le-mul hg hg, mul-le-mul hh hh, div-le_self (g * g + h * h + (c.args.w - 1)) c.args.w) }
+    let hh = scatter_gap_most c.before in record {
+      value = c.bound_term.ensures ∙ ap₂ (bound_term c.args.w) (sum_gap_is c.before) c.scatter_gap-h.ensures;
+      size = omega
+          (arith, c.bound_term.ensures, c.requires.1, mul-le-mul hg hg, mul-le-mul hh hh, div-le_self (g * g + h * h + (c.args.w - 1)) c.args.w);
+    }

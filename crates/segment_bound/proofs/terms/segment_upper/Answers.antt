@@ -34,4 +34,8 @@ returns c =
     let g : ℕ = c.sum_reach-g.result in
     let h : ℕ = c.scatter_reach-h.result in
     let hg = reach_most c.before in
-    let hh = roots_most c.before in record { value = c.upper_term.ensures ∙ ap₂ (upper_term c.args.w) (reach_is c.before) c.scatter_reach-h.ensures; size = omega (arith, c.upper_term.ensures, mul-le-mul hg hg, mul-le-mul hh hh, div-le_self (g * g + h * h) c.args.w) }
+    let hh = roots_most c.before in record {
+      value = c.upper_term.ensures ∙ ap₂ (upper_term c.args.w) (reach_is c.before) c.scatter_reach-h.ensures;
+      size = omega
+          (arith, c.upper_term.ensures, mul-le-mul hg hg, mul-le-mul hh hh, div-le_self (g * g + h * h) c.args.w);
+    }

@@ -166,7 +166,8 @@ module _ (t : goal.Else-is_torn) where
   torn_is_2 : t.is_torn.result ≡ is_torn format_2 (kind_before (bytes_5 at_2) (number_6 at_2)) (number_6 at_2) (block_at (bytes_5 at_2) (number_6 at_2))
   torn_is_2 =
       t.is_torn.ensures
-      ∙ ap (λ (k : ℕ). is_torn format_2 k (number_6 at_2) (take (at_2.start-from.result + block_size - at_2.start-from.result) (drop at_2.start-from.result (bytes_5 at_2)))) asked_2.kind_before-before.ensures
+      ∙ ap (λ (k : ℕ). is_torn format_2 k (number_6 at_2) (take (at_2.start-from.result + block_size - at_2.start-from.result) (drop at_2.start-from.result (bytes_5 at_2))))
+      asked_2.kind_before-before.ensures
       ∙ ap (is_torn format_2 (kind_before (bytes_5 at_2) (number_6 at_2)) (number_6 at_2)) (is_block_5 at_2)
 
 -- inside the loop
@@ -205,7 +206,8 @@ module _ (t : goal.After-next-cursor) where
   torn_is_3 : t.is_torn.result ≡ is_torn format_3 (kind_before (bytes_6 at_3) (number_7 at_3)) (number_7 at_3) (block_at (bytes_6 at_3) (number_7 at_3))
   torn_is_3 =
       t.is_torn.ensures
-      ∙ ap (λ (k : ℕ). is_torn format_3 k (number_7 at_3) (take (at_3.start-from.result + block_size - at_3.start-from.result) (drop at_3.start-from.result (bytes_6 at_3)))) asked_3.kind_before-before.ensures
+      ∙ ap (λ (k : ℕ). is_torn format_3 k (number_7 at_3) (take (at_3.start-from.result + block_size - at_3.start-from.result) (drop at_3.start-from.result (bytes_6 at_3))))
+      asked_3.kind_before-before.ensures
       ∙ ap (is_torn format_3 (kind_before (bytes_6 at_3) (number_7 at_3)) (number_7 at_3)) (is_block_6 at_3)
 
 pub loop-cursor-init : goal.loop-cursor-init

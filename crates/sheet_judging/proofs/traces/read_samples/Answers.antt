@@ -372,7 +372,8 @@ module _ (p : goal.After-copy_samples-arg-in-loop-i-1) where
 
   -- the bytes_6 that are copied
   part_is_3 : take (from_3 + size_5 (turn_4 here_3) * k_4 here_3 - from_3) (drop from_3 (bytes_6 (start_5 (turn_4 here_3))))
-      ≡ part (sample_place (f_6 (start_5 (turn_4 here_3))) (number_5 (turn_4 here_3)) (used_5 (turn_4 here_3))) (k_4 here_3 * (f_6 (start_5 (turn_4 here_3))).sample_bytes) (bytes_6 (start_5 (turn_4 here_3)))
+      ≡ part (sample_place (f_6 (start_5 (turn_4 here_3))) (number_5 (turn_4 here_3)) (used_5 (turn_4 here_3))) (k_4 here_3 * (f_6 (start_5 (turn_4 here_3))).sample_bytes)
+      (bytes_6 (start_5 (turn_4 here_3)))
   part_is_3 =
       let m : from_3 + size_5 (turn_4 here_3) * k_4 here_3 - from_3 ≡ size_5 (turn_4 here_3) * k_4 here_3 = omega arith in
       let e : from_3 + size_5 (turn_4 here_3) * k_4 here_3 - from_3 ≡ k_4 here_3 * (f_6 (start_5 (turn_4 here_3))).sample_bytes =
@@ -543,7 +544,8 @@ module _ (p : goal.After-pass-cursor) where
 
   -- the bytes_8 that are copied
   part_is_4 : take (from_4 + size_7 (turn_6 here_4) * k_6 here_4 - from_4) (drop from_4 (bytes_8 (start_7 (turn_6 here_4))))
-      ≡ part (sample_place (f_8 (start_7 (turn_6 here_4))) (number_7 (turn_6 here_4)) (used_7 (turn_6 here_4))) (k_6 here_4 * (f_8 (start_7 (turn_6 here_4))).sample_bytes) (bytes_8 (start_7 (turn_6 here_4)))
+      ≡ part (sample_place (f_8 (start_7 (turn_6 here_4))) (number_7 (turn_6 here_4)) (used_7 (turn_6 here_4))) (k_6 here_4 * (f_8 (start_7 (turn_6 here_4))).sample_bytes)
+      (bytes_8 (start_7 (turn_6 here_4)))
   part_is_4 =
       let m : from_4 + size_7 (turn_6 here_4) * k_6 here_4 - from_4 ≡ size_7 (turn_6 here_4) * k_6 here_4 = omega arith in
       let e : from_4 + size_7 (turn_6 here_4) * k_6 here_4 - from_4 ≡ k_6 here_4 * (f_8 (start_7 (turn_6 here_4))).sample_bytes =
@@ -630,7 +632,8 @@ pub copy_samples-requires : goal.copy_samples-requires
 copy_samples-requires c =
     let l = turn_4 (here_3 c) in
     let s = start_5 l in (
-      subst (λ (x : ℕ). x * length (take (i_5 l + k_4 (here_3 c) - i_5 l) (drop (i_5 l) (places_5 l))) ≤ length (take (from_3 c + size_5 l * k_4 (here_3 c) - from_3 c) (drop (from_3 c) (bytes_6 s))))
+      subst (λ (x : ℕ). x * length (take (i_5 l + k_4 (here_3 c) - i_5 l) (drop (i_5 l) (places_5 l))) ≤ length
+          (take (from_3 c + size_5 l * k_4 (here_3 c) - from_3 c) (drop (from_3 c) (bytes_6 s))))
           (size_is_5 l) (omega (arith, ap (λ (x : ℕ). size_5 l * x) (lent_places_3 c), lent_bytes_3 c)),
       λ e. subst (SamplesWithin sample_most) (sym (said_3 c))
           (within_part s.args.four (bytes_6 s) sample_most (first_6 s) (i_5 l) (k_4 (here_3 c)) (count_6 s) (in_places_4 (here_3 c)) (s.requires.3 e)),

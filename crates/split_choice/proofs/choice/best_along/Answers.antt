@@ -42,7 +42,9 @@ try_segment-found-requires c =
     let a = c.args in
     let p = c.requires in
     let whole = c.spread_along-whole in
-    let t = turn c.args.n (stored_in c.args.samples.now c.args.n c.args.k) (ends_of c.args.e) (take c.args.count c.args.list.now) (going c.args.n (stored_in c.args.samples.now c.args.n c.args.k) (take c.args.count c.args.list.now) c.args.e.at c.args.e.count c.loop-i.found c.loop-i.first c.loop-i.i (omega (arith, c.requires.3.places, c.requires.3.few)) c.loop-i-test.true c.loop-i.invariant.1) in (
+    let t = turn c.args.n (stored_in c.args.samples.now c.args.n c.args.k) (ends_of c.args.e) (take c.args.count c.args.list.now)
+    (going c.args.n (stored_in c.args.samples.now c.args.n c.args.k) (take c.args.count c.args.list.now) c.args.e.at c.args.e.count c.loop-i.found c.loop-i.first c.loop-i.i
+    (omega (arith, c.requires.3.places, c.requires.3.few)) c.loop-i-test.true c.loop-i.invariant.1) in (
       record {
         listed = p.0;
         below = p.1;
@@ -60,15 +62,28 @@ try_segment-found-requires c =
     )
 
 pub overflow_add-first : goal.overflow_add-first
-overflow_add-first c = omega (arith, (turn c.args.n (stored_in c.args.samples.now c.args.n c.args.k) (ends_of c.args.e) (take c.args.count c.args.list.now) (going c.args.n (stored_in c.args.samples.now c.args.n c.args.k) (take c.args.count c.args.list.now) c.args.e.at c.args.e.count c.loop-i.found c.loop-i.first c.loop-i.i (omega (arith, c.requires.3.places, c.requires.3.few)) c.loop-i-test.true c.loop-i.invariant.1)).inside.to_n, c.requires.0.narrow)
+overflow_add-first c = omega (
+  arith,
+  (turn c.args.n (stored_in c.args.samples.now c.args.n c.args.k) (ends_of c.args.e) (take c.args.count c.args.list.now)
+      (going c.args.n (stored_in c.args.samples.now c.args.n c.args.k) (take c.args.count c.args.list.now) c.args.e.at c.args.e.count c.loop-i.found c.loop-i.first c.loop-i.i
+      (omega (arith, c.requires.3.places, c.requires.3.few)) c.loop-i-test.true c.loop-i.invariant.1)).inside.to_n,
+  c.requires.0.narrow,
+)
 
 pub overflow_add-i : goal.overflow_add-i
 overflow_add-i c = omega (arith, c.requires.3.few)
 
 pub loop-i-preserved : goal.loop-i-preserved
 loop-i-preserved c =
-    let g = c.try_segment-found.ensures in
-    (omega arith, (turn c.args.n (stored_in c.args.samples.now c.args.n c.args.k) (ends_of c.args.e) (take c.args.count c.args.list.now) (going c.args.n (stored_in c.args.samples.now c.args.n c.args.k) (take c.args.count c.args.list.now) c.args.e.at c.args.e.count c.loop-i.found c.loop-i.first c.loop-i.i (omega (arith, c.requires.3.places, c.requires.3.few)) c.loop-i-test.true c.loop-i.invariant.1)).on c.loop-i.found c.try_segment-found.result (going c.args.n (stored_in c.args.samples.now c.args.n c.args.k) (take c.args.count c.args.list.now) c.args.e.at c.args.e.count c.loop-i.found c.loop-i.first c.loop-i.i (omega (arith, c.requires.3.places, c.requires.3.few)) c.loop-i-test.true c.loop-i.invariant.1) g.after.is g.after.sound, g.room)
+    let g = c.try_segment-found.ensures in (
+      omega arith,
+      (turn c.args.n (stored_in c.args.samples.now c.args.n c.args.k) (ends_of c.args.e) (take c.args.count c.args.list.now)
+          (going c.args.n (stored_in c.args.samples.now c.args.n c.args.k) (take c.args.count c.args.list.now) c.args.e.at c.args.e.count c.loop-i.found c.loop-i.first c.loop-i.i
+          (omega (arith, c.requires.3.places, c.requires.3.few)) c.loop-i-test.true c.loop-i.invariant.1)).on c.loop-i.found c.try_segment-found.result
+          (going c.args.n (stored_in c.args.samples.now c.args.n c.args.k) (take c.args.count c.args.list.now) c.args.e.at c.args.e.count c.loop-i.found c.loop-i.first c.loop-i.i
+          (omega (arith, c.requires.3.places, c.requires.3.few)) c.loop-i-test.true c.loop-i.invariant.1) g.after.is g.after.sound,
+      g.room,
+    )
 
 pub returns : goal.returns
 returns c =
@@ -78,4 +93,8 @@ returns c =
     let stored = stored_in a.samples.now a.n a.k in
     let numbers = take a.count a.list.now in
     let none_left = no_end a.e.at a.e.count (omega (arith, p.places, p.few)) l.i c.loop-i-test.false in
-    let g = subst (Going a.n stored (ends_of a.e) numbers l.found l.first) none_left l.invariant.1 in record { result_value = going_end a.n stored (ends_of a.e) numbers g; sound = l.invariant.1.sound }
+    let g = subst (Going a.n stored (ends_of a.e) numbers l.found l.first) none_left l.invariant.1 in record {
+      result_value = going_end a.n stored (ends_of a.e) numbers g;
+      sound =
+          l.invariant.1.sound;
+    }

@@ -55,7 +55,14 @@ returns-then-same c =
     }
 
 pub best_kept-requires : goal.best_kept-requires
-best_kept-requires c = (listed c.requires.0 c.list_leaf-count.ensures.list_after c.list_leaf-count.ensures.size c.list_leaf-count.ensures.few, below c.requires.0 c.list_leaf-count.ensures.list_after, c.requires.0.few, c.requires.1, c.requires.2)
+best_kept-requires c = (
+  listed c.requires.0 c.list_leaf-count.ensures.list_after c.list_leaf-count.ensures.size c.list_leaf-count.ensures.few,
+  below c.requires.0
+      c.list_leaf-count.ensures.list_after,
+  c.requires.0.few,
+  c.requires.1,
+  c.requires.2,
+)
 
 pub returns : goal.returns
 returns c =

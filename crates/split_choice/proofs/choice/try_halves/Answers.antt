@@ -49,7 +49,12 @@ pub try_both-left-requires : goal.try_both-left-requires
 try_both-left-requires c = (
   c.requires.0,
   record {
-    inside = record { from_1 = c.requires.1.from_1; rises = (middle_in (ends_of c.args.e) c.args.first c.args.last c.requires.1.from_1 c.requires.4).0; to_n = omega (arith, (middle_in (ends_of c.args.e) c.args.first c.args.last c.requires.1.from_1 c.requires.4).1, c.requires.1.to_n) };
+    inside = record {
+      from_1 = c.requires.1.from_1;
+      rises = (middle_in (ends_of c.args.e) c.args.first c.args.last c.requires.1.from_1 c.requires.4).0;
+      to_n = omega
+          (arith, (middle_in (ends_of c.args.e) c.args.first c.args.last c.requires.1.from_1 c.requires.4).1, c.requires.1.to_n);
+    };
     room = λ f. omega (arith, ends_count c.args.e c.requires.0.room, c.requires.5);
     rise = half_rise c.args.n (ends_of c.args.e) c.args.first c.args.last c.requires.1.from_1 c.requires.4 c.requires.2;
   },
@@ -80,8 +85,11 @@ returns c =
     let one = try_one (stored_in a.samples.now a.n a.k) all (take a.count a.list.now) in
     let e : halves all (run a.first a.last) ≡ lefts ++ rights = both_halves all a.first a.last c.requires.1.from_1 c.requires.4
     (omega (arith, ends_count c.args.e c.requires.0.room, c.requires.5)) in
-    let split : tried (stored_in a.samples.now a.n a.k) all (take a.count a.list.now) (chosen_by (stored_in a.samples.now a.n a.k) all (take a.count a.list.now) a.old) (halves all (run a.first a.last)) ≡ tried (stored_in a.samples.now a.n a.k) all (take a.count a.list.now) (tried (stored_in a.samples.now a.n a.k) all (take a.count a.list.now) (chosen_by (stored_in a.samples.now a.n a.k) all (take a.count a.list.now) a.old) lefts) rights =
-    ap (λ (h : List Candidate). tried (stored_in a.samples.now a.n a.k) all (take a.count a.list.now) (chosen_by (stored_in a.samples.now a.n a.k) all (take a.count a.list.now) a.old) h) e ∙ foldl-append one (chosen_by (stored_in a.samples.now a.n a.k) all (take a.count a.list.now) a.old) lefts rights in record {
+    let split : tried (stored_in a.samples.now a.n a.k) all (take a.count a.list.now) (chosen_by (stored_in a.samples.now a.n a.k) all (take a.count a.list.now) a.old)
+    (halves all (run a.first a.last)) ≡ tried (stored_in a.samples.now a.n a.k) all (take a.count a.list.now)
+    (tried (stored_in a.samples.now a.n a.k) all (take a.count a.list.now) (chosen_by (stored_in a.samples.now a.n a.k) all (take a.count a.list.now) a.old) lefts) rights =
+    ap (λ (h : List Candidate). tried (stored_in a.samples.now a.n a.k) all (take a.count a.list.now) (chosen_by (stored_in a.samples.now a.n a.k) all (take a.count a.list.now) a.old) h) e ∙
+    foldl-append one (chosen_by (stored_in a.samples.now a.n a.k) all (take a.count a.list.now) a.old) lefts rights in record {
       after = record {
         is = c.try_both.ensures.after.is ∙ (ap (λ (o : Option Split). tried (stored_in a.samples.now a.n a.k) all (take a.count a.list.now) o rights) c.try_both-left.ensures.after.is ∙ sym split);
         sound = c.try_both.ensures.after.sound;

@@ -69,7 +69,8 @@ returns-then-seen c =
     let t : ℤ = read w64 (read w64 a.low +ℤ read w64 a.high) in
     let sum = sum_back a.low a.high r.low_size r.high_size in
     let t_is : t ≡ least_ℤ (figures stored numbers a.c) +ℤ greatest_ℤ (figures stored numbers a.c) = sum ∙ ap₂ ◌+ℤ◌ r.low_is r.high_is in
-    let above : lt_z (least_ℤ (figures stored numbers a.c)) (greatest_ℤ (figures stored numbers a.c)) ≡ true = below_is (stored_in a.samples.now a.n a.k) (take a.count a.list.now) a.c a.low a.high c.requires.2 c.look_at-seen.result c.look_at-seen.ensures ∙ c.if-seen.true in
+    let above : lt_z (least_ℤ (figures stored numbers a.c)) (greatest_ℤ (figures stored numbers a.c)) ≡ true = below_is (stored_in a.samples.now a.n a.k) (take a.count a.list.now) a.c a.low a.high
+    c.requires.2 c.look_at-seen.result c.look_at-seen.ensures ∙ c.if-seen.true in
     let small_t : nat_abs t ≤ 2 * scatter_most most_samples = rw sum (sum_small a.low a.high r.low_size r.high_size) in
     let e : c.better.result ≡ better_of a.old (choice_of a.c t g.result) =
     c.better.ensures ∙ ap (λ (z : ℤ). better_of a.old (choice_of a.c t z)) (to_z-of_z (of_mag {w = w64} g.result g.type_inv)) in record {
@@ -85,7 +86,8 @@ pub returns-else-seen : goal.returns-else-seen
 returns-else-seen c =
     let a = c.args in record {
       after = record {
-        is = one_whole (stored_in a.samples.now a.n a.k) (ends_of a.e) (take a.count a.list.now) a.n a.old c.requires.3 a.c (below_is (stored_in a.samples.now a.n a.k) (take a.count a.list.now) a.c a.low a.high c.requires.2 c.look_at-seen.result c.look_at-seen.ensures ∙ c.if-seen.false);
+        is = one_whole (stored_in a.samples.now a.n a.k) (ends_of a.e) (take a.count a.list.now) a.n a.old c.requires.3 a.c
+            (below_is (stored_in a.samples.now a.n a.k) (take a.count a.list.now) a.c a.low a.high c.requires.2 c.look_at-seen.result c.look_at-seen.ensures ∙ c.if-seen.false);
         sound = c.requires.3;
       };
       room = c.requires.4;

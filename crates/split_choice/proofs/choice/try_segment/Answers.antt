@@ -29,7 +29,9 @@ returns-then-segments-ge16 c =
     let a = c.args in
     let g = c.try_both-all.ensures in record {
       after = record {
-        is = g.after.is ∙ whole_only (stored_in a.samples.now a.n a.k) (ends_of a.e) (take a.count a.list.now) (chosen_by (stored_in a.samples.now a.n a.k) (ends_of a.e) (take a.count a.list.now) a.old) (by_either (run a.first a.last) (ends_of a.e)) (halves (ends_of a.e) (run a.first a.last)) (no_room (ends_of c.args.e) c.args.first c.args.last (omega (arith, ends_count c.args.e c.requires.0.room, c.if-segments-ge16.true)));
+        is = g.after.is ∙ whole_only (stored_in a.samples.now a.n a.k) (ends_of a.e) (take a.count a.list.now)
+            (chosen_by (stored_in a.samples.now a.n a.k) (ends_of a.e) (take a.count a.list.now) a.old) (by_either (run a.first a.last) (ends_of a.e)) (halves (ends_of a.e) (run a.first a.last))
+            (no_room (ends_of c.args.e) c.args.first c.args.last (omega (arith, ends_count c.args.e c.requires.0.room, c.if-segments-ge16.true)));
         sound = g.after.sound;
       };
       room = g.room;
@@ -38,7 +40,15 @@ returns-then-segments-ge16 c =
 pub returns-then-last-first : goal.returns-then-last-first
 returns-then-last-first c =
     let a = c.args in
-    let g = c.try_both-all.ensures in record { after = record { is = g.after.is ∙ whole_only (stored_in a.samples.now a.n a.k) (ends_of a.e) (take a.count a.list.now) (chosen_by (stored_in a.samples.now a.n a.k) (ends_of a.e) (take a.count a.list.now) a.old) (by_either (run a.first a.last) (ends_of a.e)) (halves (ends_of a.e) (run a.first a.last)) (no_width (ends_of c.args.e) c.args.first c.args.last c.if-last-first.true); sound = g.after.sound }; room = g.room }
+    let g = c.try_both-all.ensures in record {
+      after = record {
+        is = g.after.is ∙ whole_only (stored_in a.samples.now a.n a.k) (ends_of a.e) (take a.count a.list.now)
+            (chosen_by (stored_in a.samples.now a.n a.k) (ends_of a.e) (take a.count a.list.now) a.old) (by_either (run a.first a.last) (ends_of a.e)) (halves (ends_of a.e) (run a.first a.last))
+            (no_width (ends_of c.args.e) c.args.first c.args.last c.if-last-first.true);
+        sound = g.after.sound;
+      };
+      room = g.room;
+    }
 
 pub try_halves-requires : goal.try_halves-requires
 try_halves-requires c =

@@ -63,7 +63,14 @@ figures_along-f-requires c = (c.requires.0.listed, c.requires.1.inside, c.requir
 
 pub try_one-best-requires : goal.try_one-best-requires
 try_one-best-requires c =
-    rw c.trial_of-c.ensures (c.requires.0, c.requires.1, by_sum c.args.samples.now c.args.n c.args.k (take c.args.count c.args.list.now) c.args.first c.args.last c.args.cut c.args.column c.figures_along-f.result c.requires.0.below c.figures_along-f.ensures.result_value c.figures_along-f.ensures.small, c.requires.2, c.requires.3)
+    rw c.trial_of-c.ensures (
+      c.requires.0,
+      c.requires.1,
+      by_sum c.args.samples.now c.args.n c.args.k (take c.args.count c.args.list.now) c.args.first c.args.last c.args.cut c.args.column
+          c.figures_along-f.result c.requires.0.below c.figures_along-f.ensures.result_value c.figures_along-f.ensures.small,
+      c.requires.2,
+      c.requires.3,
+    )
 
 pub root_of-requires : goal.root_of-requires
 root_of-requires c = c.figures_along-f.ensures.small.least_scatter_lem
@@ -80,6 +87,7 @@ returns c =
     let high_read : read w64 high.result ≡ high.result = to_z-of_z (of_mag {w = w64} high.result high.type_inv) in record {
       after = subst (λ (x : Trial). After c.args.n (stored_in c.args.samples.now c.args.n c.args.k) (ends_of c.args.e) (take c.args.count c.args.list.now)
           c.args.old (candidate_by (ends_of c.args.e) x ∷ []) c.try_one-best.result) c.trial_of-c.ensures e.after;
-      scatter = rw (low_read, high_read) (by_scatter c.args.samples.now c.args.n c.args.k (take c.args.count c.args.list.now) c.args.first c.args.last c.args.cut c.args.column c.figures_along-f.result c.requires.0.below c.figures_along-f.ensures.result_value low.result high.result low.ensures high.ensures);
+      scatter = rw (low_read, high_read) (by_scatter c.args.samples.now c.args.n c.args.k (take c.args.count c.args.list.now) c.args.first c.args.last c.args.cut c.args.column
+          c.figures_along-f.result c.requires.0.below c.figures_along-f.ensures.result_value low.result high.result low.ensures high.ensures);
       room = e.room;
     }

@@ -108,8 +108,14 @@ loop-i-preserved c =
     let more : with_segment l.«record» l.i new ≡ with_segments r (take (l.i + 1) whole) =
     ap₂ (λ (w : List ℤ) (j : ℕ). with_segment w j new) l.invariant.4 (sym done)
     ∙ (with_more r c.requires.0 (take l.i whole) new (omega (arith, done, c.loop-i-test.true, c.requires.3.few))
-    ∙ (ap (with_segments r) (sym p.0) ∙ ap (λ (j : ℕ). with_segments r (take j whole)) (sym (add-one l.i)))) in
-    (omega arith, omega arith, (next_at g.e.at g.e.count room l.i c.loop-i-test.true l.invariant.2).on, sym p.1 ∙ ap (λ (j : ℕ). drop j whole) (sym (add-one l.i)), after ∙ (ap (with_segment l.«record» l.i) same ∙ more))
+    ∙ (ap (with_segments r) (sym p.0) ∙ ap (λ (j : ℕ). with_segments r (take j whole)) (sym (add-one l.i)))) in (
+      omega arith,
+      omega arith,
+      (next_at g.e.at g.e.count room l.i c.loop-i-test.true l.invariant.2).on,
+      sym p.1 ∙ ap (λ (j : ℕ). drop j whole) (sym (add-one l.i)),
+      after ∙
+          (ap (with_segment l.«record» l.i) same ∙ more),
+    )
 
 pub shape_of-record : goal.shape_of-record
 shape_of-record c =

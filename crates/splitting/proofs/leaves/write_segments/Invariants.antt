@@ -22,7 +22,8 @@ invariant-loop-i l =
     (l.i ≤ l.count)
     × (1 ≤ l.first)
     × Rises l.n l.first (drop l.i (take l.count l.at))
-    × (segments_from l.first (drop l.i (take l.count l.at)) (side l.samples l.links l.n l.k l.head l.marks l.mark) ≡ drop l.i (segments_from 1 (take l.count l.at) (side l.samples l.links l.n l.k l.head l.marks l.mark)))
+    × (segments_from l.first (drop l.i (take l.count l.at)) (side l.samples l.links l.n l.k l.head l.marks l.mark) ≡ drop l.i
+    (segments_from 1 (take l.count l.at) (side l.samples l.links l.n l.k l.head l.marks l.mark)))
     × (l.«record» ≡ with_segments l.initial.record (take l.i (segments_from 1 (take l.count l.at) (side l.samples l.links l.n l.k l.head l.marks l.mark))))
 
 abbrev pub decreases-loop-i : goal.decreases-loop-i

@@ -25,7 +25,8 @@ pub returns-then-marks-t : goal.returns-then-marks-t
 returns-then-marks-t c =
     let l = c.loop-t in
     let b = eq-eqb (get_or c.args.marks.now l.t 0) c.args.mark c.if-marks-t.true in
-    let more = side_more c.args.links.now c.args.k c.requires.3 c.args.marks.now c.args.mark l.t c.loop-t-test.true in record { value = sym (ap (λ (m : List ℕ). get_or m 0 c.args.k) (rw b at more)) ∙ l.invariant.1; inside = omega arith }
+    let more = side_more c.args.links.now c.args.k c.requires.3 c.args.marks.now c.args.mark l.t c.loop-t-test.true in record
+    { value = sym (ap (λ (m : List ℕ). get_or m 0 c.args.k) (rw b at more)) ∙ l.invariant.1; inside = omega arith }
 
 pub loop-t-smaller : goal.loop-t-smaller
 loop-t-smaller c = let h = further c in omega arith
@@ -43,4 +44,7 @@ loop-t-preserved c =
 
 pub returns : goal.returns
 returns c =
-    let l = c.loop-t in record { value = sym (ap (λ (m : List ℕ). get_or m 0 c.args.k) (side_end c.args.links.now c.args.k c.args.marks.now c.args.mark l.t c.loop-t-test.false)) ∙ l.invariant.1; inside = omega arith }
+    let l = c.loop-t in record {
+      value = sym (ap (λ (m : List ℕ). get_or m 0 c.args.k) (side_end c.args.links.now c.args.k c.args.marks.now c.args.mark l.t c.loop-t-test.false)) ∙ l.invariant.1;
+      inside = omega arith;
+    }

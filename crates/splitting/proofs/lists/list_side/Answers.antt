@@ -48,4 +48,5 @@ loop-t-preserved c =
 pub returns : goal.returns
 returns c =
     let l = c.loop-t in
-    let none = side_end c.args.links.now c.args.k c.args.marks.now c.args.mark l.t c.loop-t-test.false in record { order_after = sym (append-nil (take l.count l.order)) ∙ (ap (λ (m : List ℕ). take l.count l.order ++ m) (sym none) ∙ l.invariant.3); few = omega arith; size = l.invariant.2 }
+    let none = side_end c.args.links.now c.args.k c.args.marks.now c.args.mark l.t c.loop-t-test.false in record
+    { order_after = sym (append-nil (take l.count l.order)) ∙ (ap (λ (m : List ℕ). take l.count l.order ++ m) (sym none) ∙ l.invariant.3); few = omega arith; size = l.invariant.2 }

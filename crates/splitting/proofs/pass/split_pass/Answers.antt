@@ -31,7 +31,8 @@ loop-at-preserved c =
     let l = c.loop-at in
     let g = c.args in
     let t = stored_in g.samples.now g.n g.k in
-    let e : tree_tables c.split_at-count.new.nodes c.split_at-count.new.links c.split_at-count.result ≡ split_node g.leaf_size t (tree_tables l.nodes l.links l.count) l.at = c.split_at-count.ensures in
+    let e : tree_tables c.split_at-count.new.nodes c.split_at-count.new.links c.split_at-count.result ≡ split_node g.leaf_size t (tree_tables l.nodes l.links l.count) l.at =
+    c.split_at-count.ensures in
     let f = 2 * g.k - (l.at + 1 - g.from) in
     let fuel : suc f ≡ 2 * g.k - (l.at - g.from) = omega (arith, c.loop-at-test.true, count_most l.invariant.1, l.invariant.0) in (
       omega arith,

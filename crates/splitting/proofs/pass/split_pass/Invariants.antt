@@ -13,7 +13,8 @@ abbrev pub invariant-loop-at : goal.invariant-loop-at
 invariant-loop-at l =
     (l.from ≤ l.at)
     × Represented l.nodes l.links l.samples l.n l.k l.count
-    × (split_on (2 * l.k - (l.at - l.from)) l.leaf_size (stored_in l.samples l.n l.k) (tree_tables l.nodes l.links l.count) l.at ≡ split_on (2 * l.k) l.leaf_size (stored_in l.samples l.n l.k) (tree_tables l.initial.nodes l.initial.links l.many) l.from)
+    × (split_on (2 * l.k - (l.at - l.from)) l.leaf_size (stored_in l.samples l.n l.k) (tree_tables l.nodes l.links l.count) l.at ≡ split_on (2 * l.k) l.leaf_size (stored_in l.samples l.n l.k)
+    (tree_tables l.initial.nodes l.initial.links l.many) l.from)
     × (length l.nodes ≡ length l.initial.nodes)
     × (length l.links ≡ length l.initial.links)
 

@@ -1,0 +1,7 @@
+-- `silkendoz_add_labelled` meets its contract: the equation of adding with a label, and what is returned of its answer.
+use Rattle.library_c.proofs.Answers.{exported_call}
+use Rattle.library_c.proofs.silkendoz_add_labelled.Goals as goal
+
+pub returns : goal.returns
+returns c =
+    exported_call _ _ _ _ _ _ _ c.tell_added.ensures c.add_labelled-answer.ensures

@@ -1,0 +1,7 @@
+-- `silkendoz_export_recording` meets its contract: exporting's own equation, and what is returned of its answer.
+use Rattle.library_c.proofs.Answers.{exported_call}
+use Rattle.library_c.proofs.silkendoz_export_recording.Goals as goal
+
+pub returns : goal.returns
+returns c =
+    exported_call _ _ _ _ _ _ _ (c.tell_exported.ensures c.export_recording-answer.new.buffer) c.export_recording-answer.ensures

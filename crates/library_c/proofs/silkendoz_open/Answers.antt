@@ -1,0 +1,7 @@
+-- `silkendoz_open` meets its contract: opening's own equation, and what is returned of its answer.
+use Rattle.library_c.proofs.Answers.{exported_call}
+use Rattle.library_c.proofs.silkendoz_open.Goals as goal
+
+pub returns : goal.returns
+returns c =
+    exported_call _ _ _ _ _ _ _ c.tell_opened.ensures c.open-answer.ensures

@@ -223,3 +223,4 @@ pub demanded : (calls : List Call) (said : List Reply) {memory memory' : Tables}
 unfolding Demanded
 demanded [] said ran = tt
 demanded (first ∷ calls) (said₀ ∷ said) {memory} {memory'} ran = λ e. demands.after_list first calls memory memory' said₀ said ran e
+demanded (first ∷ calls) [] ran = elim ran [ ]

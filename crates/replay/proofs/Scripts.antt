@@ -208,7 +208,7 @@ module _ (lent lengths : Lent) (w : LentWithin lent lengths) (s : State) (pool :
   unfolding playable if_enough row_by lengths_and
   is_playable =
       let row = row_for ask in
-      let numbers = row.number ∷ lengths_and lent row.own_val in
+      let numbers = row.number ∷ lengths_and lent row.own in
       ap (λ (b : Bool). if b then if_enough (call_kind_at kinds row.number) numbers (ahead_of s) else none) (within_fits lent lengths w)
       ∙ (ap (λ (o : Option CallKind). if_enough o numbers (ahead_of s)) row.is_kind
       ∙ (ap (λ (size : Amounts). if enough size (ahead_of s) then some row.kind else none) (row.takes_that lent)

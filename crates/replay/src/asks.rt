@@ -3,7 +3,7 @@
 ghost use Rattle.std.specs.Prelude.{◌≡◌, false, List, ℕ};
 ghost use Rattle.matching.specs.Answered as found;
 ghost use Rattle.sheet_writing.specs.Answered as written;
-ghost use Rattle.tables.specs.Lent.{tables_after_search, tables_before};
+ghost use Rattle.tables.specs.Lent.{tables_after_search, tables_before_search};
 ghost use Rattle.replay.specs.ReplyRows.{reply_row};
 ghost use Rattle.replay.specs.Script.{taken, called, Plays};
 
@@ -47,7 +47,7 @@ pub fn play(
 ) -> [u64; 5]
     ensures { (row : List ℕ) → Plays false kind row
         (taken query.now trail.old sheet.old)
-        (tables_before control samples nodes links work labels)
+        (tables_before_search control samples nodes links work labels)
         (called result (tables_after_search control samples nodes links work labels)
         (taken query.now trail.new sheet.new)) }
 {

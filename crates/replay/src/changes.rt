@@ -4,7 +4,7 @@ ghost use Rattle.std.specs.Prelude.{◌≡◌, true, List, ℕ};
 ghost use Rattle.opening.specs.Opened as opened;
 ghost use Rattle.adding.specs.Answered as added;
 ghost use Rattle.sheet_reading.specs.Answered as read;
-ghost use Rattle.tables.specs.Lent.{tables_after, tables_before};
+ghost use Rattle.tables.specs.Lent.{tables_after, tables_before_all};
 ghost use Rattle.replay.specs.ReplyRows.{reply_row};
 ghost use Rattle.replay.specs.Script.{taken, called, Plays};
 
@@ -57,7 +57,7 @@ pub fn play(
 ) -> [u64; 5]
     ensures { (trail : List ℕ) → Plays true kind row.now
         (taken query.now trail sheet.now)
-        (tables_before control samples nodes links work labels)
+        (tables_before_all control samples nodes links work labels)
         (called result
         (tables_after control samples nodes links work labels)
         (taken query.now trail sheet.now)) }

@@ -1,4 +1,5 @@
 // Scripts of document 01's calls, played on lent tables.
+#![tactic(auto)]
 
 pub mod rows; // the numbers of a row
 pub mod plans; // how much a row takes, and whether it can be played
@@ -8,7 +9,7 @@ pub mod asks; // the other kinds
 pub mod turns; // a row, played
 
 ghost use Rattle.std.specs.Prelude.{◌≡◌};
-ghost use Rattle.tables.specs.Lent.{tables_after, tables_before};
+ghost use Rattle.tables.specs.Lent.{tables_after, tables_before_all};
 ghost use Rattle.replay.specs.ReplyRows.{replies_laid};
 ghost use Rattle.replay.specs.Script.{answers_of, played, whole};
 ghost use Rattle.replay.specs.Demanded.{Demanded};
@@ -30,7 +31,7 @@ pub struct Lengths {
 }
 
 // How much of the samples, the trails and the sheets: what calls have taken, what a row takes, or all that there is.
-#[derive(Drop)]
+#[derive(Clone, Copy)]
 pub struct Amounts {
     pub samples: usize,
     pub trails: usize,
@@ -53,7 +54,7 @@ pub struct Plan {
 
 // What playing a row comes to: whether a call was made; its reply as numbers, which are 0 or the refusal's number, then the answer's values
 // or the refusal's place, zeros behind them; and how much is taken.
-#[derive(Drop)]
+#[derive(Clone, Copy)]
 pub struct Turn {
     pub made: bool,
     pub numbers: [u64; 5],
@@ -83,24 +84,24 @@ pub fn play(
 )
     ensures labels_value { (tables_after control samples nodes links work labels
         ≡ (played
-        (tables_before control samples nodes links work labels)
+        (tables_before_all control samples nodes links work labels)
         script.now pool.now trails.old sheets.old).now.memory)
         × (trails.new ≡ whole (played
-        (tables_before control samples nodes links work labels)
+        (tables_before_all control samples nodes links work labels)
         script.now pool.now trails.old sheets.old).now.trails)
         × (sheets.new ≡ whole (played
-        (tables_before control samples nodes links work labels)
+        (tables_before_all control samples nodes links work labels)
         script.now pool.now trails.old sheets.old).now.sheets)
         × (replies.new ≡ replies_laid (answers_of (played
-        (tables_before control samples nodes links work labels)
+        (tables_before_all control samples nodes links work labels)
         script.now pool.now trails.old sheets.old).said) 0
         replies.old) }
     ensures demanded { Demanded
         (played
-        (tables_before control samples nodes links work labels)
+        (tables_before_all control samples nodes links work labels)
         script.now pool.now trails.old sheets.old).asked
         (played
-        (tables_before control samples nodes links work labels)
+        (tables_before_all control samples nodes links work labels)
         script.now pool.now trails.old sheets.old).said
         (tables_after control samples nodes links work labels) }
 {

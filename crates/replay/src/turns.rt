@@ -3,7 +3,7 @@
 ghost use Rattle.std.specs.Prelude.{◌≡◌, [], ◌∷◌, Bool, false};
 ghost use Rattle.std.proofs.Math.Option.{some};
 ghost use Rattle.tables.specs.Tables.{labelled_tables, lent_of};
-ghost use Rattle.tables.specs.Lent.{tables_after, tables_before};
+ghost use Rattle.tables.specs.Lent.{tables_after, tables_before_all};
 ghost use Rattle.replay.specs.Script.{lent_by, state_at, AmountsInside, taken, ahead_of, playable, asks, moved_by};
 ghost use Rattle.replay.specs.Script.{called, Plays, turned, turn_made, turn_of};
 
@@ -38,7 +38,7 @@ fn call(
 ) -> [u64; 5]
     ensures { (changes : Bool) → Plays changes kind row.now
         (taken query.now trail.old sheet.old)
-        (tables_before control samples nodes links work labels)
+        (tables_before_all control samples nodes links work labels)
         (called result
         (tables_after control samples nodes links work labels)
         (taken query.now trail.new sheet.new)) }
@@ -78,11 +78,11 @@ fn lend(
         (tables_after control samples nodes links work labels)
         pool.now trails.new sheets.new to)
         ≡ turn_made (lent_by row.now) (asks (lent_of
-        (tables_before control samples nodes links work labels))
+        (tables_before_all control samples nodes links work labels))
         row.now (state_at
-        (tables_before control samples nodes links work labels)
+        (tables_before_all control samples nodes links work labels)
         pool.now trails.old sheets.old at)) (state_at
-        (tables_before control samples nodes links work labels)
+        (tables_before_all control samples nodes links work labels)
         pool.now trails.old sheets.old at) }
 {
     let kind = number_at(row, 0);
@@ -133,11 +133,11 @@ pub fn turn(
         (tables_after control samples nodes links work labels)
         pool.now trails.new sheets.new
         ≡ turn_made (lent_by row.now) (asks (lent_of
-        (tables_before control samples nodes links work labels))
+        (tables_before_all control samples nodes links work labels))
         row.now (state_at
-        (tables_before control samples nodes links work labels)
+        (tables_before_all control samples nodes links work labels)
         pool.now trails.old sheets.old at)) (state_at
-        (tables_before control samples nodes links work labels)
+        (tables_before_all control samples nodes links work labels)
         pool.now trails.old sheets.old at))
         × AmountsInside result.at pool.now trails.old sheets.old }
 {

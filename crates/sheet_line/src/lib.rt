@@ -1,4 +1,5 @@
 // The line that the program prints of a sheet.
+#![tactic(auto)]
 
 pub mod judging; // what the program refuses
 pub mod answering; // the match of the last trace among the earlier ones

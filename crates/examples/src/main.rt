@@ -1,6 +1,7 @@
 // The examples of document 01, and some of document 02, run: what each call answers, held to the file stdout; walks along a leaf, and
 // distances with a limit. A step answers values, with a contract (`steps`); here the steps are put together, and printed. A function
 // that prints alone, in memory of its own, has no contract.
+#![tactic(auto)]
 
 mod steps; // traces added, queries matched, a sheet written
 mod walks; // a candidate's test, along a leaf
@@ -8,7 +9,7 @@ mod walks; // a candidate's test, along a leaf
 ghost use Rattle.std.specs.Prelude.{◌≡◌, [], ◌∷◌, ◌<◌, ◌≤◌, length};
 ghost use Rattle.dstree.specs.Book.{writing};
 ghost use Rattle.dstree.specs.Measures.{most_samples};
-ghost use Rattle.tables.specs.Lent.{tables_after, tables_after_adding, tables_after_search, tables_before};
+ghost use Rattle.tables.specs.Lent.{tables_after, tables_after_adding, tables_after_search, tables_before_adding, tables_before_all, tables_before_search};
 ghost use Rattle.calls.specs.Effects.{outcome_on};
 ghost use Rattle.examples.specs.Steps.{starred_in, junk, damaged, parts, PartEnd};
 ghost use Rattle.examples.specs.Steps.{added_each, matched_each, read_matched, read_each};
@@ -238,7 +239,7 @@ fn add_all(
 )
     requires { 0 < n }
     ensures { tables_after_adding control samples nodes links work labels
-        ≡ added_each (tables_before control samples nodes links work labels)
+        ≡ added_each (tables_before_adding control samples nodes links work labels)
         (parts n traces.now) }
 {
     let mut at: usize = 0;
@@ -270,7 +271,7 @@ fn match_all(
 )
     requires { 0 < n }
     ensures { tables_after_search control samples nodes links work labels
-        ≡ matched_each (tables_before control samples nodes links work labels)
+        ≡ matched_each (tables_before_search control samples nodes links work labels)
         (parts n queries.now) }
 {
     let mut at: usize = 0;
@@ -389,7 +390,7 @@ fn read_one(
     sheet: &[u8],
 )
     ensures { tables_after control samples nodes links work labels
-        ≡ read_matched (tables_before control samples nodes links work labels)
+        ≡ read_matched (tables_before_all control samples nodes links work labels)
         sheet.now }
 {
     print_reading(sheet_reading::read_sheet(control, samples, nodes, links, work, labels, sheet));
@@ -408,7 +409,7 @@ fn read_all(
     sheets: &[u8],
 )
     ensures { tables_after control samples nodes links work labels
-        ≡ read_each (tables_before control samples nodes links work labels)
+        ≡ read_each (tables_before_all control samples nodes links work labels)
         (parts 1024 sheets.now) }
 {
     let mut at: usize = 0;

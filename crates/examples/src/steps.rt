@@ -4,7 +4,7 @@ ghost use Rattle.std.specs.Prelude.{◌≡◌, [], ◌∷◌};
 ghost use Rattle.dstree.specs.Labels.{no_label};
 ghost use Rattle.dstree.specs.Book.{adding, matching};
 ghost use Rattle.tables.specs.Tables.{node_count};
-ghost use Rattle.tables.specs.Lent.{tables_after, tables_after_adding, tables_after_search, tables_before};
+ghost use Rattle.tables.specs.Lent.{tables_after, tables_after_adding, tables_after_search, tables_before_adding, tables_before_all, tables_before_search};
 ghost use Rattle.calls.specs.Outcome.{outcome};
 ghost use Rattle.calls.specs.Effects.{outcome_on};
 ghost use Rattle.adding.specs.Answered as added;
@@ -41,7 +41,7 @@ pub fn add_to(
     ensures { (outcome (added.answer_by result.answer)
         (tables_after_adding control samples nodes links work labels) []
         ≡ outcome_on (adding trace.now no_label)
-        (tables_before control samples nodes links work labels))
+        (tables_before_adding control samples nodes links work labels))
         × (result.nodes ≡ node_count
         (tables_after_adding control samples nodes links work labels)) }
 {
@@ -66,7 +66,7 @@ pub fn match_of(
     ensures { outcome (found.answer_by result.answer result.trail)
         (tables_after_search control samples nodes links work labels) (result.trail ∷ [])
         ≡ outcome_on (matching query.now trail_junk)
-        (tables_before control samples nodes links work labels) }
+        (tables_before_search control samples nodes links work labels) }
 {
     let mut trail = [7u16; 3];
     let answer = matching::nearest(
@@ -88,7 +88,7 @@ pub fn put_starred(
     labels: &mut [u64],
 )
     ensures { tables_after control samples nodes links work labels
-        ≡ starred_in (tables_before control samples nodes links work labels) }
+        ≡ starred_in (tables_before_all control samples nodes links work labels) }
 {
     opening::open(control, samples, nodes, links, work, labels, 1, 8, 2);
     adding::add(control, samples, nodes, links, work, labels, &[-1]);

@@ -10,7 +10,7 @@ use Rattle.dstree.specs.Node.{Segment, ends}
 use Rattle.tables.specs.View.{segment_in}
 use Rattle.records_fit.specs.Fits.{segments_in_from, ends_in, EndsRise}
 use Rattle.nodes_fit.proofs.Merging.{all_among, same_front, other_front, short_among}
-use Rattle.records_fit.proofs.Segments.{from_more, from_none, ends_length}
+use Rattle.records_fit.proofs.Segments.{from_more, from_none, from_first, ends_length}
 
 -- what is left, from segment i on
 abbrev left : List ℤ → ℕ → ℕ → List Segment
@@ -24,6 +24,15 @@ pub record Merged (child : List ℤ) (count : ℕ) (parent : List ℤ) (many p i
   pub child_rises : Up 0 (ends (left child count i))
   pub parent_rises : Up 0 (ends (left parent many p))
 
+pub merged_first : (child : List ℤ) (count : ℕ) (parent : List ℤ) (many : ℕ) → EndsRise child count → EndsRise parent many → many ≤ count
+    → Merged child count parent many 0 0
+merged_first child count parent many c d h = record {
+  child_few = omega arith;
+  parent_few = omega arith;
+  room = omega arith;
+  whole = sym (ap₂ ends_in (from_first child count) (from_first parent many));
+  child_rises = subst (λ (l : List Segment). Up 0 (ends l)) (sym (from_first child count)) c.rise;
+  parent_rises = subst (λ (l : List Segment). Up 0 (ends l)) (sym (from_first parent many)) d.rise;
 }
 
 -- of numbers that rise, those behind the first

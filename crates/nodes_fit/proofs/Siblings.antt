@@ -14,7 +14,7 @@ use Rattle.tables.specs.Layout.{segments_place}
 use Rattle.tables.specs.View.{small_at, segment_in, segments_in}
 use Rattle.records_fit.specs.Fits.{segments_in_from, rest_holds, ends_in, Behind, Under}
 use Rattle.records_fit.proofs.Limits.{passing}
-use Rattle.records_fit.proofs.Segments.{from_more, from_none, rest_next, rest_done, some_hold}
+use Rattle.records_fit.proofs.Segments.{from_more, from_none, from_first, rest_next, rest_done, some_hold}
 
 -- the ends of the first `count` segments are each the end of one of them
 module _ (r : List ℤ) (count : ℕ) where
@@ -36,6 +36,9 @@ pub record Passing (n count : ℕ) (child parent : List ℤ) (before p i : ℕ) 
   pub met : (x : ℕ) → x < p → In (segment_in parent x).end (ends (segments_in_from child count 0))
 
 module _ (n count : ℕ) (child parent : List ℤ) where
+  pub passing_first : Passing n count child parent 0 0 0
+  passing_first = record { rest = ap (rest_holds n 0) (from_first child count); met = λ x h. absurd (omega arith) }
+
   module _ {before p i : ℕ} (w : Passing n count child parent before p i) where
     -- a segment more
     pub passing_more : i < count → Behind before (segment_in child i) → {end q : ℕ} → end ≡ (segment_in child i).end

@@ -114,6 +114,10 @@ module _ {a b : List ℕ} {x : ℕ} (y : ℕ) {r : Bool} (t : MarkedOrTwice a b 
   pub took_both : r ≡ true → {c : List ℕ} {q : Bool} → MarkedOrTwice b c (y ∷ []) q → MarkedOrTwice a c (x ∷ (y ∷ [])) q
   took_both e u = record { new = λ z. grown_then (t.new e) (u.new z); old = λ z. twice_then (t.new e) (u.old z) }
 
+-- numbers that all were marked, and numbers of which one was met again
+pub took_new : {a b xs : List ℕ} → MarksGrown a b xs → MarkedOrTwice a b xs true
+took_new g = record { new = λ _. g; old = λ e. clash e }
+
 pub took_old : {a b xs : List ℕ} → Twice a xs → MarkedOrTwice a b xs false
 took_old t = record { new = λ e. clash (sym e); old = λ _. t }
 

@@ -1,17 +1,18 @@
 -- Marking what names traces: the first of each leaf, then the link of each trace, as far as a loop has come.
-use Prim.Native.Nat.{ℕ, ◌+◌, ◌≤◌, ◌<◌}
+use Prim.Native.Nat.{ℕ, ◌+◌, ◌*◌, ◌≤◌, ◌<◌}
 use mathlib.Core.Path.{◌≡◌, refl, sym, ◌∙◌, ap, subst}
 use mathlib.Core.Bool.{Bool, true, false}
 use mathlib.Core.Logic.{◌⊎◌, inl, inr}
 use mathlib.Core.List.{List, [], ◌∷◌, map, flatten}
 use native.Mathlib.Omega.{arith}
-use lib.ListN.{length, length-append, get_or, set}
+use lib.ListN.{length, length-append, length-set, get_or, set}
 use lib.Seq.{get_or-set_same, get_or-set_other}
-use lib.Dec.{T, ltb, ltb→lt, lt→ltb}
+use lib.Dec.{T, ltb, eqb, ltb→lt, lt→ltb}
+use borrow.Author.Tests.{eqb-true, eqb-false}
 use Rattle.integer.specs.Words.{every, counting}
 use Rattle.integer.proofs.Lists.{same_or_not, In, first, in_cons, in_nil, in_append, in_flat, every_of, from_every, in_counting}
 use Rattle.integer.proofs.Tests.{clash}
-use Rattle.numbers_fit.specs.Marks.{MarksGrown, Twice, MarkedOrTwice, Named, LinkRises}
+use Rattle.numbers_fit.specs.Marks.{MarksGrown, Twice, MarkedOrTwice, Named, LinkRises, LinksRise, LinksMarked}
 use Rattle.numbers_fit.specs.Tests.{not_zero, link_at, links_of}
 use Rattle.numbers_fit.proofs.Growth.{grown_none, grown_firsts, again_firsts, firsts_more, Tallied, tallied_none, tallied_more}
 
@@ -23,6 +24,9 @@ named_as {count} {a} {b} {r} e n = subst (λ (l : List ℕ). Named count a b l r
 -- numbers that are marked, and numbers that are refused
 pub named_new : {count : ℕ} {a b xs : List ℕ} → T (every (λ number. ltb number count) xs) → MarksGrown a b xs → Named count a b xs true
 named_new t g = record { below = λ _. t; new = λ _. g; old = λ e. clash e }
+
+pub named_yes : {count : ℕ} {a b xs : List ℕ} {r : Bool} → Named count a b xs r → r ≡ true → Named count a b xs true
+named_yes n e = named_new (n.below e) (n.new e)
 
 pub named_old : {count : ℕ} {a b xs : List ℕ} → (T (every (λ number. ltb number count) xs) → Twice a xs) → Named count a b xs false
 named_old f = record { below = λ e. clash (sym e); new = λ e. clash (sym e); old = λ _. f }
@@ -106,13 +110,31 @@ module _ (links : List ℕ) (k : ℕ) where
       }
 
   module _ {fit ends i : ℕ} (w : Counted fit ends i) (e : i ≡ k) (m : ℕ) where
+    pub counted_short : (fit ≡ k → ⊥) → LinksRise links k m → ⊥
+    counted_short f l = f (omega (arith, w.passed.all (λ x h. l.fit x (omega (arith, h, e))), e))
 
+    total : ends + length (links_of links k) ≡ k
+    total = subst (λ (x : ℕ). ends + length (links_of links x) ≡ x) e w.count
+
+    pub counted_all : fit ≡ k → (b : Bool) → eqb (2 * ends) (m + 1) ≡ b → (b ≡ true → LinksRise links k m) × (b ≡ false → LinksRise links k m → ⊥)
+    counted_all f b q = (
+      λ t. record { fit = λ x h. w.passed.each (omega (arith, f, e)) x (omega (arith, h, e)); ends = omega (arith, total, eqb-true (2 * ends) (m + 1) (q ∙ t)) },
+      λ t l. eqb-false (2 * ends) (m + 1) (q ∙ t) (omega (arith, total, l.ends)),
     )
 
 -- ---- one link after another, marked
 
 module _ (links : List ℕ) where
+  pub links_none : (marks : List ℕ) → LinksMarked links 0 marks marks
+  links_none marks = record { size = refl; on = λ i h. absurd (omega arith); off = λ x _. refl; kept = λ x e. e }
 
+  pub links_more : {before marks : List ℕ} {i link : ℕ} → LinksMarked links i before marks → link ≡ get_or links i 0 → link < length marks
+      → LinksMarked links (i + 1) before (set marks link 1)
+  links_more {before} {marks} {i} {link} w e h = record {
+    size = length-set marks link 1 ∙ w.size;
+    on = λ x g. on x g (same_or_not x i);
+    off = λ x f. get_or-set_other marks link x 1 0 (λ p. f i (omega arith) (p ∙ e)) ∙ w.off x (λ y g. f y (omega (arith, g)));
+    kept = λ x p. still x (w.kept x p);
   }
     where
       still : (x : ℕ) → get_or marks x 0 ≡ 1 → get_or (set marks link 1) x 0 ≡ 1

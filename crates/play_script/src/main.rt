@@ -1,44 +1,48 @@
 // Plays two scripts of calls through `replay`, one behind another on the same tables, and prints what each call answered: a line a call,
 // with its name and the five numbers of its reply. These are 0 or a refusal's number, then the answer's values or the refusal's place. What
 // they are is `replay::play`'s contract; the file stdout has document 01's example, as it is run.
+#![tactic(auto)]
 
 ghost use Rattle.std.specs.Prelude.{◌≡◌, ◌≤◌, length};
 ghost use Rattle.play_script.specs.Rows.{opened_rows, filled_rows, read_rows, rows_laid};
 
+mod screen; // standard output
+
+use crate::screen::Screen;
 use replay::play;
 use replay::replies::{REPLY_PLACES, lay};
 use replay::rows::{number_at, row_end};
 use segment::Word;
+use std::io;
 use tables::numbers::wider;
 
-// ---- on standard output. What `io::write_all` writes is no value that a contract can name
+// ---- on standard output. What is written there is no value that a contract can name
 
-fn print_name(kind: u64) {
+fn print_name(out: &mut Screen, kind: u64) {
     if kind == 0 {
-        io::write_all(1, b"opening");
+        print!(out; "opening");
     } else if kind == 1 {
-        io::write_all(1, b"adding");
+        print!(out; "adding");
     } else if kind == 2 {
-        io::write_all(1, b"match");
+        print!(out; "match");
     } else if kind == 3 {
-        io::write_all(1, b"writing");
+        print!(out; "writing");
     } else {
-        io::write_all(1, b"reading");
+        print!(out; "reading");
     }
 }
 
-fn print_numbers(numbers: &[u64]) {
+fn print_numbers(out: &mut Screen, numbers: &[u64]) {
     let mut i: usize = 0;
     while i < numbers.len() {
-        io::write_all(1, b" ");
-        io::print_decimal(1, numbers[i]);
+        print!(out; " {}", numbers[i]);
         i += 1;
     }
-    io::write_all(1, b"\n");
+    println!(out);
 }
 
 // The reply that begins at a place, and where the next one begins.
-fn print_reply(replies: &[u64], at: usize) -> usize
+fn print_reply(out: &mut Screen, replies: &[u64], at: usize) -> usize
     requires { at ≤ length replies.now }
     ensures { result ≤ length replies.now }
 {
@@ -46,32 +50,31 @@ fn print_reply(replies: &[u64], at: usize) -> usize
         return at;
     }
     let end = at + REPLY_PLACES;
-    print_numbers(&replies[at..end]);
+    print_numbers(out, &replies[at..end]);
     end
 }
 
 // A line for each row of a script. (Each of them makes a call, so that it has a reply.)
-fn print_replies(script: &[u64], replies: &[u64]) {
+fn print_replies(out: &mut Screen, script: &[u64], replies: &[u64]) {
     let mut place: usize = 0;
     let mut at: usize = 0;
     while place < script.len() {
         let from = place + 1;
         let end = row_end(script, place);
-        print_name(number_at(&script[from..end], 0));
-        at = print_reply(replies, at);
+        print_name(out, number_at(&script[from..end], 0));
+        at = print_reply(out, replies, at);
         place = end;
     }
 }
 
-fn print_trails(trails: &[u16]) {
-    io::write_all(1, b"trails");
+fn print_trails(out: &mut Screen, trails: &[u16]) {
+    print!(out; "trails");
     let mut i: usize = 0;
     while i < trails.len() {
-        io::write_all(1, b" ");
-        io::print_decimal(1, wider(trails[i]));
+        print!(out; " {}", wider(trails[i]));
         i += 1;
     }
-    io::write_all(1, b"\n");
+    println!(out);
 }
 
 // ---- the scripts: n = 4, capacity 3, leaf size 2, in tables that are just long enough
@@ -118,7 +121,8 @@ fn put_read(script: &mut [u64])
 }
 
 // In tables, trails and sheets with junk in every place.
-fn main() {
+fn main(rt: HostRuntime) -> io::Result<()> {
+    let mut out = Screen::new(rt.stdout());
     let mut control = [7u16; 5];
     let mut samples: [Word; 12] = [7; 12];
     let mut nodes = [7i64; 435];
@@ -146,7 +150,7 @@ fn main() {
         ],
         &mut replies,
     );
-    print_replies(&made, &replies);
+    print_replies(&mut out, &made, &replies);
     let mut read = [0u64; 58];
     put_read(&mut read);
     play(
@@ -162,6 +166,7 @@ fn main() {
         &[1, 1, 1, 1, 2, 2, 2, 2, 2, 2, 2, 2, 4, 4, 4, 4],
         &mut replies,
     );
-    print_replies(&read, &replies);
-    print_trails(&trails);
+    print_replies(&mut out, &read, &replies);
+    print_trails(&mut out, &trails);
+    out.end()
 }

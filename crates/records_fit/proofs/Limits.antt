@@ -1,16 +1,16 @@
 -- Figures and thresholds: the definitions' tests as the code makes them, one side of a limit at a time.
-use Prim.Native.Nat.{ℕ, ◌*◌, ◌≤◌, ◌<◌, ◌^◌}
+use Prim.Native.Nat.{ℕ, suc, ◌+◌, ◌*◌, ◌≤◌, ◌<◌, ◌^◌}
 use mathlib.Core.Path.{◌≡◌, refl, sym, subst}
 use mathlib.Core.Bool.{Bool, true, false, ◌&&◌}
 use mathlib.Core.List.{List, [], ◌∷◌}
 use native.Mathlib.Omega.{arith}
 use native.Mathlib.Nat.{mul-le-mul}
-use lib.IntN.{ℤ, pos, negsuc, neg_ℤ}
-use lib.Signed.{le_z, le_z_yes}
+use lib.IntN.{ℤ, pos, negsuc, neg_ℤ, ◌+ℤ◌}
+use lib.Signed.{le_z, le_z_yes, mag}
 use lib.Dec.{T, leb, leb→le, le→leb}
 use mir.Facts.{and_yes, yes_and}
-use Rattle.integer.proofs.Tests.{and_all, passed, passes, test_true, test_false, same_test}
-use Rattle.integer.proofs.Order.{≤ℤ_trans}
+use Rattle.integer.proofs.Tests.{is_true, and_all, passed, passes, test_true, test_false, same_test}
+use Rattle.integer.proofs.Order.{≤ℤ→, →≤ℤ, ≤ℤ_trans, up, down, sum_parts, neg_parts}
 use Rattle.segment.specs.Limits.{sample_most, sum_limit, scatter_limit, root_limit}
 use Rattle.dstree.specs.Measures.{sample_limit}
 use Rattle.dstree.specs.Node.{by_sum, by_scatter}
@@ -24,6 +24,25 @@ passing {b} t = sym (test_true b t)
 
 pub failing : {b : Bool} → (T b → ⊥) → false ≡ b
 failing {b} f = sym (test_false b f)
+
+-- a number that is at most another within a limit is so too
+pub below_both : (a b : ℤ) (limit : ℕ) → le_z a b ≡ true → le_z b (pos limit) ≡ true → T (le_z a (pos limit))
+below_both a b limit e f = (≤ℤ_trans (le_z_yes {a = a} {b = b} (is_true e)) (le_z_yes {a = b} {b = pos limit} (is_true f))).le
+
+-- a difference of two numbers that fit
+parts_width : (z : ℤ) (a b : ℕ) → up z + a ≡ down z + b → b < 2 ^ 63 → a ≤ 2 ^ 63 → mag z < 2 ^ 63
+parts_width (pos n) a b e f g = omega arith
+parts_width (negsuc n) a b e f g = omega arith
+
+-- its sum with the limit fits 64 bits, and is not below 0 exactly if it is from −limit on
+pub sum_fits : (v : ℤ) (limit : ℕ) → mag v < 2 ^ 63 → limit < 2 ^ 62 → T (le_z v (pos limit)) → mag (v +ℤ pos limit) < 2 ^ 63
+sum_fits (pos v) limit f g t = omega (arith, leb→le v limit t, g)
+sum_fits (negsuc v) limit f g t = parts_width (negsuc v +ℤ pos limit) (suc v) limit (omega (arith, sum_parts (negsuc v) (pos limit))) (omega (arith, g)) (omega (arith, f))
+
+pub sum_sign : (v : ℤ) (limit : ℕ) → le_z (pos 0) (v +ℤ pos limit) ≡ le_z (neg_ℤ (pos limit)) v
+sum_sign v limit = same_test
+    (λ t. (→≤ℤ {a = neg_ℤ (pos limit)} {b = v} (omega (arith, ≤ℤ→ (le_z_yes {a = pos 0} {b = v +ℤ pos limit} t), sum_parts v (pos limit), neg_parts (pos limit)))).le)
+    (λ t. (→≤ℤ {a = pos 0} {b = v +ℤ pos limit} (omega (arith, ≤ℤ→ (le_z_yes {a = neg_ℤ (pos limit)} {b = v} t), sum_parts v (pos limit), neg_parts (pos limit)))).le)
 
 -- ---- scatters: a field that is below 0 reads as 2^63, above every limit
 

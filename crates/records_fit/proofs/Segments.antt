@@ -1,4 +1,5 @@
 -- Segments one by one: what is left of a record's segments from segment i on, and what a rule says of it.
+use Rattle.std.specs.Prelude.{if◌then◌else◌}
 use Prim.Native.Nat.{ℕ, zero, suc, ◌+◌, ◌-◌, ◌≤◌, ◌<◌}
 use mathlib.Core.Path.{◌≡◌, refl, sym, ◌∙◌, ap, subst}
 use mathlib.Core.Bool.{Bool, true, false, not, ◌&&◌}
@@ -7,7 +8,8 @@ use mathlib.Core.List.{List, [], ◌∷◌, foldl}
 use native.Mathlib.Omega.{arith}
 use native.Mathlib.Numerals.{add-one}
 use lib.ListN.{length, length-map}
-use lib.IntN.{ℤ}
+use lib.IntN.{ℤ, pos, negsuc}
+use lib.Signed.{le_z}
 use lib.Dec.{T, leb, ltb, eqb, leb→le, ltb→lt}
 use mir.Facts.{and_yes as and_both}
 use borrow.Author.Tests.{lt-ltb, le-ltb, lt-leb, le-leb, ne_eqb, ltb-true, leb-true, leb-false}
@@ -20,12 +22,16 @@ use Rattle.dstree.specs.Figures.{run, width}
 use Rattle.dstree.specs.Node.{Segment, ends}
 use Rattle.dstree.specs.WellFormed.{rising, ends_fit, segment_fits, segments_fit}
 use Rattle.tables.specs.Layout.{segment_at, segments_place}
-use Rattle.tables.specs.View.{scatter_in, value_at, small_at, segment_in, segments_in}
+use Rattle.tables.specs.View.{small_of, scatter_in, value_at, small_at, segment_in, segments_in}
+use Rattle.tables.proofs.Small.{small_read}
 use Rattle.records_fit.specs.Fits.{between, segments_hold, segments_in_from, rest_holds, EndsRise}
 
 -- ---- a number in between
 
 module _ (low high : ℕ) where
+  pub between_below : (x : ℕ) → x ≤ low → false ≡ between low high x
+  between_below x h = rw (le-ltb low x h)
+
   pub between_above : (x : ℕ) → low < x → leb x high ≡ between low high x
   between_above x h = rw (lt-ltb low x h)
 
@@ -41,6 +47,22 @@ module _ (low high : ℕ) where
 
 -- a field, as it stands: what is no small number is below 0 or above any end
 module _ (low high : ℕ) (g : low ≤ high) (h : high ≤ 256) where
+  outside : false ≡ between low high 65536
+  outside = sym (sym (between_above low high 65536 (omega (arith, g, h))) ∙ lt-leb 65536 high (omega (arith, h)))
+
+  pub field_below : (z : ℤ) → le_z z (pos low) ≡ true → false ≡ between low high (small_of z)
+  field_below (pos n) e =
+      let f = leb-true n low e in
+      subst (λ (x : ℕ). false ≡ between low high x) (sym (small_read n (omega (arith, f, g, h)))) (between_below low high n f)
+  field_below (negsuc n) e = outside
+
+  pub field_above : (z : ℤ) → le_z z (pos low) ≡ false → le_z z (pos high) ≡ between low high (small_of z)
+  field_above (pos n) e = by (ltb 65535 n) refl
+    where
+      by : (b : Bool) → ltb 65535 n ≡ b → leb n high ≡ between low high (if b then 65536 else n)
+      by true f = lt-leb n high (omega (arith, ltb-true 65535 n f, h)) ∙ outside
+      by false f = between_above low high n (leb-false n low e)
+  field_above (negsuc n) e = clash e
 
 -- ---- what is left
 
@@ -52,6 +74,9 @@ module _ (r : List ℤ) (count i : ℕ) where
   pub from_none : count ≤ i → segments_in_from r (count - i) i ≡ []
   unfolding counting
   from_none h = let e : count - i ≡ 0 = omega arith in rw e
+
+pub from_first : (r : List ℤ) (count : ℕ) → segments_in_from r (count - 0) 0 ≡ segments_in_from r count 0
+from_first r count = let e : count - 0 ≡ count = omega arith in rw e
 
 -- the figures that were read are the segment's
 pub figures_are : (w : ℕ) (r : List ℤ) (i : ℕ) {a b p q : ℤ} → a ≡ value_at r (segment_at i + 1) → b ≡ value_at r (segment_at i + 2) → p ≡ value_at r (segment_at i + 3) → q ≡ value_at r

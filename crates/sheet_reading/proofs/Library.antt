@@ -1,22 +1,24 @@
 -- What a sheet that is not refused holds is a library, and so are its first traces.
-use mathlib.Core.Path.{◌≡◌, ap}
+use mathlib.Core.Path.{◌≡◌, sym, ap, subst}
 use mathlib.Core.Option.{none}
-use mathlib.Core.List.{List, []}
-use Prim.Native.Nat.{ℕ, ◌≤◌}
+use mathlib.Core.List.{List, [], ◌++◌, foldl}
+use Prim.Native.Nat.{ℕ, ◌≤◌, ◌<◌}
 use native.Mathlib.Omega.{arith}
 use lib.IntN.{ℤ}
-use lib.ListN.{length}
+use lib.ListN.{length, get_or, take, drop, take-append-drop}
 use lib.Dec.{T}
 use Rattle.integer.specs.Words.{every}
-use Rattle.integer.proofs.Lists.{every_of}
+use Rattle.integer.proofs.Lists.{in_get_or, every_of}
 use Rattle.dstree.specs.Measures.{Trace, Measures, sample_limit, is_trace, is_library}
 use Rattle.dstree.specs.Refusals.{first_of}
 use Rattle.dstree.specs.Sheet.{are_bytes, traces_in_blocks}
 use Rattle.dstree.specs.SheetWidths.{sheet_conditions}
+use Rattle.dstree.proofs.Laws.{trace_length}
 use Rattle.dstree.proofs.RoundTrips.{is_library_lem}
 use Rattle.dstree.proofs.SheetPieces.{pieces_length}
 use Rattle.tables.specs.Tables.{Tables, tables, measures_of}
-use Rattle.insertion_memory.proofs.Made.{Holds, count_is, room, is_trace_lem}
+use Rattle.insertion_memory.specs.Memory.{added_to}
+use Rattle.insertion_memory.proofs.Made.{Holds, count_is, room, is_trace_lem, shorter, holds_all}
 use Rattle.insertion_memory.specs.Takes.{TakesAll}
 use Rattle.sheet_blocks.specs.Traces.{size_of, count_of, sheet_traces, sheet_labels}
 use Rattle.sheet_judging.proofs.Samples.{fine, range}
@@ -35,7 +37,24 @@ module _ (bytes : List ℕ) (sound : first_of (sheet_conditions bytes) ≡ none)
   whole : T (is_library sample_limit (said bytes) traces)
   whole = is_library_lem bytes (said bytes) traces (sheet_labels bytes) known (judged_holds bytes sound)
 
+  two_parts : (i : ℕ) → T (is_library sample_limit (said bytes) (take i traces ++ drop i traces))
+  two_parts i = subst (λ (l : List Trace). T (is_library sample_limit (said bytes) l)) (sym (take-append-drop i traces)) whole
+
+  pub first_library : (i : ℕ) → T (is_library sample_limit (said bytes) (take i traces))
+  first_library i = shorter (said bytes) (take i traces) (drop i traces) (two_parts i)
+
+  -- each has n samples
+  pub trace_size : (i : ℕ) → i < count_of bytes → length (get_or traces i []) ≡ (said bytes).n
+  trace_size i h =
+      let inside : i < length traces = omega (arith, traces_count bytes) in
+      trace_length sample_limit (said bytes).n (get_or traces i [])
+      (is_trace_lem sample_limit (said bytes) [] traces whole (in_get_or traces i [] inside))
+
   module _ (t : Tables) (empty : Holds t (said bytes) []) where
+    -- the first traces, added to an empty library
+    pub holds_first : (i : ℕ) → Holds (foldl added_to t (take i traces)) (said bytes) (take i traces)
+    holds_first i = holds_all (said bytes) t [] (take i traces) empty (first_library i)
+
     -- it takes all of them
     takes_all : TakesAll t traces
     unfolding every

@@ -30,11 +30,25 @@ returns-then-all-lent-5 c =
 pub returns-then-all-lent-6 : goal.returns-then-all-lent-6
 unfolding fits_in
 returns-then-all-lent-6 c =
-    simp (le-leb _ _ c.if-all-lent.false, le-leb _ _ c.if-all-lent-2.false, le-leb _ _ c.if-all-lent-3.false, le-leb _ _ c.if-all-lent-4.false, le-leb _ _ c.if-all-lent-5.false, lt-leb _ _
-      c.if-all-lent-6.true)
+    simp (
+      le-leb _ _ c.if-all-lent.false,
+      le-leb _ _ c.if-all-lent-2.false,
+      le-leb _ _ c.if-all-lent-3.false,
+      le-leb _ _ c.if-all-lent-4.false,
+      le-leb _ _ c.if-all-lent-5.false,
+      lt-leb _ _
+          c.if-all-lent-6.true,
+    )
 
 pub returns : goal.returns
 unfolding fits_in
 returns c =
-    simp (le-leb _ _ c.if-all-lent.false, le-leb _ _ c.if-all-lent-2.false, le-leb _ _ c.if-all-lent-3.false, le-leb _ _ c.if-all-lent-4.false, le-leb _ _ c.if-all-lent-5.false, le-leb _ _
-      c.if-all-lent-6.false)
+    simp (
+      le-leb _ _ c.if-all-lent.false,
+      le-leb _ _ c.if-all-lent-2.false,
+      le-leb _ _ c.if-all-lent-3.false,
+      le-leb _ _ c.if-all-lent-4.false,
+      le-leb _ _ c.if-all-lent-5.false,
+      le-leb _ _
+          c.if-all-lent-6.false,
+    )

@@ -4,21 +4,19 @@ use mathlib.Core.Logic.{inl, inr}
 use mathlib.Core.List.{[], ◌∷◌}
 use Prim.Native.Nat.{zero, suc}
 use native.Mathlib.Omega.{arith}
-use borrow.Author.Rules.{rules}
 use Rattle.integer.specs.Words.{counting}
 use Rattle.segment.specs.Stored.{sample_of}
 use Rattle.tables.specs.View.{trace_in, numbers_from}
 use Rattle.tables.specs.Walk.{Rising}
-use Rattle.examples.proofs.walks.twins.Statement.{statement}
-use Rattle.examples.proofs.walks.twins.Tie as tie
+use Rattle.examples.proofs.walks.twins.Goals as goal
 
 rising : Rising (1 ∷ 0 ∷ []) 2
 rising zero h = inr (omega arith, omega arith)
 rising (suc zero) h = inl refl
 rising (suc (suc s)) h = absurd (omega arith)
 
-walk_of-requires : tie.Need-walk_of-requires
-walk_of-requires c κs = record {
+pub walk_of-requires : goal.walk_of-requires
+walk_of-requires c = record {
   wide = omega arith;
   narrow = omega arith;
   few = omega arith;
@@ -28,9 +26,6 @@ walk_of-requires c κs = record {
   inside = omega arith;
 }
 
-returns : tie.Need-returns
+pub returns : goal.returns
 unfolding trace_in sample_of counting numbers_from
 returns c = c.walk_of.ensures
-
-pub twins-spec : {M : Type 1} → statement M
-twins-spec = tie.close (tie.spec (λ c. search rules) (λ c. search rules) walk_of-requires returns)

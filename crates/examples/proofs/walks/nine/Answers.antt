@@ -6,7 +6,6 @@ use Prim.Native.Nat.{zero, suc}
 use native.Mathlib.Omega.{arith}
 use lib.IntN.{ℤ}
 use mir.Facts.{to_z-of_z}
-use borrow.Author.Rules.{rules}
 use Rattle.integer.specs.Words.{counting}
 use Rattle.segment.specs.Stored.{sample_of}
 use Rattle.tables.specs.View.{trace_in, numbers_from}
@@ -14,8 +13,7 @@ use Rattle.tables.specs.Walk.{Rising}
 use Rattle.tables.specs.Runs.{test_by}
 use Rattle.candidate.specs.Parting.{look_of}
 use Rattle.examples.specs.Steps.{nine_traces}
-use Rattle.examples.proofs.walks.nine.Statement.{statement}
-use Rattle.examples.proofs.walks.nine.Tie as tie
+use Rattle.examples.proofs.walks.nine.Goals as goal
 
 rising : Rising (1 ∷ 2 ∷ 0 ∷ []) 3
 rising zero h = inr (omega arith, omega arith)
@@ -23,8 +21,8 @@ rising (suc zero) h = inr (omega arith, omega arith)
 rising (suc (suc zero)) h = inl refl
 rising (suc (suc (suc s))) h = absurd (omega arith)
 
-walk_of-requires : tie.Need-walk_of-requires
-walk_of-requires c κs = record {
+pub walk_of-requires : goal.walk_of-requires
+walk_of-requires c = record {
   wide = omega arith;
   narrow = omega arith;
   few = omega arith;
@@ -34,12 +32,8 @@ walk_of-requires c κs = record {
   inside = omega arith;
 }
 
-returns : tie.Need-returns
+pub returns : goal.returns
 unfolding trace_in sample_of counting numbers_from
 returns c =
-    let s = c.before.before.before in
     c.walk_of.ensures
-    ∙ ap (λ (z : ℤ). look_of nine_traces (test_by 1 1 s.args.by_scatter_lem z) (0 ∷ 1 ∷ 2 ∷ [])) (to_z-of_z s.ranges.threshold)
-
-pub nine-spec : {M : Type 1} → statement M
-nine-spec = tie.close (tie.spec (λ c. search rules) (λ c. search rules) walk_of-requires returns)
+    ∙ ap (λ (z : ℤ). look_of nine_traces (test_by 1 1 c.args.by_scatter z) (0 ∷ 1 ∷ 2 ∷ [])) (to_z-of_z c.ranges.threshold)

@@ -1,0 +1,7 @@
+-- `examples::print_query` is safe: what is left of the samples is the measure.
+use Prim.Native.Nat.{◌-◌}
+use lib.ListN.{length}
+use Rattle.examples.proofs.print_query.Given as goal
+
+abbrev pub decreases-loop-i : goal.decreases-loop-i
+decreases-loop-i l = length l.samples - l.i

@@ -1,0 +1,7 @@
+-- `examples::print_trail` is safe: what is left of the trail is the measure.
+use Prim.Native.Nat.{◌-◌}
+use lib.ListN.{length}
+use Rattle.examples.proofs.print_trail.Given as goal
+
+abbrev pub decreases-loop-i : goal.decreases-loop-i
+decreases-loop-i l = length l.trail - l.i

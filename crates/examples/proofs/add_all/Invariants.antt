@@ -8,10 +8,8 @@ use Rattle.examples.proofs.add_all.Given as goal
 
 abbrev pub invariant-loop-at : goal.invariant-loop-at
 invariant-loop-at l =
-    (length l.control ≡ length l.initial.control) × (length l.samples ≡ length l.initial.samples) × (length l.nodes ≡ length l.initial.nodes) × (length l.links ≡ length l.initial.links)
-    × (length l.labels ≡ length l.initial.labels)
-    × (added_each (labelled_tables l.control l.samples l.nodes l.links l.work l.labels) (parts l.n (drop l.at l.traces))
-    ≡ added_each (labelled_tables l.initial.control l.initial.samples l.initial.nodes l.initial.links l.work l.initial.labels) (parts l.n l.traces))
+    added_each (labelled_tables l.control l.samples l.nodes l.links l.work l.labels) (parts l.n (drop l.at l.traces))
+    ≡ added_each (labelled_tables l.initial.control l.initial.samples l.initial.nodes l.initial.links l.work l.initial.labels) (parts l.n l.traces)
 
 abbrev pub decreases-loop-at : goal.decreases-loop-at
 decreases-loop-at l = length l.traces - l.at

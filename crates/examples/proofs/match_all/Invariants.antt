@@ -8,9 +8,8 @@ use Rattle.examples.proofs.match_all.Given as goal
 
 abbrev pub invariant-loop-at : goal.invariant-loop-at
 invariant-loop-at l =
-    (length l.work ≡ length l.initial.work)
-    × (matched_each (labelled_tables l.control l.samples l.nodes l.links l.work l.labels) (parts l.n (drop l.at l.queries))
-    ≡ matched_each (labelled_tables l.control l.samples l.nodes l.links l.initial.work l.labels) (parts l.n l.queries))
+    matched_each (labelled_tables l.control l.samples l.nodes l.links l.work l.labels) (parts l.n (drop l.at l.queries))
+    ≡ matched_each (labelled_tables l.control l.samples l.nodes l.links l.initial.work l.labels) (parts l.n l.queries)
 
 abbrev pub decreases-loop-at : goal.decreases-loop-at
 decreases-loop-at l = length l.queries - l.at

@@ -1,6 +1,5 @@
 -- `examples::print_query` is safe: what is left of the samples is the measure.
-use Prim.Native.Nat.{◌-◌}
-use lib.ListN.{length}
+use Rattle.std.proofs.Common.{◌-◌, length}
 use Rattle.examples.proofs.print_query.Given as goal
 
 abbrev pub decreases-loop-i : goal.decreases-loop-i

@@ -8,10 +8,9 @@ use Rattle.examples.proofs.read_all.Given as goal
 
 abbrev pub invariant-loop-at : goal.invariant-loop-at
 invariant-loop-at l =
-    (length l.control ≡ length l.initial.control) × (length l.samples ≡ length l.initial.samples) × (length l.nodes ≡ length l.initial.nodes) × (length l.links ≡ length l.initial.links)
-    × (length l.work ≡ length l.initial.work) × (length l.labels ≡ length l.initial.labels)
-    × (read_each (labelled_tables l.control l.samples l.nodes l.links l.work l.labels) (parts 1024 (drop l.at l.sheets))
-    ≡ read_each (labelled_tables l.initial.control l.initial.samples l.initial.nodes l.initial.links l.initial.work l.initial.labels) (parts 1024 l.sheets))
+    read_each (labelled_tables l.control l.samples l.nodes l.links l.work l.labels) (parts 1024 (drop l.at l.sheets))
+    ≡ read_each (labelled_tables l.initial.control l.initial.samples l.initial.nodes l.initial.links l.initial.work l.initial.labels)
+    (parts 1024 l.sheets)
 
 abbrev pub decreases-loop-at : goal.decreases-loop-at
 decreases-loop-at l = length l.sheets - l.at

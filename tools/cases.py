@@ -13,34 +13,34 @@ case. Empty lines and lines that begin with `#` are skipped.
 
 CASES (crates/worked/proofs/Cases.antt) has them as two tables, those with a query and those
 without, each with its theorem: the definitions, computed, give the same. Nothing is computed
-here; figures are carried over as they stand.
+here; figures are carried over as they stand. Behind it `rt fmt` lays the file out.
 """
 import re
 import sys
 
 HEAD = """\
 -- Small libraries with what another implementation of documents 01 and 02 makes of them, as two tables, with a query and without; and the
--- definitions give the same, by computation. These few have each kind of split (by sum and scatter, whole and cut segments), ties in gain and in
--- distance, leaves over size, gains and sums below zero. The calls, which are proved equal to the definitions, are run on all of `vectors/`
--- (`rust/tests/vectors.rs`).
+-- definitions give the same, by computation. These few have each kind of split (by sum and scatter, whole and cut segments), ties in gain
+-- and in distance, leaves over size, gains and sums below zero. The calls, which are proved equal to the definitions, are run on all of
+-- `vectors/` (`rust/tests/vectors.rs`).
 -- Written by `tools/cases.py` from `vectors/libraries.txt`, the libraries that `vectors/cases.txt` names.
 use Prim.Native.Nat.{ℕ}
-use mathlib.Core.Path.{_≡_, refl}
+use mathlib.Core.Path.{◌≡◌, refl}
 use mathlib.Core.Bool.{Bool, true}
 use mathlib.Core.Option.{Option, some}
-use mathlib.Core.List.{List, [], _∷_, map}
+use mathlib.Core.List.{List, [], ◌∷◌, map}
 use lib.ListN.{length}
-use Rattle·integer.specs.Words.{counting}
-use Rattle·dstree.specs.Measures.{Trace, Measures, measures, sampleLimit, isLibrary}
-use Rattle·dstree.specs.Node.{bySum, byScatter, leaf, inner, node, Tree}
-use Rattle·dstree.specs.Adding.{treeOf}
-use Rattle·dstree.specs.Matching.{bound, Match, matchBySteps, matchOf}
-use Rattle·dstree.specs.WellFormed.{wellFormedTree}
-use Rattle·dstree.specs.Sheet.{Judged}
-use Rattle·dstree.specs.SheetWidths.{judgeSheet}
-use Rattle·dstree.specs.Examples.{matchWith}
-use Rattle·dstree.proofs.Notation.{+, −, seg, test, plainSheet, holdsPlain}
-use Rattle·dstree.proofs.Everything.{everything}
+use Rattle.integer.specs.Words.{counting}
+use Rattle.dstree.specs.Measures.{Trace, Measures, measures, sample_limit, is_library}
+use Rattle.dstree.specs.Node.{by_sum, by_scatter, leaf, inner, node, Tree}
+use Rattle.dstree.specs.Adding.{tree_of}
+use Rattle.dstree.specs.Matching.{bound, Match, match_by_steps, match_of}
+use Rattle.dstree.specs.WellFormed.{well_formed_tree}
+use Rattle.dstree.specs.Sheet.{Judged}
+use Rattle.dstree.specs.SheetWidths.{judge_sheet}
+use Rattle.dstree.specs.Examples.{match_with}
+use Rattle.dstree.proofs.Notation.{+, −, seg, test, plain_sheet, holds_plain}
+use Rattle.dstree.proofs.Everything.{everything}
 
 -- ---- what is compared
 
@@ -66,25 +66,25 @@ pub record CaseOutcome : Type 0 where
 -- computed: the tree from the traces alone, all else on the tree that is given
 abbrev pub computed : Case → CaseOutcome
 computed c = record {
-  tree = treeOf (c .measures) (c .traces);
-  bounds = map (bound (c .tree) (c .query)) (counting (length (c .tree)) 0);
-  match = matchOf (c .traces) (c .tree) (c .query);
-  steps = matchBySteps (c .traces) (c .tree) (c .query);
-  sound = wellFormedTree sampleLimit (c .measures) (length (c .traces)) (c .tree);
-  library = isLibrary sampleLimit (c .measures) (c .traces);
-  sheet = judgeSheet (plainSheet (c .measures) (c .traces));
+  tree = tree_of c.measures c.traces;
+  bounds = map (bound c.tree c.query) (counting (length c.tree) 0);
+  match = match_of c.traces c.tree c.query;
+  steps = match_by_steps c.traces c.tree c.query;
+  sound = well_formed_tree sample_limit c.measures (length c.traces) c.tree;
+  library = is_library sample_limit c.measures c.traces;
+  sheet = judge_sheet (plain_sheet c.measures c.traces);
 }
 
 -- expected: the given tree, bounds and match, the match by its steps too; well-formed tables of a library, whose sheet reads back
 abbrev pub expected : Case → CaseOutcome
 expected c = record {
-  tree = c .tree;
-  bounds = c .bounds;
-  match = c .match;
-  steps = some (c .match);
+  tree = c.tree;
+  bounds = c.bounds;
+  match = c.match;
+  steps = some c.match;
   sound = true;
   library = true;
-  sheet = holdsPlain (c .measures) (c .traces);
+  sheet = holds_plain c.measures c.traces;
 }
 
 -- ---- the table
@@ -96,9 +96,9 @@ cases =
 BETWEEN = """\
     ∷ []
 
-pub cases-agree : map computed cases ≡ map expected cases
+pub cases_agree : map computed cases ≡ map expected cases
 unfolding everything
-cases-agree = refl
+cases_agree = refl
 
 -- ---- without a query: a library, and the tree that the other implementation makes of it
 
@@ -107,20 +107,20 @@ pub record GrownCase : Type 0 where
   pub traces : List Trace
   pub tree : Tree
 
-abbrev pub grownCases : List GrownCase
-grownCases =
+abbrev pub grown_cases : List GrownCase
+grown_cases =
 """
 
 TAIL = """\
     ∷ []
 
-pub grown-agree : map (λ (c : GrownCase). treeOf (c .measures) (c .traces)) grownCases ≡ map (λ (c : GrownCase). c .tree) grownCases
+pub grown_agree : map (λ (c : GrownCase). tree_of c.measures c.traces) grown_cases ≡ map (λ (c : GrownCase). c.tree) grown_cases
 unfolding everything
-grown-agree = refl
+grown_agree = refl
 
-pub grown-formed : map (λ (c : GrownCase). wellFormedTree sampleLimit (c .measures) (length (c .traces)) (c .tree)) grownCases ≡ map (λ (c : GrownCase). true) grownCases
+pub grown_formed : map (λ (c : GrownCase). well_formed_tree sample_limit c.measures (length c.traces) c.tree) grown_cases ≡ map (λ (c : GrownCase). true) grown_cases
 unfolding everything
-grown-formed = refl
+grown_formed = refl
 """
 
 
@@ -197,7 +197,7 @@ def case(name, lines):
             segments.append([])
         elif INNER.match(line):
             figure, first, last, threshold, left, right = INNER.match(line).groups()
-            kinds.append(f"inner (test {first} {last} by{figure} ({signed(int(threshold))})) {left} {right}")
+            kinds.append(f"inner (test {first} {last} by_{figure.lower()} ({signed(int(threshold))})) {left} {right}")
             segments.append([])
         elif SEGMENT.match(line):
             end, least, greatest, low, high = SEGMENT.match(line).groups()
@@ -225,7 +225,7 @@ def case(name, lines):
     yield f"      ∷ [];"
     if query is not None:
         yield f"  bounds = {listed(bounds)};"
-        yield f"  match = matchWith {' '.join(match[:4])} ({listed(numbers(match[4]))});"
+        yield f"  match = match_with {' '.join(match[:4])} ({listed(numbers(match[4]))});"
     yield "}"
 
 

@@ -1,5 +1,6 @@
 -- What the definitions of `dstree` give at small values, by computation: whole trees of an independent implementation, exercises under
--- document 01's headings, and document 02's batches, recordings, check, bands, limits and clipped sweeps. Examples that an edit of a definition needs stand in `dstree`.
+-- document 01's headings, and document 02's batches, recordings, check, bands, limits and clipped sweeps; and a law of one damaged block.
+-- Examples that an edit of a definition needs stand in `dstree`.
 pub mod Cases
 pub mod Exercises
 pub mod BatchExamples
@@ -11,3 +12,4 @@ pub mod LimitExamples
 pub mod LimitCases
 pub mod ClippedExamples
 pub mod ClippedCases
+pub mod OneByte

@@ -1,4 +1,8 @@
 // Standard output, as functions with contracts of their own write there: these go on when a write fails, and `end` says that it did.
+//
+// Two wrong programs that the contracts rule out: one that forgets a failed write at the next one, and one that answers at the end that all
+// went well.
+ghost use Rattle.std.specs.Prelude.{◌≡◌, IsOk, IsErr};
 
 use std::fmt::Display;
 use std::io::{self, Print, Stdout};
@@ -11,7 +15,9 @@ pub struct Screen {
 }
 
 impl Screen {
-    pub fn new(to: Stdout) -> Screen {
+    pub fn new(to: Stdout) -> Screen
+        ensures { IsOk result.written }
+    {
         Screen {
             to,
             written: Ok(()),
@@ -19,27 +25,35 @@ impl Screen {
     }
 
     // What `print!` and `println!` call.
-    pub fn print<D: Display + Drop>(&mut self, value: D) {
+    pub fn print<D: Display + Drop>(&mut self, value: D)
+        ensures { IsErr self.old.written → self.new.written ≡ self.old.written }
+    {
         if self.written.is_ok() {
             self.written = self.to.print(value);
         }
     }
 
-    pub fn println<D: Display + Drop>(&mut self, value: D) {
+    pub fn println<D: Display + Drop>(&mut self, value: D)
+        ensures { IsErr self.old.written → self.new.written ≡ self.old.written }
+    {
         if self.written.is_ok() {
             self.written = self.to.println(value);
         }
     }
 
     // Bytes that need not be text.
-    pub fn write_all(&mut self, bytes: &[u8]) {
+    pub fn write_all(&mut self, bytes: &[u8])
+        ensures { IsErr self.old.written → self.new.written ≡ self.old.written }
+    {
         if self.written.is_ok() {
             self.written = self.to.write_all(bytes);
         }
     }
 
     // Whether all was written.
-    pub fn end(self) -> io::Result<()> {
+    pub fn end(self) -> io::Result<()>
+        ensures { result ≡ self.written }
+    {
         self.written
     }
 }
